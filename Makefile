@@ -1,0 +1,27 @@
+# The kit's command `rt` proves, builds and runs: `rt doc` prints its first page.
+PREFIX ?= /usr/local
+PROGRAM = crates/pl0dap/out/pl0dap
+SOURCES = crates.txt $(shell find crates -name out -prune -o -type f \( -name '*.rt' -o -name '*.antt' \) -print)
+
+.PHONY: build demo check install bench
+
+build: $(PROGRAM)
+
+# `rt run` proves, builds and runs the program; with no input it serves nobody and ends.
+$(PROGRAM): $(SOURCES)
+	cd crates/pl0dap && rt run < /dev/null
+	touch $@
+
+# A stored debug session, its frames printed in readable form.
+demo: $(PROGRAM)
+	python3 demo/session.py $(PROGRAM) demo/hello.session
+
+# The merge gate: proves everything from nothing, and runs everything.
+check:
+	rt ci
+
+install: $(PROGRAM)
+	install -D $(PROGRAM) $(DESTDIR)$(PREFIX)/bin/pl0dap
+
+bench: $(PROGRAM)
+	python3 bench/throughput.py $(PROGRAM)

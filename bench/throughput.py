@@ -1,0 +1,74 @@
+#!/usr/bin/env python3
+"""Times the adapter on many small requests and on a few large contents, whole and by single bytes.
+
+usage: throughput.py PROGRAM
+
+For each load the input is taken at a size and at four times that size. What is looked at is the growth: four times
+the input is to take at most 4.5 times the time.
+"""
+import os
+import subprocess
+import sys
+import tempfile
+import time
+
+
+def frame(content: bytes) -> bytes:
+    return b"Content-Length: %d\r\n\r\n%s" % (len(content), content)
+
+
+def requests(count: int) -> bytes:
+    """`initialize`, so many pipelined `threads`, and `disconnect`."""
+    first = frame(b'{"seq":1,"type":"request","command":"initialize"}')
+    last = frame(b'{"seq":2,"type":"request","command":"disconnect"}')
+    return first + b"".join(
+        frame(b'{"seq":%d,"type":"request","command":"threads"}' % (n + 3)) for n in range(count)
+    ) + last
+
+
+def large(count: int) -> bytes:
+    """So many contents of 1,048,576 bytes each: a request behind spaces."""
+    content = b'{"seq":1,"type":"request","command":"initialize"}'.rjust(1 << 20)
+    return frame(content) * count
+
+
+def seconds(program: str, path: str, single: bool) -> float:
+    """The best of three runs."""
+    best = float("inf")
+    for _ in range(3):
+        begin = time.monotonic()
+        with open(os.devnull, "wb") as sink:
+            if single:
+                # dd hands one byte to the pipe at a time.
+                feeder = subprocess.Popen(["dd", f"if={path}", "ibs=64k", "obs=1", "status=none"], stdout=subprocess.PIPE)
+                subprocess.run([program], stdin=feeder.stdout, stdout=sink, stderr=sink, check=True)
+                feeder.wait()
+            else:
+                with open(path, "rb") as source:
+                    subprocess.run([program], stdin=source, stdout=sink, stderr=sink, check=True)
+        best = min(best, time.monotonic() - begin)
+    return best
+
+
+def row(program: str, name: str, make, small: int, single: bool) -> None:
+    times = []
+    for count in (small, 4 * small):
+        with tempfile.NamedTemporaryFile() as file:
+            file.write(make(count))
+            file.flush()
+            times.append(seconds(program, file.name, single))
+    print(f"{name:44} {times[0]:8.3f} s {times[1]:8.3f} s   {times[1] / times[0]:5.2f} times")
+
+
+def main() -> int:
+    program = os.path.abspath(sys.argv[1])
+    print(f"{'load':44} {'size':>10} {'4 * size':>10}   growth")
+    row(program, "25,000 and 100,000 `threads`, from a file", requests, 25_000, False)
+    row(program, "16 and 64 contents of 1 MiB, from a file", large, 16, False)
+    row(program, "2,500 and 10,000 `threads`, by single bytes", requests, 2_500, True)
+    row(program, "1 and 4 contents of 1 MiB, by single bytes", large, 1, True)
+    return 0
+
+
+if __name__ == "__main__":
+    sys.exit(main())

@@ -1,0 +1,7 @@
+pub mod Tokens
+pub mod Grammar
+pub mod Reading
+pub mod Words
+pub mod Scope
+pub mod Faults
+pub mod Steps
