@@ -1,0 +1,180 @@
+-- Where a fault stands: behind faultless fields, in a line that is none of them.
+use Rattle.std.proofs.Common.{◌≡◌, ◌⊎◌, inl, inr, ◌+◌, ◌≤◌, ℕ, Bool, true, List, [], ◌∷◌, ◌++◌, length, take, refl, sym, ◌∙◌, ap, subst, arith, append_assoc, append-nil, length-append}
+use Rattle.std.specs.Prelude.{decimal, ◌-◌, map, filter}
+use Rattle.std.specs.List.{AllByRecursion}
+use Rattle.std.proofs.Math.Seq.{take-append-add}
+use Rattle.std.proofs.lemmas.List.{map-append}
+use Rattle.std.proofs.lemmas.List.Elements.{filter-append}
+use Rattle.std.proofs.lemmas.Fmt.{decimal_injective}
+use Rattle.dap_frame.specs.declared.fault.FrameFault.{FrameFault}
+use Rattle.dap_frame.specs.declared.fault.FrameFault.TheVariants.{HeaderTooLong, BadField, NoLength, TwoLengths, BadLength, TooLarge, NoMemory}
+use Rattle.dap_frame.specs.Header.{Field, IsField, line_end, field_text, line_of, lines_of, is_length, length_values, content_limit, header_limit, AreFaultless, HasNoLineEnd, LineFault, HasFaultyLine, IsTooLong, FaultAt}
+use Rattle.dap_frame.proofs.Lines.{same_line, same_field, field_one_line, text_not_empty}
+use Rattle.dap_frame.proofs.Located.{line_then, located, none_inside, is_field_at}
+
+pub length_values-append : (fs gs : List Field) → length_values (fs ++ gs) ≡ length_values fs ++ length_values gs
+length_values-append fs gs = ap (map (λ field. field.value)) (filter-append is_length fs gs) ∙ map-append (λ field. field.value) (filter is_length fs) (filter is_length gs)
+
+length_values-one : (f : Field) (more : List Field) (b : Bool) → is_length f ≡ b → b ≡ true → length_values (f ∷ more) ≡ f.value ∷ length_values more
+length_values-one f more b e t = let is : is_length f ≡ true = e ∙ t in rw is refl
+
+-- what the length fields are where one of them stands between others
+pub length_values_at : (gs more : List Field) (f : Field) → is_length f ≡ true → length_values (gs ++ f ∷ more) ≡ length_values gs ++ (f.value ∷ length_values more)
+length_values_at gs more f e = length_values-append gs (f ∷ more) ∙ ap (λ l. length_values gs ++ l) (length_values-one f more true e refl)
+
+-- one of several is the only one: none stands before it
+alone : (xs : List (List ℕ)) (x d : List ℕ) (ys : List (List ℕ)) → xs ++ (x ∷ ys) ≡ d ∷ [] → (xs ≡ []) × (x ≡ d)
+alone [] x d ys e = (refl, cc)
+alone (y ∷ []) x d ys e = absurd cc
+alone (y ∷ z ∷ xs) x d ys e = absurd cc
+
+-- the length field among faultless fields is the only one, and names an allowed length
+length_field : (gs more : List Field) (f : Field) → AreFaultless (gs ++ f ∷ more) → is_length f ≡ true → (length_values gs ≡ []) × ((n : ℕ) × (n ≤ content_limit) × (f.value ≡ decimal n))
+length_field gs more f ok e = elim ok.lengths [
+  | inl none ↦ absurd (let h : length_values gs ++ (f.value ∷ length_values more) ≡ [] = sym (length_values_at gs more f e) ∙ none in let l = ap length h in let s = length-append (length_values gs) (f.value ∷ length_values more) in omega (arith, l, s))
+  | inr one ↦ let h = alone (length_values gs) f.value (decimal one.0) (length_values more) (sym (length_values_at gs more f e) ∙ one.2) in (h.0, (one.0, one.1, h.1))
+]
+
+-- a line that is one of faultless fields has no fault
+pub no_line_fault : (gs more : List Field) (f : Field) (k : FrameFault) → AreFaultless (gs ++ f ∷ more) → LineFault gs (field_text f) k → ⊥
+no_line_fault gs more f HeaderTooLong ok bad = bad
+no_line_fault gs more f BadField ok bad = bad.1 f (is_field_at gs more f ok.shaped) refl
+no_line_fault gs more f NoLength ok bad = text_not_empty f (is_field_at gs more f ok.shaped) (sym bad.0)
+no_line_fault gs more f TwoLengths ok (g, is, same, e, some) =
+    let one : f ≡ g = same_field f g (is_field_at gs more f ok.shaped) is same in
+    some (length_field gs more f ok (ap is_length one ∙ e)).0
+no_line_fault gs more f BadLength ok (g, is, same, e, none, never) =
+    let one : f ≡ g = same_field f g (is_field_at gs more f ok.shaped) is same in
+    let found = length_field gs more f ok (ap is_length one ∙ e) in
+    never found.1.0 (sym (ap (λ h. h.value) one) ∙ found.1.2, let h = found.1.1 in omega (arith, h))
+no_line_fault gs more f TooLarge ok (g, is, same, e, none, (n, long, large)) =
+    let one : f ≡ g = same_field f g (is_field_at gs more f ok.shaped) is same in
+    let found = length_field gs more f ok (ap is_length one ∙ e) in
+    let h = found.1.1 in let w = long.1 in
+    let number : n ≡ found.1.0 = decimal_injective n found.1.0 (omega (arith, w)) (omega (arith, h)) (sym long.0 ∙ sym (ap (λ h. h.value) one) ∙ found.1.2) in
+    omega (arith, number, h, large)
+no_line_fault gs more f NoMemory ok bad = bad
+
+-- the empty line behind fields that name a length has no fault
+pub no_end_fault : (fields : List Field) (d : List ℕ) (k : FrameFault) → length_values fields ≡ d ∷ [] → LineFault fields [] k → ⊥
+no_end_fault fields d HeaderTooLong once bad = bad
+no_end_fault fields d BadField once bad = bad.0 refl
+no_end_fault fields d NoLength once bad = let none = bad.1 in absurd cc
+no_end_fault fields d TwoLengths once (g, is, same, e, some) = text_not_empty g is same
+no_end_fault fields d BadLength once (g, is, same, e, none, never) = text_not_empty g is same
+no_end_fault fields d TooLarge once (g, is, same, e, none, never) = text_not_empty g is same
+no_end_fault fields d NoMemory once bad = bad
+
+-- a line behind the same fields has one fault
+pub one_line_fault : (fields : List Field) (line : List ℕ) (j k : FrameFault) → LineFault fields line j → LineFault fields line k → j ≡ k
+one_line_fault fields line HeaderTooLong k h b = absurd h
+one_line_fault fields line NoMemory k h b = absurd h
+one_line_fault fields line BadField HeaderTooLong h b = absurd b
+one_line_fault fields line BadField NoMemory h b = absurd b
+one_line_fault fields line BadField BadField h b = refl
+one_line_fault fields line BadField NoLength h b = absurd (h.0 b.0)
+one_line_fault fields line BadField TwoLengths h b = absurd (h.1 b.0 b.1 b.2)
+one_line_fault fields line BadField BadLength h b = absurd (h.1 b.0 b.1 b.2)
+one_line_fault fields line BadField TooLarge h b = absurd (h.1 b.0 b.1 b.2)
+one_line_fault fields line NoLength HeaderTooLong h b = absurd b
+one_line_fault fields line NoLength NoMemory h b = absurd b
+one_line_fault fields line NoLength BadField h b = absurd (b.0 h.0)
+one_line_fault fields line NoLength NoLength h b = refl
+one_line_fault fields line NoLength TwoLengths h b = absurd (text_not_empty b.0 b.1 (sym h.0 ∙ b.2))
+one_line_fault fields line NoLength BadLength h b = absurd (text_not_empty b.0 b.1 (sym h.0 ∙ b.2))
+one_line_fault fields line NoLength TooLarge h b = absurd (text_not_empty b.0 b.1 (sym h.0 ∙ b.2))
+one_line_fault fields line TwoLengths HeaderTooLong h b = absurd b
+one_line_fault fields line TwoLengths NoMemory h b = absurd b
+one_line_fault fields line TwoLengths BadField h b = absurd (b.1 h.0 h.1 h.2)
+one_line_fault fields line TwoLengths NoLength h b = absurd (text_not_empty h.0 h.1 (sym b.0 ∙ h.2))
+one_line_fault fields line TwoLengths TwoLengths h b = refl
+one_line_fault fields line TwoLengths BadLength h b = absurd (h.4 b.4)
+one_line_fault fields line TwoLengths TooLarge h b = absurd (h.4 b.4)
+one_line_fault fields line BadLength HeaderTooLong h b = absurd b
+one_line_fault fields line BadLength NoMemory h b = absurd b
+one_line_fault fields line BadLength BadField h b = absurd (b.1 h.0 h.1 h.2)
+one_line_fault fields line BadLength NoLength h b = absurd (text_not_empty h.0 h.1 (sym b.0 ∙ h.2))
+one_line_fault fields line BadLength TwoLengths h b = absurd (b.4 h.4)
+one_line_fault fields line BadLength BadLength h b = refl
+one_line_fault fields line BadLength TooLarge h b =
+    let same : b.0 ≡ h.0 = same_field b.0 h.0 b.1 h.1 (sym b.2 ∙ h.2) in
+    absurd (h.5 b.5.0 (sym (ap (λ f. f.value) same) ∙ b.5.1.0, b.5.1.1))
+one_line_fault fields line TooLarge HeaderTooLong h b = absurd b
+one_line_fault fields line TooLarge NoMemory h b = absurd b
+one_line_fault fields line TooLarge BadField h b = absurd (b.1 h.0 h.1 h.2)
+one_line_fault fields line TooLarge NoLength h b = absurd (text_not_empty h.0 h.1 (sym b.0 ∙ h.2))
+one_line_fault fields line TooLarge TwoLengths h b = absurd (b.4 h.4)
+one_line_fault fields line TooLarge BadLength h b =
+    let same : h.0 ≡ b.0 = same_field h.0 b.0 h.1 b.1 (sym h.2 ∙ b.2) in
+    absurd (b.5 h.5.0 (sym (ap (λ f. f.value) same) ∙ h.5.1.0, h.5.1.1))
+one_line_fault fields line TooLarge TooLarge h b = refl
+
+-- ---- faults of a header part
+
+-- a fault that stands in front is a header part that is too long, or a faulty line
+pub fault_cases : (bytes : List ℕ) (k : FrameFault) → FaultAt bytes k → ((k ≡ HeaderTooLong) × IsTooLong bytes) ⊎ HasFaultyLine bytes k
+fault_cases bytes HeaderTooLong h = inl (refl, h)
+fault_cases bytes BadField h = inr h
+fault_cases bytes NoLength h = inr h
+fault_cases bytes TwoLengths h = inr h
+fault_cases bytes BadLength h = inr h
+fault_cases bytes TooLarge h = inr h
+fault_cases bytes NoMemory h = absurd h
+
+pub fault_from_line : (bytes : List ℕ) (k : FrameFault) → HasFaultyLine bytes k → FaultAt bytes k
+fault_from_line bytes HeaderTooLong h = absurd h.faulty
+fault_from_line bytes BadField h = h
+fault_from_line bytes NoLength h = h
+fault_from_line bytes TwoLengths h = h
+fault_from_line bytes BadLength h = h
+fault_from_line bytes TooLarge h = h
+fault_from_line bytes NoMemory h = absurd h.faulty
+
+-- behind faultless fields and a part in which no line ends stands no faulty line
+pub no_faulty_line : (fs : List Field) (part : List ℕ) (k : FrameFault) → AreFaultless fs → HasNoLineEnd part → HasFaultyLine (lines_of fs ++ part) k → ⊥
+no_faulty_line fs part k ok none h = elim (located fs h.fields part h.line h.after ok.shaped h.faultless.shaped h.one_line h.spelled) [
+  | inl at ↦ no_line_fault h.fields at.1 at.0 k (subst AreFaultless at.2 ok) (subst (λ l. LineFault h.fields l k) at.3 h.faulty)
+  | inr at ↦ none_inside at.0 part h.line h.after none at.3
+]
+
+-- bytes that begin with so many have them within the limit too
+pub take_behind : (a b : List ℕ) (n : ℕ) → length a ≤ n → take n (a ++ b) ≡ a ++ take (n - length a) b
+take_behind a b n h = let e : n ≡ length a + (n - length a) = omega arith in ap (λ m. take m (a ++ b)) e ∙ take-append-add a b (n - length a)
+
+-- nor is a header part both too long and faulty in a line
+pub long_or_faulty : (bytes : List ℕ) (k : FrameFault) → IsTooLong bytes → HasFaultyLine bytes k → ⊥
+long_or_faulty bytes k long h =
+    let front = lines_of h.fields ++ line_of h.line in
+    let cut : lines_of long.fields ++ long.part ≡ lines_of h.fields ++ (line_of h.line ++ take (header_limit - length front) h.after) =
+    sym long.spelled ∙ ap (take header_limit) (h.spelled ∙ sym (append_assoc (lines_of h.fields) (line_of h.line) h.after))
+    ∙ take_behind front h.after header_limit h.within ∙ append_assoc (lines_of h.fields) (line_of h.line) (take (header_limit - length front) h.after) in
+    elim (located long.fields h.fields long.part h.line (take (header_limit - length front) h.after) long.faultless.shaped h.faultless.shaped h.one_line cut) [
+      | inl at ↦ no_line_fault h.fields at.1 at.0 k (subst AreFaultless at.2 long.faultless) (subst (λ l. LineFault h.fields l k) at.3 h.faulty)
+      | inr at ↦ none_inside at.0 long.part h.line (take (header_limit - length front) h.after) long.incomplete at.3
+    ]
+
+-- the line of one fault stands behind the same fields as that of another, or is one of its fields
+at_line : (bytes : List ℕ) (j k : FrameFault) (h : HasFaultyLine bytes j) (i : HasFaultyLine bytes k)
+    → (more : List Field) → AllByRecursion IsField more → i.fields ≡ h.fields ++ more → line_of h.line ++ h.after ≡ lines_of more ++ (line_of i.line ++ i.after) → j ≡ k
+at_line bytes j k h i [] are so e =
+    let lines = same_line h.line i.line h.after i.after h.one_line i.one_line (sym (append_assoc h.line line_end h.after) ∙ e ∙ append_assoc i.line line_end i.after) in
+    let fields : i.fields ≡ h.fields = so ∙ append-nil h.fields in
+    one_line_fault h.fields h.line j k h.faulty (subst (λ l. LineFault h.fields l k) (sym lines.0) (subst (λ f. LineFault f i.line k) fields i.faulty))
+at_line bytes j k h i (g ∷ more) are so e =
+    let lines = same_line h.line (field_text g) h.after (lines_of more ++ (line_of i.line ++ i.after)) h.one_line (field_one_line g are.0)
+    (sym (append_assoc h.line line_end h.after) ∙ e ∙ line_then (field_text g) (lines_of more) (line_of i.line ++ i.after)) in
+    absurd (no_line_fault h.fields more g j (subst AreFaultless so i.faultless) (subst (λ l. LineFault h.fields l j) lines.0 h.faulty))
+
+one_faulty_line : (bytes : List ℕ) (j k : FrameFault) → HasFaultyLine bytes j → HasFaultyLine bytes k → j ≡ k
+one_faulty_line bytes j k h i =
+    elim (located h.fields i.fields (line_of h.line ++ h.after) i.line i.after h.faultless.shaped i.faultless.shaped i.one_line (sym h.spelled ∙ i.spelled)) [
+      | inl at ↦ absurd (no_line_fault i.fields at.1 at.0 k (subst AreFaultless at.2 h.faultless) (subst (λ l. LineFault i.fields l k) at.3 i.faulty))
+      | inr at ↦ at_line bytes j k h i at.0 at.1 at.2 at.3
+    ]
+
+-- one fault stands in front, or none
+pub same_fault : (bytes : List ℕ) (j k : FrameFault) → FaultAt bytes j → FaultAt bytes k → j ≡ k
+same_fault bytes j k h i = elim (fault_cases bytes j h) [
+  | inl a ↦ elim (fault_cases bytes k i) [ inl b ↦ a.0 ∙ sym b.0 | inr b ↦ absurd (long_or_faulty bytes k a.1 b) ]
+  | inr a ↦ elim (fault_cases bytes k i) [ inl b ↦ absurd (long_or_faulty bytes j b.1 a) | inr b ↦ one_faulty_line bytes j k a b ]
+]

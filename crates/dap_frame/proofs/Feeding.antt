@@ -1,0 +1,58 @@
+-- What was read of a rest stays read when more of it comes.
+use Rattle.std.proofs.Common.{◌≡◌, ◌+◌, ◌≤◌, ℕ, Bool, true, false, cond, List, [], ◌∷◌, ◌++◌, length, drop, refl, sym, ◌∙◌, ap, subst, arith, append_assoc, length-append}
+use Rattle.std.proofs.lemmas.List.{take-append-le, drop-append-le, get_or_append_left}
+use Rattle.dap_frame.specs.declared.header.Header.{Header}
+use Rattle.dap_frame.specs.declared.header.Header.TheVariants.{Open, Whole}
+use Rattle.dap_frame.specs.declared.header.Scan.{Scan}
+use Rattle.dap_frame.specs.Header.{IsHeader}
+use Rattle.dap_frame.specs.Frame.{IsFrameInFront, Frames}
+use Rattle.dap_frame.specs.Progress.{IsScanned, IsRead}
+use Rattle.dap_frame.proofs.Frames.{frames_join}
+
+scanned_more : (scan : Scan) (rest piece : List ℕ) → IsScanned scan rest → IsScanned scan (rest ++ piece)
+scanned_more scan rest piece is =
+    let order = is.in_order in
+    let there = is.there in
+    record {
+      fields = is.fields;
+      shaped = is.shaped;
+      names = is.names;
+      spelled = take-append-le scan.judged rest piece (omega (arith, order, there)) ∙ is.spelled;
+      in_order = is.in_order;
+      there = omega (arith, there, length-append rest piece);
+      within = is.within;
+      no_end = λ k low high ends. is.no_end k low high (
+        sym (get_or_append_left rest piece 0 k (omega (arith, high, there))) ∙ ends.0,
+        sym (get_or_append_left rest piece 0 (k + 1) (omega (arith, high, there))) ∙ ends.1,
+      );
+    }
+
+read_more : (header : Header) (rest piece : List ℕ) → IsRead header rest → IsRead header (rest ++ piece)
+read_more (Open scan) rest piece is = scanned_more scan rest piece is
+read_more (Whole size content_len) rest piece is =
+    (let there = is.0 in omega (arith, there, length-append rest piece), subst (λ h. IsHeader h content_len) (sym (take-append-le size rest piece is.0)) is.1)
+
+-- the same of bytes of which the rest is the end, where the piece was taken or was not
+pub fed : (header : Header) (bytes piece new : List ℕ) (front : ℕ) (taken : Bool) → new ≡ cond taken (bytes ++ piece) bytes → front ≤ length bytes → IsRead header (drop front bytes)
+    → (front ≤ length new) × IsRead header (drop front new)
+fed header bytes piece new front false e there is = (subst (λ b. front ≤ length b) (sym e) there, subst (λ b. IsRead header (drop front b)) (sym e) is)
+fed header bytes piece new front true e there is = (
+  subst (λ b. front ≤ length b) (sym e) (omega (arith, there, length-append bytes piece)),
+  subst (λ b. IsRead header (drop front b)) (sym e) (subst (IsRead header) (sym (drop-append-le front bytes piece there)) (read_more header (drop front bytes) piece is)),
+)
+
+-- one frame more
+pub frames_one_more : (stream rest more content : List ℕ) (contents : List (List ℕ)) → Frames stream contents rest → IsFrameInFront rest content more → Frames stream (contents ++ content ∷ []) more
+frames_one_more stream rest more content contents h f = frames_join stream rest more contents (content ∷ []) h (more, f, refl)
+
+frame_longer : (bytes content rest piece : List ℕ) → IsFrameInFront bytes content rest → IsFrameInFront (bytes ++ piece) content (rest ++ piece)
+frame_longer bytes content rest piece f = record {
+  header = f.header;
+  lawful = f.lawful;
+  spelled = ap (λ b. b ++ piece) f.spelled ∙ append_assoc f.header (content ++ rest) piece ∙ ap (λ b. f.header ++ b) (append_assoc content rest piece);
+}
+
+-- the stream and its rest, each longer by one piece
+pub frames_longer : (stream rest piece : List ℕ) (contents : List (List ℕ)) → Frames stream contents rest → Frames (stream ++ piece) contents (rest ++ piece)
+frames_longer stream rest piece [] h = ap (λ b. b ++ piece) h
+frames_longer stream rest piece (content ∷ contents) h = (h.0 ++ piece, frame_longer stream content h.0 piece h.1, frames_longer h.0 rest piece contents h.2)

@@ -1,0 +1,12 @@
+pub mod Lines
+pub mod Located
+pub mod Faults
+pub mod Frames
+pub mod Fields
+pub mod Lengths
+pub mod Ends
+pub mod Judging
+pub mod Scanning
+pub mod Feeding
+pub mod Decimals
+pub mod Deciding

@@ -1,0 +1,24 @@
+-- Frames on a stream, by the base protocol of the Debug Adapter Protocol, however the stream was cut into pieces.
+use Rattle.std.specs.Prelude.{◌≡◌, ℕ, List, [], ◌∷◌, ◌++◌, length, codes, decimal}
+use Rattle.dap_frame.specs.Header.{line_end, IsHeader, FaultAt}
+use Rattle.dap_frame.specs.declared.fault.FrameFault.{FrameFault}
+
+-- a whole frame stands in front: a lawful header part, and a content as long as that says
+pub record IsFrameInFront (bytes content rest : List ℕ) : Type 0 where
+  pub header : List ℕ
+  pub lawful : IsHeader header (length content)
+  pub spelled : bytes ≡ header ++ (content ++ rest)
+
+-- the bytes are the frames of these contents, one after the other, and then the rest
+abbrev pub Frames : List ℕ → List (List ℕ) → List ℕ → Type 0
+Frames bytes [] rest = bytes ≡ rest
+Frames bytes (content ∷ contents) rest = (more : List ℕ) × IsFrameInFront bytes content more × Frames more contents rest
+
+-- neither a whole frame nor a fault stands in front
+pub record IsOpen (bytes : List ℕ) : Type 0 where
+  pub no_frame : (content rest : List ℕ) → ¬ IsFrameInFront bytes content rest
+  pub no_fault : (fault : FrameFault) → ¬ FaultAt bytes fault
+
+-- what is written for a content: the one field `Content-Length`
+abbrev pub frame_of : List ℕ → List ℕ
+frame_of content = codes "Content-Length: " ++ (decimal (length content) ++ (line_end ++ (line_end ++ content)))

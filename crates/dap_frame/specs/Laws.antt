@@ -1,0 +1,32 @@
+-- What the definitions of frames and faults say of every stream.
+use Rattle.std.specs.Prelude.{◌≡◌, ◌⊎◌, ◌++◌, ◌≤◌, ℕ, List, length}
+use Rattle.dap_frame.specs.declared.fault.FrameFault.{FrameFault}
+use Rattle.dap_frame.specs.Header.{FaultAt, content_limit}
+use Rattle.dap_frame.specs.Frame.{IsFrameInFront, Frames, IsOpen, frame_of}
+
+-- at most one frame stands in front: its content and the rest behind it are determined
+abbrev pub FramesAreUnique : Type 0
+FramesAreUnique = (bytes c d x y : List ℕ) → IsFrameInFront bytes c x → IsFrameInFront bytes d y → (c ≡ d) × (x ≡ y)
+
+-- at most one fault stands in front
+abbrev pub FaultsAreUnique : Type 0
+FaultsAreUnique = (bytes : List ℕ) (j k : FrameFault) → FaultAt bytes j → FaultAt bytes k → j ≡ k
+
+-- and never both
+abbrev pub NeverBoth : Type 0
+NeverBoth = (bytes content rest : List ℕ) (fault : FrameFault) → IsFrameInFront bytes content rest → FaultAt bytes fault → ⊥
+
+-- each rest has a frame in front, or a fault, or more of it has to come
+abbrev pub IsTold : List ℕ → Type 0
+IsTold bytes = ((content : List ℕ) × (rest : List ℕ) × IsFrameInFront bytes content rest) ⊎ (((fault : FrameFault) × FaultAt bytes fault) ⊎ IsOpen bytes)
+
+abbrev pub OneOfThree : Type 0
+OneOfThree = (bytes : List ℕ) → IsTold bytes
+
+-- what is written for a content of an allowed length is read again, whatever follows it
+abbrev pub IsReadAgain : Type 0
+IsReadAgain = (content after : List ℕ) → length content ≤ content_limit → IsFrameInFront (frame_of content ++ after) content after
+
+-- the frames of a stream and those of its rest are the frames of the whole
+abbrev pub FramesJoin : Type 0
+FramesJoin = (a b c : List ℕ) (cs ds : List (List ℕ)) → Frames a cs b → Frames b ds c → Frames a (cs ++ ds) c

@@ -1,0 +1,5 @@
+pub mod Header
+pub mod Frame
+pub mod Stream
+pub mod Progress
+pub mod Laws

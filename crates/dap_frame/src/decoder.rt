@@ -1,0 +1,127 @@
+ghost use Rattle.std.specs.Prelude.{◌≡◌, ◌≢◌, ◌≤◌, ◌++◌, ◌∷◌, [], ℕ, List, Option, Some, None, IfOk, IfErr, OnOk, MatchOption, length, drop};
+ghost use Rattle.dap_frame.specs.Header.{FaultAt};
+ghost use Rattle.dap_frame.specs.Frame.{Frames, IsOpen, IsFrameInFront};
+
+use crate::fault::FrameFault;
+use crate::header::{Header, content_of, read_on};
+use std::alloc::Global;
+use std::marker::Model;
+
+/// Reads frames from a stream that comes in pieces.
+///
+/// `bytes[..front]` were given away, and `header` says how far the header part behind them was read.
+#[derive(Drop)]
+pub struct Decoder {
+    bytes: Vec<u8>,
+    front: usize,
+    header: Header,
+    fault: Option<FrameFault>,
+}
+
+impl Model for Decoder {
+    ghost use Rattle.std.specs.Prelude.{drop, ◌≤◌, length};
+    ghost use Rattle.dap_frame.specs.Stream.{Stream};
+    ghost use Rattle.dap_frame.specs.Progress.{IsRead};
+
+    ghost Value = { Stream };
+
+    ghost view = { λ decoder. record { rest = drop decoder.front decoder.bytes.items; fault = decoder.fault } };
+
+    ghost invariant = { λ decoder. (decoder.front ≤ length decoder.bytes.items) × IsRead decoder.header (drop decoder.front decoder.bytes.items) };
+}
+
+impl Decoder {
+    ghost use Rattle.dap_frame.specs.declared.fault.FrameFault.{FrameFault};
+    ghost use Rattle.dap_frame.specs.declared.fault.FrameFault.TheVariants.{NoMemory};
+
+    /// A decoder at the beginning of a stream.
+    pub fn new(alloc: Global) -> Decoder
+        ensures { result ≡ record { rest = []; fault = None } }
+    {
+        Decoder {
+            bytes: Vec::new(alloc),
+            front: 0,
+            header: Header::START,
+            fault: None,
+        }
+    }
+
+    /// Takes the next piece of the stream, and judges nothing. An `Err` changes nothing.
+    pub fn feed(&mut self, piece: &[u8]) -> Result<(), FrameFault>
+        ensures ok { OnOk result ((self.old.fault ≡ None)
+            × (self.new ≡ record { rest = self.old.rest ++ piece.now; fault = None })) }
+        // So of any stream of which the rest is the end, that stream and the piece.
+        ensures stream { (stream : List ℕ) (contents : List (List ℕ)) → Frames stream contents self.old.rest →
+            OnOk result (Frames (stream ++ piece.now) contents self.new.rest) }
+        ensures err { IfErr result (λ fault. (self.new ≡ self.old)
+            × MatchOption self.old.fault (fault ≡ NoMemory) (λ first. fault ≡ first)) }
+    {
+        if let Some(fault) = self.fault {
+            return Err(fault);
+        }
+        self.front = compact(&mut self.bytes, self.front);
+        match self.bytes.extend_from_slice(piece) {
+            Ok(()) => Ok(()),
+            Err(_) => Err(FrameFault::NoMemory),
+        }
+    }
+
+    /// The next content, `None` where no whole frame is there yet, or the fault in the next frame's place. From a
+    /// fault on, want of memory apart, the decoder answers that fault. Want of memory changes nothing.
+    pub fn next_content(&mut self) -> Result<Option<Vec<u8>>, FrameFault>
+        // The content is that of the next frame.
+        ensures content { IfOk result (λ next. MatchOption next
+            (IsOpen self.old.rest × (self.new ≡ self.old))
+            (λ content. IsFrameInFront self.old.rest content.items self.new.rest × (self.new.fault ≡ None))) }
+        // So of any stream of which the rest is the end, one content more has been given.
+        ensures stream { (stream : List ℕ) (contents : List (List ℕ)) → Frames stream contents self.old.rest →
+            IfOk result (λ next. MatchOption next
+            (Frames stream contents self.new.rest)
+            (λ content. Frames stream (contents ++ content.items ∷ []) self.new.rest)) }
+        ensures sound { OnOk result (self.old.fault ≡ None) }
+        ensures again { (fault : FrameFault) → self.old.fault ≡ Some fault → (result ≡ Err fault) × (self.new ≡ self.old) }
+        ensures memory { result ≡ Err NoMemory → self.new ≡ self.old }
+        // Memory is wanted for a content alone.
+        ensures wanted { result ≡ Err NoMemory → self.old.fault ≡ None →
+            (content : List ℕ) × (rest : List ℕ) × IsFrameInFront self.old.rest content rest }
+        ensures fault { IfErr result (λ fault. self.old.fault ≡ None → fault ≢ NoMemory →
+            FaultAt self.old.rest fault × (self.new ≡ record { rest = self.old.rest; fault = Some fault })) }
+    {
+        if let Some(fault) = self.fault {
+            return Err(fault);
+        }
+        match read_on(&self.bytes.as_slice()[self.front..], self.header) {
+            Ok(header) => self.header = header,
+            Err(fault) => {
+                self.fault = Some(fault);
+                return Err(fault);
+            }
+        }
+        let rest = &self.bytes.as_slice()[self.front..];
+        let Some((content, size)) = content_of(rest, self.header) else {
+            return Ok(None);
+        };
+        let Ok(given) = Vec::from_slice(*self.bytes.allocator(), content) else {
+            return Err(FrameFault::NoMemory);
+        };
+        self.front += size;
+        self.header = Header::START;
+        Ok(Some(given))
+    }
+}
+
+/// Where more than half of the bytes lie in front, takes those away, so that no byte moves but for one that was given
+/// away. Answers how many lie in front then.
+fn compact(bytes: &mut Vec<u8>, front: usize) -> usize
+    requires { front ≤ length bytes.old.items }
+    ensures there { result ≤ length bytes.new.items }
+    ensures rest { drop result bytes.new.items ≡ drop front bytes.old.items }
+{
+    let left = bytes.len() - front;
+    if front <= left {
+        return front;
+    }
+    bytes.copy_within(front.., 0);
+    bytes.truncate(left);
+    0
+}

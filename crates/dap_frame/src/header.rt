@@ -1,0 +1,139 @@
+ghost use Rattle.std.specs.Prelude.{◌≡◌, ◌≢◌, ◌+◌, ◌<◌, ◌≤◌, [], ◌∷◌, ◌++◌, List, length, drop, IfSome, IfNone, IfOk, IfErr};
+ghost use Rattle.dap_frame.specs.Header.{Field, IsField, LineFault, FaultAt, field_text};
+ghost use Rattle.dap_frame.specs.Frame.{IsOpen, IsFrameInFront};
+ghost use Rattle.dap_frame.specs.Progress.{EndsAt, HasNoEnd, IsScanned, IsRead, IsReadOut, Names};
+
+use crate::fault::FrameFault;
+use crate::field::{field_of, length_of};
+use memchr::memchr;
+
+const HEADER_LIMIT: usize = 1024;
+
+const CONTENT_LIMIT: usize = 1_048_576;
+
+/// How far a header part was read.
+#[derive(Clone, Copy)]
+pub enum Header {
+    /// Its empty line has not come.
+    Open(Scan),
+    /// It takes `size` bytes, and names the length of the content.
+    Whole { size: usize, content_len: usize },
+}
+
+/// The first `judged` bytes are fields without a fault, which name `named`. No line ends between them and `searched`.
+#[derive(Clone, Copy)]
+pub struct Scan {
+    pub judged: usize,
+    pub searched: usize,
+    pub named: Option<usize>,
+}
+
+impl Header {
+    /// Nothing was read.
+    pub const START: Header = Header::Open(Scan {
+        judged: 0,
+        searched: 0,
+        named: None,
+    });
+}
+
+/// Reads on, as far as the rest has come.
+pub fn read_on(rest: &[u8], header: Header) -> Result<Header, FrameFault>
+    requires { IsRead header rest.now }
+    ensures ok { IfOk result (λ header. IsReadOut header rest.now) }
+    ensures err { IfErr result (FaultAt rest.now) }
+{
+    match header {
+        Header::Open(scan) => scan_lines(rest, scan),
+        Header::Whole { .. } => Ok(header),
+    }
+}
+
+/// The content of the whole frame in front, and how many bytes the frame takes.
+pub fn content_of(rest: &[u8], header: Header) -> Option<(&[u8], usize)>
+    requires { IsReadOut header rest.now }
+    ensures found { IfSome result (λ frame. (frame.1 ≤ length rest.now) × IsFrameInFront rest.now frame.0.now (drop frame.1 rest.now)) }
+    ensures none { IfNone result (IsOpen rest.now) }
+{
+    match header {
+        Header::Open(_) => None,
+        Header::Whole { size, content_len } => {
+            let end = size + content_len;
+            if rest.len() < end {
+                return None;
+            }
+            Some((&rest[size..end], end))
+        }
+    }
+}
+
+/// Judges each line that is complete.
+fn scan_lines(rest: &[u8], mut scan: Scan) -> Result<Header, FrameFault>
+    requires { IsScanned scan rest.now }
+    ensures ok { IfOk result (λ header. IsReadOut header rest.now) }
+    ensures err { IfErr result (FaultAt rest.now) }
+{
+    let bytes = &rest[..rest.len().min(HEADER_LIMIT)];
+    while let Some(end) = line_end(bytes, scan.judged, scan.searched) {
+        let line = &bytes[scan.judged..end];
+        if line.is_empty() {
+            return match scan.named {
+                Some(content_len) => Ok(Header::Whole {
+                    size: end + 2,
+                    content_len,
+                }),
+                None => Err(FrameFault::NoLength),
+            };
+        }
+        scan = Scan {
+            judged: end + 2,
+            searched: end + 2,
+            named: judge_field(line, scan.named)?,
+        };
+    }
+    if bytes.len() == HEADER_LIMIT {
+        return Err(FrameFault::HeaderTooLong);
+    }
+    scan.searched = bytes.len();
+    Ok(Header::Open(scan))
+}
+
+/// Where the first CR LF from `judged` on stands, of which no one ends by `searched`.
+fn line_end(bytes: &[u8], judged: usize, searched: usize) -> Option<usize>
+    requires in_order { judged ≤ searched }
+    requires there { searched ≤ length bytes.now }
+    requires no_end { HasNoEnd bytes.now judged searched }
+    ensures found { IfSome result (λ end. (judged ≤ end) × (end + 1 < length bytes.now) × EndsAt bytes.now end × HasNoEnd bytes.now judged (end + 1)) }
+    ensures none { IfNone result (HasNoEnd bytes.now judged (length bytes.now)) }
+{
+    let mut from = searched;
+    while let Some(found) = memchr(b'\n', &bytes[from..]) {
+        let feed = from + found;
+        if judged < feed && bytes[feed - 1] == b'\r' {
+            return Some(feed - 1);
+        }
+        from = feed + 1;
+    }
+    None
+}
+
+/// What is named once this line is read, which is not empty and stands behind fields that name `named`.
+fn judge_field(line: &[u8], named: Option<usize>) -> Result<Option<usize>, FrameFault>
+    ensures ok { (fields : List Field) → Names fields named → IfOk result (λ next. (field : Field) × IsField field × (line.now ≡ field_text field) × Names (fields ++ field ∷ []) next) }
+    ensures err { (fields : List Field) → Names fields named → line.now ≢ [] → IfErr result (LineFault fields line.now) }
+{
+    let Some(field) = field_of(line) else {
+        return Err(FrameFault::BadField);
+    };
+    if field.name != b"Content-Length".as_slice() {
+        return Ok(named);
+    }
+    if named.is_some() {
+        return Err(FrameFault::TwoLengths);
+    }
+    match length_of(field.value) {
+        None => Err(FrameFault::BadLength),
+        Some(length) if length > CONTENT_LIMIT => Err(FrameFault::TooLarge),
+        length => Ok(length),
+    }
+}

@@ -1,0 +1,2 @@
+pub mod initialize;
+pub(crate) mod threads;
