@@ -8,5 +8,4 @@ pub mod Ends
 pub mod Judging
 pub mod Scanning
 pub mod Feeding
-pub mod Decimals
 pub mod Deciding

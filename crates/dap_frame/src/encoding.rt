@@ -3,10 +3,8 @@ ghost use Rattle.dap_frame.specs.Frame.{frame_of};
 ghost use Rattle.dap_frame.specs.declared.fault.FrameFault.TheVariants.{NoMemory};
 
 use crate::fault::FrameFault;
+use itoa::Buffer;
 use std::alloc::AllocError;
-
-/// The most digits that a length has.
-const MAX_DIGITS: usize = 20;
 
 /// Writes the frame of a content at the end of `out`. The one fault is want of memory, which leaves `out` as it was.
 pub fn encode(content: &[u8], out: &mut Vec<u8>) -> Result<(), FrameFault>
@@ -29,30 +27,12 @@ fn append_frame(content: &[u8], out: &mut Vec<u8>) -> Result<(), AllocError>
     ensures full { OnErr result (vec_capacity out.old < vec_len out.old + length (frame_of content.now)) }
 {
     let name = b"Content-Length: ";
-    let mut digits = [0; MAX_DIGITS];
-    let first = write_decimal(content.len(), &mut digits);
-    let length = &digits[first..];
+    let mut digits = Buffer::new();
+    let length = digits.format(content.len()).as_bytes();
     let ends = b"\r\n\r\n";
     out.reserve(name.len() + length.len() + ends.len() + content.len())?;
     out.extend_from_slice(name)?;
     out.extend_from_slice(length)?;
     out.extend_from_slice(ends)?;
     out.extend_from_slice(content)
-}
-
-/// Writes a number at the end of the buffer, and answers where its first digit stands.
-fn write_decimal(number: usize, buffer: &mut [u8; MAX_DIGITS]) -> usize
-    ensures there { result ≤ length buffer.new }
-    ensures digits { drop result buffer.new ≡ decimal number }
-{
-    let mut left = number;
-    let mut at = buffer.len();
-    while left >= 10 {
-        at -= 1;
-        buffer[at] = b'0' + (left % 10) as u8;
-        left /= 10;
-    }
-    at -= 1;
-    buffer[at] = b'0' + left as u8;
-    at
 }
