@@ -11,10 +11,11 @@ use Rattle.dap_frame.specs.declared.fault.FrameFault.TheVariants.{HeaderTooLong,
 abbrev pub line_end : List ℕ
 line_end = 13 ∷ 10 ∷ []
 
--- profile: the largest header part, with its empty line, and the largest content
+-- profile: the largest header part, with its empty line
 abbrev pub header_limit : ℕ
 header_limit = 1024
 
+-- profile: the largest content
 abbrev pub content_limit : ℕ
 content_limit = 1048576
 
@@ -26,6 +27,7 @@ is_name_byte x = (nat_le 97 x && nat_le x 122) || ((nat_le 65 x && nat_le x 90) 
 abbrev pub is_value_byte : ℕ → Bool
 is_value_byte x = nat_le 32 x && nat_le x 126
 
+-- a field of a header part
 pub record Field : Type 0 where
   pub name : List ℕ
   pub value : List ℕ
@@ -40,9 +42,11 @@ pub record IsField (field : Field) : Type 0 where
 abbrev pub field_text : Field → List ℕ
 field_text field = field.name ++ (58 ∷ 32 ∷ field.value)
 
+-- a line: its text, and CR LF
 abbrev pub line_of : List ℕ → List ℕ
 line_of text = text ++ line_end
 
+-- the lines of fields, one after the other
 abbrev pub lines_of : List Field → List ℕ
 lines_of fields = flat_map (λ field. line_of (field_text field)) fields
 

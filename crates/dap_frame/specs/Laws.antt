@@ -16,10 +16,11 @@ FaultsAreUnique = (bytes : List ℕ) (j k : FrameFault) → FaultAt bytes j → 
 abbrev pub NeverBoth : Type 0
 NeverBoth = (bytes content rest : List ℕ) (fault : FrameFault) → IsFrameInFront bytes content rest → FaultAt bytes fault → ⊥
 
--- each rest has a frame in front, or a fault, or more of it has to come
+-- a frame stands in front, or a fault, or more has to come
 abbrev pub IsTold : List ℕ → Type 0
 IsTold bytes = ((content : List ℕ) × (rest : List ℕ) × IsFrameInFront bytes content rest) ⊎ (((fault : FrameFault) × FaultAt bytes fault) ⊎ IsOpen bytes)
 
+-- one of the three holds of each rest, and it can be told which
 abbrev pub OneOfThree : Type 0
 OneOfThree = (bytes : List ℕ) → IsTold bytes
 

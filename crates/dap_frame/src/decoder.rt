@@ -7,14 +7,18 @@ use crate::header::{Header, content_of, read_on};
 use std::alloc::Global;
 use std::marker::Model;
 
-/// Reads frames from a stream that comes in pieces.
+/// Reads frames from a stream that comes in pieces of any lengths.
 ///
-/// `bytes[..front]` were given away, and `header` says how far the header part behind them was read.
+/// A header part has at most 1,024 bytes, and a content at most 1,048,576. The time taken is linear in the bytes that
+/// come, however they are cut.
 #[derive(Drop)]
 pub struct Decoder {
     bytes: Vec<u8>,
+    // How many of the bytes were given away. The rest of the stream stands behind them.
     front: usize,
+    // How far the header part there was read.
     header: Header,
+    // The fault for good.
     fault: Option<FrameFault>,
 }
 
@@ -46,7 +50,11 @@ impl Decoder {
         }
     }
 
-    /// Takes the next piece of the stream, and judges nothing. An `Err` changes nothing.
+    /// Takes the next piece of the stream, and judges nothing.
+    ///
+    /// # Errors
+    ///
+    /// The fault that was found before, or `NoMemory`. Either changes nothing.
     pub fn feed(&mut self, piece: &[u8]) -> Result<(), FrameFault>
         ensures ok { OnOk result ((self.old.fault ≡ None)
             × (self.new ≡ record { rest = self.old.rest ++ piece.now; fault = None })) }
@@ -66,8 +74,12 @@ impl Decoder {
         }
     }
 
-    /// The next content, `None` where no whole frame is there yet, or the fault in the next frame's place. From a
-    /// fault on, want of memory apart, the decoder answers that fault. Want of memory changes nothing.
+    /// The next content, or `None` where no whole frame has come yet.
+    ///
+    /// # Errors
+    ///
+    /// The fault in the next frame's place, at this call and every later one, and at `feed`; or `NoMemory`, which
+    /// changes nothing, so that the call may be made again.
     pub fn next_content(&mut self) -> Result<Option<Vec<u8>>, FrameFault>
         // The content is that of the next frame.
         ensures content { IfOk result (λ next. MatchOption next

@@ -6,7 +6,11 @@ use crate::fault::FrameFault;
 use itoa::Buffer;
 use std::alloc::AllocError;
 
-/// Writes the frame of a content at the end of `out`. The one fault is want of memory, which leaves `out` as it was.
+/// Writes the frame of a content at the end of `out`.
+///
+/// # Errors
+///
+/// `NoMemory` alone, which leaves `out` as it was.
 pub fn encode(content: &[u8], out: &mut Vec<u8>) -> Result<(), FrameFault>
     ensures ok { OnOk result (out.new.items ≡ out.old.items ++ frame_of content.now) }
     ensures err { OnErr result (out.new.items ≡ out.old.items) }

@@ -1,0 +1,9 @@
+pub mod Readings
+pub mod Taking
+pub mod Way
+pub mod Standing
+pub mod Driven
+pub mod Along
+pub mod OneHistory
+pub mod GivingUp
+pub mod Endings

@@ -1,0 +1,9 @@
+pub mod Last
+pub mod History
+pub mod Answers
+pub mod Events
+pub mod State
+pub mod Ports
+pub mod Output
+pub mod Served
+pub mod Laws

@@ -1,0 +1,106 @@
+ghost use Rattle.std.specs.Prelude.{◌≡◌, ◌++◌, ◌∷◌, [], ◌<◌, ◌≤◌, ℕ, List, Ok, Err, length, OnOk, OnErr, IfOk, IfErr};
+
+/// What comes to a session.
+#[derive(Debug, Drop)]
+pub enum Event {
+    /// The next bytes of the input.
+    Piece(Vec<u8>),
+    /// The input came to its end.
+    End,
+    /// The input can't be read any more.
+    ReadFailed,
+    /// There was no memory to read a piece into.
+    NoMemory,
+}
+
+/// What a session asks of the runner.
+#[derive(Debug, Drop)]
+pub enum Order {
+    Quit,
+}
+
+/// Why an order was not pushed.
+#[derive(Clone, Copy, Debug, PartialEq, Eq)]
+pub enum OrderFault {
+    /// There is no room for it.
+    Full,
+    /// Nobody takes orders any more.
+    Gone,
+}
+
+/// Why a file was not loaded.
+#[derive(Clone, Copy, Debug, PartialEq, Eq)]
+pub enum LoadFault {
+    CannotRead,
+    NoMemory,
+}
+
+/// Where frames go.
+pub trait Out {
+    ghost use Rattle.dap_session.specs.Ports.{Written};
+    ghost use Rattle.std.specs.Prelude.{◌≡◌, ◌++◌, ◌∷◌, [], ◌<◌, OnOk, OnErr, IfErr};
+
+    /// The frames put, and how often one was refused.
+    ghost seen: { Self → Written };
+
+    /// Puts a frame at the end, or hands it back.
+    fn put(&mut self, frame: Vec<u8>) -> Result<(), Vec<u8>>
+        ensures ok { OnOk result ((seen self.new).frames ≡ (seen self.old).frames ++ frame.items ∷ []) }
+        ensures ok_count { OnOk result ((seen self.new).refusals ≡ (seen self.old).refusals) }
+        ensures err { OnErr result ((seen self.new).frames ≡ (seen self.old).frames) }
+        ensures err_count { OnErr result ((seen self.old).refusals < (seen self.new).refusals) }
+        ensures back { IfErr result (λ back. back.items ≡ frame.items) };
+}
+
+/// Where orders go.
+pub trait Orders {
+    ghost use Rattle.dap_session.specs.Ports.{Ordered};
+    ghost use Rattle.dap_session.specs.declared.ports.OrderFault.TheVariants.{Full, Gone};
+    ghost use Rattle.std.specs.Prelude.{◌≡◌, ◌++◌, ◌∷◌, [], ◌<◌, OnOk, OnErr, IfErr, Err};
+
+    /// The orders pushed, and how often one was refused.
+    ghost seen: { Self → Ordered };
+
+    /// There is no room for an order.
+    ghost is_full: { Self → Type 0 };
+
+    /// Pushes an order at the end.
+    fn push(&mut self, order: Order) -> Result<(), OrderFault>
+        ensures ok { OnOk result ((seen self.new).orders ≡ (seen self.old).orders ++ order ∷ []) }
+        ensures ok_fulls { OnOk result ((seen self.new).fulls ≡ (seen self.old).fulls) }
+        ensures ok_refusals { OnOk result ((seen self.new).refusals ≡ (seen self.old).refusals) }
+        ensures err { OnErr result ((seen self.new).orders ≡ (seen self.old).orders) }
+        ensures full { result ≡ Err Full → is_full self.old }
+        ensures full_count { result ≡ Err Full → (seen self.old).fulls < (seen self.new).fulls }
+        ensures gone_count { result ≡ Err Gone → (seen self.old).refusals < (seen self.new).refusals };
+}
+
+/// Where events come from.
+pub trait Inbox {
+    ghost use Rattle.dap_session.specs.Events.{Incoming, incoming_of};
+    ghost use Rattle.std.specs.Prelude.{◌≡◌, ◌++◌, ◌∷◌, [], List};
+
+    /// The events given so far, the oldest first.
+    ghost given: { Self → List Incoming };
+
+    /// The next event. It may wait for one, by a handle of its own.
+    fn next(&mut self) -> Event
+        ensures { given self.new ≡ given self.old ++ incoming_of result ∷ [] };
+}
+
+/// Where files come from.
+pub trait Loader {
+    ghost use Rattle.dap_session.specs.Ports.{Load, load_of};
+    ghost use Rattle.dap_session.specs.declared.ports.LoadFault.TheVariants.{CannotRead, NoMemory};
+    ghost use Rattle.std.specs.Prelude.{◌≡◌, ◌++◌, ◌∷◌, [], ◌≤◌, List, Ok, Err, length, IfOk};
+
+    /// The paths asked for and the answers given so far, the oldest first; one for want of memory isn't among them.
+    ghost loaded: { Self → List Load };
+
+    /// The file's bytes, the first 65,537 of them where it has more.
+    fn load(&mut self, path: &str) -> Result<Vec<u8>, LoadFault>
+        ensures ok { IfOk result (λ file. loaded self.new ≡ loaded self.old ++ load_of path.now (Ok file.items) ∷ []) }
+        ensures short { IfOk result (λ file. length file.items ≤ 65537) }
+        ensures cannot_read { result ≡ Err CannotRead → loaded self.new ≡ loaded self.old ++ load_of path.now (Err CannotRead) ∷ [] }
+        ensures no_memory { result ≡ Err NoMemory → loaded self.new ≡ loaded self.old };
+}

@@ -1,0 +1,11 @@
+pub mod ListingLemmas
+pub mod Trees
+pub mod Stands
+pub mod Homes
+pub mod Coding
+pub mod CodingBlocks
+pub mod Tables
+pub mod Patches
+pub mod BlockTrees
+pub mod BlockSteps
+pub mod UnitLemmas

@@ -1,0 +1,2 @@
+pub mod LexerLemmas
+pub mod Order

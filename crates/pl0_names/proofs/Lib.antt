@@ -1,0 +1,14 @@
+pub mod Rows
+pub mod Walks
+pub mod Agreement
+pub mod Lookup
+pub mod Sayings
+pub mod Declaring
+pub mod Stacks
+pub mod Passing
+pub mod Order
+pub mod ReadPlaces
+pub mod Members
+pub mod Complete
+pub mod Sound
+pub mod First

@@ -1,0 +1,4 @@
+pub mod Blocks
+pub mod Numbering
+pub mod Judging
+pub mod FirstFault

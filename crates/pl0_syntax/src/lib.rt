@@ -1,0 +1,15 @@
+//! PL/0 texts: read as trees, or refused by their first fault.
+//!
+//! The one contract is that of [`parse`]: a text gives the tree that it reads as, which keeps the rules of names, or its
+//! first fault. The definitions stand in `pl0_tree`; this crate joins `pl0_lexer` (text to tokens), `pl0_parser` (tokens
+//! to tree, or the first token that can't stand) and `pl0_names` (the first name that is wrong). The places of tokens
+//! ascend, so the first name that `pl0_names` comes to is the first in the text.
+#![tactic(auto)]
+
+mod parsing;
+
+pub use parsing::parse;
+pub use pl0_tree::{
+    Block, Condition, Constant, Expression, FaultKind, Name, Operator, Place, Procedure, Relation,
+    Statement, Step, StepKind, StepNo, SyntaxFault, Tree,
+};

@@ -1,0 +1,4 @@
+pub mod Transfer
+pub mod Serving
+pub mod Endings
+pub mod Loading
