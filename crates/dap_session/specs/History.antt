@@ -1,4 +1,5 @@
--- What a session has taken, and what that made it send.
+-- What a session has taken, and what that made it send: the requests and answers of the Debug Adapter Protocol. Which request
+-- is answered in which situation is this project's own profile.
 use Rattle.std.specs.Prelude.{ℕ, ◌+◌, List, [], ◌∷◌, ◌++◌, length, flat_map, unwrap_or, Option, None, Some, Result, Ok, Err}
 use Rattle.dap_frame.specs.declared.fault.FrameFault.{FrameFault}
 use Rattle.dap_msg.specs.declared.request.Request.{Request}
@@ -86,6 +87,7 @@ next_seq past = length (messages_of past) + 1
 
 -- ---- what an item causes
 
+-- profile: a session is initialized once, and its threads are asked for after that
 abbrev pub initialize_in : Situation → Result Body Refusal
 initialize_in Fresh = Ok body.Capabilities
 initialize_in Ready = Err refusal.WrongPhase

@@ -1,7 +1,7 @@
 -- The code of a block put together, one procedure at a time.
-use Rattle.std.proofs.Common.{◌≡◌, ℕ, suc, zero, ◌+◌, ◌<◌, ◌≤◌, List, [], ◌∷◌, ◌++◌, refl, sym, ap, subst, ◌∙◌, arith, length, drop, take, map, get_or, append_assoc, length-append, append-nil, Some, None, Option, reverse}
+use Rattle.std.proofs.Common.{◌≡◌, ℕ, ◌+◌, ◌<◌, List, [], ◌∷◌, ◌++◌, refl, sym, ap, ◌∙◌, arith, length, drop, take, map, get_or, append_assoc, length-append, Some, None, reverse}
 use Rattle.std.specs.Prelude.{option_map, option_and_then, slice_get}
-use Rattle.std.proofs.lemmas.List.{length-map, drop_all, take_all, reverse-append, map-append}
+use Rattle.std.proofs.lemmas.List.{length-map, reverse-append}
 use Rattle.std.proofs.lemmas.Option.{slice_get-get_or}
 use Rattle.pl0_tree.specs.declared.step.Step.{Step}
 use Rattle.pl0_tree.specs.declared.tree.Place.{Place}
@@ -17,8 +17,7 @@ use Rattle.pl0_unit.specs.declared.instruction.Operation.TheVariants as operatio
 use Rattle.pl0_code.specs.Lines.{Row, row}
 use Rattle.pl0_code.specs.Rows.{Resolver, statement_rows, statement_table, step_count, numbered}
 use Rattle.pl0_code.specs.Sizes.{block_length, blocks_length, entry, length_before}
-use Rattle.pl0_code.specs.Chains.{resolver, found_in, chain, names_at, names_of, Names}
-use Rattle.pl0_code.specs.Tables.{blocks_start}
+use Rattle.pl0_code.specs.Chains.{resolver, chain, names_at, names_of, Names}
 use Rattle.pl0_code.specs.Blocks.{block_rows, list_blocks_rows, block_count, block_table, blocks_count, blocks_table, outer}
 use Rattle.pl0_code.proofs.CodingBlocks.{length_block}
 use Rattle.pl0_code.proofs.Trees.{drop_next}

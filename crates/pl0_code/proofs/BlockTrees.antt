@@ -1,26 +1,24 @@
 -- Definitions over blocks, read at their lists, and the code of a block put together.
-use Rattle.std.proofs.Common.{◌≡◌, ℕ, suc, zero, ◌+◌, ◌<◌, ◌≤◌, List, [], ◌∷◌, ◌++◌, refl, sym, ap, subst, ◌∙◌, arith, length, drop, take, map, get_or, append_assoc, length-append, append-nil, Some, None, reverse, add-one}
-use Rattle.std.proofs.lemmas.List.{length-map, drop_all, take_all, reverse-append, map-append}
-use Rattle.std.proofs.Math.Seq.{drop-cons}
+use Rattle.std.proofs.Common.{◌≡◌, ℕ, ◌+◌, List, [], ◌∷◌, ◌++◌, refl, sym, ap, ◌∙◌, arith, length, length-append, Some, None}
+use Rattle.std.proofs.lemmas.List.{length-map}
 use Rattle.pl0_tree.specs.declared.step.Step.{Step}
 use Rattle.pl0_tree.specs.declared.step.StepKind.TheVariants as kind
 use Rattle.pl0_tree.specs.declared.tree.Block.{Block, Block', out-Block, Row_of-Procedure, end_of-Procedure, more_of-Procedure, items-the_row-Procedure}
 use Rattle.pl0_tree.specs.declared.tree.Block.TheBlock.{items_shown-the_row-Procedure-0}
 use Rattle.pl0_tree.specs.declared.tree.Procedure.{Procedure, out-Procedure, Procedure'}
 use Rattle.pl0_tree.specs.declared.tree.Statement.{Statement}
-use Rattle.pl0_tree.specs.Scope.{Path, block_at}
-use Rattle.pl0_tree.specs.Steps.{StepAt, statement_steps, block_steps, procedures_steps, step}
+use Rattle.pl0_tree.specs.Scope.{Path}
+use Rattle.pl0_tree.specs.Steps.{statement_steps, block_steps, procedures_steps, step}
 use Rattle.pl0_unit.specs.Code.{cell}
 use Rattle.pl0_unit.specs.declared.instruction.Instruction.TheVariants.{Operate, Enter, Jump}
 use Rattle.pl0_unit.specs.declared.instruction.Operation.TheVariants as operation
 use Rattle.pl0_code.specs.Lines.{Row, row}
 use Rattle.pl0_code.specs.Rows.{statement_rows, statement_table, step_count, numbered}
-use Rattle.pl0_code.specs.Sizes.{block_length, blocks_length, procedures_length, statement_length, entry}
-use Rattle.pl0_code.specs.Chains.{resolver, found_in, chain, names_at, names_of, Names}
+use Rattle.pl0_code.specs.Sizes.{block_length, blocks_length, procedures_length}
+use Rattle.pl0_code.specs.Chains.{resolver}
 use Rattle.pl0_code.specs.Tables.{blocks_start}
-use Rattle.pl0_code.specs.Blocks.{block_rows, procedures_rows, list_blocks_rows, block_count, procedures_count, block_table, procedures_table, blocks_count, blocks_table, outer}
+use Rattle.pl0_code.specs.Blocks.{block_rows, procedures_rows, list_blocks_rows, block_count, procedures_count, block_table, procedures_table, blocks_count, blocks_table}
 use Rattle.pl0_code.proofs.Coding.{steps_anywhere}
-use Rattle.pl0_code.proofs.CodingBlocks.{length_block, length_statement}
 use Rattle.pl0_code.proofs.Trees.{length_of_procedures}
 
 mutual

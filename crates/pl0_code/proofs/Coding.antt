@@ -1,28 +1,26 @@
 -- The code of a lawful program as a list is its code as a relation.
-use Rattle.std.proofs.Common.{◌≡◌, ℕ, suc, zero, ◌+◌, ◌-◌, ◌<◌, ◌≤◌, List, [], ◌∷◌, ◌++◌, map, length, refl, sym, ap, subst, ◌∙◌, arith, rules, Option, Some, None, length-append, append_assoc, pos}
+use Rattle.std.proofs.Common.{◌≡◌, ℕ, ◌+◌, List, [], ◌∷◌, ◌++◌, map, length, refl, sym, ap, subst, ◌∙◌, arith, rules, Option, Some, None, length-append, pos}
 use Rattle.std.specs.Prelude.{slice_get, option_map, unwrap_or}
 use Rattle.std.proofs.lemmas.Option.{slice_get-map}
 use Rattle.pl0_tree.specs.declared.tree.Name.{Name}
-use Rattle.pl0_tree.specs.declared.tree.Block.{Block, out-Block, Block', Row_of-Procedure, end_of-Procedure, more_of-Procedure}
-use Rattle.pl0_tree.specs.declared.tree.Procedure.{Procedure, out-Procedure, Procedure'}
+use Rattle.pl0_tree.specs.declared.tree.Block.{Block}
 use Rattle.pl0_tree.specs.declared.tree.Statement.{Statement, Row_of-Statement, end_of-Statement, more_of-Statement}
 use Rattle.pl0_tree.specs.declared.tree.Statement.TheVariants.{Empty, Assign, Call, Write, Begin', If', While'}
 use Rattle.pl0_tree.specs.declared.tree.Expression.{Expression}
 use Rattle.pl0_tree.specs.declared.tree.Expression.TheVariants.{Name as Named, Number, Negate', Binary'}
 use Rattle.pl0_tree.specs.declared.tree.Condition.{Condition}
 use Rattle.pl0_tree.specs.declared.tree.Condition.TheVariants.{Odd, Compare}
-use Rattle.pl0_tree.specs.declared.step.StepKind.TheVariants as kind
-use Rattle.pl0_tree.specs.Scope.{Path, word, block_at, Meaning, AConstant, AVariable, AProcedure, Home, home, Manner, IsRead, IsAssigned, IsCalled, Use, use_of, expression_uses, condition_uses, statement_uses, row_uses, Allows, IsLawful, IsLawfulUse}
-use Rattle.pl0_tree.specs.Steps.{StepAt, steps, statement_steps, row_steps, step}
+use Rattle.pl0_tree.specs.Scope.{Path, word, block_at, Meaning, AConstant, AVariable, AProcedure, Home, home, IsRead, IsAssigned, IsCalled, Use, use_of, expression_uses, condition_uses, statement_uses, row_uses, Allows, IsLawfulUse}
+use Rattle.pl0_tree.specs.Steps.{steps, statement_steps, row_steps}
 use Rattle.pl0_meaning.specs.Values.{constant_of}
-use Rattle.pl0_unit.specs.Code.{Listing, level, cell, Lays, IsNumbered, LaysRead, LaysDeclaredRead, LaysStore, LaysDeclaredStore, LaysCall, LaysDeclaredCall, CodedExpression, CodedCondition, CodedStatement, CodedSequence, operator_operation, relation_operation}
+use Rattle.pl0_unit.specs.Code.{Listing, level, cell, Lays, LaysRead, LaysDeclaredRead, LaysStore, LaysDeclaredStore, LaysCall, LaysDeclaredCall, CodedExpression, CodedCondition, CodedStatement, CodedSequence, operator_operation, relation_operation}
 use Rattle.pl0_unit.specs.declared.instruction.Instruction.{Instruction}
-use Rattle.pl0_unit.specs.declared.instruction.Instruction.TheVariants.{Literal, Operate, Load, Store, Call as CallTo, Enter, Jump, JumpIfZero}
+use Rattle.pl0_unit.specs.declared.instruction.Instruction.TheVariants.{Literal, Operate, Load, Store, Call as CallTo, Jump, JumpIfZero}
 use Rattle.pl0_unit.specs.declared.instruction.Operation.TheVariants as operation
 use Rattle.pl0_code.specs.Lines.{Row, row}
-use Rattle.pl0_code.specs.Rows.{read_of, store_of, call_of, expression_rows, condition_rows, if_rows, while_rows, statement_rows, sequence_rows, step_count}
-use Rattle.pl0_code.specs.Sizes.{entry, length_before}
-use Rattle.pl0_code.specs.Chains.{found_in, declared_as, chain, resolver}
+use Rattle.pl0_code.specs.Rows.{read_of, store_of, call_of, expression_rows, condition_rows, statement_rows, sequence_rows, step_count}
+use Rattle.pl0_code.specs.Sizes.{entry}
+use Rattle.pl0_code.specs.Chains.{declared_as, resolver}
 use Rattle.pl0_code.proofs.Stands.{Stands, stands_first, stands_second}
 use Rattle.pl0_code.proofs.Homes.{found_home, found_by_home, constant_at_home}
 

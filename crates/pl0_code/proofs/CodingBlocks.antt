@@ -1,9 +1,8 @@
 -- The code of a lawful program's blocks as a list is their code as a relation.
-use Rattle.std.proofs.Common.{◌≡◌, ℕ, suc, zero, ◌+◌, ◌-◌, ◌<◌, ◌≤◌, List, [], ◌∷◌, ◌++◌, map, length, take, refl, sym, ap, subst, ◌∙◌, arith, rules, Option, Some, None, length-append, append_assoc, pos}
+use Rattle.std.proofs.Common.{◌≡◌, ℕ, ◌+◌, List, [], ◌∷◌, ◌++◌, length, take, refl, sym, ap, ◌∙◌, arith, rules, Option, Some, None, length-append, append_assoc}
 use Rattle.std.specs.Prelude.{slice_get, option_map, option_and_then}
 use Rattle.std.proofs.lemmas.Grind.{common_steps}
 use Rattle.pl0_code.proofs.Trees.{blocks_length_push}
-use Rattle.pl0_tree.specs.declared.tree.Name.{Name}
 use Rattle.pl0_tree.specs.declared.tree.Block.{Block, out-Block, Block', Row_of-Procedure, end_of-Procedure, more_of-Procedure, items-the_row-Procedure}
 use Rattle.pl0_tree.specs.declared.tree.Block.TheBlock.{items_shown-the_row-Procedure-0}
 use Rattle.pl0_tree.specs.declared.tree.Procedure.{Procedure, out-Procedure, Procedure'}
@@ -15,8 +14,8 @@ use Rattle.pl0_tree.specs.declared.tree.Condition.{Condition}
 use Rattle.pl0_tree.specs.declared.tree.Condition.TheVariants.{Odd, Compare}
 use Rattle.pl0_tree.specs.declared.step.StepKind.TheVariants as kind
 use Rattle.pl0_tree.specs.Scope.{Path, word, block_at, procedure_at, body_uses, IsLawful}
-use Rattle.pl0_tree.specs.Steps.{StepAt, steps, statement_steps, block_steps, procedures_steps, step}
-use Rattle.pl0_unit.specs.Code.{operator_operation, relation_operation, Listing, cell, Lays, IsNumbered, CodedStatement, CodedBlock, CodedProcedures, Coded}
+use Rattle.pl0_tree.specs.Steps.{steps, statement_steps, block_steps, procedures_steps, step}
+use Rattle.pl0_unit.specs.Code.{operator_operation, relation_operation, cell, CodedBlock, CodedProcedures}
 use Rattle.pl0_unit.specs.declared.instruction.Instruction.TheVariants.{Operate, Enter, Jump, JumpIfZero}
 use Rattle.pl0_unit.specs.declared.instruction.Operation.TheVariants as operation
 use Rattle.pl0_code.specs.Lines.{Row, row}
@@ -24,8 +23,8 @@ use Rattle.pl0_code.specs.Rows.{Resolver, store_of, expression_rows, condition_r
 use Rattle.pl0_code.specs.Sizes.{entry, length_before, expression_length, condition_length, statement_length, sequence_length, block_length, procedures_length, blocks_length}
 use Rattle.pl0_code.specs.Chains.{resolver}
 use Rattle.pl0_code.specs.Blocks.{block_rows, procedures_rows}
-use Rattle.pl0_code.proofs.Stands.{Stands, stands_first, stands_second, stands_whole}
-use Rattle.pl0_code.proofs.Coding.{listing, lays, AreMeant, meant_each, coded_statement, steps_anywhere}
+use Rattle.pl0_code.proofs.Stands.{Stands, stands_first, stands_second}
+use Rattle.pl0_code.proofs.Coding.{listing, lays, meant_each, coded_statement, steps_anywhere}
 
 -- ---- the lengths of code
 

@@ -1,19 +1,19 @@
 -- What the code finds a word as, by its home.
-use Rattle.std.proofs.Common.{◌≡◌, ℕ, suc, zero, ◌+◌, ◌-◌, ◌<◌, ◌≤◌, List, [], ◌∷◌, ◌++◌, map, length, refl, sym, ap, subst, ◌∙◌, arith, Option, Some, None, Bool, true, false, cond, get_or, ◌⊎◌, inl, inr}
+use Rattle.std.proofs.Common.{◌≡◌, ℕ, ◌+◌, ◌<◌, ◌≤◌, List, [], ◌∷◌, ◌++◌, map, length, refl, sym, ap, subst, ◌∙◌, arith, Option, Some, None, Bool, true, false, cond, inl, inr}
 use Rattle.std.proofs.lemmas.Option.{slice_get_cases}
 use Rattle.std.proofs.lemmas.List.{length-map}
-use Rattle.std.specs.Prelude.{slice_get, option_map, option_and_then, unwrap_or, find, pos, ℤ, IsSome, if◌then◌else◌}
+use Rattle.std.specs.Prelude.{slice_get, option_map, option_and_then, unwrap_or, find, pos}
 use Rattle.std.specs.Str.{bytes_eq}
 use Rattle.pl0_tree.specs.declared.tree.Name.{Name}
 use Rattle.pl0_tree.specs.declared.tree.Constant.{Constant}
 use Rattle.pl0_tree.specs.declared.tree.Procedure.{out-Procedure}
 use Rattle.pl0_tree.specs.declared.tree.Block.{Block, out-Block}
-use Rattle.pl0_tree.specs.Scope.{Path, word, block_at, Meaning, AConstant, AVariable, AProcedure, Declaration, declarations, declared_as as declared_list, first_declaration, Home, home, declared_here, or_else}
+use Rattle.pl0_tree.specs.Scope.{Path, word, block_at, Meaning, AConstant, AVariable, AProcedure, Declaration, declarations, declared_as as declared_list, first_declaration, Home, home, or_else}
 use Rattle.pl0_meaning.specs.Values.{constant_of}
-use Rattle.pl0_unit.specs.Code.{level, cell}
+use Rattle.pl0_unit.specs.Code.{level}
 use Rattle.pl0_code.specs.declared.scope.Found.{Found}
 use Rattle.pl0_code.specs.Sizes.{entry}
-use Rattle.pl0_code.specs.Chains.{found_at, found_in, declared_as, names_at, chain, resolver}
+use Rattle.pl0_code.specs.Chains.{found_at, found_in, declared_as, chain}
 
 module _ (main : Block) where
   -- what a home is found as from a block at a path

@@ -1,5 +1,5 @@
 -- A jump whose target is written once the code that it passes stands.
-use Rattle.std.proofs.Common.{◌≡◌, ℕ, ◌+◌, List, [], ◌∷◌, ◌++◌, length, refl, sym, ap, subst, ◌∙◌, arith, None, Some, append_assoc, length-append}
+use Rattle.std.proofs.Common.{◌≡◌, ℕ, ◌+◌, List, [], ◌∷◌, ◌++◌, length, ap, ◌∙◌, None, Some, append_assoc, length-append}
 use Rattle.pl0_tree.specs.declared.tree.Statement.{Statement}
 use Rattle.pl0_tree.specs.declared.tree.Condition.{Condition}
 use Rattle.pl0_tree.specs.declared.step.Step.{Step}

@@ -1,12 +1,12 @@
 -- What tables have for words.
-use Rattle.std.proofs.Common.{◌≡◌, ℕ, suc, zero, ◌+◌, ◌-◌, ◌<◌, ◌≤◌, List, [], ◌∷◌, ◌++◌, map, length, reverse, get_or, refl, sym, ap, subst, ◌∙◌, arith, Option, Some, None, Bool, true, false, cond, take, drop}
-use Rattle.std.specs.Prelude.{option_map, if◌then◌else◌}
+use Rattle.std.proofs.Common.{◌≡◌, ℕ, suc, zero, ◌+◌, ◌-◌, ◌<◌, ◌≤◌, List, [], ◌∷◌, ◌++◌, map, length, reverse, get_or, refl, sym, ap, ◌∙◌, arith, Option, Some, None, Bool, true, false, cond, take}
+use Rattle.std.specs.Prelude.{option_map}
 use Rattle.std.specs.Str.{bytes_eq}
 use Rattle.std.specs.Map.{update}
-use Rattle.std.proofs.lemmas.List.{reverse-append, map-append, length-map, take_all}
+use Rattle.std.proofs.lemmas.List.{reverse-append, take_all}
 use Rattle.std.proofs.lemmas.Slice.Eq.{bytes_eq-Decides}
 use Rattle.std.proofs.lemmas.Grind.{common_steps}
-use Rattle.std.specs.Prelude.{find, slice_get, unwrap_or, is_some, pos}
+use Rattle.std.specs.Prelude.{find, unwrap_or, is_some, pos}
 use Rattle.std.proofs.lemmas.List.Folds.{find-append}
 use Rattle.std.proofs.lemmas.Option.{slice_get-get_or}
 use Rattle.std.specs.Option.{option_or}
@@ -16,7 +16,7 @@ use Rattle.pl0_tree.specs.declared.tree.Procedure.{Procedure, out-Procedure}
 use Rattle.pl0_code.specs.Sizes.{blocks_length, block_length}
 use Rattle.pl0_code.proofs.Trees.{blocks_length_push}
 use Rattle.pl0_tree.specs.declared.tree.Block.{Block, out-Block}
-use Rattle.pl0_tree.specs.Scope.{word, Meaning, AConstant, AVariable, AProcedure, Declaration, declarations, declared_as as declared_list, or_else}
+use Rattle.pl0_tree.specs.Scope.{word, Meaning, AConstant, AVariable, AProcedure, Declaration, declared_as as declared_list, or_else}
 use Rattle.pl0_code.specs.declared.scope.Declared.{Declared}
 use Rattle.pl0_code.specs.Chains.{Names, found_at, found_in, declared_as, names_of}
 use Rattle.pl0_code.specs.Tables.{or_declared, declared_after}

@@ -1,5 +1,5 @@
 -- Definitions over the statements and procedures of a tree, read at their lists.
-use Rattle.std.proofs.Common.{◌≡◌, ℕ, suc, ◌+◌, ◌≤◌, List, [], ◌∷◌, ◌++◌, refl, sym, ap, ◌∙◌, arith, Vec, Global, length, drop, map, get_or, subst, add-one, append_assoc, length-append, ◌<◌}
+use Rattle.std.proofs.Common.{◌≡◌, ℕ, suc, ◌+◌, ◌≤◌, List, [], ◌∷◌, ◌++◌, refl, sym, ap, ◌∙◌, arith, Vec, Global, length, drop, map, get_or, add-one, append_assoc, length-append, ◌<◌}
 use Rattle.std.proofs.lemmas.List.{map-append, length-map}
 use Rattle.std.proofs.Math.Seq.{drop-cons}
 use Rattle.pl0_tree.specs.declared.step.Step.{Step}
@@ -10,7 +10,7 @@ use Rattle.pl0_tree.specs.declared.tree.Statement.TheVariants.{Begin, Begin'}
 use Rattle.pl0_tree.specs.declared.tree.Block.{Block, Block', out-Block, Row_of-Procedure, end_of-Procedure, more_of-Procedure, items-the_row-Procedure}
 use Rattle.pl0_tree.specs.declared.tree.Block.TheBlock.{items_shown-the_row-Procedure-0}
 use Rattle.pl0_tree.specs.declared.tree.Procedure.{Procedure, out-Procedure, Procedure'}
-use Rattle.pl0_tree.specs.Steps.{StepAt, statement_steps, row_steps}
+use Rattle.pl0_tree.specs.Steps.{statement_steps, row_steps}
 use Rattle.pl0_code.specs.Lines.{Row, row}
 use Rattle.pl0_code.specs.Rows.{Resolver, statement_rows, sequence_rows, list_rows, list_steps, step_count, statement_table, numbered}
 use Rattle.pl0_code.specs.Sizes.{statement_length, sequence_length, list_length, block_length, blocks_length, procedures_length}

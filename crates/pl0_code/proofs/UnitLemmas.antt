@@ -1,5 +1,5 @@
 -- The unit of a lawful program.
-use Rattle.std.proofs.Common.{◌≡◌, ℕ, ◌+◌, List, [], ◌∷◌, ◌++◌, refl, sym, ap, subst, ◌∙◌, arith, length, map, append_assoc, length-append, Some, Option}
+use Rattle.std.proofs.Common.{◌≡◌, ℕ, ◌+◌, List, [], ◌∷◌, ◌++◌, refl, sym, ap, subst, ◌∙◌, arith, length, map, length-append, Some, Option}
 use Rattle.pl0_unit.specs.declared.instruction.Instruction.{Instruction}
 use Rattle.std.specs.Prelude.{slice_get}
 use Rattle.std.proofs.lemmas.List.{length-map, map-append}
@@ -11,7 +11,7 @@ use Rattle.pl0_tree.specs.declared.tree.Statement.{Statement, Row_of-Statement, 
 use Rattle.pl0_tree.specs.declared.tree.Statement.TheVariants.{Empty, Assign, Call, Write, Begin', If', While'}
 use Rattle.pl0_tree.specs.Scope.{Path, IsLawful}
 use Rattle.pl0_tree.specs.Steps.{StepAt, steps, statement_steps, row_steps, block_steps, procedures_steps, step, blocks, block_paths, procedures_paths, AreSteps}
-use Rattle.pl0_unit.specs.Code.{Coded, IsUnitOf}
+use Rattle.pl0_unit.specs.Code.{IsUnitOf}
 use Rattle.pl0_code.specs.Lines.{Row}
 use Rattle.pl0_code.specs.Rows.{numbered, statement_table}
 use Rattle.pl0_code.specs.Sizes.{entry}

@@ -1,6 +1,6 @@
 -- The code of blocks as a list.
-use Rattle.std.specs.Prelude.{◌≡◌, ℕ, ◌+◌, List, [], ◌∷◌, ◌++◌, length, map, Some, None}
-use Rattle.pl0_tree.specs.declared.tree.Block.{Block, out-Block, Block', Row_of-Procedure, end_of-Procedure, more_of-Procedure}
+use Rattle.std.specs.Prelude.{ℕ, ◌+◌, List, [], ◌∷◌, ◌++◌, length, Some, None}
+use Rattle.pl0_tree.specs.declared.tree.Block.{Block, Block', Row_of-Procedure, end_of-Procedure, more_of-Procedure}
 use Rattle.pl0_tree.specs.declared.tree.Procedure.{Procedure, out-Procedure, Procedure'}
 use Rattle.pl0_tree.specs.Scope.{Path}
 use Rattle.pl0_tree.specs.Steps.{block_steps, procedures_steps}

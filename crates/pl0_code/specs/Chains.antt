@@ -1,5 +1,5 @@
 -- What words are found as while a block is compiled.
-use Rattle.std.specs.Prelude.{◌≡◌, ℕ, ◌+◌, pos, List, [], ◌∷◌, Option, Some, None, option_map, option_and_then, unwrap_or}
+use Rattle.std.specs.Prelude.{ℕ, ◌+◌, pos, List, [], ◌∷◌, Option, None, option_map, option_and_then, unwrap_or}
 use Rattle.pl0_tree.specs.declared.tree.Block.{Block}
 use Rattle.pl0_tree.specs.Scope.{Path, block_at, Meaning, AConstant, AVariable, AProcedure, first_declaration, or_else}
 use Rattle.pl0_meaning.specs.Values.{constant_of}

@@ -1,12 +1,6 @@
 -- The code of each construct as a list. A word is resolved by a function, so that a statement's code depends on the
 -- program around it only through what its words are found as.
-use Rattle.std.specs.Prelude.{◌≡◌, ℕ, ◌+◌, ◌-◌, ℤ, pos, Bool, List, [], ◌∷◌, ◌++◌, map, length, take, Option, Some, None, option_map, option_and_then, unwrap_or}
-use Rattle.std.specs.Str.{bytes_eq}
-use Rattle.std.specs.HashMap.{HashMap, get_by}
-use denote.Ref.{Bor}
-use Rattle.pl0_tree.specs.declared.tree.Place.{Place}
-use Rattle.pl0_tree.specs.declared.tree.Block.{Block, out-Block, Block', Row_of-Procedure, end_of-Procedure, more_of-Procedure}
-use Rattle.pl0_tree.specs.declared.tree.Procedure.{Procedure, out-Procedure, Procedure'}
+use Rattle.std.specs.Prelude.{ℕ, ◌+◌, pos, List, [], ◌∷◌, ◌++◌, map, length, Option, Some, None}
 use Rattle.pl0_tree.specs.declared.tree.Statement.{Statement, Row_of-Statement, end_of-Statement, more_of-Statement}
 use Rattle.pl0_tree.specs.declared.tree.Statement.TheVariants.{Empty, Assign, Call, Write, Begin', If', While'}
 use Rattle.pl0_tree.specs.declared.tree.Expression.{Expression}
@@ -14,13 +8,11 @@ use Rattle.pl0_tree.specs.declared.tree.Expression.TheVariants.{Name as Named, N
 use Rattle.pl0_tree.specs.declared.tree.Condition.{Condition}
 use Rattle.pl0_tree.specs.declared.tree.Condition.TheVariants.{Odd, Compare}
 use Rattle.pl0_tree.specs.declared.step.Step.{Step}
-use Rattle.pl0_tree.specs.Scope.{Path, word, block_at, Meaning, AConstant, AVariable, AProcedure, Declaration, first_declaration, Home, home, or_else}
-use Rattle.pl0_tree.specs.Steps.{StepAt, statement_steps, step, procedures_steps}
-use Rattle.pl0_tree.specs.declared.step.StepKind.TheVariants as kind
-use Rattle.pl0_meaning.specs.Values.{constant_of}
-use Rattle.pl0_unit.specs.Code.{operator_operation, relation_operation, level, cell}
+use Rattle.pl0_tree.specs.Scope.{word}
+use Rattle.pl0_tree.specs.Steps.{StepAt, statement_steps}
+use Rattle.pl0_unit.specs.Code.{operator_operation, relation_operation}
 use Rattle.pl0_unit.specs.declared.instruction.Instruction.{Instruction}
-use Rattle.pl0_unit.specs.declared.instruction.Instruction.TheVariants.{Literal, Operate, Load, Store, Call as CallTo, Enter, Jump, JumpIfZero}
+use Rattle.pl0_unit.specs.declared.instruction.Instruction.TheVariants.{Literal, Operate, Load, Store, Call as CallTo, Jump, JumpIfZero}
 use Rattle.pl0_unit.specs.declared.instruction.Operation.TheVariants as operation
 use Rattle.pl0_code.specs.declared.scope.Declared.{Declared}
 use Rattle.pl0_code.specs.declared.scope.Declared.TheVariants.{Constant, Variable, Procedure as AnEntry}

@@ -16,3 +16,6 @@ mod unit;
 pub use fault::CodeFault;
 pub use pl0_unit::{Instruction, Operation, Unit};
 pub use unit::compile;
+
+#[cfg(test)]
+mod tests;

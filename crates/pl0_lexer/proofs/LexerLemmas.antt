@@ -1,6 +1,6 @@
 -- A token's bytes are skipped, and the lexer goes on behind them.
-use Rattle.std.proofs.Common.{◌≡◌, ℕ, zero, suc, ◌+◌, ◌<◌, ◌≤◌, Bool, true, false, List, [], ◌∷◌, ◌++◌, map, length, drop, take, get_or, cond, ◌||◌, eqb, refl, ap, sym, ◌∙◌, subst, arith, append_assoc, add-zero, pred}
-use Rattle.std.specs.Prelude.{take_while, nat_le, nat_lt, nat_eq, fold, find, ◌*◌, ◌-◌, ◌^◌, ◌==◌, ◌&&◌, not, Option, Some, None}
+use Rattle.std.proofs.Common.{◌≡◌, ℕ, zero, suc, ◌+◌, ◌<◌, ◌≤◌, Bool, true, false, List, [], ◌∷◌, length, drop, take, get_or, cond, ◌||◌, eqb, refl, ap, sym, ◌∙◌, subst, arith, add-zero, pred}
+use Rattle.std.specs.Prelude.{take_while, nat_le, nat_lt, nat_eq, fold, find, ◌*◌, ◌-◌, ◌^◌, ◌==◌, ◌&&◌, not, Option, Some}
 use Rattle.std.specs.List.{prefix_len, starts_with}
 use Rattle.std.specs.Str.{IsAscii}
 use Rattle.std.specs.Cmp.Lexicographic.{pointwise}
@@ -11,11 +11,10 @@ use Rattle.std.proofs.lemmas.Bool.{cond-false, cond-true, eqb-true}
 use Rattle.std.proofs.lemmas.Bool.Decides.{nat_tests}
 use Rattle.pl0_tree.specs.declared.fault.FaultKind.TheVariants.{NumberTooLarge}
 use Rattle.pl0_tree.specs.declared.tree.Place.{Place}
-use Rattle.pl0_tree.specs.declared.token.Token.{Token as Word}
 use Rattle.pl0_tree.specs.declared.token.Symbol.{Symbol as Seen}
-use Rattle.pl0_tree.specs.Tokens.{Symbol, Faulty, Token, behind, is_space, is_word_byte, word_symbol, number_symbol, decimal_value, front_piece, sign_piece, signs, tokens_from}
+use Rattle.pl0_tree.specs.Tokens.{Symbol, Faulty, behind, is_space, is_word_byte, word_symbol, number_symbol, decimal_value, front_piece, sign_piece, signs, tokens_from}
 use Rattle.pl0_tree.specs.Reading.{at}
-use Rattle.pl0_tree.specs.Words.{symbol_of, token_of}
+use Rattle.pl0_tree.specs.Words.{symbol_of}
 use Rattle.pl0_lexer.specs.Cutting.{StaysOnLine, IsPiece, IsFront, IsSign, along}
 
 pub stays_le : (k : ℕ) (bytes : List ℕ) → StaysOnLine k bytes → k ≤ length bytes

@@ -1,6 +1,6 @@
 -- The tokens of a text stand in the order of their places.
-use Rattle.std.proofs.Common.{◌≡◌, ℕ, zero, suc, ◌+◌, ◌<◌, ◌≤◌, ◌⊎◌, inl, inr, Bool, true, false, List, [], ◌∷◌, map, cond, eqb, refl, sym, subst, arith, pred, lit<}
-use Rattle.std.specs.Prelude.{slice_get, Option, Some, None}
+use Rattle.std.proofs.Common.{◌≡◌, ℕ, zero, suc, ◌+◌, ◌≤◌, inl, inr, Bool, true, false, List, [], ◌∷◌, map, length, cond, eqb, refl, subst, arith, pred, lit<}
+use Rattle.std.specs.Prelude.{slice_get, Some, None}
 use Rattle.pl0_tree.specs.declared.tree.Place.{Place}
 use Rattle.pl0_tree.specs.Tokens.{Token, behind, is_space, front_piece, tokens_from, tokens_of, start}
 use Rattle.pl0_tree.specs.Scope.{IsBefore}
@@ -63,3 +63,16 @@ in_order (t ∷ ts) p ascend (suc i) (suc j) q r less first second = in_order ts
 
 pub tokens_in_order : (text : List ℕ) → Ascend (places (tokens_of text))
 tokens_in_order text = in_order (tokens_of text) (record { line = 0; column = 0 }) (tokens_ascend text start 0 (record { line = 0; column = 0 }) (inl (lit< tt)))
+
+few_at : (space : Bool) (p : Place) (b : ℕ) (bytes : List ℕ) → ((taken : ℕ) → length (tokens_from (behind p b) taken bytes) ≤ length bytes + 1) →
+    length (next_tokens space p b bytes) ≤ length (b ∷ bytes) + 1
+few_at true p b bytes rest = let less = rest zero in omega (arith, less)
+few_at false p b bytes rest = let less = rest (pred (front_piece b (b ∷ bytes)).1) in omega (arith, less)
+
+tokens_few_from : (bytes : List ℕ) (p : Place) (taken : ℕ) → length (tokens_from p taken bytes) ≤ length bytes + 1
+tokens_few_from [] p taken = omega arith
+tokens_few_from (b ∷ bytes) p (suc taken) = let less = tokens_few_from bytes (behind p b) taken in omega (arith, less)
+tokens_few_from (b ∷ bytes) p zero = few_at (is_space b) p b bytes (tokens_few_from bytes (behind p b))
+
+pub tokens_few : (text : List ℕ) → length (tokens_of text) ≤ length text + 1
+tokens_few text = tokens_few_from text start 0

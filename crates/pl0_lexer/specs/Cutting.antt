@@ -1,12 +1,11 @@
 -- What the functions that cut a text into tokens promise. No public contract cites this file.
-use Rattle.std.specs.Prelude.{◌≡◌, ◌≢◌, ℕ, zero, suc, ◌+◌, ◌<◌, ◌≤◌, List, [], ◌∷◌, ◌++◌, map, length, drop, find, nat_eq}
+use Rattle.std.specs.Prelude.{◌≡◌, ◌≢◌, ℕ, zero, suc, ◌+◌, ◌<◌, ◌≤◌, List, [], ◌∷◌, length, drop, find, nat_eq}
 use Rattle.std.specs.List.{starts_with}
 use Rattle.pl0_tree.specs.declared.tree.Place.{Place}
-use Rattle.pl0_tree.specs.declared.token.Token.{Token as Word}
 use Rattle.pl0_tree.specs.declared.token.Symbol.{Symbol as Seen}
-use Rattle.pl0_tree.specs.Tokens.{EndOfText, Token, tokens_from, front_piece, sign_piece, signs}
+use Rattle.pl0_tree.specs.Tokens.{tokens_from, front_piece, sign_piece, signs}
 use Rattle.pl0_tree.specs.Reading.{at}
-use Rattle.pl0_tree.specs.Words.{token_of, symbol_of}
+use Rattle.pl0_tree.specs.Words.{symbol_of}
 
 -- the first k bytes are there, and none ends a line
 abbrev pub StaysOnLine : ℕ → List ℕ → Type 0

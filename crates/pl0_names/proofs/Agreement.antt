@@ -1,5 +1,5 @@
 -- The numbers that the walks give agree with the places of paths in the list of blocks.
-use Rattle.std.proofs.Common.{◌≡◌, ℕ, zero, suc, ◌+◌, ◌<◌, List, [], ◌∷◌, ◌++◌, map, length, refl, ap, sym, ◌∙◌, subst, append_assoc, length-append, append-nil, arith}
+use Rattle.std.proofs.Common.{◌≡◌, ℕ, ◌+◌, List, [], ◌∷◌, ◌++◌, map, length, refl, ap, sym, ◌∙◌, subst, append_assoc, length-append, append-nil}
 use Rattle.std.specs.Prelude.{slice_get, Option, Some, None}
 use Rattle.pl0_tree.specs.declared.step.Step.{Step}
 use Rattle.pl0_tree.specs.declared.step.StepKind.TheVariants as kind
@@ -9,7 +9,7 @@ use Rattle.pl0_tree.specs.declared.tree.Statement.{Statement, Row_of-Statement, 
 use Rattle.pl0_tree.specs.declared.tree.Statement.TheVariants.{Empty, Assign, Call, Write, Begin', If', While'}
 use Rattle.pl0_names.specs.declared.block_table.Nesting.{Nesting}
 use Rattle.pl0_tree.specs.Scope.{Path}
-use Rattle.pl0_tree.specs.Steps.{StepAt, step, statement_steps, row_steps, block_steps, procedures_steps, procedure_steps, block_paths, procedures_paths, procedure_paths, blocks, steps, IsStep, AreSteps}
+use Rattle.pl0_tree.specs.Steps.{StepAt, step, statement_steps, row_steps, block_steps, procedures_steps, procedure_steps, block_paths, procedures_paths, procedure_paths, blocks, steps, AreSteps}
 use Rattle.pl0_names.specs.Blocks.{IsNesting, AreNestings}
 use Rattle.pl0_names.specs.Numbering.{block_count, row_count, procedure_count, numbered, numbered_statement, numbered_block, numbered_row, numbered_procedure, nested_in, nestings_of_block, nestings_of_row, nestings_of_procedure}
 use Rattle.pl0_names.proofs.Rows.{map-append}

@@ -1,16 +1,15 @@
 -- Each fault of names has its verdict, and where there is none the program is lawful.
-use Rattle.std.proofs.Common.{◌≡◌, ◌⊎◌, inl, inr, ℕ, zero, suc, ◌+◌, ◌<◌, ◌≤◌, Bool, true, false, cond, eqb, List, [], ◌∷◌, ◌++◌, length, refl, ap, sym, ◌∙◌, subst, arith, ltb, ◌||◌}
-use Rattle.std.specs.Prelude.{slice_get, Option, Some, None, option_map, find, nat_eq, nat_lt, ◌&&◌}
-use Rattle.std.specs.Str.{bytes_eq}
+use Rattle.std.proofs.Common.{◌≡◌, inl, inr, ℕ, zero, suc, ◌≤◌, Bool, true, false, cond, List, [], ◌∷◌, length, refl, ap, sym, ◌∙◌, arith, ◌||◌}
+use Rattle.std.specs.Prelude.{slice_get, Option, Some, None, option_map, nat_eq, nat_lt, ◌&&◌}
 use Rattle.std.proofs.lemmas.Bool.Decides.{nat_tests}
 use Rattle.pl0_tree.specs.declared.tree.Place.{Place}
 use Rattle.pl0_tree.specs.declared.tree.Block.{Block}
 use Rattle.pl0_tree.specs.declared.fault.FaultKind.{FaultKind}
 use Rattle.pl0_tree.specs.declared.fault.FaultKind.TheVariants.{TooManyNames, Twice, Unknown, TooEarly, WrongKind}
-use Rattle.pl0_tree.specs.Scope.{Path, word, block_at, Meaning, AConstant, AVariable, AProcedure, Declaration, declarations, Home, home, Manner, IsRead, IsAssigned, IsCalled, Use, body_uses, IsBefore, Allows, IsLawfulUse, DeclaresWell, IsLawful}
+use Rattle.pl0_tree.specs.Scope.{Path, word, block_at, Meaning, AConstant, AVariable, AProcedure, Declaration, declarations, Home, home, Manner, IsRead, IsAssigned, IsCalled, Use, body_uses, IsBefore, Allows, IsLawfulUse, IsLawful}
 use Rattle.pl0_tree.specs.Faults.{IsNameFault, too_many_names, twice, unknown, too_early, wrong_kind, order}
-use Rattle.pl0_names.specs.Judging.{Known, known, Verdict, is_before, allows, use_fault, use_verdict, same_meaning, declared_fault, declared_verdict, block_verdicts}
-use Rattle.pl0_names.proofs.Members.{Among, some_same, home_names, declared_among, used_among, index_of, meaning_index, same_true, FirstOf, first_of, known_here, among_main}
+use Rattle.pl0_names.specs.Judging.{home_names, known, Verdict, is_before, allows, use_fault, use_verdict, same_meaning, declared_fault, declared_verdict, block_verdicts}
+use Rattle.pl0_names.proofs.Members.{Among, declared_among, used_among, index_of, meaning_index, same_true, first_of, known_here, among_main}
 
 pub before_true : (p q : Place) → is_before p q ≡ true → IsBefore p q
 before_true p q is = lines (nat_lt p.line q.line) refl
@@ -77,7 +76,7 @@ wrong_at : (v : Bool) → (kind : FaultKind) × ((cond v (Some WrongKind) (Some 
 wrong_at true = (WrongKind, (refl, omega arith))
 wrong_at false = (TooEarly, (refl, omega arith))
 
-not_true : (v : Bool) → (v ≡ true → ⊥) → v ≡ false
+pub not_true : (v : Bool) → (v ≡ true → ⊥) → v ≡ false
 not_true true never = absurd (never refl)
 not_true false never = refl
 
@@ -88,63 +87,63 @@ found main _ _ (too_many_names q b d at is) =
     let here = known_here main b q (word d.name) first.declaration at first.found in
     let kind = too_many_at (same_meaning first.declaration.meaning d.meaning) in
     record {
-  verdict = declared_verdict names 1024 d;
-  among = among_main main q b at (declared_verdict names 1024 d) (declared_among b names 1024 d is);
-  at = refl;
-  first = kind.0;
-  is = ap (λ o. declared_fault o d.meaning true) here ∙ kind.1.0;
-  least = kind.1.1;
-}
+      verdict = declared_verdict names 1024 d;
+      among = among_main main q b at (declared_verdict names 1024 d) (declared_among b names 1024 d is);
+      at = refl;
+      first = kind.0;
+      is = ap (λ o. declared_fault o d.meaning true) here ∙ kind.1.0;
+      least = kind.1.1;
+    }
 found main _ _ (twice q b i j d e at is later less same) =
     let names = home_names main q in
     let first = first_of (declarations b) (word e.name) i d is same in
     let here = known_here main b q (word e.name) first.declaration at first.found in
     let other : first.declaration.meaning ≡ e.meaning → ⊥ = λ equal.
-        let index : first.index ≡ j = sym (meaning_index b names first.index first.declaration first.at) ∙ ap (index_of b names) equal ∙ meaning_index b names j e later in
-        absurd (omega (arith, index, first.no_later, less)) in
+    let index : first.index ≡ j = sym (meaning_index b names first.index first.declaration first.at) ∙ ap (index_of b names) equal ∙ meaning_index b names j e later in
+    absurd (omega (arith, index, first.no_later, less)) in
     record {
-  verdict = declared_verdict names j e;
-  among = among_main main q b at (declared_verdict names j e) (declared_among b names j e later);
-  at = refl;
-  first = Twice;
-  is = ap (λ o. declared_fault o e.meaning (nat_eq j 1024)) here ∙ ap (λ v. cond v (cond (nat_eq j 1024) (Some TooManyNames) None) (Some Twice)) (differs first.declaration.meaning e.meaning other);
-  least = omega arith;
-}
+      verdict = declared_verdict names j e;
+      among = among_main main q b at (declared_verdict names j e) (declared_among b names j e later);
+      at = refl;
+      first = Twice;
+      is = ap (λ o. declared_fault o e.meaning (nat_eq j 1024)) here ∙ ap (λ v. cond v (cond (nat_eq j 1024) (Some TooManyNames) None) (Some Twice)) (differs first.declaration.meaning e.meaning other);
+      least = omega arith;
+    }
 found main _ _ (unknown q b i u at is none) =
     let names = home_names main q in
     record {
-  verdict = use_verdict names u;
-  among = among_main main q b at (use_verdict names u) (used_among b names i u is);
-  at = refl;
-  first = Unknown;
-  is = ap (λ o. use_fault (option_map (λ (h : Home). known h.declaration) o) u.manner u.name.place) none;
-  least = omega arith;
-}
+      verdict = use_verdict names u;
+      among = among_main main q b at (use_verdict names u) (used_among b names i u is);
+      at = refl;
+      first = Unknown;
+      is = ap (λ o. use_fault (option_map (λ (h : Home). known h.declaration) o) u.manner u.name.place) none;
+      least = omega arith;
+    }
 found main _ _ (too_early q b i u h at is there late) =
     let names = home_names main q in
     let test : is_before h.declaration.name.place u.name.place ≡ false = not_true (is_before h.declaration.name.place u.name.place) (λ yes. late (before_true h.declaration.name.place u.name.place yes)) in
     record {
-  verdict = use_verdict names u;
-  among = among_main main q b at (use_verdict names u) (used_among b names i u is);
-  at = refl;
-  first = TooEarly;
-  is = ap (λ o. use_fault (option_map (λ (x : Home). known x.declaration) o) u.manner u.name.place) there ∙
-      ap (λ v. cond v (cond (allows h.declaration.meaning u.manner) None (Some WrongKind)) (Some TooEarly)) test;
-  least = omega arith;
-}
+      verdict = use_verdict names u;
+      among = among_main main q b at (use_verdict names u) (used_among b names i u is);
+      at = refl;
+      first = TooEarly;
+      is = ap (λ o. use_fault (option_map (λ (x : Home). known x.declaration) o) u.manner u.name.place) there ∙
+          ap (λ v. cond v (cond (allows h.declaration.meaning u.manner) None (Some WrongKind)) (Some TooEarly)) test;
+      least = omega arith;
+    }
 found main _ _ (wrong_kind q b i u h at is there wrong) =
     let names = home_names main q in
     let test : allows h.declaration.meaning u.manner ≡ false = not_true (allows h.declaration.meaning u.manner) (λ yes. wrong (allows_true h.declaration.meaning u.manner yes)) in
     let kind = wrong_at (is_before h.declaration.name.place u.name.place) in
     record {
-  verdict = use_verdict names u;
-  among = among_main main q b at (use_verdict names u) (used_among b names i u is);
-  at = refl;
-  first = kind.0;
-  is = ap (λ o. use_fault (option_map (λ (x : Home). known x.declaration) o) u.manner u.name.place) there ∙
-      ap (λ v. cond (is_before h.declaration.name.place u.name.place) (cond v None (Some WrongKind)) (Some TooEarly)) test ∙ kind.1.0;
-  least = kind.1.1;
-}
+      verdict = use_verdict names u;
+      among = among_main main q b at (use_verdict names u) (used_among b names i u is);
+      at = refl;
+      first = kind.0;
+      is = ap (λ o. use_fault (option_map (λ (x : Home). known x.declaration) o) u.manner u.name.place) there ∙
+          ap (λ v. cond (is_before h.declaration.name.place u.name.place) (cond v None (Some WrongKind)) (Some TooEarly)) test ∙ kind.1.0;
+      least = kind.1.1;
+    }
 
 -- a program without a fault is lawful
 pub lawful : (main : Block) → ((kind : FaultKind) (place : Place) → IsNameFault main kind place → ⊥) → IsLawful main

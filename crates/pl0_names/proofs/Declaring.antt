@@ -1,5 +1,5 @@
 -- A block's table of names, made declaration by declaration.
-use Rattle.std.proofs.Common.{◌≡◌, ℕ, ◌+◌, ◌<◌, ◌≤◌, Bool, true, false, cond, List, [], ◌∷◌, ◌++◌, map, drop, length, get_or, refl, ap, sym, ◌∙◌, subst}
+use Rattle.std.proofs.Common.{◌≡◌, ℕ, ◌+◌, Bool, true, false, cond, List, [], ◌∷◌, ◌++◌, map, drop, refl, ap, sym, ◌∙◌}
 use Rattle.std.specs.Prelude.{Option, Some, None, option_map, option_copied, is_some, find}
 use denote.Ref.{Bor}
 use Rattle.std.specs.Str.{bytes_eq}
@@ -8,10 +8,9 @@ use Rattle.pl0_tree.specs.declared.tree.Constant.{Constant}
 use Rattle.pl0_tree.specs.declared.tree.Block.{Block, out-Block}
 use Rattle.pl0_tree.specs.declared.tree.Procedure.{Procedure, out-Procedure}
 use Rattle.pl0_names.specs.declared.scope.Meaning.{Meaning as Kept}
-use Rattle.pl0_names.specs.declared.scope.Meaning.TheVariants as kept
 use Rattle.pl0_names.specs.declared.scope.Declared.{Declared}
-use Rattle.pl0_tree.specs.Scope.{word, Meaning, AConstant, AVariable, AProcedure, Declaration, declared_as, declarations, or_else}
-use Rattle.pl0_names.specs.Judging.{Known, Names, known, own, told, extended, meaning_of}
+use Rattle.pl0_tree.specs.Scope.{word, AConstant, AVariable, AProcedure, Declaration, declared_as, or_else}
+use Rattle.pl0_names.specs.Judging.{Known, Names, known, told, extended, meaning_of}
 
 pub absent : (o : Option (Bor Declared)) → is_some o ≡ false → option_copied o ≡ None
 absent None is = refl

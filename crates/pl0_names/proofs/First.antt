@@ -1,5 +1,5 @@
 -- The first fault among the verdicts of a program is the first of its names.
-use Rattle.std.proofs.Common.{◌≡◌, ◌⊎◌, inl, inr, ℕ, ◌+◌, ◌≤◌, List, [], ◌∷◌, ◌++◌, map, length, refl, ap, sym, ◌∙◌, subst, arith, Result, Ok, Err}
+use Rattle.std.proofs.Common.{◌≡◌, inl, inr, ℕ, ◌+◌, ◌≤◌, List, [], ◌∷◌, ◌++◌, map, length, refl, ap, sym, ◌∙◌, subst, Result, Ok, Err}
 use Rattle.std.specs.Prelude.{Option, Some, None, IfErr, IsOk}
 use Rattle.pl0_tree.specs.declared.tree.Name.{Name}
 use Rattle.pl0_tree.specs.declared.tree.Constant.{Constant}
@@ -9,20 +9,17 @@ use Rattle.pl0_tree.specs.declared.tree.Procedure.{Procedure, Procedure'}
 use Rattle.pl0_tree.specs.declared.fault.FaultKind.{FaultKind}
 use Rattle.pl0_tree.specs.declared.fault.SyntaxFault.{SyntaxFault}
 use Rattle.pl0_tree.specs.declared.fault.SyntaxFault.TheVariants.{InText, NoMemory}
-use Rattle.pl0_tree.specs.Tokens.{Token}
-use Rattle.pl0_tree.specs.Reading.{ReadsProgram}
-use Rattle.pl0_tree.specs.Scope.{Use, Meaning, AConstant, AVariable, Declaration, declared_as, IsBefore, IsLawful, statement_uses}
-use Rattle.pl0_tree.specs.Faults.{IsNameFault, IsFirstOf, FaultIs, order}
-use Rattle.pl0_tree.specs.Ascending.{Ascend}
+use Rattle.pl0_tree.specs.Scope.{Use, AConstant, AVariable, declared_as, IsBefore, IsLawful, statement_uses}
+use Rattle.pl0_tree.specs.Faults.{IsNameFault, FaultIs, order}
 use Rattle.pl0_names.specs.FirstFault.{IsFirstNameFault}
 use Rattle.pl0_names.specs.Judging.{Names, Verdict, within, use_verdicts, declared_verdicts, block_verdicts, row_verdicts, procedure_verdicts, verdict_first, first_fault, Says}
 use Rattle.pl0_names.proofs.Order.{Behind, behind_within, Chain, before_trans, not_before, after_none}
 use Rattle.pl0_names.proofs.ReadPlaces.{use_places, constant_places, name_places, block_places, row_places, procedure_places, program_passed}
 use Rattle.pl0_names.proofs.Members.{Among}
-use Rattle.pl0_names.proofs.Complete.{IsFound, found, lawful}
+use Rattle.pl0_names.proofs.Complete.{found, lawful}
 use Rattle.pl0_names.proofs.Sound.{AllSound, main_sound}
 
-abbrev verdict_places : List Verdict → List Place
+abbrev pub verdict_places : List Verdict → List Place
 verdict_places vs = map (λ v. v.place) vs
 
 places-append : (vs ws : List Verdict) → verdict_places (vs ++ ws) ≡ verdict_places vs ++ verdict_places ws
@@ -76,10 +73,10 @@ some_kind k l is = cc
 same_pair : (x y : FaultKind × Place) → ◌≡◌ {A = Option (FaultKind × Place)} (Some x) (Some y) → x ≡ y
 same_pair x y is = cc
 
-pair_kind : {k l : FaultKind} {p q : Place} → ◌≡◌ {A = Option (FaultKind × Place)} (Some (k, p)) (Some (l, q)) → k ≡ l
+pub pair_kind : {k l : FaultKind} {p q : Place} → ◌≡◌ {A = Option (FaultKind × Place)} (Some (k, p)) (Some (l, q)) → k ≡ l
 pair_kind {k = k} {l = l} {p = p} {q = q} is = ap (λ (x : FaultKind × Place). x.0) (same_pair (k, p) (l, q) is)
 
-pair_place : {k l : FaultKind} {p q : Place} → ◌≡◌ {A = Option (FaultKind × Place)} (Some (k, p)) (Some (l, q)) → p ≡ q
+pub pair_place : {k l : FaultKind} {p q : Place} → ◌≡◌ {A = Option (FaultKind × Place)} (Some (k, p)) (Some (l, q)) → p ≡ q
 pair_place {k = k} {l = l} {p = p} {q = q} is = ap (λ (x : FaultKind × Place). x.1) (same_pair (k, p) (l, q) is)
 
 behind_each : (b e : Option Place) (vs : List Verdict) (v : Verdict) → Chain b (verdict_places vs) e → Among v vs → Behind b v.place
@@ -88,10 +85,10 @@ behind_each b e (w ∷ vs) v chain (inl is) = subst (λ (x : Verdict). Behind b 
 behind_each b e (w ∷ vs) v chain (inr more) = behind_within b w.place chain.0 v.place (behind_each (Some w.place) e vs v chain.1 more)
 
 -- how a verdict with a fault stands to the first
-abbrev Stands : FaultKind → Place → FaultKind → Verdict → Type 0
+abbrev pub Stands : FaultKind → Place → FaultKind → Verdict → Type 0
 Stands kind place k v = (IsBefore v.place place → ⊥) × (v.place ≡ place → kind ≡ k)
 
-first_stands : (vs : List Verdict) (b e : Option Place) → Chain b (verdict_places vs) e → (kind : FaultKind) (place : Place) → first_fault vs ≡ Some (kind, place) →
+pub first_stands : (vs : List Verdict) (b e : Option Place) → Chain b (verdict_places vs) e → (kind : FaultKind) (place : Place) → first_fault vs ≡ Some (kind, place) →
     (v : Verdict) → Among v vs → (k : FaultKind) → v.fault ≡ Some k → Stands kind place k v
 first_stands [] b e chain kind place is v among k wrong = absurd among
 first_stands (w ∷ vs) b e chain kind place is v among k wrong = by_fault (first_stands vs (Some w.place) e chain.1 kind place) w.fault refl among
@@ -101,14 +98,16 @@ first_stands (w ∷ vs) b e chain kind place is v among k wrong = by_fault (firs
     by_fault more None none (inr rest) = more (sym (ap (λ o. verdict_first o w.place (first_fault vs)) none) ∙ is) v rest k wrong
     by_fault more (Some l) some (inl same) =
         let told = sym (ap (λ o. verdict_first o w.place (first_fault vs)) some) ∙ is in
-        let here : v.place ≡ place = ap (λ (x : Verdict). x.place) same ∙ pair_place told in
-        ((λ before. not_before place (subst (λ x. IsBefore x place) here before)),
-        (λ at. sym (pair_kind told) ∙ some_kind l k (sym some ∙ sym (ap (λ (x : Verdict). x.fault) same) ∙ wrong)))
+        let here : v.place ≡ place = ap (λ (x : Verdict). x.place) same ∙ pair_place told in (
+          (λ before. not_before place (subst (λ x. IsBefore x place) here before)),
+          (λ at. sym (pair_kind told) ∙ some_kind l k (sym some ∙ sym (ap (λ (x : Verdict). x.fault) same) ∙ wrong)),
+        )
     by_fault more (Some l) some (inr rest) =
         let told = sym (ap (λ o. verdict_first o w.place (first_fault vs)) some) ∙ is in
-        let later : IsBefore place v.place = subst (λ x. IsBefore x v.place) (pair_place told) (behind_each (Some w.place) e vs v chain.1 rest) in
-        ((λ before. not_before place (before_trans place v.place place later before)),
-        (λ at. absurd (not_before place (subst (IsBefore place) at later))))
+        let later : IsBefore place v.place = subst (λ x. IsBefore x v.place) (pair_place told) (behind_each (Some w.place) e vs v chain.1 rest) in (
+          (λ before. not_before place (before_trans place v.place place later before)),
+          (λ at. absurd (not_before place (subst (IsBefore place) at later))),
+        )
 
 first_sound : (main : Block) (vs : List Verdict) (kind : FaultKind) (place : Place) → AllSound main vs → first_fault vs ≡ Some (kind, place) → IsNameFault main kind place
 first_sound main [] kind place sound is = absurd (nothing is)
@@ -124,7 +123,7 @@ first_sound main (w ∷ vs) kind place sound is = by_fault (first_sound main vs 
         subst (λ p. IsNameFault main kind p) (pair_place told) (subst (λ k. IsNameFault main k w.place) (pair_kind told) (sound.0 l some))
 
 -- where there is no first fault, no verdict has one
-none_faulty : (vs : List Verdict) → first_fault vs ≡ None → (v : Verdict) → Among v vs → (k : FaultKind) → v.fault ≡ Some k → ⊥
+pub none_faulty : (vs : List Verdict) → first_fault vs ≡ None → (v : Verdict) → Among v vs → (k : FaultKind) → v.fault ≡ Some k → ⊥
 none_faulty [] is v among k wrong = absurd among
 none_faulty (w ∷ vs) is v among k wrong = by_fault (none_faulty vs) w.fault refl among
   where
@@ -141,21 +140,21 @@ told_first main kind place is =
     let vs = block_verdicts main (λ w. None) in
     let sound = first_sound main vs kind place (main_sound main) is in
     record {
-  fault = sound;
-  first = λ tokens reads ascend.
-      let passed = program_passed tokens main reads (after_none tokens ascend) in
-      let chain : Chain None (verdict_places vs) passed.1.to = subst (λ ps. Chain None ps passed.1.to) (sym (verdicts_places main (λ w. None))) passed.1.names in
-      record {
-    fault = sound;
-    first = λ k p other before.
-        let f = found main k p other in
-        (first_stands vs None passed.1.to chain kind place is f.verdict f.among f.first f.is).0 (subst (λ x. IsBefore x place) (sym f.at) before);
-    least = λ k other.
-        let f = found main k place other in
-        let same : kind ≡ f.first = (first_stands vs None passed.1.to chain kind place is f.verdict f.among f.first f.is).1 f.at in
-        subst (λ x. order x ≤ order k) (sym same) f.least;
-  };
-}
+      fault = sound;
+      first = λ tokens reads ascend.
+          let passed = program_passed tokens main reads (after_none tokens ascend) in
+          let chain : Chain None (verdict_places vs) passed.1.to = subst (λ ps. Chain None ps passed.1.to) (sym (verdicts_places main (λ w. None))) passed.1.names in
+          record {
+            fault = sound;
+            first = λ k p other before.
+                let f = found main k p other in
+                (first_stands vs None passed.1.to chain kind place is f.verdict f.among f.first f.is).0 (subst (λ x. IsBefore x place) (sym f.at) before);
+            least = λ k other.
+                let f = found main k place other in
+                let same : kind ≡ f.first = (first_stands vs None passed.1.to chain kind place is f.verdict f.among f.first f.is).1 f.at in
+                subst (λ x. order x ≤ order k) (sym same) f.least;
+          };
+    }
 
 pub told_lawful : (main : Block) → first_fault (block_verdicts main (λ w. None)) ≡ None → IsLawful main
 told_lawful main is = lawful main (λ kind place other.

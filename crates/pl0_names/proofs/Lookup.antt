@@ -1,10 +1,8 @@
 -- Every path of the list of blocks leads to a block, and a table of blocks leads there.
 use Rattle.std.proofs.Common.{◌≡◌, ℕ, zero, suc, ◌+◌, ◌<◌, List, [], ◌∷◌, ◌++◌, length, get_or, refl, ap, sym, ◌∙◌, subst, arith, add-zero, rules}
-use Rattle.std.specs.Prelude.{slice_get, Option, Some, None, option_map, option_and_then, Vec}
-use Rattle.std.specs.declared.alloc.Global.{Global}
+use Rattle.std.specs.Prelude.{slice_get, Option, Some, None, option_map, option_and_then}
 use Rattle.std.specs.Option.{option_map_or}
 use Rattle.std.proofs.lemmas.Option.{slice_get_within, slice_get-get_or}
-use Rattle.pl0_tree.specs.declared.tree.Block as block
 use Rattle.pl0_tree.specs.declared.tree.Block.{Block, Block', out-Block, Row_of-Procedure, end_of-Procedure, more_of-Procedure, items-the_row-Procedure}
 use Rattle.pl0_tree.specs.declared.tree.Procedure.{Procedure, Procedure', out-Procedure}
 use Rattle.pl0_tree.specs.declared.tree.Procedure as procedure
@@ -38,9 +36,10 @@ row_stands : (main b : Block) (q : Path) → block_at main q ≡ Some b → (m :
     ((j : ℕ) → slice_get (out-Block b).procedures.items (i + j) ≡ slice_get (items-the_row-Procedure m row) j) → RowStands main q row i
 row_stands main b q at _ end_of-Procedure i same = tt
 row_stands main b q at _ (more_of-Procedure p row) i same =
-    let here : slice_get (out-Block b).procedures.items i ≡ Some p = ap (slice_get (out-Block b).procedures.items) (sym (add-zero i)) ∙ same zero in
-    (ap (λ o. option_and_then (procedure_at i) o) at ∙ ap (λ o. option_map (λ (r : Procedure). (out-Procedure r).block) o) here,
-    row_stands main b q at _ row (i + 1) (λ j. ap (slice_get (out-Block b).procedures.items) (let next : i + 1 + j ≡ i + suc j = omega arith in next) ∙ same (suc j)))
+    let here : slice_get (out-Block b).procedures.items i ≡ Some p = ap (slice_get (out-Block b).procedures.items) (sym (add-zero i)) ∙ same zero in (
+      ap (λ o. option_and_then (procedure_at i) o) at ∙ ap (λ o. option_map (λ (r : Procedure). (out-Procedure r).block) o) here,
+      row_stands main b q at _ row (i + 1) (λ j. ap (slice_get (out-Block b).procedures.items) (let next : i + 1 + j ≡ i + suc j = omega arith in next) ∙ same (suc j)),
+    )
 
 pub block_row_stands : (main : Block) (q : Path) (constants : _) (variables : _) (shape : _) (row : Row_of-Procedure _) (body : _) (end : _) →
     block_at main q ≡ Some (Block' constants variables shape row body end) → RowStands main q row 0
@@ -136,7 +135,7 @@ index_within main outer n nesting at found = within at.path at.at at.is
         some_inside (out-Block outer).procedures.items i there.0 (ap (λ o. option_and_then (procedure_at i) o) (sym (found q is.0)) ∙ there.1) in
         omega (arith, inside, is.1)
 
-same_path : (main : Block) (n : ℕ) (p q : Path) → slice_get (blocks main) n ≡ Some p → slice_get (blocks main) n ≡ Some q → p ≡ q
+pub same_path : (main : Block) (n : ℕ) (p q : Path) → slice_get (blocks main) n ≡ Some p → slice_get (blocks main) n ≡ Some q → p ≡ q
 same_path main n p q first second = cc
 
 pub main_found : (main : Block) (n : ℕ) (q : Path) → IsNestingAt main n None → slice_get (blocks main) n ≡ Some q → q ≡ []
@@ -158,9 +157,10 @@ nested_found main outer n nesting p q at around here second = found at.path at.a
     found (i ∷ r) first is =
         let same : i ∷ r ≡ q = same_path main n (i ∷ r) q first second in
         let there : slice_get (out-Block outer).procedures.items i ≡ Some p = ap (slice_get (out-Block outer).procedures.items) (sym is.1) ∙ here in
-        subst (λ s. (block_at main s ≡ Some (out-Procedure p).block) × (name_at main s ≡ Some (out-Procedure p).name)) same
-        (ap (λ o. option_and_then (procedure_at i) o) (around r is.0) ∙ ap (λ o. option_map (λ (x : Procedure). (out-Procedure x).block) o) there,
-        ap (λ o. option_and_then (procedure_name i) o) (around r is.0) ∙ ap (λ o. option_map (λ (x : Procedure). (out-Procedure x).name) o) there)
+        subst (λ s. (block_at main s ≡ Some (out-Procedure p).block) × (name_at main s ≡ Some (out-Procedure p).name)) same (
+          ap (λ o. option_and_then (procedure_at i) o) (around r is.0) ∙ ap (λ o. option_map (λ (x : Procedure). (out-Procedure x).block) o) there,
+          ap (λ o. option_and_then (procedure_name i) o) (around r is.0) ∙ ap (λ o. option_map (λ (x : Procedure). (out-Procedure x).name) o) there,
+        )
 
 -- what is read of a table of blocks
 pub read_at : (main : Block) (table : List (Option Nesting)) (n : ℕ) (nesting : Option Nesting) → AreNestings main table (blocks main) → n < length table →

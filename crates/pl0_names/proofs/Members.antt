@@ -1,17 +1,15 @@
 -- Each declaration and each use of a program has its verdict among those of the program.
-use Rattle.std.proofs.Common.{◌≡◌, ◌⊎◌, inl, inr, ℕ, zero, suc, ◌+◌, ◌<◌, ◌≤◌, Bool, true, false, cond, eqb, List, [], ◌∷◌, ◌++◌, map, drop, length, refl, ap, sym, ◌∙◌, subst, arith, add-zero}
-use Rattle.std.specs.Prelude.{slice_get, Option, Some, None, option_map, option_and_then, find, nat_eq}
+use Rattle.std.proofs.Common.{◌≡◌, ◌⊎◌, inl, inr, ℕ, zero, suc, ◌+◌, ◌≤◌, Bool, true, false, cond, List, [], ◌∷◌, ◌++◌, map, length, refl, ap, sym, ◌∙◌, subst, arith, add-zero}
+use Rattle.std.specs.Prelude.{slice_get, Option, Some, None, option_map, option_and_then, find}
 use Rattle.std.specs.Str.{bytes_eq}
 use Rattle.std.proofs.Math.Path.{fun_ext}
 use Rattle.std.proofs.lemmas.Bool.{eqb-true}
 use Rattle.std.proofs.lemmas.Slice.Eq.{bytes_eq-Decides}
 use Rattle.pl0_tree.specs.declared.tree.Name.{Name}
-use Rattle.pl0_tree.specs.declared.tree.Place.{Place}
-use Rattle.pl0_tree.specs.declared.tree.Constant.{Constant}
 use Rattle.pl0_tree.specs.declared.tree.Block.{Block, out-Block}
 use Rattle.pl0_tree.specs.declared.tree.Procedure.{Procedure, out-Procedure}
 use Rattle.pl0_tree.specs.Scope.{Path, word, block_at, procedure_at, Meaning, AConstant, AVariable, AProcedure, Declaration, declared_as, declarations, first_declaration, Home, or_else, declared_here, home, Use, body_uses}
-use Rattle.pl0_names.specs.Judging.{Known, Names, known, own, within, Verdict, use_verdict, use_verdicts, same_meaning, declared_verdict, declared_verdicts, procedure_declared, block_verdicts, procedures_verdicts, body_left, procedures_left, variables_left, constants_left}
+use Rattle.pl0_names.specs.Judging.{home_names, Known, Names, known, own, within, Verdict, use_verdict, same_meaning, declared_verdict, declared_verdicts, procedure_declared, block_verdicts, procedures_verdicts, body_left, procedures_left, variables_left, constants_left}
 use Rattle.pl0_names.proofs.Passing.{block_left, procedure_verdicts_are}
 
 -- a verdict is one of some
@@ -62,10 +60,7 @@ pub map_length : {A B : Type 0} (f : A → B) (xs : List A) → length (map f xs
 map_length f [] = refl
 map_length f (x ∷ xs) = ap suc (map_length f xs)
 
--- the names of the block at a path, and those around it
-abbrev pub home_names : Block → Path → Names
-home_names main q w = option_map (λ (h : Home). known h.declaration) (home main q w)
-
+-- the names that are known around the block at a path
 abbrev pub around : Block → Path → Names
 around main [] w = None
 around main (i ∷ q) w = home_names main q w
@@ -120,10 +115,10 @@ inner_among_list names (r ∷ ps) j i zero p v is among =
     (subst (Among v) (sym (procedure_verdicts_are r names j i)) (inr (subst (λ x. Among v (block_verdicts (out-Procedure x).block names)) (sym (some_same r p is)) among)))
 inner_among_list names (r ∷ ps) j i (suc k) p v is among = among_back v _ (procedures_verdicts ps names (j + 1) (i + 1)) (inner_among_list names ps (j + 1) (i + 1) k p v is among)
 
-use_among_list : (names : Names) (us : List Use) (i : ℕ) (u : Use) → slice_get us i ≡ Some u → Among (use_verdict names u) (use_verdicts names us)
-use_among_list names [] i u is = absurd (none_there is)
-use_among_list names (x ∷ us) zero u is = inl (ap (use_verdict names) (sym (some_same x u is)))
-use_among_list names (x ∷ us) (suc i) u is = inr (use_among_list names us i u is)
+pub use_among : (verdict : Use → Verdict) (us : List Use) (i : ℕ) (u : Use) → slice_get us i ≡ Some u → Among (verdict u) (map verdict us)
+use_among verdict [] i u is = absurd (none_there is)
+use_among verdict (x ∷ us) zero u is = inl (ap verdict (sym (some_same x u is)))
+use_among verdict (x ∷ us) (suc i) u is = inr (use_among verdict us i u is)
 
 module _ (b : Block) (names : Names) where
   abbrev A : List Declaration
@@ -168,7 +163,7 @@ module _ (b : Block) (names : Names) where
       among_back (use_verdict names u) (declared_verdicts names 0 A) (variables_left b names 0)
       (among_back (use_verdict names u) (declared_verdicts names (length (out-Block b).constants.items + 0) B) (procedures_left b names 0)
       (among_back (use_verdict names u) (procedures_verdicts (out-Block b).procedures.items names (length (out-Block b).constants.items + length (out-Block b).variables.items + 0) 0) (body_left b names)
-      (use_among_list names (body_uses b) i u is)))
+      (use_among (use_verdict names) (body_uses b) i u is)))
 
   pub inner_among : (i : ℕ) (p : Procedure) (v : Verdict) → slice_get (out-Block b).procedures.items i ≡ Some p → Among v (block_verdicts (out-Procedure p).block names) → Among v (constants_left b names 0)
   inner_among i p v is among =
@@ -229,7 +224,10 @@ first_of (e ∷ ds) w j d is named = at_test (λ k at. first_of ds w k d at name
   where
     at_test : ((k : ℕ) → slice_get ds k ≡ Some d → FirstOf ds w k) → (v : Bool) → bytes_eq (word e.name) w ≡ v → (j : ℕ) → slice_get (e ∷ ds) j ≡ Some d → FirstOf (e ∷ ds) w j
     at_test more true test j is = record {
-      index = 0; declaration = e; no_later = omega arith; at = refl;
+      index = 0;
+      declaration = e;
+      no_later = omega arith;
+      at = refl;
       found = ap (λ v. cond v (Some e) (find (λ (x : Declaration). bytes_eq (word x.name) w) ds)) test;
       same = (bytes_eq-Decides (word e.name) w).0 test;
     }
@@ -240,10 +238,13 @@ first_of (e ∷ ds) w j d is named = at_test (λ k at. first_of ds w k d at name
     at_test more false test (suc j) is =
         let later = more j is in
         record {
-      index = suc later.index; declaration = later.declaration; no_later = omega (arith, later.no_later); at = later.at;
-      found = ap (λ v. cond v (Some e) (find (λ (x : Declaration). bytes_eq (word x.name) w) ds)) test ∙ later.found;
-      same = later.same;
-    }
+          index = suc later.index;
+          declaration = later.declaration;
+          no_later = omega (arith, later.no_later);
+          at = later.at;
+          found = ap (λ v. cond v (Some e) (find (λ (x : Declaration). bytes_eq (word x.name) w) ds)) test ∙ later.found;
+          same = later.same;
+        }
 
 -- what is known in a block of a word that it declares
 pub known_here : (main b : Block) (q : Path) (w : List ℕ) (e : Declaration) → block_at main q ≡ Some b → find (λ d. bytes_eq (word d.name) w) (declarations b) ≡ Some e → home_names main q w ≡ Some (known e)

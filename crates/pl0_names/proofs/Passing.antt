@@ -1,6 +1,6 @@
 -- What is left of a block's names, step by step.
-use Rattle.std.proofs.Common.{◌≡◌, ◌⊎◌, inl, inr, ℕ, zero, suc, ◌+◌, ◌<◌, ◌≤◌, List, [], ◌∷◌, ◌++◌, map, drop, length, refl, ap, sym, ◌∙◌, subst, Result, Ok, Err, arith, append_assoc, rules, add-zero}
-use Rattle.std.specs.Prelude.{Option, Some, None, Vec, Box, Bool, nat_eq}
+use Rattle.std.proofs.Common.{◌≡◌, ◌⊎◌, inl, inr, ℕ, ◌+◌, List, [], ◌∷◌, ◌++◌, map, drop, length, refl, ap, sym, ◌∙◌, Err, arith, append_assoc, rules, add-zero}
+use Rattle.std.specs.Prelude.{None, Vec, Box, Bool, nat_eq}
 use Rattle.std.specs.declared.alloc.Global.{Global}
 use Rattle.std.proofs.Math.Path.{fun_ext}
 use Rattle.pl0_tree.specs.declared.tree.Name.{Name}
@@ -16,7 +16,7 @@ use Rattle.pl0_tree.specs.declared.tree.Statement.TheBlock.{hidden-the_row-State
 use Rattle.pl0_tree.specs.declared.tree.Statement.TheVariants.{Begin, If, While}
 use Rattle.pl0_tree.specs.declared.tree.Condition.{Condition}
 use Rattle.pl0_tree.specs.declared.fault.SyntaxFault.{SyntaxFault}
-use Rattle.pl0_tree.specs.Scope.{Use, Meaning, Declaration, condition_uses, declared_as, AConstant, AVariable, AProcedure, or_else, word, statement_uses, row_uses}
+use Rattle.pl0_tree.specs.Scope.{Use, Meaning, Declaration, condition_uses, declared_as, AConstant, AVariable, or_else, word, statement_uses, row_uses}
 use Rattle.pl0_names.specs.Judging.{Names, Verdict, Table, table_names, stack_names, within, own, use_verdicts, declared_fault, declared_verdict, declared_verdicts, procedure_declared, block_verdicts, row_verdicts, procedure_verdicts, procedures_verdicts, body_left, procedures_left, variables_left, constants_left, first_fault, Says}
 use Rattle.pl0_names.proofs.Rows.{procedures_are}
 use Rattle.pl0_names.proofs.Sayings.{first_behind, says_front, says_along}

@@ -1,21 +1,19 @@
 -- The places of steps and names in a tree that was read from tokens one behind another.
-use Rattle.std.proofs.Common.{◌≡◌, ℕ, ◌+◌, List, [], ◌∷◌, ◌++◌, map, length, refl, ap, sym, ◌∙◌, subst, append-nil}
-use Rattle.std.specs.Prelude.{Option, Some, None, Vec}
-use Rattle.std.specs.declared.alloc.Global.{Global}
+use Rattle.std.proofs.Common.{◌≡◌, ℕ, ◌+◌, List, [], ◌∷◌, ◌++◌, map, refl, ap, sym, ◌∙◌, subst, append-nil}
+use Rattle.std.specs.Prelude.{Option, Some, None}
 use Rattle.pl0_tree.specs.declared.tree.Place.{Place}
 use Rattle.pl0_tree.specs.declared.tree.Name.{Name}
 use Rattle.pl0_tree.specs.declared.tree.Constant.{Constant}
 use Rattle.pl0_tree.specs.declared.tree.Block.{Block, Block', Row_of-Procedure, end_of-Procedure, more_of-Procedure}
 use Rattle.pl0_tree.specs.declared.tree.Procedure.{Procedure, Procedure'}
-use Rattle.pl0_tree.specs.declared.tree.Statement.{Statement, Row_of-Statement, end_of-Statement, more_of-Statement}
-use Rattle.pl0_tree.specs.declared.tree.Statement.TheVariants.{Empty, Assign, Call, Write, Begin', If', While'}
+use Rattle.pl0_tree.specs.declared.tree.Statement.{Statement, Row_of-Statement}
 use Rattle.pl0_tree.specs.declared.tree.Expression.{Expression}
 use Rattle.pl0_tree.specs.declared.tree.Condition.{Condition}
 use Rattle.pl0_tree.specs.declared.step.StepKind.TheVariants as kind
 use Rattle.pl0_tree.specs.Tokens.{Token}
 use Rattle.pl0_tree.specs.Reading.{IsName, ReadsExpression, unsigned, positive, negative, ReadsMoreTerms, no_term, one_term, ReadsTerm, factors, ReadsMoreFactors, no_factor, one_factor, ReadsFactor, name, number, nested, ReadsCondition, odd, comparison, ReadsStatement, empty, assignment, call, write, sequence, choice, loop, ReadsStatements, last_statement, one_statement, ReadsConstants, last_constant, one_constant, ReadsConstantPart, no_constants, constants, ReadsVariables, last_variable, one_variable, ReadsVariablePart, no_variables, variables, ReadsBlock, block, ReadsProcedures, no_procedure, one_procedure, ReadsProgram, program}
 use Rattle.pl0_tree.specs.Scope.{Use, Path, IsBefore, expression_uses, condition_uses, statement_uses, row_uses}
-use Rattle.pl0_tree.specs.Steps.{StepAt, step, statement_steps, row_steps, block_steps, procedures_steps, procedure_steps}
+use Rattle.pl0_tree.specs.Steps.{StepAt, step, statement_steps, row_steps, block_steps, procedures_steps}
 use Rattle.pl0_names.proofs.Order.{Behind, Within, behind_within, Chain, chain_within, chain_append, After}
 
 -- Tokens up to the rest are passed from behind a place, and with them these places of steps and names.
@@ -63,11 +61,11 @@ then : (b : Option Place) (ss ns ss' ns' : List Place) (t rest : List Token) →
 then b ss ns ss' ns' t rest r more =
     let n = more r.to r.left in
     record {
-  to = n.to;
-  steps = chain_append b r.to n.to ss ss' r.steps n.steps;
-  names = chain_append b r.to n.to ns ns' r.names n.names;
-  left = n.left;
-}
+      to = n.to;
+      steps = chain_append b r.to n.to ss ss' r.steps n.steps;
+      names = chain_append b r.to n.to ns ns' r.names n.names;
+      left = n.left;
+    }
 
 abbrev pub use_places : List Use → List Place
 use_places us = map (λ u. u.name.place) us
@@ -116,7 +114,7 @@ named_after : (word : List ℕ) (p : Place) (x : Name) (s : List Token) → IsNa
 named_after word p x s is after = subst (λ q. After (Some q) s) (sym is.1) after
 
 mutual
-  expression_passed : (s : List Token) (e : Expression) (rest : List Token) → ReadsExpression s e rest → (b : Option Place) → After b s → Passed b [] (use_places (expression_uses e)) rest
+  pub expression_passed : (s : List Token) (e : Expression) (rest : List Token) → ReadsExpression s e rest → (b : Option Place) → After b s → Passed b [] (use_places (expression_uses e)) rest
   expression_passed s e rest (unsigned {t = t} {first = first} term more) b after = more_terms_passed t first e rest more b (term_passed s first t term b after)
   expression_passed _ e rest (positive {p = p} {s = s} {t = t} {first = first} term more) b after =
       skip b p [] (use_places (expression_uses e)) rest after.0 (more_terms_passed t first e rest more (Some p) (term_passed s first t term (Some p) after.1))
@@ -146,7 +144,7 @@ mutual
       skip b p [] (use_places (expression_uses e)) rest after.0
       (ended_by (Some p) [] (use_places (expression_uses e)) _ rest (expression_passed s e _ inner (Some p) after.1))
 
-condition_passed : (s : List Token) (c : Condition) (rest : List Token) → ReadsCondition s c rest → (b : Option Place) → After b s → Passed b [] (use_places (condition_uses c)) rest
+pub condition_passed : (s : List Token) (c : Condition) (rest : List Token) → ReadsCondition s c rest → (b : Option Place) → After b s → Passed b [] (use_places (condition_uses c)) rest
 condition_passed _ _ rest (odd {p = p} {s = s} {e = e} expression) b after =
     skip b p [] (use_places (expression_uses e)) rest after.0 (expression_passed s e rest expression (Some p) after.1)
 condition_passed s _ rest (comparison {p = p} {t = t} {left = left} {right = right} first comparing second) b after =

@@ -1,7 +1,7 @@
 -- What is defined along a row of procedures or statements, as it is along the list of them.
-use Rattle.std.proofs.Common.{◌≡◌, ℕ, zero, suc, ◌+◌, ◌<◌, List, [], ◌∷◌, ◌++◌, map, drop, get_or, length, refl, ap, sym, ◌∙◌, rules, arith, append_assoc, drop-cons, subst, ◌≤◌}
+use Rattle.std.proofs.Common.{◌≡◌, ℕ, suc, ◌+◌, ◌<◌, List, [], ◌∷◌, ◌++◌, map, drop, get_or, length, refl, ap, sym, ◌∙◌, rules, arith, drop-cons, subst, ◌≤◌}
 use Rattle.std.proofs.lemmas.List.{drop_all}
-use Rattle.std.specs.Prelude.{Vec, Option, Some, None}
+use Rattle.std.specs.Prelude.{Vec, Option}
 use Rattle.std.specs.declared.alloc.Global.{Global}
 use Rattle.pl0_tree.specs.declared.step.Step.{Step}
 use Rattle.pl0_tree.specs.declared.step.StepKind.TheVariants as kind
@@ -17,7 +17,7 @@ use Rattle.pl0_tree.specs.declared.tree.Block.{Block, Block', out-Block, Row_of-
 use Rattle.pl0_tree.specs.declared.tree.Procedure as procedure
 use Rattle.pl0_tree.specs.declared.tree.Procedure.{Procedure, Procedure', out-Procedure}
 use Rattle.pl0_names.specs.declared.block_table.Nesting.{Nesting}
-use Rattle.pl0_tree.specs.Steps.{StepAt, step, row_steps, statement_steps}
+use Rattle.pl0_tree.specs.Steps.{StepAt, row_steps, statement_steps}
 use Rattle.pl0_names.specs.Numbering.{row_count, procedures_count, procedure_count, numbered, numbered_statement, numbered_block, numbered_row, numbered_procedures, numbered_procedure, block_count, nested_in, nestings_of_block, nestings_of_row, nestings_of_procedure, nestings_of_procedures}
 
 -- the next element of a list that is gone through

@@ -1,22 +1,21 @@
 -- Each verdict with a fault is a fault of names.
-use Rattle.std.proofs.Common.{◌≡◌, ◌⊎◌, inl, inr, ℕ, zero, suc, ◌+◌, ◌<◌, ◌≤◌, Bool, true, false, cond, eqb, List, [], ◌∷◌, ◌++◌, map, length, refl, ap, sym, ◌∙◌, subst, arith, rules, add-zero}
-use Rattle.std.specs.Prelude.{slice_get, Option, Some, None, option_map, find, nat_eq}
+use Rattle.std.proofs.Common.{◌≡◌, ℕ, zero, suc, ◌+◌, ◌<◌, Bool, true, false, cond, List, [], ◌∷◌, ◌++◌, map, length, refl, ap, sym, ◌∙◌, subst, arith, rules, add-zero}
+use Rattle.std.specs.Prelude.{slice_get, Option, Some, None, option_map, nat_eq}
 use Rattle.std.proofs.lemmas.Bool.{eqb-true}
 use Rattle.std.proofs.lemmas.Bool.Decides.{nat_tests}
 use Rattle.pl0_tree.specs.declared.tree.Name.{Name}
-use Rattle.pl0_tree.specs.declared.tree.Place.{Place}
 use Rattle.pl0_tree.specs.declared.tree.Block.{Block, Block', out-Block, Row_of-Procedure, end_of-Procedure, more_of-Procedure, items-the_row-Procedure}
 use Rattle.pl0_tree.specs.declared.tree.Procedure as procedure
 use Rattle.pl0_tree.specs.declared.tree.Procedure.{Procedure, Procedure', out-Procedure}
 use Rattle.pl0_tree.specs.declared.fault.FaultKind.{FaultKind}
 use Rattle.pl0_tree.specs.declared.fault.FaultKind.TheVariants.{TooManyNames, Twice, Unknown, TooEarly, WrongKind}
-use Rattle.pl0_tree.specs.Scope.{Path, word, block_at, Meaning, AConstant, AVariable, AProcedure, Declaration, declared_as, declarations, Home, home, Use, body_uses, IsBefore, Allows}
+use Rattle.pl0_tree.specs.Scope.{Path, word, block_at, Meaning, AConstant, AVariable, AProcedure, Declaration, declared_as, declarations, Home, home, Use, body_uses}
 use Rattle.pl0_tree.specs.Faults.{IsNameFault, too_many_names, twice, unknown, too_early, wrong_kind}
-use Rattle.pl0_names.specs.Judging.{Known, Names, known, Verdict, is_before, allows, use_fault, use_verdict, use_verdicts, same_meaning, declared_fault, declared_verdict, declared_verdicts, procedure_declared, block_verdicts, row_verdicts, procedure_verdicts, procedures_verdicts, constants_left, variables_left, procedures_left, body_left}
+use Rattle.pl0_names.specs.Judging.{home_names, Names, known, Verdict, is_before, allows, use_fault, use_verdict, use_verdicts, same_meaning, declared_fault, declared_verdict, declared_verdicts, procedure_declared, block_verdicts, row_verdicts, procedure_verdicts, procedures_verdicts, constants_left, variables_left, procedures_left, body_left}
 use Rattle.pl0_names.proofs.Rows.{procedures_are}
 use Rattle.pl0_names.proofs.Passing.{row_verdicts_items}
 use Rattle.pl0_names.proofs.Lookup.{RowStands, block_row_stands, procedure_block}
-use Rattle.pl0_names.proofs.Members.{some_same, get_front, get_back, declared_length, map_length, home_names, around, block_left_at, FirstOf, first_of, known_here}
+use Rattle.pl0_names.proofs.Members.{some_same, get_front, get_back, declared_length, map_length, around, block_left_at, FirstOf, first_of, known_here}
 use Rattle.pl0_names.proofs.Complete.{before_is, allows_is}
 
 abbrev pub IsSound : Block → Verdict → Type 0
@@ -109,15 +108,17 @@ module _ (main : Block) (q : Path) (b : Block) (at : block_at main q ≡ Some b)
 
   declared_list_sound : (ds : List Declaration) (i : ℕ) → ((k : ℕ) (d : Declaration) → slice_get ds k ≡ Some d → slice_get (declarations b) (i + k) ≡ Some d) → AllSound main (declared_verdicts (home_names main q) i ds)
   declared_list_sound [] i stands = tt
-  declared_list_sound (d ∷ ds) i stands =
-      (declared_sound i d (ap (slice_get (declarations b)) (sym (add-zero i)) ∙ stands zero d refl),
-      declared_list_sound ds (i + 1) (λ k e is. ap (slice_get (declarations b)) (let same : i + 1 + k ≡ i + suc k = omega arith in same) ∙ stands (suc k) e is))
+  declared_list_sound (d ∷ ds) i stands = (
+    declared_sound i d (ap (slice_get (declarations b)) (sym (add-zero i)) ∙ stands zero d refl),
+    declared_list_sound ds (i + 1) (λ k e is. ap (slice_get (declarations b)) (let same : i + 1 + k ≡ i + suc k = omega arith in same) ∙ stands (suc k) e is),
+  )
 
   use_list_sound : (us : List Use) (i : ℕ) → ((k : ℕ) (u : Use) → slice_get us k ≡ Some u → slice_get (body_uses b) (i + k) ≡ Some u) → AllSound main (use_verdicts (home_names main q) us)
   use_list_sound [] i stands = tt
-  use_list_sound (u ∷ us) i stands =
-      (use_sound (i + 0) u (stands zero u refl),
-      use_list_sound us (i + 1) (λ k e is. ap (slice_get (body_uses b)) (let same : i + 1 + k ≡ i + suc k = omega arith in same) ∙ stands (suc k) e is))
+  use_list_sound (u ∷ us) i stands = (
+    use_sound (i + 0) u (stands zero u refl),
+    use_list_sound us (i + 1) (λ k e is. ap (slice_get (body_uses b)) (let same : i + 1 + k ≡ i + suc k = omega arith in same) ∙ stands (suc k) e is),
+  )
 
   abbrev A : List Declaration
   A = declared_as AConstant 0 (map (λ c. c.name) (out-Block b).constants.items)
@@ -163,9 +164,10 @@ RowDeclares b (more_of-Procedure p row) j i = (slice_get (declarations b) j ≡ 
 row_declares : (b : Block) (m : _) (row : Row_of-Procedure m) (j i : ℕ) →
     ((k : ℕ) (d : Declaration) → slice_get (declared_as AProcedure i (map (λ p. (out-Procedure p).name) (items-the_row-Procedure m row))) k ≡ Some d → slice_get (declarations b) (j + k) ≡ Some d) → RowDeclares b row j i
 row_declares b _ end_of-Procedure j i stands = tt
-row_declares b _ (more_of-Procedure p row) j i stands =
-    (ap (slice_get (declarations b)) (sym (add-zero j)) ∙ stands zero (procedure_declared (out-Procedure p).name i) refl,
-    row_declares b _ row (j + 1) (i + 1) (λ k d is. ap (slice_get (declarations b)) (let same : j + 1 + k ≡ j + suc k = omega arith in same) ∙ stands (suc k) d is))
+row_declares b _ (more_of-Procedure p row) j i stands = (
+  ap (slice_get (declarations b)) (sym (add-zero j)) ∙ stands zero (procedure_declared (out-Procedure p).name i) refl,
+  row_declares b _ row (j + 1) (i + 1) (λ k d is. ap (slice_get (declarations b)) (let same : j + 1 + k ≡ j + suc k = omega arith in same) ∙ stands (suc k) d is),
+)
 
 procedure_name : (x : Name) (b : Block) → (out-Procedure (Procedure' x b)).name ≡ x
 procedure_name x b = search (rules, procedure.the_lemmas)
@@ -177,8 +179,8 @@ mutual
       let names : Names = home_names main q in
       let n : ℕ = length (out-Block b).constants.items + length (out-Block b).variables.items + 0 in
       let declares : RowDeclares b row n 0 = row_declares b _ row n 0
-          (λ k d is. ap (slice_get (declarations b)) (let same : n + k ≡ length (out-Block b).constants.items + length (out-Block b).variables.items + k = omega arith in same) ∙
-          procedure_stands main q b at k d (ap (λ ps. slice_get (declared_as AProcedure 0 (map (λ (p : Procedure). (out-Procedure p).name) ps)) k) (sym (procedures_are constants variables shape row body end)) ∙ is)) in
+      (λ k d is. ap (slice_get (declarations b)) (let same : n + k ≡ length (out-Block b).constants.items + length (out-Block b).variables.items + k = omega arith in same) ∙
+      procedure_stands main q b at k d (ap (λ ps. slice_get (declared_as AProcedure 0 (map (λ (p : Procedure). (out-Procedure p).name) ps)) k) (sym (procedures_are constants variables shape row body end)) ∙ is)) in
       subst (AllSound main) (sym (block_left_at main b q at))
       (all_sound main q b at
       (subst (λ ps. AllSound main (procedures_verdicts ps names n 0)) (procedures_are constants variables shape row body end)
@@ -193,9 +195,10 @@ mutual
 
   procedure_sound : (main b : Block) (q : Path) → block_at main q ≡ Some b → (p : Procedure) (j i : ℕ) → block_at main (i ∷ q) ≡ Some (out-Procedure p).block →
       slice_get (declarations b) j ≡ Some (procedure_declared (out-Procedure p).name i) → AllSound main (procedure_verdicts p (home_names main q) j i)
-  procedure_sound main b q at (Procedure' x inner) j i stands declares =
-      (declared_sound main q b at j (procedure_declared x i) (declares ∙ ap (λ y. Some (procedure_declared y i)) (procedure_name x inner)),
-      block_sound main inner (i ∷ q) (stands ∙ ap Some (procedure_block x inner)))
+  procedure_sound main b q at (Procedure' x inner) j i stands declares = (
+    declared_sound main q b at j (procedure_declared x i) (declares ∙ ap (λ y. Some (procedure_declared y i)) (procedure_name x inner)),
+    block_sound main inner (i ∷ q) (stands ∙ ap Some (procedure_block x inner)),
+  )
 
 pub main_sound : (main : Block) → AllSound main (block_verdicts main (λ w. None))
 main_sound main = block_sound main main [] refl

@@ -1,8 +1,8 @@
 -- The names of blocks in one another.
-use Rattle.std.proofs.Common.{◌≡◌, ℕ, zero, suc, ◌+◌, ◌-◌, ◌<◌, ◌≤◌, List, [], ◌∷◌, ◌++◌, take, get_or, length, refl, ap, sym, ◌∙◌, subst, arith}
+use Rattle.std.proofs.Common.{◌≡◌, ℕ, zero, suc, ◌-◌, ◌≤◌, List, [], ◌∷◌, ◌++◌, take, get_or, length, refl, ap, sym, ◌∙◌, arith}
 use Rattle.std.specs.Prelude.{Option, Some, None}
 use Rattle.pl0_tree.specs.Scope.{or_else}
-use Rattle.pl0_names.specs.Judging.{Known, Names, Table, table_names, stack_names}
+use Rattle.pl0_names.specs.Judging.{Known, Table, table_names, stack_names}
 
 pub or_assoc : (a b c : Option Known) → or_else (or_else a b) c ≡ or_else a (or_else b c)
 or_assoc None b c = refl

@@ -1,13 +1,13 @@
 -- One turn of each walk over procedures or statements, and its end.
-use Rattle.std.proofs.Common.{◌≡◌, ℕ, zero, suc, ◌+◌, ◌<◌, ◌≤◌, List, [], ◌∷◌, ◌++◌, map, drop, length, refl, ap, sym, ◌∙◌, arith, append_assoc, length-append, append-nil}
-use Rattle.std.specs.Prelude.{Option, Some, None}
+use Rattle.std.proofs.Common.{◌≡◌, ℕ, ◌+◌, List, [], ◌∷◌, ◌++◌, length, refl, ap, sym, ◌∙◌, append_assoc, length-append, append-nil}
+use Rattle.std.specs.Prelude.{Option}
 use Rattle.pl0_tree.specs.declared.step.Step.{Step}
 use Rattle.pl0_tree.specs.declared.tree.Block.{Block, Block', out-Block, Row_of-Procedure, end_of-Procedure, more_of-Procedure}
 use Rattle.pl0_tree.specs.declared.tree.Procedure.{Procedure, Procedure', out-Procedure}
 use Rattle.pl0_tree.specs.declared.tree.Statement.{Statement}
 use Rattle.pl0_names.specs.declared.block_table.Nesting.{Nesting}
 use Rattle.pl0_names.specs.Numbering.{row_count, procedures_count, procedure_count, numbered_statement, numbered_block, numbered_procedures, numbered_procedure, block_count, nested_in, nestings_of_block, nestings_of_row, nestings_of_procedure, nestings_of_procedures}
-use Rattle.pl0_names.proofs.Rows.{block_count_is, procedure_count_is, own_steps, numbered_block_is, numbered_procedure_is, nestings_of_block_is, nestings_of_procedure_is, numbered_statements}
+use Rattle.pl0_names.proofs.Rows.{procedure_count_is, own_steps, numbered_block_is, numbered_procedure_is, nestings_of_block_is, nestings_of_procedure_is, numbered_statements}
 
 pub count_step : (ps qs : List Procedure) (p : Procedure) → ps ≡ p ∷ qs → procedures_count ps ≡ block_count (out-Procedure p).block + procedures_count qs
 count_step ps qs p is = ap procedures_count is ∙ ap (λ n. n + procedures_count qs) (procedure_count_is p)

@@ -1,6 +1,6 @@
 -- What the functions that judge names promise: each name of a program in the order of the text, with what is
 -- wrong with it. No public contract cites this file.
-use Rattle.std.specs.Prelude.{◌≡◌, ℕ, ◌+◌, Bool, true, false, ◌||◌, ◌&&◌, nat_eq, nat_lt, if◌then◌else◌, List, [], ◌∷◌, ◌++◌, map, length, drop, find, Option, Some, None, option_map, Result, Ok, Err, cond}
+use Rattle.std.specs.Prelude.{◌≡◌, ℕ, ◌+◌, Bool, true, false, ◌||◌, ◌&&◌, nat_eq, nat_lt, if◌then◌else◌, List, [], ◌∷◌, ◌++◌, map, length, drop, Option, Some, None, option_map, Result, Ok, Err}
 use Rattle.std.specs.BTreeMap as tree
 use Rattle.std.specs.BTreeMap.{BTreeMap}
 use Rattle.std.specs.Ordering.{nat_cmp}
@@ -20,7 +20,7 @@ use Rattle.pl0_names.specs.declared.scope.Meaning.TheVariants as kept
 use Rattle.pl0_names.specs.declared.scope.Declared.{Declared}
 use Rattle.pl0_names.specs.declared.check.Manner.{Manner as Done}
 use Rattle.pl0_names.specs.declared.check.Manner.TheVariants as done
-use Rattle.pl0_tree.specs.Scope.{word, Meaning, AConstant, AVariable, AProcedure, Declaration, declared_as, declarations, first_declaration, or_else, Manner, IsRead, IsAssigned, IsCalled, Use, body_uses, statement_uses}
+use Rattle.pl0_tree.specs.Scope.{Path, Home, home, word, Meaning, AConstant, AVariable, AProcedure, Declaration, declared_as, first_declaration, or_else, Manner, IsRead, IsAssigned, IsCalled, Use, statement_uses}
 
 -- what is known of a name: where it is declared, and as what
 pub record Known : Type 0 where
@@ -178,3 +178,17 @@ Says vs (Err NoMemory) = Unit {0}
 abbrev pub extended : Names → Name → Kept → Names
 extended names x meaning w = or_else (names w) (if bytes_eq (word x) w then Some (record { place = x.place; meaning = meaning_of meaning }) else None)
 
+-- the names of the block at a path, by their homes
+abbrev pub home_names : Block → Path → Names
+home_names main q w = option_map (λ (h : Home). known h.declaration) (home main q w)
+
+-- an editor's use, which stands behind every declaration
+abbrev pub outside_fault : Option Known → Manner → Option FaultKind
+outside_fault None manner = Some Unknown
+outside_fault (Some k) manner = if allows k.meaning manner then None else Some WrongKind
+
+abbrev pub outside_verdict : Names → Use → Verdict
+outside_verdict names u = record { fault = outside_fault (names (word u.name)) u.manner; place = u.name.place }
+
+abbrev pub outside_verdicts : Names → List Use → List Verdict
+outside_verdicts names uses = map (outside_verdict names) uses

@@ -29,7 +29,11 @@ fn count(block: &Block) -> usize
 }
 
 // Adds the nestings of a block and of those in it, in the order of their ends.
-fn add_blocks(block: &Block, here: Option<Nesting>, table: &mut Vec<Option<Nesting>>) -> Result<(), AllocError>
+fn add_blocks(
+    block: &Block,
+    here: Option<Nesting>,
+    table: &mut Vec<Option<Nesting>>,
+) -> Result<(), AllocError>
     requires { length table.old.items + block_count block.now < 2 ^ 32 }
     ensures { IfOk result (λ _. table.new.items ≡ table.old.items ++ nestings_of_block block.now here (length table.old.items)) }
 {

@@ -28,7 +28,7 @@ fn is_before(place: Place, other: Place) -> bool
 }
 
 // Constants and variables are read, variables are assigned, procedures are called.
-fn allows(meaning: Meaning, manner: Manner) -> bool
+pub(crate) fn allows(meaning: Meaning, manner: Manner) -> bool
     ensures { result ≡ allows (meaning_of meaning) (manner_of manner) }
 {
     match (meaning, manner) {
@@ -106,7 +106,16 @@ fn check_statement(scopes: &[Names], statement: &Statement) -> Result<(), Syntax
             }
             Ok(())
         }
-        Statement::If { condition, body, .. } | Statement::While { condition, body, .. } => {
+        Statement::If {
+            condition,
+            body,
+            ..
+        }
+        | Statement::While {
+            condition,
+            body,
+            ..
+        } => {
             check_condition(scopes, condition)?;
             check_statement(scopes, body)
         }
@@ -121,7 +130,12 @@ fn is_full(before: usize, more: usize) -> bool
 }
 
 // Judges a declaration of the innermost block, where those before it may be as many as a block may have.
-fn check_declared(scopes: &[Names], name: &Name, meaning: Meaning, full: bool) -> Result<(), SyntaxFault>
+fn check_declared(
+    scopes: &[Names],
+    name: &Name,
+    meaning: Meaning,
+    full: bool,
+) -> Result<(), SyntaxFault>
     ensures { Says (record { fault = declared_fault (stack_names scopes.now (word name.now)) (meaning_of meaning) full; place = name.now.place } ∷ []) result }
 {
     let place = name.place;
@@ -134,7 +148,11 @@ fn check_declared(scopes: &[Names], name: &Name, meaning: Meaning, full: bool) -
 }
 
 // Judges the names of a block, where those known around it are in `scopes`.
-fn check_block<'a>(alloc: Global, block: &'a Block, scopes: &mut Vec<Names<'a>>) -> Result<(), SyntaxFault>
+fn check_block<'a>(
+    alloc: Global,
+    block: &'a Block,
+    scopes: &mut Vec<Names<'a>>,
+) -> Result<(), SyntaxFault>
     ensures said { Says (block_verdicts block.now (stack_names scopes.old.items)) result }
     ensures kept { IsOk result → scopes.new.items ≡ scopes.old.items }
 {

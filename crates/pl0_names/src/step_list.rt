@@ -33,7 +33,12 @@ fn add_statement(statement: &Statement, block: u32, steps: &mut Vec<Step>) -> Re
     }
 }
 
-fn add_step(kind: StepKind, place: Place, block: u32, steps: &mut Vec<Step>) -> Result<(), AllocError>
+fn add_step(
+    kind: StepKind,
+    place: Place,
+    block: u32,
+    steps: &mut Vec<Step>,
+) -> Result<(), AllocError>
     ensures { IfOk result (λ _. steps.new.items ≡ steps.old.items ++ record { kind = kind; place = place; block = block } ∷ []) }
 {
     steps.push(Step { kind, place, block })?;

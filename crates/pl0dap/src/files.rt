@@ -1,5 +1,8 @@
 //! Program files.
 
+ghost use Rattle.std.specs.Prelude.{◌≡◌, []};
+ghost use Rattle.pl0dap.specs.Loading.{loads};
+
 use dap_session::{LoadFault, Loader};
 use std::alloc::Global;
 use std::fs;
@@ -26,7 +29,9 @@ struct Given {
 
 impl<'a, R: Files> FileLoader<'a, R> {
     /// A loader that was asked for nothing yet.
-    pub fn new(rt: &'a R, alloc: Global) -> FileLoader<'a, R> {
+    pub fn new(rt: &'a R, alloc: Global) -> FileLoader<'a, R>
+        ensures { loads result.given.items ≡ [] }
+    {
         FileLoader {
             rt,
             alloc,

@@ -108,46 +108,62 @@ fn run<R: Abort + Wait>(rt: &R, alloc: Global, bytes: &[u8], streams: Streams) -
     }
 }
 
+/// What was sent is answered by just what is expected: whole; a byte at a time; cut within `Content-Length` and between CR
+/// and LF; and each write likewise.
+fn assert_served<R: Abort + Wait>(
+    rt: &R,
+    alloc: Global,
+    sent: &[&[u8]],
+    expected: &[&[u8]],
+    served: Served,
+) -> Result<(), AllocError> {
+    let input = sent.concat(alloc)?;
+    let output = expected.concat(alloc)?;
+    for step in [usize::MAX, 1, 9, 19] {
+        let streams = Streams {
+            read_step: step,
+            write_step: step,
+            ..WELL
+        };
+        let run = run(rt, alloc, input.as_slice(), streams);
+        assert_eq!(rt; run.result, Ok(served), "at {step}");
+        assert_eq!(rt; run.output.as_slice(), output.as_slice(), "at {step}");
+    }
+    Ok(())
+}
+
 #[test]
-fn serves_rows_however_cut(rt: HostRuntime) -> Result<(), Fail> {
-    let alloc = rt.alloc();
+fn serves_until_disconnect(rt: HostRuntime) -> Result<(), Fail> {
+    let sent = [INITIALIZE_1, DISCONNECT_2];
+    let expected = [INITIALIZED_1, DISCONNECTED_2];
+    assert_served(&rt, rt.alloc(), &sent, &expected, Served::Disconnected)?;
+    let sent = [DISCONNECT_1, DISCONNECT_2];
+    assert_served(
+        &rt,
+        rt.alloc(),
+        &sent,
+        &[DISCONNECTED_1],
+        Served::Disconnected,
+    )?;
+    Ok(())
+}
+
+#[test]
+fn serves_until_the_input_ends(rt: HostRuntime) -> Result<(), Fail> {
+    assert_served(&rt, rt.alloc(), &[], &[], Served::InputEnded)?;
+    let cut = &DISCONNECT_2[..DISCONNECT_2.len() - 1];
+    let sent = [INITIALIZE_1, cut];
+    assert_served(&rt, rt.alloc(), &sent, &[INITIALIZED_1], Served::InputEnded)?;
+    Ok(())
+}
+
+#[test]
+fn skips_what_is_no_request(rt: HostRuntime) -> Result<(), Fail> {
     let skipped: &[u8] =
         b"Content-Length: 9\r\n\r\n{\"seq\":1}Content-Length: 1\r\n\r\n[Content-Length: 0\r\n\r\n";
-    let cut = &DISCONNECT_2[..DISCONNECT_2.len() - 1];
-    let rows: [(&[&[u8]], &[&[u8]], Served); 5] = [
-        (
-            &[INITIALIZE_1, DISCONNECT_2],
-            &[INITIALIZED_1, DISCONNECTED_2],
-            Served::Disconnected,
-        ),
-        (&[], &[], Served::InputEnded),
-        (&[INITIALIZE_1, cut], &[INITIALIZED_1], Served::InputEnded),
-        (
-            &[skipped, INITIALIZE_1, THREADS_2, DISCONNECT_3],
-            &[INITIALIZED_1, THREADS_ANSWER_2, DISCONNECTED_3],
-            Served::Disconnected,
-        ),
-        (
-            &[DISCONNECT_1, DISCONNECT_2],
-            &[DISCONNECTED_1],
-            Served::Disconnected,
-        ),
-    ];
-    for (sent, expected, served) in rows {
-        let input = sent.concat(alloc)?;
-        let output = expected.concat(alloc)?;
-        // Whole; a byte at a time; cut within `Content-Length` and between CR and LF, and so each write.
-        for step in [usize::MAX, 1, 9, 19] {
-            let streams = Streams {
-                read_step: step,
-                write_step: step,
-                ..WELL
-            };
-            let run = run(&rt, alloc, input.as_slice(), streams);
-            assert_eq!(rt; run.result, Ok(served), "at {step}");
-            assert_eq!(rt; run.output.as_slice(), output.as_slice(), "at {step}");
-        }
-    }
+    let sent = [skipped, INITIALIZE_1, THREADS_2, DISCONNECT_3];
+    let expected = [INITIALIZED_1, THREADS_ANSWER_2, DISCONNECTED_3];
+    assert_served(&rt, rt.alloc(), &sent, &expected, Served::Disconnected)?;
     Ok(())
 }
 

@@ -1,13 +1,13 @@
-use Rattle.std.proofs.Common.{◌≡◌, ◌<◌, ◌+◌, ℕ, List, map, length, take, get_or, sym, ap, subst, refl, ◌∙◌, arith, Some, None}
+use Rattle.std.proofs.Common.{◌≡◌, ◌<◌, ◌+◌, map, length, take, get_or, sym, ap, subst, refl, ◌∙◌, arith, Some, None}
 use Rattle.std.specs.Map.{lookup}
 use Rattle.std.proofs.Common.{rules, FitsSigned, w64}
 use Rattle.std.proofs.lemmas.Int.{to_z-of_z}
 use mir.Val.{to_z, of_z}
 use Rattle.std.specs.Str.{bytes_eq}
-use Rattle.std.proofs.lemmas.List.{length-map, take_all}
+use Rattle.std.proofs.lemmas.List.{length-map}
 use Rattle.pl0_tree.specs.declared.tree.Block.{out-Block}
 use Rattle.pl0_tree.specs.declared.tree.Procedure.{out-Procedure}
-use Rattle.pl0_tree.specs.Scope.{word, AConstant, AVariable, AProcedure}
+use Rattle.pl0_tree.specs.Scope.{AConstant, AVariable, AProcedure}
 use Rattle.pl0_unit.specs.Code.{cell}
 use Rattle.pl0_code.specs.declared.scope.Declared.TheVariants.{Constant, Variable, Procedure as AnEntry}
 use Rattle.pl0_code.specs.Chains.{declared_as}

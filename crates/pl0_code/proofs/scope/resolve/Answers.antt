@@ -1,6 +1,6 @@
 use Rattle.std.proofs.Common.{◌∙◌, sym, arith}
 use Rattle.pl0_code.specs.Tables.{names_in}
-use Rattle.pl0_code.proofs.Tables.{found_last, or_declared_new}
+use Rattle.pl0_code.proofs.Tables.{found_last}
 use Rattle.pl0_code.proofs.scope.resolve.Goals as goal
 
 pub returns-in-Some : goal.returns-in-Some

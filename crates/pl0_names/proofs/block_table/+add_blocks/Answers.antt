@@ -1,7 +1,6 @@
-use Rattle.std.proofs.Common.{◌≡◌, ◌+◌, ◌∷◌, drop, length, arith, refl, ap, sym, ◌∙◌}
+use Rattle.std.proofs.Common.{◌≡◌, ◌+◌, ◌∷◌, drop, arith, refl, ◌∙◌}
 use Rattle.pl0_tree.specs.declared.tree.Block.{out-Block}
 use Rattle.pl0_tree.specs.declared.tree.Procedure.{out-Procedure}
-use Rattle.pl0_names.specs.Numbering.{block_count, procedures_count}
 use Rattle.pl0_names.proofs.Rows.{block_count_is, next_item, no_item}
 use Rattle.pl0_names.proofs.Walks.{count_step, nest_step, nest_length, nest_done}
 use Rattle.pl0_names.proofs.block_table.+add_blocks.Goals as goal
@@ -21,9 +20,9 @@ loop-index-preserved t c =
     let step = count_step (drop i ps) (drop (i + 1) ps) p here in
     let grown = nest_length c.loop-index.table.items c.add_blocks.new.table.items (out-Procedure p).block _ c.in_ok-add_blocks.ensures in
     record {
-  told = nest_step c.loop-index.table.items c.add_blocks.new.table.items (drop i ps) (drop (i + 1) ps) p i _ here c.in_ok-add_blocks.ensures ∙ c.loop-index.invariant.told;
-  number = omega (arith, step, grown, c.loop-index.invariant.number);
-}
+      told = nest_step c.loop-index.table.items c.add_blocks.new.table.items (drop i ps) (drop (i + 1) ps) p i _ here c.in_ok-add_blocks.ensures ∙ c.loop-index.invariant.told;
+      number = omega (arith, step, grown, c.loop-index.invariant.number);
+    }
 
 pub returns : goal.returns
 returns t c =

@@ -1,8 +1,6 @@
-use Rattle.std.proofs.Common.{arith, rules, ap, refl, ◌<◌, ◌≡◌, Some, length, sym, ◌∙◌}
+use Rattle.std.proofs.Common.{arith, rules, ap, refl, ◌<◌}
 use Rattle.std.proofs.lemmas.Option.{slice_get_read}
-use Rattle.std.specs.Prelude.{slice_get}
 use Rattle.pl0_tree.specs.declared.tree.Block.{out-Block}
-use Rattle.pl0_tree.specs.Steps.{blocks}
 use Rattle.pl0_tree.specs.Scope.{block_at}
 use Rattle.pl0_names.proofs.Lookup.{depth, read_at, outer_shallower, outer_within, index_within, main_found, nested_found}
 use Rattle.pl0_names.proofs.block_table.+block.Goals as goal

@@ -1,4 +1,4 @@
-use Rattle.std.proofs.Common.{arith, rules, ap, refl, ◌<◌, ◌≡◌, Some, None, length, sym, ◌∙◌, subst}
+use Rattle.std.proofs.Common.{arith, ap, refl, ◌≡◌, Some, None, sym, subst}
 use Rattle.std.specs.Prelude.{MatchOption}
 use Rattle.std.proofs.lemmas.Option.{slice_get_read}
 use Rattle.pl0_tree.specs.declared.tree.Block.{out-Block}

@@ -1,10 +1,10 @@
-use Rattle.std.proofs.Common.{◌≡◌, [], ◌∷◌, ◌++◌, ◌+◌, ℕ, List, length, arith, None, Ok, Err, drop, subst, sym, ap, ◌∙◌, refl}
+use Rattle.std.proofs.Common.{◌≡◌, [], ◌∷◌, ◌++◌, ◌+◌, ℕ, length, arith, Err, drop, subst, sym, ap, ◌∙◌, refl}
 use Rattle.pl0_tree.specs.declared.tree.Block.{out-Block}
 use Rattle.pl0_tree.specs.declared.tree.Procedure.{out-Procedure}
-use Rattle.pl0_tree.specs.Scope.{AProcedure, statement_uses}
-use Rattle.pl0_names.specs.Judging.{Verdict, Says, stack_names, use_verdicts, first_fault, procedures_left, body_left, block_verdicts, procedure_declared}
+use Rattle.pl0_tree.specs.Scope.{AProcedure}
+use Rattle.pl0_names.specs.Judging.{Verdict, Says, stack_names, first_fault, procedures_left, body_left, block_verdicts, procedure_declared}
 use Rattle.pl0_names.proofs.Rows.{next_item, no_item}
-use Rattle.pl0_names.proofs.Sayings.{exits, says_along, says_front, first_behind}
+use Rattle.pl0_names.proofs.Sayings.{exits, says_along, first_behind}
 use Rattle.pl0_names.proofs.Passing.{judged, judged_now, judged_is, block_starts, procedure_left, no_procedure_left, past, stopped}
 use Rattle.pl0_names.proofs.check.+check_block.Goals as goal
 
@@ -74,12 +74,12 @@ loop-i-3-preserved t c =
     let later = procedures_left b names (i + 1) in
     let kept : c.check_block.new.scopes.items ≡ S = c.in_ok-check_block.ensures.kept refl in
     record {
-  passed =
-    ap (λ T. first_fault (procedures_left b (stack_names T) (i + 1))) kept ∙
-    first_behind inner later c.in_ok-check_block.ensures.said ∙
-    past then (inner ++ later) (procedures_left b names i) all (procedure_left b names i p here) (ap (λ v. first_fault (v ∷ [])) (sym same) ∙ c.in_ok-check_declared-3.ensures) c.loop-i-3.invariant.passed;
-  same = kept ∙ c.loop-i-3.invariant.same;
-}
+      passed =
+          ap (λ T. first_fault (procedures_left b (stack_names T) (i + 1))) kept ∙
+          first_behind inner later c.in_ok-check_block.ensures.said ∙
+          past then (inner ++ later) (procedures_left b names i) all (procedure_left b names i p here) (ap (λ v. first_fault (v ∷ [])) (sym same) ∙ c.in_ok-check_declared-3.ensures) c.loop-i-3.invariant.passed;
+      same = kept ∙ c.loop-i-3.invariant.same;
+    }
 
 pub returns-in_err-check_statement-clause-said : goal.returns-in_err-check_statement-clause-said
 returns-in_err-check_statement-clause-said t c =

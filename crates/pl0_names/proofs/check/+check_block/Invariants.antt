@@ -1,4 +1,4 @@
-use Rattle.std.proofs.Common.{◌≡◌, drop}
+use Rattle.std.proofs.Common.{◌≡◌}
 use Rattle.pl0_names.specs.Judging.{stack_names, first_fault, constants_left, variables_left, procedures_left, block_verdicts}
 use Rattle.pl0_names.proofs.check.+check_block.Given as goal
 

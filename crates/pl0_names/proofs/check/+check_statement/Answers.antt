@@ -1,5 +1,4 @@
-use Rattle.std.proofs.Common.{◌≡◌, [], ◌∷◌, ◌++◌, ◌+◌, List, None, Ok, Err, drop, subst, sym, ap, ◌∙◌, refl}
-use Rattle.pl0_tree.specs.declared.tree.Statement.{Statement}
+use Rattle.std.proofs.Common.{◌≡◌, [], ◌∷◌, ◌++◌, ◌+◌, Err, drop, subst, sym, ap, ◌∙◌, refl}
 use Rattle.pl0_tree.specs.Scope.{statement_uses, condition_uses}
 use Rattle.pl0_names.specs.Judging.{Says, stack_names, use_verdicts, first_fault}
 use Rattle.pl0_names.proofs.Rows.{next_item, no_item}

@@ -1,6 +1,6 @@
-use Rattle.std.proofs.Common.{subst, sym, ap, ◌∙◌, ◌++◌, Err}
+use Rattle.std.proofs.Common.{subst, sym, ◌++◌}
 use Rattle.pl0_tree.specs.Scope.{expression_uses, condition_uses}
-use Rattle.pl0_names.specs.Judging.{Says, stack_names, use_verdicts, first_fault}
+use Rattle.pl0_names.specs.Judging.{Says, stack_names, use_verdicts}
 use Rattle.pl0_names.proofs.Sayings.{exits, uses_front, uses_behind}
 use Rattle.pl0_names.proofs.check.check_condition.Goals as goal
 

@@ -1,4 +1,4 @@
-use Rattle.std.proofs.Common.{ℕ, List, ◌≡◌, subst, sym, ap, ◌∙◌, true, Bool, cond}
+use Rattle.std.proofs.Common.{ℕ, List, ◌≡◌, subst, sym, ap, ◌∙◌, cond}
 use Rattle.std.specs.Prelude.{Option, Some, None, option_map}
 use Rattle.std.specs.Str.{bytes_eq}
 use Rattle.std.specs.Ordering.{nat_cmp}
@@ -8,7 +8,7 @@ use Rattle.std.proofs.lemmas.Map.Text.{btree_map_updates_str}
 use Rattle.std.proofs.lemmas.Slice.Eq.{bytes_eq-Decides}
 use Rattle.pl0_names.specs.declared.scope.Declared.{Declared}
 use Rattle.pl0_tree.specs.Scope.{word, or_else}
-use Rattle.pl0_names.specs.Judging.{told, meaning_of, Table, table_names, extended}
+use Rattle.pl0_names.specs.Judging.{told, Table, table_names}
 use Rattle.pl0_names.proofs.Declaring.{absent, added}
 use Rattle.pl0_names.proofs.scope.add.Goals as goal
 

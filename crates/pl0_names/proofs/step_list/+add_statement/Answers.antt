@@ -1,4 +1,4 @@
-use Rattle.std.proofs.Common.{◌≡◌, ◌+◌, ◌++◌, ◌∷◌, drop, length, refl, ap, sym, ◌∙◌, append-nil}
+use Rattle.std.proofs.Common.{◌+◌, ◌++◌, drop, refl, ap, sym, ◌∙◌, append-nil}
 use Rattle.pl0_names.specs.Numbering.{numbered_statement}
 use Rattle.pl0_names.proofs.Rows.{next_item, no_item, begin_steps, numbered_statements}
 use Rattle.pl0_names.proofs.Walks.{statement_step}

@@ -1,4 +1,4 @@
-use Rattle.std.proofs.Common.{◌≡◌, ◌++◌, ◌+◌, length, drop, map, reverse, sym, ap, ◌∙◌, arith, Some, []}
+use Rattle.std.proofs.Common.{◌++◌, ◌+◌, length, map, reverse, sym, ap, ◌∙◌, arith, Some}
 use Rattle.std.proofs.lemmas.List.{drop_all}
 use Rattle.std.proofs.Common.{append-nil}
 use Rattle.pl0_code.specs.Chains.{found_in}

@@ -1,0 +1,128 @@
+// The names of an editor's condition or expression, which stands in no place of the program.
+
+ghost use Rattle.std.specs.Prelude.{ℕ, ◌≡◌, ◌<◌, ◌∷◌, [], List, length, Some, IsOk, IfOk, IfErr, slice_get};
+ghost use Rattle.pl0_tree.specs.Scope.{Path, IsRead, condition_uses, expression_uses};
+ghost use Rattle.pl0_tree.specs.Steps.{blocks};
+ghost use Rattle.pl0_tree.specs.Faults.{FaultIs};
+ghost use Rattle.pl0_names.specs.Blocks.{AreNestings};
+ghost use Rattle.pl0_names.specs.FirstFault.{AreLawfulOutside, IsFirstOutside, ReadsConditionText, ReadsExpressionText};
+ghost use Rattle.pl0_names.specs.Judging.{Says, within, stack_names, home_names, outside_verdict, outside_verdicts};
+
+use crate::block_table::{Nesting, block};
+use crate::check::{Manner, allows};
+use crate::scope::{Names, declare, find};
+use pl0_tree::{Block, Condition, Expression, FaultKind, Name, SyntaxFault};
+use std::alloc::{AllocError, Global};
+
+// Adds the names of a block to those that are known around it.
+fn enter_block<'a>(
+    alloc: Global,
+    block: &'a Block,
+    scopes: &mut Vec<Names<'a>>,
+) -> Result<(), AllocError>
+    ensures { IfOk result (λ _. (w : List ℕ) → stack_names scopes.new.items w ≡ within block.now (stack_names scopes.old.items) w) }
+{
+    let names = declare(alloc, block)?;
+    scopes.push(names)?;
+    Ok(())
+}
+
+// Adds the names of the blocks that lead to the block of a number, those of the main one first.
+fn enter<'a>(
+    alloc: Global,
+    main: &'a Block,
+    table: &[Option<Nesting>],
+    number: u32,
+    scopes: &mut Vec<Names<'a>>,
+) -> Result<(), AllocError>
+    requires table { AreNestings main.now table.now (blocks main.now) }
+    requires within { number < length table.now }
+    ensures { IfOk result (λ _. (q : Path) → slice_get (blocks main.now) number ≡ Some q → scopes.old.items ≡ [] → (w : List ℕ) → stack_names scopes.new.items w ≡ home_names main.now q w) }
+{
+    match table[number as usize] {
+        None => enter_block(alloc, main, scopes),
+        Some(nesting) => {
+            enter(alloc, main, table, nesting.outer, scopes)?;
+            let inner = block(main, table, number);
+            enter_block(alloc, inner, scopes)
+        }
+    }
+}
+
+fn check_read(scopes: &[Names], name: &Name) -> Result<(), SyntaxFault>
+    ensures { Says (outside_verdict (stack_names scopes.now) (record { name = name.now; manner = IsRead }) ∷ []) result }
+{
+    let place = name.place;
+    let kind = match find(scopes, name.text.as_str()) {
+        None => FaultKind::Unknown,
+        Some(declared) if !allows(declared.meaning, Manner::Read) => FaultKind::WrongKind,
+        Some(_) => return Ok(()),
+    };
+    Err(SyntaxFault::InText { kind, place })
+}
+
+fn check_reads(scopes: &[Names], expression: &Expression) -> Result<(), SyntaxFault>
+    ensures { Says (outside_verdicts (stack_names scopes.now) (expression_uses expression.now)) result }
+{
+    match expression {
+        Expression::Name(name) => check_read(scopes, name),
+        Expression::Number(_) => Ok(()),
+        Expression::Negate(inner) => check_reads(scopes, inner),
+        Expression::Binary(_, left, right) => {
+            check_reads(scopes, left)?;
+            check_reads(scopes, right)
+        }
+    }
+}
+
+fn check_both(scopes: &[Names], condition: &Condition) -> Result<(), SyntaxFault>
+    ensures { Says (outside_verdicts (stack_names scopes.now) (condition_uses condition.now)) result }
+{
+    match condition {
+        Condition::Odd(expression) => check_reads(scopes, expression),
+        Condition::Compare(_, left, right) => {
+            check_reads(scopes, left)?;
+            check_reads(scopes, right)
+        }
+    }
+}
+
+/// Judges the names of an editor's condition, read in the block of a number, of a program with this table of blocks.
+///
+/// The fault that is told is the first one in the editor's text.
+pub fn check_condition_names(
+    alloc: Global,
+    main: &Block,
+    table: &[Option<Nesting>],
+    number: u32,
+    condition: &Condition,
+) -> Result<(), SyntaxFault>
+    requires table { AreNestings main.now table.now (blocks main.now) }
+    requires within { number < length table.now }
+    ensures lawful { (q : Path) → slice_get (blocks main.now) number ≡ Some q → IsOk result → AreLawfulOutside main.now q (condition_uses condition.now) }
+    ensures fault { (q : Path) → slice_get (blocks main.now) number ≡ Some q → IfErr result (FaultIs (IsFirstOutside main.now q (condition_uses condition.now) (ReadsConditionText condition.now))) }
+{
+    let mut scopes = Vec::new(alloc);
+    enter(alloc, main, table, number, &mut scopes)?;
+    check_both(&scopes, condition)
+}
+
+/// Judges the names of an editor's expression, read in the block of a number, of a program with this table of blocks.
+///
+/// The fault that is told is the first one in the editor's text.
+pub fn check_expression_names(
+    alloc: Global,
+    main: &Block,
+    table: &[Option<Nesting>],
+    number: u32,
+    expression: &Expression,
+) -> Result<(), SyntaxFault>
+    requires table { AreNestings main.now table.now (blocks main.now) }
+    requires within { number < length table.now }
+    ensures lawful { (q : Path) → slice_get (blocks main.now) number ≡ Some q → IsOk result → AreLawfulOutside main.now q (expression_uses expression.now) }
+    ensures fault { (q : Path) → slice_get (blocks main.now) number ≡ Some q → IfErr result (FaultIs (IsFirstOutside main.now q (expression_uses expression.now) (ReadsExpressionText expression.now))) }
+{
+    let mut scopes = Vec::new(alloc);
+    enter(alloc, main, table, number, &mut scopes)?;
+    check_reads(&scopes, expression)
+}
