@@ -20,9 +20,20 @@ pub fn parse(alloc: Global, text: &[u8]) -> Result<Tree, SyntaxFault>
     ensures fault { IfErr result (FaultIs (IsFirstFault text.now)) }
 {
     lexer_laws();
-    let (tokens, end) = cut(alloc, text)?;
-    let program = parse_program(alloc, tokens.as_slice(), end)?;
-    check_names(alloc, &program)?;
-    let text = Vec::from_slice(alloc, text)?;
-    Ok(Tree { text, program })
+    let (tokens, end) = match cut(alloc, text) {
+        Ok(found) => found,
+        Err(fault) => return Err(fault),
+    };
+    let program = match parse_program(alloc, tokens.as_slice(), end) {
+        Ok(program) => program,
+        Err(fault) => return Err(fault),
+    };
+    match check_names(alloc, &program) {
+        Ok(()) => {}
+        Err(fault) => return Err(fault),
+    }
+    match Vec::from_slice(alloc, text) {
+        Ok(text) => Ok(Tree { text, program }),
+        Err(_) => Err(SyntaxFault::NoMemory),
+    }
 }
