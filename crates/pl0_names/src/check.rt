@@ -1,7 +1,7 @@
 // The first fault of a program's names.
 
-ghost use Rattle.std.specs.Prelude.{◌≡◌, ℕ, ◌+◌, ◌++◌, ◌∷◌, [], List, nat_eq, IsOk, IfErr, Bool, None};
-ghost use Rattle.pl0_tree.specs.Scope.{IsLawful, statement_uses, expression_uses, condition_uses, word, declarations};
+ghost use Rattle.std.specs.Prelude.{◌≡◌, ◌+◌, ◌∷◌, [], nat_eq, IsOk, IfErr};
+ghost use Rattle.pl0_tree.specs.Scope.{IsLawful, statement_uses, expression_uses, condition_uses, word};
 ghost use Rattle.pl0_tree.specs.Faults.{FaultIs};
 ghost use Rattle.pl0_names.specs.FirstFault.{IsFirstNameFault};
 ghost use Rattle.pl0_names.specs.Judging.{Says, use_of, use_verdict, use_verdicts, declared_fault, block_verdicts, stack_names, is_before, allows, meaning_of, manner_of, same_meaning};

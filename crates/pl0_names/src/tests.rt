@@ -1,11 +1,21 @@
 // What no clause says: that a call succeeds, and one worked program, `call q.`
 
-use crate::{block, block_name, blocks, check_names, steps, steps_laws};
-use pl0_tree::{Block, FaultKind, Name, Place, Statement, StepKind, SyntaxFault};
+ghost use Rattle.std.specs.Prelude.{◌≡◌, length};
+ghost use Rattle.pl0_tree.specs.Steps.{blocks};
+
+use crate::{
+    block, block_name, blocks, check_condition_names, check_expression_names, check_names, steps,
+    steps_laws,
+};
+use pl0_tree::{
+    Block, Condition, Expression, FaultKind, Name, Place, Statement, StepKind, SyntaxFault,
+};
 use std::alloc::Global;
 use std::test::Fail;
 
-fn main_block(alloc: Global, body: Statement) -> Block {
+fn main_block(alloc: Global, body: Statement) -> Block
+    ensures { length (blocks result) ≡ 1 }
+{
     Block {
         constants: Vec::new(alloc),
         variables: Vec::new(alloc),
@@ -40,5 +50,22 @@ fn unknown(rt: HostRuntime) -> Result<(), Fail> {
         check_names(rt.alloc(), &main),
         Err(SyntaxFault::InText { kind, place })
     );
+    Ok(())
+}
+
+#[test]
+fn one_block(rt: HostRuntime) -> Result<(), Fail> {
+    let main = main_block(rt.alloc(), Statement::Empty);
+    let found = steps(rt.alloc(), &main)?;
+    assert_eq!(rt; found.len(), 1);
+    assert_eq!(rt; found[0].kind, StepKind::Return);
+    let table = blocks(rt.alloc(), &main)?;
+    assert_eq!(rt; table.len(), 1);
+    assert_eq!(rt; block(&main, &table, 0).end, main.end);
+    assert!(rt; block_name(&main, &table, 0).is_none());
+    let one = Expression::Number(1);
+    assert!(rt; check_expression_names(rt.alloc(), &main, &table, 0, &one).is_ok());
+    let odd = Condition::Odd(one);
+    assert!(rt; check_condition_names(rt.alloc(), &main, &table, 0, &odd).is_ok());
     Ok(())
 }

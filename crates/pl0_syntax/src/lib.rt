@@ -7,6 +7,8 @@
 #![tactic(auto)]
 
 mod parsing;
+#[cfg(test)]
+mod tests;
 
 pub use parsing::parse;
 pub use pl0_tree::{

@@ -22,15 +22,15 @@ pub fn parse(alloc: Global, text: &[u8]) -> Result<Tree, SyntaxFault>
     lexer_laws();
     let (tokens, end) = match cut(alloc, text) {
         Ok(found) => found,
-        Err(fault) => return Err(fault),
+        Err(too_long) => return Err(too_long),
     };
     let program = match parse_program(alloc, tokens.as_slice(), end) {
         Ok(program) => program,
-        Err(fault) => return Err(fault),
+        Err(unexpected) => return Err(unexpected),
     };
     match check_names(alloc, &program) {
         Ok(()) => {}
-        Err(fault) => return Err(fault),
+        Err(wrong_name) => return Err(wrong_name),
     }
     match Vec::from_slice(alloc, text) {
         Ok(text) => Ok(Tree { text, program }),

@@ -1,3 +1,4 @@
 pub mod Known
 pub mod Transferring
 pub mod Turns
+mod ModeKinds

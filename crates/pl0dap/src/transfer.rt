@@ -50,7 +50,7 @@ pub fn write_frames<O: Sink>(rt: &impl Wait, output: &mut O, frames: &[Vec<u8>])
 }
 
 /// Writes all bytes, or a beginning of them where the output fails. An interrupted write is tried again.
-fn write_all<O: Sink>(rt: &impl Wait, output: &mut O, bytes: &[u8]) -> bool
+pub fn write_all<O: Sink>(rt: &impl Wait, output: &mut O, bytes: &[u8]) -> bool
     ensures written { MatchBool result
         (Appends (O.written output.old) (O.written output.new) bytes.now)
         (AppendsPart (O.written output.old) (O.written output.new) bytes.now) }
