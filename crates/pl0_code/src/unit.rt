@@ -1,22 +1,30 @@
 // From a tree to its unit.
 
 ghost use Rattle.std.specs.Prelude.{◌≡◌, [], IfOk};
+ghost use Rattle.pl0_tree.specs.Steps.{blocks};
+ghost use Rattle.pl0_tree.specs.Blocks.{AreNestings};
 ghost use Rattle.pl0_unit.specs.Code.{IsUnitOf};
 ghost use Rattle.pl0_code.specs.Blocks.{block_rows, block_table};
 
 use crate::emit::Emitter;
 use crate::fault::CodeFault;
 use crate::listing::Listing;
+use pl0_lexer::lexer_laws;
+use pl0_names::{blocks, steps_laws};
 use pl0_tree::{Block, Tree};
 use pl0_unit::Unit;
 use std::alloc::Global;
 
-/// The unit of a program: the tree itself, its code, which of the instructions begin which steps, and its steps.
-/// Where memory runs out there is no unit, and the tree is gone.
+/// The unit of a program: the tree itself, its code, which of the instructions begin which steps, its steps and where
+/// its blocks stand. Where memory runs out there is no unit, and the tree is gone.
 pub fn compile(alloc: Global, tree: Tree) -> Result<Unit, CodeFault>
     ensures tree { IfOk result (λ u. u.tree ≡ tree) }
     ensures code { IfOk result (λ u. ∥ IsUnitOf tree.program u.code.items u.lines.items u.steps.items ∥₁) }
+    ensures nestings { IfOk result (λ u. AreNestings tree.program u.nestings.items (blocks tree.program)) }
 {
+    lexer_laws();
+    steps_laws();
+    let nestings = blocks(alloc, &tree.program)?;
     let Emitter {
         listing,
         steps,
@@ -28,6 +36,7 @@ pub fn compile(alloc: Global, tree: Tree) -> Result<Unit, CodeFault>
         code,
         lines,
         steps,
+        nestings,
     })
 }
 

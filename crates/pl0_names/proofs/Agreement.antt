@@ -7,10 +7,10 @@ use Rattle.pl0_tree.specs.declared.tree.Block.{Block, Block', Row_of-Procedure, 
 use Rattle.pl0_tree.specs.declared.tree.Procedure.{Procedure, Procedure'}
 use Rattle.pl0_tree.specs.declared.tree.Statement.{Statement, Row_of-Statement, end_of-Statement, more_of-Statement}
 use Rattle.pl0_tree.specs.declared.tree.Statement.TheVariants.{Empty, Assign, Call, Write, Begin', If', While'}
-use Rattle.pl0_names.specs.declared.block_table.Nesting.{Nesting}
+use Rattle.pl0_tree.specs.declared.nesting.Nesting.{Nesting}
 use Rattle.pl0_tree.specs.Scope.{Path}
 use Rattle.pl0_tree.specs.Steps.{StepAt, step, statement_steps, row_steps, block_steps, procedures_steps, procedure_steps, block_paths, procedures_paths, procedure_paths, blocks, steps, AreSteps}
-use Rattle.pl0_names.specs.Blocks.{IsNesting, AreNestings}
+use Rattle.pl0_tree.specs.Blocks.{IsNesting, AreNestings}
 use Rattle.pl0_names.specs.Numbering.{block_count, row_count, procedure_count, numbered, numbered_statement, numbered_block, numbered_row, numbered_procedure, nested_in, nestings_of_block, nestings_of_row, nestings_of_procedure}
 use Rattle.pl0_names.proofs.Rows.{map-append}
 

@@ -3,10 +3,10 @@ use Rattle.std.proofs.Common.{◌≡◌, ℕ, List, [], ◌∷◌, ◌++◌, ref
 use Rattle.std.specs.Prelude.{slice_get, Some, None, IfOk}
 use Rattle.pl0_tree.specs.declared.tree.Block.{Block}
 use Rattle.std.specs.declared.alloc.AllocError.{AllocError}
-use Rattle.pl0_names.specs.declared.block_table.Nesting.{Nesting}
+use Rattle.pl0_tree.specs.declared.nesting.Nesting.{Nesting}
 use Rattle.pl0_tree.specs.Scope.{Path, block_at, or_else}
 use Rattle.pl0_tree.specs.Steps.{blocks}
-use Rattle.pl0_names.specs.Blocks.{IsNesting}
+use Rattle.pl0_tree.specs.Blocks.{IsNesting}
 use Rattle.pl0_names.specs.Judging.{Names, Table, table_names, stack_names, own, within, home_names}
 use Rattle.pl0_names.proofs.Stacks.{stack_push}
 use Rattle.pl0_names.proofs.Lookup.{IsNestingAt, main_found, same_path}

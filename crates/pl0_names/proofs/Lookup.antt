@@ -6,10 +6,10 @@ use Rattle.std.proofs.lemmas.Option.{slice_get_within, slice_get-get_or}
 use Rattle.pl0_tree.specs.declared.tree.Block.{Block, Block', out-Block, Row_of-Procedure, end_of-Procedure, more_of-Procedure, items-the_row-Procedure}
 use Rattle.pl0_tree.specs.declared.tree.Procedure.{Procedure, Procedure', out-Procedure}
 use Rattle.pl0_tree.specs.declared.tree.Procedure as procedure
-use Rattle.pl0_names.specs.declared.block_table.Nesting.{Nesting}
+use Rattle.pl0_tree.specs.declared.nesting.Nesting.{Nesting}
 use Rattle.pl0_tree.specs.Scope.{Path, block_at, procedure_at}
 use Rattle.pl0_tree.specs.Steps.{block_paths, procedures_paths, procedure_paths, blocks}
-use Rattle.pl0_names.specs.Blocks.{IsNesting, AreNestings, procedure_name, name_at}
+use Rattle.pl0_tree.specs.Blocks.{IsNesting, AreNestings, procedure_name, name_at}
 use Rattle.pl0_names.proofs.Rows.{procedures_are}
 
 -- a path leads to a block

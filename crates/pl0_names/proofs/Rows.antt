@@ -16,7 +16,7 @@ use Rattle.pl0_tree.specs.declared.tree.Block as block
 use Rattle.pl0_tree.specs.declared.tree.Block.{Block, Block', out-Block, Row_of-Procedure, end_of-Procedure, more_of-Procedure, items-the_row-Procedure}
 use Rattle.pl0_tree.specs.declared.tree.Procedure as procedure
 use Rattle.pl0_tree.specs.declared.tree.Procedure.{Procedure, Procedure', out-Procedure}
-use Rattle.pl0_names.specs.declared.block_table.Nesting.{Nesting}
+use Rattle.pl0_tree.specs.declared.nesting.Nesting.{Nesting}
 use Rattle.pl0_tree.specs.Steps.{StepAt, row_steps, statement_steps}
 use Rattle.pl0_names.specs.Numbering.{row_count, procedures_count, procedure_count, numbered, numbered_statement, numbered_block, numbered_row, numbered_procedures, numbered_procedure, block_count, nested_in, nestings_of_block, nestings_of_row, nestings_of_procedure, nestings_of_procedures}
 

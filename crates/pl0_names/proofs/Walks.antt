@@ -5,7 +5,7 @@ use Rattle.pl0_tree.specs.declared.step.Step.{Step}
 use Rattle.pl0_tree.specs.declared.tree.Block.{Block, Block', out-Block, Row_of-Procedure, end_of-Procedure, more_of-Procedure}
 use Rattle.pl0_tree.specs.declared.tree.Procedure.{Procedure, Procedure', out-Procedure}
 use Rattle.pl0_tree.specs.declared.tree.Statement.{Statement}
-use Rattle.pl0_names.specs.declared.block_table.Nesting.{Nesting}
+use Rattle.pl0_tree.specs.declared.nesting.Nesting.{Nesting}
 use Rattle.pl0_names.specs.Numbering.{row_count, procedures_count, procedure_count, numbered_statement, numbered_block, numbered_procedures, numbered_procedure, block_count, nested_in, nestings_of_block, nestings_of_row, nestings_of_procedure, nestings_of_procedures}
 use Rattle.pl0_names.proofs.Rows.{procedure_count_is, own_steps, numbered_block_is, numbered_procedure_is, nestings_of_block_is, nestings_of_procedure_is, numbered_statements}
 

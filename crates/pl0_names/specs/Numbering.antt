@@ -5,7 +5,7 @@ use Rattle.pl0_tree.specs.declared.step.StepKind.TheVariants as kind
 use Rattle.pl0_tree.specs.declared.tree.Block.{Block, Block', Row_of-Procedure, end_of-Procedure, more_of-Procedure}
 use Rattle.pl0_tree.specs.declared.tree.Procedure.{Procedure, Procedure'}
 use Rattle.pl0_tree.specs.declared.tree.Statement.{Statement}
-use Rattle.pl0_names.specs.declared.block_table.Nesting.{Nesting}
+use Rattle.pl0_tree.specs.declared.nesting.Nesting.{Nesting}
 use Rattle.pl0_tree.specs.Steps.{StepAt, step, statement_steps}
 
 abbrev mutual

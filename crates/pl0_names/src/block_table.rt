@@ -3,18 +3,11 @@
 ghost use Rattle.std.specs.Prelude.{ℕ, ◌≡◌, ◌+◌, ◌<◌, ◌^◌, ◌++◌, length, Some, IfOk, MatchOption, slice_get};
 ghost use Rattle.pl0_tree.specs.Scope.{Path, block_at};
 ghost use Rattle.pl0_tree.specs.Steps.{blocks};
-ghost use Rattle.pl0_names.specs.Blocks.{AreNestings, name_at};
+ghost use Rattle.pl0_tree.specs.Blocks.{AreNestings, name_at};
 ghost use Rattle.pl0_names.specs.Numbering.{block_count, nestings_of_block};
 
-use pl0_tree::{Block, Name};
+use pl0_tree::{Block, Name, Nesting};
 use std::alloc::{AllocError, Global};
-
-/// Where a block stands that is not the main one: the number of the block around it, and its index there.
-#[derive(Clone, Copy, Debug, PartialEq, Eq)]
-pub struct Nesting {
-    pub outer: u32,
-    pub index: usize,
-}
 
 // How many blocks a block is, with those in it.
 fn count(block: &Block) -> usize

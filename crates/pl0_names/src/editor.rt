@@ -4,14 +4,14 @@ ghost use Rattle.std.specs.Prelude.{ℕ, ◌≡◌, ◌<◌, ◌∷◌, [], List
 ghost use Rattle.pl0_tree.specs.Scope.{Path, IsRead, condition_uses, expression_uses};
 ghost use Rattle.pl0_tree.specs.Steps.{blocks};
 ghost use Rattle.pl0_tree.specs.Faults.{FaultIs};
-ghost use Rattle.pl0_names.specs.Blocks.{AreNestings};
+ghost use Rattle.pl0_tree.specs.Blocks.{AreNestings};
 ghost use Rattle.pl0_names.specs.FirstFault.{AreLawfulOutside, IsFirstOutside, ReadsConditionText, ReadsExpressionText};
 ghost use Rattle.pl0_names.specs.Judging.{Says, within, stack_names, home_names, outside_verdict, outside_verdicts};
 
-use crate::block_table::{Nesting, block};
+use crate::block_table::block;
 use crate::check::{Manner, allows};
 use crate::scope::{Names, declare, find};
-use pl0_tree::{Block, Condition, Expression, FaultKind, Name, SyntaxFault};
+use pl0_tree::{Block, Condition, Expression, FaultKind, Name, Nesting, SyntaxFault};
 use std::alloc::{AllocError, Global};
 
 // Adds the names of a block to those that are known around it.

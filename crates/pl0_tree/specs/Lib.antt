@@ -6,3 +6,4 @@ pub mod Scope
 pub mod Ascending
 pub mod Faults
 pub mod Steps
+pub mod Blocks

@@ -2,7 +2,7 @@ use Rattle.std.proofs.Common.{arith, ap, refl, ◌≡◌, Some, None, sym, subst
 use Rattle.std.specs.Prelude.{MatchOption}
 use Rattle.std.proofs.lemmas.Option.{slice_get_read}
 use Rattle.pl0_tree.specs.declared.tree.Block.{out-Block}
-use Rattle.pl0_names.specs.Blocks.{name_at}
+use Rattle.pl0_tree.specs.Blocks.{name_at}
 use Rattle.pl0_names.proofs.Lookup.{read_at, outer_within, index_within, main_found, nested_found}
 use Rattle.pl0_names.proofs.block_table.block_name.Goals as goal
 

@@ -1,6 +1,6 @@
 use Rattle.std.proofs.Common.{◌≡◌, [], ◌++◌, None, length, ap, arith, sym, subst, ◌∙◌}
 use Rattle.pl0_tree.specs.Steps.{blocks}
-use Rattle.pl0_names.specs.Blocks.{AreNestings}
+use Rattle.pl0_tree.specs.Blocks.{AreNestings}
 use Rattle.pl0_names.specs.Numbering.{nestings_of_block}
 use Rattle.pl0_names.proofs.Agreement.{paths_length, nestings_are}
 use Rattle.pl0_names.proofs.block_table.blocks.Goals as goal
