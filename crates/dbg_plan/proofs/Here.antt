@@ -1,0 +1,93 @@
+-- One more position considered: the counts and what is due, over plain variables.
+use Rattle.std.proofs.Common.{◌≡◌, ℕ, zero, suc, ◌+◌, ◌*◌, ◌%◌, ◌<◌, ◌≤◌, Bool, true, false, List, [], ◌∷◌, length, slice_index, Option, Some, None, ap, sym, ◌∙◌, refl, subst, arith, All, add-one}
+use Rattle.std.specs.Prelude.{◌&&◌, nat_le, if◌then◌else◌, option_and_then}
+use Rattle.std.proofs.lemmas.Bool.Decides.{nat_tests}
+use Rattle.pl0_tree.specs.declared.tree.Block.{Block}
+use Rattle.pl0_meaning.specs.Values.{Configuration}
+use Rattle.pl0_machine.specs.Machine.{Standing, configuration}
+use Rattle.pl0_machine.specs.Places.{place_of}
+use Rattle.dbg_plan.specs.declared.breakpoint.Breakpoint.{Breakpoint}
+use Rattle.dbg_plan.specs.declared.breakpoint.Rule.{Rule}
+use Rattle.dbg_plan.specs.declared.breakpoint.Rule.TheVariants.{From, Every}
+use Rattle.std.proofs.lemmas.Nat.{mod-mul-add}
+use Rattle.std.proofs.lemmas.List.Elements.{All-cons, All-filter}
+use Rattle.dbg_plan.specs.Due.{arrives_at, arrives_in, arrivals, is_number, holds}
+use Rattle.dbg_plan.specs.Plans.{Listed, IsNumbered, AreNumbered, those_of, is_of, IsRule}
+use Rattle.dbg_plan.specs.Counting.{holds_now, holds_in, counted, any_due, AreCounts, CountFrom, CountsOn, breakpoints_of, reduced}
+use Rattle.dbg_plan.proofs.Tally.{tally, tally_due}
+
+-- where the program stands at step p, those of its breakpoints arrive whose condition holds
+arrives_here : (main : Block) (c : Option Configuration) (p : ℕ) → option_and_then (place_of main) c ≡ Some p → (b : Breakpoint) → (is_of p b && holds_in main c b.condition) ≡ arrives_in main b c
+arrives_here main None p here b = cc
+arrives_here main (Some c) p here b = ap (λ o. is_number b.step o && holds main c b.condition) (sym here)
+
+le_true : (t m : ℕ) → t ≤ m → nat_le t m ≡ true
+le_true t m le = grind (arith, nat_tests)
+
+-- one position further
+arrivals_rise : (main : Block) (b : Breakpoint) (first m : ℕ) → first ≤ m → arrivals main b first (m + 1) ≡ (if arrives_at main b m then arrivals main b first m + 1 else arrivals main b first m)
+arrivals_rise main b first m le = rw add-one (ap (λ (v : Bool). if v && arrives_at main b m then arrivals main b first m + 1 else arrivals main b first m) (le_true first m le))
+
+module _ (m : Standing) (p : ℕ) (here : option_and_then (place_of (program m)) (configuration m) ≡ Some p) (bs : List Breakpoint) (numbered : IsNumbered bs) (counts : List ℕ) (room : length counts ≡ 256) where
+  pub counts_on : (first : ℕ) → first ≤ m.position → AreCounts (program m) bs first m.position counts → CountsOn (program m) bs m.position first counts (any_due (holds_now m) (those_of p bs) counts) (counted (holds_now m) (those_of p bs) counts)
+  counts_on first le h =
+      let main = (program m) in
+      let few = numbered.few in
+      let a : Breakpoint → Bool = λ b. arrives_at main b m.position in
+      let old : Breakpoint → ℕ = λ b. arrivals main b first m.position in
+      let new : Breakpoint → ℕ = λ b. arrivals main b first (m.position + 1) in
+      let agree = arrives_here main (configuration m) p here in
+      let rises : (b : Breakpoint) → new b ≡ (if a b then old b + 1 else old b) = λ b. arrivals_rise main b first m.position le in
+      record {
+        counts = tally (is_of p) (holds_now m) a old new agree rises bs 0 counts numbered.numbers (omega arith) h;
+        due_is = tally_due (is_of p) (holds_now m) a old new agree rises bs 0 counts numbered.numbers (omega arith) h;
+      }
+
+-- what the code's walk leaves, by what it knows of the plan and its entry
+pub goes_on : (m : Standing) (p : ℕ) → option_and_then (place_of (program m)) (configuration m) ≡ Some p → (plan : Option Listed) (listed : Listed) → plan ≡ Some listed → IsNumbered listed.breakpoints → (entry : List Breakpoint) → entry ≡ those_of p listed.breakpoints → (counts : List ℕ) → length counts ≡ 256 → (due : Bool) (new : List ℕ) → due ≡ any_due (holds_now m) entry counts → new ≡ counted (holds_now m) entry counts → (first : ℕ) → first ≤ m.position → AreCounts (program m) (breakpoints_of plan) first m.position counts → CountsOn (program m) (breakpoints_of plan) m.position first counts due new
+goes_on m p here plan listed is numbered entry entry_is counts room due new due_is new_is first le h =
+    let main = (program m) in
+    let f = holds_now m in
+    let bs = listed.breakpoints in
+    let old : AreCounts main bs first m.position counts = subst (λ q. AreCounts main (breakpoints_of q) first m.position counts) is h in
+    let on = counts_on m p here bs numbered counts room first le old in
+    let at_plan : CountsOn main (breakpoints_of plan) m.position first counts (any_due f (those_of p bs) counts) (counted f (those_of p bs) counts) = subst (λ q. CountsOn main (breakpoints_of q) m.position first counts (any_due f (those_of p bs) counts) (counted f (those_of p bs) counts)) (sym is) on in
+    let at_entry : CountsOn main (breakpoints_of plan) m.position first counts (any_due f entry counts) (counted f entry counts) = subst (λ es. CountsOn main (breakpoints_of plan) m.position first counts (any_due f es counts) (counted f es counts)) (sym entry_is) at_plan in
+    let at_due : CountsOn main (breakpoints_of plan) m.position first counts due (counted f entry counts) = subst (λ d. CountsOn main (breakpoints_of plan) m.position first counts d (counted f entry counts)) (sym due_is) at_entry in
+    subst (λ cs. CountsOn main (breakpoints_of plan) m.position first counts due cs) (sym new_is) at_due
+
+-- ---- each number is that of a count
+
+are_below : (bs : List Breakpoint) (n limit : ℕ) → AreNumbered n bs → n + length bs ≤ limit → All (λ b. b.number < limit) bs
+are_below [] n limit h room = λ k d lt. absurd (omega arith)
+are_below (b ∷ bs) n limit h room =
+    let mine : b.number < limit = omega (arith, h.0) in
+    All-cons (λ x. x.number < limit) b bs mine (are_below bs (n + 1) limit h.2 (omega arith))
+
+pub within : (bs : List Breakpoint) → IsNumbered bs → (p : ℕ) (counts : List ℕ) → length counts ≡ 256 → All (λ b. b.number < length counts) (those_of p bs)
+within bs numbered p counts room =
+    let few = numbered.few in
+    All-filter (is_of p) (λ b. b.number < length counts) bs (are_below bs 0 (length counts) numbered.numbers (omega arith))
+
+-- ---- a new plan
+
+none_yet : (main : Block) (b : Breakpoint) (t m : ℕ) → m ≤ t → arrivals main b t m ≡ 0
+none_yet main b t zero le = refl
+none_yet main b t (suc m) le =
+    let late : nat_le t m ≡ false = grind (arith, nat_tests) in
+    ap (λ (v : Bool). if v && arrives_at main b m then arrivals main b t m + 1 else arrivals main b t m) late ∙ none_yet main b t m (omega arith)
+
+reduced_zero : (rule : Option Rule) → IsRule rule → reduced rule 0 ≡ 0
+reduced_zero None r = refl
+reduced_zero (Some (From k)) r = omega arith
+reduced_zero (Some (Every k)) r =
+    let e : 0 ≡ 0 * k + 0 = omega arith in ap (λ m. m % k) e ∙ mod-mul-add 0 k 0 r
+
+counts_begin : (main : Block) (bs : List Breakpoint) (t n : ℕ) (counts : List ℕ) → AreNumbered n bs → ((k : ℕ) → slice_index counts k ≡ 0) → CountFrom (λ b. arrivals main b t t) n bs counts
+counts_begin main [] t n counts numbered zeros = tt
+counts_begin main (b ∷ bs) t n counts numbered zeros =
+    let none : arrivals main b t t ≡ 0 = none_yet main b t t (omega arith) in
+    (zeros n ∙ sym (ap (λ k. reduced b.rule k) none ∙ reduced_zero b.rule numbered.1), counts_begin main bs t (n + 1) counts numbered.2 zeros)
+
+pub begin : (main : Block) (bs : List Breakpoint) (t : ℕ) (counts : List ℕ) → IsNumbered bs → ((k : ℕ) → slice_index counts k ≡ 0) → AreCounts main bs t t counts
+begin main bs t counts numbered zeros = counts_begin main bs t 0 counts numbered.numbers zeros

@@ -1,0 +1,4 @@
+pub mod Walk
+pub mod Tally
+pub mod Here
+pub mod Fresh

@@ -1,0 +1,73 @@
+-- What an editor asks for, and what it is answered.
+use Rattle.std.specs.Prelude.{◌≡◌, ◌≢◌, ℕ, ◌<◌, ◌^◌, nat_le, List, [], ◌∷◌, ◌++◌, string_bytes, Option, Some, None}
+use Rattle.std.specs.List.{position}
+use Rattle.std.specs.Fmt.{decimal}
+use Rattle.pl0_tree.specs.declared.tree.Block.{Block}
+use Rattle.pl0_tree.specs.Faults.{IsConditionOf}
+use Rattle.pl0_tree.specs.Steps.{steps, step_path}
+use Rattle.dbg_plan.specs.declared.breakpoint.Rule.{Rule}
+use Rattle.dbg_plan.specs.declared.breakpoint.Rule.TheVariants.{From, Every}
+use Rattle.dbg_plan.specs.declared.breakpoint.Guard.{Guard}
+use Rattle.dbg_plan.specs.declared.breakpoint.Breakpoint.{Breakpoint}
+use Rattle.dbg_plan.specs.declared.resolve.Asked.{Asked}
+use Rattle.dbg_plan.specs.declared.resolve.Answer.{Answer}
+use Rattle.dbg_plan.specs.declared.resolve.Answer.TheVariants.{At, NoStep, BadCondition, BadHit}
+
+-- The step of a line: the first, in source order, at this line or behind it.
+abbrev pub step_from : Block → ℕ → Option ℕ
+step_from main line = position (λ s. nat_le line s.place.line) (steps main)
+
+-- ---- conditions and hit texts, either of which may be absent: an empty text
+
+-- the text reads as a condition in the block of step n
+abbrev pub ReadsGuard : Block → ℕ → List ℕ → Option Guard → Type 0
+ReadsGuard main n text None = text ≡ []
+ReadsGuard main n text (Some guard) = (text ≢ []) × IsConditionOf main (step_path main n) text guard.condition
+
+-- k, or %k
+abbrev pub rule_text : Rule → List ℕ
+rule_text (From k) = decimal k
+rule_text (Every k) = 37 ∷ decimal k
+
+abbrev pub rule_number : Rule → ℕ
+rule_number (From k) = k
+rule_number (Every k) = k
+
+abbrev pub ReadsRule : List ℕ → Option Rule → Type 0
+ReadsRule text None = text ≡ []
+ReadsRule text (Some rule) = (text ≡ rule_text rule) × (0 < rule_number rule) × (rule_number rule < 2 ^ 31)
+
+-- ---- answers
+
+-- the condition of a line reads at step n
+pub record HasGuard (main : Block) (asked : Asked) (n : ℕ) : Type 0 where
+  pub guard : Option Guard
+  pub reads : ReadsGuard main n (string_bytes asked.condition) guard
+
+pub record HasRule (asked : Asked) : Type 0 where
+  pub rule : Option Rule
+  pub reads : ReadsRule (string_bytes asked.hit) rule
+
+-- the breakpoint of a line that is answered with a step
+pub record IsBreakpointOf (main : Block) (asked : Asked) (n : ℕ) (b : Breakpoint) : Type 0 where
+  pub step : b.step ≡ n
+  pub guard : ReadsGuard main n (string_bytes asked.condition) b.guard
+  pub rule : ReadsRule (string_bytes asked.hit) b.rule
+
+-- The answer to a line, and the breakpoints that it gives, one or none. Of several refusals the first is told.
+abbrev pub IsAnswered : Block → Asked → Answer → List Breakpoint → Type 0
+IsAnswered main asked (At n) bs =
+    (step_from main asked.line ≡ Some n) × ((b : Breakpoint) × (bs ≡ b ∷ []) × IsBreakpointOf main asked n b)
+IsAnswered main asked NoStep bs = (step_from main asked.line ≡ None) × (bs ≡ [])
+IsAnswered main asked BadCondition bs =
+    (bs ≡ []) × ((n : ℕ) × (step_from main asked.line ≡ Some n) × (¬ HasGuard main asked n))
+IsAnswered main asked BadHit bs =
+    (bs ≡ []) × (¬ HasRule asked) × ((n : ℕ) × (step_from main asked.line ≡ Some n) × HasGuard main asked n)
+
+-- Each line is answered, in order, and the breakpoints are those that the answers give, in order.
+abbrev pub AreAnswered : Block → List Asked → List Answer → List Breakpoint → Type 0
+AreAnswered main [] [] bs = bs ≡ []
+AreAnswered main [] (a ∷ answers) bs = ⊥
+AreAnswered main (asked ∷ more) [] bs = ⊥
+AreAnswered main (asked ∷ more) (a ∷ answers) bs =
+    (mine : List Breakpoint) × (rest : List Breakpoint) × (bs ≡ mine ++ rest) × IsAnswered main asked a mine × AreAnswered main more answers rest

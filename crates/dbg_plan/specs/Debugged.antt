@@ -1,0 +1,42 @@
+-- What contracts see of a debuggee. What it has counted follows from this.
+use Rattle.std.specs.Prelude.{◌≡◌, ℕ, ◌+◌, ◌<◌, List, Option}
+use Rattle.pl0_tree.specs.declared.tree.Block.{Block}
+use Rattle.pl0_unit.specs.declared.unit.Unit.{Unit as Compiled}
+use Rattle.pl0_machine.specs.Machine.{Standing, depth_of}
+use Rattle.dbg_plan.specs.declared.breakpoint.Breakpoint.{Breakpoint}
+use Rattle.dbg_plan.specs.declared.mode.Mode.{Mode}
+use Rattle.dbg_plan.specs.declared.mode.Reason.{Reason}
+use Rattle.dbg_plan.specs.Due.{due}
+
+-- A program at a position, and its breakpoints in force, which count from position `first`. The positions below
+-- `next` were considered.
+pub record Debugged : Type 0 where
+  pub unit : Compiled
+  pub position : ℕ
+  pub breakpoints : List Breakpoint
+  pub first : ℕ
+  pub next : ℕ
+
+abbrev pub machine_of : Debugged → Standing
+machine_of d = record { unit = d.unit; position = d.position }
+
+abbrev pub program_of : Debugged → Block
+program_of d = d.unit.tree.program
+
+-- a frame is alive
+abbrev pub IsRunning : Standing → Type 0
+IsRunning m = 0 < depth_of m
+
+-- the program runs, and its position was considered
+pub record IsConsidered (d : Debugged) : Type 0 where
+  pub behind : d.next ≡ d.position + 1
+  pub running : IsRunning (machine_of d)
+
+-- the program runs, and its position is the next to be considered
+pub record IsNext (d : Debugged) : Type 0 where
+  pub here : d.next ≡ d.position
+  pub running : IsRunning (machine_of d)
+
+-- why the position is due, if it is
+abbrev pub due_now : Debugged → Mode → Option Reason
+due_now d mode = due (program_of d) d.breakpoints d.first mode d.position

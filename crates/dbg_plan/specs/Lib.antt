@@ -1,0 +1,9 @@
+pub mod Due
+pub mod Bound
+pub mod Plans
+pub mod Debugged
+pub mod Answers
+pub mod Table
+pub mod Values
+pub mod Counting
+pub mod Counts

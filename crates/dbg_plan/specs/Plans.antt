@@ -1,0 +1,54 @@
+-- Plans: breakpoints in the order asked.
+use Rattle.std.specs.Prelude.{◌≡◌, ℕ, ◌+◌, ◌<◌, ◌≤◌, Bool, nat_eq, List, [], ◌∷◌, length, filter, Option, Some, None}
+use Rattle.pl0_tree.specs.declared.tree.Block.{Block}
+use Rattle.pl0_tree.specs.Steps.{steps, step_path}
+use Rattle.dbg_plan.specs.declared.breakpoint.Rule.{Rule}
+use Rattle.dbg_plan.specs.declared.breakpoint.Rule.TheVariants.{From, Every}
+use Rattle.dbg_plan.specs.declared.breakpoint.Guard.{Guard}
+use Rattle.dbg_plan.specs.declared.breakpoint.Breakpoint.{Breakpoint}
+use Rattle.dbg_plan.specs.Bound.{IsConditionBound}
+
+-- What contracts see of a plan: for how many steps it was made, and its breakpoints in the order asked.
+pub record Listed : Type 0 where
+  pub steps : ℕ
+  pub breakpoints : List Breakpoint
+
+-- the most lines that an editor may ask for at once
+abbrev pub breakpoint_limit : ℕ
+breakpoint_limit = 256
+
+abbrev pub IsRule : Option Rule → Type 0
+IsRule None = Unit {0}
+IsRule (Some (From k)) = 0 < k
+IsRule (Some (Every k)) = 0 < k
+
+-- the breakpoints are numbered from n on, in their order, and their rules count from 1
+abbrev pub AreNumbered : ℕ → List Breakpoint → Type 0
+AreNumbered n [] = Unit {0}
+AreNumbered n (b ∷ bs) = (b.number ≡ n) × IsRule b.rule × AreNumbered (n + 1) bs
+
+pub record IsNumbered (breakpoints : List Breakpoint) : Type 0 where
+  pub few : length breakpoints ≤ breakpoint_limit
+  pub numbers : AreNumbered 0 breakpoints
+
+abbrev pub is_of : ℕ → Breakpoint → Bool
+is_of step b = nat_eq step b.step
+
+-- the breakpoints of a step, in the order asked
+abbrev pub those_of : ℕ → List Breakpoint → List Breakpoint
+those_of step breakpoints = filter (is_of step) breakpoints
+
+-- a condition is bound to the names of the block of step n
+abbrev pub IsGuardAt : Block → ℕ → Option Guard → Type 0
+IsGuardAt main n None = Unit {0}
+IsGuardAt main n (Some guard) = IsConditionBound main (step_path main n) guard.condition guard.bound
+
+-- each breakpoint stands at a step of the program, and its condition is bound there
+abbrev pub AreAtSteps : Block → List Breakpoint → Type 0
+AreAtSteps main [] = Unit {0}
+AreAtSteps main (b ∷ bs) = (b.step < length (steps main)) × IsGuardAt main b.step b.guard × AreAtSteps main bs
+
+-- the plan was made for this program
+pub record IsPlanOf (main : Block) (plan : Listed) : Type 0 where
+  pub steps : plan.steps ≡ length (steps main)
+  pub bound : AreAtSteps main plan.breakpoints

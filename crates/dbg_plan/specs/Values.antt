@@ -1,0 +1,14 @@
+-- What an evaluation is told as.
+use Rattle.std.specs.Prelude.{Result, Ok, Err, ℤ}
+use Rattle.pl0_meaning.specs.declared.RunFault.{RunFault}
+use Rattle.pl0_meaning.specs.declared.RunFault.TheVariants as run_fault
+use Rattle.dbg_plan.specs.declared.evaluation.EvalFault.{EvalFault}
+use Rattle.dbg_plan.specs.declared.evaluation.EvalFault.TheVariants.{Overflow, DivideByZero}
+
+abbrev pub fault_of : EvalFault → RunFault
+fault_of Overflow = run_fault.Overflow
+fault_of DivideByZero = run_fault.DivideByZero
+
+abbrev pub told : {A : Type 0} → Result A EvalFault → Result A RunFault
+told (Ok result) = Ok result
+told (Err fault) = Err (fault_of fault)

@@ -1,0 +1,123 @@
+// Counts arrivals.
+
+ghost use Rattle.std.specs.Prelude.{◌≡◌, ◌<◌, ◌≤◌, ℕ, length, All, option_map, if◌then◌else◌, Some};
+ghost use Rattle.std.specs.Arc.{arc_value};
+ghost use Rattle.pl0_machine.specs.Machine.{program, frames, top_of, IsNext};
+ghost use Rattle.dbg_plan.specs.declared.mode.Reason.TheVariants as reason;
+ghost use Rattle.dbg_plan.specs.Due.{reason_of, depth_at};
+ghost use Rattle.dbg_plan.specs.Debugged.{IsRunning};
+ghost use Rattle.dbg_plan.specs.Counting.{increased, is_due, holds_now, counted, counted_at, any_due, due_at, AreCounts, CountsOn, MayBePlanOf, IsMetHere, breakpoints_of};
+
+use crate::breakpoint::{Breakpoint, Rule};
+use crate::evaluation::is_met;
+use crate::mode::{Mode, Reason};
+use crate::plan::Plan;
+use pl0_lexer::lexer_laws;
+use pl0_machine::Machine;
+use pl0_names::steps_laws;
+use std::sync::Arc;
+
+// What is kept of one more arrival.
+fn increase(rule: Option<Rule>, count: u32) -> u32
+    ensures { result ≡ increased rule count }
+{
+    match rule {
+        None => count,
+        Some(Rule::From(k)) => {
+            if count < k {
+                count + 1
+            } else {
+                count
+            }
+        }
+        Some(Rule::Every(k)) => {
+            if count < k.saturating_sub(1) {
+                count + 1
+            } else {
+                0
+            }
+        }
+    }
+}
+
+// Whether the arrival of which this is kept is due.
+fn is_accepted(rule: Option<Rule>, count: u32) -> bool
+    ensures { result ≡ is_due rule count }
+{
+    match rule {
+        None => true,
+        Some(Rule::From(k)) => count == k,
+        Some(Rule::Every(_)) => count == 0,
+    }
+}
+
+// Counts an arrival at a breakpoint of the machine's step, where its condition is met: whether it is due.
+#[inline(always)]
+fn count_arrival(machine: &Machine, breakpoint: &Breakpoint, counts: &mut [u32]) -> bool
+    requires running { IsRunning machine.now }
+    requires here { IsMetHere machine.now breakpoint.now }
+    requires within { breakpoint.now.number < length counts.old }
+    ensures counts { counts.new ≡ counted_at (holds_now machine.now) breakpoint.now counts.old }
+    ensures due { result ≡ due_at (holds_now machine.now) breakpoint.now counts.old }
+{
+    if !is_met(machine, breakpoint) {
+        return false;
+    }
+    let count = increase(breakpoint.rule, counts[breakpoint.number]);
+    counts[breakpoint.number] = count;
+    is_accepted(breakpoint.rule, count)
+}
+
+/// Counts the arrivals at these breakpoints, which are those of the machine's step: whether one is due.
+pub fn count_arrivals(machine: &Machine, breakpoints: &[Breakpoint], counts: &mut [u32]) -> bool
+    requires running { IsRunning machine.now }
+    requires here { All (IsMetHere machine.now) breakpoints.now }
+    requires within { All (λ b. b.number < length counts.old) breakpoints.now }
+    ensures counts { counts.new ≡ counted (holds_now machine.now) breakpoints.now counts.old }
+    ensures due { result ≡ any_due (holds_now machine.now) breakpoints.now counts.old }
+{
+    let mut due = false;
+    for breakpoint in breakpoints {
+        due |= count_arrival(machine, breakpoint, counts);
+    }
+    due
+}
+
+/// Counts the arrivals at the machine's position: whether a breakpoint is due there.
+#[inline(always)]
+pub fn count_position(machine: &Machine, plan: &Option<Arc<Plan>>, counts: &mut [u32]) -> bool
+    requires running { IsRunning machine.now }
+    requires fits { MayBePlanOf (program machine.now) (option_map arc_value plan.now) }
+    requires room { length counts.old ≡ 256 }
+    // Whatever position the counts begin at, they go on, and tell what is due.
+    ensures { (first : ℕ) → first ≤ machine.now.position
+        → AreCounts (program machine.now) (breakpoints_of (option_map arc_value plan.now)) first machine.now.position counts.old
+        → CountsOn (program machine.now) (breakpoints_of (option_map arc_value plan.now)) machine.now.position first counts.old result counts.new }
+{
+    match plan {
+        None => false,
+        Some(plan) => {
+            lexer_laws();
+            steps_laws();
+            count_arrivals(machine, plan.entry(machine.place()), counts)
+        }
+    }
+}
+
+/// Why the machine's position is due, once it is known whether a breakpoint is.
+#[inline(always)]
+pub fn reason_here(machine: &Machine, hit: bool, mode: Mode) -> Option<Reason>
+    ensures { result ≡ (if hit then Some reason.Breakpoint else reason_of mode (depth_at (program machine.now) machine.now.position)) }
+{
+    if hit {
+        return Some(Reason::Breakpoint);
+    }
+    let depth = machine.depth();
+    match mode {
+        Mode::Entry => Some(Reason::Entry),
+        Mode::Continue => None,
+        Mode::In => Some(Reason::Step),
+        Mode::Over(limit) => (depth <= limit).then_some(Reason::Step),
+        Mode::Out(limit) => (depth < limit).then_some(Reason::Step),
+    }
+}

@@ -1,0 +1,143 @@
+// A program that is debugged.
+
+ghost use Rattle.std.specs.Prelude.{◌≡◌, option_map};
+ghost use Rattle.std.specs.Arc.{arc_value};
+ghost use Rattle.pl0_tree.specs.declared.tree.Block.{Block};
+ghost use Rattle.dbg_plan.specs.Plans.{IsNumbered, IsPlanOf};
+ghost use Rattle.dbg_plan.specs.Counting.{breakpoints_of, MayBePlanOf};
+
+use crate::counting::{count_position, reason_here};
+use crate::evaluation::{EvalFault, evaluate};
+use crate::mode::{Mode, Reason};
+use crate::plan::Plan;
+use pl0_machine::{Machine, StepOutcome};
+use pl0_tree::Expression;
+use std::marker::Model;
+use std::sync::Arc;
+
+/// A machine with the plan that is in force, and what was counted under it.
+#[derive(Drop)]
+pub struct Debuggee {
+    machine: Machine,
+    plan: Option<Arc<Plan>>,
+    counts: [u32; 256],
+    first: u64,
+    next: u64,
+}
+
+impl Model for Debuggee {
+    ghost use Rattle.dbg_plan.specs.Debugged.{Debugged};
+    ghost use Rattle.pl0_unit.specs.contracts.unit.Unit as compiled;
+    ghost use Rattle.dbg_plan.specs.contracts.breakpoint.Breakpoint as breakpoint;
+    ghost use Rattle.std.specs.Coded.{codes};
+
+    ghost Value = { Debugged };
+
+    ghost coded = { Prim.hlevel (codes, compiled.the_row.coded, breakpoint.the_row.coded) };
+
+    ghost use Rattle.dbg_plan.specs.Counts.{debugged_of, IsCounting};
+
+    ghost view = { debugged_of };
+
+    ghost invariant = { IsCounting };
+}
+
+// A plan, or none where it is empty.
+fn entered(plan: Arc<Plan>) -> Option<Arc<Plan>>
+    ensures breakpoints { breakpoints_of (option_map arc_value result) ≡ plan.value.breakpoints }
+    ensures numbered { IsNumbered plan.value.breakpoints }
+    ensures fits { (main : Block) → IsPlanOf main plan.value → MayBePlanOf main (option_map arc_value result) }
+{
+    if plan.is_empty() {
+        return None;
+    }
+    Some(plan)
+}
+
+impl Debuggee {
+    ghost use Rattle.std.specs.Prelude.{◌≡◌, ◌+◌, ◌<◌, [], option_map};
+    ghost use Rattle.pl0_meaning.specs.Values.{value};
+    ghost use Rattle.pl0_machine.specs.Machine.{Stepped, outcome_of, frames, depth_of};
+    ghost use Rattle.dbg_plan.specs.Plans.{IsPlanOf};
+    ghost use Rattle.dbg_plan.specs.Debugged.{machine_of, program_of, IsConsidered, IsNext, due_now};
+    ghost use Rattle.dbg_plan.specs.Values.{told};
+
+    /// A machine under the empty plan. Its position is the next to be considered.
+    pub fn new(machine: Machine) -> Debuggee
+        ensures { result ≡ record { unit = machine.unit; position = machine.position; breakpoints = []; first = machine.position; next = machine.position } }
+    {
+        let position = machine.position();
+        Debuggee {
+            machine,
+            plan: None,
+            counts: [0; 256],
+            first: position,
+            next: position,
+        }
+    }
+
+    /// The machine.
+    pub fn machine(&self) -> &Machine
+        ensures { result.now ≡ machine_of self.now }
+    {
+        &self.machine
+    }
+
+    /// The plan, or none where it is the empty one.
+    pub fn plan(&self) -> &Option<Arc<Plan>>
+        ensures { breakpoints_of (option_map arc_value result.now) ≡ self.now.breakpoints }
+    {
+        &self.plan
+    }
+
+    /// The first position that the plan counts.
+    pub fn first(&self) -> u64
+        ensures { result ≡ self.now.first }
+    {
+        self.first
+    }
+
+    /// Takes the machine's next step.
+    #[inline(always)]
+    pub fn step(&mut self) -> StepOutcome
+        requires { IsConsidered self.old }
+        ensures stepped { Stepped (outcome_of (machine_of self.old)) (machine_of self.old) result (machine_of self.new) }
+        ensures kept { self.new ≡ record self.old { position = self.new.position } }
+    {
+        self.machine.step()
+    }
+
+    /// Puts a plan in, which counts from the next position to be considered.
+    pub fn set_plan(&mut self, plan: Arc<Plan>)
+        requires { IsPlanOf (program_of self.old) plan.value }
+        ensures { self.new ≡ record self.old { breakpoints = plan.value.breakpoints; first = self.old.next } }
+    {
+        self.plan = entered(plan);
+        self.counts = [0; 256];
+        self.first = self.next;
+    }
+
+    /// Considers the position where the machine stands: whether it is due.
+    #[inline(always)]
+    pub fn consider(&mut self, mode: Mode) -> Option<Reason>
+        requires { IsNext self.old }
+        ensures due { result ≡ due_now self.old mode }
+        ensures kept { self.new ≡ record self.old { next = self.old.next + 1 } }
+    {
+        let hit = count_position(&self.machine, &self.plan, &mut self.counts);
+        self.next = self.machine.position() + 1;
+        reason_here(&self.machine, hit, mode)
+    }
+
+    /// The value of an expression in a frame, which is alive. A name that the frame's block can't read counts as 0.
+    ///
+    /// # Errors
+    ///
+    /// The first fault of the evaluation, the left operand first.
+    pub fn evaluate(&self, frame: usize, expression: &Expression) -> Result<i64, EvalFault>
+        requires { frame < depth_of (machine_of self.now) }
+        ensures { value (program_of self.now) (frames (machine_of self.now)) frame expression.now ≡ told result }
+    {
+        evaluate(&self.machine, frame, expression)
+    }
+}

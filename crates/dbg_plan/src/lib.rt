@@ -1,0 +1,24 @@
+//! Breakpoints, the plan that they make, and a program that is debugged under one.
+//!
+//! The one contract is that of [`Debuggee::consider`]: whether the position where the machine stands is due, by a count
+//! of all earlier arrivals that no field keeps (`specs/Due`). A plan is a table by step, and contracts see the list of
+//! breakpoints in the order asked (`specs/Plans`, `Table`). The hard lemma is `tally` of `proofs/Tally`: one walk along a
+//! step's part of the table takes the counts of the whole list from one position to the next.
+#![tactic(auto)]
+
+mod bound;
+mod breakpoint;
+mod counting;
+mod debuggee;
+mod mode;
+mod plan;
+mod resolve;
+mod evaluation;
+
+pub use bound::{BoundCondition, BoundExpression};
+pub use breakpoint::{Breakpoint, Guard, Rule};
+pub use debuggee::Debuggee;
+pub use evaluation::EvalFault;
+pub use mode::{Mode, Reason};
+pub use plan::Plan;
+pub use resolve::{Answer, Asked};
