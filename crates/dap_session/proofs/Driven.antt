@@ -1,15 +1,12 @@
 -- A session that is driven.
-use Rattle.std.proofs.Common.{◌≡◌, ℕ, List, [], ◌∷◌, ◌++◌, Option, None, Some, refl, sym, ◌∙◌, ap, append_assoc, append-nil, ◌⊎◌, inl, inr, ◌<◌, Result, Ok, Err, OnOk, OnErr}
-use Rattle.dap_session.specs.declared.ports.OrderFault.{OrderFault}
-use Rattle.dap_session.specs.declared.ports.OrderFault.TheVariants.{Full, Gone}
-use Rattle.dap_session.specs.declared.ports.Order.TheVariants.{Quit}
+use Rattle.std.proofs.Common.{◌≡◌, List, [], ◌∷◌, ◌++◌, Option, None, Some, refl, sym, ◌∙◌, ap, append_assoc, append-nil}
 use Rattle.dap_frame.specs.declared.fault.FrameFault.{FrameFault}
 use Rattle.dap_session.specs.declared.ending.Ending.{Ending}
 use Rattle.dap_session.specs.declared.ending.Ending.TheVariants as ending
 use Rattle.dap_session.specs.Events.{Incoming}
 use Rattle.dap_session.specs.declared.fault.SessionFault.{SessionFault}
-use Rattle.dap_session.specs.History.{History, ending_of}
-use Rattle.dap_session.specs.Ports.{Written, Ordered, Ports, ports}
+use Rattle.dap_session.specs.History.{History}
+use Rattle.dap_session.specs.Ports.{Ports}
 use Rattle.dap_session.specs.Output.{Sends, TriesQuit, frames_from}
 use Rattle.dap_session.specs.State.{State, StandsFor, EndsAt, FailsAt, Wants}
 use Rattle.dap_session.specs.declared.ending.Want.TheVariants as want

@@ -1,6 +1,5 @@
 -- How an event can end a session.
 use Rattle.std.proofs.Common.{◌≡◌, ◌⊎◌, inl, inr, ℕ, List, [], ◌∷◌, ◌++◌, Option, None, Some, refl, sym, ◌∙◌, ap, subst}
-use Rattle.dap_frame.specs.declared.fault.FrameFault.{FrameFault}
 use Rattle.dap_msg.specs.declared.command.Command.{Command}
 use Rattle.dap_msg.specs.declared.command.Command.TheVariants as command
 use Rattle.dap_msg.specs.declared.request.Request.{Request}
@@ -8,7 +7,7 @@ use Rattle.dap_session.specs.declared.ending.Closed.TheVariants.{Disconnected}
 use Rattle.dap_session.specs.declared.ending.Ending.{Ending}
 use Rattle.dap_session.specs.declared.ending.Ending.TheVariants as ending
 use Rattle.dap_session.specs.declared.fault.SessionFault.TheVariants.{Frame}
-use Rattle.dap_session.specs.Events.{Incoming, Piece, End, ReadFailed, NoMemory, IsTaking, Takes, Rests, Closes, Leads, LeadsAll}
+use Rattle.dap_session.specs.Events.{Incoming, Piece, End, ReadFailed, NoMemory, IsTaking, Takes, Rests, Closes, Leads}
 use Rattle.dap_session.specs.History.{Item, Content, Fault, InputEnd, ReadFailure, MemoryFailure, History, closing, closing_command, ending_of, after}
 use Rattle.dap_session.specs.Last.{or_else}
 use Rattle.dap_session.specs.Laws.{EndsBy, EventTellsTheEnding}

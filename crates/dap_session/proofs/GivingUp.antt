@@ -1,5 +1,5 @@
 -- A session that gave up has sent a beginning of what the events give.
-use Rattle.std.proofs.Common.{◌≡◌, ◌⊎◌, inl, inr, ℕ, ◌+◌, List, [], ◌∷◌, ◌++◌, length, Option, Some, refl, sym, ◌∙◌, ap, subst, append_assoc, append-nil, arith, length-append}
+use Rattle.std.proofs.Common.{◌≡◌, inl, inr, ℕ, ◌+◌, List, [], ◌∷◌, ◌++◌, length, Some, refl, sym, ◌∙◌, ap, subst, append_assoc, append-nil, arith, length-append}
 use Rattle.dap_frame.specs.declared.fault.FrameFault.{FrameFault}
 use Rattle.dap_msg.specs.declared.outgoing.Outgoing.{Outgoing}
 use Rattle.dap_session.specs.declared.fault.SessionFault.{SessionFault}
@@ -7,13 +7,11 @@ use Rattle.dap_session.specs.declared.fault.SessionFault.TheVariants.{Frame, NoM
 use Rattle.dap_session.specs.Events as event
 use Rattle.dap_session.specs.Events.{Incoming}
 use Rattle.dap_session.specs.declared.ports.Order.{Order}
-use Rattle.dap_session.specs.declared.ports.Order.TheVariants.{Quit}
 use Rattle.dap_session.specs.History.{Item, Content, Fault, InputEnd, ReadFailure, MemoryFailure, History, messages_of, orders_of, ending_of, next_seq, after}
 use Rattle.dap_session.specs.Events.{Takes, TakesAll, Rests, Closes, Leads, LeadsAll}
 use Rattle.dap_session.specs.Ports.{Ports}
 use Rattle.dap_session.specs.Output.{Adds, SendsPart, SendsNothing, HasCause, Begins, frames_from}
 use Rattle.dap_session.specs.State.{FailsAt, Fails, GivesUp, Breaks, KeepsOpen}
-use Rattle.dap_session.specs.Served.{StopsShort}
 use Rattle.dap_session.specs.Laws.{MayCome, FaultLeavesABeginning, GivingUpLeavesABeginning}
 use Rattle.dap_session.specs.declared.ending.Ending.TheVariants as ending
 use Rattle.dap_session.proofs.Readings.{frames_from-append}

@@ -5,5 +5,6 @@ pub mod Standing
 pub mod Driven
 pub mod Along
 pub mod OneHistory
+pub mod SomeHistory
 pub mod GivingUp
 pub mod Endings

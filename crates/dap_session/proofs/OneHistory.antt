@@ -1,6 +1,6 @@
 -- A list of events has one history.
-use Rattle.std.proofs.Common.{◌≡◌, ◌⊎◌, inl, inr, ℕ, List, [], ◌∷◌, ◌++◌, Option, Some, refl, sym, ◌∙◌, ap, subst}
-use Rattle.dap_frame.specs.Frame.{IsFrameInFront, IsOpen}
+use Rattle.std.proofs.Common.{◌≡◌, inl, inr, ℕ, List, [], ◌∷◌, ◌++◌, Option, sym, ◌∙◌, ap, subst}
+use Rattle.dap_frame.specs.Frame.{IsFrameInFront}
 use Rattle.dap_frame.specs.Laws.{FramesAreUnique, FaultsAreUnique, NeverBoth}
 use Rattle.dap_msg.specs.Laws.{OneReading}
 use Rattle.dap_msg.specs.declared.request.Request.{Request}

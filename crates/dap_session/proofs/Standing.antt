@@ -1,5 +1,5 @@
 -- One event more for a session that stands for some.
-use Rattle.std.proofs.Common.{◌≡◌, ◌<◌, ◌⊎◌, inl, inr, ℕ, ◌+◌, List, [], ◌∷◌, ◌++◌, None, Some, refl, sym, ◌∙◌, ap, subst, append-nil, add-zero}
+use Rattle.std.proofs.Common.{◌≡◌, inl, inr, ℕ, ◌+◌, List, [], ◌∷◌, ◌++◌, None, Some, refl, sym, ◌∙◌, ap, subst, append-nil, add-zero}
 use Rattle.std.specs.Prelude.{unwrap_or, length}
 use Rattle.dap_session.specs.Last.{or_else, last_such}
 use Rattle.dap_session.specs.declared.ending.Closed.{Closed}

@@ -57,7 +57,11 @@ DisconnectIsLast =
     → ending_of past ≡ Some (ending.Closed Disconnected)
     → (before : List Outgoing) × (seq : ℕ) × (messages_of past ≡ before ++ Answer seq (name.Supported Disconnect) (Ok body.None) ∷ [])
 
--- A list of events has one history, and leaves one rest of the stream.
+-- Each list of events has a history, and leaves a rest of the stream; what they are can be computed.
+abbrev pub EventsHaveAHistory : Type 0
+EventsHaveAHistory = (events : List Incoming) → (past : History) × (rest : List ℕ) × IsHistoryOf events past rest
+
+-- And no other: a list of events has one history, and leaves one rest of the stream.
 abbrev pub HistoryIsOne : Type 0
 HistoryIsOne =
     (events : List Incoming) (past other : History) (rest left : List ℕ) → IsHistoryOf events past rest → IsHistoryOf events other left
@@ -82,7 +86,8 @@ abbrev pub MayCome : SessionFault → Ports → Ports → History → Type 0
 MayCome (Frame k) old later whole = ending_of whole ≡ Some (ending.Fault (Frame k))
 MayCome fault old later whole = HasCause fault old later whole
 
--- A fault at an event leaves a beginning of what the event gives, and has its cause.
+-- A fault at an event leaves a beginning of what the event gives, and has its cause. Here and below `whole` is the one
+-- history that there is of these events.
 abbrev pub FaultLeavesABeginning : Type 0
 FaultLeavesABeginning =
     (before : List Incoming) (last : Incoming) (past : History) (rest : List ℕ) (fault : SessionFault) (old later : Ports)

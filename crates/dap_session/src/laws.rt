@@ -1,4 +1,4 @@
-ghost use Rattle.dap_session.specs.Laws.{EachIsAnsweredOnce, SeqCountFromOne, DisconnectIsLast, HistoryIsOne, EventTellsTheEnding, FaultLeavesABeginning, GivingUpLeavesABeginning};
+ghost use Rattle.dap_session.specs.Laws.{EachIsAnsweredOnce, SeqCountFromOne, DisconnectIsLast, EventsHaveAHistory, HistoryIsOne, EventTellsTheEnding, FaultLeavesABeginning, GivingUpLeavesABeginning};
 
 use dap_frame::frame_laws;
 use dap_msg::message_laws;
@@ -8,6 +8,7 @@ pub fn session_laws()
     ensures answers { EachIsAnsweredOnce }
     ensures numbers { SeqCountFromOne }
     ensures last { DisconnectIsLast }
+    ensures history { EventsHaveAHistory }
     ensures one { HistoryIsOne }
     ensures ending { EventTellsTheEnding }
     ensures fault { FaultLeavesABeginning }

@@ -1,8 +1,6 @@
 -- The faults of tokens and of names are first faults of a text.
-use Rattle.std.proofs.Common.{◌≡◌, ℕ, ◌<◌, ◌≤◌, List, length, map, refl, sym, subst, ap}
-use Rattle.pl0_tree.specs.declared.tree.Place.{Place}
+use Rattle.std.proofs.Common.{◌≡◌, ℕ, ◌<◌, ◌≤◌, List, length, map, sym, subst}
 use Rattle.pl0_tree.specs.declared.tree.Block.{Block}
-use Rattle.pl0_tree.specs.declared.fault.FaultKind.{FaultKind}
 use Rattle.pl0_tree.specs.declared.fault.FaultKind.TheVariants.{TooLong}
 use Rattle.pl0_tree.specs.declared.fault.SyntaxFault.{SyntaxFault}
 use Rattle.pl0_tree.specs.declared.fault.SyntaxFault.TheVariants.{InText, NoMemory}

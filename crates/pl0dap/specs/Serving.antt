@@ -52,6 +52,7 @@ pub record IsWhole (last : Incoming) (by : Ending) (old later : Streams) : Type 
   pub written : Appends old.written later.written (text_sent past)
 
 -- What was read are the pieces of some events, and a beginning was written of what the events give: so many messages at least.
+-- The events have a history, and only one (`session_laws`), so `begins` speaks of just that one.
 pub record IsBegun (least : ℕ) (old later : Streams) : Type 0 where
   pub events : List Incoming
   pub read : Consumes old.left later.left (joined events)

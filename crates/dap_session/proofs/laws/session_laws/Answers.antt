@@ -1,6 +1,7 @@
 use Rattle.std.proofs.Common.{[]}
 use Rattle.dap_session.proofs.Along.{each_answered, numbers_count, disconnect_last}
 use Rattle.dap_session.proofs.OneHistory.{one_history}
+use Rattle.dap_session.proofs.SomeHistory.{some_history}
 use Rattle.dap_session.proofs.GivingUp.{fault_leaves_a_beginning, giving_up_leaves_a_beginning}
 use Rattle.dap_session.proofs.Endings.{event_tells_the_ending}
 use Rattle.dap_session.proofs.laws.session_laws.Goals as goal
@@ -13,6 +14,10 @@ returns-clause-numbers c = numbers_count
 
 pub returns-clause-last : goal.returns-clause-last
 returns-clause-last c = disconnect_last
+
+pub returns-clause-history : goal.returns-clause-history
+returns-clause-history c =
+    some_history (record { told = c.frame_laws.ensures.told; read = c.message_laws.ensures.each }) [] []
 
 pub returns-clause-one : goal.returns-clause-one
 returns-clause-one c = λ events past other rest left history there.

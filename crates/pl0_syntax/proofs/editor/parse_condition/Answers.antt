@@ -1,0 +1,25 @@
+use Rattle.std.proofs.Common.{rules}
+use Rattle.pl0_tree.specs.Steps.{step_path}
+use Rattle.pl0_syntax.proofs.EditorJoining.{long_condition, token_condition, name_condition, condition_of}
+use Rattle.pl0_syntax.proofs.editor.parse_condition.Goals as goal
+
+pub returns-in-Err-clause-fault : goal.returns-in-Err-clause-fault
+returns-in-Err-clause-fault c = long_condition _ _ _ _ c.in-Err.ensures.long
+
+pub returns-in-Err-parse_condition_text-clause-fault : goal.returns-in-Err-parse_condition_text-clause-fault
+returns-in-Err-parse_condition_text-clause-fault c =
+    token_condition _ _ _ _ (c.in-Ok.ensures.short (search rules)) c.in-Ok.ensures.tokens _ (rw c.as_slice.ensures.value at c.in-Err-parse_condition_text.ensures.fault)
+
+pub returns-in-Ok-check_condition_names-clause-condition : goal.returns-in-Ok-check_condition_names-clause-condition
+returns-in-Ok-check_condition_names-clause-condition c =
+    let q = step_path c.args.tree.now.program c.args.step in
+    condition_of _ q c.args.text.now _ (c.in-Ok.ensures.short (search rules)) c.in-Ok.ensures.tokens _ _
+    (rw c.as_slice.ensures.value at c.in-Ok-parse_condition_text.ensures.reads) (rw c.as_slice.ensures.value at c.in-Ok-parse_condition_text.ensures.within)
+    (c.in-Ok-check_condition_names.ensures.lawful q c.in-Ok-block_of_step.ensures.block (search rules))
+
+pub returns-clause-fault : goal.returns-clause-fault
+returns-clause-fault c =
+    let q = step_path c.args.tree.now.program c.args.step in
+    name_condition _ q c.args.text.now _ (c.in-Ok.ensures.short (search rules)) c.in-Ok.ensures.tokens _ _ _ (c.lexer_laws.ensures.in_order c.args.text.now)
+    (rw c.as_slice.ensures.value at c.in-Ok-parse_condition_text.ensures.reads) (rw c.as_slice.ensures.value at c.in-Ok-parse_condition_text.ensures.within)
+    (c.in-Err-check_condition_names.ensures.fault q c.in-Ok-block_of_step.ensures.block)
