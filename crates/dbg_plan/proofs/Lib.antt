@@ -1,4 +1,5 @@
 pub mod Walk
 pub mod Tally
+pub mod Places
 pub mod Here
 pub mod Fresh

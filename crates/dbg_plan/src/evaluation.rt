@@ -31,11 +31,7 @@ pub fn is_met(machine: &Machine, breakpoint: &Breakpoint) -> bool
 }
 
 /// The value of an expression in a frame.
-pub fn evaluate(
-    machine: &Machine,
-    frame: usize,
-    expression: &Expression,
-) -> Result<i64, EvalFault>
+pub fn evaluate(machine: &Machine, frame: usize, expression: &Expression) -> Result<i64, EvalFault>
     requires { frame < depth_of machine.now }
     ensures { value (program machine.now) (frames machine.now) frame expression.now ≡ told result }
 {

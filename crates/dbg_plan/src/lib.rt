@@ -10,10 +10,10 @@ mod bound;
 mod breakpoint;
 mod counting;
 mod debuggee;
+mod evaluation;
 mod mode;
 mod plan;
 mod resolve;
-mod evaluation;
 
 pub use bound::{BoundCondition, BoundExpression};
 pub use breakpoint::{Breakpoint, Guard, Rule};
