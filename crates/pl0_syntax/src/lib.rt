@@ -8,13 +8,15 @@
 #![tactic(auto)]
 
 mod editor;
+mod laws;
 mod numbering;
 mod parsing;
 #[cfg(test)]
 mod tests;
 
 pub use editor::{parse_condition, parse_expression};
-pub use numbering::{blocks, steps};
+pub use laws::numbering_laws;
+pub use numbering::{block_of_step, blocks, steps};
 pub use parsing::parse;
 pub use pl0_names::{block, block_name};
 pub use pl0_tree::{
