@@ -6,6 +6,7 @@
 //! step's part of the table takes the counts of the whole list from one position to the next.
 #![tactic(auto)]
 
+mod binding;
 mod bound;
 mod breakpoint;
 mod counting;
