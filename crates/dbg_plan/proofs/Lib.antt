@@ -2,3 +2,5 @@ pub mod Walk
 pub mod Tally
 pub mod Here
 pub mod Fresh
+pub mod Parts
+pub mod ByNumber

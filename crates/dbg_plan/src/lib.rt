@@ -14,6 +14,7 @@ mod debuggee;
 mod mode;
 mod plan;
 mod resolve;
+mod table;
 mod evaluation;
 
 pub use bound::{BoundCondition, BoundExpression};
