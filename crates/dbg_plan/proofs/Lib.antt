@@ -2,5 +2,6 @@ pub mod Walk
 pub mod Tally
 pub mod Here
 pub mod Fresh
+pub mod HitNumbers
 pub mod Parts
 pub mod ByNumber

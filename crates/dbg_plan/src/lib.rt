@@ -11,11 +11,12 @@ mod bound;
 mod breakpoint;
 mod counting;
 mod debuggee;
+mod evaluation;
 mod mode;
 mod plan;
 mod resolve;
+mod rule;
 mod table;
-mod evaluation;
 
 pub use bound::{BoundCondition, BoundExpression};
 pub use breakpoint::{Breakpoint, Guard, Rule};
