@@ -3,3 +3,6 @@ pub mod Tally
 pub mod Places
 pub mod Here
 pub mod Fresh
+pub mod HitNumbers
+pub mod Parts
+pub mod ByNumber

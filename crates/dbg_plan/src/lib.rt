@@ -6,6 +6,7 @@
 //! step's part of the table takes the counts of the whole list from one position to the next.
 #![tactic(auto)]
 
+mod binding;
 mod bound;
 mod breakpoint;
 mod counting;
@@ -14,6 +15,8 @@ mod evaluation;
 mod mode;
 mod plan;
 mod resolve;
+mod rule;
+mod table;
 
 pub use bound::{BoundCondition, BoundExpression};
 pub use breakpoint::{Breakpoint, Guard, Rule};
