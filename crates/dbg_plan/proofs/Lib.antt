@@ -2,3 +2,11 @@ pub mod Walk
 pub mod Tally
 pub mod Here
 pub mod Fresh
+pub mod ValuesUp
+pub mod ValuesHomes
+pub mod ValuesLinks
+pub mod ValuesBound
+pub mod ValuesMet
+pub mod BoundFirst
+pub mod BoundWalk
+pub mod ValuesNamed
