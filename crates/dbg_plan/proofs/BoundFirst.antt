@@ -1,5 +1,5 @@
 -- The first declaration of a word, by what the code finds among constants, variables and procedures.
-use Rattle.std.proofs.Common.{◌≡◌, ℕ, zero, suc, ◌+◌, Bool, true, false, cond, List, [], ◌∷◌, ◌++◌, map, slice_get, Option, Some, None, ℤ, pos, refl, sym, ap, ◌∙◌, subst, arith, add-zero}
+use Rattle.std.proofs.Common.{◌≡◌, ℕ, zero, suc, ◌+◌, Bool, true, false, cond, List, [], ◌∷◌, ◌++◌, map, slice_get, Option, Some, None, ℤ, pos, refl, sym, ap, ◌∙◌, arith, add-zero}
 use Rattle.std.specs.Prelude.{◌||◌, find, position, option_map}
 use Rattle.std.specs.List.{list_any, position_from}
 use Rattle.std.specs.Option.{option_or}
@@ -10,7 +10,7 @@ use Rattle.pl0_tree.specs.declared.tree.Name.{Name}
 use Rattle.pl0_tree.specs.declared.tree.Constant.{Constant}
 use Rattle.pl0_tree.specs.declared.tree.Block.{Block, out-Block}
 use Rattle.pl0_tree.specs.declared.tree.Procedure.{Procedure, out-Procedure}
-use Rattle.pl0_tree.specs.Scope.{word, Meaning, AConstant, AVariable, AProcedure, Declaration, declared_as, declarations, first_declaration}
+use Rattle.pl0_tree.specs.Scope.{word, Meaning, AConstant, AVariable, AProcedure, Declaration, declared_as, first_declaration}
 use Rattle.pl0_meaning.specs.Values.{constant_of, or_zero}
 use Rattle.dbg_plan.specs.declared.binding.Located.{Located}
 use Rattle.dbg_plan.specs.declared.binding.Located.TheVariants as at

@@ -1,5 +1,5 @@
 -- The walk from a block outward, to the first that declares a word.
-use Rattle.std.proofs.Common.{◌≡◌, ℕ, zero, suc, ◌+◌, ◌-◌, ◌<◌, ◌≤◌, List, [], ◌∷◌, ◌++◌, length, length-append, slice_get, get_or, Option, Some, None, ℤ, pos, refl, sym, ap, ◌∙◌, subst, arith}
+use Rattle.std.proofs.Common.{◌≡◌, ℕ, zero, suc, ◌+◌, ◌<◌, ◌≤◌, List, [], ◌∷◌, ◌++◌, length, length-append, slice_get, get_or, Option, Some, None, pos, refl, sym, ap, ◌∙◌, subst, arith}
 use Rattle.std.specs.Prelude.{option_map, option_and_then}
 use Rattle.std.specs.Option.{option_map_or}
 use Rattle.std.proofs.lemmas.Option.{slice_get_within, slice_get-get_or}
@@ -7,13 +7,11 @@ use Rattle.pl0_tree.specs.declared.tree.Constant.{Constant}
 use Rattle.pl0_tree.specs.declared.tree.Block.{Block, Block', out-Block, Row_of-Procedure, end_of-Procedure, more_of-Procedure}
 use Rattle.pl0_tree.specs.declared.tree.Procedure.{Procedure, Procedure'}
 use Rattle.pl0_tree.specs.declared.nesting.Nesting.{Nesting}
-use Rattle.pl0_tree.specs.Scope.{Path, block_at, Meaning, AConstant, AVariable, AProcedure, Declaration, first_declaration, Home, or_else, home}
+use Rattle.pl0_tree.specs.Scope.{Path, block_at, Meaning, AConstant, AVariable, AProcedure, Declaration, first_declaration, or_else, home}
 use Rattle.pl0_tree.specs.Steps.{block_paths, procedures_paths, procedure_paths, blocks}
 use Rattle.pl0_tree.specs.Blocks.{IsNesting, AreNestings}
 use Rattle.pl0_meaning.specs.Values.{constant_of, or_zero}
-use Rattle.pl0_unit.specs.Code.{level}
 use Rattle.dbg_plan.specs.declared.binding.Located.{Located}
-use Rattle.dbg_plan.specs.declared.binding.Located.TheVariants as at
 use Rattle.dbg_plan.specs.declared.bound.BoundExpression.TheVariants as bound
 use Rattle.dbg_plan.specs.Bound.{IsDeclaredBound, IsNameBound}
 use Rattle.dbg_plan.specs.Reads.{located, bound_of}

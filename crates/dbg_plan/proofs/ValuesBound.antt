@@ -1,5 +1,5 @@
 -- What is bound has the value of the source.
-use Rattle.std.proofs.Common.{◌≡◌, ℕ, ◌<◌, List, length, slice_get, get_or, Option, Some, None, IsSome, Ok, ℤ, pos, neg_ℤ, refl, sym, ap, ◌∙◌, subst, arith}
+use Rattle.std.proofs.Common.{◌≡◌, ℕ, ◌<◌, List, length, slice_get, Option, Some, None, IsSome, Ok, ℤ, pos, neg_ℤ, refl, sym, ap, ◌∙◌, subst, arith}
 use Rattle.std.proofs.lemmas.Option.{slice_get-get_or}
 use Rattle.pl0_tree.specs.declared.tree.Block.{Block, out-Block}
 use Rattle.pl0_tree.specs.declared.tree.Expression.{Expression}
@@ -79,8 +79,8 @@ module _ (main : Block) (c : Configuration) (i : ℕ) (f : Frame) (linked : AreL
       let m = expression_reads right second is.2 in (
         (l.0, m.0),
         ap (λ v. after v (λ x. after (bound_value c i second) (λ y. operation op' x y))) l.1
-        ∙ ap (λ w. after (value main c i left) (λ x. after w (λ y. operation op' x y))) m.1
-        ∙ ap (λ o. after (value main c i left) (λ x. after (value main c i right) (λ y. operation o x y))) is.0,
+            ∙ ap (λ w. after (value main c i left) (λ x. after w (λ y. operation op' x y))) m.1
+            ∙ ap (λ o. after (value main c i left) (λ x. after (value main c i right) (λ y. operation o x y))) is.0,
       )
   expression_reads (Binary' op p left r right) b is = absurd is
 
@@ -93,7 +93,7 @@ module _ (main : Block) (c : Configuration) (i : ℕ) (f : Frame) (linked : AreL
       let m = expression_reads right second is.2 in (
         (l.0, m.0),
         ap (λ v. after v (λ x. after (bound_value c i second) (λ y. Ok (comparison relation' x y)))) l.1
-        ∙ ap (λ w. after (value main c i left) (λ x. after w (λ y. Ok (comparison relation' x y)))) m.1
-        ∙ ap (λ o. after (value main c i left) (λ x. after (value main c i right) (λ y. Ok (comparison o x y)))) is.0,
+            ∙ ap (λ w. after (value main c i left) (λ x. after w (λ y. Ok (comparison relation' x y)))) m.1
+            ∙ ap (λ o. after (value main c i left) (λ x. after (value main c i right) (λ y. Ok (comparison o x y)))) is.0,
       )
   condition_reads t b is = absurd is

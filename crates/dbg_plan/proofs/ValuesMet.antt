@@ -1,6 +1,5 @@
 -- A condition of the machine's next step, in the newest frame.
-use Rattle.std.proofs.Common.{◌≡◌, ℕ, zero, suc, ◌+◌, ◌-◌, ◌<◌, Bool, true, List, [], ◌∷◌, ◌++◌, length, slice_get, Option, Some, None, IsSome, Result, Ok, Err, refl, sym, ap, ◌∙◌, subst, arith}
-use Rattle.std.specs.Prelude.{option_map}
+use Rattle.std.proofs.Common.{◌≡◌, ℕ, zero, suc, ◌-◌, ◌<◌, Bool, true, List, [], ◌∷◌, ◌++◌, length, slice_get, Option, Some, None, Result, Ok, Err, refl, sym, ap, ◌∙◌, subst, arith}
 use Rattle.std.specs.Option.{option_map_or}
 use Rattle.std.specs.Result.{result_unwrap_or}
 use Rattle.std.proofs.Math.Logic.{∥∥₁_elim}
@@ -8,12 +7,11 @@ use Rattle.std.specs.Coded.{Coded, Coded-set, codes, ×_prop, Unit-prop}
 use Rattle.pl0_tree.specs.declared.tree.Block.{Block}
 use Rattle.pl0_tree.specs.declared.tree.Statement.{Statement, Row_of-Statement, end_of-Statement, more_of-Statement}
 use Rattle.pl0_tree.specs.declared.tree.Statement.TheVariants.{Empty, Assign, Call, Write, Begin', If', While'}
-use Rattle.pl0_tree.specs.declared.tree.Condition.{Condition}
 use Rattle.pl0_tree.specs.Scope.{Path, block_at}
 use Rattle.pl0_tree.specs.Steps.{StepAt, statement_steps, row_steps, steps, step_path}
 use Rattle.pl0_meaning.specs.contracts.RunFault as run_fault
 use Rattle.pl0_meaning.specs.declared.RunFault.{RunFault}
-use Rattle.pl0_meaning.specs.Values.{Frame, Configuration, return_of, first_step, next_step, StandsBefore, truth}
+use Rattle.pl0_meaning.specs.Values.{Frame, Configuration, return_of, first_step, StandsBefore, truth}
 use Rattle.pl0_machine.specs.Frames.{AreLinked}
 use Rattle.pl0_machine.specs.Machine.{Standing, program, configuration, frames, top_of, IsNext}
 use Rattle.dbg_plan.specs.declared.bound.BoundExpression.{BoundExpression}

@@ -1,5 +1,5 @@
 -- Links followed one by one.
-use Rattle.std.proofs.Common.{◌≡◌, ℕ, zero, suc, ◌+◌, ◌-◌, ◌<◌, ◌≤◌, Bool, cond, nat_eq, List, [], ◌∷◌, length, slice_get, Option, Some, None, IsSome, ℤ, refl, sym, ap, ◌∙◌, subst, arith, ⊎_elim}
+use Rattle.std.proofs.Common.{◌≡◌, ℕ, zero, suc, ◌+◌, ◌-◌, ◌<◌, nat_eq, [], ◌∷◌, length, slice_get, Option, Some, None, IsSome, ℤ, refl, sym, ap, ◌∙◌, subst, arith, ⊎_elim}
 use Rattle.std.specs.Prelude.{option_and_then}
 use Rattle.std.proofs.lemmas.Bool.{ne_eqb, cond-false, cases_eq}
 use Rattle.std.proofs.lemmas.Option.{slice_get_within}

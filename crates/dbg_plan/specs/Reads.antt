@@ -1,5 +1,5 @@
 -- What the functions that evaluate and that look names up promise. No public contract cites this file.
-use Rattle.std.specs.Prelude.{ℕ, zero, suc, Bool, Option, Some, None, IsSome, option_and_then, Result, Ok, ℤ, pos, neg_ℤ}
+use Rattle.std.specs.Prelude.{ℕ, zero, suc, Bool, Option, Some, IsSome, option_and_then, Result, Ok, ℤ, pos, neg_ℤ}
 use Rattle.pl0_tree.specs.declared.tree.Block.{Block}
 use Rattle.pl0_tree.specs.Scope.{Meaning, AConstant, AVariable, AProcedure}
 use Rattle.pl0_meaning.specs.declared.RunFault.{RunFault}

@@ -108,7 +108,10 @@ fn bind_expression(
     ensures { (q : Path) → slice_get (blocks main.now) number ≡ Some q → IfOk result (IsExpressionBound main.now q expression.now) }
 {
     match expression {
-        Expression::Name(name) => Ok(expression_of(locate(main, table, number, name.text.as_str()))),
+        Expression::Name(name) => {
+            let located = locate(main, table, number, name.text.as_str());
+            Ok(expression_of(located))
+        }
         Expression::Number(value) => Ok(BoundExpression::Number(*value)),
         Expression::Negate(inner) => {
             let inner = bind_expression(alloc, main, table, number, inner)?;

@@ -88,11 +88,7 @@ fn variable(machine: &Machine, frame: usize, level: usize, index: usize) -> i64
 }
 
 // The value of a bound expression in a frame of its block, the left operand first.
-fn value_of(
-    machine: &Machine,
-    frame: usize,
-    expression: &BoundExpression,
-) -> Result<i64, EvalFault>
+fn value_of(machine: &Machine, frame: usize, expression: &BoundExpression) -> Result<i64, EvalFault>
     requires { CanRead (frames machine.now) frame expression.now }
     ensures { bound_value (frames machine.now) frame expression.now ≡ told result }
 {
@@ -160,11 +156,7 @@ fn name_value(machine: &Machine, frame: usize, text: &str) -> i64
 /// # Errors
 ///
 /// The first fault, the left operand first.
-pub fn evaluate(
-    machine: &Machine,
-    frame: usize,
-    expression: &Expression,
-) -> Result<i64, EvalFault>
+pub fn evaluate(machine: &Machine, frame: usize, expression: &Expression) -> Result<i64, EvalFault>
     requires { frame < depth_of machine.now }
     ensures { value (program machine.now) (frames machine.now) frame expression.now ≡ told result }
 {

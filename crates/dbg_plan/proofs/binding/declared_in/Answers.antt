@@ -1,4 +1,4 @@
-use Rattle.std.proofs.Common.{rules, ◌≡◌, Bool, true, false, Option, Some, None, FitsSigned, w64, ℕ, ℤ, refl, sym, ap, ◌∙◌}
+use Rattle.std.proofs.Common.{rules, ◌≡◌, Some, None, FitsSigned, w64, refl, sym, ap, ◌∙◌}
 use Rattle.std.specs.Prelude.{find, position, option_map}
 use Rattle.std.specs.List.{list_any}
 use Rattle.std.proofs.lemmas.Int.{to_z-of_z}

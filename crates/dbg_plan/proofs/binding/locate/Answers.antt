@@ -1,4 +1,4 @@
-use Rattle.std.proofs.Common.{arith, ap, sym, ◌∙◌, refl}
+use Rattle.std.proofs.Common.{arith}
 use Rattle.dbg_plan.proofs.BoundWalk.{levels_few, found_here, found_nowhere, walk_on}
 use Rattle.dbg_plan.proofs.binding.locate.Goals as goal
 

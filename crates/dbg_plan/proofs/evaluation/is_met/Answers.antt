@@ -1,4 +1,4 @@
-use Rattle.std.proofs.Common.{◌-◌, Some, length, ap, subst, arith}
+use Rattle.std.proofs.Common.{◌-◌, ap, subst}
 use Rattle.pl0_machine.specs.Machine.{program, frames}
 use Rattle.dbg_plan.specs.Plans.{IsGuardAt}
 use Rattle.dbg_plan.proofs.ValuesMet.{IsTested, is_tested, holds_told}

@@ -1,4 +1,4 @@
-use Rattle.std.proofs.Common.{rules, ◌≡◌, ◌∙◌, Some, FitsSigned, w64, length, slice_get, sym, ap, subst}
+use Rattle.std.proofs.Common.{rules, ◌≡◌, ◌∙◌, Some, FitsSigned, w64, slice_get, sym, subst}
 use Rattle.std.proofs.lemmas.Int.{to_z-of_z}
 use Rattle.pl0_tree.specs.Scope.{Path, home}
 use Rattle.pl0_tree.specs.Steps.{blocks}

@@ -1,4 +1,4 @@
-use Rattle.std.proofs.Common.{◌≡◌, ◌-◌, ◌≤◌, IsSome, arith, ap, ◌∙◌, sym, subst}
+use Rattle.std.proofs.Common.{◌≡◌, ◌-◌, IsSome, arith, ap, ◌∙◌, sym, subst}
 use Rattle.pl0_meaning.specs.Values.{number_of, frame_at}
 use Rattle.pl0_machine.specs.Machine.{frames}
 use Rattle.dbg_plan.specs.Reads.{number_up}
