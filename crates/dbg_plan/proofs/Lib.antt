@@ -1,4 +1,16 @@
 pub mod Walk
 pub mod Tally
+pub mod Places
 pub mod Here
 pub mod Fresh
+pub mod HitNumbers
+pub mod Parts
+pub mod ByNumber
+pub mod ValuesUp
+pub mod ValuesHomes
+pub mod ValuesLinks
+pub mod ValuesBound
+pub mod ValuesMet
+pub mod BoundFirst
+pub mod BoundWalk
+pub mod ValuesNamed

@@ -39,14 +39,15 @@ ReadsRule text (Some rule) = (text ≡ rule_text rule) × (0 < rule_number rule)
 
 -- ---- answers
 
--- the condition of a line reads at step n
-pub record HasGuard (main : Block) (asked : Asked) (n : ℕ) : Type 0 where
+-- the text reads as a condition at step n, or is empty
+pub record HasGuard (main : Block) (n : ℕ) (text : List ℕ) : Type 0 where
   pub guard : Option Guard
-  pub reads : ReadsGuard main n (string_bytes asked.condition) guard
+  pub reads : ReadsGuard main n text guard
 
-pub record HasRule (asked : Asked) : Type 0 where
+-- the text reads as a rule, or is empty
+pub record HasRule (text : List ℕ) : Type 0 where
   pub rule : Option Rule
-  pub reads : ReadsRule (string_bytes asked.hit) rule
+  pub reads : ReadsRule text rule
 
 -- the breakpoint of a line that is answered with a step
 pub record IsBreakpointOf (main : Block) (asked : Asked) (n : ℕ) (b : Breakpoint) : Type 0 where
@@ -60,9 +61,9 @@ IsAnswered main asked (At n) bs =
     (step_from main asked.line ≡ Some n) × ((b : Breakpoint) × (bs ≡ b ∷ []) × IsBreakpointOf main asked n b)
 IsAnswered main asked NoStep bs = (step_from main asked.line ≡ None) × (bs ≡ [])
 IsAnswered main asked BadCondition bs =
-    (bs ≡ []) × ((n : ℕ) × (step_from main asked.line ≡ Some n) × (¬ HasGuard main asked n))
+    (bs ≡ []) × ((n : ℕ) × (step_from main asked.line ≡ Some n) × (¬ HasGuard main n (string_bytes asked.condition)))
 IsAnswered main asked BadHit bs =
-    (bs ≡ []) × (¬ HasRule asked) × ((n : ℕ) × (step_from main asked.line ≡ Some n) × HasGuard main asked n)
+    (bs ≡ []) × (¬ HasRule (string_bytes asked.hit)) × ((n : ℕ) × (step_from main asked.line ≡ Some n) × HasGuard main n (string_bytes asked.condition))
 
 -- Each line is answered, in order, and the breakpoints are those that the answers give, in order.
 abbrev pub AreAnswered : Block → List Asked → List Answer → List Breakpoint → Type 0

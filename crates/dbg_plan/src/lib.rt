@@ -6,14 +6,17 @@
 //! step's part of the table takes the counts of the whole list from one position to the next.
 #![tactic(auto)]
 
+mod binding;
 mod bound;
 mod breakpoint;
 mod counting;
 mod debuggee;
+mod evaluation;
 mod mode;
 mod plan;
 mod resolve;
-mod evaluation;
+mod rule;
+mod table;
 
 pub use bound::{BoundCondition, BoundExpression};
 pub use breakpoint::{Breakpoint, Guard, Rule};

@@ -1,9 +1,11 @@
 // A plan: the breakpoints of a program, by their steps.
 
-ghost use Rattle.std.specs.Prelude.{◌≡◌, ◌<◌, IsTrue, []};
+ghost use Rattle.std.specs.Prelude.{◌≡◌, ◌+◌, ◌<◌, ◌^◌, IsTrue, [], IfOk};
 
 use crate::breakpoint::Breakpoint;
+use crate::table::starts_of;
 use pl0_tree::StepNo;
+use std::alloc::{AllocError, Global};
 use std::marker::Model;
 
 /// The breakpoints of a program. Those of step s stand in `ordered` from `starts[s]` up to `starts[s + 1]`.
@@ -31,6 +33,22 @@ impl Model for Plan {
 
 impl Plan {
     ghost use Rattle.dbg_plan.specs.Plans.{those_of, IsNumbered};
+
+    /// The plan of these breakpoints, for a program of so many steps.
+    pub(crate) fn new(
+        alloc: Global,
+        steps: usize,
+        breakpoints: Vec<Breakpoint>,
+    ) -> Result<Plan, AllocError>
+        requires numbered { IsNumbered breakpoints.items }
+        requires room { steps + 1 < 2 ^ 64 }
+        ensures { IfOk result (λ plan. plan ≡ record { steps = steps; breakpoints = breakpoints.items }) }
+    {
+        let mut ordered = breakpoints;
+        ordered.sort_by_key(|breakpoint| breakpoint.step)?;
+        let starts = starts_of(alloc, &ordered, steps)?;
+        Ok(Plan { ordered, starts })
+    }
 
     /// Whether it has no breakpoint.
     pub fn is_empty(&self) -> bool

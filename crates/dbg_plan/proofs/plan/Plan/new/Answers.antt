@@ -1,0 +1,31 @@
+use Rattle.std.proofs.Common.{◌≡◌, ◌<◌, length, sym, subst, arith, rules}
+use Rattle.std.specs.List.Sorted.{IsNonDecreasingBy}
+use Rattle.std.proofs.lemmas.List.Sorted.{IsNonDecreasingBy-from_sort_by_key, answers_always}
+use Rattle.dbg_plan.specs.declared.breakpoint.Breakpoint.{Breakpoint}
+use Rattle.dbg_plan.specs.Plans.{IsNumbered}
+use Rattle.dbg_plan.specs.Table.{by_number}
+use Rattle.dbg_plan.proofs.ByNumber.{stays_in_order, by_number_is, part_is, listed_is}
+use Rattle.dbg_plan.proofs.plan.Plan.new.Goals as goal
+
+pub starts_of-requires-clause-ordered : goal.starts_of-requires-clause-ordered
+starts_of-requires-clause-ordered c =
+    subst (λ l. IsNonDecreasingBy (λ (b : Breakpoint). b.step) l) (sym c.deref.ensures.value)
+    (IsNonDecreasingBy-from_sort_by_key (λ (b : Breakpoint). b.step) c.sort_by_key.new.self.items c.in_ok-sort_by_key.ensures.sorted (λ a r q k. search rules))
+
+pub invariant_of-result : goal.invariant_of-result
+invariant_of-result c =
+    let bs = c.args.breakpoints.items in
+    let ordered = c.sort_by_key.new.self.items in
+    let long = c.in_ok-starts.ensures.long in
+    let is : by_number ordered 0 (length ordered) ≡ bs = by_number_is bs ordered c.requires.numbered.numbers c.in_ok-sort_by_key.ensures.permutation in
+    let stable = c.in_ok-sort_by_key.ensures.stable (λ (b : Breakpoint). b.step) (answers_always _ _ _ (λ f a r q k. search rules)) in
+    record {
+      numbered = subst (λ l. IsNumbered l) (sym is) c.requires.numbered;
+      parts = λ s lt. let below : s < c.args.steps = omega arith in
+          part_is bs ordered c.deref.result.now c.in_ok-starts.starts.items s c.deref.ensures.value is (stays_in_order bs ordered stable s) (c.in_ok-starts.ensures.parts s below);
+    }
+
+pub returns : goal.returns
+returns c =
+    let long = c.in_ok-starts.ensures.long in
+    listed_is _ _ _ _ (omega (arith, long)) (by_number_is c.args.breakpoints.items c.sort_by_key.new.self.items c.requires.numbered.numbers c.in_ok-sort_by_key.ensures.permutation)

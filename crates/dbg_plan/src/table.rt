@@ -1,0 +1,44 @@
+// How the table of a plan is made.
+
+ghost use Rattle.std.specs.Prelude.{◌≡◌, ℕ, ◌+◌, ◌<◌, ◌≤◌, ◌^◌, length, drop, IfOk};
+ghost use Rattle.std.specs.List.{prefix_len};
+ghost use Rattle.std.specs.List.Sorted.{IsNonDecreasingBy};
+ghost use Rattle.dbg_plan.specs.Plans.{is_of, those_of};
+ghost use Rattle.dbg_plan.specs.Table.{IsPart};
+
+use crate::breakpoint::Breakpoint;
+use pl0_tree::StepNo;
+use std::alloc::{AllocError, Global};
+
+// Where the breakpoints of a step end that begin at `start`.
+fn end_of(ordered: &[Breakpoint], start: usize, step: StepNo) -> usize
+    requires { start ≤ length ordered.now }
+    ensures { result ≡ start + prefix_len (is_of step) (drop start ordered.now) }
+{
+    start
+        + ordered[start..]
+            .iter()
+            .take_while(|breakpoint| breakpoint.step == step)
+            .count()
+}
+
+/// Where the breakpoints of each step begin among all in the order of their steps, and where the last end.
+pub fn starts_of(
+    alloc: Global,
+    ordered: &[Breakpoint],
+    steps: usize,
+) -> Result<Vec<usize>, AllocError>
+    requires ordered { IsNonDecreasingBy (λ b. b.step) ordered.now }
+    requires room { steps + 1 < 2 ^ 64 }
+    ensures long { IfOk result (λ starts. length starts.items ≡ steps + 1) }
+    ensures parts { IfOk result (λ starts. (s : ℕ) → s < steps → IsPart ordered.now starts.items s (those_of s ordered.now)) }
+{
+    let mut starts = Vec::with_capacity(alloc, steps + 1)?;
+    let mut start = 0;
+    starts.push(start)?;
+    for step in 0..steps {
+        start = end_of(ordered, start, step);
+        starts.push(start)?;
+    }
+    Ok(starts)
+}
