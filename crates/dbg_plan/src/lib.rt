@@ -24,4 +24,4 @@ pub use debuggee::Debuggee;
 pub use evaluation::EvalFault;
 pub use mode::{Mode, Reason};
 pub use plan::Plan;
-pub use resolve::{Answer, Asked};
+pub use resolve::{Answer, Asked, resolve};

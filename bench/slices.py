@@ -1,0 +1,62 @@
+#!/usr/bin/env python3
+"""Times a debugged run, in slices, beside the bare machine's.
+
+usage: slices.py SPEED SLICES
+
+SPEED is pl0_speed, which steps the machine alone; SLICES is dbg_speed, which runs a debuggee in slices: without
+breakpoints, with one in the loop whose condition is false, and with 256 at lines that are never reached. All run the same
+text, in turn, so that whatever else the computer does slows each. The figures to hold: without breakpoints at least 0.8
+of the machine's steps a second; with 256 elsewhere the same within 5 per cent; with a false condition at least a quarter.
+"""
+import os
+import re
+import subprocess
+import sys
+import tempfile
+import time
+
+RUNS = 5
+TURNS = 20_000_000
+ELSEWHERE = 256
+
+
+def text() -> str:
+    """A loop, in front of which stands a procedure of many lines that nobody calls."""
+    idle = "".join(f"x := {number};\n" for number in range(ELSEWHERE))
+    return f"var x;\nprocedure idle;\nbegin\n{idle}end;\nwhile x < {TURNS} do\nx := x + 1.\n"
+
+
+def rate(words: list[str]) -> float:
+    """Steps a second, the command's start included."""
+    begin = time.monotonic()
+    said = subprocess.run(words, capture_output=True, text=True, check=True).stdout
+    seconds = time.monotonic() - begin
+    return int(re.search(r"after (\d+) steps", said).group(1)) / seconds
+
+
+def main() -> int:
+    speed, slices = (os.path.abspath(word) for word in sys.argv[1:3])
+    with tempfile.TemporaryDirectory() as room:
+        path = os.path.join(room, "loop.pl0")
+        with open(path, "w") as sink:
+            sink.write(text())
+        body = ELSEWHERE + 6
+        commands = {
+            "machine alone": [speed, path],
+            "slices, no breakpoints": [slices, path],
+            "256 breakpoints elsewhere": [slices, path, "4", str(ELSEWHERE)],
+            "a false condition in the loop": [slices, path, str(body), "1", "x < 0"],
+        }
+        best = dict.fromkeys(commands, 0.0)
+        for _ in range(RUNS):
+            for name, words in commands.items():
+                best[name] = max(best[name], rate(words))
+        machine, free = best["machine alone"], best["slices, no breakpoints"]
+        print(f"{'run':32} {'million steps/s':>16} {'of the machine':>15} {'of no breakpoints':>18}")
+        for name, found in best.items():
+            print(f"{name:32} {found / 1e6:16.1f} {found / machine:15.2f} {found / free:18.2f}")
+    return 0
+
+
+if __name__ == "__main__":
+    sys.exit(main())
