@@ -4,7 +4,7 @@ PROGRAM = crates/pl0dap/out/pl0dap
 SPEED = crates/pl0_speed/out/pl0_speed
 SOURCES = crates.txt $(shell find crates -name out -prune -o -type f \( -name '*.rt' -o -name '*.antt' \) -print)
 
-.PHONY: build demo check install bench
+.PHONY: build demo rows check install bench
 
 build: $(PROGRAM)
 
@@ -21,6 +21,10 @@ $(SPEED): $(SOURCES)
 # A stored debug session, its frames printed in readable form.
 demo: $(PROGRAM)
 	python3 demo/session.py $(PROGRAM) demo/hello.session
+
+# Worked inputs, whole, a byte at a time and cut at many places, with what must come out.
+rows: $(PROGRAM)
+	python3 demo/rows.py $(PROGRAM)
 
 # The merge gate: proves everything from nothing, and runs everything.
 check:

@@ -11,11 +11,12 @@ use Rattle.pl0_meaning.specs.declared.RunFault.TheVariants.{Depth, StepLimit}
 use Rattle.pl0_meaning.specs.Values.{Frame, Configuration, path_eq, frame_at, find, value, truth}
 use Rattle.pl0_meaning.specs.Runs.{opened, Outcome, Goes, Faults, Over, on_value, with_number_at, declared_assigned, assigned, new_frame, frame_limit, entered, declared_called, called, rest_of, returned, statement_step, frame_step, step, step_at, last_position, start, next_of, at, after_step, outcome_from}
 use Rattle.pl0_machine.specs.Frames.{AreLinked}
-use Rattle.pl0_machine.specs.Laws.{NothingIsStuck, NothingFollowsTheEnd, FramesAreLinked, FramesAreFew}
+use Rattle.pl0_machine.specs.Laws.{NothingIsStuck, NothingFollowsTheEnd, FramesAreLinked, FramesFit, FramesAreFew}
 use Rattle.pl0_machine.proofs.Doable.{Doable, doable_append, opened_doable, body_doable}
 use Rattle.pl0_machine.proofs.Homes.{home_is}
 use Rattle.pl0_machine.proofs.Links.{frame_at-top, frame_at-below, find-top, find-below, frame_within, found}
 use Rattle.pl0_machine.proofs.Images.{SameFrames, same_frames, same_length, same_linked, with_number_same}
+use Rattle.pl0_machine.proofs.Names.{frame_of}
 use Rattle.pl0_machine.proofs.Statements.{doing, linked_doing}
 
 -- ---- what each step keeps
@@ -257,6 +258,9 @@ nothing_follows main n e =
 
 pub frames_are_linked : FramesAreLinked
 frames_are_linked main n c e = (kept_at main n c e).linked
+
+pub frames_fit : FramesFit
+frames_fit main n i c f e there = frame_of main c i f (kept_at main n c e).linked there
 
 pub frames_are_few : FramesAreFew
 frames_are_few main n c e = (kept_at main n c e).few

@@ -1,4 +1,4 @@
-use Rattle.pl0_machine.proofs.Lawfully.{nothing_is_stuck, nothing_follows, frames_are_linked, frames_are_few}
+use Rattle.pl0_machine.proofs.Lawfully.{nothing_is_stuck, nothing_follows, frames_are_linked, frames_fit, frames_are_few}
 use Rattle.pl0_machine.proofs.laws.machine_laws.Goals as goal
 
 pub returns-clause-not_stuck : goal.returns-clause-not_stuck
@@ -9,6 +9,9 @@ returns-clause-last c = nothing_follows
 
 pub returns-clause-linked : goal.returns-clause-linked
 returns-clause-linked c = frames_are_linked
+
+pub returns-clause-fit : goal.returns-clause-fit
+returns-clause-fit c = frames_fit
 
 pub returns-clause-few : goal.returns-clause-few
 returns-clause-few c = frames_are_few

@@ -1,0 +1,11 @@
+//! `pl0dap` once more, for the stored run of `--check` on a lawful program.
+#![tactic(auto)]
+
+use pl0_adapter::{Reading, Writing, run};
+use std::process::ExitCode;
+
+fn main(rt: HostRuntime) -> ExitCode {
+    let input = &mut Reading::new(rt.stdin());
+    let output = &mut Writing::new(rt.stdout());
+    ExitCode::from(run(&rt, input, output).status())
+}
