@@ -4,4 +4,9 @@ pub mod Here
 pub mod Fresh
 pub mod HitNumbers
 pub mod Parts
+pub mod Resolving
+pub mod StepLines
+pub mod Texts
+pub mod UnitBlocks
+pub mod Guards
 pub mod ByNumber
