@@ -1,6 +1,7 @@
 # The kit's command `rt` proves, builds and runs: `rt doc` prints its first page.
 PREFIX ?= /usr/local
 PROGRAM = crates/pl0dap/out/pl0dap
+SPEED = crates/pl0_speed/out/pl0_speed
 SOURCES = crates.txt $(shell find crates -name out -prune -o -type f \( -name '*.rt' -o -name '*.antt' \) -print)
 
 .PHONY: build demo check install bench
@@ -10,6 +11,11 @@ build: $(PROGRAM)
 # `rt run` proves, builds and runs the program; with no input it serves nobody and ends.
 $(PROGRAM): $(SOURCES)
 	cd crates/pl0dap && rt run < /dev/null
+	touch $@
+
+# Steps a program's machine and does nothing else.
+$(SPEED): $(SOURCES)
+	cd crates/pl0_speed && rt run -- data/count.pl0
 	touch $@
 
 # A stored debug session, its frames printed in readable form.
@@ -23,5 +29,6 @@ check:
 install: $(PROGRAM)
 	install -D $(PROGRAM) $(DESTDIR)$(PREFIX)/bin/pl0dap
 
-bench: $(PROGRAM)
+bench: $(PROGRAM) $(SPEED)
 	python3 bench/throughput.py $(PROGRAM)
+	python3 bench/machine.py $(PROGRAM) $(SPEED)

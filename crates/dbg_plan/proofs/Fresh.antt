@@ -1,4 +1,5 @@
 -- A debuggee with a new plan.
+use Rattle.pl0_machine.specs.Machine.{program}
 use Rattle.std.proofs.Common.{◌≡◌, ℕ, length, replicate, slice_index, refl, arith, subst, sym, ◌∙◌, zero, suc, ap}
 use Rattle.dbg_plan.specs.declared.debuggee.Debuggee.TheInside.{Inside}
 use Rattle.dbg_plan.specs.Plans.{IsNumbered}

@@ -1,25 +1,21 @@
 -- One more position considered: the counts and what is due, over plain variables.
-use Rattle.std.proofs.Common.{◌≡◌, ℕ, zero, suc, ◌+◌, ◌*◌, ◌%◌, ◌<◌, ◌≤◌, Bool, true, false, List, [], ◌∷◌, length, slice_index, Option, Some, None, ap, sym, ◌∙◌, refl, subst, arith, All, add-one}
-use Rattle.std.specs.Prelude.{◌&&◌, nat_le, if◌then◌else◌, option_and_then}
-use Rattle.std.proofs.lemmas.Bool.Decides.{nat_tests}
+use Rattle.std.proofs.Common.{◌≡◌, ◌≢◌, ◌⊎◌, inl, inr, cond, nat_eq, ℕ, zero, suc, ◌+◌, ◌*◌, ◌%◌, ◌<◌, ◌≤◌, Bool, true, false, List, [], ◌∷◌, length, slice_index, Option, Some, None, ap, sym, ◌∙◌, refl, subst, arith, All, add-one, map}
+use Rattle.std.specs.Prelude.{◌&&◌, nat_le, if◌then◌else◌}
+use Rattle.std.proofs.lemmas.Bool.Decides.{nat_tests, eqb_tells}
 use Rattle.pl0_tree.specs.declared.tree.Block.{Block}
-use Rattle.pl0_meaning.specs.Values.{Configuration}
-use Rattle.pl0_machine.specs.Machine.{Standing, configuration}
-use Rattle.pl0_machine.specs.Places.{place_of}
+use Rattle.pl0_tree.specs.Steps.{steps}
+use Rattle.pl0_tree.specs.Ascending.{Ascend}
+use Rattle.pl0_machine.specs.Machine.{Standing, program, configuration, frames, top_of, IsNext}
 use Rattle.dbg_plan.specs.declared.breakpoint.Breakpoint.{Breakpoint}
 use Rattle.dbg_plan.specs.declared.breakpoint.Rule.{Rule}
 use Rattle.dbg_plan.specs.declared.breakpoint.Rule.TheVariants.{From, Every}
 use Rattle.std.proofs.lemmas.Nat.{mod-mul-add}
 use Rattle.std.proofs.lemmas.List.Elements.{All-cons, All-filter}
-use Rattle.dbg_plan.specs.Due.{arrives_at, arrives_in, arrivals, is_number, holds}
-use Rattle.dbg_plan.specs.Plans.{Listed, IsNumbered, AreNumbered, those_of, is_of, IsRule}
-use Rattle.dbg_plan.specs.Counting.{holds_now, holds_in, counted, any_due, AreCounts, CountFrom, CountsOn, breakpoints_of, reduced}
+use Rattle.dbg_plan.specs.Due.{arrives_at, arrivals}
+use Rattle.dbg_plan.specs.Plans.{Listed, IsNumbered, AreNumbered, AreAtSteps, IsGuardAt, those_of, is_of, IsRule}
+use Rattle.dbg_plan.specs.Counting.{holds_now, IsMetHere, counted, any_due, AreCounts, CountFrom, CountsOn, breakpoints_of, reduced}
+use Rattle.dbg_plan.proofs.Places.{arrives_here}
 use Rattle.dbg_plan.proofs.Tally.{tally, tally_due}
-
--- where the program stands at step p, those of its breakpoints arrive whose condition holds
-arrives_here : (main : Block) (c : Option Configuration) (p : ℕ) → option_and_then (place_of main) c ≡ Some p → (b : Breakpoint) → (is_of p b && holds_in main c b.condition) ≡ arrives_in main b c
-arrives_here main None p here b = cc
-arrives_here main (Some c) p here b = ap (λ o. is_number b.step o && holds main c b.condition) (sym here)
 
 le_true : (t m : ℕ) → t ≤ m → nat_le t m ≡ true
 le_true t m le = grind (arith, nat_tests)
@@ -28,7 +24,7 @@ le_true t m le = grind (arith, nat_tests)
 arrivals_rise : (main : Block) (b : Breakpoint) (first m : ℕ) → first ≤ m → arrivals main b first (m + 1) ≡ (if arrives_at main b m then arrivals main b first m + 1 else arrivals main b first m)
 arrivals_rise main b first m le = rw add-one (ap (λ (v : Bool). if v && arrives_at main b m then arrivals main b first m + 1 else arrivals main b first m) (le_true first m le))
 
-module _ (m : Standing) (p : ℕ) (here : option_and_then (place_of (program m)) (configuration m) ≡ Some p) (bs : List Breakpoint) (numbered : IsNumbered bs) (counts : List ℕ) (room : length counts ≡ 256) where
+module _ (m : Standing) (ascend : ∥ Ascend (map (λ step. step.place) (steps (program m))) ∥₁) (p : ℕ) (here : IsNext (program m) (top_of (frames m)) p) (bs : List Breakpoint) (numbered : IsNumbered bs) (counts : List ℕ) (room : length counts ≡ 256) where
   pub counts_on : (first : ℕ) → first ≤ m.position → AreCounts (program m) bs first m.position counts → CountsOn (program m) bs m.position first counts (any_due (holds_now m) (those_of p bs) counts) (counted (holds_now m) (those_of p bs) counts)
   counts_on first le h =
       let main = (program m) in
@@ -36,7 +32,7 @@ module _ (m : Standing) (p : ℕ) (here : option_and_then (place_of (program m))
       let a : Breakpoint → Bool = λ b. arrives_at main b m.position in
       let old : Breakpoint → ℕ = λ b. arrivals main b first m.position in
       let new : Breakpoint → ℕ = λ b. arrivals main b first (m.position + 1) in
-      let agree = arrives_here main (configuration m) p here in
+      let agree = arrives_here main ascend (configuration m) p here in
       let rises : (b : Breakpoint) → new b ≡ (if a b then old b + 1 else old b) = λ b. arrivals_rise main b first m.position le in
       record {
         counts = tally (is_of p) (holds_now m) a old new agree rises bs 0 counts numbered.numbers (omega arith) h;
@@ -44,13 +40,13 @@ module _ (m : Standing) (p : ℕ) (here : option_and_then (place_of (program m))
       }
 
 -- what the code's walk leaves, by what it knows of the plan and its entry
-pub goes_on : (m : Standing) (p : ℕ) → option_and_then (place_of (program m)) (configuration m) ≡ Some p → (plan : Option Listed) (listed : Listed) → plan ≡ Some listed → IsNumbered listed.breakpoints → (entry : List Breakpoint) → entry ≡ those_of p listed.breakpoints → (counts : List ℕ) → length counts ≡ 256 → (due : Bool) (new : List ℕ) → due ≡ any_due (holds_now m) entry counts → new ≡ counted (holds_now m) entry counts → (first : ℕ) → first ≤ m.position → AreCounts (program m) (breakpoints_of plan) first m.position counts → CountsOn (program m) (breakpoints_of plan) m.position first counts due new
-goes_on m p here plan listed is numbered entry entry_is counts room due new due_is new_is first le h =
+pub goes_on : (m : Standing) → ∥ Ascend (map (λ step. step.place) (steps (program m))) ∥₁ → (p : ℕ) → IsNext (program m) (top_of (frames m)) p → (plan : Option Listed) (listed : Listed) → plan ≡ Some listed → IsNumbered listed.breakpoints → (entry : List Breakpoint) → entry ≡ those_of p listed.breakpoints → (counts : List ℕ) → length counts ≡ 256 → (due : Bool) (new : List ℕ) → due ≡ any_due (holds_now m) entry counts → new ≡ counted (holds_now m) entry counts → (first : ℕ) → first ≤ m.position → AreCounts (program m) (breakpoints_of plan) first m.position counts → CountsOn (program m) (breakpoints_of plan) m.position first counts due new
+goes_on m ascend p here plan listed is numbered entry entry_is counts room due new due_is new_is first le h =
     let main = (program m) in
     let f = holds_now m in
     let bs = listed.breakpoints in
     let old : AreCounts main bs first m.position counts = subst (λ q. AreCounts main (breakpoints_of q) first m.position counts) is h in
-    let on = counts_on m p here bs numbered counts room first le old in
+    let on = counts_on m ascend p here bs numbered counts room first le old in
     let at_plan : CountsOn main (breakpoints_of plan) m.position first counts (any_due f (those_of p bs) counts) (counted f (those_of p bs) counts) = subst (λ q. CountsOn main (breakpoints_of q) m.position first counts (any_due f (those_of p bs) counts) (counted f (those_of p bs) counts)) (sym is) on in
     let at_entry : CountsOn main (breakpoints_of plan) m.position first counts (any_due f entry counts) (counted f entry counts) = subst (λ es. CountsOn main (breakpoints_of plan) m.position first counts (any_due f es counts) (counted f es counts)) (sym entry_is) at_plan in
     let at_due : CountsOn main (breakpoints_of plan) m.position first counts due (counted f entry counts) = subst (λ d. CountsOn main (breakpoints_of plan) m.position first counts d (counted f entry counts)) (sym due_is) at_entry in
@@ -68,6 +64,20 @@ pub within : (bs : List Breakpoint) → IsNumbered bs → (p : ℕ) (counts : Li
 within bs numbered p counts room =
     let few = numbered.few in
     All-filter (is_of p) (λ b. b.number < length counts) bs (are_below bs 0 (length counts) numbered.numbers (omega arith))
+
+met_here : (m : Standing) (p : ℕ) → IsNext (program m) (top_of (frames m)) p → (b : Breakpoint) (bs : List Breakpoint) → IsGuardAt (program m) b.step b.guard → All (IsMetHere m) (those_of p bs) → All (IsMetHere m) (those_of p (b ∷ bs))
+met_here m p next b bs bound rest = by_step (eqb_tells p b.step)
+  where
+    by_step : ((nat_eq p b.step ≡ true) × (p ≡ b.step)) ⊎ ((nat_eq p b.step ≡ false) × (p ≢ b.step)) → All (IsMetHere m) (those_of p (b ∷ bs))
+    by_step (inl same) =
+        subst (λ v. All (IsMetHere m) (cond v (b ∷ those_of p bs) (those_of p bs))) (sym same.0)
+        (All-cons (IsMetHere m) b (those_of p bs) (record { next = subst (λ n. IsNext (program m) (top_of (frames m)) n) same.1 next; bound = bound }) rest)
+    by_step (inr other) = subst (λ v. All (IsMetHere m) (cond v (b ∷ those_of p bs) (those_of p bs))) (sym other.0) rest
+
+-- the machine stands at the step of each of its breakpoints, whose conditions are bound there
+pub are_met : (m : Standing) (p : ℕ) → IsNext (program m) (top_of (frames m)) p → (bs : List Breakpoint) → AreAtSteps (program m) bs → All (IsMetHere m) (those_of p bs)
+are_met m p next [] bound = λ k d lt. absurd (omega arith)
+are_met m p next (b ∷ bs) bound = met_here m p next b bs bound.1 (are_met m p next bs bound.2)
 
 -- ---- a new plan
 

@@ -1,5 +1,6 @@
 pub mod Walk
 pub mod Tally
+pub mod Places
 pub mod Here
 pub mod Fresh
 pub mod HitNumbers
@@ -10,3 +11,11 @@ pub mod Texts
 pub mod UnitBlocks
 pub mod Guards
 pub mod ByNumber
+pub mod ValuesUp
+pub mod ValuesHomes
+pub mod ValuesLinks
+pub mod ValuesBound
+pub mod ValuesMet
+pub mod BoundFirst
+pub mod BoundWalk
+pub mod ValuesNamed

@@ -1,5 +1,5 @@
 -- Expressions and conditions whose names were looked up once.
-use Rattle.std.specs.Prelude.{◌≡◌, ℕ, Option, Some, None, ℤ, pos}
+use Rattle.std.specs.Prelude.{◌≡◌, Option, Some, None, ℤ, pos}
 use Rattle.pl0_tree.specs.declared.tree.Block.{Block}
 use Rattle.pl0_tree.specs.declared.tree.Expression.{Expression}
 use Rattle.pl0_tree.specs.declared.tree.Expression.TheVariants.{Name as Named, Number, Negate', Binary'}

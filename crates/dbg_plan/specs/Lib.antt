@@ -8,3 +8,4 @@ pub mod Table
 pub mod Values
 pub mod Counting
 pub mod Counts
+pub mod Reads

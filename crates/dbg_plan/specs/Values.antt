@@ -1,5 +1,5 @@
 -- What an evaluation is told as.
-use Rattle.std.specs.Prelude.{Result, Ok, Err, ℤ}
+use Rattle.std.specs.Prelude.{Result, Ok, Err}
 use Rattle.pl0_meaning.specs.declared.RunFault.{RunFault}
 use Rattle.pl0_meaning.specs.declared.RunFault.TheVariants as run_fault
 use Rattle.dbg_plan.specs.declared.evaluation.EvalFault.{EvalFault}

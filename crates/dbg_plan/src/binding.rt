@@ -1,16 +1,134 @@
-// Looks up the names of a condition.
+// Looks names up by their text.
 
-ghost use Rattle.std.specs.Prelude.{◌≡◌, ◌<◌, length, slice_get, Some, IfOk};
-ghost use Rattle.pl0_tree.specs.Scope.{Path};
+ghost use Rattle.std.specs.Prelude.{ℕ, ◌≡◌, ◌<◌, length, slice_get, option_map, find, position, Some, IfOk};
+ghost use Rattle.std.specs.List.{list_any};
+ghost use Rattle.std.specs.Str.{bytes_eq};
+ghost use Rattle.pl0_tree.specs.Scope.{Path, word, first_declaration, home};
 ghost use Rattle.pl0_tree.specs.Steps.{blocks};
 ghost use Rattle.pl0_tree.specs.Blocks.{AreNestings};
-ghost use Rattle.dbg_plan.specs.Bound.{IsConditionBound};
+ghost use Rattle.pl0_tree.specs.declared.tree.Procedure.{out-Procedure};
+ghost use Rattle.dbg_plan.specs.Bound.{IsNameBound, IsExpressionBound, IsConditionBound};
+ghost use Rattle.dbg_plan.specs.Reads.{located, bound_of};
 
-use crate::bound::BoundCondition;
-use pl0_tree::{Block, Condition, Nesting};
+use crate::bound::{BoundCondition, BoundExpression};
+use pl0_names::block;
+use pl0_tree::{Block, Condition, Constant, Expression, Name, Nesting, Procedure};
 use std::alloc::{AllocError, Global};
 
-/// A condition with its names looked up for the block of a number, of a program with this table of blocks.
+/// What a name stands for in the frames of a block.
+#[derive(Clone, Copy, Debug, PartialEq, Eq)]
+pub enum Located {
+    Number(i64),
+    /// A variable: how many static links lead to its frame, and its index there.
+    Variable { level: usize, index: usize },
+}
+
+fn constant_in(constants: &[Constant], text: &str) -> Option<i64>
+    ensures { result ≡ option_map (λ c. c.value) (find (λ c. bytes_eq (word c.name) text.now) constants.now) }
+{
+    constants
+        .iter()
+        .find(|constant| constant.name.text.as_str() == text)
+        .map(|constant| constant.value)
+}
+
+fn variable_in(variables: &[Name], text: &str) -> Option<usize>
+    ensures { result ≡ position (λ x. bytes_eq (word x) text.now) variables.now }
+{
+    variables.iter().position(|name| name.text.as_str() == text)
+}
+
+fn has_procedure(procedures: &[Procedure], text: &str) -> bool
+    ensures { result ≡ list_any (λ p. bytes_eq (word (out-Procedure p).name) text.now) procedures.now }
+{
+    procedures
+        .iter()
+        .any(|procedure| procedure.name.text.as_str() == text)
+}
+
+// What a block declares a name as, for the frames of a block so many levels further in. A procedure counts as 0.
+fn declared_in(block: &Block, level: usize, text: &str) -> Option<Located>
+    ensures { result ≡ option_map (λ d. located block.now level d.meaning) (first_declaration text.now block.now) }
+{
+    if let Some(value) = constant_in(&block.constants, text) {
+        return Some(Located::Number(value));
+    }
+    if let Some(index) = variable_in(&block.variables, text) {
+        return Some(Located::Variable { level, index });
+    }
+    if has_procedure(&block.procedures, text) {
+        return Some(Located::Number(0));
+    }
+    None
+}
+
+/// What a name stands for in the block of a number, of a program with this table of blocks: what the nearest block that
+/// declares it says, from that one outward. A name that can't be read counts as 0.
+pub fn locate(main: &Block, table: &[Option<Nesting>], number: u32, text: &str) -> Located
+    requires table { AreNestings main.now table.now (blocks main.now) }
+    requires within { number < length table.now }
+    ensures { (q : Path) → slice_get (blocks main.now) number ≡ Some q → IsNameBound main.now q (home main.now q text.now) (bound_of result) }
+{
+    let mut around = number;
+    let mut level = 0;
+    loop {
+        let declaring = block(main, table, around);
+        if let Some(located) = declared_in(declaring, level, text) {
+            return located;
+        }
+        match table[around as usize] {
+            None => return Located::Number(0),
+            Some(nesting) => {
+                around = nesting.outer;
+                level += 1;
+            }
+        }
+    }
+}
+
+// A name that was looked up, as an expression.
+fn expression_of(located: Located) -> BoundExpression
+    ensures { result ≡ bound_of located }
+{
+    match located {
+        Located::Number(number) => BoundExpression::Number(number),
+        Located::Variable { level, index } => BoundExpression::Variable { level, index },
+    }
+}
+
+fn bind_expression(
+    alloc: Global,
+    main: &Block,
+    table: &[Option<Nesting>],
+    number: u32,
+    expression: &Expression,
+) -> Result<BoundExpression, AllocError>
+    requires table { AreNestings main.now table.now (blocks main.now) }
+    requires within { number < length table.now }
+    ensures { (q : Path) → slice_get (blocks main.now) number ≡ Some q → IfOk result (IsExpressionBound main.now q expression.now) }
+{
+    match expression {
+        Expression::Name(name) => {
+            let located = locate(main, table, number, name.text.as_str());
+            Ok(expression_of(located))
+        }
+        Expression::Number(value) => Ok(BoundExpression::Number(*value)),
+        Expression::Negate(inner) => {
+            let inner = bind_expression(alloc, main, table, number, inner)?;
+            Ok(BoundExpression::Negate(Box::new(alloc, inner)?))
+        }
+        Expression::Binary(operator, left, right) => {
+            let left = bind_expression(alloc, main, table, number, left)?;
+            let right = bind_expression(alloc, main, table, number, right)?;
+            let left = Box::new(alloc, left)?;
+            let right = Box::new(alloc, right)?;
+            Ok(BoundExpression::Binary(*operator, left, right))
+        }
+    }
+}
+
+/// A condition with its names looked up for the block of a number, of a program with this table of blocks. It fails for want
+/// of memory alone.
 pub fn bind_condition(
     alloc: Global,
     main: &Block,
@@ -22,10 +140,15 @@ pub fn bind_condition(
     requires within { number < length table.now }
     ensures { (q : Path) → slice_get (blocks main.now) number ≡ Some q → IfOk result (IsConditionBound main.now q condition.now) }
 {
-    let _ = alloc;
-    let _ = main;
-    let _ = table;
-    let _ = number;
-    let _ = condition;
-    Err(AllocError)
+    match condition {
+        Condition::Odd(expression) => {
+            let bound = bind_expression(alloc, main, table, number, expression)?;
+            Ok(BoundCondition::Odd(bound))
+        }
+        Condition::Compare(relation, left, right) => {
+            let left = bind_expression(alloc, main, table, number, left)?;
+            let right = bind_expression(alloc, main, table, number, right)?;
+            Ok(BoundCondition::Compare(*relation, left, right))
+        }
+    }
 }

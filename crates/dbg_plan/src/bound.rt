@@ -7,10 +7,7 @@ use pl0_tree::{Operator, Relation};
 pub enum BoundExpression {
     Number(i64),
     /// A variable: how many static links lead to its frame, and its index there.
-    Variable {
-        level: usize,
-        index: usize,
-    },
+    Variable { level: usize, index: usize },
     Negate(Box<BoundExpression>),
     Binary(Operator, Box<BoundExpression>, Box<BoundExpression>),
 }

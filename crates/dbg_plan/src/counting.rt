@@ -23,13 +23,7 @@ fn increase(rule: Option<Rule>, count: u32) -> u32
 {
     match rule {
         None => count,
-        Some(Rule::From(k)) => {
-            if count < k {
-                count + 1
-            } else {
-                count
-            }
-        }
+        Some(Rule::From(k)) => { if count < k { count + 1 } else { count } }
         Some(Rule::Every(k)) => {
             if count < k.saturating_sub(1) {
                 count + 1

@@ -1,15 +1,19 @@
 // The values of expressions and conditions in the frames of a machine.
 
-ghost use Rattle.std.specs.Prelude.{◌≡◌, ◌<◌};
-ghost use Rattle.pl0_meaning.specs.Values.{value};
+ghost use Rattle.std.specs.Prelude.{◌≡◌, ◌<◌, IsSome, Some, neg_ℤ};
+ghost use Rattle.pl0_meaning.specs.Values.{value, name_number, or_zero, operation, comparison, checked, is_odd};
 ghost use Rattle.pl0_machine.specs.Machine.{program, frames, depth_of};
 ghost use Rattle.dbg_plan.specs.Debugged.{IsRunning};
 ghost use Rattle.dbg_plan.specs.Values.{told};
+ghost use Rattle.dbg_plan.specs.Reads.{number_up, bound_value, bound_truth, CanRead, CanTest};
 ghost use Rattle.dbg_plan.specs.Counting.{holds_now, IsMetHere};
 
+use crate::binding::{Located, locate};
+use crate::bound::{BoundCondition, BoundExpression};
 use crate::breakpoint::Breakpoint;
 use pl0_machine::Machine;
-use pl0_tree::Expression;
+use pl0_tree::{Expression, Operator, Relation};
+use pl0_unit::Unit;
 
 /// Why an evaluation has no result.
 #[derive(Clone, Copy, Debug, PartialEq, Eq)]
@@ -19,28 +23,151 @@ pub enum EvalFault {
     DivideByZero,
 }
 
+// An operation on two numbers. A quotient goes toward zero.
+#[inline]
+fn combine(operator: Operator, x: i64, y: i64) -> Result<i64, EvalFault>
+    ensures { operation operator x y ≡ told result }
+{
+    match operator {
+        Operator::Add => x.checked_add(y).ok_or(EvalFault::Overflow),
+        Operator::Subtract => x.checked_sub(y).ok_or(EvalFault::Overflow),
+        Operator::Multiply => x.checked_mul(y).ok_or(EvalFault::Overflow),
+        Operator::Divide => {
+            if y == 0 {
+                Err(EvalFault::DivideByZero)
+            } else {
+                x.checked_div(y).ok_or(EvalFault::Overflow)
+            }
+        }
+    }
+}
+
+// The negative of a number.
+#[inline]
+fn negated(x: i64) -> Result<i64, EvalFault>
+    ensures { checked (neg_ℤ x) ≡ told result }
+{
+    x.checked_neg().ok_or(EvalFault::Overflow)
+}
+
+#[inline]
+fn compare(relation: Relation, x: i64, y: i64) -> bool
+    ensures { result ≡ comparison relation x y }
+{
+    match relation {
+        Relation::Equal => x == y,
+        Relation::Unequal => x != y,
+        Relation::Less => x < y,
+        Relation::AtMost => x <= y,
+        Relation::Greater => x > y,
+        Relation::AtLeast => x >= y,
+    }
+}
+
+#[inline]
+fn odd(x: i64) -> bool
+    ensures { result ≡ is_odd x }
+{
+    x % 2 != 0
+}
+
+// The number of a variable in the frame to which so many links lead.
+#[inline]
+fn variable(machine: &Machine, frame: usize, level: usize, index: usize) -> i64
+    requires { IsSome (number_up (frames machine.now) level index frame) }
+    ensures { number_up (frames machine.now) level index frame ≡ Some result }
+{
+    let mut found = frame;
+    for _ in 0..level {
+        found = match machine.static_parent(found) {
+            Some(outer) => outer,
+            None => unreachable!(),
+        };
+    }
+    machine.value(found, index)
+}
+
+// The value of a bound expression in a frame of its block, the left operand first.
+fn value_of(machine: &Machine, frame: usize, expression: &BoundExpression) -> Result<i64, EvalFault>
+    requires { CanRead (frames machine.now) frame expression.now }
+    ensures { bound_value (frames machine.now) frame expression.now ≡ told result }
+{
+    match expression {
+        BoundExpression::Number(number) => Ok(*number),
+        BoundExpression::Variable { level, index } => Ok(variable(machine, frame, *level, *index)),
+        BoundExpression::Negate(inner) => negated(value_of(machine, frame, inner)?),
+        BoundExpression::Binary(operator, left, right) => {
+            let x = value_of(machine, frame, left)?;
+            let y = value_of(machine, frame, right)?;
+            combine(*operator, x, y)
+        }
+    }
+}
+
+// Whether a bound condition holds in a frame of its block.
+#[inline]
+fn truth_of(machine: &Machine, frame: usize, condition: &BoundCondition) -> Result<bool, EvalFault>
+    requires { CanTest (frames machine.now) frame condition.now }
+    ensures { bound_truth (frames machine.now) frame condition.now ≡ told result }
+{
+    match condition {
+        BoundCondition::Odd(expression) => Ok(odd(value_of(machine, frame, expression)?)),
+        BoundCondition::Compare(relation, left, right) => {
+            let x = value_of(machine, frame, left)?;
+            let y = value_of(machine, frame, right)?;
+            Ok(compare(*relation, x, y))
+        }
+    }
+}
+
 /// Whether the condition of a breakpoint at the machine's step holds, or has none or faults.
+#[inline]
 pub fn is_met(machine: &Machine, breakpoint: &Breakpoint) -> bool
     requires running { IsRunning machine.now }
     requires here { IsMetHere machine.now breakpoint.now }
     ensures { result ≡ holds_now machine.now breakpoint.now }
 {
-    let _ = machine;
-    let _ = breakpoint;
-    true
+    match &breakpoint.guard {
+        None => true,
+        Some(guard) => {
+            let top = machine.depth() - 1;
+            truth_of(machine, top, &guard.bound).unwrap_or(true)
+        }
+    }
 }
 
-/// The value of an expression in a frame.
-pub fn evaluate(
-    machine: &Machine,
-    frame: usize,
-    expression: &Expression,
-) -> Result<i64, EvalFault>
+// The number that a name stands for in a frame, 0 where the frame's block can't read it.
+fn name_value(machine: &Machine, frame: usize, text: &str) -> i64
+    requires { frame < depth_of machine.now }
+    ensures { result ≡ or_zero (name_number (program machine.now) (frames machine.now) frame text.now) }
+{
+    let depth = machine.depth();
+    prove!(frame < depth);
+    let unit: &Unit = machine.unit();
+    let view = machine.frame(frame);
+    match locate(&unit.tree.program, &unit.nestings, view.block, text) {
+        Located::Number(number) => number,
+        Located::Variable { level, index } => variable(machine, frame, level, index),
+    }
+}
+
+/// The value of an expression in a frame. A name that the frame's block can't read counts as 0.
+///
+/// # Errors
+///
+/// The first fault, the left operand first.
+pub fn evaluate(machine: &Machine, frame: usize, expression: &Expression) -> Result<i64, EvalFault>
     requires { frame < depth_of machine.now }
     ensures { value (program machine.now) (frames machine.now) frame expression.now ≡ told result }
 {
-    let _ = machine;
-    let _ = frame;
-    let _ = expression;
-    Ok(0)
+    match expression {
+        Expression::Name(name) => Ok(name_value(machine, frame, name.text.as_str())),
+        Expression::Number(number) => Ok(*number),
+        Expression::Negate(inner) => negated(evaluate(machine, frame, inner)?),
+        Expression::Binary(operator, left, right) => {
+            let x = evaluate(machine, frame, left)?;
+            let y = evaluate(machine, frame, right)?;
+            combine(*operator, x, y)
+        }
+    }
 }

@@ -18,3 +18,5 @@ mod Facts
 mod Keeping
 mod Starting
 mod Viewing
+mod Doable
+mod Lawfully

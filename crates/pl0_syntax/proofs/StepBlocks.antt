@@ -22,14 +22,15 @@ nestings_length main [] (q ∷ qs) h = absurd h
 nestings_length main (x ∷ table) [] h = absurd h
 nestings_length main (x ∷ table) (q ∷ qs) h = ap suc (nestings_length main table qs h.1)
 
-path_at : (main : Block) (ss : List Step) (ts : List StepAt) (n : ℕ) (s : Step) → AreSteps main ss ts → slice_get ss n ≡ Some s →
+-- a row of the table tells the block of its step
+pub path_at : (main : Block) (ss : List Step) (ts : List StepAt) (n : ℕ) (s : Step) → AreSteps main ss ts → slice_get ss n ≡ Some s →
     slice_get (blocks main) s.block ≡ Some (option_map_or (λ t. t.path) (slice_get ts n) [])
 path_at main [] ts n s h e = cc
 path_at main (x ∷ ss) [] n s h e = absurd h
 path_at main (x ∷ ss) (t ∷ ts) zero s h e = subst (λ z. slice_get (blocks main) z.block ≡ Some t.path) (same_Some x s e) h.0.block
 path_at main (x ∷ ss) (t ∷ ts) (suc n) s h e = path_at main ss ts n s h.1 e
 
--- the number that a step's row tells is that of the step's block
+-- the same of a row that was read
 pub block_of_row : (main : Block) (ss : List Step) (n : ℕ) (s : Step) → AreSteps main ss (steps main) → n < length (steps main) → s ≡ get_or ss n s →
     slice_get (blocks main) s.block ≡ Some (step_path main n)
 block_of_row main ss n s are within is =

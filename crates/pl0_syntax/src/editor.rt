@@ -13,7 +13,7 @@ use pl0_tree::{Condition, Expression, Nesting, StepNo, SyntaxFault, Tree};
 use std::alloc::{AllocError, Global};
 
 // The table of a program's blocks, and the number of the block of a step.
-fn block_of_step(
+fn editor_block(
     alloc: Global,
     tree: &Tree,
     step: StepNo,
@@ -55,7 +55,7 @@ pub fn parse_condition(
         Ok(condition) => condition,
         Err(unexpected) => return Err(unexpected),
     };
-    let (table, number) = match block_of_step(alloc, tree, step) {
+    let (table, number) = match editor_block(alloc, tree, step) {
         Ok(found) => found,
         Err(_) => return Err(SyntaxFault::NoMemory),
     };
@@ -91,7 +91,7 @@ pub fn parse_expression(
         Ok(expression) => expression,
         Err(unexpected) => return Err(unexpected),
     };
-    let (table, number) = match block_of_step(alloc, tree, step) {
+    let (table, number) = match editor_block(alloc, tree, step) {
         Ok(found) => found,
         Err(_) => return Err(SyntaxFault::NoMemory),
     };

@@ -2,9 +2,10 @@
 //!
 //! The one contract is that of [`parse`]: a text gives the tree that it reads as, which keeps the rules of names, or its
 //! first fault. [`parse_condition`] and [`parse_expression`] do the same for an editor's texts, with the names that a
-//! step can use, and by [`editor_laws`] no such text has both. The definitions stand in `pl0_tree`; this crate joins `pl0_lexer` (text to tokens), `pl0_parser` (tokens
-//! to tree, or the first token that can't stand) and `pl0_names` (the first name that is wrong). The places of tokens
-//! ascend, so the first name that `pl0_names` comes to is the first in the text.
+//! step can use, and by [`editor_laws`] no such text has both. The definitions stand in `pl0_tree`; this crate joins
+//! `pl0_lexer` (text to tokens), `pl0_parser` (tokens to tree, or the first token that can't stand) and `pl0_names` (the
+//! first name that is wrong). The places of tokens ascend, so the first name that `pl0_names` comes to is the first in the
+//! text.
 #![tactic(auto)]
 
 mod editor;
@@ -15,8 +16,8 @@ mod parsing;
 mod tests;
 
 pub use editor::{parse_condition, parse_expression};
-pub use laws::editor_laws;
-pub use numbering::{blocks, steps};
+pub use laws::{editor_laws, numbering_laws};
+pub use numbering::{block_of_step, blocks, steps};
 pub use parsing::parse;
 pub use pl0_names::{block, block_name};
 pub use pl0_tree::{

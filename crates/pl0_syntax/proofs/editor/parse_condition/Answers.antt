@@ -15,11 +15,11 @@ returns-in-Ok-check_condition_names-clause-condition c =
     let q = step_path c.args.tree.now.program c.args.step in
     condition_of _ q c.args.text.now _ (c.in-Ok.ensures.short (search rules)) c.in-Ok.ensures.tokens _ _
     (rw c.as_slice.ensures.value at c.in-Ok-parse_condition_text.ensures.reads) (rw c.as_slice.ensures.value at c.in-Ok-parse_condition_text.ensures.within)
-    (c.in-Ok-check_condition_names.ensures.lawful q c.in-Ok-block_of_step.ensures.block (search rules))
+    (c.in-Ok-check_condition_names.ensures.lawful q c.in-Ok-editor_block.ensures.block (search rules))
 
 pub returns-clause-fault : goal.returns-clause-fault
 returns-clause-fault c =
     let q = step_path c.args.tree.now.program c.args.step in
     name_condition _ q c.args.text.now _ (c.in-Ok.ensures.short (search rules)) c.in-Ok.ensures.tokens _ _ _ (c.lexer_laws.ensures.in_order c.args.text.now)
     (rw c.as_slice.ensures.value at c.in-Ok-parse_condition_text.ensures.reads) (rw c.as_slice.ensures.value at c.in-Ok-parse_condition_text.ensures.within)
-    (c.in-Err-check_condition_names.ensures.fault q c.in-Ok-block_of_step.ensures.block)
+    (c.in-Err-check_condition_names.ensures.fault q c.in-Ok-editor_block.ensures.block)

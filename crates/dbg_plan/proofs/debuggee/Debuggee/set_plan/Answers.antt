@@ -1,6 +1,7 @@
 use Rattle.std.proofs.Common.{refl, subst, sym}
+use Rattle.pl0_machine.specs.Machine.{program}
 use Rattle.dbg_plan.specs.Plans.{IsPlanOf, IsNumbered}
-use Rattle.dbg_plan.specs.Debugged.{Debugged}
+use Rattle.dbg_plan.specs.Debugged.{Debugged, program_of}
 use Rattle.dbg_plan.proofs.Fresh.{fresh}
 use Rattle.dbg_plan.proofs.debuggee.Debuggee.set_plan.Goals as goal
 

@@ -1,7 +1,7 @@
 use Rattle.std.proofs.Common.{arith}
 use Rattle.pl0_syntax.proofs.StepBlocks.{steps_length, block_of_row, number_within}
 use Rattle.pl0_tree.specs.Steps.{steps}
-use Rattle.pl0_syntax.proofs.editor.block_of_step.Goals as goal
+use Rattle.pl0_syntax.proofs.editor.editor_block.Goals as goal
 
 pub index-requires : goal.index-requires
 index-requires c =

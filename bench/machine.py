@@ -1,0 +1,61 @@
+#!/usr/bin/env python3
+"""Times the machine's steps beside those of a plain interpreter of the same code in C.
+
+usage: machine.py PROGRAM SPEED
+
+PROGRAM is pl0dap, whose `--check` gives the code to the C interpreter; SPEED is pl0_speed, which steps the machine. Both
+run each of bench/programs to its end, in turn, so that whatever else the computer does slows both. The figure to hold is
+0.8 of the C interpreter's steps per second.
+"""
+import os
+import re
+import subprocess
+import sys
+import tempfile
+import time
+
+HERE = os.path.dirname(os.path.abspath(__file__))
+RUNS = 4
+
+
+def rate(words: list[str]) -> tuple[int, float]:
+    """How many steps the command says that it took, and how many a second that is, the command's start included."""
+    begin = time.monotonic()
+    said = subprocess.run(words, capture_output=True, text=True, check=True).stdout
+    seconds = time.monotonic() - begin
+    steps = int(re.search(r"after (\d+) steps", said).group(1))
+    return steps, steps / seconds
+
+
+def row(name: str, machine: list[str], yardstick: list[str]) -> None:
+    """The best of some runs of each."""
+    best = [0.0, 0.0]
+    for _ in range(RUNS):
+        taken = []
+        for index, words in enumerate((machine, yardstick)):
+            steps, speed = rate(words)
+            taken.append(steps)
+            best[index] = max(best[index], speed)
+        if taken[0] != taken[1]:
+            sys.exit(f"{name}: {taken[0]} steps, and {taken[1]} in C")
+    ours, theirs = (speed / 1e6 for speed in best)
+    print(f"{name:10} {taken[0]:12,} {ours:10.1f} {theirs:10.1f} {ours / theirs:8.2f}")
+
+
+def main() -> int:
+    program, speed = (os.path.abspath(word) for word in sys.argv[1:3])
+    print(f"{'program':10} {'steps':>12} {'machine':>10} {'C':>10} {'ratio':>8}   (million steps a second)")
+    with tempfile.TemporaryDirectory() as room:
+        interpreter = os.path.join(room, "interpreter")
+        subprocess.run(["clang", "-O2", "-o", interpreter, os.path.join(HERE, "interpreter.c")], check=True)
+        for name in ("count", "links", "divide"):
+            text = os.path.join(HERE, "programs", f"{name}.pl0")
+            listing = os.path.join(room, f"{name}.listing")
+            with open(listing, "w") as sink:
+                subprocess.run([program, "--check", text], stdout=sink, check=True)
+            row(name, [speed, text], [interpreter, listing])
+    return 0
+
+
+if __name__ == "__main__":
+    sys.exit(main())

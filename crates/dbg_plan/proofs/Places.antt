@@ -1,0 +1,67 @@
+-- Which step the program stands at, told by its place.
+use Rattle.std.proofs.Common.{◌≡◌, ◌≢◌, ℕ, ◌<◌, ◌≤◌, Bool, true, false, nat_eq, List, [], ◌∷◌, length, get_or, map, Option, Some, None, ap, sym, ◌∙◌, refl, subst, arith, inl, inr, ◌⊎◌, ⊎_elim}
+use Rattle.std.specs.Prelude.{slice_get, option_map, nat_le, ◌&&◌}
+use Rattle.std.proofs.Math.Logic.{∥∥₁_elim}
+use Rattle.std.specs.Coded.{Coded-set, coded_bool}
+use Rattle.std.proofs.lemmas.Bool.Decides.{nat_tests, eqb_tells, leb_tells}
+use Rattle.std.proofs.lemmas.Option.{slice_get-map, slice_get_cases}
+use Rattle.pl0_tree.specs.declared.tree.Place.{Place}
+use Rattle.pl0_tree.specs.declared.tree.Block.{Block}
+use Rattle.pl0_tree.specs.Scope.{IsBefore}
+use Rattle.pl0_tree.specs.Steps.{StepAt, steps}
+use Rattle.pl0_tree.specs.Ascending.{Ascend}
+use Rattle.pl0_meaning.specs.Values.{Frame, Configuration, StandsBefore}
+use Rattle.pl0_machine.specs.Machine.{frames_of, top_of, IsNext}
+use Rattle.dbg_plan.specs.declared.breakpoint.Breakpoint.{Breakpoint}
+use Rattle.dbg_plan.specs.Due.{same_place, same_step, is_at, holds, arrives_in}
+use Rattle.dbg_plan.specs.Plans.{is_of}
+use Rattle.dbg_plan.specs.Counting.{holds_in}
+
+place_same : (p : Place) → same_place p p ≡ true
+place_same p = grind (arith, nat_tests)
+
+place_before : (p q : Place) → IsBefore p q → same_place p q ≡ false
+place_before p q (inl lt) = grind (arith, nat_tests)
+place_before p q (inr both) = let lt = both.1 in grind (arith, nat_tests)
+
+place_behind : (p q : Place) → IsBefore q p → same_place p q ≡ false
+place_behind p q (inl lt) = grind (arith, nat_tests)
+place_behind p q (inr both) = let lt = both.1 in grind (arith, nat_tests)
+
+module _ (all : List StepAt) (ascend : Ascend (map (λ step. step.place) all)) where
+  placed : (n : ℕ) (s : StepAt) → slice_get all n ≡ Some s → slice_get (map (λ step. step.place) all) n ≡ Some s.place
+  placed n s e = slice_get-map (λ step. step.place) all n ∙ ap (λ o. option_map (λ step. step.place) o) e
+
+  module _ (p : ℕ) (t : StepAt) (here : slice_get all p ≡ Some t) where
+    other_step : (n : ℕ) → p ≢ n → (o : Option StepAt) → slice_get all n ≡ o → same_step o (Some t) ≡ false
+    other_step n ne None e = refl
+    other_step n ne (Some s) e = by_order (leb_tells n p)
+      where
+        by_order : ((nat_le n p ≡ true) × (n ≤ p)) ⊎ ((nat_le n p ≡ false) × (p < n)) → same_place s.place t.place ≡ false
+        by_order (inl before) = let le = before.1 in place_before s.place t.place (ascend n p s.place t.place (omega arith) (placed n s e) (placed p t here))
+        by_order (inr behind) = place_behind s.place t.place (ascend p n t.place s.place behind.1 (placed p t here) (placed n s e))
+
+    -- of steps in the order of their places only one stands at a place
+    pub same_as : (n : ℕ) → same_step (slice_get all n) (Some t) ≡ nat_eq p n
+    same_as n = by_number (eqb_tells p n)
+      where
+        by_number : ((nat_eq p n ≡ true) × (p ≡ n)) ⊎ ((nat_eq p n ≡ false) × (p ≢ n)) → same_step (slice_get all n) (Some t) ≡ nat_eq p n
+        by_number (inl same) =
+            ap (λ o. same_step o (Some t)) (sym (ap (λ k. slice_get all k) same.1) ∙ here) ∙ place_same t.place ∙ sym same.0
+        by_number (inr other) = other_step n other.1 (slice_get all n) refl ∙ sym other.0
+
+-- where the program stands at step p, those of its breakpoints arrive whose condition holds
+module _ (main : Block) (ordered : ∥ Ascend (map (λ step. step.place) (steps main)) ∥₁) where
+  stands_at : (f : Frame) (below : Configuration) (p : ℕ) → StandsBefore main f p → (n : ℕ) → nat_eq p n ≡ is_at main n (f ∷ below)
+  stands_at f below p before n =
+      ∥∥₁_elim ordered (Coded-set coded_bool (nat_eq p n) (is_at main n (f ∷ below))) (λ ascend. by_next ascend (slice_get_cases (steps main) p).1)
+    where
+      by_next : Ascend (map (λ step. step.place) (steps main)) → ((t : StepAt) × (p < length (steps main)) × (slice_get (steps main) p ≡ Some t) × (get_or (steps main) p t ≡ t)) ⊎ ((length (steps main) ≤ p) × (slice_get (steps main) p ≡ None)) → nat_eq p n ≡ is_at main n (f ∷ below)
+      by_next ascend (inl there) =
+          sym (ap (λ o. same_step (slice_get (steps main) n) o) (sym before.next ∙ there.2) ∙ same_as (steps main) ascend p there.0 there.2 n)
+      by_next ascend (inr past) = let within = before.within in let le = past.0 in absurd (omega arith)
+
+  pub arrives_here : (o : Option Configuration) (p : ℕ) → IsNext main (top_of (frames_of o)) p → (b : Breakpoint) → (is_of p b && holds_in main o b.guard) ≡ arrives_in main b o
+  arrives_here None p next b = absurd next
+  arrives_here (Some []) p next b = absurd next
+  arrives_here (Some (f ∷ below)) p next b = ap (λ v. v && holds main (f ∷ below) b.guard) (stands_at f below p next b.step)

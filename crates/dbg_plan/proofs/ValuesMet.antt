@@ -1,0 +1,128 @@
+-- A condition of the machine's next step, in the newest frame.
+use Rattle.std.proofs.Common.{◌≡◌, ℕ, zero, suc, ◌-◌, ◌<◌, Bool, true, List, [], ◌∷◌, ◌++◌, length, slice_get, Option, Some, None, Result, Ok, Err, refl, sym, ap, ◌∙◌, subst, arith}
+use Rattle.std.specs.Option.{option_map_or}
+use Rattle.std.specs.Result.{result_unwrap_or}
+use Rattle.std.proofs.Math.Logic.{∥∥₁_elim}
+use Rattle.std.specs.Coded.{Coded, Coded-set, codes, ×_prop, Unit-prop}
+use Rattle.pl0_tree.specs.declared.tree.Block.{Block}
+use Rattle.pl0_tree.specs.declared.tree.Statement.{Statement, Row_of-Statement, end_of-Statement, more_of-Statement}
+use Rattle.pl0_tree.specs.declared.tree.Statement.TheVariants.{Empty, Assign, Call, Write, Begin', If', While'}
+use Rattle.pl0_tree.specs.Scope.{Path, block_at}
+use Rattle.pl0_tree.specs.Steps.{StepAt, statement_steps, row_steps, steps, step_path}
+use Rattle.pl0_meaning.specs.contracts.RunFault as run_fault
+use Rattle.pl0_meaning.specs.declared.RunFault.{RunFault}
+use Rattle.pl0_meaning.specs.Values.{Frame, Configuration, return_of, first_step, StandsBefore, truth}
+use Rattle.pl0_machine.specs.Frames.{AreLinked}
+use Rattle.pl0_machine.specs.Machine.{Standing, program, configuration, frames, top_of, IsNext}
+use Rattle.dbg_plan.specs.declared.bound.BoundExpression.{BoundExpression}
+use Rattle.dbg_plan.specs.declared.bound.BoundExpression.TheVariants.{Number, Variable, Negate', Binary'}
+use Rattle.dbg_plan.specs.declared.bound.BoundCondition.{BoundCondition}
+use Rattle.dbg_plan.specs.declared.bound.BoundCondition.TheVariants.{Odd, Compare}
+use Rattle.dbg_plan.specs.declared.breakpoint.Guard.{Guard}
+use Rattle.dbg_plan.specs.declared.breakpoint.Breakpoint.{Breakpoint}
+use Rattle.dbg_plan.specs.declared.evaluation.EvalFault.{EvalFault}
+use Rattle.dbg_plan.specs.Bound.{IsConditionBound}
+use Rattle.dbg_plan.specs.Due.{true_or_faulty}
+use Rattle.dbg_plan.specs.Counting.{holds_in, holds_now}
+use Rattle.dbg_plan.specs.Values.{told}
+use Rattle.dbg_plan.specs.Reads.{bound_truth, CanRead, CanTest}
+use Rattle.dbg_plan.proofs.ValuesLinks.{frame_at-top}
+use Rattle.dbg_plan.proofs.ValuesBound.{condition_reads}
+
+-- ---- a frame's next step is one of its block
+
+abbrev AreOf : Path → List StepAt → Type 0
+AreOf q [] = Unit {0}
+AreOf q (s ∷ ss) = (s.path ≡ q) × AreOf q ss
+
+of_append : (q : Path) (xs ys : List StepAt) → AreOf q xs → AreOf q ys → AreOf q (xs ++ ys)
+of_append q [] ys first second = second
+of_append q (x ∷ xs) ys first second = (first.0, of_append q xs ys first.1 second)
+
+mutual
+  steps_of : (s : Statement) (q : Path) → AreOf q (statement_steps s q)
+  steps_of Empty q = tt
+  steps_of (Assign x e) q = (refl, tt)
+  steps_of (Call p x) q = (refl, tt)
+  steps_of (Write p e) q = (refl, tt)
+  steps_of (Begin' shape row) q = row_steps_of row q
+  steps_of (If' p c b body) q = (refl, steps_of body q)
+  steps_of (While' p c b body) q = (refl, steps_of body q)
+
+  row_steps_of : {m : _} (row : Row_of-Statement m) (q : Path) → AreOf q (row_steps row q)
+  row_steps_of end_of-Statement q = tt
+  row_steps_of (more_of-Statement s row) q = of_append q (statement_steps s q) (row_steps row q) (steps_of s q) (row_steps_of row q)
+
+first_of : (q : Path) (ss : List StepAt) (s : StepAt) → AreOf q ss → slice_get ss 0 ≡ Some s → s.path ≡ q
+first_of q [] s all e = cc
+first_of q (t ∷ ss) s all e = let same : t ≡ s = cc in ap (λ (u : StepAt). u.path) (sym same) ∙ all.0
+
+return_path : (q : Path) (b : Option Block) (s : StepAt) → return_of b q ≡ Some s → s.path ≡ q
+return_path q None s e = cc
+return_path q (Some b) s e = path_of s e
+  where
+    path_of : (s : StepAt) → return_of (Some b) q ≡ Some s → s.path ≡ q
+    path_of s e = ap (λ (o : Option StepAt). option_map_or (λ (u : StepAt). u.path) o q) (sym e)
+
+next_path : (main : Block) (q : Path) (todo : List Statement) (s : StepAt) → first_step main q todo ≡ Some s → s.path ≡ q
+next_path main q [] s e = return_path q (block_at main q) s e
+next_path main q (t ∷ rest) s e = first_of q (statement_steps t q) s (steps_of t q) e
+
+some_step : (ss : List StepAt) (n : ℕ) → n < length ss → (s : StepAt) × (slice_get ss n ≡ Some s)
+some_step [] n lt = absurd (omega arith)
+some_step (t ∷ ss) zero lt = (t, refl)
+some_step (t ∷ ss) (suc n) lt = some_step ss n (omega arith)
+
+pub stands_in : (main : Block) (f : Frame) (n : ℕ) → StandsBefore main f n → f.block ≡ step_path main n
+stands_in main f n st =
+    let s = some_step (steps main) n st.within in
+    sym (next_path main f.block f.todo s.0 (sym st.next ∙ s.1))
+    ∙ ap (λ o. option_map_or (λ (u : StepAt). u.path) o []) (sym s.1)
+
+-- ---- facts that have at most one proof
+
+pub none_prop : IsProp ⊥
+none_prop a b = absurd a
+
+pub CanRead-prop : (c : Configuration) (i : ℕ) (b : BoundExpression) → IsProp (CanRead c i b)
+CanRead-prop c i (Number n) = Unit-prop
+CanRead-prop c i (Variable level k) = hlevel codes
+CanRead-prop c i (Negate' p b) = CanRead-prop c i b
+CanRead-prop c i (Binary' op p first q second) = ×_prop (CanRead-prop c i first) (CanRead-prop c i second)
+
+CanTest-prop : (c : Configuration) (i : ℕ) (b : BoundCondition) → IsProp (CanTest c i b)
+CanTest-prop c i (Odd b) = CanRead-prop c i b
+CanTest-prop c i (Compare relation first second) = ×_prop (CanRead-prop c i first) (CanRead-prop c i second)
+
+coded_truth : Coded (Result Bool RunFault)
+coded_truth = hlevel (codes, run_fault.the_row.coded)
+
+-- ---- the condition
+
+-- it can be tested in the newest frame, and gives the truth of its source
+abbrev pub IsTested : Block → Configuration → ℕ → Guard → Type 0
+IsTested main c top guard = CanTest c top guard.bound × (bound_truth c top guard.bound ≡ truth main c (length c - 1) guard.condition)
+
+tested : (main : Block) (c : Configuration) (n top : ℕ) (guard : Guard) → AreLinked main c → IsNext main (top_of c) n → IsConditionBound main (step_path main n) guard.condition guard.bound → top ≡ length c - 1 → IsTested main c top guard
+tested main [] n top guard linked next is at = absurd next
+tested main (f ∷ below) n top guard linked next is at =
+    let here : length below ≡ length (f ∷ below) - 1 = omega arith in
+    let bound = subst (λ q. IsConditionBound main q guard.condition guard.bound) (sym (stands_in main f n next)) is in
+    subst (λ i. IsTested main (f ∷ below) i guard) (sym at)
+    (condition_reads main (f ∷ below) (length (f ∷ below) - 1) f linked (frame_at-top f below (length (f ∷ below) - 1) here) guard.condition guard.bound bound)
+
+pub is_tested : (main : Block) (c : Configuration) (n top : ℕ) (guard : Guard) → ∥ AreLinked main c ∥₁ → IsNext main (top_of c) n → IsConditionBound main (step_path main n) guard.condition guard.bound → top ≡ length c - 1 → IsTested main c top guard
+is_tested main c n top guard linked next is at =
+    ∥∥₁_elim linked (×_prop (CanTest-prop c top guard.bound) (Coded-set coded_truth _ _)) (λ l. tested main c n top guard l next is at)
+
+unless_faulty : (r : Result Bool EvalFault) → result_unwrap_or r true ≡ true_or_faulty (told r)
+unless_faulty (Ok b) = refl
+unless_faulty (Err fault) = refl
+
+-- what is told of the condition is whether it holds
+pub holds_told : (m : Standing) (b : Breakpoint) (guard : Guard) (top : ℕ) (r : Result Bool EvalFault) (result : Bool) → configuration m ≡ Some (frames m) → b.guard ≡ Some guard → IsTested (program m) (frames m) top guard → bound_truth (frames m) top guard.bound ≡ told r → result ≡ result_unwrap_or r true → result ≡ holds_now m b
+holds_told m b guard top r result there is t value e =
+    e ∙ unless_faulty r
+    ∙ ap true_or_faulty (sym value ∙ t.1)
+    ∙ ap (λ g. holds_in (program m) (Some (frames m)) g) (sym is)
+    ∙ ap (λ o. holds_in (program m) o b.guard) (sym there)

@@ -1,0 +1,54 @@
+-- What the functions that evaluate and that look names up promise. No public contract cites this file.
+use Rattle.std.specs.Prelude.{ℕ, zero, suc, Bool, Option, Some, IsSome, option_and_then, Result, Ok, ℤ, pos, neg_ℤ}
+use Rattle.pl0_tree.specs.declared.tree.Block.{Block}
+use Rattle.pl0_tree.specs.Scope.{Meaning, AConstant, AVariable, AProcedure}
+use Rattle.pl0_meaning.specs.declared.RunFault.{RunFault}
+use Rattle.pl0_meaning.specs.Values.{Configuration, frame_at, number_of, constant_of, or_zero, after, checked, operation, comparison, is_odd}
+use Rattle.pl0_machine.specs.Machine.{parent_of}
+use Rattle.dbg_plan.specs.declared.binding.Located.{Located}
+use Rattle.dbg_plan.specs.declared.binding.Located.TheVariants as at
+use Rattle.dbg_plan.specs.declared.bound.BoundExpression.{BoundExpression}
+use Rattle.dbg_plan.specs.declared.bound.BoundExpression.TheVariants.{Number, Variable, Negate', Binary'}
+use Rattle.dbg_plan.specs.declared.bound.BoundCondition.{BoundCondition}
+use Rattle.dbg_plan.specs.declared.bound.BoundCondition.TheVariants.{Odd, Compare}
+
+-- variable k of the frame to which so many links lead from frame i
+abbrev pub number_up : Configuration → ℕ → ℕ → ℕ → Option ℤ
+number_up c zero k i = number_of (frame_at c i) k
+number_up c (suc level) k i = option_and_then (number_up c level k) (parent_of i (frame_at c i))
+
+-- the value of a bound expression in frame i
+abbrev pub bound_value : Configuration → ℕ → BoundExpression → Result ℤ RunFault
+bound_value c i (Number n) = Ok n
+bound_value c i (Variable level k) = Ok (or_zero (number_up c level k i))
+bound_value c i (Negate' p b) = after (bound_value c i b) (λ x. checked (neg_ℤ x))
+bound_value c i (Binary' op p first q second) =
+    after (bound_value c i first) (λ x. after (bound_value c i second) (λ y. operation op x y))
+
+abbrev pub bound_truth : Configuration → ℕ → BoundCondition → Result Bool RunFault
+bound_truth c i (Odd b) = after (bound_value c i b) (λ x. Ok (is_odd x))
+bound_truth c i (Compare relation first second) =
+    after (bound_value c i first) (λ x. after (bound_value c i second) (λ y. Ok (comparison relation x y)))
+
+-- the links and variables of a bound expression are there
+abbrev pub CanRead : Configuration → ℕ → BoundExpression → Type 0
+CanRead c i (Number n) = Unit {0}
+CanRead c i (Variable level k) = IsSome (number_up c level k i)
+CanRead c i (Negate' p b) = CanRead c i b
+CanRead c i (Binary' op p first q second) = CanRead c i first × CanRead c i second
+
+abbrev pub CanTest : Configuration → ℕ → BoundCondition → Type 0
+CanTest c i (Odd b) = CanRead c i b
+CanTest c i (Compare relation first second) = CanRead c i first × CanRead c i second
+
+-- ---- names by their text
+
+-- what a declaration of a block means for the frames of a block so many levels further in; a procedure counts as 0
+abbrev pub located : Block → ℕ → Meaning → Located
+located b level (AConstant k) = at.Number (or_zero (constant_of (Some b) k))
+located b level (AVariable k) = at.Variable level k
+located b level (AProcedure k) = at.Number (pos 0)
+
+abbrev pub bound_of : Located → BoundExpression
+bound_of (at.Number n) = Number n
+bound_of (at.Variable level k) = Variable level k

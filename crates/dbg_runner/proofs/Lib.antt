@@ -1,0 +1,3 @@
+pub mod SliceSteps
+pub mod Turning
+pub mod Joining

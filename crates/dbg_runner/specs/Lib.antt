@@ -1,0 +1,10 @@
+pub mod Rooms
+pub mod RoomFields
+pub mod Lawful
+pub mod ReportFields
+pub mod Advances
+pub mod Slices
+pub mod Ports
+pub mod Serves
+pub mod Turns
+pub mod Laws
