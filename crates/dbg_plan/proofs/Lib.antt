@@ -5,7 +5,7 @@ pub mod Here
 pub mod Fresh
 pub mod HitNumbers
 pub mod Parts
-pub mod Resolving
+pub mod Lines
 pub mod StepLines
 pub mod Texts
 pub mod UnitBlocks

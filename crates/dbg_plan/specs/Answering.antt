@@ -3,8 +3,8 @@ use Rattle.std.specs.Prelude.{◌≡◌, ℕ, ◌≤◌, List, ◌++◌, length,
 use Rattle.pl0_tree.specs.declared.tree.Block.{Block}
 use Rattle.dbg_plan.specs.declared.breakpoint.Guard.{Guard}
 use Rattle.dbg_plan.specs.declared.breakpoint.Breakpoint.{Breakpoint}
-use Rattle.dbg_plan.specs.declared.resolve.Asked.{Asked}
-use Rattle.dbg_plan.specs.declared.resolve.Answer.{Answer}
+use Rattle.dbg_plan.specs.declared.resolving.Asked.{Asked}
+use Rattle.dbg_plan.specs.declared.resolving.Answer.{Answer}
 use Rattle.dbg_plan.specs.Plans.{AreNumbered, AreAtSteps, IsGuardAt}
 use Rattle.dbg_plan.specs.Answers.{ReadsGuard, IsAnswered}
 

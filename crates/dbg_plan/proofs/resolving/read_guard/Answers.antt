@@ -5,7 +5,7 @@ use Rattle.dbg_plan.proofs.Guards.{no_guard}
 use Rattle.dbg_plan.proofs.StepLines.{unit_length}
 use Rattle.dbg_plan.proofs.Texts.{not_empty}
 use Rattle.dbg_plan.proofs.UnitBlocks.{unit_nestings, block_at, block_within}
-use Rattle.dbg_plan.proofs.resolve.read_guard.Goals as goal
+use Rattle.dbg_plan.proofs.resolving.read_guard.Goals as goal
 
 pub returns-in-Err-clause-fault : goal.returns-in-Err-clause-fault
 returns-in-Err-clause-fault c =

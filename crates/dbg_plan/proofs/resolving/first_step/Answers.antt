@@ -4,7 +4,7 @@ use Rattle.std.specs.List.Sorted.{IsNonDecreasingBy, IsPartitionPoint}
 use Rattle.std.proofs.lemmas.List.Sorted.{IsPartitionPoint-from_clause, IsPartitionedBy-ltb}
 use Rattle.pl0_tree.specs.declared.step.Step.{Step}
 use Rattle.dbg_plan.proofs.StepLines.{unit_rises, step_is}
-use Rattle.dbg_plan.proofs.resolve.first_step.Goals as goal
+use Rattle.dbg_plan.proofs.resolving.first_step.Goals as goal
 
 abbrev is_before : ℕ → Step → Bool
 is_before line s = nat_lt s.place.line line

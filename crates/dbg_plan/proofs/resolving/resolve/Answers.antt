@@ -1,7 +1,7 @@
 use Rattle.std.proofs.Common.{arith}
-use Rattle.dbg_plan.proofs.Resolving.{one_more, plan_is}
+use Rattle.dbg_plan.proofs.Lines.{one_more, plan_is}
 use Rattle.dbg_plan.proofs.StepLines.{unit_length}
-use Rattle.dbg_plan.proofs.resolve.resolve.Goals as goal
+use Rattle.dbg_plan.proofs.resolving.resolve.Goals as goal
 
 pub loop-line-preserved : goal.loop-line-preserved
 loop-line-preserved c =

@@ -3,8 +3,8 @@ use Rattle.std.proofs.Common.{◌≡◌, ℕ, ◌+◌, ◌<◌, ◌≤◌, List,
 use Rattle.std.proofs.lemmas.List.{take_more, length-append}
 use Rattle.pl0_tree.specs.declared.tree.Block.{Block}
 use Rattle.dbg_plan.specs.declared.breakpoint.Breakpoint.{Breakpoint}
-use Rattle.dbg_plan.specs.declared.resolve.Asked.{Asked}
-use Rattle.dbg_plan.specs.declared.resolve.Answer.{Answer}
+use Rattle.dbg_plan.specs.declared.resolving.Asked.{Asked}
+use Rattle.dbg_plan.specs.declared.resolving.Answer.{Answer}
 use Rattle.pl0_tree.specs.Steps.{steps}
 use Rattle.dbg_plan.specs.Plans.{Listed, AreNumbered, AreAtSteps, IsPlanOf}
 use Rattle.dbg_plan.specs.Answers.{IsAnswered, AreAnswered}
