@@ -1,5 +1,5 @@
 -- Decimal texts of the numbers of rules.
-use Rattle.std.proofs.Common.{◌≡◌, ◌≢◌, ℕ, ◌<◌, ◌^◌, inl, inr, Bool, true, false, ◌==◌, List, [], ◌∷◌, length, get_or, ap, sym, ◌∙◌, arith, eq-zero-or-pos}
+use Rattle.std.proofs.Common.{◌≡◌, ◌≢◌, ℕ, ◌<◌, ◌^◌, inl, inr, Bool, true, List, [], ◌∷◌, get_or, ap, sym, ◌∙◌, arith, eq-zero-or-pos}
 use Rattle.std.specs.Prelude.{decimal, Result, Ok, Err, Option, Some, None}
 use Rattle.std.specs.Bool.{Decides}
 use Rattle.std.specs.Str.Parse.{AllDigits, digits_value, ParsesUnsigned}
@@ -70,9 +70,6 @@ no_divisor text divisor is none has = by_rule has.rule has.reads
     by_rule None empty = let e : 37 ∷ divisor ≡ [] = sym is ∙ empty in cc
     by_rule (Some (From k)) reads = no_percent k divisor reads.1 reads.2 (sym is ∙ reads.0)
     by_rule (Some (Every k)) reads = none k reads.1 reads.2 (same_tail divisor (decimal k) (sym is ∙ reads.0))
-
-pub not_empty : (text : List ℕ) (r : Bool) → r ≡ (length text == 0) → r ≡ false → text ≢ []
-not_empty text r is some empty = let e : true ≡ false = ap (λ t. length t == 0) (sym empty) ∙ sym is ∙ some in cc
 
 pub no_number : (text : List ℕ) → text ≢ [] → ((rest : List ℕ) → text ≢ 37 ∷ rest) → IsNoNumber text → ¬ HasRule text
 no_number text some unmarked none has = by_rule has.rule has.reads

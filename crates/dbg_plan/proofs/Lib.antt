@@ -5,6 +5,11 @@ pub mod Here
 pub mod Fresh
 pub mod HitNumbers
 pub mod Parts
+pub mod Lines
+pub mod StepLines
+pub mod Texts
+pub mod UnitBlocks
+pub mod Guards
 pub mod ByNumber
 pub mod ValuesUp
 pub mod ValuesHomes

@@ -9,9 +9,9 @@ use Rattle.dbg_plan.specs.declared.breakpoint.Rule.{Rule}
 use Rattle.dbg_plan.specs.declared.breakpoint.Rule.TheVariants.{From, Every}
 use Rattle.dbg_plan.specs.declared.breakpoint.Guard.{Guard}
 use Rattle.dbg_plan.specs.declared.breakpoint.Breakpoint.{Breakpoint}
-use Rattle.dbg_plan.specs.declared.resolve.Asked.{Asked}
-use Rattle.dbg_plan.specs.declared.resolve.Answer.{Answer}
-use Rattle.dbg_plan.specs.declared.resolve.Answer.TheVariants.{At, NoStep, BadCondition, BadHit}
+use Rattle.dbg_plan.specs.declared.resolving.Asked.{Asked}
+use Rattle.dbg_plan.specs.declared.resolving.Answer.{Answer}
+use Rattle.dbg_plan.specs.declared.resolving.Answer.TheVariants.{At, NoStep, BadCondition, BadHit}
 
 -- The step of a line: the first, in source order, at this line or behind it.
 abbrev pub step_from : Block → ℕ → Option ℕ

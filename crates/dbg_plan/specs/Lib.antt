@@ -3,6 +3,7 @@ pub mod Bound
 pub mod Plans
 pub mod Debugged
 pub mod Answers
+pub mod Answering
 pub mod Table
 pub mod Values
 pub mod Counting

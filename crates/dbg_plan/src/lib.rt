@@ -14,7 +14,7 @@ mod debuggee;
 mod evaluation;
 mod mode;
 mod plan;
-mod resolve;
+mod resolving;
 mod rule;
 mod table;
 
@@ -24,4 +24,5 @@ pub use debuggee::Debuggee;
 pub use evaluation::EvalFault;
 pub use mode::{Mode, Reason};
 pub use plan::Plan;
-pub use resolve::{Answer, Asked, resolve};
+pub use resolving::{Answer, Asked, resolve};
+

@@ -9,6 +9,7 @@ use crate::breakpoint::Rule;
 const GREATEST: u32 = 2_147_483_647;
 
 /// A hit text that is no rule.
+#[derive(Drop)]
 pub struct BadHit;
 
 // The number of a rule that a text writes: decimal, without a sign or a leading zero.

@@ -1,6 +1,7 @@
 use Rattle.std.proofs.Common.{arith, Some, None}
 use Rattle.std.proofs.lemmas.Str.Pattern.{strip_prefix_char}
-use Rattle.dbg_plan.proofs.HitNumbers.{no_divisor, no_number, not_empty}
+use Rattle.dbg_plan.proofs.HitNumbers.{no_divisor, no_number}
+use Rattle.dbg_plan.proofs.Texts.{not_empty}
 use Rattle.dbg_plan.proofs.rule.read_rule.Goals as goal
 
 pub returns-in-None-number-clause-bad : goal.returns-in-None-number-clause-bad
