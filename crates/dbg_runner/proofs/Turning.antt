@@ -1,13 +1,13 @@
 -- Acts of the runner, one behind the other.
 use Rattle.std.proofs.Common.{◌≡◌, ℕ, ◌+◌, ◌<◌, ◌⊎◌, List, [], ◌∷◌, ◌++◌, Option, Some, None, ap, sym, ◌∙◌, refl, subst, append_assoc, append-nil}
-use Rattle.dbg_plan.specs.Debugged.{Debugged, IsConsidered}
+use Rattle.dbg_plan.specs.Debugged.{Debugged}
 use Rattle.dbg_runner.specs.declared.order.Order.{Order}
 use Rattle.dbg_runner.specs.declared.end.End.{End}
 use Rattle.dbg_runner.specs.declared.end.End.TheVariants as end
 use Rattle.dbg_runner.specs.declared.run.Run.{Run}
 use Rattle.dbg_runner.specs.declared.run.Next.{Next}
 use Rattle.dbg_runner.specs.declared.run.Next.TheVariants.{Waits, Runs, Stops}
-use Rattle.dbg_runner.specs.Lawful.{Reported, IsLawful, EndsBy, IsReportOf, left, stopped}
+use Rattle.dbg_runner.specs.Lawful.{Reported, IsLawful, IsReportOf, left, stopped}
 use Rattle.dbg_runner.specs.ReportFields.{unsliced}
 use Rattle.dbg_runner.specs.Slices.{IsUnheld}
 use Rattle.dbg_runner.specs.Ports.{Pass, with_more, Ports}
@@ -16,21 +16,21 @@ use Rattle.dbg_runner.specs.Turns.{going, LeavesAt, Turns}
 
 -- ---- one act, or none
 
-none-more : (known : Option (List Pass)) → known ≡ with_more known []
+none-more : {A : Type 0} (known : Option (List A)) → known ≡ with_more known []
 none-more None = refl
-none-more (Some passes) = ap (λ (ps : List Pass). Some ps) (sym (append-nil passes))
+none-more (Some items) = ap (λ xs. Some xs) (sym (append-nil items))
 
 pub nothing : (r : Runner) (old new : Ports) → new.taken ≡ old.taken → new.passed ≡ old.passed → new.sent ≡ old.sent → Serves r old new r
-nothing r old new taken passed sent = record { acts = []; leads = refl; taken = taken ∙ sym (append-nil old.taken); passed = passed ∙ none-more old.passed; sent = sent ∙ sym (append-nil old.sent) }
+nothing r old new taken passed sent = record { acts = []; leads = refl; taken = taken ∙ none-more old.taken; passed = passed ∙ none-more old.passed; sent = sent ∙ none-more old.sent }
 
-pub took : (r : Runner) (old new : Ports) (order : Order) (now : Runner) → Takes r order now → new.taken ≡ old.taken ++ order ∷ [] → new.passed ≡ old.passed → new.sent ≡ old.sent → Serves r old new now
-took r old new order now h taken passed sent = record { acts = Took order ∷ []; leads = (now, h, refl); taken = taken; passed = passed ∙ none-more old.passed; sent = sent ∙ sym (append-nil old.sent) }
+pub took : (r : Runner) (old new : Ports) (order : Order) (now : Runner) → Takes r order now → new.taken ≡ with_more old.taken (order ∷ []) → new.passed ≡ old.passed → new.sent ≡ old.sent → Serves r old new now
+took r old new order now h taken passed sent = record { acts = Took order ∷ []; leads = (now, h, refl); taken = taken; passed = passed ∙ none-more old.passed; sent = sent ∙ none-more old.sent }
 
 pub passes : (r : Runner) (old new : Ports) (pass : Pass) (now : Runner) → Passes r pass now → new.taken ≡ old.taken → new.passed ≡ with_more old.passed (pass ∷ []) → new.sent ≡ old.sent → Serves r old new now
-passes r old new pass now h taken passed sent = record { acts = Passed pass ∷ []; leads = (now, h, refl); taken = taken ∙ sym (append-nil old.taken); passed = passed; sent = sent ∙ sym (append-nil old.sent) }
+passes r old new pass now h taken passed sent = record { acts = Passed pass ∷ []; leads = (now, h, refl); taken = taken ∙ none-more old.taken; passed = passed; sent = sent ∙ none-more old.sent }
 
-pub sends : (r : Runner) (old new : Ports) (report : Reported) (now : Runner) → Sends r report now → new.taken ≡ old.taken → new.passed ≡ old.passed → new.sent ≡ old.sent ++ report ∷ [] → Serves r old new now
-sends r old new report now h taken passed sent = record { acts = Sent report ∷ []; leads = (now, h, refl); taken = taken ∙ sym (append-nil old.taken); passed = passed ∙ none-more old.passed; sent = sent }
+pub sends : (r : Runner) (old new : Ports) (report : Reported) (now : Runner) → Sends r report now → new.taken ≡ old.taken → new.passed ≡ old.passed → new.sent ≡ with_more old.sent (report ∷ []) → Serves r old new now
+sends r old new report now h taken passed sent = record { acts = Sent report ∷ []; leads = (now, h, refl); taken = taken ∙ none-more old.taken; passed = passed ∙ none-more old.passed; sent = sent }
 
 -- ---- acts behind acts
 
@@ -50,25 +50,29 @@ reports_in-append : (xs ys : List Act) → reports_in (xs ++ ys) ≡ reports_in 
 reports_in-append [] ys = refl
 reports_in-append (x ∷ xs) ys = ap (λ rs. sent_by x ++ rs) (reports_in-append xs ys) ∙ sym (append_assoc (sent_by x) (reports_in xs) (reports_in ys))
 
-with_more-append : (known : Option (List Pass)) (xs ys : List Pass) → with_more (with_more known xs) ys ≡ with_more known (xs ++ ys)
+with_more-append : {A : Type 0} (known : Option (List A)) (xs ys : List A) → with_more (with_more known xs) ys ≡ with_more known (xs ++ ys)
 with_more-append None xs ys = refl
-with_more-append (Some passes) xs ys = ap (λ (ps : List Pass). Some ps) (append_assoc passes xs ys)
+with_more-append (Some items) xs ys = ap (λ zs. Some zs) (append_assoc items xs ys)
+
+-- what was known, more behind it, and more behind that
+joined : {A : Type 0} (p q s : Option (List A)) (xs ys both : List A) → q ≡ with_more p xs → s ≡ with_more q ys → both ≡ xs ++ ys → s ≡ with_more p both
+joined p q s xs ys both first second is = second ∙ ap (λ known. with_more known ys) first ∙ with_more-append p xs ys ∙ ap (λ zs. with_more p zs) (sym is)
 
 pub then : (a : Runner) (p q : Ports) (b : Runner) (s : Ports) (c : Runner) → Serves a p q b → Serves b q s c → Serves a p s c
 then a p q b s c h k = record {
   acts = h.acts ++ k.acts;
   leads = leads-append a h.acts k.acts b c h.leads k.leads;
-  taken = k.taken ∙ ap (λ (os : List Order). os ++ orders_in k.acts) h.taken ∙ append_assoc p.taken (orders_in h.acts) (orders_in k.acts) ∙ ap (λ (os : List Order). p.taken ++ os) (sym (orders_in-append h.acts k.acts));
-  passed = k.passed ∙ ap (λ (known : Option (List Pass)). with_more known (passes_in k.acts)) h.passed ∙ with_more-append p.passed (passes_in h.acts) (passes_in k.acts) ∙ ap (λ (ps : List Pass). with_more p.passed ps) (sym (passes_in-append h.acts k.acts));
-  sent = k.sent ∙ ap (λ (rs : List Reported). rs ++ reports_in k.acts) h.sent ∙ append_assoc p.sent (reports_in h.acts) (reports_in k.acts) ∙ ap (λ (rs : List Reported). p.sent ++ rs) (sym (reports_in-append h.acts k.acts));
+  taken = joined p.taken q.taken s.taken (orders_in h.acts) (orders_in k.acts) _ h.taken k.taken (orders_in-append h.acts k.acts);
+  passed = joined p.passed q.passed s.passed (passes_in h.acts) (passes_in k.acts) _ h.passed k.passed (passes_in-append h.acts k.acts);
+  sent = joined p.sent q.sent s.sent (reports_in h.acts) (reports_in k.acts) _ h.sent k.sent (reports_in-append h.acts k.acts);
 }
 
 -- the next slice of a run passes the gate, and its report is sent
-pub passes_and_sends : (g : Going) (old new : Ports) (report : Reported) (now : Runner) → IsReportOf g.run g.debuggee g.mode report → After g report report.ends now → new.taken ≡ old.taken → new.passed ≡ with_more old.passed (record { run = g.run; slice = g.slices + 1 } ∷ []) → new.sent ≡ old.sent ++ report ∷ [] → Serves (Running g) old new now
+pub passes_and_sends : (g : Going) (old new : Ports) (report : Reported) (now : Runner) → IsReportOf g.run g.debuggee g.mode report → After g report report.ends now → new.taken ≡ old.taken → new.passed ≡ with_more old.passed (record { run = g.run; slice = g.slices + 1 } ∷ []) → new.sent ≡ with_more old.sent (report ∷ []) → Serves (Running g) old new now
 passes_and_sends g old new report now of after taken passed sent = record {
   acts = Passed (record { run = g.run; slice = g.slices + 1 }) ∷ Sent report ∷ [];
   leads = (Slicing g, (refl, refl), (now, (of, after), refl));
-  taken = taken ∙ sym (append-nil old.taken);
+  taken = taken ∙ none-more old.taken;
   passed = passed;
   sent = sent;
 }
@@ -83,34 +87,6 @@ pub turns_then : (a : Runner) (p q : Ports) (b : Runner) → Serves a p q b → 
 turns_then a p q b h same next s k = record { now = k.now; serves = then a p q b s k.now h k.serves; leaves = leaves_from p q same next s k.now k.leaves }
 
 -- ---- reports
-
--- the debuggee that goes on beside a lawful report stands at a considered position
-left_by : (r : Reported) (e : End) → EndsBy r e → (d : Debugged) → Some d ≡ left r e → IsConsidered d
-left_by r end.More h d is =
-    let same : d ≡ stopped r = cc in
-    subst (λ (x : Debugged). IsConsidered x) (sym same) (record { behind = refl; running = h.2 })
-left_by r (end.Due reason) h d is = cc
-left_by r end.Done h d is = cc
-left_by r (end.Fault fault) h d is = cc
-left_by r end.Held h d is = cc
-left_by r end.NoMemory h d is = cc
-
-pub left_considered : (r : Reported) → IsLawful r → (d : Debugged) → Some d ≡ left r r.ends → IsConsidered d
-left_considered r lawful d is = left_by r r.ends lawful.end d is
-
--- it stands a whole slice further
-left_further_by : (r : Reported) (e : End) → EndsBy r e → (d : Debugged) → Some d ≡ left r e → d.position ≡ r.begins + 256
-left_further_by r end.More h d is =
-    let same : d ≡ stopped r = cc in
-    ap (λ (x : Debugged). x.position) same ∙ h.0
-left_further_by r (end.Due reason) h d is = cc
-left_further_by r end.Done h d is = cc
-left_further_by r (end.Fault fault) h d is = cc
-left_further_by r end.Held h d is = cc
-left_further_by r end.NoMemory h d is = cc
-
-pub left_further : (r : Reported) → IsLawful r → (d : Debugged) → Some d ≡ left r r.ends → d.position ≡ r.begins + 256
-left_further r lawful d is = left_further_by r r.ends lawful.end d is
 
 -- a report in the place of a slice: the run goes on where a debuggee does, else it is over
 after_some : (g : Going) (r : Reported) (e : End) (d : Debugged) → Some d ≡ left r e → After g r e (Running (record g { debuggee = d; slices = g.slices + 1 }))

@@ -116,13 +116,14 @@ abbrev pub reports_in : List Act → List Reported
 reports_in [] = []
 reports_in (act ∷ acts) = sent_by act ++ reports_in acts
 
--- From one to the other the ports gained what some acts took, let pass and sent, and these lead the runner there.
+-- From one to the other the ports gained what some acts took, let pass and sent, as far as they tell it; and these
+-- acts lead the runner there.
 pub record Serves (from : Runner) (old new : Ports) (now : Runner) : Type 0 where
   pub acts : List Act
   pub leads : Leads from acts now
-  pub taken : new.taken ≡ old.taken ++ orders_in acts
+  pub taken : new.taken ≡ with_more old.taken (orders_in acts)
   pub passed : new.passed ≡ with_more old.passed (passes_in acts)
-  pub sent : new.sent ≡ old.sent ++ reports_in acts
+  pub sent : new.sent ≡ with_more old.sent (reports_in acts)
 
 -- why the runner ends: it was told to quit, or a report was handed back
 abbrev pub Closed : Ports → Ports → Runner → Type 0

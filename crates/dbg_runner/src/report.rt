@@ -49,7 +49,7 @@ impl Model for Report {
 }
 
 impl Report {
-    ghost use Rattle.std.specs.Prelude.{◌≡◌};
+    ghost use Rattle.std.specs.Prelude.{◌≡◌, IfSome};
     ghost use Rattle.dbg_plan.specs.Debugged.{IsConsidered};
     ghost use Rattle.dbg_runner.specs.Lawful.{IsLawful, carried, left};
     ghost use Rattle.dbg_runner.specs.ReportFields.{sliced, unsliced, StandsAtEnd};
@@ -68,6 +68,7 @@ impl Report {
         requires stands { StandsAtEnd (sliced run mode begins outputs debuggee ends) debuggee ends }
         ensures report { result.0 ≡ sliced run mode begins outputs debuggee ends }
         ensures on { result.1 ≡ left (sliced run mode begins outputs debuggee ends) ends }
+        ensures considered { IfSome result.1 IsConsidered }
     {
         let first = debuggee.first();
         let finish = debuggee.machine().position();
@@ -197,7 +198,8 @@ impl Report {
 
     /// The debuggee that it carries: none after More, where it goes on, and Done, where it is over.
     pub fn into_debuggee(self) -> Option<Debuggee>
-        ensures { result ≡ carried self self.ends }
+        ensures is { result ≡ carried self self.ends }
+        ensures considered { IfSome result IsConsidered }
     {
         match self.cargo {
             Cargo::Sliced(_, debuggee) => debuggee,

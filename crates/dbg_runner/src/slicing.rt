@@ -1,5 +1,6 @@
 // Slices.
 
+ghost use Rattle.std.specs.Prelude.{IfSome};
 ghost use Rattle.dbg_plan.specs.Debugged.{IsConsidered};
 ghost use Rattle.dbg_runner.specs.Rooms.{IsRoomOf};
 ghost use Rattle.dbg_runner.specs.Slices.{IsSliceOf, IsNextOf};
@@ -21,7 +22,8 @@ pub fn slice(
 ) -> (Report, Option<Debuggee>)
     requires considered { IsConsidered debuggee }
     requires room { IsRoomOf outputs debuggee }
-    ensures { IsSliceOf run debuggee mode result.0 result.1 }
+    ensures slice { IsSliceOf run debuggee mode result.0 result.1 }
+    ensures considered { IfSome result.1 IsConsidered }
 {
     let begins = debuggee.machine().position();
     for taken in 0..256u64 {
@@ -41,7 +43,8 @@ pub fn next_report(
     mode: Mode,
 ) -> (Report, Option<Debuggee>)
     requires { IsConsidered debuggee }
-    ensures { IsNextOf run debuggee mode result.0 result.1 }
+    ensures report { IsNextOf run debuggee mode result.0 result.1 }
+    ensures considered { IfSome result.1 IsConsidered }
 {
     match Outputs::new(alloc, &debuggee) {
         Ok(outputs) => slice(run, debuggee, mode, outputs),

@@ -1,8 +1,8 @@
 // The runner's loop.
 
-ghost use Rattle.std.specs.Prelude.{◌≡◌, ◌<◌, ◌++◌, ◌∷◌, [], List, Option, IsTrue, IsFalse};
+ghost use Rattle.std.specs.Prelude.{◌≡◌, ◌<◌, ◌∷◌, [], List, Option, IsTrue, IsFalse};
 ghost use Rattle.dbg_runner.specs.declared.order.Order.{Order};
-ghost use Rattle.dbg_runner.specs.Ports.{Delivered, Pass, ports};
+ghost use Rattle.dbg_runner.specs.Ports.{Delivered, Pass, with_more, ports};
 ghost use Rattle.dbg_runner.specs.Serves.{Idle, Running, Holding, ServesAll};
 ghost use Rattle.dbg_runner.specs.Turns.{going, Turns};
 
@@ -11,13 +11,12 @@ use crate::ports::{Gate, OrdersIn, Reports};
 use crate::report::Report;
 use crate::run::{Next, Run};
 use crate::slicing::next_report;
-use pl0_meaning::meaning_laws;
 use std::alloc::Global;
 use std::sync::Wait;
 
 // Sends a report: whether it was taken.
 fn deliver<P: Reports>(reports: &mut P, report: Report) -> bool
-    ensures sent { IsTrue result → P.seen reports.new ≡ record { reports = (P.seen reports.old).reports ++ report ∷ []; refusals = (P.seen reports.old).refusals } }
+    ensures sent { IsTrue result → P.seen reports.new ≡ record { reports = with_more (P.seen reports.old).reports (report ∷ []); refusals = (P.seen reports.old).refusals } }
     ensures refused { IsFalse result → (P.seen reports.new).reports ≡ (P.seen reports.old).reports }
     ensures counted { IsFalse result → (P.seen reports.old).refusals < (P.seen reports.new).refusals }
 {
@@ -26,7 +25,7 @@ fn deliver<P: Reports>(reports: &mut P, report: Report) -> bool
 
 // Sends the report that a run is held.
 fn send_held<P: Reports>(run: Run, reports: &mut P) -> Next
-    ensures { (taken : List Order) (passed : Option (List Pass)) → Turns (Holding (going run))
+    ensures { (taken : Option (List Order)) (passed : Option (List Pass)) → Turns (Holding (going run))
         (ports taken (P.seen reports.old) passed) result (ports taken (P.seen reports.new) passed) }
 {
     let report = Report::held(run.number, run.mode, run.debuggee.into_debuggee());
@@ -79,7 +78,6 @@ fn run_slice<O: OrdersIn, P: Reports, G: Gate>(
         (ports (O.taken orders.old) (P.seen reports.old) (G.passed gate.old)) result
         (ports (O.taken orders.new) (P.seen reports.new) (G.passed gate.new)) }
 {
-    meaning_laws();
     let Run {
         number,
         debuggee,

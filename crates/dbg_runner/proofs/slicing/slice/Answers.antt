@@ -9,7 +9,7 @@ step_on-requires-clause-room c =
 
 pub of_slice-requires-clause-lawful : goal.of_slice-requires-clause-lawful
 of_slice-requires-clause-lawful c =
-    ended c.args.mode c.args.debuggee c.loop-taken.taken c.loop-taken.debuggee c.loop-taken.outputs c.loop-taken.invariant _ _ c.args.run _ (c.position-begins.ensures ∙ ap (λ (m : Standing). m.position) c.machine.ensures) c.loop-taken-test.true c.in-Some.ends c.in-Some.ensures
+    ended c.args.mode c.args.debuggee c.loop-taken.taken c.loop-taken.debuggee c.loop-taken.outputs c.loop-taken.invariant _ _ c.args.run _ (c.position-begins.ensures.position ∙ ap (λ (m : Standing). m.position) c.machine.ensures) c.loop-taken-test.true c.in-Some.ends c.in-Some.ensures
 
 pub loop-taken-preserved : goal.loop-taken-preserved
 loop-taken-preserved c =

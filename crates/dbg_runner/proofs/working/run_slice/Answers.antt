@@ -17,8 +17,8 @@ returns-then-not-deliver g c = record {
 pub returns-in-None : goal.returns-in-None
 returns-in-None g c =
     let sent = c.deliver.ensures.sent c.if-not-deliver.false in
-    let continues = subst (λ (d : Debugged). IsReportOf c.args.run.number d c.args.run.mode c.next_report-report.result.0) c.into_debuggee-debuggee.ensures.same c.next_report-report.ensures.of in
-    let over = comes_to_idle (going c.args.run) c.next_report-report.result.0 c.next_report-report.ensures.end (sym c.in-None.is ∙ c.next_report-report.ensures.on_is) in record {
+    let continues = subst (λ (d : Debugged). IsReportOf c.args.run.number d c.args.run.mode c.next_report-report.result.0) c.into_debuggee-debuggee.ensures.same c.next_report-report.ensures.report.of in
+    let over = comes_to_idle (going c.args.run) c.next_report-report.result.0 c.next_report-report.ensures.report.end (sym c.in-None.is ∙ c.next_report-report.ensures.report.on_is) in record {
       now = Idle;
       serves = passes_and_sends (going c.args.run) _ _ c.next_report-report.result.0 Idle continues over refl c.pass.ensures (ap (λ (d : Delivered). d.reports) sent);
       leaves = (refl, ap (λ (d : Delivered). d.refusals) sent);
@@ -28,8 +28,8 @@ pub returns-in-Some : goal.returns-in-Some
 returns-in-Some g c =
     let next = record (going c.args.run) { debuggee = c.new.result; slices = c.args.run.slices + 1 } in
     let sent = c.deliver.ensures.sent c.if-not-deliver.false in
-    let continues = subst (λ (d : Debugged). IsReportOf c.args.run.number d c.args.run.mode c.next_report-report.result.0) c.into_debuggee-debuggee.ensures.same c.next_report-report.ensures.of in
-    let onward = goes_on (going c.args.run) c.next_report-report.result.0 c.new.result (ap (λ (d : Debugged). Some d) c.new.ensures ∙ sym c.in-Some.is ∙ c.next_report-report.ensures.on_is) in
+    let continues = subst (λ (d : Debugged). IsReportOf c.args.run.number d c.args.run.mode c.next_report-report.result.0) c.into_debuggee-debuggee.ensures.same c.next_report-report.ensures.report.of in
+    let onward = goes_on (going c.args.run) c.next_report-report.result.0 c.new.result (ap (λ (d : Debugged). Some d) c.new.ensures ∙ sym c.in-Some.is ∙ c.next_report-report.ensures.report.on_is) in
     turns_then (Running (going c.args.run)) _
     (ports (g.O.OrdersIn.taken c.args.orders.now) (g.P.Reports.seen c.deliver.new.reports) (g.G.Gate.passed c.pass.new.self))
     (Running next)
