@@ -25,4 +25,3 @@ pub use evaluation::EvalFault;
 pub use mode::{Mode, Reason};
 pub use plan::Plan;
 pub use resolving::{Answer, Asked, resolve};
-
