@@ -93,7 +93,11 @@ pub fn count_position(machine: &Machine, plan: &Option<Arc<Plan>>, counts: &mut 
         Some(plan) => {
             lexer_laws();
             steps_laws();
-            count_arrivals(machine, plan.entry(machine.place()), counts)
+            let entry = plan.entry(machine.place());
+            if entry.is_empty() {
+                return false;
+            }
+            count_arrivals(machine, entry, counts)
         }
     }
 }
