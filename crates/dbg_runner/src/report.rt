@@ -56,6 +56,7 @@ impl Report {
     ghost use Rattle.dbg_runner.specs.declared.end.End.TheVariants as end;
 
     // The report of a slice that came to where the debuggee stands, and the debuggee if it goes on.
+    #[inline(always)]
     pub(crate) fn of_slice(
         run: u64,
         mode: Mode,
@@ -72,10 +73,22 @@ impl Report {
     {
         let first = debuggee.first();
         let finish = debuggee.machine().position();
-        let (carried, on) = match ends {
-            End::More => (None, Some(debuggee)),
-            End::Done => (None, None),
-            End::Due(_) | End::Held | End::Fault(_) | End::NoMemory => (Some(debuggee), None),
+        // Most slices end so, and a debuggee is large: it moves once.
+        if let End::More = ends {
+            let report = Report {
+                run,
+                first,
+                mode,
+                begins,
+                finish,
+                cargo: Cargo::Sliced(outputs, None),
+                ends,
+            };
+            return (report, Some(debuggee));
+        }
+        let carried = match ends {
+            End::More | End::Done => None,
+            End::Due(_) | End::Held | End::Fault(_) | End::NoMemory => Some(debuggee),
         };
         let report = Report {
             run,
@@ -86,7 +99,7 @@ impl Report {
             cargo: Cargo::Sliced(outputs, carried),
             ends,
         };
-        (report, on)
+        (report, None)
     }
 
     /// No slice began, since the run was held.

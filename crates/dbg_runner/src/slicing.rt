@@ -14,6 +14,7 @@ use std::alloc::Global;
 
 /// Takes at most 256 steps, up to the first that leads to a due position or to the program's end, or that faults. It
 /// takes no memory. The debuggee comes back beside the report where the run goes on, and only there.
+#[inline(always)]
 pub fn slice(
     run: u64,
     mut debuggee: Debuggee,
@@ -36,6 +37,7 @@ pub fn slice(
 }
 
 /// A slice, or the report that there was no memory for one.
+#[inline(always)]
 pub fn next_report(
     alloc: Global,
     run: u64,

@@ -33,7 +33,7 @@ fn main(rt: HostRuntime) -> Result<()> {
     debuggee.set_plan(Arc::new(rt.alloc(), plan)?);
     if 0 < debuggee.machine().depth() {
         let _ = debuggee.consider(Mode::Continue);
-        let last = run(rt.alloc(), debuggee);
+        let last = run(rt.alloc(), debuggee).context("no end")?;
         let (ends, steps) = (last.ends(), last.finish());
         println!(rt; "{ends:?} after {steps} steps under {} breakpoints", answers.len())?;
     }
@@ -65,15 +65,15 @@ fn asked_for(alloc: Global, words: &[String]) -> Result<Vec<Asked>>
 }
 
 /// Runs to the end, or to a stop: the last report.
-fn run(alloc: Global, debuggee: Debuggee) -> Report
+fn run(alloc: Global, mut debuggee: Debuggee) -> Option<Report>
     requires { IsConsidered debuggee }
 {
-    let (mut report, mut on) = next_report(alloc, 1, debuggee, Mode::Continue);
     for _ in 0..u64::MAX {
+        let (report, on) = next_report(alloc, 1, debuggee, Mode::Continue);
         match on {
-            None => return report,
-            Some(debuggee) => (report, on) = next_report(alloc, 1, debuggee, Mode::Continue),
+            None => return Some(report),
+            Some(next) => debuggee = next,
         }
     }
-    report
+    None
 }

@@ -1,6 +1,5 @@
-use Rattle.std.specs.Prelude.{IfSome}
 use Rattle.dbg_plan.specs.Debugged.{IsConsidered}
 use Rattle.dbg_speed.proofs.run.Given as goal
 
 abbrev pub invariant-loop : goal.invariant-loop
-invariant-loop l = IfSome l.on IsConsidered
+invariant-loop l = IsConsidered l.debuggee
