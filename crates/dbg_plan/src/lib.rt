@@ -26,3 +26,5 @@ pub use mode::{Mode, Reason};
 pub use plan::Plan;
 pub use resolving::{Answer, Asked, resolve};
 
+#[cfg(test)]
+mod tests;
