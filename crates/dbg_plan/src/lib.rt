@@ -25,3 +25,6 @@ pub use evaluation::EvalFault;
 pub use mode::{Mode, Reason};
 pub use plan::Plan;
 pub use resolving::{Answer, Asked, resolve};
+
+#[cfg(test)]
+mod tests;
