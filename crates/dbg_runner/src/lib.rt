@@ -16,6 +16,8 @@ mod ports;
 mod report;
 mod run;
 mod slicing;
+#[cfg(test)]
+mod tests;
 mod working;
 
 pub use end::End;
