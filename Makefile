@@ -4,7 +4,7 @@ PROGRAM = crates/pl0dap/out/pl0dap
 SPEED = crates/pl0_speed/out/pl0_speed
 SOURCES = crates.txt $(shell find crates -name out -prune -o -type f \( -name '*.rt' -o -name '*.antt' \) -print)
 
-.PHONY: build demo rows check install bench
+.PHONY: build demo rows check install bench refusals
 
 build: $(PROGRAM)
 
@@ -29,6 +29,10 @@ rows: $(PROGRAM)
 # The merge gate: proves everything from nothing, and runs everything.
 check:
 	rt ci
+
+# Each growth, read and write of the program refused in turn.
+refusals: $(PROGRAM)
+	python3 demo/refusals.py $(PROGRAM)
 
 install: $(PROGRAM)
 	install -D $(PROGRAM) $(DESTDIR)$(PREFIX)/bin/pl0dap
