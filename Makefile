@@ -5,7 +5,7 @@ SPEED = crates/pl0_speed/out/pl0_speed
 SLICES = crates/dbg_speed/out/dbg_speed
 SOURCES = crates.txt $(shell find crates -name out -prune -o -type f \( -name '*.rt' -o -name '*.antt' \) -print)
 
-.PHONY: build demo rows check misuse install bench
+.PHONY: build demo rows refusals misuse check install bench
 
 build: $(PROGRAM)
 
@@ -39,6 +39,10 @@ check:
 # Programs that the compiler must refuse, which the gate can't judge.
 misuse:
 	python3 misuse/check.py
+
+# Each growth, read and write of the program refused in turn.
+refusals: $(PROGRAM)
+	python3 demo/refusals.py $(PROGRAM)
 
 install: $(PROGRAM)
 	install -D $(PROGRAM) $(DESTDIR)$(PREFIX)/bin/pl0dap
