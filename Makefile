@@ -2,9 +2,10 @@
 PREFIX ?= /usr/local
 PROGRAM = crates/pl0dap/out/pl0dap
 SPEED = crates/pl0_speed/out/pl0_speed
+SLICES = crates/dbg_speed/out/dbg_speed
 SOURCES = crates.txt $(shell find crates -name out -prune -o -type f \( -name '*.rt' -o -name '*.antt' \) -print)
 
-.PHONY: build demo rows check install bench
+.PHONY: build demo rows refusals misuse check install bench
 
 build: $(PROGRAM)
 
@@ -16,6 +17,11 @@ $(PROGRAM): $(SOURCES)
 # Steps a program's machine and does nothing else.
 $(SPEED): $(SOURCES)
 	cd crates/pl0_speed && rt run -- data/count.pl0
+	touch $@
+
+# Runs a program in slices under a plan and does nothing else.
+$(SLICES): $(SOURCES)
+	cd crates/dbg_speed && rt run -- data/count.pl0
 	touch $@
 
 # A stored debug session, its frames printed in readable form.
@@ -30,10 +36,19 @@ rows: $(PROGRAM)
 check:
 	rt ci
 
+# Programs that the compiler must refuse, which the gate can't judge.
+misuse:
+	python3 misuse/check.py
+
+# Each growth, read and write of the program refused in turn.
+refusals: $(PROGRAM)
+	python3 demo/refusals.py $(PROGRAM)
+
 install: $(PROGRAM)
 	install -D $(PROGRAM) $(DESTDIR)$(PREFIX)/bin/pl0dap
 
-bench: $(PROGRAM) $(SPEED)
+bench: $(PROGRAM) $(SPEED) $(SLICES)
 	python3 bench/throughput.py $(PROGRAM)
 	python3 bench/machine.py $(PROGRAM) $(SPEED)
+	python3 bench/slices.py $(SPEED) $(SLICES)
 	python3 bench/checking.py $(PROGRAM)

@@ -67,6 +67,11 @@ pub piece_short : (n size : ℕ) (room piece : List ℕ) → piece ≡ take n ro
 piece_short n size room piece is room_is =
     let e = ap length is in let l = length-take n room in omega (arith, e, l, room_is)
 
+-- what a read gave is not empty, unless it gave no byte
+pub piece_some : (n : ℕ) (room piece : List ℕ) → piece ≡ take n room → (n ≡ 0 → ⊥) → n ≤ length room → 0 < length piece
+piece_some n room piece is some within =
+    let e = ap length is in let l = length-take n room in omega (arith, e, l, some, within)
+
 -- ---- frames, one after another
 
 concat_map-append : {A : Type 0} (f : A → List ℕ) (xs ys : List A) → concat (map f (xs ++ ys)) ≡ concat (map f xs) ++ concat (map f ys)

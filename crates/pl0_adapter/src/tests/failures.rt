@@ -3,7 +3,6 @@ use super::memory::{NoFiles, OpenGate};
 use super::{DISCONNECT_2, DISCONNECTED_2, INITIALIZE_1, INITIALIZED_1, Streams, WELL, run};
 use crate::serving::{ServeFault, Served, serve};
 use crate::streams::{Reading, Writing};
-use dap_session::SessionFault;
 use std::test::Fail;
 
 #[test]
@@ -64,39 +63,6 @@ fn tells_a_failed_write(rt: HostRuntime) -> Result<(), Fail> {
         }
     }
     Ok(())
-}
-
-/// Where a growth is refused (`rt try --test --fail-alloc 1..`), what was written is a beginning of the answers, and only
-/// want of memory is told.
-#[test]
-fn loses_no_more_than_the_end(rt: HostRuntime) {
-    let Ok(input) = [INITIALIZE_1, DISCONNECT_2].concat(rt.alloc()) else {
-        return;
-    };
-    let Ok(output) = [INITIALIZED_1, DISCONNECTED_2].concat(rt.alloc()) else {
-        return;
-    };
-    let Ok(mut room) = Vec::with_capacity(rt.alloc(), output.len()) else {
-        return;
-    };
-    let result = serve(
-        &rt,
-        rt.alloc(),
-        &mut Reading::new(input.as_slice()),
-        &mut Writing::new(&mut room),
-        &mut NoFiles,
-        &mut OpenGate,
-    );
-    match result {
-        Ok(served) => {
-            assert_eq!(rt; served, Served::Disconnected);
-            assert_eq!(rt; room.as_slice(), output.as_slice());
-        }
-        Err(fault) => {
-            assert_eq!(rt; fault, ServeFault::Session(SessionFault::NoMemory));
-            assert!(rt; output.as_slice().starts_with(room.as_slice()));
-        }
-    }
 }
 
 #[test]

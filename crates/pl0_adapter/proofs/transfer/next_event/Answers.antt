@@ -1,6 +1,6 @@
 use Rattle.std.proofs.Common.{◌≡◌, ◌<◌, length, Err, ◌∙◌, ap, refl, arith}
 use Rattle.pl0_adapter.proofs.Known.{keeps_self, keeps_both, keeps_consumes}
-use Rattle.pl0_adapter.proofs.Transferring.{read_ends, read_gives, lent_room, piece_short}
+use Rattle.pl0_adapter.proofs.Transferring.{read_ends, read_gives, lent_room, piece_short, piece_some}
 use Rattle.pl0_adapter.proofs.transfer.next_event.Goals as goal
 
 pub loop-init : goal.loop-init
@@ -22,6 +22,7 @@ returns-in-Ok-read g c =
       read_gives _ _ _ _ c.read.new.room _ c.loop.invariant.0 c.in-Ok-read.ensures.bytes piece,
       piece_short _ _ c.read.new.room _ piece (same ∙ c.loop.invariant.2),
       c.in-Ok-read.ensures.kept ∙ c.loop.invariant.1,
+      piece_some _ c.read.new.room _ piece c.in-Ok-read.count-test.1 (omega (arith, c.in-Ok-read.ensures.within, c.read.auto.room)),
     )
 
 pub returns-in-Err-Failed : goal.returns-in-Err-Failed
