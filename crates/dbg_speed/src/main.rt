@@ -35,7 +35,10 @@ fn main(rt: HostRuntime) -> Result<()> {
         let _ = debuggee.consider(Mode::Continue);
         let last = run(rt.alloc(), debuggee).context("no end")?;
         let (ends, steps) = (last.ends(), last.finish());
-        println!(rt; "{ends:?} after {steps} steps under {} breakpoints", answers.len())?;
+        println!(rt;
+            "{ends:?} after {steps} steps under {} breakpoints",
+            answers.len()
+        )?;
     }
     Ok(())
 }
