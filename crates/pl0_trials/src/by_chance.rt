@@ -25,8 +25,8 @@ const RELATIONS: [&str; 6] = [" = ", " # ", " < ", " <= ", " > ", " >= "];
 
 /// Numbers by chance: splitmix64.
 #[derive(Clone, Copy)]
-struct Chance {
-    state: u64,
+pub struct Chance {
+    pub state: u64,
 }
 
 impl Chance {
@@ -38,7 +38,7 @@ impl Chance {
     }
 
     /// A number below another one, or 0.
-    fn below(&mut self, count: usize) -> usize {
+    pub fn below(&mut self, count: usize) -> usize {
         match self.next().checked_rem(count as u64) {
             Some(number) => number as usize,
             None => 0,
@@ -46,13 +46,13 @@ impl Chance {
     }
 
     /// One of the first so many words.
-    fn pick(&mut self, words: &[&'static str], count: usize) -> &'static str {
+    pub fn pick(&mut self, words: &[&'static str], count: usize) -> &'static str {
         let index = self.below(count);
         words.get(index).copied().unwrap_or("")
     }
 
     /// Whether this happens, so many times in a hundred.
-    fn percent(&mut self, times: u64) -> bool {
+    pub fn percent(&mut self, times: u64) -> bool {
         self.next() % 100 < times
     }
 }

@@ -283,7 +283,8 @@ impl<'a> Plain<'a> {
         }
     }
 
-    fn truth(&self, condition: &Condition) -> Result<bool, RunFault> {
+    /// Whether a condition holds in the newest frame.
+    pub fn truth(&self, condition: &Condition) -> Result<bool, RunFault> {
         match condition {
             Condition::Odd(value) => {
                 let number = self.value(value)?;
