@@ -3,7 +3,7 @@
 
 usage: rows.py PROGRAM
 
-Each input goes in whole, a byte at a time, and cut in two at a number of places. Prints a line for each input, and ends
+Each input goes in whole and cut in two at a number of places, and one of at most 4,096 bytes a byte at a time. Prints a line for each input, and ends
 with status 1 where one differs.
 """
 import subprocess
