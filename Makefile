@@ -28,9 +28,11 @@ $(SLICES): $(SOURCES)
 demo: $(PROGRAM)
 	python3 demo/session.py $(PROGRAM) demo/hello.session
 
-# Worked inputs, whole, a byte at a time and cut at many places, with what must come out.
+# Worked inputs, whole, a byte at a time and cut at many places, with what must come out; and that the examples are those
+# whose listings the gate compares.
 rows: $(PROGRAM)
 	python3 demo/rows.py $(PROGRAM)
+	diff -r examples crates/check_examples/data
 
 # The merge gate: proves everything from nothing, and runs everything.
 check:
