@@ -3,6 +3,7 @@ pub mod Tally
 pub mod Places
 pub mod Here
 pub mod Fresh
+pub mod Further
 pub mod HitNumbers
 pub mod Parts
 pub mod Lines

@@ -1,5 +1,5 @@
 -- How a debuggee's fields stand for what contracts see of it.
-use Rattle.std.specs.Prelude.{◌≡◌, ℕ, ◌+◌, ◌≤◌, ◌⊎◌, length, Option, option_map}
+use Rattle.std.specs.Prelude.{◌≡◌, ℕ, ◌+◌, ◌≤◌, Bool, true, false, length, Option, option_map}
 use Rattle.std.specs.Arc.{arc_value}
 use Rattle.pl0_machine.specs.Machine.{Standing, program}
 use Rattle.dbg_plan.specs.declared.debuggee.Debuggee.TheInside.{Inside}
@@ -10,17 +10,26 @@ use Rattle.dbg_plan.specs.Debugged.{Debugged, IsRunning}
 abbrev pub plan_of : Inside → Option Listed
 plan_of d = option_map arc_value d.plan
 
-abbrev pub debugged_of : Inside → Debugged
-debugged_of d = record { unit = d.machine.unit; position = d.machine.position; breakpoints = breakpoints_of (plan_of d); first = d.first; next = d.next }
+-- the next position to be considered, where it is known whether this one was
+abbrev pub next_at : ℕ → Bool → ℕ
+next_at position true = position + 1
+next_at position false = position
 
--- the machine stands at the next position to be considered, or was considered where it runs now
-abbrev pub StandsBy : Standing → ℕ → Type 0
-StandsBy m next = (next ≡ m.position) ⊎ ((next ≡ m.position + 1) × IsRunning m)
+abbrev pub next_of : Inside → ℕ
+next_of d = next_at d.machine.position d.considered
+
+abbrev pub debugged_of : Inside → Debugged
+debugged_of d = record { unit = d.machine.unit; position = d.machine.position; breakpoints = breakpoints_of (plan_of d); first = d.first; next = next_of d }
+
+-- where a position was considered, the program runs
+abbrev pub StandsBy : Standing → Bool → Type 0
+StandsBy m true = IsRunning m
+StandsBy m false = Unit {0}
 
 pub record IsCounting (d : Inside) : Type 0 where
   pub numbered : IsNumbered (breakpoints_of (plan_of d))
   pub fits : MayBePlanOf (program d.machine) (plan_of d)
   pub room : length d.counts ≡ 256
-  pub counts : AreCounts (program d.machine) (breakpoints_of (plan_of d)) d.first d.next d.counts
-  pub begun : d.first ≤ d.next
-  pub stands : StandsBy d.machine d.next
+  pub counts : AreCounts (program d.machine) (breakpoints_of (plan_of d)) d.first (next_of d) d.counts
+  pub begun : d.first ≤ next_of d
+  pub stands : StandsBy d.machine d.considered

@@ -2,6 +2,7 @@ pub mod Due
 pub mod Bound
 pub mod Plans
 pub mod Debugged
+pub mod Advances
 pub mod Answers
 pub mod Answering
 pub mod Table

@@ -11,9 +11,24 @@ use crate::evaluation::{EvalFault, evaluate};
 use crate::mode::{Mode, Reason};
 use crate::plan::Plan;
 use pl0_machine::{Machine, StepOutcome};
+use pl0_meaning::RunFault;
 use pl0_tree::Expression;
 use std::marker::Model;
 use std::sync::Arc;
+
+/// What a step did, and why the position that it led to is due, if it is.
+#[derive(Clone, Copy, PartialEq, Eq, Debug)]
+pub enum Advance {
+    /// The program goes on, and the step may have written a number.
+    To {
+        written: Option<i64>,
+        due: Option<Reason>,
+    },
+    /// The program is over.
+    Done,
+    /// The step faults, and all is as before.
+    Fault(RunFault),
+}
 
 /// A machine with the plan that is in force, and what was counted under it.
 #[derive(Drop)]
@@ -22,7 +37,8 @@ pub struct Debuggee {
     plan: Option<Arc<Plan>>,
     counts: [u32; 256],
     first: u64,
-    next: u64,
+    // Whether the machine's position was considered. A flag, and no position, so that `advance` has nothing to store.
+    considered: bool,
 }
 
 impl Model for Debuggee {
@@ -60,6 +76,7 @@ impl Debuggee {
     ghost use Rattle.pl0_machine.specs.Machine.{Stepped, outcome_of, frames, depth_of};
     ghost use Rattle.dbg_plan.specs.Plans.{IsPlanOf};
     ghost use Rattle.dbg_plan.specs.Debugged.{machine_of, program_of, IsConsidered, IsNext, due_now};
+    ghost use Rattle.dbg_plan.specs.Advances.{Advanced};
     ghost use Rattle.dbg_plan.specs.Values.{told};
 
     /// A machine under the empty plan. Its position is the next to be considered.
@@ -72,7 +89,7 @@ impl Debuggee {
             plan: None,
             counts: [0; 256],
             first: position,
-            next: position,
+            considered: false,
         }
     }
 
@@ -97,6 +114,17 @@ impl Debuggee {
         self.first
     }
 
+    // The next position to be considered.
+    fn next(&self) -> u64
+        ensures { result ≡ self.now.next }
+    {
+        if self.considered {
+            self.machine.position() + 1
+        } else {
+            self.machine.position()
+        }
+    }
+
     /// Takes the machine's next step.
     #[inline(always)]
     pub fn step(&mut self) -> StepOutcome
@@ -104,7 +132,9 @@ impl Debuggee {
         ensures stepped { Stepped (outcome_of (machine_of self.old)) (machine_of self.old) result (machine_of self.new) }
         ensures kept { self.new ≡ record self.old { position = self.new.position } }
     {
-        self.machine.step()
+        let outcome = self.machine.step();
+        self.considered = matches!(outcome, StepOutcome::Fault(_));
+        outcome
     }
 
     /// Puts a plan in, which counts from the next position to be considered.
@@ -112,9 +142,10 @@ impl Debuggee {
         requires { IsPlanOf (program_of self.old) plan.value }
         ensures { self.new ≡ record self.old { breakpoints = plan.value.breakpoints; first = self.old.next } }
     {
+        let first = self.next();
         self.plan = entered(plan);
         self.counts = [0; 256];
-        self.first = self.next;
+        self.first = first;
     }
 
     /// Considers the position where the machine stands: whether it is due.
@@ -124,9 +155,30 @@ impl Debuggee {
         ensures due { result ≡ due_now self.old mode }
         ensures kept { self.new ≡ record self.old { next = self.old.next + 1 } }
     {
+        self.considered = true;
         let hit = count_position(&self.machine, &self.plan, &mut self.counts);
-        self.next = self.machine.position() + 1;
         reason_here(&self.machine, hit, mode)
+    }
+
+    /// Takes the machine's next step and considers the position that it leads to, if the program goes on there: what
+    /// `step` does, and then `consider`.
+    #[inline(always)]
+    pub fn advance(&mut self, mode: Mode) -> Advance
+        requires { IsConsidered self.old }
+        ensures { Advanced mode self.old result self.new }
+    {
+        match self.machine.step() {
+            StepOutcome::Went(written) => {
+                let hit = count_position(&self.machine, &self.plan, &mut self.counts);
+                let due = reason_here(&self.machine, hit, mode);
+                Advance::To { written, due }
+            }
+            StepOutcome::Done => {
+                self.considered = false;
+                Advance::Done
+            }
+            StepOutcome::Fault(fault) => Advance::Fault(fault),
+        }
     }
 
     /// The value of an expression in a frame, which is alive. A name that the frame's block can't read counts as 0.

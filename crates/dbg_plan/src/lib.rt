@@ -20,7 +20,7 @@ mod table;
 
 pub use bound::{BoundCondition, BoundExpression};
 pub use breakpoint::{Breakpoint, Guard, Rule};
-pub use debuggee::Debuggee;
+pub use debuggee::{Advance, Debuggee};
 pub use evaluation::EvalFault;
 pub use mode::{Mode, Reason};
 pub use plan::Plan;

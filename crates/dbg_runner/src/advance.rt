@@ -7,8 +7,7 @@ ghost use Rattle.dbg_runner.specs.Advances.{Advanced};
 
 use crate::end::End;
 use crate::outputs::Outputs;
-use dbg_plan::{Debuggee, Mode};
-use pl0_machine::StepOutcome;
+use dbg_plan::{Advance, Debuggee, Mode};
 
 /// Takes a step and considers where it led: how the slice ends there, if it does.
 #[inline(always)]
@@ -17,15 +16,12 @@ pub fn step_on(debuggee: &mut Debuggee, outputs: &mut Outputs, mode: Mode) -> Op
     requires room { length outputs.old.numbers < room_limit }
     ensures { Advanced mode debuggee.old outputs.old result debuggee.new outputs.new }
 {
-    match debuggee.step() {
-        StepOutcome::Went(written) => {
+    match debuggee.advance(mode) {
+        Advance::To { written, due } => {
             outputs.add(written);
-            match debuggee.consider(mode) {
-                None => None,
-                Some(reason) => Some(End::Due(reason)),
-            }
+            due.map(End::Due)
         }
-        StepOutcome::Done => Some(End::Done),
-        StepOutcome::Fault(fault) => Some(End::Fault(fault)),
+        Advance::Done => Some(End::Done),
+        Advance::Fault(fault) => Some(End::Fault(fault)),
     }
 }

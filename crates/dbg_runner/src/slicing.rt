@@ -26,7 +26,8 @@ fn take_steps(debuggee: &mut Debuggee, outputs: &mut Outputs, mode: Mode) -> End
     ensures breakpoints { outputs.new.breakpoints ≡ debuggee.old.breakpoints }
     ensures first { debuggee.new.first ≡ debuggee.old.first }
 {
-    for taken in 0..256u64 {
+    let limit = debuggee.machine().position() + 256;
+    'steps: while debuggee.machine().position() < limit {
         match step_on(debuggee, outputs, mode) {
             None => {}
             Some(ends) => return ends,

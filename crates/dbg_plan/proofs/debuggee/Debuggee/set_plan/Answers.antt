@@ -1,4 +1,4 @@
-use Rattle.std.proofs.Common.{refl, subst, sym}
+use Rattle.std.proofs.Common.{◌∙◌, ap, refl, subst, sym}
 use Rattle.pl0_machine.specs.Machine.{program}
 use Rattle.dbg_plan.specs.Plans.{IsPlanOf, IsNumbered}
 use Rattle.dbg_plan.specs.Debugged.{Debugged, program_of}
@@ -7,6 +7,6 @@ use Rattle.dbg_plan.proofs.debuggee.Debuggee.set_plan.Goals as goal
 
 pub invariant_of-self : goal.invariant_of-self
 invariant_of-self c =
-    fresh c.self.inside c.self.invariant _ refl refl refl refl
+    fresh c.self.inside c.self.invariant _ refl refl (c.next-first.ensures ∙ ap (λ (d : Debugged). d.next) (sym c.self.view_is)) refl
     (subst (λ bs. IsNumbered bs) (sym c.entered.ensures.breakpoints) c.entered.ensures.numbered)
     (c.entered.ensures.fits (program c.self.inside.machine) (subst (λ (d : Debugged). IsPlanOf (program_of d) c.args.plan.value) (sym c.self.view_is) c.requires))
