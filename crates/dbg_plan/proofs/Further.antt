@@ -1,30 +1,55 @@
 -- A debuggee that was considered, one position further.
-use Rattle.std.proofs.Common.{◌≡◌, ℕ, ◌+◌, ◌≤◌, Bool, true, false, List, length, refl, arith, subst, sym, ◌∙◌, ap}
+use Rattle.std.proofs.Common.{◌≡◌, ℕ, ◌+◌, ◌≤◌, Bool, true, false, if◌then◌else◌, List, length, Option, Some, refl, arith, subst, sym, ◌∙◌, ap}
 use Rattle.pl0_machine.specs.Machine.{Standing, program}
 use Rattle.dbg_plan.specs.declared.debuggee.Debuggee.TheInside.{Inside}
-use Rattle.dbg_plan.specs.Debugged.{IsRunning}
+use Rattle.dbg_plan.specs.declared.mode.Mode.{Mode}
+use Rattle.dbg_plan.specs.declared.mode.Reason.{Reason}
+use Rattle.dbg_plan.specs.declared.mode.Reason.TheVariants as reason
+use Rattle.dbg_plan.specs.Due.{reason_of, depth_at}
+use Rattle.dbg_plan.specs.Debugged.{IsRunning, IsConsidered, due_now}
+use Rattle.dbg_plan.specs.Advances.{further}
 use Rattle.dbg_plan.specs.Counting.{AreCounts, CountsOn, breakpoints_of, MayBePlanOf}
-use Rattle.dbg_plan.specs.Counts.{IsCounting, plan_of, next_at, next_of}
+use Rattle.dbg_plan.specs.Counts.{IsCounting, debugged_of, plan_of, next_at, next_of}
 
 -- the next position to be considered tells whether this one was
-pub was_considered : (position : ℕ) (considered : Bool) → next_at position considered ≡ position + 1 → considered ≡ true
+was_considered : (position : ℕ) (considered : Bool) → next_at position considered ≡ position + 1 → considered ≡ true
 was_considered position true h = refl
 was_considered position false h = absurd (omega (arith, h))
 
-pub further : (d : Inside) → IsCounting d → next_of d ≡ d.machine.position + 1 → (machine : Standing) → machine ≡ record d.machine { position = d.machine.position + 1 } → IsRunning machine → (counts : List ℕ) → length counts ≡ 256 → (due : Bool) → ((first : ℕ) → first ≤ machine.position → AreCounts (program machine) (breakpoints_of (plan_of d)) first machine.position d.counts → CountsOn (program machine) (breakpoints_of (plan_of d)) machine.position first d.counts due counts) → IsCounting (record d { machine = machine; counts = counts })
-further d was behind machine on running counts room due counting =
-    let considered = was_considered d.machine.position d.considered behind in
-    let next : next_of (record d { machine = machine; counts = counts }) ≡ machine.position + 1 = ap (λ b. next_at machine.position b) considered in
-    let place : machine.position ≡ next_of d = ap (λ (m : Standing). m.position) on ∙ sym behind in
-    let same : program machine ≡ program d.machine = ap (λ (m : Standing). program m) on in
-    let begun : d.first ≤ machine.position = let b = was.begun in omega (arith, b, place) in
-    let before : AreCounts (program machine) (breakpoints_of (plan_of d)) d.first machine.position d.counts =
-        rw (same, place) was.counts in
-    record {
-      numbered = was.numbered;
-      fits = subst (λ main. MayBePlanOf main (plan_of d)) (sym same) was.fits;
-      room = room;
-      counts = subst (λ n. AreCounts (program machine) (breakpoints_of (plan_of d)) d.first n counts) (sym next) (counting d.first begun before).counts;
-      begun = omega (arith, begun, next);
-      stands = rw (considered) running;
-    }
+-- the machine took a step, and the position that it led to is counted
+module _ (d : Inside) (was : IsCounting d) (behind : next_of d ≡ d.machine.position + 1) (machine : Standing) (on : machine ≡ record d.machine { position = d.machine.position + 1 }) (running : IsRunning machine) (counts : List ℕ) (hit : Bool) (counting : (first : ℕ) → first ≤ machine.position → AreCounts (program machine) (breakpoints_of (plan_of d)) first machine.position d.counts → CountsOn (program machine) (breakpoints_of (plan_of d)) machine.position first d.counts hit counts) where
+  abbrev pub now : Inside
+  now = record d { machine = machine; counts = counts }
+
+  considered : d.considered ≡ true
+  considered = was_considered d.machine.position d.considered behind
+
+  same : program machine ≡ program d.machine
+  same = ap (λ (m : Standing). program m) on
+
+  counts_on : CountsOn (program machine) (breakpoints_of (plan_of d)) machine.position d.first d.counts hit counts
+  counts_on =
+      let place : machine.position ≡ next_of d = ap (λ (m : Standing). m.position) on ∙ sym behind in
+      let begun = was.begun in
+      counting d.first (omega (arith, begun, place)) (rw (same, place) was.counts)
+
+  pub stays_counting : length counts ≡ 256 → IsCounting now
+  stays_counting room =
+      let next : next_of now ≡ machine.position + 1 = ap (λ b. next_at machine.position b) considered in
+      let place = ap (λ (m : Standing). m.position) on in
+      let begun = was.begun in
+      record {
+        numbered = was.numbered;
+        fits = subst (λ main. MayBePlanOf main (plan_of d)) (sym same) was.fits;
+        room = room;
+        counts = subst (λ n. AreCounts (program machine) (breakpoints_of (plan_of d)) d.first n counts) (sym next) counts_on.counts;
+        begun = omega (arith, begun, behind, place, next);
+        stands = rw (considered) running;
+      }
+
+  pub led : (mode : Mode) (due : Option Reason) → due ≡ (if hit then Some reason.Breakpoint else reason_of mode (depth_at (program machine) machine.position)) → (debugged_of now ≡ further (debugged_of d)) × IsConsidered (debugged_of now) × (due ≡ due_now (debugged_of now) mode)
+  led mode due told = (
+    rw (on, considered) refl,
+    record { behind = rw (considered) refl; running = running },
+    told ∙ ap (λ b. if b then Some reason.Breakpoint else reason_of mode (depth_at (program machine) machine.position)) counts_on.due_is,
+  )

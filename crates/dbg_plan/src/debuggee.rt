@@ -16,14 +16,11 @@ use pl0_tree::Expression;
 use std::marker::Model;
 use std::sync::Arc;
 
-/// What a step did, and why the position that it led to is due, if it is.
+/// Where a step led.
 #[derive(Clone, Copy, PartialEq, Eq, Debug)]
 pub enum Advance {
-    /// The program goes on, and the step may have written a number.
-    To {
-        written: Option<i64>,
-        due: Option<Reason>,
-    },
+    /// To a position where the program goes on, and why that is due, if it is.
+    To(Option<Reason>),
     /// The program is over.
     Done,
     /// The step faults, and all is as before.
@@ -71,7 +68,8 @@ fn entered(plan: Arc<Plan>) -> Option<Arc<Plan>>
 }
 
 impl Debuggee {
-    ghost use Rattle.std.specs.Prelude.{◌≡◌, ◌+◌, ◌<◌, [], option_map};
+    ghost use Rattle.std.specs.Prelude.{◌≡◌, ◌+◌, ◌<◌, ◌++◌, [], option_map, vec_len, vec_capacity};
+    ghost use Rattle.pl0_meaning.specs.Runs.{written_by};
     ghost use Rattle.pl0_meaning.specs.Values.{value};
     ghost use Rattle.pl0_machine.specs.Machine.{Stepped, outcome_of, frames, depth_of};
     ghost use Rattle.dbg_plan.specs.Plans.{IsPlanOf};
@@ -160,18 +158,23 @@ impl Debuggee {
         reason_here(&self.machine, hit, mode)
     }
 
-    /// Takes the machine's next step and considers the position that it leads to, if the program goes on there: what
-    /// `step` does, and then `consider`.
+    /// Takes the machine's next step, and considers the position that it leads to, if the program goes on there: what
+    /// `step` does, and then `consider`. The number that the step writes goes behind `numbers`, where there is room.
     #[inline(always)]
-    pub fn advance(&mut self, mode: Mode) -> Advance
-        requires { IsConsidered self.old }
-        ensures { Advanced mode self.old result self.new }
+    pub fn advance(&mut self, mode: Mode, numbers: &mut Vec<i64>) -> Advance
+        requires considered { IsConsidered self.old }
+        requires room { vec_len numbers.old < vec_capacity numbers.old }
+        ensures led { Advanced mode self.old result self.new }
+        ensures written { numbers.new.items ≡ numbers.old.items ++ written_by (outcome_of (machine_of self.old)) }
+        ensures capacity { vec_capacity numbers.new ≡ vec_capacity numbers.old }
     {
         match self.machine.step() {
             StepOutcome::Went(written) => {
+                if let Some(number) = written {
+                    numbers.push_reserved(number);
+                }
                 let hit = count_position(&self.machine, &self.plan, &mut self.counts);
-                let due = reason_here(&self.machine, hit, mode);
-                Advance::To { written, due }
+                Advance::To(reason_here(&self.machine, hit, mode))
             }
             StepOutcome::Done => {
                 self.considered = false;
