@@ -6,6 +6,7 @@ pub mod Coding
 pub mod CodingBlocks
 pub mod Tables
 pub mod Patches
+pub mod Measuring
 pub mod BlockTrees
 pub mod BlockSteps
 pub mod UnitLemmas

@@ -4,3 +4,4 @@ pub mod Sizes
 pub mod Chains
 pub mod Tables
 pub mod Blocks
+pub mod Extents

@@ -7,12 +7,14 @@ ghost use Rattle.pl0_unit.specs.Code.{operator_operation, relation_operation};
 ghost use Rattle.pl0_code.specs.Chains.{found_in};
 ghost use Rattle.pl0_code.specs.Tables.{names_in};
 ghost use Rattle.pl0_code.specs.Sizes.{entry};
+ghost use Rattle.pl0_code.specs.Extents.{inner_extents};
 ghost use Rattle.pl0_code.specs.Blocks.{block_rows, block_table, block_count, outer};
 ghost use Rattle.pl0_code.specs.Rows.{read_of, store_of, call_of, expression_rows, condition_rows, statement_rows, statement_table};
 
 use crate::fault::CodeFault;
 use crate::listing::Listing;
 use crate::scope::{Declared, Found, Names, declarations, resolve};
+use crate::size::Extent;
 use pl0_tree::{
     Block, Condition, Expression, Operator, Place, Relation, Statement, Step, StepKind, StepNo,
 };
@@ -227,24 +229,29 @@ impl Emitter {
         }
     }
 
-    /// The code of a block, with its procedures' in it.
+    /// The code of a block, with its procedures' in it. The extents are those of the blocks in it.
     pub fn block<'a>(
         &mut self,
         alloc: Global,
+        extents: &[Extent],
         scopes: &mut Vec<Names<'a>>,
         block: &'a Block,
     ) -> Result<(), CodeFault>
+        requires { extents.now ≡ inner_extents block.now }
         ensures listing { (main : Block) (q : Path) → block_at main q ≡ Some block.now → entry main q ≡ length self.old.listing → outer main q ≡ map names_in (reverse scopes.old.items) → OnOk result (self.new.listing ≡ self.old.listing ++ block_rows main q block.now (length self.old.listing) (length self.old.steps.items)) }
         ensures table { OnOk result (self.new.steps.items ≡ self.old.steps.items ++ block_table block.now self.old.ended) }
         ensures ended { OnOk result (self.new.ended ≡ self.old.ended + block_count block.now) }
         ensures scopes { OnOk result (scopes.new.items ≡ scopes.old.items) }
     {
         let from = self.listing.len();
-        let (names, start) = declarations(alloc, block, from)?;
+        let (names, start) = declarations(alloc, extents, block, from)?;
         self.listing.put(Instruction::Jump(start), None)?;
         scopes.push(names)?;
+        let mut left = extents;
         for procedure in &block.procedures {
-            self.block(alloc, scopes, &procedure.block)?;
+            let (own, behind) = left.split_at(left[0].blocks);
+            self.block(alloc, &own[1..], scopes, &procedure.block)?;
+            left = behind;
         }
         self.listing
             .put(Instruction::Enter(3 + block.variables.len()), None)?;

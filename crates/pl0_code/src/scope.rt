@@ -6,9 +6,10 @@ ghost use Rattle.std.specs.HashMap.{get_by};
 ghost use Rattle.pl0_code.specs.Chains.{found_in, names_of};
 ghost use Rattle.pl0_code.specs.Tables.{names_in, or_declared, blocks_start};
 ghost use Rattle.pl0_code.specs.Sizes.{blocks_length};
+ghost use Rattle.pl0_code.specs.Extents.{inner_extents};
 
 use crate::fault::CodeFault;
-use crate::size::{add, block_size};
+use crate::size::{Extent, add};
 use pl0_tree::{Block, Constant, Name, Procedure};
 use std::alloc::Global;
 use std::collections::HashMap;
@@ -63,12 +64,15 @@ fn declare<'a>(names: &mut Names<'a>, word: &'a str, declared: Declared) -> Resu
     }
 }
 
-/// What the block declares, where its code begins at an address, and where its own instructions begin.
+/// What the block declares, where its code begins at an address, and where its own instructions begin. The extents are
+/// those of the blocks in it.
 pub fn declarations<'a>(
     alloc: Global,
+    extents: &[Extent],
     block: &'a Block,
     from: usize,
 ) -> Result<(Names<'a>, usize), CodeFault>
+    requires { extents.now ≡ inner_extents block.now }
     ensures names { IfOk result (λ r. (w : List ℕ) → names_in r.0 w ≡ names_of (Some block.now) from w) }
     ensures start { IfOk result (λ r. r.1 ≡ blocks_start block.now from) }
 {
@@ -88,13 +92,16 @@ pub fn declarations<'a>(
         )?;
     }
     let mut address = add(from, 1)?;
+    let mut left = extents;
     for procedure in &block.procedures {
         declare(
             &mut names,
             procedure.name.text.as_str(),
             Declared::Procedure(address),
         )?;
-        address = add(address, block_size(&procedure.block)?)?;
+        let own = left[0];
+        address = add(address, own.instructions)?;
+        left = left.split_at(own.blocks).1;
     }
     Ok((names, address))
 }

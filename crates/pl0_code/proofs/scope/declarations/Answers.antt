@@ -10,11 +10,45 @@ use Rattle.pl0_tree.specs.declared.tree.Procedure.{out-Procedure}
 use Rattle.pl0_tree.specs.Scope.{AConstant, AVariable, AProcedure}
 use Rattle.pl0_unit.specs.Code.{cell}
 use Rattle.pl0_code.specs.declared.scope.Declared.TheVariants.{Constant, Variable, Procedure as AnEntry}
+use Rattle.pl0_code.specs.declared.size.Extent.{Extent}
 use Rattle.pl0_code.specs.Chains.{declared_as}
 use Rattle.pl0_code.specs.Sizes.{blocks_length}
+use Rattle.pl0_code.specs.Extents.{blocks_extents}
 use Rattle.pl0_code.specs.Tables.{names_in, or_declared}
-use Rattle.pl0_code.proofs.Tables.{after_kept, after_all, constant_value, name_of, all_declared, blocks_next}
+use Rattle.pl0_code.proofs.Measuring.{extent_first, extents_long, extents_behind, inner_out, length_inner}
+use Rattle.pl0_code.proofs.Tables.{none_after, after_kept, after_all, constant_value, name_of, all_declared, blocks_next}
 use Rattle.pl0_code.proofs.scope.declarations.Goals as goal
+
+abbrev nothing : Extent
+nothing = record { instructions = 0; blocks = 0 }
+
+pub loop-procedure-init : goal.loop-procedure-init
+loop-procedure-init c = record {
+  names = λ w. none_after (declared_as (Some c.args.block.now) c.args.from) (names_in c.loop-number.names w) w;
+  address = omega (arith, c.in_ok-address.ensures);
+  left = c.requires ∙ inner_out c.args.block.now ∙ ap blocks_extents (sym c.deref-procedure-items.ensures.value);
+}
+
+pub split_at-requires : goal.split_at-requires
+split_at-requires c =
+    let i = c.loop-procedure.procedure-index in
+    let items = c.deref-procedure-items.result.now in
+    let p = c.procedure-item.result in
+    let is = c.procedure-item.is in
+    let lt : i < length items = omega arith in
+    let left = c.loop-procedure.left.now in
+    let held = c.loop-procedure.invariant.left in
+    extents_long items i p lt is left held _ (ap (λ e. e.blocks) (extent_first items i p lt is left held nothing))
+
+pub bounds-left-0 : goal.bounds-left-0
+bounds-left-0 c =
+    let i = c.loop-procedure.procedure-index in
+    let items = c.deref-procedure-items.result.now in
+    let p = c.procedure-item.result in
+    let is = c.procedure-item.is in
+    let lt : i < length items = omega arith in
+    let long = extents_long items i p lt is c.loop-procedure.left.now c.loop-procedure.invariant.left _ refl in
+    omega (arith, long, length_inner (out-Procedure p).block)
 
 pub loop-constant-preserved : goal.loop-constant-preserved
 loop-constant-preserved c = λ w.
@@ -50,10 +84,13 @@ loop-procedure-preserved c =
     let items = c.deref-procedure-items.result.now in
     let same = c.deref-procedure-items.ensures.value in
     let p = c.procedure-item.result in
+    let is = c.procedure-item.is in
     let i = c.loop-procedure.procedure-index in
     let a = c.loop-procedure.address in
     let lt : i < length items = omega arith in
     let held = c.loop-procedure.invariant in
+    let own : Extent = get_or c.loop-procedure.left.now 0 nothing in
+    let size = extent_first items i p lt is c.loop-procedure.left.now held.left nothing in
     record {
       names = λ w.
           c.in_ok-declare-3.ensures w ∙
@@ -62,7 +99,8 @@ loop-procedure-preserved c =
           (omega (arith, length-map items (λ p. (out-Procedure p).name))) (name_of (λ p. (out-Procedure p).name) items i p lt c.procedure-item.is)
           (ap (λ k. AnEntry k) (sym (held.address ∙ ap (λ l. c.args.from + 1 + blocks_length (take i l)) same)))
           (held.names w);
-      address = let e = blocks_next items i p lt c.procedure-item.is in omega (arith, e, held.address, c.in_ok-address-2.ensures, c.in_ok-block_size.ensures);
+      left = c.split_at.ensures.back ∙ extents_behind items i p lt is c.loop-procedure.left.now held.left _ (ap (λ e. e.blocks) size);
+      address = let e = blocks_next items i p lt is in omega (arith, e, held.address, c.in_ok-address-2.ensures, ap (λ e. e.instructions) size);
     }
 
 pub returns-clause-names : goal.returns-clause-names

@@ -1,18 +1,57 @@
-use Rattle.std.proofs.Common.{◌≡◌, ℕ, ◌+◌, ◌<◌, ◌++◌, ◌∷◌, [], List, length, map, reverse, sym, ap, ◌∙◌, arith, rules, Some, None, length-append, append-nil}
+use Rattle.std.proofs.Common.{◌≡◌, ℕ, ◌+◌, ◌<◌, ◌++◌, ◌∷◌, [], List, length, drop, get_or, map, reverse, refl, sym, ap, ◌∙◌, arith, rules, Some, None, length-append, append-nil}
 use Rattle.std.proofs.lemmas.List.{drop_all}
+use borrow.Author.Rules.{get_or_read}
+use Rattle.pl0_tree.specs.declared.tree.Block.TheFolds as folds
 use Rattle.pl0_tree.specs.declared.step.Step.{Step}
 use Rattle.pl0_tree.specs.declared.step.StepKind.TheVariants as kind
 use Rattle.pl0_tree.specs.declared.tree.Block.{out-Block}
+use Rattle.pl0_tree.specs.declared.tree.Procedure.{Procedure, out-Procedure}
 use Rattle.pl0_unit.specs.declared.instruction.Instruction.TheVariants.{Operate, Enter}
 use Rattle.pl0_unit.specs.declared.instruction.Operation.TheVariants as operation
 use Rattle.pl0_code.specs.Lines.{Row, row}
 use Rattle.pl0_code.specs.Sizes.{entry, blocks_length}
 use Rattle.pl0_code.specs.Chains.{found_in, resolver, chain}
 use Rattle.pl0_code.specs.Tables.{names_in}
-use Rattle.pl0_code.specs.Blocks.{list_blocks_rows, blocks_table, blocks_count}
+use Rattle.pl0_code.specs.Extents.{blocks_extents}
+use Rattle.pl0_code.specs.declared.size.Extent.{Extent}
+use Rattle.pl0_code.specs.Blocks.{list_blocks_rows, blocks_table, blocks_count, block_count}
 use Rattle.pl0_code.proofs.BlockTrees.{count_out, table_out, rows_out}
+use Rattle.pl0_code.proofs.Measuring.{extent_first, extents_long, extents_own, extents_behind, behind_first, inner_out}
 use Rattle.pl0_code.proofs.BlockSteps.{blocks_rows_kept, blocks_table_kept, blocks_count_kept, length_kept, procedure_block, procedure_entry, block_emitted, table_emitted, chain_pushed}
 use Rattle.pl0_code.proofs.emit.Emitter.+block.Goals as goal
+
+first_blocks : (xs : List Procedure) (i : ℕ) (p : Procedure) → i < length xs → p ≡ get_or xs i p → (left : List Extent) → left ≡ blocks_extents (drop i xs) →
+    (get_or left 0 (record { instructions = 0; blocks = 0 })).blocks ≡ block_count (out-Procedure p).block
+first_blocks xs i p lt is left begins = ap (λ e. e.blocks) (extent_first xs i p lt is left begins (record { instructions = 0; blocks = 0 }))
+
+pub loop-procedure-init : goal.loop-procedure-init
+loop-procedure-init below c = record {
+  listing = λ main q at place within. (sym place ∙ omega arith, refl);
+  table = refl;
+  ended = refl;
+  left = c.requires ∙ inner_out c.args.block.now ∙ ap blocks_extents (sym c.deref-procedure-items.ensures.value);
+  scopes = refl;
+}
+
+pub split_at-requires : goal.split_at-requires
+split_at-requires below c =
+    let i = c.loop-procedure.procedure-index in
+    let items = c.deref-procedure-items.result.now in
+    let p = c.procedure-item.result in
+    let is = c.procedure-item.is in
+    let lt : i < length items = omega arith in
+    let held = c.loop-procedure.invariant.left in
+    extents_long items i p lt is c.loop-procedure.left.now held _ (first_blocks items i p lt is _ held)
+
+pub block-requires : goal.block-requires
+block-requires below c =
+    let i = c.loop-procedure.procedure-index in
+    let items = c.deref-procedure-items.result.now in
+    let p = c.procedure-item.result in
+    let is = c.procedure-item.is in
+    let lt : i < length items = omega arith in
+    let held = c.loop-procedure.invariant.left in
+    (search (rules, folds.the_lemmas, get_or_read), behind_first _ _ _ (c.split_at.ensures.front ∙ extents_own items i p lt is c.loop-procedure.left.now held _ (first_blocks items i p lt is _ held)))
 
 pub loop-procedure-preserved : goal.loop-procedure-preserved
 loop-procedure-preserved below c =
@@ -43,6 +82,7 @@ loop-procedure-preserved below c =
           );
       table = blocks_table_kept items i p lt is t u e f done.table done.ended ∙ held.table;
       ended = blocks_count_kept items i p lt is e f done.ended ∙ held.ended;
+      left = c.split_at.ensures.back ∙ extents_behind items i p lt is c.loop-procedure.left.now held.left _ (first_blocks items i p lt is _ held.left);
       scopes = done.scopes ∙ held.scopes;
     }
 

@@ -4,6 +4,7 @@ use Rattle.pl0_tree.specs.Scope.{Path, block_at}
 use Rattle.pl0_code.specs.Chains.{chain}
 use Rattle.pl0_code.specs.Tables.{names_in}
 use Rattle.pl0_code.specs.Sizes.{entry, blocks_length}
+use Rattle.pl0_code.specs.Extents.{blocks_extents}
 use Rattle.pl0_code.specs.Blocks.{list_blocks_rows, blocks_table, blocks_count}
 use Rattle.pl0_code.proofs.emit.Emitter.+block.Given as goal
 
@@ -16,5 +17,6 @@ invariant-loop-procedure l = record {
   table : l.self.steps.items ++ blocks_table (drop l.procedure-index l.procedure-items) l.self.ended ≡
       l.initial.self.steps.items ++ blocks_table l.procedure-items l.initial.self.ended;
   ended : l.self.ended + blocks_count (drop l.procedure-index l.procedure-items) ≡ l.initial.self.ended + blocks_count l.procedure-items;
+  left : l.left ≡ blocks_extents (drop l.procedure-index l.procedure-items);
   scopes : l.scopes.items ≡ l.initial.scopes.items;
 }
