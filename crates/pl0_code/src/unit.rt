@@ -12,6 +12,7 @@ use crate::listing::Listing;
 use crate::size::measure;
 use pl0_lexer::lexer_laws;
 use pl0_names::{blocks, steps_laws};
+use pl0_scope::Scopes;
 use pl0_tree::{Block, Tree};
 use pl0_unit::Unit;
 use std::alloc::Global;
@@ -53,7 +54,7 @@ pub fn emit_program(alloc: Global, main: &Block) -> Result<Emitter, CodeFault>
         steps: Vec::new(alloc),
         ended: 0,
     };
-    let mut scopes = Vec::new(alloc);
-    emitter.block(alloc, extents.as_slice(), &mut scopes, main)?;
+    let mut scopes = Scopes::new(alloc);
+    emitter.block(extents.as_slice(), &mut scopes, main)?;
     Ok(emitter)
 }
