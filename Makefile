@@ -42,9 +42,9 @@ check:
 misuse:
 	python3 misuse/check.py
 
-# Each growth, read and write of the program refused in turn.
-refusals: $(PROGRAM)
-	python3 demo/refusals.py $(PROGRAM)
+# Each growth, read and write of the program refused in turn, and each growth of the programs that step a text.
+refusals: $(PROGRAM) $(SPEED) $(SLICES)
+	python3 demo/refusals.py $(PROGRAM) $(SPEED) $(SLICES)
 
 install: $(PROGRAM)
 	install -D $(PROGRAM) $(DESTDIR)$(PREFIX)/bin/pl0dap

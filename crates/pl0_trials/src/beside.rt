@@ -1,10 +1,10 @@
 //! The machine and the plain interpreter side by side, on programs made by chance.
 
 use crate::by_chance::program;
-use crate::compiled::{machine_of, number, place_of};
-use crate::plain::Plain;
+use crate::compiled::{machine_of, number, path_of, step_of};
 use pl0_machine::{Machine, StepOutcome};
 use pl0_meaning::RunFault;
+use pl0_plain::{NextStep, Outcome, Plain};
 use pl0_syntax::parse;
 use std::alloc::Global;
 use std::test::Fail;
@@ -18,8 +18,10 @@ const STEPS: usize = 4_000;
 /// Where the machine and the interpreter differ.
 #[derive(Clone, Copy, Debug, PartialEq, Eq)]
 enum Difference {
+    Position,
     Depth,
-    Place(usize),
+    Block(usize),
+    Next(usize),
     Link(usize),
     Number(usize, usize),
     Outcome,
@@ -32,26 +34,35 @@ fn frame_difference(
     plain: &Plain,
     at: usize,
 ) -> Result<Option<Difference>, Fail> {
-    let Some(frame) = plain.frames.get(at) else {
+    let Some(frame) = plain.frame(at) else {
         return Ok(Some(Difference::Depth));
     };
     if machine.depth() <= at {
         return Ok(Some(Difference::Depth));
     }
-    if place_of(machine, machine.frame(at).place) != Some(frame.place()) {
-        return Ok(Some(Difference::Place(at)));
+    let view = machine.frame(at);
+    let path = path_of(alloc, machine, view.block)?;
+    if path.as_slice() != frame.block() {
+        return Ok(Some(Difference::Block(at)));
     }
-    let link = if at == 0 { None } else { Some(frame.link) };
+    let next = step_of(machine, view.place).map(|step| NextStep {
+        kind: step.kind,
+        place: step.place,
+    });
+    if next.is_none() || plain.next_step(at) != next {
+        return Ok(Some(Difference::Next(at)));
+    }
+    let link = if at == 0 { None } else { Some(frame.link()) };
     if machine.static_parent(at) != link {
         return Ok(Some(Difference::Link(at)));
     }
-    for (variable, wanted) in frame.numbers.iter().enumerate() {
+    for (variable, wanted) in frame.numbers().iter().enumerate() {
         if number(alloc, machine, at, variable)? != Some(*wanted) {
             return Ok(Some(Difference::Number(at, variable)));
         }
     }
-    if number(alloc, machine, at, frame.numbers.len())?.is_some() {
-        return Ok(Some(Difference::Number(at, frame.numbers.len())));
+    if number(alloc, machine, at, frame.numbers().len())?.is_some() {
+        return Ok(Some(Difference::Number(at, frame.numbers().len())));
     }
     Ok(None)
 }
@@ -62,8 +73,11 @@ fn frames_difference(
     machine: &Machine,
     plain: &Plain,
 ) -> Result<Option<Difference>, Fail> {
+    if machine.position() != plain.position() {
+        return Ok(Some(Difference::Position));
+    }
     let depth = machine.depth();
-    if depth != plain.frames.len() {
+    if depth != plain.depth() {
         return Ok(Some(Difference::Depth));
     }
     let first = if depth <= 8 { 0 } else { depth - 4 };
@@ -74,6 +88,16 @@ fn frames_difference(
         }
     }
     Ok(None)
+}
+
+/// What the machine is to tell of a step that the interpreter took, with so many frames behind it.
+fn wanted(outcome: Outcome, depth: usize) -> Option<StepOutcome> {
+    match outcome {
+        Outcome::Went(None) if depth == 0 => Some(StepOutcome::Done),
+        Outcome::Went(written) => Some(StepOutcome::Went(written)),
+        Outcome::Fault(fault) => Some(StepOutcome::Fault(fault)),
+        Outcome::Over => None,
+    }
 }
 
 /// How a run on both ends.
@@ -100,7 +124,8 @@ fn run_beside(alloc: Global, text: &str) -> Result<Ending, Fail> {
             return Ok(Ending::Done);
         }
         let outcome = machine.step();
-        if plain.step()? != outcome {
+        let taken = plain.step()?;
+        if wanted(taken, plain.depth()) != Some(outcome) {
             return Ok(Ending::Differs(machine.position(), Difference::Outcome));
         }
         if let StepOutcome::Fault(fault) = outcome {

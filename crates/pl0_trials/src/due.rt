@@ -5,9 +5,9 @@ ghost use Rattle.dbg_plan.specs.Debugged.{IsConsidered};
 
 use crate::by_chance::{Chance, program};
 use crate::compiled::{machine_of, place_of};
-use crate::plain::Plain;
 use dbg_plan::{Answer, Asked, Debuggee, Mode, Reason, Rule, resolve};
 use pl0_machine::{Machine, StepOutcome};
+use pl0_plain::Plain;
 use pl0_syntax::parse;
 use pl0_tree::{Condition, Place, Statement};
 use pl0_unit::Unit;
@@ -111,15 +111,15 @@ struct Watched {
 impl Watched {
     /// Whether the interpreter stands at the place, and the condition is true there or faults.
     fn is_met(&self, plain: &Plain) -> bool {
-        let Some(frame) = plain.frames.last() else {
+        let Some(newest) = plain.depth().checked_sub(1) else {
             return false;
         };
-        if frame.place() != self.place {
+        if plain.next_step(newest).map(|next| next.place) != Some(self.place) {
             return false;
         }
         match &self.condition {
             None => true,
-            Some(condition) => plain.truth(condition).unwrap_or(true),
+            Some(condition) => plain.truth(newest, condition).unwrap_or(true),
         }
     }
 
@@ -215,7 +215,7 @@ impl Counted<'_> {
         if due {
             return Ok(Some(Reason::Breakpoint));
         }
-        Ok(reason_of(mode, self.plain.frames.len()))
+        Ok(reason_of(mode, self.plain.depth()))
     }
 }
 

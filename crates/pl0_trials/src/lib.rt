@@ -1,5 +1,5 @@
-//! Trials of the compiler and the machine on whole programs: worked rows, and a plain interpreter beside the machine, and
-//! beside a debuggee under plans made by chance.
+//! Trials of the compiler and the machine on whole programs: worked rows, and the plain interpreter that is the definition
+//! (`pl0_plain`) beside the machine, and beside a debuggee under plans made by chance.
 #![tactic(auto)]
 
 #[cfg(test)]
@@ -10,7 +10,5 @@ mod by_chance;
 mod compiled;
 #[cfg(test)]
 mod due;
-#[cfg(test)]
-mod plain;
 #[cfg(test)]
 mod rows;
