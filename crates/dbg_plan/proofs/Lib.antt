@@ -6,6 +6,7 @@ pub mod Fresh
 pub mod HitNumbers
 pub mod Parts
 pub mod Lines
+pub mod Watching
 pub mod StepLines
 pub mod Texts
 pub mod UnitBlocks
