@@ -96,5 +96,5 @@ pub part_is : (bs ordered read : List Breakpoint) (starts : List ℕ) (s : ℕ) 
 part_is bs ordered read starts s same is stays part =
     subst (λ l. IsPart ordered starts s l) (stays ∙ ap (λ l. those_of s l) (sym is)) (subst (λ l. IsPart l starts s (those_of s l)) same part)
 
-pub listed_is : (a b : ℕ) (xs ys : List Breakpoint) → a ≡ b → xs ≡ ys → ◌≡◌ {A = Listed} (record { steps = a; breakpoints = xs }) (record { steps = b; breakpoints = ys })
-listed_is a b xs ys e f = cc
+pub listed_is : (a b : ℕ) (xs ys : List Breakpoint) (us vs : List Bool) → a ≡ b → xs ≡ ys → us ≡ vs → ◌≡◌ {A = Listed} (record { steps = a; breakpoints = xs; watched = us }) (record { steps = b; breakpoints = ys; watched = vs })
+listed_is a b xs ys us vs e f g = cc

@@ -12,12 +12,12 @@ zeros zero k = refl
 zeros (suc n) zero = refl
 zeros (suc n) (suc k) = zeros n k
 
-pub fresh : (d : Inside) → IsCounting d → (new : Inside) → new.machine ≡ d.machine → new.considered ≡ d.considered → new.first ≡ next_of d → new.counts ≡ replicate 256 0 → IsNumbered (breakpoints_of (plan_of new)) → MayBePlanOf (program d.machine) (plan_of new) → IsCounting new
+pub fresh : (d : Inside) → IsCounting d → (new : Inside) → new.machine ≡ d.machine → new.considered ≡ d.considered → new.first ≡ next_of d → new.counts ≡ replicate 256 0 → IsNumbered (breakpoints_of (plan_of new)) → MayBePlanOf d.machine.unit (plan_of new) → IsCounting new
 fresh d was new machine considered first counts numbered fits =
     let next : next_of new ≡ next_of d = ap (λ b. next_at new.machine.position b) considered ∙ ap (λ (m : Standing). next_at m.position d.considered) machine in
     record {
       numbered = numbered;
-      fits = subst (λ m. MayBePlanOf (program m) (plan_of new)) (sym machine) fits;
+      fits = subst (λ (m : Standing). MayBePlanOf m.unit (plan_of new)) (sym machine) fits;
       room = ap length counts;
       counts = rw (first, next) (begin (program new.machine) _ (next_of d) _ numbered (λ k. ap (λ cs. slice_index cs k) counts ∙ zeros 256 k));
       begun = omega arith;

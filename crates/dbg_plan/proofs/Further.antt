@@ -40,7 +40,7 @@ module _ (d : Inside) (was : IsCounting d) (behind : next_of d ≡ d.machine.pos
       let begun = was.begun in
       record {
         numbered = was.numbered;
-        fits = subst (λ main. MayBePlanOf main (plan_of d)) (sym same) was.fits;
+        fits = subst (λ (m : Standing). MayBePlanOf m.unit (plan_of d)) (sym on) was.fits;
         room = room;
         counts = subst (λ n. AreCounts (program machine) (breakpoints_of (plan_of d)) d.first n counts) (sym next) counts_on.counts;
         begun = omega (arith, begun, behind, place, next);

@@ -7,6 +7,7 @@ pub mod Further
 pub mod HitNumbers
 pub mod Parts
 pub mod Lines
+pub mod Watching
 pub mod StepLines
 pub mod Texts
 pub mod UnitBlocks

@@ -1,12 +1,13 @@
 -- Lines answered one after another.
-use Rattle.std.proofs.Common.{◌≡◌, ℕ, ◌+◌, ◌<◌, ◌≤◌, List, [], ◌∷◌, ◌++◌, length, take, get_or, refl, ap, sym, ◌∙◌, subst, arith, append_assoc, append-nil}
+use Rattle.std.proofs.Common.{◌≡◌, ℕ, ◌+◌, ◌<◌, ◌≤◌, List, [], ◌∷◌, ◌++◌, length, take, get_or, Option, refl, ap, sym, ◌∙◌, subst, arith, append_assoc, append-nil}
 use Rattle.std.proofs.lemmas.List.{take_more, length-append}
 use Rattle.pl0_tree.specs.declared.tree.Block.{Block}
 use Rattle.dbg_plan.specs.declared.breakpoint.Breakpoint.{Breakpoint}
 use Rattle.dbg_plan.specs.declared.resolving.Asked.{Asked}
 use Rattle.dbg_plan.specs.declared.resolving.Answer.{Answer}
 use Rattle.pl0_tree.specs.Steps.{steps}
-use Rattle.dbg_plan.specs.Plans.{Listed, AreNumbered, AreAtSteps, IsPlanOf}
+use Rattle.pl0_unit.specs.declared.unit.Unit.{Unit as Compiled}
+use Rattle.dbg_plan.specs.Plans.{Listed, AreNumbered, AreAtSteps, IsPlanOf, watched_lines}
 use Rattle.dbg_plan.specs.Answers.{IsAnswered, AreAnswered}
 use Rattle.dbg_plan.specs.Answering.{AnswersLine}
 
@@ -51,7 +52,7 @@ one_more main asked i line answers all bs new answer lt is old more all_is =
     } in
     subst (λ l. Resolved main asked (i + 1) l new) (sym all_is) (subst (λ l. Resolved main asked (i + 1) (answers ++ answer ∷ []) l) (sym more.behind) now)
 
-pub plan_is : (main : Block) (n : ℕ) (bs : List Breakpoint) (plan : Listed) → plan ≡ record { steps = n; breakpoints = bs } → n ≡ length (steps main) → AreAtSteps main bs → IsPlanOf main plan
-plan_is main n bs plan is all placed =
-    let this : IsPlanOf main (record { steps = n; breakpoints = bs }) = record { steps = all; bound = placed } in
-    subst (λ (p : Listed). IsPlanOf main p) (sym is) this
+pub plan_is : (u : Compiled) (n : ℕ) (bs : List Breakpoint) (lines : List (Option ℕ)) (plan : Listed) → plan ≡ record { steps = n; breakpoints = bs; watched = watched_lines bs lines } → lines ≡ u.lines.items → n ≡ length (steps u.tree.program) → AreAtSteps u.tree.program bs → IsPlanOf u plan
+plan_is u n bs lines plan is beside all placed =
+    let this : IsPlanOf u (record { steps = n; breakpoints = bs; watched = watched_lines bs lines }) = record { steps = all; bound = placed; watched = ap (λ l. watched_lines bs l) beside } in
+    subst (λ (p : Listed). IsPlanOf u p) (sym is) this

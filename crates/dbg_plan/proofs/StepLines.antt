@@ -5,7 +5,7 @@ use Rattle.std.specs.Bool.{then_some}
 use Rattle.std.specs.List.{position_or_len}
 use Rattle.std.specs.List.Sorted.{IsNonDecreasingBy, IsPartitionPoint}
 use Rattle.std.specs.Coded.{le_prop}
-use Rattle.std.proofs.Math.Logic.{∥∥₁_elim}
+use Rattle.std.proofs.Math.Logic.{∥∥₁_elim, ∥∥₁_map}
 use Rattle.std.proofs.Math.Nat.{ℕ_set}
 use Rattle.std.proofs.lemmas.Bool.{cases_eq}
 use Rattle.std.proofs.lemmas.Bool.Decides.{nat_tests}
@@ -79,6 +79,9 @@ module _ (u : Compiled) (tokens_ascend : (text : List ℕ) → Ascend (map (λ (
   unit_rises i j d le lt =
       ∥∥₁_elim u.compiled le_prop (λ h. ∥∥₁_elim u.tree.lawful le_prop (λ read.
       lines_rise u.tree.program u.steps.items (steps u.tree.program) h.steps (steps_ascend (tokens_of u.tree.text.items) u.tree.program read.reads (tokens_ascend u.tree.text.items)) i j d le lt))
+
+  pub unit_ascends : ∥ Ascend (map (λ (s : StepAt). s.place) (steps u.tree.program)) ∥₁
+  unit_ascends = ∥∥₁_map u.tree.lawful (λ read. steps_ascend (tokens_of u.tree.text.items) u.tree.program read.reads (tokens_ascend u.tree.text.items))
 
 pub unit_length : (u : Compiled) → length u.steps.items ≡ length (steps u.tree.program)
 unit_length u = ∥∥₁_elim u.compiled (ℕ_set _ _) (λ h. same_length u.tree.program u.steps.items (steps u.tree.program) h.steps)

@@ -2,6 +2,7 @@
 use Rattle.std.specs.Prelude.{◌≡◌, ℕ, ◌+◌, ◌-◌, ◌%◌, min, Bool, true, false, ◌&&◌, ◌||◌, nat_eq, nat_lt, if◌then◌else◌, List, [], ◌∷◌, slice_index, slice_set, Option, Some, None}
 use Rattle.pl0_tree.specs.declared.tree.Block.{Block}
 use Rattle.pl0_meaning.specs.Values.{Configuration}
+use Rattle.pl0_unit.specs.declared.unit.Unit.{Unit as Compiled}
 use Rattle.pl0_machine.specs.Machine.{Standing, program, configuration, frames, top_of, IsNext}
 use Rattle.dbg_plan.specs.declared.breakpoint.Rule.{Rule}
 use Rattle.dbg_plan.specs.declared.breakpoint.Rule.TheVariants.{From, Every}
@@ -70,9 +71,9 @@ abbrev pub breakpoints_of : Option Listed → List Breakpoint
 breakpoints_of None = []
 breakpoints_of (Some plan) = plan.breakpoints
 
-abbrev pub MayBePlanOf : Block → Option Listed → Type 0
-MayBePlanOf main None = Unit {0}
-MayBePlanOf main (Some plan) = IsPlanOf main plan
+abbrev pub MayBePlanOf : Compiled → Option Listed → Type 0
+MayBePlanOf unit None = Unit {0}
+MayBePlanOf unit (Some plan) = IsPlanOf unit plan
 
 -- the counts from the nth on are what is kept of these numbers
 abbrev pub CountFrom : (Breakpoint → ℕ) → ℕ → List Breakpoint → List ℕ → Type 0

@@ -28,7 +28,7 @@ StandsBy m false = Unit {0}
 
 pub record IsCounting (d : Inside) : Type 0 where
   pub numbered : IsNumbered (breakpoints_of (plan_of d))
-  pub fits : MayBePlanOf (program d.machine) (plan_of d)
+  pub fits : MayBePlanOf d.machine.unit (plan_of d)
   pub room : length d.counts ≡ 256
   pub counts : AreCounts (program d.machine) (breakpoints_of (plan_of d)) d.first (next_of d) d.counts
   pub begun : d.first ≤ next_of d

@@ -1,17 +1,21 @@
 -- Plans: breakpoints in the order asked.
-use Rattle.std.specs.Prelude.{◌≡◌, ℕ, ◌+◌, ◌<◌, ◌≤◌, Bool, nat_eq, List, [], ◌∷◌, length, filter, Option, Some, None}
+use Rattle.std.specs.Prelude.{◌≡◌, ℕ, ◌+◌, ◌<◌, ◌≤◌, Bool, false, nat_eq, List, [], ◌∷◌, length, map, filter, Option, Some, None}
+use Rattle.std.specs.List.{list_any}
 use Rattle.pl0_tree.specs.declared.tree.Block.{Block}
 use Rattle.pl0_tree.specs.Steps.{steps, step_path}
+use Rattle.pl0_unit.specs.declared.unit.Unit.{Unit as Compiled}
 use Rattle.dbg_plan.specs.declared.breakpoint.Rule.{Rule}
 use Rattle.dbg_plan.specs.declared.breakpoint.Rule.TheVariants.{From, Every}
 use Rattle.dbg_plan.specs.declared.breakpoint.Guard.{Guard}
 use Rattle.dbg_plan.specs.declared.breakpoint.Breakpoint.{Breakpoint}
 use Rattle.dbg_plan.specs.Bound.{IsConditionBound}
 
--- What contracts see of a plan: for how many steps it was made, and its breakpoints in the order asked.
+-- What contracts see of a plan: for how many steps it was made, its breakpoints in the order asked, and for each address
+-- of the code whether the step that begins there has one.
 pub record Listed : Type 0 where
   pub steps : ℕ
   pub breakpoints : List Breakpoint
+  pub watched : List Bool
 
 -- the most lines that an editor may ask for at once
 abbrev pub breakpoint_limit : ℕ
@@ -38,6 +42,15 @@ is_of step b = nat_eq step b.step
 abbrev pub those_of : ℕ → List Breakpoint → List Breakpoint
 those_of step breakpoints = filter (is_of step) breakpoints
 
+-- the step has a breakpoint, if there is a step
+abbrev pub has_breakpoint : List Breakpoint → Option ℕ → Bool
+has_breakpoint breakpoints None = false
+has_breakpoint breakpoints (Some step) = list_any (is_of step) breakpoints
+
+-- the same for each line
+unfoldable pub watched_lines : List Breakpoint → List (Option ℕ) → List Bool
+watched_lines breakpoints lines = map (has_breakpoint breakpoints) lines
+
 -- a condition is bound to the names of the block of step n
 abbrev pub IsGuardAt : Block → ℕ → Option Guard → Type 0
 IsGuardAt main n None = Unit {0}
@@ -49,6 +62,7 @@ AreAtSteps main [] = Unit {0}
 AreAtSteps main (b ∷ bs) = (b.step < length (steps main)) × IsGuardAt main b.step b.guard × AreAtSteps main bs
 
 -- the plan was made for this program
-pub record IsPlanOf (main : Block) (plan : Listed) : Type 0 where
-  pub steps : plan.steps ≡ length (steps main)
-  pub bound : AreAtSteps main plan.breakpoints
+pub record IsPlanOf (unit : Compiled) (plan : Listed) : Type 0 where
+  pub steps : plan.steps ≡ length (steps unit.tree.program)
+  pub bound : AreAtSteps unit.tree.program plan.breakpoints
+  pub watched : plan.watched ≡ watched_lines plan.breakpoints unit.lines.items

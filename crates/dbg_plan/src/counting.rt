@@ -81,7 +81,7 @@ pub fn count_arrivals(machine: &Machine, breakpoints: &[Breakpoint], counts: &mu
 #[inline(always)]
 pub fn count_position(machine: &Machine, plan: &Option<Arc<Plan>>, counts: &mut [u32]) -> bool
     requires running { IsRunning machine.now }
-    requires fits { MayBePlanOf (program machine.now) (option_map arc_value plan.now) }
+    requires fits { MayBePlanOf machine.now.unit (option_map arc_value plan.now) }
     requires room { length counts.old ≡ 256 }
     // Whatever position the counts begin at, they go on, and tell what is due.
     ensures { (first : ℕ) → first ≤ machine.now.position
@@ -93,11 +93,10 @@ pub fn count_position(machine: &Machine, plan: &Option<Arc<Plan>>, counts: &mut 
         Some(plan) => {
             lexer_laws();
             steps_laws();
-            let entry = plan.entry(machine.place());
-            if entry.is_empty() {
+            if !plan.is_watched(machine.address()) {
                 return false;
             }
-            count_arrivals(machine, entry, counts)
+            count_arrivals(machine, plan.entry(machine.place()), counts)
         }
     }
 }

@@ -2,7 +2,7 @@
 
 ghost use Rattle.std.specs.Prelude.{◌≡◌, option_map};
 ghost use Rattle.std.specs.Arc.{arc_value};
-ghost use Rattle.pl0_tree.specs.declared.tree.Block.{Block};
+ghost use Rattle.pl0_unit.specs.declared.unit.Unit.{Unit as Compiled};
 ghost use Rattle.dbg_plan.specs.Plans.{IsNumbered, IsPlanOf};
 ghost use Rattle.dbg_plan.specs.Counting.{breakpoints_of, MayBePlanOf};
 
@@ -59,7 +59,7 @@ impl Model for Debuggee {
 fn entered(plan: Arc<Plan>) -> Option<Arc<Plan>>
     ensures breakpoints { breakpoints_of (option_map arc_value result) ≡ plan.value.breakpoints }
     ensures numbered { IsNumbered plan.value.breakpoints }
-    ensures fits { (main : Block) → IsPlanOf main plan.value → MayBePlanOf main (option_map arc_value result) }
+    ensures fits { (unit : Compiled) → IsPlanOf unit plan.value → MayBePlanOf unit (option_map arc_value result) }
 {
     if plan.is_empty() {
         return None;
@@ -137,7 +137,7 @@ impl Debuggee {
 
     /// Puts a plan in, which counts from the next position to be considered.
     pub fn set_plan(&mut self, plan: Arc<Plan>)
-        requires { IsPlanOf (program_of self.old) plan.value }
+        requires { IsPlanOf self.old.unit plan.value }
         ensures { self.new ≡ record self.old { breakpoints = plan.value.breakpoints; first = self.old.next } }
     {
         let first = self.next();

@@ -1,9 +1,9 @@
 // A plan: the breakpoints of a program, by their steps.
 
-ghost use Rattle.std.specs.Prelude.{◌≡◌, ◌+◌, ◌<◌, ◌^◌, IsTrue, [], IfOk};
+ghost use Rattle.std.specs.Prelude.{◌≡◌, ◌+◌, ◌<◌, ◌^◌, IsTrue, [], All, length, slice_get, Some, IfOk};
 
 use crate::breakpoint::Breakpoint;
-use crate::table::starts_of;
+use crate::table::{starts_of, watched_of};
 use pl0_tree::StepNo;
 use std::alloc::{AllocError, Global};
 use std::marker::Model;
@@ -13,6 +13,8 @@ use std::marker::Model;
 pub struct Plan {
     ordered: Vec<Breakpoint>,
     starts: Vec<usize>,
+    // For each address of the code, whether the step that begins there has a breakpoint.
+    watched: Vec<bool>,
 }
 
 impl Model for Plan {
@@ -32,22 +34,29 @@ impl Model for Plan {
 }
 
 impl Plan {
-    ghost use Rattle.dbg_plan.specs.Plans.{those_of, IsNumbered};
+    ghost use Rattle.dbg_plan.specs.Plans.{those_of, watched_lines, IsNumbered};
 
-    /// The plan of these breakpoints, for a program of so many steps.
+    /// The plan of these breakpoints, for a program of so many steps, beside whose code stand these lines.
     pub(crate) fn new(
         alloc: Global,
         steps: usize,
+        lines: &[Option<StepNo>],
         breakpoints: Vec<Breakpoint>,
     ) -> Result<Plan, AllocError>
         requires numbered { IsNumbered breakpoints.items }
+        requires within { All (λ b. b.step < steps) breakpoints.items }
         requires room { steps + 1 < 2 ^ 64 }
-        ensures { IfOk result (λ plan. plan ≡ record { steps = steps; breakpoints = breakpoints.items }) }
+        ensures { IfOk result (λ plan. plan ≡ record { steps = steps; breakpoints = breakpoints.items; watched = watched_lines breakpoints.items lines.now }) }
     {
         let mut ordered = breakpoints;
         ordered.sort_by_key(|breakpoint| breakpoint.step)?;
         let starts = starts_of(alloc, &ordered, steps)?;
-        Ok(Plan { ordered, starts })
+        let watched = watched_of(alloc, lines, &starts)?;
+        Ok(Plan {
+            ordered,
+            starts,
+            watched,
+        })
     }
 
     /// Whether it has no breakpoint.
@@ -56,6 +65,16 @@ impl Plan {
         ensures numbered { IsNumbered self.now.breakpoints }
     {
         self.ordered.is_empty()
+    }
+
+    /// Whether the step that begins at an address of the code has a breakpoint.
+    #[inline(always)]
+    pub(crate) fn is_watched(&self, address: usize) -> bool
+        requires { address < length self.now.watched }
+        ensures watched { slice_get self.now.watched address ≡ Some result }
+        ensures numbered { IsNumbered self.now.breakpoints }
+    {
+        self.watched[address]
     }
 
     /// The breakpoints of a step, in the order asked.

@@ -121,7 +121,7 @@ pub fn resolve(
 ) -> Result<(Plan, Vec<Answer>), AllocError>
     requires { length asked.now ≤ 256 }
     ensures answers { IfOk result (λ r. AreAnswered unit.now.tree.program asked.now r.1.items r.0.breakpoints) }
-    ensures plan { IfOk result (λ r. IsPlanOf unit.now.tree.program r.0) }
+    ensures plan { IfOk result (λ r. IsPlanOf unit.now r.0) }
 {
     let mut answers = Vec::with_capacity(alloc, asked.len())?;
     let mut breakpoints = Vec::new(alloc);
@@ -129,6 +129,6 @@ pub fn resolve(
         let answer = answer_line(alloc, unit, line, &mut breakpoints)?;
         answers.push(answer)?;
     }
-    let plan = Plan::new(alloc, unit.steps.len(), breakpoints)?;
+    let plan = Plan::new(alloc, unit.steps.len(), &unit.lines, breakpoints)?;
     Ok((plan, answers))
 }

@@ -1,10 +1,10 @@
 // How the table of a plan is made.
 
-ghost use Rattle.std.specs.Prelude.{◌≡◌, ℕ, ◌+◌, ◌<◌, ◌≤◌, ◌^◌, length, drop, IfOk};
+ghost use Rattle.std.specs.Prelude.{◌≡◌, ℕ, ◌+◌, ◌<◌, ◌≤◌, ◌^◌, length, drop, map, IfOk};
 ghost use Rattle.std.specs.List.{prefix_len};
 ghost use Rattle.std.specs.List.Sorted.{IsNonDecreasingBy};
 ghost use Rattle.dbg_plan.specs.Plans.{is_of, those_of};
-ghost use Rattle.dbg_plan.specs.Table.{IsPart};
+ghost use Rattle.dbg_plan.specs.Table.{IsPart, has_part};
 
 use crate::breakpoint::Breakpoint;
 use pl0_tree::StepNo;
@@ -41,4 +41,31 @@ pub fn starts_of(
         starts.push(start)?;
     }
     Ok(starts)
+}
+
+// Whether a step has a breakpoint, if there is a step. One behind the last start has none.
+fn is_started(starts: &[usize], step: Option<StepNo>) -> bool
+    requires { 0 < length starts.now }
+    ensures { result ≡ has_part starts.now step }
+{
+    match step {
+        None => false,
+        Some(step) => step < starts.len() - 1 && starts[step] < starts[step + 1],
+    }
+}
+
+/// For each address, beside which stands the step that begins there, whether that has a breakpoint.
+pub fn watched_of(
+    alloc: Global,
+    lines: &[Option<StepNo>],
+    starts: &[usize],
+) -> Result<Vec<bool>, AllocError>
+    requires { 0 < length starts.now }
+    ensures { IfOk result (λ watched. watched.items ≡ map (has_part starts.now) lines.now) }
+{
+    let mut watched = Vec::with_capacity(alloc, lines.len())?;
+    for line in lines {
+        watched.push(is_started(starts, *line))?;
+    }
+    Ok(watched)
 }

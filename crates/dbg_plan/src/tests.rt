@@ -28,7 +28,7 @@ fn ask<R: Abort>(
     unit: &Unit,
     rows: &[Row],
 ) -> Result<(Plan, Vec<Answer>), Fail>
-    ensures { IfOk result (λ r. IsPlanOf unit.now.tree.program r.0) }
+    ensures { IfOk result (λ r. IsPlanOf unit.now r.0) }
 {
     let mut asked = Vec::new(alloc);
     for (line, condition, hit) in rows {
@@ -49,7 +49,7 @@ fn numbers_at(
     plan: &Plan,
     step: usize,
 ) -> Result<Vec<usize>, AllocError>
-    requires { IsPlanOf unit.now.tree.program plan.now }
+    requires { IsPlanOf unit.now plan.now }
 {
     let mut numbers = Vec::new(alloc);
     if step < unit.steps.len() {

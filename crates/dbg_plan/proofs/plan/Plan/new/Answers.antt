@@ -1,10 +1,11 @@
-use Rattle.std.proofs.Common.{◌≡◌, ◌<◌, length, sym, subst, arith, rules}
+use Rattle.std.proofs.Common.{◌≡◌, ◌<◌, ℕ, length, map, ap, ◌∙◌, sym, subst, arith, rules}
 use Rattle.std.specs.List.Sorted.{IsNonDecreasingBy}
 use Rattle.std.proofs.lemmas.List.Sorted.{IsNonDecreasingBy-from_sort_by_key, answers_always}
 use Rattle.dbg_plan.specs.declared.breakpoint.Breakpoint.{Breakpoint}
-use Rattle.dbg_plan.specs.Plans.{IsNumbered}
-use Rattle.dbg_plan.specs.Table.{by_number}
+use Rattle.dbg_plan.specs.Plans.{IsNumbered, those_of}
+use Rattle.dbg_plan.specs.Table.{by_number, IsPart, has_part}
 use Rattle.dbg_plan.proofs.ByNumber.{stays_in_order, by_number_is, part_is, listed_is}
+use Rattle.dbg_plan.proofs.Watching.{watched_is}
 use Rattle.dbg_plan.proofs.plan.Plan.new.Goals as goal
 
 pub starts_of-requires-clause-ordered : goal.starts_of-requires-clause-ordered
@@ -25,7 +26,16 @@ invariant_of-result c =
           part_is bs ordered c.deref.result.now c.in_ok-starts.starts.items s c.deref.ensures.value is (stays_in_order bs ordered stable s) (c.in_ok-starts.ensures.parts s below);
     }
 
+pub watched_of-requires : goal.watched_of-requires
+watched_of-requires c = omega (arith, ap length c.deref-2.ensures.value, c.in_ok-starts.ensures.long)
+
 pub returns : goal.returns
 returns c =
+    let bs = c.args.breakpoints.items in
+    let ordered = c.sort_by_key.new.self.items in
+    let starts = c.in_ok-starts.starts.items in
     let long = c.in_ok-starts.ensures.long in
-    listed_is _ _ _ _ (omega (arith, long)) (by_number_is c.args.breakpoints.items c.sort_by_key.new.self.items c.requires.numbered.numbers c.in_ok-sort_by_key.ensures.permutation)
+    let parts : (s : ℕ) → s < c.args.steps → IsPart ordered starts s (those_of s ordered) =
+    λ s lt. subst (λ l. IsPart l starts s (those_of s l)) c.deref.ensures.value (c.in_ok-starts.ensures.parts s lt) in
+    listed_is _ _ _ _ _ _ (omega (arith, long)) (by_number_is bs ordered c.requires.numbered.numbers c.in_ok-sort_by_key.ensures.permutation)
+    (c.in_ok-watched.ensures ∙ ap (λ l. map (has_part l) c.args.lines.now) c.deref-2.ensures.value ∙ watched_is ordered bs starts c.args.steps long c.in_ok-sort_by_key.ensures.permutation c.requires.within parts c.args.lines.now)
