@@ -3,7 +3,7 @@ use Rattle.std.proofs.Common.{◌≡◌, ◌<◌, ◌+◌, ℕ, List, [], ◌∷
 use Rattle.std.specs.Prelude.{map}
 use Rattle.std.specs.List.{concat}
 use Rattle.std.specs.Io.KnownBytes.{Keeps, Appends, Consumes, IsAtEnd}
-use Rattle.std.proofs.Math.Seq.{take-append_seam, take-suc}
+use Rattle.std.proofs.Math.Seq.{take-suc}
 use Rattle.std.proofs.lemmas.List.{take-append-drop, map-append, length-take}
 use Rattle.std.proofs.lemmas.List.Folds.{concat-append}
 use Rattle.pl0_adapter.specs.Transfer.{AppendsPart}
@@ -58,10 +58,9 @@ pub read_gives : (old mid later : Option (List ℕ)) (n : ℕ) (room piece : Lis
 read_gives old mid later n room piece keeps got is =
     consumes_after old mid later piece keeps (subst (Consumes mid later) (sym is) got.0)
 
--- a room that was lent comes back whole
-pub lent_room : (n size : ℕ) (room items : List ℕ) → length room ≡ size → take n (take size (room ++ drop (length room) items)) ≡ take n room
-lent_room n size room items is =
-    ap (take n) (ap (λ k. take k (room ++ drop (length room) items)) (sym is) ∙ take-append_seam room (drop (length room) items))
+-- what was read, put behind nothing
+pub read_alone : (n : ℕ) (room before piece : List ℕ) → piece ≡ before ++ take n room → before ≡ [] → piece ≡ take n room
+read_alone n room before piece is none = is ∙ ap (λ l. l ++ take n room) none
 
 pub piece_short : (n size : ℕ) (room piece : List ℕ) → piece ≡ take n room → length room ≡ size → length piece ≤ size
 piece_short n size room piece is room_is =

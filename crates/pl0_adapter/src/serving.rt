@@ -3,7 +3,7 @@ ghost use Rattle.pl0_adapter.specs.Serving.{streams, IsServed, IsFailed};
 
 use crate::memory::{DroppedOrders, FramesPut};
 use crate::streams::{Sink, Source};
-use crate::transfer::{next_event, write_frames};
+use crate::transfer::{ROOM, next_event, write_frames};
 use dap_session::{Closed, Loader, Session, SessionFault, Want, session_laws};
 use std::alloc::Global;
 use std::sync::Wait;
@@ -59,8 +59,9 @@ pub fn serve<R: Wait, I: Source, O: Sink, L: Loader, G: Gate>(
         refusals: 0,
     };
     let mut orders = DroppedOrders { rt, quits: 0 };
+    let mut room = [0; ROOM];
     for _ in rt.forever() {
-        let event = next_event(rt, alloc, input);
+        let event = next_event(rt, alloc, input, &mut room);
         let taken = session.take(event, &mut out, &mut orders);
         if !write_frames(rt, output, out.frames.as_slice()) {
             return Err(ServeFault::WriteFailed);

@@ -11,21 +11,28 @@ use std::alloc::Global;
 use std::sync::Wait;
 
 /// How many bytes a piece has at most.
-const ROOM: usize = 4096;
+pub const ROOM: usize = 4096;
 
-/// Reads the next piece, or tells why there is none. An interrupted read is tried again.
-pub fn next_event<I: Source>(rt: &impl Wait, alloc: Global, input: &mut I) -> Event
+/// Reads the next piece, or tells why there is none. An interrupted read is tried again. What stands in `room` doesn't
+/// matter: it is lent, so that it need not be cleared for each read.
+pub fn next_event<I: Source>(
+    rt: &impl Wait,
+    alloc: Global,
+    input: &mut I,
+    room: &mut [u8; ROOM],
+) -> Event
     ensures { ComesFrom (incoming_of result) (I.left input.old) (I.left input.new) (I.failures input.old) (I.failures input.new) }
 {
-    let Ok(mut room) = Vec::from_elem(alloc, 0u8, ROOM) else {
+    // Before the read: what was read can't be given back.
+    let Ok(mut piece) = Vec::with_capacity(alloc, ROOM) else {
         return Event::NoMemory;
     };
     for _ in rt.forever() {
-        match input.read(room.as_mut_slice()) {
+        match input.read(room) {
             Ok(0) => return Event::End,
             Ok(count) => {
-                room.truncate(count);
-                return Event::Piece(room);
+                piece.extend_from_slice(&room[..count]).unwrap();
+                return Event::Piece(piece);
             }
             Err(IoFault::Failed) => return Event::ReadFailed,
             Err(IoFault::Interrupted) => {}

@@ -1,4 +1,4 @@
-use Rattle.std.proofs.Common.{◌≡◌, vec_len}
+use Rattle.std.proofs.Common.{◌≡◌, length}
 use Rattle.std.specs.Io.KnownBytes.{Keeps}
 use Rattle.pl0_adapter.proofs.transfer.next_event.Given as goal
 
@@ -6,4 +6,5 @@ abbrev pub invariant-loop : goal.invariant-loop
 invariant-loop g l =
     Keeps (g.I.Source.left l.initial.input) (g.I.Source.left l.input)
     × (g.I.Source.failures l.input ≡ g.I.Source.failures l.initial.input)
-    × (vec_len l.room ≡ 4096)
+    × (length l.room ≡ 4096)
+    × (l.piece ≡ l.initial.piece)
