@@ -28,9 +28,11 @@ $(SLICES): $(SOURCES)
 demo: $(PROGRAM)
 	python3 demo/session.py $(PROGRAM) demo/hello.session
 
-# Worked inputs, whole, a byte at a time and cut at many places, with what must come out.
+# Worked inputs, whole, a byte at a time and cut at many places, with what must come out; and that the examples are those
+# whose listings the gate compares.
 rows: $(PROGRAM)
 	python3 demo/rows.py $(PROGRAM)
+	diff -r examples crates/check_examples/data
 
 # The merge gate: proves everything from nothing, and runs everything.
 check:
@@ -40,9 +42,9 @@ check:
 misuse:
 	python3 misuse/check.py
 
-# Each growth, read and write of the program refused in turn.
-refusals: $(PROGRAM)
-	python3 demo/refusals.py $(PROGRAM)
+# Each growth, read and write of the program refused in turn, and each growth of the programs that step a text.
+refusals: $(PROGRAM) $(SPEED) $(SLICES)
+	python3 demo/refusals.py $(PROGRAM) $(SPEED) $(SLICES)
 
 install: $(PROGRAM)
 	install -D $(PROGRAM) $(DESTDIR)$(PREFIX)/bin/pl0dap

@@ -4,7 +4,7 @@
 ghost use Rattle.std.specs.Prelude.{◌≤◌, length, IfOk};
 ghost use Rattle.dbg_plan.specs.Debugged.{IsConsidered};
 
-use anyhow::{Context, Result};
+use anyhow::{Context, Result, anyhow};
 use dbg_plan::{Asked, Debuggee, Mode, resolve};
 use dbg_runner::{Report, next_report};
 use pl0_code::compile;
@@ -17,20 +17,20 @@ use std::{env, fs};
 const USAGE: &str = "usage: dbg_speed FILE [FIRST COUNT [CONDITION]]";
 
 fn main(rt: HostRuntime) -> Result<()> {
-    let words = env::args(&rt)?.collect::<Vec<String>>(rt.alloc())?;
+    let words = env::args(&rt)
+        .context("no words")?
+        .collect::<Vec<String>>(rt.alloc())
+        .context("no words")?;
     let path = words.get(1).context(USAGE)?;
-    let text = fs::read(&rt, path.as_str())?;
-    let tree = parse(rt.alloc(), text.as_slice())
-        .ok()
-        .context("no program")?;
-    let unit = compile(rt.alloc(), tree)
-        .ok()
-        .context("no memory for the code")?;
-    let asked = asked_for(rt.alloc(), words.as_slice())?;
-    let (plan, answers) = resolve(rt.alloc(), &unit, asked.as_slice())?;
-    let machine = Machine::new(rt.alloc(), Arc::new(rt.alloc(), unit)?)?;
+    let text = fs::read(&rt, path.as_str()).context("no text")?;
+    let tree = parse(rt.alloc(), text.as_slice()).map_err(|fault| anyhow!("no tree: {fault:?}"))?;
+    let unit = compile(rt.alloc(), tree).map_err(|fault| anyhow!("no code: {fault:?}"))?;
+    let asked = asked_for(rt.alloc(), words.as_slice()).context("no lines")?;
+    let (plan, answers) = resolve(rt.alloc(), &unit, asked.as_slice()).context("no plan")?;
+    let unit = Arc::new(rt.alloc(), unit).context("no share of the code")?;
+    let machine = Machine::new(rt.alloc(), unit).context("no machine")?;
     let mut debuggee = Debuggee::new(machine);
-    debuggee.set_plan(Arc::new(rt.alloc(), plan)?);
+    debuggee.set_plan(Arc::new(rt.alloc(), plan).context("no share of the plan")?);
     if 0 < debuggee.machine().depth() {
         let _ = debuggee.consider(Mode::Continue);
         let last = run(rt.alloc(), debuggee).context("no end")?;

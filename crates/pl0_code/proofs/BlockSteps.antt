@@ -1,7 +1,7 @@
 -- The code of a block put together, one procedure at a time.
-use Rattle.std.proofs.Common.{◌≡◌, ℕ, ◌+◌, ◌<◌, List, [], ◌∷◌, ◌++◌, refl, sym, ap, ◌∙◌, arith, length, drop, take, map, get_or, append_assoc, length-append, Some, None, reverse}
+use Rattle.std.proofs.Common.{◌≡◌, ℕ, ◌+◌, ◌<◌, List, [], ◌∷◌, ◌++◌, refl, sym, ap, ◌∙◌, arith, length, drop, take, get_or, append_assoc, length-append, Some, None}
 use Rattle.std.specs.Prelude.{option_map, option_and_then, slice_get}
-use Rattle.std.proofs.lemmas.List.{length-map, reverse-append}
+use Rattle.std.proofs.lemmas.List.{length-map}
 use Rattle.std.proofs.lemmas.Option.{slice_get-get_or}
 use Rattle.pl0_tree.specs.declared.step.Step.{Step}
 use Rattle.pl0_tree.specs.declared.tree.Place.{Place}
@@ -17,11 +17,13 @@ use Rattle.pl0_unit.specs.declared.instruction.Operation.TheVariants as operatio
 use Rattle.pl0_code.specs.Lines.{Row, row}
 use Rattle.pl0_code.specs.Rows.{Resolver, statement_rows, statement_table, step_count, numbered}
 use Rattle.pl0_code.specs.Sizes.{block_length, blocks_length, entry, length_before}
-use Rattle.pl0_code.specs.Chains.{resolver, chain, names_at, names_of, Names}
+use Rattle.pl0_scope.specs.Blocks.{Names}
+use Rattle.pl0_code.specs.declared.scope.Declared.{Declared}
+use Rattle.pl0_code.specs.Chains.{resolver, chain, names_at, names_of}
 use Rattle.pl0_code.specs.Blocks.{block_rows, list_blocks_rows, block_count, block_table, blocks_count, blocks_table, outer}
 use Rattle.pl0_code.proofs.CodingBlocks.{length_block}
 use Rattle.pl0_code.proofs.Trees.{drop_next}
-use Rattle.pl0_code.proofs.Tables.{blocks_next}
+use Rattle.pl0_code.proofs.Declaring.{blocks_next}
 use Rattle.pl0_code.proofs.BlockTrees.{length_table, rows_parts, table_parts}
 
 -- ---- one procedure more
@@ -128,10 +130,8 @@ pub chain_within : (main : Block) (q : Path) → chain main q ≡ names_at main 
 chain_within main [] = refl
 chain_within main (i ∷ q) = refl
 
-pub chain_pushed : {M : Type 0} (f : M → Names) (main : Block) (q : Path) (b : Block) (from : ℕ) (old new : List M) (x : M) →
-    block_at main q ≡ Some b → entry main q ≡ from → outer main q ≡ map f (reverse old) → new ≡ old ++ x ∷ [] → ((w : List ℕ) → f x w ≡ names_of (Some b) from w) →
-    chain main q ≡ map f (reverse new)
-chain_pushed f main q b from old new x at place around grown names =
-    let here : names_at main q ≡ f x = ap (λ o. names_of o (entry main q)) at ∙ ap (λ k. names_of (Some b) k) place ∙ sym (λ i w. names w i) in
-    chain_within main q ∙ ap (λ g. g ∷ outer main q) here ∙ ap (λ l. f x ∷ l) around ∙
-    sym (ap (λ l. map f (reverse l)) grown ∙ ap (map f) (reverse-append old (x ∷ [])))
+pub chain_opened : (main : Block) (q : Path) (b : Block) (from : ℕ) (old new : List (Names Declared)) →
+    block_at main q ≡ Some b → entry main q ≡ from → outer main q ≡ old → new ≡ names_of (Some b) from ∷ old → chain main q ≡ new
+chain_opened main q b from old new at place around opened =
+    let here : names_at main q ≡ names_of (Some b) from = ap (λ o. names_of o (entry main q)) at ∙ ap (λ k. names_of (Some b) k) place in
+    chain_within main q ∙ ap (λ g. g ∷ outer main q) here ∙ ap (λ l. names_of (Some b) from ∷ l) around ∙ sym opened

@@ -14,9 +14,8 @@ use Rattle.pl0_unit.specs.declared.instruction.Instruction.TheVariants.{Operate,
 use Rattle.pl0_unit.specs.declared.instruction.Operation.TheVariants as operation
 use Rattle.pl0_code.specs.Lines.{Row, row}
 use Rattle.pl0_code.specs.Rows.{statement_rows, statement_table, step_count, numbered}
-use Rattle.pl0_code.specs.Sizes.{block_length, blocks_length, procedures_length}
+use Rattle.pl0_code.specs.Sizes.{block_length, blocks_length, procedures_length, blocks_start}
 use Rattle.pl0_code.specs.Chains.{resolver}
-use Rattle.pl0_code.specs.Tables.{blocks_start}
 use Rattle.pl0_code.specs.Blocks.{block_rows, procedures_rows, list_blocks_rows, block_count, procedures_count, block_table, procedures_table, blocks_count, blocks_table}
 use Rattle.pl0_code.proofs.Coding.{steps_anywhere}
 use Rattle.pl0_code.proofs.Trees.{length_of_procedures}

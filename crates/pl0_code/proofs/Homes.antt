@@ -4,6 +4,7 @@ use Rattle.std.proofs.lemmas.Option.{slice_get_cases}
 use Rattle.std.proofs.lemmas.List.{length-map}
 use Rattle.std.specs.Prelude.{slice_get, option_map, option_and_then, unwrap_or, find, pos}
 use Rattle.std.specs.Str.{bytes_eq}
+use Rattle.std.specs.Option.{option_or}
 use Rattle.pl0_tree.specs.declared.tree.Name.{Name}
 use Rattle.pl0_tree.specs.declared.tree.Constant.{Constant}
 use Rattle.pl0_tree.specs.declared.tree.Procedure.{out-Procedure}
@@ -11,13 +12,15 @@ use Rattle.pl0_tree.specs.declared.tree.Block.{Block, out-Block}
 use Rattle.pl0_tree.specs.Scope.{Path, word, block_at, Meaning, AConstant, AVariable, AProcedure, Declaration, declarations, declared_as as declared_list, first_declaration, Home, home, or_else}
 use Rattle.pl0_meaning.specs.Values.{constant_of}
 use Rattle.pl0_unit.specs.Code.{level}
-use Rattle.pl0_code.specs.declared.scope.Found.{Found}
+use Rattle.pl0_scope.specs.declared.scopes.Found.{Found}
+use Rattle.pl0_scope.specs.Blocks.{found_at, found_in}
+use Rattle.pl0_code.specs.declared.scope.Declared.{Declared}
 use Rattle.pl0_code.specs.Sizes.{entry}
-use Rattle.pl0_code.specs.Chains.{found_at, found_in, declared_as, chain}
+use Rattle.pl0_code.specs.Chains.{declared_as, chain}
 
 module _ (main : Block) where
   -- what a home is found as from a block at a path
-  abbrev pub found_home : ℕ → Path → Home → Found
+  abbrev pub found_home : ℕ → Path → Home → Found Declared
   found_home n q h = found_at (n + level q h.path) (declared_as (block_at main h.path) (entry main h.path) h.declaration.meaning)
 
   -- a home is no further in than the block from which it is sought
@@ -38,7 +41,7 @@ module _ (main : Block) where
   found_by_home n [] w = here (option_and_then (first_declaration w) (block_at main []))
     where
       here : (f : Option Declaration) →
-          or_else (option_map (found_at n) (option_map (λ d. declared_as (block_at main []) (entry main []) d.meaning) f)) None ≡
+          option_or (option_map (found_at n) (option_map (λ d. declared_as (block_at main []) (entry main []) d.meaning) f)) None ≡
           option_map (found_home n []) (option_map (λ d. record { path = []; declaration = d }) f)
       here None = refl
       here (Some d) = ap (λ k. Some (found_at k (declared_as (block_at main []) (entry main []) d.meaning))) (omega arith)
@@ -52,7 +55,7 @@ module _ (main : Block) where
           ap (λ k. Some (found_at k (declared_as (block_at main h.path) (entry main h.path) h.declaration.meaning))) (omega arith)
 
       here : (f : Option Declaration) → found_in (n + 1) (chain main q) w ≡ option_map (found_home (n + 1) q) (home main q w) →
-          or_else (option_map (found_at n) (option_map (λ d. declared_as (block_at main (i ∷ q)) (entry main (i ∷ q)) d.meaning) f)) (found_in (n + 1) (chain main q) w) ≡
+          option_or (option_map (found_at n) (option_map (λ d. declared_as (block_at main (i ∷ q)) (entry main (i ∷ q)) d.meaning) f)) (found_in (n + 1) (chain main q) w) ≡
           option_map (found_home n (i ∷ q)) (or_else (option_map (λ d. record { path = i ∷ q; declaration = d }) f) (home main q w))
       here None rest = rest ∙ outer (home main q w) (home_within q w)
       here (Some d) rest = ap (λ k. Some (found_at k (declared_as (block_at main (i ∷ q)) (entry main (i ∷ q)) d.meaning))) (omega arith)

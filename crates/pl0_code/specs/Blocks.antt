@@ -12,7 +12,9 @@ use Rattle.pl0_tree.specs.declared.step.Step.{Step}
 use Rattle.pl0_tree.specs.declared.step.StepKind.TheVariants as kind
 use Rattle.pl0_code.specs.Rows.{statement_rows, statement_table, step_count}
 use Rattle.pl0_code.specs.Sizes.{block_length, procedures_length}
-use Rattle.pl0_code.specs.Chains.{Names, resolver, chain}
+use Rattle.pl0_scope.specs.Blocks.{Names}
+use Rattle.pl0_code.specs.declared.scope.Declared.{Declared}
+use Rattle.pl0_code.specs.Chains.{resolver, chain}
 
 -- The code of a block of a program, which begins at an address, and whose first step has the number n.
 abbrev mutual
@@ -64,6 +66,6 @@ blocks_table [] k = []
 blocks_table (p ∷ all) k = block_table (out-Procedure p).block k ++ blocks_table all (k + block_count (out-Procedure p).block)
 
 -- what the blocks around a block declare, the innermost first
-abbrev pub outer : Block → Path → List Names
+abbrev pub outer : Block → Path → List (Names Declared)
 outer main [] = []
 outer main (i ∷ q) = chain main q

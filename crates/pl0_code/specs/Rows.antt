@@ -14,14 +14,14 @@ use Rattle.pl0_unit.specs.Code.{operator_operation, relation_operation}
 use Rattle.pl0_unit.specs.declared.instruction.Instruction.{Instruction}
 use Rattle.pl0_unit.specs.declared.instruction.Instruction.TheVariants.{Literal, Operate, Load, Store, Call as CallTo, Jump, JumpIfZero}
 use Rattle.pl0_unit.specs.declared.instruction.Operation.TheVariants as operation
+use Rattle.pl0_scope.specs.declared.scopes.Found.{Found}
 use Rattle.pl0_code.specs.declared.scope.Declared.{Declared}
 use Rattle.pl0_code.specs.declared.scope.Declared.TheVariants.{Constant, Variable, Procedure as AnEntry}
-use Rattle.pl0_code.specs.declared.scope.Found.{Found}
 use Rattle.pl0_code.specs.Lines.{Row, row}
 
 -- what a word is found as
 abbrev pub Resolver : Type 0
-Resolver = List ℕ → Option Found
+Resolver = List ℕ → Option (Found Declared)
 
 abbrev pub read_declared : ℕ → Declared → Instruction
 read_declared n (Constant v) = Literal v
@@ -29,7 +29,7 @@ read_declared n (Variable a) = Load n a
 read_declared n (AnEntry a) = Literal (pos 0)
 
 -- the instruction that reads a word
-abbrev pub read_of : Option Found → Instruction
+abbrev pub read_of : Option (Found Declared) → Instruction
 read_of None = Literal (pos 0)
 read_of (Some f) = read_declared f.level f.declared
 
@@ -39,7 +39,7 @@ store_declared n (Variable a) = Store n a
 store_declared n (AnEntry a) = Literal (pos 0)
 
 -- the instruction that assigns to a word
-abbrev pub store_of : Option Found → Instruction
+abbrev pub store_of : Option (Found Declared) → Instruction
 store_of None = Literal (pos 0)
 store_of (Some f) = store_declared f.level f.declared
 
@@ -49,7 +49,7 @@ call_declared n (Variable a) = Literal (pos 0)
 call_declared n (AnEntry a) = CallTo n a
 
 -- the instruction that calls a word
-abbrev pub call_of : Option Found → Instruction
+abbrev pub call_of : Option (Found Declared) → Instruction
 call_of None = Literal (pos 0)
 call_of (Some f) = call_declared f.level f.declared
 

@@ -50,6 +50,10 @@ abbrev pub blocks_length : List Procedure → ℕ
 blocks_length [] = 0
 blocks_length (p ∷ all) = block_length (out-Procedure p).block + blocks_length all
 
+-- where the instructions of a block stand, behind those of its procedures
+abbrev pub blocks_start : Block → ℕ → ℕ
+blocks_start b from = from + 1 + blocks_length (out-Block b).procedures.items
+
 -- the addresses that the first k procedures of a block take
 abbrev pub length_before : ℕ → Option Block → ℕ
 length_before k None = 0

@@ -1,23 +1,24 @@
 // From the tree to the instructions.
 
-ghost use Rattle.std.specs.Prelude.{◌≡◌, ℕ, ◌+◌, List, [], ◌∷◌, ◌++◌, length, map, reverse, Option, Some, None, OnOk, IfOk};
+ghost use Rattle.std.specs.Prelude.{◌≡◌, ℕ, ◌+◌, List, [], ◌∷◌, ◌++◌, length, Option, Some, None, OnOk, IfOk};
 ghost use Rattle.pl0_tree.specs.declared.tree.Block.{Block};
 ghost use Rattle.pl0_tree.specs.Scope.{Path, block_at};
 ghost use Rattle.pl0_unit.specs.Code.{operator_operation, relation_operation};
-ghost use Rattle.pl0_code.specs.Chains.{found_in};
-ghost use Rattle.pl0_code.specs.Tables.{names_in};
+ghost use Rattle.pl0_scope.specs.Blocks.{blocks_of, found_in};
 ghost use Rattle.pl0_code.specs.Sizes.{entry};
+ghost use Rattle.pl0_code.specs.Extents.{inner_extents};
 ghost use Rattle.pl0_code.specs.Blocks.{block_rows, block_table, block_count, outer};
 ghost use Rattle.pl0_code.specs.Rows.{read_of, store_of, call_of, expression_rows, condition_rows, statement_rows, statement_table};
 
 use crate::fault::CodeFault;
 use crate::listing::Listing;
-use crate::scope::{Declared, Found, Names, declarations, resolve};
+use crate::scope::{Declared, open_block};
+use crate::size::Extent;
+use pl0_scope::{Found, Scopes};
 use pl0_tree::{
     Block, Condition, Expression, Operator, Place, Relation, Statement, Step, StepKind, StepNo,
 };
 use pl0_unit::{Instruction, Operation};
-use std::alloc::Global;
 
 /// What is made of a tree so far: the code, the steps, and how many blocks have ended.
 #[derive(Drop)]
@@ -52,7 +53,7 @@ fn comparison_of(relation: Relation) -> Operation
 }
 
 /// The instruction that reads a name. No lawful program reads what gives the last arm.
-fn read_from(found: Option<Found>) -> Instruction
+fn read_from(found: Option<Found<Declared>>) -> Instruction
     ensures { result ≡ read_of found }
 {
     match found {
@@ -66,7 +67,7 @@ fn read_from(found: Option<Found>) -> Instruction
 }
 
 /// The instruction that assigns to a name.
-fn store_to(found: Option<Found>) -> Instruction
+fn store_to(found: Option<Found<Declared>>) -> Instruction
     ensures { result ≡ store_of found }
 {
     match found {
@@ -80,7 +81,7 @@ fn store_to(found: Option<Found>) -> Instruction
 }
 
 /// The instruction that calls a name.
-fn call_to(found: Option<Found>) -> Instruction
+fn call_to(found: Option<Found<Declared>>) -> Instruction
     ensures { result ≡ call_of found }
 {
     match found {
@@ -95,15 +96,15 @@ fn call_to(found: Option<Found>) -> Instruction
 
 fn emit_expression(
     listing: &mut Listing,
-    scopes: &[Names],
+    scopes: &Scopes<Declared>,
     expression: &Expression,
     begins: Option<StepNo>,
 ) -> Result<(), CodeFault>
-    ensures { OnOk result (listing.new ≡ listing.old ++ expression_rows (found_in 0 (map names_in (reverse scopes.now))) expression.now begins) }
+    ensures { OnOk result (listing.new ≡ listing.old ++ expression_rows (found_in 0 (blocks_of scopes.now)) expression.now begins) }
 {
     match expression {
         Expression::Name(name) => {
-            let found = resolve(scopes, name.text.as_str());
+            let found = scopes.find(name.text.as_str());
             listing.put(read_from(found), begins)
         }
         Expression::Number(number) => listing.put(Instruction::Literal(*number), begins),
@@ -121,11 +122,11 @@ fn emit_expression(
 
 fn emit_condition(
     listing: &mut Listing,
-    scopes: &[Names],
+    scopes: &Scopes<Declared>,
     condition: &Condition,
     begins: Option<StepNo>,
 ) -> Result<(), CodeFault>
-    ensures { OnOk result (listing.new ≡ listing.old ++ condition_rows (found_in 0 (map names_in (reverse scopes.now))) condition.now begins) }
+    ensures { OnOk result (listing.new ≡ listing.old ++ condition_rows (found_in 0 (blocks_of scopes.now)) condition.now begins) }
 {
     match condition {
         Condition::Odd(value) => {
@@ -164,8 +165,12 @@ impl Emitter {
         Ok(number)
     }
 
-    fn statement(&mut self, scopes: &[Names], statement: &Statement) -> Result<(), CodeFault>
-        ensures listing { OnOk result (self.new.listing ≡ self.old.listing ++ statement_rows (found_in 0 (map names_in (reverse scopes.now))) statement.now (length self.old.listing) (length self.old.steps.items)) }
+    fn statement(
+        &mut self,
+        scopes: &Scopes<Declared>,
+        statement: &Statement,
+    ) -> Result<(), CodeFault>
+        ensures listing { OnOk result (self.new.listing ≡ self.old.listing ++ statement_rows (found_in 0 (blocks_of scopes.now)) statement.now (length self.old.listing) (length self.old.steps.items)) }
         ensures table { OnOk result (self.new.steps.items ≡ self.old.steps.items ++ statement_table statement.now self.old.ended) }
         ensures ended { OnOk result (self.new.ended ≡ self.old.ended) }
     {
@@ -174,12 +179,12 @@ impl Emitter {
             Statement::Assign { target, value } => {
                 let step = self.step(StepKind::Assign, target.place)?;
                 emit_expression(&mut self.listing, scopes, value, Some(step))?;
-                let found = resolve(scopes, target.text.as_str());
+                let found = scopes.find(target.text.as_str());
                 self.listing.put(store_to(found), None)
             }
             Statement::Call { place, procedure } => {
                 let step = self.step(StepKind::Call, *place)?;
-                let found = resolve(scopes, procedure.text.as_str());
+                let found = scopes.find(procedure.text.as_str());
                 self.listing.put(call_to(found), Some(step))
             }
             Statement::Write { place, value } => {
@@ -227,33 +232,36 @@ impl Emitter {
         }
     }
 
-    /// The code of a block, with its procedures' in it.
+    /// The code of a block, with its procedures' in it. The extents are those of the blocks in it.
     pub fn block<'a>(
         &mut self,
-        alloc: Global,
-        scopes: &mut Vec<Names<'a>>,
+        extents: &[Extent],
+        scopes: &mut Scopes<'a, Declared>,
         block: &'a Block,
     ) -> Result<(), CodeFault>
-        ensures listing { (main : Block) (q : Path) → block_at main q ≡ Some block.now → entry main q ≡ length self.old.listing → outer main q ≡ map names_in (reverse scopes.old.items) → OnOk result (self.new.listing ≡ self.old.listing ++ block_rows main q block.now (length self.old.listing) (length self.old.steps.items)) }
+        requires { extents.now ≡ inner_extents block.now }
+        ensures listing { (main : Block) (q : Path) → block_at main q ≡ Some block.now → entry main q ≡ length self.old.listing → outer main q ≡ blocks_of scopes.old → OnOk result (self.new.listing ≡ self.old.listing ++ block_rows main q block.now (length self.old.listing) (length self.old.steps.items)) }
         ensures table { OnOk result (self.new.steps.items ≡ self.old.steps.items ++ block_table block.now self.old.ended) }
         ensures ended { OnOk result (self.new.ended ≡ self.old.ended + block_count block.now) }
-        ensures scopes { OnOk result (scopes.new.items ≡ scopes.old.items) }
+        ensures scopes { OnOk result (blocks_of scopes.new ≡ blocks_of scopes.old) }
     {
         let from = self.listing.len();
-        let (names, start) = declarations(alloc, block, from)?;
+        let start = open_block(scopes, extents, block, from)?;
         self.listing.put(Instruction::Jump(start), None)?;
-        scopes.push(names)?;
+        let mut left = extents;
         for procedure in &block.procedures {
-            self.block(alloc, scopes, &procedure.block)?;
+            let (own, behind) = left.split_at(left[0].blocks);
+            self.block(&own[1..], scopes, &procedure.block)?;
+            left = behind;
         }
         self.listing
             .put(Instruction::Enter(3 + block.variables.len()), None)?;
-        self.statement(scopes.as_slice(), &block.body)?;
+        self.statement(scopes, &block.body)?;
         let step = self.step(StepKind::Return, block.end)?;
         self.listing
             .put(Instruction::Operate(Operation::Return), Some(step))?;
         self.ended = one_more(self.ended)?;
-        let _ = scopes.pop();
+        scopes.leave();
         Ok(())
     }
 }

@@ -1,7 +1,8 @@
 // How many instructions a construct comes to.
 
-ghost use Rattle.std.specs.Prelude.{◌≡◌, ◌+◌, IfOk};
-ghost use Rattle.pl0_code.specs.Sizes.{expression_length, condition_length, statement_length, block_length};
+ghost use Rattle.std.specs.Prelude.{◌≡◌, ◌+◌, ◌++◌, IfOk, OnOk};
+ghost use Rattle.pl0_code.specs.Sizes.{expression_length, condition_length, statement_length};
+ghost use Rattle.pl0_code.specs.Extents.{extent, inner_extents};
 
 use crate::fault::CodeFault;
 use pl0_tree::{Block, Condition, Expression, Statement};
@@ -97,16 +98,35 @@ fn statement_size(statement: &Statement) -> Result<usize, CodeFault>
     }
 }
 
-/// How many instructions the code of a block has.
-#[tactic(auto, using(crate::proofs::Trees::block_length_out, crate::proofs::Trees::blocks_length_end))]
-pub fn block_size(block: &Block) -> Result<usize, CodeFault>
-    ensures { IfOk result (λ n. n ≡ block_length block.now) }
+/// How many instructions the code of a block has, and how many blocks it is of: the block and those in it.
+#[derive(Clone, Copy, Debug)]
+pub struct Extent {
+    pub instructions: usize,
+    pub blocks: usize,
+}
+
+/// The extent of a block. Behind the given extents come those of the blocks in it, in the order in which they begin.
+pub fn measure(extents: &mut Vec<Extent>, block: &Block) -> Result<Extent, CodeFault>
+    ensures own { IfOk result (λ e. e ≡ extent block.now) }
+    ensures inner { OnOk result (extents.new.items ≡ extents.old.items ++ inner_extents block.now) }
 {
-    let mut size = 0;
+    let mut instructions = 0;
+    let mut blocks = 1;
     for procedure in &block.procedures {
-        size = add(size, block_size(&procedure.block)?)?;
+        let number = extents.len();
+        extents.push(Extent {
+            instructions: 0,
+            blocks: 0,
+        })?;
+        let own = measure(extents, &procedure.block)?;
+        extents[number] = own;
+        instructions = add(instructions, own.instructions)?;
+        blocks = add(blocks, own.blocks)?;
     }
-    let inner = statement_size(&block.body)?;
-    let both = add(size, inner)?;
-    add(both, 3)
+    let body = statement_size(&block.body)?;
+    let both = add(instructions, body)?;
+    Ok(Extent {
+        instructions: add(both, 3)?,
+        blocks,
+    })
 }

@@ -9,8 +9,10 @@ ghost use Rattle.pl0_code.specs.Blocks.{block_rows, block_table};
 use crate::emit::Emitter;
 use crate::fault::CodeFault;
 use crate::listing::Listing;
+use crate::size::measure;
 use pl0_lexer::lexer_laws;
 use pl0_names::{blocks, steps_laws};
+use pl0_scope::Scopes;
 use pl0_tree::{Block, Tree};
 use pl0_unit::Unit;
 use std::alloc::Global;
@@ -45,12 +47,14 @@ pub fn emit_program(alloc: Global, main: &Block) -> Result<Emitter, CodeFault>
     ensures listing { IfOk result (λ e. e.listing ≡ block_rows main.now [] main.now 0 0) }
     ensures table { IfOk result (λ e. e.steps.items ≡ block_table main.now 0) }
 {
+    let mut extents = Vec::new(alloc);
+    measure(&mut extents, main)?;
     let mut emitter = Emitter {
         listing: Listing::new(alloc),
         steps: Vec::new(alloc),
         ended: 0,
     };
-    let mut scopes = Vec::new(alloc);
-    emitter.block(alloc, &mut scopes, main)?;
+    let mut scopes = Scopes::new(alloc);
+    emitter.block(extents.as_slice(), &mut scopes, main)?;
     Ok(emitter)
 }

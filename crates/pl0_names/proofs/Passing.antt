@@ -16,11 +16,10 @@ use Rattle.pl0_tree.specs.declared.tree.Statement.TheBlock.{hidden-the_row-State
 use Rattle.pl0_tree.specs.declared.tree.Statement.TheVariants.{Begin, If, While}
 use Rattle.pl0_tree.specs.declared.tree.Condition.{Condition}
 use Rattle.pl0_tree.specs.declared.fault.SyntaxFault.{SyntaxFault}
-use Rattle.pl0_tree.specs.Scope.{Use, Meaning, Declaration, condition_uses, declared_as, AConstant, AVariable, or_else, word, statement_uses, row_uses}
-use Rattle.pl0_names.specs.Judging.{Names, Verdict, Table, table_names, stack_names, within, own, use_verdicts, declared_fault, declared_verdict, declared_verdicts, procedure_declared, block_verdicts, row_verdicts, procedure_verdicts, procedures_verdicts, body_left, procedures_left, variables_left, constants_left, first_fault, Says}
+use Rattle.pl0_tree.specs.Scope.{Use, Meaning, Declaration, condition_uses, declared_as, AConstant, AVariable, word, statement_uses, row_uses}
+use Rattle.pl0_names.specs.Judging.{Names, Verdict, within, use_verdicts, declared_fault, declared_verdict, declared_verdicts, procedure_declared, block_verdicts, row_verdicts, procedure_verdicts, procedures_verdicts, body_left, procedures_left, variables_left, constants_left, first_fault, Says}
 use Rattle.pl0_names.proofs.Rows.{procedures_are}
 use Rattle.pl0_names.proofs.Sayings.{first_behind, says_front, says_along}
-use Rattle.pl0_names.proofs.Stacks.{stack_push}
 
 -- the uses of statements one after another
 abbrev pub statements_uses : List Statement → List Use
@@ -66,16 +65,9 @@ block_left (Block' constants variables shape row body end) outer =
     (ap (λ (x : Vec Constant Global). length x.items + length variables.items) c ∙ ap (λ (x : Vec Name Global). length (out-Block b).constants.items + length x.items) v ∙
     sym (add-zero (length (out-Block b).constants.items + length (out-Block b).variables.items)))) s
 
--- the names of a block are those of the stack with its table
-pub stack_within : (tables tables' : List Table) (table : Table) (b : Block) → tables' ≡ tables ++ table ∷ [] → ((w : List ℕ) → table_names table w ≡ own b w) →
-    within b (stack_names tables) ≡ stack_names tables'
-stack_within tables tables' table b is named =
-    fun_ext (λ w. ap (λ o. or_else o (stack_names tables w)) (sym (named w)) ∙ sym (stack_push tables table w) ∙ ap (λ ts. stack_names ts w) (sym is))
-
-pub block_starts : (b : Block) (tables tables' : List Table) (table : Table) → tables' ≡ tables ++ table ∷ [] → ((w : List ℕ) → table_names table w ≡ own b w) →
-    constants_left b (stack_names tables') 0 ≡ block_verdicts b (stack_names tables)
-block_starts b tables tables' table is named =
-    sym (block_left b (stack_names tables) ∙ ap (λ names. constants_left b names 0) (stack_within tables tables' table b is named))
+-- at the beginning of a block
+pub block_starts : (b : Block) (outer names : Names) → ((w : List ℕ) → names w ≡ within b outer w) → constants_left b names 0 ≡ block_verdicts b outer
+block_starts b outer names known = ap (λ f. constants_left b f 0) (fun_ext known) ∙ sym (block_left b outer)
 
 -- a declaration as the code judges it
 abbrev pub judged : Names → Declaration → ℕ → Verdict
@@ -136,10 +128,9 @@ conditional_uses s c body (inl x) = ap statement_uses x.1
 conditional_uses s c body (inr x) = ap statement_uses x.1
 
 -- what the code judges of a declaration
-abbrev pub judged_now : List Table → Name → Meaning → Bool → Verdict
-judged_now tables x m full = record { fault = declared_fault (stack_names tables (word x)) m full; place = x.place }
+abbrev pub judged_now : Names → Name → Meaning → Bool → Verdict
+judged_now names x m full = record { fault = declared_fault (names (word x)) m full; place = x.place }
 
-pub judged_is : (D S : List Table) (x : Name) (m : Meaning) (full : Bool) (j k : ℕ) → D ≡ S → full ≡ nat_eq j 1024 → j ≡ k →
-    judged_now D x m full ≡ judged (stack_names S) (record { name = x; meaning = m }) k
-judged_is D S x m full j k same is number =
-    ap (λ T. judged_now T x m full) same ∙ ap (judged_now S x m) is ∙ ap (λ n. judged_now S x m (nat_eq n 1024)) number
+pub judged_is : (names : Names) (x : Name) (m : Meaning) (full : Bool) (j k : ℕ) → full ≡ nat_eq j 1024 → j ≡ k →
+    judged_now names x m full ≡ judged names (record { name = x; meaning = m }) k
+judged_is names x m full j k is number = ap (judged_now names x m) is ∙ ap (λ n. judged_now names x m (nat_eq n 1024)) number

@@ -1,12 +1,8 @@
 -- What the functions that judge names promise: each name of a program in the order of the text, with what is
 -- wrong with it. No public contract cites this file.
 use Rattle.std.specs.Prelude.{◌≡◌, ℕ, ◌+◌, Bool, true, false, ◌||◌, ◌&&◌, nat_eq, nat_lt, if◌then◌else◌, List, [], ◌∷◌, ◌++◌, map, length, drop, Option, Some, None, option_map, Result, Ok, Err}
-use Rattle.std.specs.BTreeMap as tree
-use Rattle.std.specs.BTreeMap.{BTreeMap}
-use Rattle.std.specs.Ordering.{nat_cmp}
-use Rattle.std.specs.Cmp.Lexicographic.{slice_cmp}
-use Rattle.std.specs.Str.{bytes_eq}
-use denote.Ref.{Bor}
+use Rattle.pl0_scope.specs.Blocks as scope
+use Rattle.pl0_scope.specs.Blocks.{found_in, blocks_of}
 use Rattle.pl0_tree.specs.declared.tree.Place.{Place}
 use Rattle.pl0_tree.specs.declared.tree.Name.{Name}
 use Rattle.pl0_tree.specs.declared.tree.Block.{Block, Block', out-Block, Row_of-Procedure, end_of-Procedure, more_of-Procedure}
@@ -51,16 +47,16 @@ meaning_of (kept.Procedure i) = AProcedure i
 abbrev pub told : Declared → Known
 told d = record { place = d.place; meaning = meaning_of d.meaning }
 
-abbrev pub Table : Type 0
-Table = BTreeMap (Bor (List ℕ)) Declared
+-- what several blocks declare, the innermost first
+abbrev pub Chain : Type 0
+Chain = List (scope.Names Declared)
 
-abbrev pub table_names : Table → Names
-table_names table w = option_map told (tree.get_by (λ k. slice_cmp nat_cmp w k.now) table)
+abbrev pub chain_names : Chain → Names
+chain_names chain w = option_map (λ f. told f.declared) (found_in 0 chain w)
 
--- the names that blocks in one another know, the innermost last
-abbrev pub stack_names : List Table → Names
-stack_names [] w = None
-stack_names (table ∷ inner) w = or_else (stack_names inner w) (table_names table w)
+-- the names that the open blocks know
+abbrev pub stack_names : List (List (List ℕ × Declared)) → Names
+stack_names stack = chain_names (blocks_of stack)
 
 abbrev pub manner_of : Done → Manner
 manner_of done.Read = IsRead
@@ -173,10 +169,6 @@ abbrev pub Says : List Verdict → Result (Unit {0}) SyntaxFault → Type 0
 Says vs (Ok x) = first_fault vs ≡ None
 Says vs (Err (InText kind place)) = first_fault vs ≡ Some (kind, place)
 Says vs (Err NoMemory) = Unit {0}
-
--- a table with one name more, where it was not there
-abbrev pub extended : Names → Name → Kept → Names
-extended names x meaning w = or_else (names w) (if bytes_eq (word x) w then Some (record { place = x.place; meaning = meaning_of meaning }) else None)
 
 -- the names of the block at a path, by their homes
 abbrev pub home_names : Block → Path → Names

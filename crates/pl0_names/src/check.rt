@@ -3,10 +3,12 @@
 ghost use Rattle.std.specs.Prelude.{◌≡◌, ◌+◌, ◌∷◌, [], nat_eq, IsOk, IfErr};
 ghost use Rattle.pl0_tree.specs.Scope.{IsLawful, statement_uses, expression_uses, condition_uses, word};
 ghost use Rattle.pl0_tree.specs.Faults.{FaultIs};
+ghost use Rattle.pl0_scope.specs.Blocks.{blocks_of};
 ghost use Rattle.pl0_names.specs.FirstFault.{IsFirstNameFault};
 ghost use Rattle.pl0_names.specs.Judging.{Says, use_of, use_verdict, use_verdicts, declared_fault, block_verdicts, stack_names, is_before, allows, meaning_of, manner_of, same_meaning};
 
-use crate::scope::{Meaning, Names, declare, find};
+use crate::scope::{Declared, Meaning, enter_block, find};
+use pl0_scope::Scopes;
 use pl0_tree::{Block, Condition, Expression, FaultKind, Name, Place, Statement, SyntaxFault};
 use std::alloc::Global;
 
@@ -50,7 +52,7 @@ fn is_same(meaning: Meaning, other: Meaning) -> bool
     }
 }
 
-fn check_use(scopes: &[Names], name: &Name, manner: Manner) -> Result<(), SyntaxFault>
+fn check_use(scopes: &Scopes<Declared>, name: &Name, manner: Manner) -> Result<(), SyntaxFault>
     ensures { Says (use_verdict (stack_names scopes.now) (use_of name.now manner) ∷ []) result }
 {
     let place = name.place;
@@ -63,7 +65,7 @@ fn check_use(scopes: &[Names], name: &Name, manner: Manner) -> Result<(), Syntax
     Err(SyntaxFault::InText { kind, place })
 }
 
-fn check_expression(scopes: &[Names], expression: &Expression) -> Result<(), SyntaxFault>
+fn check_expression(scopes: &Scopes<Declared>, expression: &Expression) -> Result<(), SyntaxFault>
     ensures { Says (use_verdicts (stack_names scopes.now) (expression_uses expression.now)) result }
 {
     match expression {
@@ -77,7 +79,7 @@ fn check_expression(scopes: &[Names], expression: &Expression) -> Result<(), Syn
     }
 }
 
-fn check_condition(scopes: &[Names], condition: &Condition) -> Result<(), SyntaxFault>
+fn check_condition(scopes: &Scopes<Declared>, condition: &Condition) -> Result<(), SyntaxFault>
     ensures { Says (use_verdicts (stack_names scopes.now) (condition_uses condition.now)) result }
 {
     match condition {
@@ -89,7 +91,7 @@ fn check_condition(scopes: &[Names], condition: &Condition) -> Result<(), Syntax
     }
 }
 
-fn check_statement(scopes: &[Names], statement: &Statement) -> Result<(), SyntaxFault>
+fn check_statement(scopes: &Scopes<Declared>, statement: &Statement) -> Result<(), SyntaxFault>
     ensures { Says (use_verdicts (stack_names scopes.now) (statement_uses statement.now)) result }
 {
     match statement {
@@ -131,7 +133,7 @@ fn is_full(before: usize, more: usize) -> bool
 
 // Judges a declaration of the innermost block, where those before it may be as many as a block may have.
 fn check_declared(
-    scopes: &[Names],
+    scopes: &Scopes<Declared>,
     name: &Name,
     meaning: Meaning,
     full: bool,
@@ -148,16 +150,11 @@ fn check_declared(
 }
 
 // Judges the names of a block, where those known around it are in `scopes`.
-fn check_block<'a>(
-    alloc: Global,
-    block: &'a Block,
-    scopes: &mut Vec<Names<'a>>,
-) -> Result<(), SyntaxFault>
-    ensures said { Says (block_verdicts block.now (stack_names scopes.old.items)) result }
-    ensures kept { IsOk result → scopes.new.items ≡ scopes.old.items }
+fn check_block<'a>(block: &'a Block, scopes: &mut Scopes<'a, Declared>) -> Result<(), SyntaxFault>
+    ensures said { Says (block_verdicts block.now (stack_names scopes.old)) result }
+    ensures kept { IsOk result → blocks_of scopes.new ≡ blocks_of scopes.old }
 {
-    let names = declare(alloc, block)?;
-    scopes.push(names)?;
+    enter_block(scopes, block)?;
     for (i, constant) in block.constants.iter().enumerate() {
         let full = is_full(0, i);
         check_declared(scopes, &constant.name, Meaning::Constant(i), full)?;
@@ -171,10 +168,10 @@ fn check_block<'a>(
     for (i, procedure) in block.procedures.iter().enumerate() {
         let full = is_full(before, i);
         check_declared(scopes, &procedure.name, Meaning::Procedure(i), full)?;
-        check_block(alloc, &procedure.block, scopes)?;
+        check_block(&procedure.block, scopes)?;
     }
     check_statement(scopes, &block.body)?;
-    let _ = scopes.pop();
+    scopes.leave();
     Ok(())
 }
 
@@ -185,6 +182,6 @@ pub fn check_names(alloc: Global, main: &Block) -> Result<(), SyntaxFault>
     ensures lawful { IsOk result → IsLawful main.now }
     ensures fault { IfErr result (FaultIs (IsFirstNameFault main.now)) }
 {
-    let mut scopes = Vec::new(alloc);
-    check_block(alloc, main, &mut scopes)
+    let mut scopes = Scopes::new(alloc);
+    check_block(main, &mut scopes)
 }

@@ -5,51 +5,39 @@ ghost use Rattle.pl0_tree.specs.Scope.{Path, IsRead, condition_uses, expression_
 ghost use Rattle.pl0_tree.specs.Steps.{blocks};
 ghost use Rattle.pl0_tree.specs.Faults.{FaultIs};
 ghost use Rattle.pl0_tree.specs.Blocks.{AreNestings};
+ghost use Rattle.pl0_scope.specs.Blocks.{blocks_of};
 ghost use Rattle.pl0_names.specs.FirstFault.{AreLawfulOutside, IsFirstOutside, ReadsConditionText, ReadsExpressionText};
-ghost use Rattle.pl0_names.specs.Judging.{Says, within, stack_names, home_names, outside_verdict, outside_verdicts};
+ghost use Rattle.pl0_names.specs.Judging.{Says, stack_names, home_names, outside_verdict, outside_verdicts};
 
 use crate::block_table::block;
 use crate::check::{Manner, allows};
-use crate::scope::{Names, declare, find};
+use crate::scope::{Declared, enter_block, find};
+use pl0_scope::Scopes;
 use pl0_tree::{Block, Condition, Expression, FaultKind, Name, Nesting, SyntaxFault};
 use std::alloc::{AllocError, Global};
 
-// Adds the names of a block to those that are known around it.
-fn enter_block<'a>(
-    alloc: Global,
-    block: &'a Block,
-    scopes: &mut Vec<Names<'a>>,
-) -> Result<(), AllocError>
-    ensures { IfOk result (λ _. (w : List ℕ) → stack_names scopes.new.items w ≡ within block.now (stack_names scopes.old.items) w) }
-{
-    let names = declare(alloc, block)?;
-    scopes.push(names)?;
-    Ok(())
-}
-
 // Adds the names of the blocks that lead to the block of a number, those of the main one first.
 fn enter<'a>(
-    alloc: Global,
     main: &'a Block,
     table: &[Option<Nesting>],
     number: u32,
-    scopes: &mut Vec<Names<'a>>,
+    scopes: &mut Scopes<'a, Declared>,
 ) -> Result<(), AllocError>
     requires table { AreNestings main.now table.now (blocks main.now) }
     requires within { number < length table.now }
-    ensures { IfOk result (λ _. (q : Path) → slice_get (blocks main.now) number ≡ Some q → scopes.old.items ≡ [] → (w : List ℕ) → stack_names scopes.new.items w ≡ home_names main.now q w) }
+    ensures { IfOk result (λ _. (q : Path) → slice_get (blocks main.now) number ≡ Some q → blocks_of scopes.old ≡ [] → (w : List ℕ) → stack_names scopes.new w ≡ home_names main.now q w) }
 {
     match table[number as usize] {
-        None => enter_block(alloc, main, scopes),
+        None => enter_block(scopes, main),
         Some(nesting) => {
-            enter(alloc, main, table, nesting.outer, scopes)?;
+            enter(main, table, nesting.outer, scopes)?;
             let inner = block(main, table, number);
-            enter_block(alloc, inner, scopes)
+            enter_block(scopes, inner)
         }
     }
 }
 
-fn check_read(scopes: &[Names], name: &Name) -> Result<(), SyntaxFault>
+fn check_read(scopes: &Scopes<Declared>, name: &Name) -> Result<(), SyntaxFault>
     ensures { Says (outside_verdict (stack_names scopes.now) (record { name = name.now; manner = IsRead }) ∷ []) result }
 {
     let place = name.place;
@@ -61,7 +49,7 @@ fn check_read(scopes: &[Names], name: &Name) -> Result<(), SyntaxFault>
     Err(SyntaxFault::InText { kind, place })
 }
 
-fn check_reads(scopes: &[Names], expression: &Expression) -> Result<(), SyntaxFault>
+fn check_reads(scopes: &Scopes<Declared>, expression: &Expression) -> Result<(), SyntaxFault>
     ensures { Says (outside_verdicts (stack_names scopes.now) (expression_uses expression.now)) result }
 {
     match expression {
@@ -75,7 +63,7 @@ fn check_reads(scopes: &[Names], expression: &Expression) -> Result<(), SyntaxFa
     }
 }
 
-fn check_both(scopes: &[Names], condition: &Condition) -> Result<(), SyntaxFault>
+fn check_both(scopes: &Scopes<Declared>, condition: &Condition) -> Result<(), SyntaxFault>
     ensures { Says (outside_verdicts (stack_names scopes.now) (condition_uses condition.now)) result }
 {
     match condition {
@@ -102,8 +90,8 @@ pub fn check_condition_names(
     ensures lawful { (q : Path) → slice_get (blocks main.now) number ≡ Some q → IsOk result → AreLawfulOutside main.now q (condition_uses condition.now) }
     ensures fault { (q : Path) → slice_get (blocks main.now) number ≡ Some q → IfErr result (FaultIs (IsFirstOutside main.now q (condition_uses condition.now) (ReadsConditionText condition.now))) }
 {
-    let mut scopes = Vec::new(alloc);
-    enter(alloc, main, table, number, &mut scopes)?;
+    let mut scopes = Scopes::new(alloc);
+    enter(main, table, number, &mut scopes)?;
     check_both(&scopes, condition)
 }
 
@@ -122,7 +110,7 @@ pub fn check_expression_names(
     ensures lawful { (q : Path) → slice_get (blocks main.now) number ≡ Some q → IsOk result → AreLawfulOutside main.now q (expression_uses expression.now) }
     ensures fault { (q : Path) → slice_get (blocks main.now) number ≡ Some q → IfErr result (FaultIs (IsFirstOutside main.now q (expression_uses expression.now) (ReadsExpressionText expression.now))) }
 {
-    let mut scopes = Vec::new(alloc);
-    enter(alloc, main, table, number, &mut scopes)?;
+    let mut scopes = Scopes::new(alloc);
+    enter(main, table, number, &mut scopes)?;
     check_reads(&scopes, expression)
 }

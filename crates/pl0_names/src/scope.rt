@@ -1,12 +1,13 @@
 // The names that are known in a block.
 
-ghost use Rattle.std.specs.Prelude.{◌≡◌, ℕ, List, IfOk, option_map};
+ghost use Rattle.std.specs.Prelude.{◌≡◌, ℕ, List, drop, OnOk, option_map};
 ghost use Rattle.pl0_tree.specs.Scope.{word};
-ghost use Rattle.pl0_names.specs.Judging.{told, own, table_names, stack_names, extended};
+ghost use Rattle.pl0_scope.specs.Blocks.{blocks_of, declared_in};
+ghost use Rattle.pl0_names.specs.Judging.{told, within, stack_names};
 
+use pl0_scope::Scopes;
 use pl0_tree::{Block, Name, Place};
-use std::alloc::{AllocError, Global};
-use std::collections::BTreeMap;
+use std::alloc::AllocError;
 
 /// What a name is declared as, by its index among those of its block.
 #[derive(Clone, Copy, PartialEq, Eq)]
@@ -23,46 +24,43 @@ pub(crate) struct Declared {
     pub(crate) meaning: Meaning,
 }
 
-/// The names of a block, each with its first declaration.
-pub(crate) type Names<'a> = BTreeMap<&'a str, Declared>;
-
-// The declaration that a name means, where the innermost block's names are the last.
-pub(crate) fn find(scopes: &[Names], name: &str) -> Option<Declared>
+// The declaration that a name means.
+pub(crate) fn find(scopes: &Scopes<Declared>, name: &str) -> Option<Declared>
     ensures { option_map told result ≡ stack_names scopes.now name.now }
 {
-    let [outer @ .., names] = scopes else {
-        return None;
-    };
-    match names.get(name) {
-        Some(declared) => Some(*declared),
-        None => find(outer, name),
-    }
+    let found = scopes.find(name)?;
+    Some(found.declared)
 }
 
-// Adds a name that is not there yet.
-fn add<'a>(names: &mut Names<'a>, name: &'a Name, meaning: Meaning) -> Result<(), AllocError>
-    ensures { IfOk result (λ _. (w : List ℕ) → table_names names.new w ≡ extended (table_names names.old) name.now meaning w) }
+// Adds a name that the innermost block hasn't yet.
+fn add<'a>(
+    scopes: &mut Scopes<'a, Declared>,
+    name: &'a Name,
+    meaning: Meaning,
+) -> Result<(), AllocError>
+    ensures { OnOk result (blocks_of scopes.new ≡ declared_in (blocks_of scopes.old) (word name.now) (record { place = name.now.place; meaning = meaning })) }
 {
-    if names.get(name.text.as_str()).is_none() {
-        let place = name.place;
-        names.insert(name.text.as_str(), Declared { place, meaning })?;
-    }
-    Ok(())
+    let place = name.place;
+    scopes.declare(name.text.as_str(), Declared { place, meaning })
 }
 
-// A block's own names, each with its first declaration.
-pub(crate) fn declare<'a>(alloc: Global, block: &'a Block) -> Result<Names<'a>, AllocError>
-    ensures { IfOk result (λ names. (w : List ℕ) → table_names names w ≡ own block.now w) }
+// Opens a block with its own names, each with its first declaration.
+pub(crate) fn enter_block<'a>(
+    scopes: &mut Scopes<'a, Declared>,
+    block: &'a Block,
+) -> Result<(), AllocError>
+    ensures names { OnOk result ((w : List ℕ) → stack_names scopes.new w ≡ within block.now (stack_names scopes.old) w) }
+    ensures outer { OnOk result (drop 1 (blocks_of scopes.new) ≡ blocks_of scopes.old) }
 {
-    let mut names = BTreeMap::new(alloc);
+    scopes.enter()?;
     for (index, constant) in block.constants.iter().enumerate() {
-        add(&mut names, &constant.name, Meaning::Constant(index))?;
+        add(scopes, &constant.name, Meaning::Constant(index))?;
     }
     for (index, name) in block.variables.iter().enumerate() {
-        add(&mut names, name, Meaning::Variable(index))?;
+        add(scopes, name, Meaning::Variable(index))?;
     }
     for (index, procedure) in block.procedures.iter().enumerate() {
-        add(&mut names, &procedure.name, Meaning::Procedure(index))?;
+        add(scopes, &procedure.name, Meaning::Procedure(index))?;
     }
-    Ok(names)
+    Ok(())
 }

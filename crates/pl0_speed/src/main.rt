@@ -4,7 +4,7 @@
 ghost use Rattle.std.specs.Prelude.{◌<◌};
 ghost use Rattle.pl0_machine.specs.Machine.{depth_of};
 
-use anyhow::{Context, Result};
+use anyhow::{Context, Result, anyhow};
 use pl0_code::compile;
 use pl0_machine::{Machine, StepOutcome};
 use pl0_meaning::meaning_laws;
@@ -13,16 +13,16 @@ use std::sync::Arc;
 use std::{env, fs};
 
 fn main(rt: HostRuntime) -> Result<()> {
-    let words = env::args(&rt)?.collect::<Vec<String>>(rt.alloc())?;
+    let words = env::args(&rt)
+        .context("no words")?
+        .collect::<Vec<String>>(rt.alloc())
+        .context("no words")?;
     let path = words.get(1).context("usage: pl0_speed FILE")?;
-    let text = fs::read(&rt, path.as_str())?;
-    let tree = parse(rt.alloc(), text.as_slice())
-        .ok()
-        .context("no program")?;
-    let unit = compile(rt.alloc(), tree)
-        .ok()
-        .context("no memory for the code")?;
-    let mut machine = Machine::new(rt.alloc(), Arc::new(rt.alloc(), unit)?)?;
+    let text = fs::read(&rt, path.as_str()).context("no text")?;
+    let tree = parse(rt.alloc(), text.as_slice()).map_err(|fault| anyhow!("no tree: {fault:?}"))?;
+    let unit = compile(rt.alloc(), tree).map_err(|fault| anyhow!("no code: {fault:?}"))?;
+    let unit = Arc::new(rt.alloc(), unit).context("no share of the code")?;
+    let mut machine = Machine::new(rt.alloc(), unit).context("no machine")?;
     if 0 < machine.depth() {
         let end = run(&mut machine);
         println!(rt; "{end:?} after {} steps", machine.position())?;

@@ -1,8 +1,7 @@
-use Rattle.std.proofs.Common.{◌++◌, ◌+◌, length, map, reverse, sym, ap, ◌∙◌, arith, Some}
+use Rattle.std.proofs.Common.{◌++◌, ◌+◌, length, map, sym, ap, ◌∙◌, arith, Some}
 use Rattle.std.proofs.lemmas.List.{drop_all}
 use Rattle.std.proofs.Common.{append-nil}
-use Rattle.pl0_code.specs.Chains.{found_in}
-use Rattle.pl0_code.specs.Tables.{names_in}
+use Rattle.pl0_scope.specs.Blocks.{blocks_of, found_in}
 use Rattle.pl0_code.specs.Rows.{condition_rows, statement_rows, statement_table, list_rows, list_steps, numbered, if_rows, while_rows}
 use Rattle.pl0_code.proofs.Trees.{rows_Begin, steps_Begin, rows_kept, table_kept}
 use Rattle.pl0_code.proofs.Patches.{if_emitted, while_emitted}
@@ -10,7 +9,7 @@ use Rattle.pl0_code.proofs.emit.Emitter.+statement.Goals as goal
 
 pub loop-part-preserved : goal.loop-part-preserved
 loop-part-preserved t c =
-    let r = found_in 0 (map names_in (reverse c.args.scopes.now)) in
+    let r = found_in 0 (blocks_of c.args.scopes.now) in
     let done = c.in_ok-statement-in-Begin.ensures in
     let held = c.loop-part.invariant in
     let items = c.deref-part-items.result.now in
@@ -27,7 +26,7 @@ loop-part-preserved t c =
 
 pub returns-after-loop-part-clause-listing : goal.returns-after-loop-part-clause-listing
 returns-after-loop-part-clause-listing t c =
-    let r = found_in 0 (map names_in (reverse c.args.scopes.now)) in
+    let r = found_in 0 (blocks_of c.args.scopes.now) in
     let l = c.loop-part.self.listing in
     let l0 = c.args.self.now.listing in
     let n0 = length c.args.self.now.steps.items in
@@ -55,7 +54,7 @@ returns-after-loop-part-clause-table t c =
 
 pub returns-in_ok-statement-in-If-clause-listing : goal.returns-in_ok-statement-in-If-clause-listing
 returns-in_ok-statement-in-If-clause-listing t c =
-    let r = found_in 0 (map names_in (reverse c.args.scopes.now)) in
+    let r = found_in 0 (blocks_of c.args.scopes.now) in
     let l0 = c.args.self.now.listing in
     let n0 = length c.args.self.now.steps.items in
     let taken = c.in_ok-step-in-If.ensures in
@@ -67,7 +66,7 @@ returns-in_ok-statement-in-If-clause-listing t c =
 
 pub returns-in_ok-put-in-While-2-clause-listing : goal.returns-in_ok-put-in-While-2-clause-listing
 returns-in_ok-put-in-While-2-clause-listing t c =
-    let r = found_in 0 (map names_in (reverse c.args.scopes.now)) in
+    let r = found_in 0 (blocks_of c.args.scopes.now) in
     let l0 = c.args.self.now.listing in
     let n0 = length c.args.self.now.steps.items in
     let taken = c.in_ok-step-in-While.ensures in
