@@ -108,6 +108,10 @@ impl<'a> Plain<'a> {
     }
 
     /// The value of an expression in a frame, the left operand first. A name that can't be read there counts as 0.
+    ///
+    /// # Errors
+    ///
+    /// `Overflow` or `DivideByZero`, whichever comes first.
     pub fn value(&self, frame: usize, expression: &Expression) -> Result<i64, RunFault>
         ensures { result ≡ value self.now.program (frames self.now) frame expression.now }
     {
@@ -115,6 +119,10 @@ impl<'a> Plain<'a> {
     }
 
     /// Whether a condition holds in a frame. A name that can't be read there counts as 0.
+    ///
+    /// # Errors
+    ///
+    /// `Overflow` or `DivideByZero`, whichever comes first.
     pub fn truth(&self, frame: usize, condition: &Condition) -> Result<bool, RunFault>
         ensures { result ≡ truth self.now.program (frames self.now) frame condition.now }
     {
