@@ -1,56 +1,53 @@
 -- One turn of each walk over procedures or statements, and its end.
-use Rattle.std.proofs.Common.{◌≡◌, ℕ, ◌+◌, List, [], ◌∷◌, ◌++◌, length, refl, ap, sym, ◌∙◌, append_assoc, length-append, append-nil}
+use Rattle.std.proofs.Common.{◌≡◌, ℕ, zero, suc, ◌+◌, ◌≤◌, List, [], ◌∷◌, ◌++◌, ap, sym, ◌∙◌, append_assoc, append-nil, drop, reverse, arith}
+use Rattle.std.proofs.lemmas.List.{reverse-append}
 use Rattle.std.specs.Prelude.{Option}
 use Rattle.pl0_tree.specs.declared.step.Step.{Step}
-use Rattle.pl0_tree.specs.declared.tree.Block.{Block, Block', out-Block, Row_of-Procedure, end_of-Procedure, more_of-Procedure}
-use Rattle.pl0_tree.specs.declared.tree.Procedure.{Procedure, Procedure', out-Procedure}
+use Rattle.pl0_tree.specs.declared.tree.Block.{Block, out-Block}
+use Rattle.pl0_tree.specs.declared.tree.Procedure.{Procedure, out-Procedure}
 use Rattle.pl0_tree.specs.declared.tree.Statement.{Statement}
 use Rattle.pl0_tree.specs.declared.nesting.Nesting.{Nesting}
-use Rattle.pl0_names.specs.Numbering.{row_count, procedures_count, procedure_count, numbered_statement, numbered_block, numbered_procedures, numbered_procedure, block_count, nested_in, nestings_of_block, nestings_of_row, nestings_of_procedure, nestings_of_procedures}
+use Rattle.pl0_names.specs.Numbering.{procedures_count, procedure_count, numbered_statement, numbered_block, numbered_procedures, numbered_procedure, block_count, nested_in, nestings_of_block, nestings_of_procedure, nestings_of_procedures}
 use Rattle.pl0_names.proofs.Rows.{procedure_count_is, own_steps, numbered_block_is, numbered_procedure_is, nestings_of_block_is, nestings_of_procedure_is, numbered_statements}
 
 pub count_step : (ps qs : List Procedure) (p : Procedure) → ps ≡ p ∷ qs → procedures_count ps ≡ block_count (out-Procedure p).block + procedures_count qs
 count_step ps qs p is = ap procedures_count is ∙ ap (λ n. n + procedures_count qs) (procedure_count_is p)
 
--- as many nestings as blocks
-mutual
-  nestings_length : (b : Block) (here : Option Nesting) (k : ℕ) → length (nestings_of_block b here k) ≡ block_count b
-  nestings_length (Block' constants variables shape row body end) here k =
-      length-append (nestings_of_row row 0 (k + row_count row) k) (here ∷ []) ∙ ap (λ n. n + 1) (row_nestings_length row 0 (k + row_count row) k)
+pub count_rest : (i : ℕ) (ps : List Procedure) → procedures_count (drop i ps) ≤ procedures_count ps
+count_rest zero ps = omega arith
+count_rest (suc i) [] = omega arith
+count_rest (suc i) (p ∷ ps) = let rest = count_rest i ps in omega arith
 
-  row_nestings_length : {m : _} (row : Row_of-Procedure m) (i outer k : ℕ) → length (nestings_of_row row i outer k) ≡ row_count row
-  row_nestings_length end_of-Procedure i outer k = refl
-  row_nestings_length (more_of-Procedure p row) i outer k =
-      length-append (nestings_of_procedure p (nested_in outer i) k) (nestings_of_row row (i + 1) outer (k + procedure_count p)) ∙
-      ap (λ n. n + length (nestings_of_row row (i + 1) outer (k + procedure_count p))) (procedure_nestings_length p (nested_in outer i) k) ∙
-      ap (λ n. procedure_count p + n) (row_nestings_length row (i + 1) outer (k + procedure_count p))
+-- a procedure among others
+pub count_one : (ps : List Procedure) (p : Procedure) (j : ℕ) → drop j ps ≡ p ∷ drop (j + 1) ps →
+    block_count (out-Procedure p).block + procedures_count (drop (j + 1) ps) ≤ procedures_count ps
+count_one ps p j is =
+    let step = count_step (drop j ps) (drop (j + 1) ps) p is in
+    let all = count_rest j ps in
+    omega (arith, step, all)
 
-  procedure_nestings_length : (p : Procedure) (here : Option Nesting) (k : ℕ) → length (nestings_of_procedure p here k) ≡ procedure_count p
-  procedure_nestings_length (Procedure' x b) here k = nestings_length b here k
+-- the nestings of one procedure more, from the last on
+pub nest_step : (T₀ T T' : List (Option Nesting)) (ps qs : List Procedure) (p : Procedure) (i outer k l : ℕ) → ps ≡ p ∷ qs → k + block_count (out-Procedure p).block ≡ l →
+    T ≡ T₀ ++ reverse (nestings_of_procedures qs (i + 1) outer l) → T' ≡ T ++ reverse (nestings_of_block (out-Procedure p).block (nested_in outer i) k) →
+    T' ≡ T₀ ++ reverse (nestings_of_procedures ps i outer k)
+nest_step T₀ T T' ps qs p i outer k l is number told grown =
+    let here : List (Option Nesting) = nestings_of_procedure p (nested_in outer i) k in
+    let later : List (Option Nesting) = nestings_of_procedures qs (i + 1) outer l in
+    grown ∙ ap (λ t. t ++ reverse (nestings_of_block (out-Procedure p).block (nested_in outer i) k)) told ∙
+    ap (λ ns. (T₀ ++ reverse later) ++ reverse ns) (sym (nestings_of_procedure_is p (nested_in outer i) k)) ∙
+    append_assoc T₀ (reverse later) (reverse here) ∙ ap (λ t. T₀ ++ t) (sym (reverse-append here later)) ∙
+    ap (λ n. T₀ ++ reverse (here ++ nestings_of_procedures qs (i + 1) outer n)) (sym number ∙ ap (λ n. k + n) (sym (procedure_count_is p))) ∙
+    ap (λ rs. T₀ ++ reverse (nestings_of_procedures rs i outer k)) (sym is)
 
-pub nest_length : (T T' : List (Option Nesting)) (b : Block) (here : Option Nesting) → T' ≡ T ++ nestings_of_block b here (length T) → length T' ≡ length T + block_count b
-nest_length T T' b here is =
-    ap length is ∙ length-append T (nestings_of_block b here (length T)) ∙ ap (λ n. length T + n) (nestings_length b here (length T))
-
-pub nest_step : (T T' : List (Option Nesting)) (ps qs : List Procedure) (p : Procedure) (i outer : ℕ) → ps ≡ p ∷ qs →
-    T' ≡ T ++ nestings_of_block (out-Procedure p).block (nested_in outer i) (length T) →
-    T' ++ nestings_of_procedures qs (i + 1) outer (length T') ≡ T ++ nestings_of_procedures ps i outer (length T)
-nest_step T T' ps qs p i outer is grown =
-    let here : Option Nesting = nested_in outer i in
-    ap (λ n. T' ++ nestings_of_procedures qs (i + 1) outer n) (nest_length T T' (out-Procedure p).block here grown ∙ ap (λ n. length T + n) (sym (procedure_count_is p))) ∙
-    ap (λ t. t ++ nestings_of_procedures qs (i + 1) outer (length T + procedure_count p)) (grown ∙ ap (λ ns. T ++ ns) (sym (nestings_of_procedure_is p here (length T)))) ∙
-    append_assoc T (nestings_of_procedure p here (length T)) (nestings_of_procedures qs (i + 1) outer (length T + procedure_count p)) ∙
-    ap (λ rs. T ++ nestings_of_procedures rs i outer (length T)) (sym is)
-
-pub nest_done : (T T₀ : List (Option Nesting)) (b : Block) (here : Option Nesting) (rest : List Procedure) (i outer : ℕ) → rest ≡ [] →
-    outer ≡ length T₀ + procedures_count (out-Block b).procedures.items →
-    T ++ nestings_of_procedures rest i outer (length T) ≡ T₀ ++ nestings_of_procedures (out-Block b).procedures.items 0 outer (length T₀) →
-    T ++ here ∷ [] ≡ T₀ ++ nestings_of_block b here (length T₀)
-nest_done T T₀ b here rest i outer none number told =
-    ap (λ t. t ++ here ∷ []) (sym (append-nil T) ∙ ap (λ rs. T ++ nestings_of_procedures rs i outer (length T)) (sym none) ∙ told ∙
-    ap (λ n. T₀ ++ nestings_of_procedures (out-Block b).procedures.items 0 n (length T₀)) number) ∙
-    append_assoc T₀ (nestings_of_procedures (out-Block b).procedures.items 0 (length T₀ + procedures_count (out-Block b).procedures.items) (length T₀)) (here ∷ []) ∙
-    ap (λ ns. T₀ ++ ns) (sym (nestings_of_block_is b here (length T₀)))
+pub nest_done : (T₀ T₁ T : List (Option Nesting)) (b : Block) (here : Option Nesting) (outer k : ℕ) → outer ≡ k + procedures_count (out-Block b).procedures.items →
+    T₁ ≡ T₀ ++ here ∷ [] → T ≡ T₁ ++ reverse (nestings_of_procedures (out-Block b).procedures.items 0 outer k) →
+    T ≡ T₀ ++ reverse (nestings_of_block b here k)
+nest_done T₀ T₁ T b here outer k number first told =
+    let inner : ℕ → List (Option Nesting) = λ n. nestings_of_procedures (out-Block b).procedures.items 0 n k in
+    told ∙ ap (λ t. t ++ reverse (inner outer)) first ∙ append_assoc T₀ (here ∷ []) (reverse (inner outer)) ∙
+    ap (λ t. T₀ ++ t) (sym (reverse-append (inner outer) (here ∷ []))) ∙
+    ap (λ n. T₀ ++ reverse (inner n ++ here ∷ [])) number ∙
+    ap (λ ns. T₀ ++ reverse ns) (sym (nestings_of_block_is b here k))
 
 pub step_step : (S S' : List Step) (ps qs : List Procedure) (p : Procedure) (k : ℕ) → ps ≡ p ∷ qs →
     S' ≡ S ++ numbered_block (out-Procedure p).block k →

@@ -1,6 +1,6 @@
 // The blocks of a program by number.
 
-ghost use Rattle.std.specs.Prelude.{ℕ, ◌≡◌, ◌+◌, ◌<◌, ◌^◌, ◌++◌, length, Some, IfOk, MatchOption, slice_get};
+ghost use Rattle.std.specs.Prelude.{ℕ, ◌≡◌, ◌+◌, ◌<◌, ◌≤◌, ◌^◌, ◌++◌, length, reverse, Some, IfOk, MatchOption, slice_get};
 ghost use Rattle.pl0_tree.specs.Scope.{Path, block_at};
 ghost use Rattle.pl0_tree.specs.Steps.{blocks};
 ghost use Rattle.pl0_tree.specs.Blocks.{AreNestings, name_at};
@@ -21,21 +21,32 @@ fn count(block: &Block) -> usize
     found
 }
 
-// Adds the nestings of a block and of those in it, in the order of their ends.
+// Adds the nestings of a block, which has this number, and of those in it, the last to end first. Answers the number of the
+// first to end.
 fn add_blocks(
     block: &Block,
     here: Option<Nesting>,
+    number: u32,
     table: &mut Vec<Option<Nesting>>,
-) -> Result<(), AllocError>
-    requires { length table.old.items + block_count block.now < 2 ^ 32 }
-    ensures { IfOk result (λ _. table.new.items ≡ table.old.items ++ nestings_of_block block.now here (length table.old.items)) }
+) -> Result<u32, AllocError>
+    requires { block_count block.now ≤ number + 1 }
+    ensures { IfOk result (λ first. (first + block_count block.now ≡ number + 1) × (table.new.items ≡ table.old.items ++ reverse (nestings_of_block block.now here first))) }
 {
-    let outer = (table.len() + count(block) - 1) as u32;
-    for (index, procedure) in block.procedures.iter().enumerate() {
-        add_blocks(&procedure.block, Some(Nesting { outer, index }), table)?;
-    }
     table.push(here)?;
-    Ok(())
+    let mut first = number;
+    for index in (0..block.procedures.len()).rev() {
+        let nesting = Nesting {
+            outer: number,
+            index,
+        };
+        first = add_blocks(
+            &block.procedures[index].block,
+            Some(nesting),
+            first - 1,
+            table,
+        )?;
+    }
+    Ok(first)
 }
 
 /// Where each block of a program stands, by its number: the order in which the blocks end. The main one is the last.
@@ -44,7 +55,9 @@ pub fn blocks(alloc: Global, main: &Block) -> Result<Vec<Option<Nesting>>, Alloc
     ensures { IfOk result (λ table. AreNestings main.now table.items (blocks main.now)) }
 {
     let mut table = Vec::new(alloc);
-    add_blocks(main, None, &mut table)?;
+    let last = (count(main) - 1) as u32;
+    add_blocks(main, None, last, &mut table)?;
+    table.reverse();
     Ok(table)
 }
 

@@ -95,8 +95,8 @@ module _ {T : Type 0} where
           ap (λ ds. cond (bytes_eq e.word.now w) (Some (found_at (k + (suc m - (e.level + 1))) e.meaning)) (option_or (option_map (found_at k) (names ds w)) (found_in (k + 1) (map names (blocks m es)) w))) (sym none)
 
   -- the latest declaration of a word
-  abbrev pub latest_of : List (Entry T) → List ℕ → Option (Entry T)
-  latest_of es w = find (λ e. bytes_eq e.word.now w) es
+  abbrev pub latest_entry : List (Entry T) → List ℕ → Option (Entry T)
+  latest_entry es w = find (λ e. bytes_eq e.word.now w) es
 
   found_here : (n m : ℕ) (b : Bool) (e : Entry T) (r : Option (Found T)) (o : Option (Entry T)) → m ≡ n - (e.level + 1) → r ≡ option_map (λ e. found_at (n - (e.level + 1)) e.meaning) o →
       cond b (Some (found_at m e.meaning)) r ≡ option_map (λ e. found_at (n - (e.level + 1)) e.meaning) (cond b (Some e) o)
@@ -105,12 +105,12 @@ module _ {T : Type 0} where
 
   -- the nearest block that declares a word is that of its latest declaration
   pub found_is : (n : ℕ) (es : List (Entry T)) (w : List ℕ) → IsNested n es →
-      found_in 0 (map names (blocks n es)) w ≡ option_map (λ e. found_at (n - (e.level + 1)) e.meaning) (latest_of es w)
+      found_in 0 (map names (blocks n es)) w ≡ option_map (λ e. found_at (n - (e.level + 1)) e.meaning) (latest_entry es w)
   found_is n [] w nested = no_found 0 n w [] refl
   found_is n (e ∷ es) w nested =
       let first : e.level < n = nested.0 in
       found_put 0 n e es w first nested.1 ∙
-      found_here n (0 + (n - (e.level + 1))) (bytes_eq e.word.now w) e (found_in 0 (map names (blocks n es)) w) (latest_of es w) (omega arith) (found_is n es w (nested_more (e.level + 1) n es (omega arith) nested.1))
+      found_here n (0 + (n - (e.level + 1))) (bytes_eq e.word.now w) e (found_in 0 (map names (blocks n es)) w) (latest_entry es w) (omega arith) (found_is n es w (nested_more (e.level + 1) n es (omega arith) nested.1))
 
   -- ---- indices
 
@@ -129,28 +129,28 @@ module _ {T : Type 0} where
       at false further same = let lt : i < length es = further same in omega arith
 
   -- the latest declaration stands at the latest index
-  pub at_latest : (es : List (Entry T)) (w : List ℕ) (i : ℕ) (d : Entry T) → latest es w ≡ Some i → latest_of es w ≡ Some (get_or (reverse es) i d)
+  pub at_latest : (es : List (Entry T)) (w : List ℕ) (i : ℕ) (d : Entry T) → latest es w ≡ Some i → latest_entry es w ≡ Some (get_or (reverse es) i d)
   at_latest [] w i d is = cc
   at_latest (e ∷ es) w i d is = at (bytes_eq e.word.now w) (at_latest es w i d) (latest_bound es w i) is
     where
-      at : (b : Bool) → (latest es w ≡ Some i → latest_of es w ≡ Some (get_or (reverse es) i d)) → (latest es w ≡ Some i → i < length es) →
-          cond b (Some (length es)) (latest es w) ≡ Some i → cond b (Some e) (latest_of es w) ≡ Some (get_or (reverse (e ∷ es)) i d)
+      at : (b : Bool) → (latest es w ≡ Some i → latest_entry es w ≡ Some (get_or (reverse es) i d)) → (latest es w ≡ Some i → i < length es) →
+          cond b (Some (length es)) (latest es w) ≡ Some i → cond b (Some e) (latest_entry es w) ≡ Some (get_or (reverse (e ∷ es)) i d)
       at true further within same = let number : length es ≡ i = cc in ap (λ x. Some x) (last_read e d es ∙ ap (λ j. get_or (reverse (e ∷ es)) j d) number)
       at false further within same = further same ∙ ap (λ x. Some x) (earlier_read e d es i (within same))
 
-  pub nested_level : (n : ℕ) (es : List (Entry T)) (w : List ℕ) (x : Entry T) → IsNested n es → latest_of es w ≡ Some x → x.level < n
+  pub nested_level : (n : ℕ) (es : List (Entry T)) (w : List ℕ) (x : Entry T) → IsNested n es → latest_entry es w ≡ Some x → x.level < n
   nested_level n [] w x nested is = cc
   nested_level n (e ∷ es) w x nested is = at (bytes_eq e.word.now w) (nested_level (e.level + 1) es w x nested.1) is
     where
-      at : (b : Bool) → (latest_of es w ≡ Some x → x.level < e.level + 1) → cond b (Some e) (latest_of es w) ≡ Some x → x.level < n
+      at : (b : Bool) → (latest_entry es w ≡ Some x → x.level < e.level + 1) → cond b (Some e) (latest_entry es w) ≡ Some x → x.level < n
       at true further same = let first : e.level < n = nested.0 in let it : e.level ≡ x.level = ap (λ y. y.level) (let it : e ≡ x = cc in it) in omega arith
       at false further same = let first : e.level < n = nested.0 in let lt : x.level < e.level + 1 = further same in omega arith
 
-  pub none_latest : (es : List (Entry T)) (w : List ℕ) → latest es w ≡ None → latest_of es w ≡ None
+  pub none_latest : (es : List (Entry T)) (w : List ℕ) → latest es w ≡ None → latest_entry es w ≡ None
   none_latest [] w is = refl
   none_latest (e ∷ es) w is = at (bytes_eq e.word.now w) (none_latest es w) is
     where
-      at : (b : Bool) → (latest es w ≡ None → latest_of es w ≡ None) → cond b (Some (length es)) (latest es w) ≡ None → cond b (Some e) (latest_of es w) ≡ None
+      at : (b : Bool) → (latest es w ≡ None → latest_entry es w ≡ None) → cond b (Some (length es)) (latest es w) ≡ None → cond b (Some e) (latest_entry es w) ≡ None
       at true further same = cc
       at false further same = further same
 
@@ -172,32 +172,32 @@ module _ {T : Type 0} where
       at true = ap (λ b. cond b (Some e.meaning) (names (at_level m es) w)) is ∙ none
       at false = none
 
-  pub not_at : (m : ℕ) (es : List (Entry T)) (w : List ℕ) → latest_of es w ≡ None → names (at_level m es) w ≡ None
+  pub not_at : (m : ℕ) (es : List (Entry T)) (w : List ℕ) → latest_entry es w ≡ None → names (at_level m es) w ≡ None
   not_at m [] w none = refl
   not_at m (e ∷ es) w none = at (bytes_eq e.word.now w) refl (not_at m es w) none
     where
-      at : (b : Bool) → bytes_eq e.word.now w ≡ b → (latest_of es w ≡ None → names (at_level m es) w ≡ None) → cond b (Some e) (latest_of es w) ≡ None → names (at_level m (e ∷ es)) w ≡ None
+      at : (b : Bool) → bytes_eq e.word.now w ≡ b → (latest_entry es w ≡ None → names (at_level m es) w ≡ None) → cond b (Some e) (latest_entry es w) ≡ None → names (at_level m (e ∷ es)) w ≡ None
       at true is further same = cc
       at false is further same = put_none m e es w is (further same)
 
   -- the innermost block declares what its declaration is the latest of
-  pub named_at : (m : ℕ) (es : List (Entry T)) (w : List ℕ) (x : Entry T) → latest_of es w ≡ Some x → x.level ≡ m → names (at_level m es) w ≡ Some x.meaning
+  pub named_at : (m : ℕ) (es : List (Entry T)) (w : List ℕ) (x : Entry T) → latest_entry es w ≡ Some x → x.level ≡ m → names (at_level m es) w ≡ Some x.meaning
   named_at m [] w x is level = cc
   named_at m (e ∷ es) w x is level = at (bytes_eq e.word.now w) refl (nat_eq e.level m) refl (λ s. named_at m es w x s level) is
     where
-      at : (b : Bool) → bytes_eq e.word.now w ≡ b → (h : Bool) → nat_eq e.level m ≡ h → (latest_of es w ≡ Some x → names (at_level m es) w ≡ Some x.meaning) →
-          cond b (Some e) (latest_of es w) ≡ Some x → names (cond h ((e.word.now, e.meaning) ∷ at_level m es) (at_level m es)) w ≡ Some x.meaning
+      at : (b : Bool) → bytes_eq e.word.now w ≡ b → (h : Bool) → nat_eq e.level m ≡ h → (latest_entry es w ≡ Some x → names (at_level m es) w ≡ Some x.meaning) →
+          cond b (Some e) (latest_entry es w) ≡ Some x → names (cond h ((e.word.now, e.meaning) ∷ at_level m es) (at_level m es)) w ≡ Some x.meaning
       at true is true here further same = let it : e ≡ x = cc in ap (λ b. cond b (Some e.meaning) (names (at_level m es) w)) is ∙ ap (λ y. Some y.meaning) it
       at true is false here further same = let it : e ≡ x = cc in absurd (both_ways _ here (same_level e.level m (ap (λ y. y.level) it ∙ level)))
       at false is true here further same = ap (λ b. cond b (Some e.meaning) (names (at_level m es) w)) is ∙ further same
       at false is false here further same = further same
 
   -- and no other word
-  pub unnamed_at : (m : ℕ) (es : List (Entry T)) (w : List ℕ) (x : Entry T) → IsNested (m + 1) es → latest_of es w ≡ Some x → (x.level ≡ m → ⊥) → names (at_level m es) w ≡ None
+  pub unnamed_at : (m : ℕ) (es : List (Entry T)) (w : List ℕ) (x : Entry T) → IsNested (m + 1) es → latest_entry es w ≡ Some x → (x.level ≡ m → ⊥) → names (at_level m es) w ≡ None
   unnamed_at m [] w x nested is other = refl
   unnamed_at m (e ∷ es) w x nested is other = at (bytes_eq e.word.now w) refl (λ s. unnamed_at m es w x (let first : e.level < m + 1 = nested.0 in nested_more (e.level + 1) (m + 1) es (omega arith) nested.1) s other) is
     where
-      at : (b : Bool) → bytes_eq e.word.now w ≡ b → (latest_of es w ≡ Some x → names (at_level m es) w ≡ None) → cond b (Some e) (latest_of es w) ≡ Some x → names (at_level m (e ∷ es)) w ≡ None
+      at : (b : Bool) → bytes_eq e.word.now w ≡ b → (latest_entry es w ≡ Some x → names (at_level m es) w ≡ None) → cond b (Some e) (latest_entry es w) ≡ Some x → names (at_level m (e ∷ es)) w ≡ None
       at true is further same =
           let it : e.level ≡ x.level = ap (λ y. y.level) (let it : e ≡ x = cc in it) in
           let first : e.level < m + 1 = nested.0 in

@@ -1,6 +1,6 @@
 -- What the map of indices says, beside the log.
-use Rattle.std.proofs.Common.{◌≡◌, ℕ, ◌+◌, ◌<◌, List, [], ◌∷◌, length, reverse, get_or, refl, sym, ap, subst, ◌∙◌, Option, Some, None, true, false, cond, arith, rules}
-use Rattle.std.specs.Prelude.{IsSome, is_some, Result, Ok, Err, OnOk, OnErr}
+use Rattle.std.proofs.Common.{Bool, ◌≡◌, ℕ, ◌+◌, ◌-◌, ◌<◌, List, [], ◌∷◌, length, reverse, get_or, refl, sym, ap, subst, ◌∙◌, Option, Some, None, true, false, cond, arith, rules}
+use Rattle.std.specs.Prelude.{IsSome, is_some, option_map, Result, Ok, Err, OnOk, OnErr}
 use Rattle.std.specs.Map.{update}
 use Rattle.std.specs.Str.{bytes_eq}
 use Rattle.std.specs.HashMap.{HashMap}
@@ -9,14 +9,18 @@ use Rattle.std.proofs.lemmas.Bool.{both_ways, eqb-true, eqb-false}
 use Rattle.std.proofs.lemmas.List.{reverse-reverse, length-reverse}
 use denote.Ref.{Bor}
 use Rattle.pl0_scope.specs.declared.log.Entry.{Entry}
-use Rattle.pl0_scope.specs.Logs.{blocks, latest, ends_at, index_of, IsLinked, IsNested, IsIndexed}
-use Rattle.pl0_scope.proofs.Logs.{restored, nested_more, outer_same, latest_of, at_latest, latest_bound}
+use Rattle.pl0_scope.specs.Logs.{blocks, latest, ends_at, index_of, IsLinked, IsNested, IsIndexed, IsTable}
+use Rattle.pl0_scope.specs.Blocks.{blocks_of, found_at, found_in}
+use Rattle.pl0_scope.proofs.Logs.{restored, nested_more, outer_same, latest_entry, at_latest, latest_bound, found_is, none_latest, nested_level}
 
 module _ {T : Type 0} where
   pub cut_outer : (n : ℕ) (e : Entry T) (es es' : List (Entry T)) → es' ≡ e ∷ es → ends_at n es' ≡ true → blocks n es ≡ blocks n es'
   cut_outer n e es es' is ends =
       let here : e.level ≡ n = eqb-true e.level n (ap (ends_at n) (sym is) ∙ ends) in
       sym (ap (blocks n) is ∙ outer_same n e es (omega arith))
+
+  pub ends_read : (n : ℕ) (b : Bool) (xs ys : List (Entry T)) → b ≡ ends_at n (reverse xs) → xs ≡ ys → b ≡ true → ends_at n (reverse ys) ≡ true
+  ends_read n b xs ys is same holds = sym (is ∙ ap (λ zs. ends_at n (reverse zs)) same) ∙ holds
 
   pub cut_nested : (n : ℕ) (e : Entry T) (es es' : List (Entry T)) → es' ≡ e ∷ es → IsNested n es' → IsNested n es
   cut_nested n e es es' is nested =
@@ -66,10 +70,29 @@ module _ {S T : Type 0} where
       omega (arith, length-reverse items)
 
   pub latest_read : (m : HashMap (Bor (List ℕ)) ℕ S) (items : List (Entry T)) (w : List ℕ) (i : ℕ) (e : Entry T) → IsIndexed m (reverse items) → index_of m w ≡ Some i →
-      e ≡ get_or items i e → latest_of (reverse items) w ≡ Some e
+      e ≡ get_or items i e → latest_entry (reverse items) w ≡ Some e
   latest_read m items w i e indexed is read =
       at_latest (reverse items) w i e (sym (indexed.latest_of w) ∙ is) ∙
       ap (λ x. Some x) (ap (λ xs. get_or xs i e) (reverse-reverse items) ∙ sym read)
+
+  -- a word that the map doesn't have is declared by no open block
+  pub found_none : (n : ℕ) (m : HashMap (Bor (List ℕ)) ℕ S) (es : List (Entry T)) (stack : List (List (List ℕ × T))) (w : List ℕ) → IsTable n m es → blocks n es ≡ stack →
+      index_of m w ≡ None → found_in 0 (blocks_of stack) w ≡ None
+  found_none n m es stack w table view none =
+      ap (λ s. found_in 0 (blocks_of s) w) (sym view) ∙ found_is n es w table.nested ∙
+      ap (option_map (λ e. found_at (n - (e.level + 1)) e.meaning)) (none_latest es w (sym (table.indexed.latest_of w) ∙ none))
+
+  -- and one that it has is found as it is declared at that index
+  pub found_some : (n : ℕ) (m : HashMap (Bor (List ℕ)) ℕ S) (items : List (Entry T)) (stack : List (List (List ℕ × T))) (w : List ℕ) (i : ℕ) (e : Entry T) → IsTable n m (reverse items) →
+      blocks n (reverse items) ≡ stack → index_of m w ≡ Some i → e ≡ get_or items i e → found_in 0 (blocks_of stack) w ≡ Some (found_at (n - (e.level + 1)) e.meaning)
+  found_some n m items stack w i e table view is read =
+      ap (λ s. found_in 0 (blocks_of s) w) (sym view) ∙ found_is n (reverse items) w table.nested ∙
+      ap (option_map (λ e. found_at (n - (e.level + 1)) e.meaning)) (latest_read m items w i e table.indexed is read)
+
+  -- it is of an open block
+  pub level_below : (n : ℕ) (m : HashMap (Bor (List ℕ)) ℕ S) (items : List (Entry T)) (w : List ℕ) (i : ℕ) (e : Entry T) → IsTable n m (reverse items) →
+      index_of m w ≡ Some i → e ≡ get_or items i e → e.level < n
+  level_below n m items w i e table is read = nested_level n (reverse items) w e table.nested (latest_read m items w i e table.indexed is read)
 
 -- what a call says, where it can't have failed
 pub unless_absent : {X Y A P : Type 0} (r : Result X Y) (o : Option A) → OnOk r P → OnErr r (o ≡ None) → IsSome o → P

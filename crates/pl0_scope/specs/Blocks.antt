@@ -9,7 +9,7 @@ use Rattle.pl0_scope.specs.declared.scopes.Found.{Found}
 abbrev pub Names : Type 0 → Type 0
 Names T = List ℕ → Option T
 
--- the same, of a block's declarations
+-- the same, of a block's declarations, the latest first
 abbrev pub names : {T : Type 0} → List (List ℕ × T) → Names T
 names ds w = lookup (λ v. bytes_eq v w) ds
 

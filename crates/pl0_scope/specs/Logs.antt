@@ -25,7 +25,7 @@ abbrev pub IsLinked : {T : Type 0} → List (Entry T) → Type 0
 IsLinked [] = Unit {0}
 IsLinked (e ∷ es) = (e.hidden ≡ latest es e.word.now) × IsLinked es
 
--- each declaration is of one of so many blocks, and none is of a block in that of a later one
+-- each declaration is of one of so many blocks, and none that is older is of a block further in
 abbrev pub IsNested : {T : Type 0} → ℕ → List (Entry T) → Type 0
 IsNested n [] = Unit {0}
 IsNested n (e ∷ es) = (e.level < n) × IsNested (e.level + 1) es

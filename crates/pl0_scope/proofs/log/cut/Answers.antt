@@ -1,7 +1,6 @@
-use Rattle.std.proofs.Common.{reverse, sym, ap, ◌∙◌}
-use Rattle.pl0_scope.specs.Logs.{ends_at}
+use Rattle.std.proofs.Common.{reverse, ◌∙◌}
 use Rattle.pl0_scope.proofs.Logs.{latest_first}
-use Rattle.pl0_scope.proofs.Tables.{has_index, cut_indexed, cut_outer, cut_nested}
+use Rattle.pl0_scope.proofs.Tables.{has_index, cut_indexed, cut_outer, ends_read, cut_nested}
 use Rattle.pl0_scope.proofs.log.cut.Goals as goal
 
 pub restore-requires : goal.restore-requires
@@ -16,7 +15,7 @@ loop-log-preserved-in-Some g c =
     let es = reverse c.pop.new.self.items in
     let es' = reverse c.loop-log.log.items in
     let is = latest_first c.pop.new.self.items e c.loop-log.log.items c.in-Some.ensures.items in
-    let ends = sym (c.ends_at.ensures ∙ ap (λ xs. ends_at c.args.level (reverse xs)) c.deref.ensures.value) ∙ c.loop-log-test.true in
+    let ends = ends_read c.args.level c.ends_at.result c.deref.result.now c.loop-log.log.items c.ends_at.ensures c.deref.ensures.value c.loop-log-test.true in
     record {
       indexed = cut_indexed c.loop-log.index c.restore.new.index e es es' c.loop-log.invariant.indexed is c.restore.ensures;
       nested = cut_nested _ e es es' is c.loop-log.invariant.nested;
