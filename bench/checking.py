@@ -5,8 +5,9 @@ usage: checking.py PROGRAM
 
 Each text is lawful. What is looked at is the growth: twice the text is to take at most 2.3 times the time. The time of
 the program's start is taken off. In the shapes `deeper` and `farther` the nesting grows with the text, up to its limit
-of 64 levels, so that twice the text may take up to four times the time where each level costs.
+of 64 levels.
 """
+import os
 import resource
 import subprocess
 import sys
@@ -16,6 +17,7 @@ KIB = 1024
 LIMIT = 64 * KIB
 NAMES = 1024
 LEVELS = 64
+RUNS = 60
 # What twice the text may take.
 MOST = 2.3
 
@@ -106,29 +108,30 @@ def used() -> float:
     return usage.ru_utime + usage.ru_stime
 
 
-def seconds(program: str, text: str) -> float:
-    """The processor's time of the best of nine runs, the program's start included."""
-    best = float("inf")
-    with tempfile.NamedTemporaryFile(suffix=".pl0") as file:
-        file.write(text.encode())
-        file.flush()
-        for _ in range(9):
-            begin = used()
-            subprocess.run([program, "--check", file.name], stdout=subprocess.DEVNULL, check=True)
-            best = min(best, used() - begin)
+def seconds(program: str, texts: list[str]) -> list[float]:
+    """The processor's time of the best of some runs of each text, the program's start included. They take turns, so that
+    whatever else the computer does slows all."""
+    best = [float("inf")] * len(texts)
+    with tempfile.TemporaryDirectory() as room:
+        paths = [os.path.join(room, f"{number}.pl0") for number in range(len(texts))]
+        for path, text in zip(paths, texts):
+            with open(path, "w") as sink:
+                sink.write(text)
+        for _ in range(RUNS):
+            for number, path in enumerate(paths):
+                begin = used()
+                subprocess.run([program, "--check", path], stdout=subprocess.DEVNULL, check=True)
+                best[number] = min(best[number], used() - begin)
     return best
 
 
 def main() -> None:
     program = sys.argv[1]
-    start = seconds(program, ".\n")
+    start = seconds(program, [".\n"])[0]
     print(f"{'start':12} {start * 1000:8.2f} ms")
     for shape in SHAPES:
-        times = []
-        for size in (16 * KIB, 32 * KIB, LIMIT):
-            text = shape(size)
-            assert len(text) <= size, (shape.__name__, len(text))
-            times.append(max(seconds(program, text) - start, 0.0))
+        texts = [shape(size) for size in (16 * KIB, 32 * KIB, LIMIT)]
+        times = [max(taken - start, 0.0) for taken in seconds(program, texts)]
         shown = " ".join(f"{t * 1000:8.2f} ms" for t in times)
         growth = [b / a if a > 0.0005 else 0.0 for a, b in zip(times, times[1:])]
         note = f"   over {MOST}" if max(growth) > MOST else ""
