@@ -10,6 +10,3 @@ mod lexer;
 
 pub use laws::lexer_laws;
 pub use lexer::cut;
-
-#[cfg(test)]
-mod tests;

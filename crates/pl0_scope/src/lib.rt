@@ -9,6 +9,3 @@ mod log;
 mod scopes;
 
 pub use scopes::{Found, Scopes};
-
-#[cfg(test)]
-mod tests;
