@@ -53,7 +53,7 @@ one_more main asked i line answers all bs new answer lt is old more all_is =
     } in
     subst (λ l. Resolved main asked (i + 1) l new) (sym all_is) (subst (λ l. Resolved main asked (i + 1) (answers ++ answer ∷ []) l) (sym more.behind) now)
 
-pub plan_is : (u : Compiled) (n : ℕ) (bs : List Breakpoint) (lines : List (Option ℕ)) (plan : Listed) → plan ≡ record { steps = n; breakpoints = bs; watched = watched_lines bs lines } → lines ≡ u.lines.items → n ≡ length (steps (program_of u)) → AreAtSteps (program_of u) bs → IsPlanOf u plan
+pub plan_is : (u : Compiled) (n : ℕ) (bs : List Breakpoint) (lines : List (Option ℕ)) (plan : Listed) → plan ≡ record { steps = n; breakpoints = bs; watched = watched_lines bs lines } → lines ≡ u.begun_steps.items → n ≡ length (steps (program_of u)) → AreAtSteps (program_of u) bs → IsPlanOf u plan
 plan_is u n bs lines plan is beside all placed =
     let this : IsPlanOf u (record { steps = n; breakpoints = bs; watched = watched_lines bs lines }) = record { steps = all; bound = placed; watched = ap (λ l. watched_lines bs l) beside } in
     subst (λ (p : Listed). IsPlanOf u p) (sym is) this

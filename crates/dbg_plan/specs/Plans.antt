@@ -67,4 +67,4 @@ AreAtSteps main (b ∷ bs) = (b.step < length (steps main)) × IsGuardAt main b.
 pub record IsPlanOf (unit : Compiled) (plan : Listed) : Type 0 where
   pub steps : plan.steps ≡ length (steps (program_of unit))
   pub bound : AreAtSteps (program_of unit) plan.breakpoints
-  pub watched : plan.watched ≡ watched_lines plan.breakpoints unit.lines.items
+  pub watched : plan.watched ≡ watched_lines plan.breakpoints unit.begun_steps.items

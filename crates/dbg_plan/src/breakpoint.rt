@@ -1,7 +1,7 @@
 // Breakpoints.
 
 use crate::bound::BoundCondition;
-use pl0_tree::{Condition, StepNo};
+use pl0_tree::{Condition, StepNumber};
 
 /// Which arrivals at a breakpoint are due. Arrivals count from 1.
 #[derive(Clone, Copy, Debug, PartialEq, Eq)]
@@ -23,7 +23,7 @@ pub struct Guard {
 #[derive(Drop)]
 pub struct Breakpoint {
     pub number: usize,
-    pub step: StepNo,
+    pub step: StepNumber,
     pub guard: Option<Guard>,
     pub rule: Option<Rule>,
 }

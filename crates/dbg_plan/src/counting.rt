@@ -93,7 +93,7 @@ pub fn count_position(machine: &Machine, plan: &Option<Arc<Plan>>, counts: &mut 
             if !plan.is_watched(machine.address()) {
                 return false;
             }
-            count_arrivals(machine, plan.entry(machine.place()), counts)
+            count_arrivals(machine, plan.entry(machine.next_step()), counts)
         }
     }
 }

@@ -4,7 +4,7 @@ ghost use Rattle.std.specs.Prelude.{◌≡◌, ◌+◌, ◌<◌, ◌^◌, IsTrue
 
 use crate::breakpoint::Breakpoint;
 use crate::table::{starts_of, watched_of};
-use pl0_tree::StepNo;
+use pl0_tree::StepNumber;
 use std::alloc::{AllocError, Global};
 use std::marker::Model;
 
@@ -40,7 +40,7 @@ impl Plan {
     pub(crate) fn new(
         alloc: Global,
         steps: usize,
-        lines: &[Option<StepNo>],
+        lines: &[Option<StepNumber>],
         breakpoints: Vec<Breakpoint>,
     ) -> Result<Plan, AllocError>
         requires numbered { IsNumbered breakpoints.items }
@@ -78,7 +78,7 @@ impl Plan {
     }
 
     /// The breakpoints of a step, in the order asked.
-    pub fn entry(&self, step: StepNo) -> &[Breakpoint]
+    pub fn entry(&self, step: StepNumber) -> &[Breakpoint]
         requires { step < self.now.steps }
         ensures entry { result.now ≡ those_of step self.now.breakpoints }
         ensures numbered { IsNumbered self.now.breakpoints }

@@ -14,7 +14,7 @@ use crate::order::order_laws;
 use crate::plan::Plan;
 use crate::rule::{BadHit, read_rule};
 use pl0_syntax::{editor_laws, parse_condition};
-use pl0_tree::{StepNo, SyntaxFault};
+use pl0_tree::{StepNumber, SyntaxFault};
 use pl0_unit::Unit;
 use std::alloc::{AllocError, Global};
 
@@ -29,14 +29,14 @@ pub struct Asked {
 /// What a line is answered: its step, or why it has no breakpoint.
 #[derive(Clone, Copy, Debug, PartialEq, Eq)]
 pub enum Answer {
-    At(StepNo),
+    At(StepNumber),
     NoStep,
     BadCondition,
     BadHit,
 }
 
 // The first step at a line or behind it.
-fn first_step(unit: &Unit, line: u32) -> Option<StepNo>
+fn first_step(unit: &Unit, line: u32) -> Option<StepNumber>
     ensures { result ≡ step_from (program_of unit.now) line }
 {
     order_laws(unit);
@@ -49,7 +49,7 @@ fn read_guard(
     alloc: Global,
     unit: &Unit,
     text: &str,
-    step: StepNo,
+    step: StepNumber,
 ) -> Result<Option<Guard>, SyntaxFault>
     requires { step < length (steps (program_of unit.now)) }
     ensures guard { IfOk result (IsGuardOf (program_of unit.now) step text.now) }
@@ -135,6 +135,6 @@ pub fn resolve(
         let answer = answer_line(alloc, unit, line, &mut breakpoints)?;
         answers.push(answer)?;
     }
-    let plan = Plan::new(alloc, unit.steps.len(), &unit.lines, breakpoints)?;
+    let plan = Plan::new(alloc, unit.steps.len(), &unit.begun_steps, breakpoints)?;
     Ok((plan, answers))
 }

@@ -7,11 +7,11 @@ ghost use Rattle.dbg_plan.specs.Plans.{is_of, those_of};
 ghost use Rattle.dbg_plan.specs.Table.{IsPart, has_part};
 
 use crate::breakpoint::Breakpoint;
-use pl0_tree::StepNo;
+use pl0_tree::StepNumber;
 use std::alloc::{AllocError, Global};
 
 // Where the breakpoints of a step end that begin at `start`.
-fn end_of(ordered: &[Breakpoint], start: usize, step: StepNo) -> usize
+fn end_of(ordered: &[Breakpoint], start: usize, step: StepNumber) -> usize
     requires { start ≤ length ordered.now }
     ensures { result ≡ start + prefix_len (is_of step) (drop start ordered.now) }
 {
@@ -44,7 +44,7 @@ pub fn starts_of(
 }
 
 // Whether a step has a breakpoint, if there is a step. One behind the last start has none.
-fn is_started(starts: &[usize], step: Option<StepNo>) -> bool
+fn is_started(starts: &[usize], step: Option<StepNumber>) -> bool
     requires { 0 < length starts.now }
     ensures { result ≡ has_part starts.now step }
 {
@@ -57,7 +57,7 @@ fn is_started(starts: &[usize], step: Option<StepNo>) -> bool
 /// For each address, beside which stands the step that begins there, whether that has a breakpoint.
 pub fn watched_of(
     alloc: Global,
-    lines: &[Option<StepNo>],
+    lines: &[Option<StepNumber>],
     starts: &[usize],
 ) -> Result<Vec<bool>, AllocError>
     requires { 0 < length starts.now }

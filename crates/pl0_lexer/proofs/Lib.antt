@@ -1,2 +1,0 @@
-pub mod LexerLemmas
-pub mod Order

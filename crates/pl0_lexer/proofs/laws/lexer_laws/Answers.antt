@@ -1,8 +1,0 @@
-use Rattle.pl0_lexer.proofs.Order.{tokens_in_order, tokens_few}
-use Rattle.pl0_lexer.proofs.laws.lexer_laws.Goals as goal
-
-pub returns-clause-in_order : goal.returns-clause-in_order
-returns-clause-in_order c = tokens_in_order
-
-pub returns-clause-few : goal.returns-clause-few
-returns-clause-few c = tokens_few

@@ -1,9 +1,0 @@
-use Rattle.std.proofs.Common.{◌≡◌, ◌<◌, ◌^◌, take}
-use Rattle.pl0_tree.specs.Tokens.{decimal_value}
-use Rattle.pl0_lexer.proofs.lexer.number_symbol.Given as goal
-
-abbrev pub invariant-loop-digit : goal.invariant-loop-digit
-invariant-loop-digit l = record {
-  told : l.value ≡ decimal_value (take l.digit-index l.digits);
-  small : l.value < 2 ^ 63;
-}

@@ -1,0 +1,110 @@
+// The words that the open blocks declare.
+
+ghost use Rattle.std.specs.Prelude.{◌≡◌, ◌+◌, ◌<◌, ◌^◌, [], ◌∷◌, IsOk, OnOk, OnErr, drop, length};
+ghost use Rattle.pl0_names.specs.Blocks.{blocks_of, found_in, no_names, declared_in};
+
+use crate::log::{Entry, cut, put};
+use std::alloc::{AllocError, Global};
+use std::collections::HashMap;
+use std::marker::Model;
+
+/// What a word is declared as, and by how many blocks further out than the innermost one.
+#[derive(Clone, Copy, Debug, PartialEq, Eq)]
+pub struct Found<T> {
+    pub level: usize,
+    pub declared: T,
+}
+
+/// The words that the open blocks declare, in one table.
+#[derive(Drop)]
+pub struct Scopes<'a, T: Copy> {
+    log: Vec<Entry<'a, T>>,
+    index: HashMap<&'a str, usize>,
+    depth: usize,
+}
+
+impl<'a, T: Copy> Model for Scopes<'a, T> {
+    ghost use Rattle.std.specs.Prelude.{ℕ, List, reverse};
+
+    ghost Value = { List (List (List ℕ × T)) };
+
+    ghost use Rattle.pl0_names.specs.Logs.{blocks, IsTable};
+
+    ghost view = { λ s. blocks s.depth (reverse s.log.items) };
+
+    ghost invariant = { λ s. IsTable s.depth s.index (reverse s.log.items) };
+}
+
+impl<'a, T: Copy> Scopes<'a, T> {
+    /// No block is open.
+    pub fn new(alloc: Global) -> Scopes<'a, T>
+        ensures { blocks_of result ≡ [] }
+    {
+        Scopes {
+            log: Vec::new(alloc),
+            index: HashMap::new(alloc),
+            depth: 0,
+        }
+    }
+
+    /// Opens a block in the innermost one. An error, that there are too many to count, leaves all as it was.
+    pub fn enter(&mut self) -> Result<(), AllocError>
+        ensures ok { OnOk result (blocks_of self.new ≡ no_names ∷ blocks_of self.old) }
+        ensures err { OnErr result (self.new ≡ self.old) }
+        ensures room { length self.old + 1 < 2 ^ 64 → IsOk result }
+    {
+        if self.depth == usize::MAX {
+            return Err(AllocError);
+        }
+        self.depth += 1;
+        Ok(())
+    }
+
+    /// Declares a word in the innermost open block, if there is one. What that block declared it as before stays.
+    /// An error leaves all as it was.
+    pub fn declare(&mut self, word: &'a str, meaning: T) -> Result<(), AllocError>
+        ensures ok { OnOk result (blocks_of self.new ≡ declared_in (blocks_of self.old) word.now meaning) }
+        ensures err { OnErr result (self.new ≡ self.old) }
+    {
+        if self.depth == 0 {
+            return Ok(());
+        }
+        let level = self.depth - 1;
+        let hidden = self.index.get(word).copied();
+        if let Some(at) = hidden
+            && self.log[at].level == level
+        {
+            return Ok(());
+        }
+        let entry = Entry {
+            word,
+            meaning,
+            level,
+            hidden,
+        };
+        put(&mut self.log, &mut self.index, entry)
+    }
+
+    /// What a word means: how the nearest open block that declares it declares it.
+    pub fn find(&self, word: &str) -> Option<Found<T>>
+        ensures { result ≡ found_in 0 (blocks_of self.now) word.now }
+    {
+        let at = *self.index.get(word)?;
+        let entry = &self.log[at];
+        let level = self.depth - (entry.level + 1);
+        Some(Found {
+            level,
+            declared: entry.meaning,
+        })
+    }
+
+    /// Closes the innermost open block, if there is one.
+    pub fn leave(&mut self)
+        ensures { blocks_of self.new ≡ drop 1 (blocks_of self.old) }
+    {
+        if self.depth > 0 {
+            self.depth -= 1;
+            cut(&mut self.log, &mut self.index, self.depth);
+        }
+    }
+}

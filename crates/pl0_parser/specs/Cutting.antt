@@ -1,0 +1,35 @@
+-- What the functions that make the tokens of a text promise. No public contract cites this file.
+use Rattle.std.specs.Prelude.{◌≡◌, ◌≢◌, ℕ, zero, suc, ◌+◌, ◌<◌, ◌≤◌, List, [], ◌∷◌, length, drop, find, nat_eq}
+use Rattle.std.specs.List.{starts_with}
+use Rattle.pl0_tree.specs.declared.tree.Place.{Place}
+use Rattle.pl0_tree.specs.declared.token.Symbol.{Symbol as Seen}
+use Rattle.pl0_tree.specs.Tokens.{tokens_from, front_piece, sign_piece, signs}
+use Rattle.pl0_tree.specs.Reading.{at}
+use Rattle.pl0_tree.specs.Words.{symbol_of}
+
+-- the first k bytes are there, and none ends a line
+abbrev pub StaysOnLine : ℕ → List ℕ → Type 0
+StaysOnLine zero bytes = Unit {0}
+StaysOnLine (suc k) [] = ⊥
+StaysOnLine (suc k) (b ∷ bytes) = (b ≢ 10) × StaysOnLine k bytes
+
+-- a place further on its line
+abbrev pub along : Place → ℕ → Place
+along p k = record { line = p.line; column = p.column + k }
+
+-- At any place the first token of the bytes is the symbol, and the others are those of the bytes behind it.
+pub record IsFront (bytes : List ℕ) (s : Seen) (size : ℕ) : Type 0 where
+  pub some : 0 < size
+  pub within : size ≤ length bytes
+  pub first : (p : Place) → tokens_from p 0 bytes ≡ at (symbol_of s) p ∷ tokens_from (along p size) 0 (drop size bytes)
+
+-- the piece at the front of bytes by the table of symbols, on one line
+abbrev pub IsPiece : List ℕ → Seen → ℕ → Type 0
+IsPiece [] s size = ⊥
+IsPiece (b ∷ bytes) s size = (symbol_of s ≡ (front_piece b (b ∷ bytes)).0) × (size ≡ (front_piece b (b ∷ bytes)).1) × (0 < size) × StaysOnLine size (b ∷ bytes)
+
+-- the sign at the front of bytes, or what begins no token
+abbrev pub IsSign : List ℕ → Seen → ℕ → Type 0
+IsSign bytes s size =
+    let piece = sign_piece (find (λ entry. starts_with nat_eq bytes entry.0) signs) in
+    (symbol_of s ≡ piece.0) × (size ≡ piece.1)

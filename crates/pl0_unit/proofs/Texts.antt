@@ -1,0 +1,12 @@
+-- One text has one program.
+use Rattle.std.proofs.Common.{◌≡◌, ℕ, List, ap, subst}
+use Rattle.std.proofs.Math.Logic.{∥∥₁_elim, ∥∥₁_prop, ∥∥₁_map}
+use Rattle.pl0_tree.specs.Tree.{Block}
+use Rattle.pl0_tree.specs.Tokens.{tokens_of}
+use Rattle.pl0_tree.specs.Reading.{ReadsProgram}
+use Rattle.pl0_tree.specs.Faults.{IsTreeOf}
+use Rattle.pl0_tree.specs.Unique.{program_once}
+
+pub same_program : (a b : List ℕ) (p q : Block) → a ≡ b → ∥ IsTreeOf a p ∥₁ → ∥ IsTreeOf b q ∥₁ → ∥ p ≡ q ∥₁
+same_program a b p q same first second =
+    ∥∥₁_elim first ∥∥₁_prop (λ x. ∥∥₁_map second (λ y. program_once (subst (λ t. ReadsProgram (tokens_of t) p) same x.reads) y.reads))
