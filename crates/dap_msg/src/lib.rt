@@ -12,22 +12,34 @@
 
 mod arguments;
 mod command;
+mod events;
+mod items;
 mod laws;
 mod outgoing;
+mod printable;
 mod reading;
 mod request;
 mod requests;
-#[cfg(test)]
-mod tests;
 mod text;
 mod writing;
 
 pub use command::{Command, CommandName, Supported};
+pub use items::Items;
 pub use laws::message_laws;
-pub use outgoing::{Body, EventBody, Outgoing, Refusal};
+pub use outgoing::{
+    Body, BreakpointAnswer, BreakpointRefusal, EventBody, Exception, Outgoing, Refusal, Scope,
+    StackFrame, StopReason, Variable,
+};
 pub use reading::read;
 pub use request::Request;
+pub use requests::evaluate::EvaluateArguments;
 pub use requests::initialize::InitializeArguments;
+pub use requests::launch::LaunchArguments;
+pub use requests::resume::ThreadArguments;
+pub use requests::scopes::ScopesArguments;
+pub use requests::set_breakpoints::{SetBreakpointsArguments, SourceBreakpoint};
+pub use requests::stack_trace::StackTraceArguments;
+pub use requests::variables::VariablesArguments;
 use std::alloc::AllocError;
 pub use text::Text;
 pub use writing::write;
