@@ -5,9 +5,12 @@
 //! `serde_json`'s own definition of reading says what value a content has; [`write`] appends
 //! exactly the defined text of a message.
 //!
-//! A further command is a line in [`Supported`], a variant of [`Command`] and of [`Body`], and a
-//! file in `requests`. The crate's own lemma, that a content is one request or none, is short
-//! (`proofs/Once`): that a session gives one answer to each request rests on it.
+//! Each command has a file in `src/requests` (its arguments, and the body of its answer) and one in
+//! `specs` with the same as definitions; `Request` in `specs` says which request a content is, and
+//! `Outgoing` what a message's content is. A further command is a variant of [`Supported`], of
+//! [`Command`] and of [`Body`], and such a pair of files. [`message_laws`] says of all contents
+//! what doesn't depend on the commands: a content is one request or none (`proofs/Once`), and a
+//! request has the `seq` and the `command` of its content (`proofs/WellFormed`).
 #![tactic(auto)]
 
 mod arguments;
@@ -44,10 +47,10 @@ use std::alloc::AllocError;
 pub use text::Text;
 pub use writing::write;
 
-/// Why a content was not read, or a message not written.
+/// Why a content was not read, or a message was not written.
 #[derive(Clone, Copy, Debug, PartialEq, Eq)]
 pub enum MsgFault {
-    /// A growth was refused.
+    /// An allocation failed.
     NoMemory,
 }
 
