@@ -6,8 +6,8 @@ use Rattle.std.specs.Str.Parse.{digits_value}
 use Rattle.std.proofs.lemmas.Bool.{cases_eq, cases_lt, false≢true}
 use Rattle.std.proofs.lemmas.List.{length-take-le, take_all}
 use Rattle.std.proofs.lemmas.Fmt.{decimal_is_IsNumeral}
-use Rattle.dap_frame.specs.declared.fault.FrameFault.{FrameFault}
-use Rattle.dap_frame.specs.declared.fault.FrameFault.TheVariants.{HeaderTooLong, BadField, NoLength, TwoLengths, BadLength, TooLarge}
+use Rattle.dap_frame.specs.declared.fault.FramingFault.{FramingFault}
+use Rattle.dap_frame.specs.declared.fault.FramingFault.TheVariants.{HeaderTooLong, BadField, NoLength, TwoLengths, BadLength, TooLarge}
 use Rattle.dap_frame.specs.Header.{Field, IsField, is_name_byte, is_value_byte, line_end, field_text, line_of, lines_of, is_length, length_values, IsLength, content_limit, header_limit, IsHeader, AreFaultless, HasNoLineEnd, LineFault}
 use Rattle.dap_frame.specs.Frame.{IsOpen}
 use Rattle.dap_frame.specs.Laws.{IsTold}
@@ -145,7 +145,7 @@ length_or_not value =
 
 abbrev IsJudged : List Field → List ℕ → Type 0
 IsJudged fields line =
-    ((k : FrameFault) × LineFault fields line k)
+    ((k : FramingFault) × LineFault fields line k)
     ⊎ (((line ≡ []) × ((n : ℕ) × (n ≤ content_limit) × (length_values fields ≡ decimal n ∷ [])))
     ⊎ ((f : Field) × IsField f × (line ≡ field_text f) × AreFaultless (fields ++ f ∷ [])))
 

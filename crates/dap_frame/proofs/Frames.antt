@@ -8,7 +8,7 @@ use Rattle.std.specs.Str.Parse.{AllDigits}
 use Rattle.std.proofs.lemmas.Str.Parse.{digit_from_value}
 use Rattle.std.proofs.lemmas.Bool.Decides.{nat_tests}
 use Rattle.std.proofs.lemmas.Fmt.{decimal_injective, decimal_is_IsNumeral, length-decimal-le}
-use Rattle.dap_frame.specs.declared.fault.FrameFault.{FrameFault}
+use Rattle.dap_frame.specs.declared.fault.FramingFault.{FramingFault}
 use Rattle.dap_frame.specs.Header.{Field, IsField, is_value_byte, line_end, field_text, line_of, lines_of, length_values, header_limit, content_limit, IsHeader, AreFaultless, HasNoLineEnd, LineFault, HasFaultyLine, IsTooLong, FaultAt}
 use Rattle.dap_frame.specs.Frame.{IsFrameInFront, IsOpen, Frames, frame_of}
 use Rattle.dap_frame.proofs.Lines.{same_line, field_one_line, empty_one_line, text_not_empty}
@@ -54,7 +54,7 @@ header_then : (header rest : List ℕ) (n : ℕ) (is : IsHeader header n) → he
 header_then header rest n is = ap (λ h. h ++ rest) is.spelled ∙ append_assoc (lines_of is.fields) line_end rest
 
 -- a line behind the fields of a whole header part, or behind more: only the empty line stands there
-behind_end : (fields gs : List Field) (d rest line after : List ℕ) (k : FrameFault) → length_values fields ≡ d ∷ [] → HasNoLineEnd (line ++ 13 ∷ []) → LineFault gs line k
+behind_end : (fields gs : List Field) (d rest line after : List ℕ) (k : FramingFault) → length_values fields ≡ d ∷ [] → HasNoLineEnd (line ++ 13 ∷ []) → LineFault gs line k
     → (more : List Field) → AllByRecursion IsField more → gs ≡ fields ++ more → line_end ++ rest ≡ lines_of more ++ (line_of line ++ after) → ⊥
 behind_end fields gs d rest line after k once one bad [] are so e =
     let lines = same_line [] line rest after empty_one_line one (e ∙ append_assoc line line_end after) in
@@ -62,7 +62,7 @@ behind_end fields gs d rest line after k once one bad [] are so e =
 behind_end fields gs d rest line after k once one bad (g ∷ more) are so e =
     text_not_empty g are.0 (same_line [] (field_text g) rest (lines_of more ++ (line_of line ++ after)) empty_one_line (field_one_line g are.0) (e ∙ line_then (field_text g) (lines_of more) (line_of line ++ after))).0
 
-whole_not_faulty : (header rest : List ℕ) (n : ℕ) (k : FrameFault) → IsHeader header n → HasFaultyLine (header ++ rest) k → ⊥
+whole_not_faulty : (header rest : List ℕ) (n : ℕ) (k : FramingFault) → IsHeader header n → HasFaultyLine (header ++ rest) k → ⊥
 whole_not_faulty header rest n k is h =
     elim (located is.fields h.fields (line_end ++ rest) h.line h.after is.shaped h.faultless.shaped h.one_line (sym (header_then header rest n is) ∙ h.spelled)) [
       | inl at ↦ no_line_fault h.fields at.1 at.0 k (subst AreFaultless at.2 (header_faultless header n is)) (subst (λ l. LineFault h.fields l k) at.3 h.faulty)
@@ -79,10 +79,10 @@ whole_not_long header rest n is long =
     ]
 
 -- where a lawful header part stands in front no fault does
-pub no_fault_whole : (header rest : List ℕ) (n : ℕ) (k : FrameFault) → IsHeader header n → FaultAt (header ++ rest) k → ⊥
+pub no_fault_whole : (header rest : List ℕ) (n : ℕ) (k : FramingFault) → IsHeader header n → FaultAt (header ++ rest) k → ⊥
 no_fault_whole header rest n k is h = elim (fault_cases (header ++ rest) k h) [ inl a ↦ whole_not_long header rest n is a.1 | inr a ↦ whole_not_faulty header rest n k is a ]
 
-pub never_both : (bytes content rest : List ℕ) (k : FrameFault) → IsFrameInFront bytes content rest → FaultAt bytes k → ⊥
+pub never_both : (bytes content rest : List ℕ) (k : FramingFault) → IsFrameInFront bytes content rest → FaultAt bytes k → ⊥
 never_both bytes content rest k f h = no_fault_whole f.header (content ++ rest) (length content) k f.lawful (subst (λ b. FaultAt b k) f.spelled h)
 
 -- ---- neither

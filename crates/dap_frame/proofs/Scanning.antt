@@ -6,7 +6,7 @@ use Rattle.std.proofs.Math.Seq.{take-add}
 use Rattle.std.proofs.lemmas.List.{get_or-take, get_or-drop, get_or-append-add, take_more, take_all, take_rest}
 use Rattle.std.proofs.lemmas.Grind.{flat_map-append}
 use Rattle.dap_frame.specs.declared.header.Scan.{Scan}
-use Rattle.dap_frame.specs.declared.fault.FrameFault.{FrameFault}
+use Rattle.dap_frame.specs.declared.fault.FramingFault.{FramingFault}
 use Rattle.dap_frame.specs.Header.{Field, IsField, line_end, field_text, line_of, lines_of, header_limit, AreFaultless, HasNoLineEnd, LineFault, IsTooLong, FaultAt}
 use Rattle.dap_frame.specs.Frame.{IsOpen}
 use Rattle.dap_frame.specs.Progress.{EndsAt, HasNoEnd, Names, IsScanned}
@@ -98,7 +98,7 @@ take_front : (rest : List ℕ) (size n : ℕ) → n ≤ size → take n (take si
 take_front rest size n h = take-take n size rest h
 
 -- the next line is faulty
-pub faulty_here : (rest : List ℕ) (size : ℕ) (scan : Scan) (is : IsScanned scan (take size rest)) (end : ℕ) (fault : FrameFault) → size ≤ header_limit → IsNextEnd (take size rest) scan.judged end
+pub faulty_here : (rest : List ℕ) (size : ℕ) (scan : Scan) (is : IsScanned scan (take size rest)) (end : ℕ) (fault : FramingFault) → size ≤ header_limit → IsNextEnd (take size rest) scan.judged end
     → LineFault is.fields (part (take size rest) scan.judged end) fault → FaultAt rest fault
 faulty_here rest size scan is end fault small at bad =
     let bytes = take size rest in

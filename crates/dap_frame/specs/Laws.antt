@@ -1,6 +1,6 @@
 -- What the definitions of frames and faults say of every stream.
 use Rattle.std.specs.Prelude.{◌≡◌, ◌⊎◌, ◌++◌, ◌≤◌, ℕ, List, length}
-use Rattle.dap_frame.specs.declared.fault.FrameFault.{FrameFault}
+use Rattle.dap_frame.specs.declared.fault.FramingFault.{FramingFault}
 use Rattle.dap_frame.specs.Header.{FaultAt, content_limit}
 use Rattle.dap_frame.specs.Frame.{IsFrameInFront, Frames, IsOpen, frame_of}
 
@@ -10,15 +10,15 @@ FramesAreUnique = (bytes c d x y : List ℕ) → IsFrameInFront bytes c x → Is
 
 -- at most one fault stands in front
 abbrev pub FaultsAreUnique : Type 0
-FaultsAreUnique = (bytes : List ℕ) (j k : FrameFault) → FaultAt bytes j → FaultAt bytes k → j ≡ k
+FaultsAreUnique = (bytes : List ℕ) (j k : FramingFault) → FaultAt bytes j → FaultAt bytes k → j ≡ k
 
 -- and never both
 abbrev pub NeverBoth : Type 0
-NeverBoth = (bytes content rest : List ℕ) (fault : FrameFault) → IsFrameInFront bytes content rest → FaultAt bytes fault → ⊥
+NeverBoth = (bytes content rest : List ℕ) (fault : FramingFault) → IsFrameInFront bytes content rest → FaultAt bytes fault → ⊥
 
 -- a frame stands in front, or a fault, or more has to come
 abbrev pub IsTold : List ℕ → Type 0
-IsTold bytes = ((content : List ℕ) × (rest : List ℕ) × IsFrameInFront bytes content rest) ⊎ (((fault : FrameFault) × FaultAt bytes fault) ⊎ IsOpen bytes)
+IsTold bytes = ((content : List ℕ) × (rest : List ℕ) × IsFrameInFront bytes content rest) ⊎ (((fault : FramingFault) × FaultAt bytes fault) ⊎ IsOpen bytes)
 
 -- one of the three holds of each rest, and it can be told which
 abbrev pub OneOfThree : Type 0

@@ -1,5 +1,5 @@
 -- How far the header part at the front of a rest was read.
-use Rattle.std.specs.Prelude.{◌≡◌, ℕ, ◌+◌, ◌<◌, ◌≤◌, List, [], ◌∷◌, length, take, slice_index, Option, Some, None, decimal}
+use Rattle.std.specs.Prelude.{◌≡◌, ℕ, ◌+◌, ◌*◌, ◌<◌, ◌≤◌, List, [], ◌∷◌, length, take, slice_index, Option, Some, None, decimal}
 use Rattle.std.specs.List.{AllByRecursion}
 use Rattle.dap_frame.specs.declared.header.Header.{Header}
 use Rattle.dap_frame.specs.declared.header.Header.TheVariants.{Open, Whole}
@@ -40,3 +40,12 @@ IsRead (Whole size content_len) rest = (size ≤ length rest) × IsHeader (take 
 abbrev pub IsReadOut : Header → List ℕ → Type 0
 IsReadOut (Open scan) rest = IsScanned scan rest × IsOpen rest
 IsReadOut (Whole size content_len) rest = (size ≤ length rest) × IsHeader (take size rest) content_len
+
+-- ---- how many bytes are kept
+
+abbrev pub spare : ℕ
+spare = 4096
+
+-- at most twice as many bytes are kept as are not yet given, and a constant number more
+abbrev pub IsBounded : ℕ → ℕ → Type 0
+IsBounded kept rest = kept ≤ 2 * rest + spare

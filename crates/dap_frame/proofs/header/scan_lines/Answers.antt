@@ -2,7 +2,7 @@ use Rattle.std.proofs.Common.{◌≡◌, ◌≢◌, ◌∙◌, sym, [], length, 
 use Rattle.std.proofs.lemmas.Bool.{eqb-true, false≢true}
 use Rattle.std.proofs.lemmas.List.{nil_from_length}
 use Rattle.std.proofs.lemmas.Result.{err_from_is_err_and}
-use Rattle.dap_frame.specs.declared.fault.FrameFault.TheVariants.{NoLength}
+use Rattle.dap_frame.specs.declared.fault.FramingFault.TheVariants.{NoLength}
 use Rattle.dap_frame.specs.Progress.{Names}
 use Rattle.dap_frame.proofs.Scanning.{part, scan_more, faulty_here, too_long_here, open_here}
 use Rattle.dap_frame.proofs.header.scan_lines.Goals as goal
