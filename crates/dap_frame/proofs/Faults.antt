@@ -1,4 +1,4 @@
--- Where a fault stands: behind faultless fields, in a line that is none of them.
+-- Where a fault stands: after faultless fields, in a line that is none of them.
 use Rattle.std.proofs.Common.{◌≡◌, ◌⊎◌, inl, inr, ◌+◌, ◌≤◌, ℕ, Bool, true, List, [], ◌∷◌, ◌++◌, length, take, refl, sym, ◌∙◌, ap, subst, arith, append_assoc, append-nil, length-append}
 use Rattle.std.specs.Prelude.{decimal, ◌-◌, map, filter}
 use Rattle.std.specs.List.{AllByRecursion}
@@ -55,7 +55,7 @@ no_line_fault gs more f TooLarge ok (g, is, same, e, none, (n, long, large)) =
     omega (arith, number, h, large)
 no_line_fault gs more f NoMemory ok bad = bad
 
--- the empty line behind fields that name a length has no fault
+-- the empty line after fields that name a length has no fault
 pub no_end_fault : (fields : List Field) (d : List ℕ) (k : FramingFault) → length_values fields ≡ d ∷ [] → LineFault fields [] k → ⊥
 no_end_fault fields d HeaderTooLong once bad = bad
 no_end_fault fields d BadField once bad = bad.0 refl
@@ -65,7 +65,7 @@ no_end_fault fields d BadLength once (g, is, same, e, none, never) = text_not_em
 no_end_fault fields d TooLarge once (g, is, same, e, none, never) = text_not_empty g is same
 no_end_fault fields d NoMemory once bad = bad
 
--- a line behind the same fields has one fault
+-- a line after the same fields has one fault
 pub one_line_fault : (fields : List Field) (line : List ℕ) (j k : FramingFault) → LineFault fields line j → LineFault fields line k → j ≡ k
 one_line_fault fields line HeaderTooLong k h b = absurd h
 one_line_fault fields line NoMemory k h b = absurd h
@@ -130,16 +130,16 @@ fault_from_line bytes BadLength h = h
 fault_from_line bytes TooLarge h = h
 fault_from_line bytes NoMemory h = absurd h.faulty
 
--- behind faultless fields and a part in which no line ends stands no faulty line
+-- after faultless fields and a part in which no line ends stands no faulty line
 pub no_faulty_line : (fs : List Field) (part : List ℕ) (k : FramingFault) → AreFaultless fs → HasNoLineEnd part → HasFaultyLine (lines_of fs ++ part) k → ⊥
 no_faulty_line fs part k ok none h = elim (located fs h.fields part h.line h.after ok.shaped h.faultless.shaped h.one_line h.spelled) [
   | inl at ↦ no_line_fault h.fields at.1 at.0 k (subst AreFaultless at.2 ok) (subst (λ l. LineFault h.fields l k) at.3 h.faulty)
   | inr at ↦ none_inside at.0 part h.line h.after none at.3
 ]
 
--- bytes that begin with so many have them within the limit too
-pub take_behind : (a b : List ℕ) (n : ℕ) → length a ≤ n → take n (a ++ b) ≡ a ++ take (n - length a) b
-take_behind a b n h = let e : n ≡ length a + (n - length a) = omega arith in ap (λ m. take m (a ++ b)) e ∙ take-append-add a b (n - length a)
+-- what stands within the first n bytes is taken whole with them
+pub take_after : (a b : List ℕ) (n : ℕ) → length a ≤ n → take n (a ++ b) ≡ a ++ take (n - length a) b
+take_after a b n h = let e : n ≡ length a + (n - length a) = omega arith in ap (λ m. take m (a ++ b)) e ∙ take-append-add a b (n - length a)
 
 -- nor is a header part both too long and faulty in a line
 pub long_or_faulty : (bytes : List ℕ) (k : FramingFault) → IsTooLong bytes → HasFaultyLine bytes k → ⊥
@@ -147,13 +147,13 @@ long_or_faulty bytes k long h =
     let front = lines_of h.fields ++ line_of h.line in
     let cut : lines_of long.fields ++ long.part ≡ lines_of h.fields ++ (line_of h.line ++ take (header_limit - length front) h.after) =
     sym long.spelled ∙ ap (take header_limit) (h.spelled ∙ sym (append_assoc (lines_of h.fields) (line_of h.line) h.after))
-    ∙ take_behind front h.after header_limit h.within ∙ append_assoc (lines_of h.fields) (line_of h.line) (take (header_limit - length front) h.after) in
+    ∙ take_after front h.after header_limit h.within ∙ append_assoc (lines_of h.fields) (line_of h.line) (take (header_limit - length front) h.after) in
     elim (located long.fields h.fields long.part h.line (take (header_limit - length front) h.after) long.faultless.shaped h.faultless.shaped h.one_line cut) [
       | inl at ↦ no_line_fault h.fields at.1 at.0 k (subst AreFaultless at.2 long.faultless) (subst (λ l. LineFault h.fields l k) at.3 h.faulty)
       | inr at ↦ none_inside at.0 long.part h.line (take (header_limit - length front) h.after) long.incomplete at.3
     ]
 
--- the line of one fault stands behind the same fields as that of another, or is one of its fields
+-- the line of one fault stands after the same fields as that of another, or is one of its fields
 at_line : (bytes : List ℕ) (j k : FramingFault) (h : HasFaultyLine bytes j) (i : HasFaultyLine bytes k)
     → (more : List Field) → AllByRecursion IsField more → i.fields ≡ h.fields ++ more → line_of h.line ++ h.after ≡ lines_of more ++ (line_of i.line ++ i.after) → j ≡ k
 at_line bytes j k h i [] are so e =

@@ -82,7 +82,7 @@ pub record AreFaultless (fields : List Field) : Type 0 where
   pub shaped : AllByRecursion IsField fields
   pub lengths : (length_values fields ≡ []) ⊎ ((n : ℕ) × (n ≤ content_limit) × (length_values fields ≡ decimal n ∷ []))
 
--- the fault of a line, without its end, that stands behind faultless fields
+-- the fault of a line, without its end, that stands after faultless fields
 abbrev pub LineFault : List Field → List ℕ → FramingFault → Type 0
 LineFault before line HeaderTooLong = ⊥
 LineFault before line BadField = (line ≢ []) × ((field : Field) → IsField field → line ≢ field_text field)
@@ -92,7 +92,7 @@ LineFault before line BadLength = (field : Field) × IsField field × (line ≡ 
 LineFault before line TooLarge = (field : Field) × IsField field × (line ≡ field_text field) × IsTrue (is_length field) × (length_values before ≡ []) × ((n : ℕ) × IsLength field.value n × (content_limit < n))
 LineFault before line NoMemory = ⊥
 
--- behind faultless fields a line is complete within the limit, and has the fault
+-- after faultless fields a line is complete within the limit, and has the fault
 pub record HasFaultyLine (bytes : List ℕ) (fault : FramingFault) : Type 0 where
   pub fields : List Field
   pub line : List ℕ

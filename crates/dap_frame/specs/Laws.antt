@@ -4,7 +4,7 @@ use Rattle.dap_frame.specs.declared.fault.FramingFault.{FramingFault}
 use Rattle.dap_frame.specs.Header.{FaultAt, content_limit}
 use Rattle.dap_frame.specs.Frame.{IsFrameInFront, Frames, IsOpen, frame_of}
 
--- at most one frame stands in front: its content and the rest behind it are determined
+-- at most one frame stands in front: its content and the rest after it are determined
 abbrev pub FramesAreUnique : Type 0
 FramesAreUnique = (bytes c d x y : List ℕ) → IsFrameInFront bytes c x → IsFrameInFront bytes d y → (c ≡ d) × (x ≡ y)
 
@@ -17,12 +17,12 @@ abbrev pub NeverBoth : Type 0
 NeverBoth = (bytes content rest : List ℕ) (fault : FramingFault) → IsFrameInFront bytes content rest → FaultAt bytes fault → ⊥
 
 -- a frame stands in front, or a fault, or more has to come
-abbrev pub IsTold : List ℕ → Type 0
-IsTold bytes = ((content : List ℕ) × (rest : List ℕ) × IsFrameInFront bytes content rest) ⊎ (((fault : FramingFault) × FaultAt bytes fault) ⊎ IsOpen bytes)
+abbrev pub IsOneOfThree : List ℕ → Type 0
+IsOneOfThree bytes = ((content : List ℕ) × (rest : List ℕ) × IsFrameInFront bytes content rest) ⊎ (((fault : FramingFault) × FaultAt bytes fault) ⊎ IsOpen bytes)
 
--- one of the three holds of each rest, and it can be told which
+-- one of the three holds of each rest
 abbrev pub OneOfThree : Type 0
-OneOfThree = (bytes : List ℕ) → IsTold bytes
+OneOfThree = (bytes : List ℕ) → IsOneOfThree bytes
 
 -- what is written for a content of an allowed length is read again, whatever follows it
 abbrev pub IsReadAgain : Type 0

@@ -20,7 +20,7 @@ abbrev pub Names : List Field → Option ℕ → Type 0
 Names fields None = length_values fields ≡ []
 Names fields (Some n) = (n ≤ content_limit) × (length_values fields ≡ decimal n ∷ [])
 
--- the lines that were judged are fields, and no line ends in what was searched behind them
+-- the lines that were judged are fields, and no line ends in what was searched after them
 pub record IsScanned (scan : Scan) (rest : List ℕ) : Type 0 where
   pub fields : List Field
   pub shaped : AllByRecursion IsField fields
@@ -36,9 +36,9 @@ abbrev pub IsRead : Header → List ℕ → Type 0
 IsRead (Open scan) rest = IsScanned scan rest
 IsRead (Whole size content_len) rest = (size ≤ length rest) × IsHeader (take size rest) content_len
 
--- and no further, as long as no more of it comes
+-- and no further, as long as no more of it comes: all of it was searched
 abbrev pub IsReadOut : Header → List ℕ → Type 0
-IsReadOut (Open scan) rest = IsScanned scan rest × IsOpen rest
+IsReadOut (Open scan) rest = IsScanned scan rest × (scan.searched ≡ length rest) × IsOpen rest
 IsReadOut (Whole size content_len) rest = (size ≤ length rest) × IsHeader (take size rest) content_len
 
 -- ---- how many bytes are kept

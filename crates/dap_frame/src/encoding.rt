@@ -15,7 +15,7 @@ pub fn encode(content: &[u8], out: &mut Vec<u8>) -> Result<(), FramingFault>
     ensures ok { OnOk result (out.new.items ≡ out.old.items ++ frame_of content.now) }
     ensures err { OnErr result (out.new.items ≡ out.old.items) }
     ensures memory { IfErr result (λ fault. fault ≡ NoMemory) }
-    // It comes only where room for the frame was missing.
+    // It comes only where `out` has no room for the frame.
     ensures full { OnErr result (vec_capacity out.old < vec_len out.old + length (frame_of content.now)) }
 {
     match append_frame(content, out) {
@@ -24,7 +24,7 @@ pub fn encode(content: &[u8], out: &mut Vec<u8>) -> Result<(), FramingFault>
     }
 }
 
-/// Makes room for the whole frame first, so that nothing can fail behind it.
+/// Makes room for the whole frame first, so that nothing can fail after that.
 fn append_frame(content: &[u8], out: &mut Vec<u8>) -> Result<(), AllocError>
     ensures ok { OnOk result (out.new.items ≡ out.old.items ++ frame_of content.now) }
     ensures err { OnErr result (out.new.items ≡ out.old.items) }

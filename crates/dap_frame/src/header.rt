@@ -98,7 +98,7 @@ fn scan_lines(rest: &[u8], mut scan: Scan) -> Result<Header, FramingFault>
     Ok(Header::Open(scan))
 }
 
-/// Where the first CR LF from `judged` on stands, of which no one ends by `searched`.
+/// Where the first CR LF from `judged` on stands; none ends before `searched`.
 fn line_end(bytes: &[u8], judged: usize, searched: usize) -> Option<usize>
     requires in_order { judged ≤ searched }
     requires there { searched ≤ length bytes.now }
@@ -117,7 +117,7 @@ fn line_end(bytes: &[u8], judged: usize, searched: usize) -> Option<usize>
     None
 }
 
-/// What is named once this line is read, which is not empty and stands behind fields that name `named`.
+/// What is named once this line is read, which is not empty and stands after fields that name `named`.
 fn judge_field(line: &[u8], named: Option<usize>) -> Result<Option<usize>, FramingFault>
     ensures ok { (fields : List Field) → Names fields named → IfOk result (λ next. (field : Field) × IsField field × (line.now ≡ field_text field) × Names (fields ++ field ∷ []) next) }
     ensures err { (fields : List Field) → Names fields named → line.now ≢ [] → IfErr result (LineFault fields line.now) }

@@ -44,7 +44,12 @@ const ROWS: [Row; 29] = [
         1,
         Some(FramingFault::BadField),
     ),
-    (b"Content-Length:49\r\n", b"", 0, Some(FramingFault::BadField)),
+    (
+        b"Content-Length:49\r\n",
+        b"",
+        0,
+        Some(FramingFault::BadField),
+    ),
     (b": 49\r\n", b"", 0, Some(FramingFault::BadField)),
     (b"X\r\n", b"", 0, Some(FramingFault::BadField)),
     (b"X: \t\r\n", b"", 0, Some(FramingFault::BadField)),
@@ -73,7 +78,12 @@ const ROWS: [Row; 29] = [
         0,
         Some(FramingFault::BadLength),
     ),
-    (b"Content-Length: \r\n", b"", 0, Some(FramingFault::BadLength)),
+    (
+        b"Content-Length: \r\n",
+        b"",
+        0,
+        Some(FramingFault::BadLength),
+    ),
     (
         b"Content-Length: 4 \r\n",
         b"",
