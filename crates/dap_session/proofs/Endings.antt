@@ -1,19 +1,18 @@
 -- How an event can end a session.
 use Rattle.std.proofs.Common.{◌≡◌, ◌⊎◌, inl, inr, ℕ, List, [], ◌∷◌, ◌++◌, Option, None, Some, refl, sym, ◌∙◌, ap, subst}
-use Rattle.dap_msg.specs.declared.command.Command.{Command}
 use Rattle.dap_msg.specs.declared.command.Command.TheVariants as command
 use Rattle.dap_msg.specs.declared.request.Request.{Request}
 use Rattle.dap_session.specs.declared.ending.Closed.TheVariants.{Disconnected}
 use Rattle.dap_session.specs.declared.ending.Ending.{Ending}
 use Rattle.dap_session.specs.declared.ending.Ending.TheVariants as ending
-use Rattle.dap_session.specs.declared.fault.SessionFault.TheVariants.{Frame}
+use Rattle.dap_session.specs.declared.fault.SessionFault.TheVariants.{Framing}
 use Rattle.dap_session.specs.Events.{Incoming, Piece, End, ReadFailed, NoMemory, IsTaking, Takes, Rests, Closes, Leads}
 use Rattle.dap_session.specs.History.{Item, Content, Fault, InputEnd, ReadFailure, MemoryFailure, History, closing, closing_command, ending_of, after}
 use Rattle.dap_session.specs.Last.{or_else}
 use Rattle.dap_session.specs.Laws.{EndsBy, EventTellsTheEnding}
 use Rattle.dap_session.proofs.GivingUp.{leads_split}
 use Rattle.dap_session.proofs.OneHistory.{IsReadOnce, one_history}
-use Rattle.dap_session.proofs.Readings.{or_else-none, ending_of-after}
+use Rattle.dap_session.proofs.Readings.{goes_on, or_else-none, ending_of-after}
 
 -- no ending, or the one by `disconnect`
 abbrev pub GoesOnOrDisconnects : Option Ending → Type 0
@@ -21,14 +20,11 @@ GoesOnOrDisconnects by = (by ≡ None) ⊎ (by ≡ Some (ending.Closed Disconnec
 
 content_ending : (request : Option Request) → GoesOnOrDisconnects (closing (Content request))
 content_ending None = inl refl
-content_ending (Some request) = command_ending request.body
+content_ending (Some request) = command_ending (goes_on request.body)
   where
-    command_ending : (body : Command) → GoesOnOrDisconnects (closing_command body)
-    command_ending (command.Initialize arguments) = inl refl
-    command_ending command.Threads = inl refl
-    command_ending command.Disconnect = inr refl
-    command_ending (command.Unsupported name) = inl refl
-    command_ending (command.BadArguments supported) = inl refl
+    command_ending : (closing_command request.body ≡ None) ⊎ (request.body ≡ command.Disconnect) → GoesOnOrDisconnects (closing_command request.body)
+    command_ending (inl none) = inl none
+    command_ending (inr is) = inr (ap closing_command is)
 
 ending_of-taking : (past : History) (item : Item) → IsTaking past → ending_of (after past item) ≡ closing item
 ending_of-taking past item taking = ending_of-after past item ∙ ap (or_else (closing item)) taking ∙ or_else-none (closing item)
@@ -47,7 +43,7 @@ rests_ending mid bytes new piece by (inl closed) (inr off) is =
 rests_ending mid bytes new piece by (inr (inl open_)) here is =
     let e : Some by ≡ None = sym is ∙ ap ending_of open_.2 ∙ open_.0 in absurd cc
 rests_ending mid bytes new piece by (inr (inr fault)) here is =
-    let e : Some by ≡ Some (ending.Fault (Frame fault.1)) = sym is ∙ ap ending_of fault.3 ∙ ending_of-taking mid (Fault fault.1) fault.0 in inr (fault.1, cc)
+    let e : Some by ≡ Some (ending.Fault (Framing fault.1)) = sym is ∙ ap ending_of fault.3 ∙ ending_of-taking mid (Fault fault.1) fault.0 in inr (fault.1, cc)
 
 closes_ending : (past : History) (item : Item) (new : History) (by closes : Ending) → IsTaking past → closing item ≡ Some closes → Closes past item new → ending_of new ≡ Some by → by ≡ closes
 closes_ending past item new by closes taking is_closing (inl closed) is = absurd (closed.0 taking)
