@@ -1,10 +1,19 @@
 -- The code of a program has no more instructions than the program has tokens, and one.
-use Rattle.std.proofs.Common.{◌+◌, ◌≤◌, List, [], ◌∷◌, length, arith}
+use Rattle.std.proofs.Common.{ℕ, ◌+◌, ◌≤◌, List, [], ◌∷◌, length, arith}
 use Rattle.pl0_tree.specs.Tree.{Name, Constant, Block, ABlock, Procedures, NoMore, AProcedure, Statement, Expression, Negate, Binary, Condition}
 use Rattle.pl0_tree.specs.Tokens.{Token}
 use Rattle.pl0_tree.specs.Reading.{ReadsExpression, unsigned, positive, negative, ReadsMoreTerms, no_term, one_term, ReadsTerm, factors, ReadsMoreFactors, no_factor, one_factor, ReadsFactor, name, number, nested, ReadsCondition, odd, comparison, ReadsStatement, empty, assignment, call, write, sequence, choice, loop, ReadsStatements, last_statement, one_statement, ReadsConstants, last_constant, one_constant, ReadsConstantPart, no_constants, constants, ReadsVariables, last_variable, one_variable, ReadsVariablePart, no_variables, variables, ReadsBlock, block, ReadsProcedures, no_procedure, one_procedure, ReadsProgram, program}
 use Rattle.pl0_code.specs.Sizes.{expression_length, condition_length, statement_length, block_length, procedures_length}
 use Rattle.pl0_code.specs.Blocks.{block_count, procedures_count}
+
+abbrev mutual
+  -- how many variables a block declares, with those of the blocks in it
+  pub variable_count : Block → ℕ
+  variable_count (ABlock cs xs ps s end) = length xs + variables_count ps
+
+  pub variables_count : Procedures → ℕ
+  variables_count NoMore = 0
+  variables_count (AProcedure x b more) = variable_count b + variables_count more
 
 mutual
   expression_fits : (s : List Token) (e : Expression) (rest : List Token) → ReadsExpression s e rest → expression_length e + length rest ≤ length s
@@ -58,16 +67,16 @@ constant_part_fits : (s : List Token) (cs : List Constant) (rest : List Token) �
 constant_part_fits s _ _ no_constants = omega arith
 constant_part_fits _ cs rest (constants {s = s} more) = let a = constants_fits s cs rest more in omega (arith, a)
 
-variables_fits : (s : List Token) (xs : List Name) (rest : List Token) → ReadsVariables s xs rest → length rest ≤ length s
+variables_fits : (s : List Token) (xs : List Name) (rest : List Token) → ReadsVariables s xs rest → length xs + length rest ≤ length s
 variables_fits _ _ rest last_variable = omega arith
 variables_fits _ _ rest (one_variable {xs = xs} {s = s} more) = let a = variables_fits s xs rest more in omega (arith, a)
 
-variable_part_fits : (s : List Token) (xs : List Name) (rest : List Token) → ReadsVariablePart s xs rest → length rest ≤ length s
+variable_part_fits : (s : List Token) (xs : List Name) (rest : List Token) → ReadsVariablePart s xs rest → length xs + length rest ≤ length s
 variable_part_fits s _ _ no_variables = omega arith
 variable_part_fits _ xs rest (variables {s = s} more) = let a = variables_fits s xs rest more in omega (arith, a)
 
 mutual
-  block_fits : (s : List Token) (x : Block) (rest : List Token) → ReadsBlock s x rest → block_length x + length rest ≤ length s + 3
+  block_fits : (s : List Token) (x : Block) (rest : List Token) → ReadsBlock s x rest → block_length x + variable_count x + length rest ≤ length s + 3
   block_fits s _ _ (block {t = t} {u = u} {v = v} {rest = rest} {ending = ending} {constants = cs} {variables = xs} {procedures = ps} {body = body} constant_part variable_part procedures statement) =
       let a = constant_part_fits s cs t constant_part in
       let b = variable_part_fits t xs u variable_part in
@@ -75,12 +84,12 @@ mutual
       let d = statement_fits v body (ending ∷ rest) statement in
       omega (arith, a, b, c, d)
 
-  procedures_fits : (s : List Token) (ps : Procedures) (rest : List Token) → ReadsProcedures s ps rest → procedures_length ps + length rest ≤ length s
+  procedures_fits : (s : List Token) (ps : Procedures) (rest : List Token) → ReadsProcedures s ps rest → procedures_length ps + variables_count ps + length rest ≤ length s
   procedures_fits s _ _ no_procedure = omega arith
   procedures_fits _ _ rest (one_procedure {b = inner} {more = others} {s = s} {t = t} read more) =
       let a = block_fits s inner _ read in let b = procedures_fits t others rest more in omega (arith, a, b)
 
-pub code_few : (tokens : List Token) (main : Block) → ReadsProgram tokens main → block_length main ≤ length tokens + 1
+pub code_few : (tokens : List Token) (main : Block) → ReadsProgram tokens main → block_length main + variable_count main ≤ length tokens + 1
 code_few tokens main (program read) = let a = block_fits tokens main _ read in omega (arith, a)
 
 mutual
