@@ -3,8 +3,7 @@
 ghost use Rattle.std.specs.Prelude.{◌≡◌, []};
 ghost use Rattle.std.specs.List.{flat_map};
 ghost use Rattle.std.specs.Coded.{Coded-set, coded_list};
-ghost use Rattle.dbg_runner.specs.contracts.order.Order as ordered;
-ghost use Rattle.dbg_runner.specs.contracts.report.Report as reported;
+ghost use Rattle.dbg_runner.specs.PlainCode.{order_code, report_code};
 ghost use Rattle.dbg_runner.specs.Deeds.{acts_of};
 ghost use Rattle.dbg_runner.specs.Queues.{order_in, sent_in, handed_back_in, passed_in};
 
@@ -25,9 +24,9 @@ pub struct Joined<O: OrdersIn, S: Reports, G: Gate> {
     reports: S,
     gate: G,
     deeds: History<Deed>,
-    pub ghost taken: { O.taken orders ≡ flat_map order_in (acts_of deeds.entries) } by { Coded-set (coded_list ordered.the_row.coded) _ _ },
-    pub ghost sent: { S.sent reports ≡ flat_map sent_in (acts_of deeds.entries) } by { Coded-set (coded_list reported.the_row.coded) _ _ },
-    pub ghost handed_back: { S.handed_back reports ≡ flat_map handed_back_in (acts_of deeds.entries) } by { Coded-set (coded_list reported.the_row.coded) _ _ },
+    pub ghost taken: { O.taken orders ≡ flat_map order_in (acts_of deeds.entries) } by { Coded-set (coded_list order_code) _ _ },
+    pub ghost sent: { S.sent reports ≡ flat_map sent_in (acts_of deeds.entries) } by { Coded-set (coded_list report_code) _ _ },
+    pub ghost handed_back: { S.handed_back reports ≡ flat_map handed_back_in (acts_of deeds.entries) } by { Coded-set (coded_list report_code) _ _ },
     pub ghost passed: { G.passed gate ≡ flat_map passed_in (acts_of deeds.entries) },
 }
 

@@ -5,38 +5,40 @@ use crate::report::Report;
 
 /// Where the runner's orders come from.
 pub trait OrdersIn {
-    ghost use Rattle.std.specs.Prelude.{◌≡◌, ◌∷◌, ◌++◌, [], List};
+    ghost use Rattle.std.specs.Prelude.{◌≡◌, ◌∷◌, ◌++◌, [], List, option_map};
     ghost use Rattle.std.specs.Option.{option_to_list};
-    ghost use Rattle.dbg_runner.specs.declared.order.Order.{Order as AnOrder};
+    ghost use Rattle.dbg_runner.specs.Plain.{PlainOrder};
+    ghost use Rattle.dbg_runner.specs.Orders.{plain_order};
 
     /// The orders that were taken, the oldest first.
-    ghost taken: { Self → List AnOrder };
+    ghost taken: { Self → List PlainOrder };
 
     /// Waits for the next order, and takes it.
     fn next(&mut self) -> Order
-        ensures { taken self.new ≡ taken self.old ++ result ∷ [] };
+        ensures { taken self.new ≡ taken self.old ++ plain_order result ∷ [] };
 
     /// Takes the next order, if one is there.
     fn poll(&mut self) -> Option<Order>
-        ensures { taken self.new ≡ taken self.old ++ option_to_list result };
+        ensures { taken self.new ≡ taken self.old ++ option_to_list (option_map plain_order result) };
 }
 
 /// Where the runner's reports go.
 pub trait Reports {
     ghost use Rattle.std.specs.Prelude.{◌≡◌, ◌∷◌, ◌++◌, [], List, OnOk, OnErr, IfErr};
-    ghost use Rattle.dbg_runner.specs.Lawful.{Reported};
+    ghost use Rattle.dbg_runner.specs.Plain.{PlainReport};
+    ghost use Rattle.dbg_runner.specs.Reported.{plain_report};
 
     /// The reports that were sent, the oldest first.
-    ghost sent: { Self → List Reported };
+    ghost sent: { Self → List PlainReport };
 
     /// The reports that were handed back, the oldest first.
-    ghost handed_back: { Self → List Reported };
+    ghost handed_back: { Self → List PlainReport };
 
     /// Sends a report, or hands it back.
     fn send(&mut self, report: Report) -> Result<(), Report>
-        ensures sends { OnOk result (sent self.new ≡ sent self.old ++ report ∷ []) }
+        ensures sends { OnOk result (sent self.new ≡ sent self.old ++ plain_report report ∷ []) }
         ensures keeps_refused { OnOk result (handed_back self.new ≡ handed_back self.old) }
-        ensures refuses { OnErr result (handed_back self.new ≡ handed_back self.old ++ report ∷ []) }
+        ensures refuses { OnErr result (handed_back self.new ≡ handed_back self.old ++ plain_report report ∷ []) }
         ensures keeps_sent { OnErr result (sent self.new ≡ sent self.old) }
         ensures back { IfErr result (λ back. back ≡ report) };
 }
