@@ -11,7 +11,10 @@ pub struct Queue {
 }
 
 impl OrdersIn for Queue {
-    ghost taken = { λ queue. queue.taken.entries };
+    ghost use Rattle.std.specs.Prelude.{map};
+    ghost use Rattle.dbg_runner.specs.Orders.{plain_order};
+
+    ghost taken = { λ queue. map plain_order queue.taken.entries };
 
     fn next(&mut self) -> Order {
         let order = self.orders.pop_front().unwrap_or(Order::Quit);
@@ -36,9 +39,10 @@ pub struct Last {
 }
 
 impl Reports for Last {
-    ghost use Rattle.std.specs.Prelude.{[]};
+    ghost use Rattle.std.specs.Prelude.{[], map};
+    ghost use Rattle.dbg_runner.specs.Reported.{plain_report};
 
-    ghost sent = { λ last. last.sent.entries };
+    ghost sent = { λ last. map plain_report last.sent.entries };
 
     ghost handed_back = { λ _. [] };
 
