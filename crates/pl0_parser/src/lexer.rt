@@ -16,6 +16,9 @@ use std::str::from_utf8_unchecked;
 // The most bytes of a text.
 const LIMIT: usize = 65536;
 
+// The most characters of a name.
+const NAME_LIMIT: usize = 64;
+
 // Where a text begins.
 const START: Place = Place { line: 1, column: 1 };
 
@@ -45,7 +48,7 @@ fn digits_len(bytes: &[u8]) -> usize
     bytes.iter().take_while(|b| b.is_ascii_digit()).count()
 }
 
-// The place behind a byte.
+// The place after a byte.
 fn place_behind(place: Place, b: u8) -> Place
     requires line { place.line < 70000 }
     requires column { place.column < 70000 }
@@ -113,7 +116,7 @@ fn word_symbol<'a>(word: &'a [u8]) -> Symbol<'a>
 {
     match keyword(word) {
         Some(mark) => Symbol::Mark(mark),
-        None if word.len() <= 64 => Symbol::Name(unsafe { from_utf8_unchecked(word) }),
+        None if word.len() <= NAME_LIMIT => Symbol::Name(unsafe { from_utf8_unchecked(word) }),
         None => Symbol::Faulty(FaultKind::NameTooLong),
     }
 }
