@@ -15,8 +15,6 @@ pub mod arguments;
 mod program;
 mod serving;
 mod streams;
-#[cfg(test)]
-mod tests;
 mod transfer;
 
 pub use checking::{CheckFault, check};
