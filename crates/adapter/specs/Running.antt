@@ -22,7 +22,7 @@ abbrev pub HasServed : Result Served ServeFault → Streams → Streams → Type
 HasServed (Ok how) old later = IsServed how old later
 HasServed (Err why) old later = IsFailed why old later
 
--- A client was served, and the reason tells how that went.
+-- A client was served, and the reason says how that went.
 pub record EndsServing (reason : ExitReason) (old later : Streams) : Type 0 where
   pub outcome : Result Served ServeFault
   pub served : HasServed outcome old later
@@ -35,7 +35,7 @@ KeepsInput old later = (later.left ≡ old.left) × (later.read_failures ≡ old
 abbrev pub output_of : Streams → Output
 output_of streams = output streams.written streams.write_failures
 
--- The file at the path was judged, and the reason tells how that went.
+-- The file at the path was judged, and the reason says how that went.
 pub record EndsChecking (path : Text) (reason : ExitReason) (loads later_loads : List Load) (old later : Streams) : Type 0 where
   pub outcome : Result (Unit {0}) CheckFault
   pub checked : IsChecked path outcome loads later_loads (output_of old) (output_of later)
@@ -64,7 +64,7 @@ Performs arguments reason loads later_loads old later =
 abbrev pub IsUsage : List ℕ → Type 0
 IsUsage text = (message : List ℕ) × (text ≡ message ++ USAGE.now)
 
--- What standard error is told: nothing at status 0, the usage at status 4, else the last line. Where it fails, nobody is told.
+-- What is written to standard error: nothing at status 0, the usage at status 4, else the last line.
 abbrev pub Reports : ExitReason → Output → Output → Type 0
 Reports Success before after = after ≡ before
 Reports NotUnderstood before after = (text : List ℕ) × IsUsage text × Says text before after

@@ -86,7 +86,7 @@ pub fn parse_arguments<'a>(
 
 /// What of the arguments `parse_arguments` did not understand, in a line or more, which may come with a hint; nothing of
 /// arguments that it understands.
-pub fn objection(alloc: Global, arguments: &[&str]) -> Result<String, AllocError> {
+pub(crate) fn objection(alloc: Global, arguments: &[&str]) -> Result<String, AllocError> {
     let command = command_line(alloc)?;
     let Err(error) = command.try_get_matches_from(arguments) else {
         return Ok(String::new(alloc));

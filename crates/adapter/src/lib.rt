@@ -1,7 +1,7 @@
 //! The adapter that the program `pl0dap` is: a debug adapter for PL/0 over an input and an output.
 //!
 //! The one contract is that of [`execute`]: what the arguments ask for was done over these ports, the reason names how
-//! that ended, and standard error was told so. It cites three others. [`parse_arguments`](arguments::parse_arguments)
+//! that ended, and standard error has it in a last line. It cites three others. [`parse_arguments`](arguments::parse_arguments)
 //! says what the arguments ask for; [`serve`], that the bytes read are the pieces of a list of events, and the bytes
 //! written the frames of the messages that these events give; and [`check`], that the listing of a file's text was
 //! written, which `specs/Listing` defines. The hard lemmas are in `proofs/Turns`: what is written after each piece joins

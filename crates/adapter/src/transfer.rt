@@ -13,7 +13,7 @@ use std::sync::Wait;
 /// How many bytes a piece has at most.
 pub const ROOM: usize = 4096;
 
-/// Reads the next piece, or tells why there is none. An interrupted read is tried again. What stands in `room` doesn't
+/// Reads the next piece, or says why there is none. An interrupted read is tried again. What stands in `room` doesn't
 /// matter: it is lent, so that it need not be cleared for each read.
 pub fn next_event<I: Source>(
     rt: &impl Wait,
