@@ -1,0 +1,8 @@
+pub mod Transfer
+pub mod Serving
+pub mod ExitReasons
+pub mod Loading
+pub mod Arguments
+pub mod Listing
+pub mod Checking
+pub mod Running

@@ -1,0 +1,216 @@
+//! The program from its arguments to its end.
+
+ghost use Rattle.std.specs.Prelude.{◌≡◌, ◌++◌, ℕ, List, map, decimal};
+ghost use Rattle.adapter.specs.declared.exit_reason.ExitReason.TheVariants.{NoMemory, Syntax};
+ghost use Rattle.adapter.specs.ExitReasons.{last_line};
+ghost use Rattle.adapter.specs.Listing.{line_feed};
+ghost use Rattle.adapter.specs.Running.{Performs, Reports, Executes, Runs, EndsHelping, IsUsage};
+ghost use Rattle.adapter.specs.Serving.{streams};
+ghost use Rattle.adapter.specs.Transfer.{Says, output as output_at};
+
+use crate::arguments::{ArgumentsFault, HELP, Invocation, USAGE, objection, parse_arguments};
+use crate::checking::check;
+use crate::exit_reason::{ExitReason, end_of_arguments, end_of_check, end_of_serve};
+use crate::files::FileLoader;
+use crate::serving::{Gate, serve};
+use crate::streams::{Sink, Source};
+use crate::transfer::{say, write_all};
+use dap_session::Loader;
+use itoa::Buffer;
+use log::sink::Console;
+use log::{Level, Logged, error};
+use pl0_tree::Place;
+use std::alloc::{AllocError, Global};
+use std::rt::{Env, Files};
+use std::sync::Wait;
+use std::{env, io};
+
+/// Lets every slice pass at once.
+#[derive(Drop)]
+struct OpenGate;
+
+impl Gate for OpenGate {
+    fn pass(&mut self, _run: u64, _slice: u64) {}
+}
+
+/// Does what the arguments of this process ask for, as [`execute`] does, with the files of the system. What is left to a
+/// `main` is to end with the reason's status.
+pub fn run<R: Wait + Env + Files + Eprint + AllocGlobal, I: Source, O: Sink, E: Sink>(
+    rt: &R,
+    input: &mut I,
+    output: &mut O,
+    errors: &mut E,
+) -> ExitReason
+    // It does so for some arguments and some files: what the system gives, no contract can say.
+    ensures { Runs result
+        (streams (I.left input.old) (I.failures input.old) (O.written output.old) (O.failures output.old))
+        (streams (I.left input.new) (I.failures input.new) (O.written output.new) (O.failures output.new))
+        (output_at (E.written errors.old) (E.failures errors.old))
+        (output_at (E.written errors.new) (E.failures errors.new)) }
+{
+    let mut files = FileLoader::new(rt, rt.alloc());
+    let Ok(given) = given_arguments(rt) else {
+        return refuse_arguments(rt, errors);
+    };
+    let Ok(arguments) = texts(rt.alloc(), given.as_slice()) else {
+        return refuse_arguments(rt, errors);
+    };
+    execute(rt, arguments.as_slice(), &mut files, input, output, errors)
+}
+
+/// The arguments of this process, the program's name first.
+fn given_arguments(rt: &(impl Env + AllocGlobal)) -> io::Result<Vec<String>> {
+    Ok(env::args(rt)?.collect(rt.alloc())?)
+}
+
+fn texts(alloc: Global, arguments: &[String]) -> Result<Vec<&str>, AllocError> {
+    arguments
+        .iter()
+        .map(|argument| argument.as_str())
+        .collect(alloc)
+}
+
+/// Ends where there was no memory for the arguments.
+fn refuse_arguments<R: Wait + Eprint + AllocGlobal, E: Sink>(rt: &R, errors: &mut E) -> ExitReason
+    ensures reason { result ≡ NoMemory }
+    ensures reports { Reports result
+        (output_at (E.written errors.old) (E.failures errors.old))
+        (output_at (E.written errors.new) (E.failures errors.new)) }
+{
+    report(rt, &[], ExitReason::NoMemory, errors);
+    ExitReason::NoMemory
+}
+
+/// Does what the arguments ask for, of which the first is the program's name, and reports the end on `errors`: nothing at
+/// status 0, the usage at status 4, and else the last line. Where `errors` fails, nothing else changes.
+pub fn execute<R: Wait + Eprint + AllocGlobal, L: Loader, I: Source, O: Sink, E: Sink>(
+    rt: &R,
+    arguments: &[&str],
+    loader: &mut L,
+    input: &mut I,
+    output: &mut O,
+    errors: &mut E,
+) -> ExitReason
+    ensures { Executes (map (λ argument. argument.now) arguments.entry.now) result (L.loaded loader.old) (L.loaded loader.new)
+        (streams (I.left input.old) (I.failures input.old) (O.written output.old) (O.failures output.old))
+        (streams (I.left input.new) (I.failures input.new) (O.written output.new) (O.failures output.new))
+        (output_at (E.written errors.old) (E.failures errors.old))
+        (output_at (E.written errors.new) (E.failures errors.new)) }
+{
+    let reason = perform(rt, arguments, loader, input, output);
+    report(rt, arguments, reason, errors);
+    reason
+}
+
+/// Does what the arguments ask for.
+fn perform<R: Wait + AllocGlobal, L: Loader, I: Source, O: Sink>(
+    rt: &R,
+    arguments: &[&str],
+    loader: &mut L,
+    input: &mut I,
+    output: &mut O,
+) -> ExitReason
+    ensures { Performs (map (λ argument. argument.now) arguments.entry.now) result (L.loaded loader.old) (L.loaded loader.new)
+        (streams (I.left input.old) (I.failures input.old) (O.written output.old) (O.failures output.old))
+        (streams (I.left input.new) (I.failures input.new) (O.written output.new) (O.failures output.new)) }
+{
+    match parse_arguments(rt.alloc(), arguments) {
+        Ok(Invocation::Serve) => {
+            let outcome = serve(rt, rt.alloc(), input, output, loader, &mut OpenGate);
+            end_of_serve(&outcome)
+        }
+        Ok(Invocation::Check(file)) => {
+            let outcome = check(rt, rt.alloc(), file, loader, output);
+            end_of_check(&outcome)
+        }
+        Err(ArgumentsFault::Help) => show_help(rt, output),
+        Err(fault) => end_of_arguments(fault),
+    }
+}
+
+/// Writes the help.
+fn show_help<O: Sink>(rt: &impl Wait, output: &mut O) -> ExitReason
+    ensures { EndsHelping result
+        (output_at (O.written output.old) (O.failures output.old))
+        (output_at (O.written output.new) (O.failures output.new)) }
+{
+    if write_all(rt, output, HELP.as_bytes()) {
+        end_of_arguments(ArgumentsFault::Help)
+    } else {
+        ExitReason::WriteFailed
+    }
+}
+
+/// Logs the end, and says on `errors` what it has to say there.
+fn report<R: Wait + Eprint + AllocGlobal, E: Sink>(
+    rt: &R,
+    arguments: &[&str],
+    reason: ExitReason,
+    errors: &mut E,
+)
+    ensures { Reports reason
+        (output_at (E.written errors.old) (E.failures errors.old))
+        (output_at (E.written errors.new) (E.failures errors.new)) }
+{
+    log_end(rt, reason);
+    match reason {
+        ExitReason::Success => {}
+        ExitReason::ReadFailed => say(rt, errors, &["pl0dap: read failed\n"]),
+        ExitReason::WriteFailed => say(rt, errors, &["pl0dap: write failed\n"]),
+        ExitReason::Framing(number) => say_number(rt, errors, "pl0dap: frame ", number),
+        ExitReason::Refused(number) => say_number(rt, errors, "pl0dap: refused ", number),
+        ExitReason::CannotRead => say(rt, errors, &["pl0dap: cannot read\n"]),
+        ExitReason::Syntax { number, place } => say_syntax(rt, errors, number, place),
+        ExitReason::NoMemory => say(rt, errors, &["pl0dap: no memory\n"]),
+        ExitReason::NotUnderstood => say_usage(rt, errors, arguments),
+    }
+}
+
+/// At status 1 to 3 a note goes to the log, which stands before the last line.
+fn log_end<R: Eprint>(rt: &R, reason: ExitReason) {
+    if 0 < reason.status() && reason.status() < 4 {
+        let notes = Logged::new(rt, Level::Error, Console(rt));
+        error!(notes; "ended by {reason:?}");
+    }
+}
+
+fn say_number<E: Sink>(rt: &impl Wait, errors: &mut E, text: &str, number: u8)
+    ensures { Says (text.now ++ (decimal number ++ line_feed))
+        (output_at (E.written errors.old) (E.failures errors.old))
+        (output_at (E.written errors.new) (E.failures errors.new)) }
+{
+    let mut digits = Buffer::new();
+    say(rt, errors, &[text, digits.format(number), "\n"]);
+}
+
+fn say_syntax<E: Sink>(rt: &impl Wait, errors: &mut E, number: u8, place: Place)
+    ensures { Says (last_line (Syntax number place) ++ line_feed)
+        (output_at (E.written errors.old) (E.failures errors.old))
+        (output_at (E.written errors.new) (E.failures errors.new)) }
+{
+    let mut digits = Buffer::new();
+    let mut line = Buffer::new();
+    let mut column = Buffer::new();
+    let texts = [
+        "pl0dap: syntax ",
+        digits.format(number),
+        " ",
+        line.format(place.line),
+        " ",
+        column.format(place.column),
+        "\n",
+    ];
+    say(rt, errors, &texts);
+}
+
+/// Says what was wrong with the arguments, where there is memory for it, and then the usage.
+fn say_usage<R: Wait + AllocGlobal, E: Sink>(rt: &R, errors: &mut E, arguments: &[&str])
+    ensures { (text : List ℕ) × IsUsage text × Says text
+        (output_at (E.written errors.old) (E.failures errors.old))
+        (output_at (E.written errors.new) (E.failures errors.new)) }
+{
+    match objection(rt.alloc(), arguments) {
+        Ok(message) => say(rt, errors, &[message.as_str(), USAGE]),
+        Err(AllocError) => say(rt, errors, &[USAGE]),
+    }
+}
