@@ -42,7 +42,8 @@ fn is_body_written(
 }
 
 /// What an answer to `initialize` begins with.
-const CAPABILITIES: &str = r#""body":{"supportsConditionalBreakpoints":true,"supportsConfigurationDoneRequest":true,"supportsHitConditionalBreakpoints":true},"command":"initialize""#;
+const CAPABILITIES: &str =
+    r#""body":{"supportsConditionalBreakpoints":true,"supportsConfigurationDoneRequest":true,"supportsHitConditionalBreakpoints":true},"command":"initialize""#;
 
 #[test]
 fn writes_small_bodies(rt: HostRuntime) -> Result<(), Fail> {
@@ -66,7 +67,10 @@ fn writes_small_bodies(rt: HostRuntime) -> Result<(), Fail> {
         (Supported::Pause, Body::None, r#""command":"pause""#),
     ];
     for (command, body, expected) in rows {
-        assert!(rt; is_body_written(rt.alloc(), command, body, expected)?, "{expected}");
+        assert!(rt;
+            is_body_written(rt.alloc(), command, body, expected)?,
+            "{expected}"
+        );
     }
     Ok(())
 }
@@ -82,7 +86,8 @@ fn writes_breakpoints(rt: HostRuntime) -> Result<(), Fail> {
         BreakpointAnswer::Unverified(BreakpointRefusal::BadHitCondition),
     ];
     let body = Body::Breakpoints(Items::new(answers.to_vec(alloc)?));
-    let expected = r#""body":{"breakpoints":[{"line":3,"verified":true},{"message":"otherSource","verified":false},{"message":"noStep","verified":false},{"message":"badCondition","verified":false},{"message":"badHitCondition","verified":false}]},"command":"setBreakpoints""#;
+    let expected =
+        r#""body":{"breakpoints":[{"line":3,"verified":true},{"message":"otherSource","verified":false},{"message":"noStep","verified":false},{"message":"badCondition","verified":false},{"message":"badHitCondition","verified":false}]},"command":"setBreakpoints""#;
     assert!(rt; is_body_written(alloc, Supported::SetBreakpoints, body, expected)?);
     Ok(())
 }
@@ -115,8 +120,17 @@ fn writes_frames(rt: HostRuntime) -> Result<(), Fail> {
             frames: Items::new(frames(alloc, count)?),
             total: 1024,
         };
-        let expected = repeated(alloc, first.as_str(), next.as_str(), count.saturating_sub(1), last)?;
-        assert!(rt; is_body_written(alloc, Supported::StackTrace, body, expected.as_str())?, "{count}");
+        let expected = repeated(
+            alloc,
+            first.as_str(),
+            next.as_str(),
+            count.saturating_sub(1),
+            last,
+        )?;
+        assert!(rt;
+            is_body_written(alloc, Supported::StackTrace, body, expected.as_str())?,
+            "{count}"
+        );
     }
     Ok(())
 }
@@ -130,7 +144,8 @@ fn writes_scopes(rt: HostRuntime) -> Result<(), Fail> {
         scopes.push(Scope { name, reference })?;
     }
     let body = Body::Scopes(Items::new(scopes));
-    let expected = r#""body":{"scopes":[{"expensive":false,"name":"p","variablesReference":3},{"expensive":false,"name":"main","variablesReference":1}]},"command":"scopes""#;
+    let expected =
+        r#""body":{"scopes":[{"expensive":false,"name":"p","variablesReference":3},{"expensive":false,"name":"main","variablesReference":1}]},"command":"scopes""#;
     assert!(rt; is_body_written(alloc, Supported::Scopes, body, expected)?);
     Ok(())
 }
@@ -146,7 +161,8 @@ fn writes_variables(rt: HostRuntime) -> Result<(), Fail> {
     let value = i64::MAX;
     variables.push(Variable { name, value })?;
     let body = Body::Variables(Items::new(variables));
-    let expected = r#""body":{"variables":[{"name":"x","value":"9223372036854775807","variablesReference":0}]},"command":"variables""#;
+    let expected =
+        r#""body":{"variables":[{"name":"x","value":"9223372036854775807","variablesReference":0}]},"command":"variables""#;
     assert!(rt; is_body_written(alloc, Supported::Variables, body, expected)?);
     Ok(())
 }
@@ -182,7 +198,10 @@ fn writes_refusals(rt: HostRuntime) -> Result<(), Fail> {
             "{{\"body\":{{}},\"command\":\"launch\",\"message\":\"{message}\",\"request_seq\":4,\"seq\":9007199254740991,\"success\":false,\"type\":\"response\"}}"
         )?;
         let answer = answer(Supported::Launch, Err(*refusal));
-        assert!(rt; is_written(alloc, &answer, 9007199254740991, expected.as_str())?, "{message}");
+        assert!(rt;
+            is_written(alloc, &answer, 9007199254740991, expected.as_str())?,
+            "{message}"
+        );
     }
     Ok(())
 }
@@ -195,7 +214,8 @@ fn writes_names_as_they_came(rt: HostRuntime) -> Result<(), Fail> {
         command: CommandName::Unsupported(text(alloc, r#"a"b\c"#)?),
         result: Err(Refusal::Unsupported),
     };
-    let expected = r#"{"body":{},"command":"a\"b\\c","message":"unsupported","request_seq":7,"seq":1,"success":false,"type":"response"}"#;
+    let expected =
+        r#"{"body":{},"command":"a\"b\\c","message":"unsupported","request_seq":7,"seq":1,"success":false,"type":"response"}"#;
     assert!(rt; is_written(alloc, &answer, 1, expected)?);
     Ok(())
 }
@@ -247,7 +267,10 @@ fn is_event_written(alloc: Global, event: EventBody, expected: &str) -> Result<b
 #[test]
 fn writes_events(rt: HostRuntime) -> Result<(), Fail> {
     for (event, expected) in EVENTS.as_slice() {
-        assert!(rt; is_event_written(rt.alloc(), *event, expected)?, "{expected}");
+        assert!(rt;
+            is_event_written(rt.alloc(), *event, expected)?,
+            "{expected}"
+        );
     }
     Ok(())
 }
@@ -259,7 +282,10 @@ fn writes_stops(rt: HostRuntime) -> Result<(), Fail> {
         let expected = format!(in alloc;
             "\"body\":{{\"allThreadsStopped\":true,{said},\"threadId\":1}},\"event\":\"stopped\""
         )?;
-        assert!(rt; is_event_written(alloc, EventBody::Stopped(*reason), expected.as_str())?, "{said}");
+        assert!(rt;
+            is_event_written(alloc, EventBody::Stopped(*reason), expected.as_str())?,
+            "{said}"
+        );
     }
     Ok(())
 }

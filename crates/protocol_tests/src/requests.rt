@@ -5,7 +5,8 @@ use dap_msg::{Request, read};
 use std::alloc::Global;
 use std::test::Fail;
 
-const INITIALIZE_1: &str = "Some(Request { seq: 1, body: Initialize(InitializeArguments { lines_start_at_1: true, columns_start_at_1: true }) })";
+const INITIALIZE_1: &str =
+    "Some(Request { seq: 1, body: Initialize(InitializeArguments { lines_start_at_1: true, columns_start_at_1: true }) })";
 
 /// Contents, and what they are read as.
 const CONTENTS: [(&[u8], &str); 14] = [
@@ -417,7 +418,10 @@ fn reads_arguments_up_to_their_limits(rt: HostRuntime) -> Result<(), Fail> {
     for limit in LIMITS.as_slice() {
         let first = limit.first;
         assert!(rt; fits(rt.alloc(), limit, limit.most)?, "{first}");
-        assert!(rt; !fits(rt.alloc(), limit, limit.most.saturating_add(1))?, "one more: {first}");
+        assert!(rt;
+            !fits(rt.alloc(), limit, limit.most.saturating_add(1))?,
+            "one more: {first}"
+        );
     }
     Ok(())
 }
@@ -435,7 +439,10 @@ fn reads_names_up_to_64_bytes(rt: HostRuntime) -> Result<(), Fail> {
     )?;
     for (times, expected) in [(64, longest.as_str()), (65, "None"), (0, "None")] {
         let content = repeated(alloc, first, "a", times, r#""}"#)?;
-        assert!(rt; reads(alloc, content.as_bytes(), expected)?, "{times} letters");
+        assert!(rt;
+            reads(alloc, content.as_bytes(), expected)?,
+            "{times} letters"
+        );
     }
     Ok(())
 }
@@ -468,7 +475,10 @@ fn reads_values_up_to_127_deep(rt: HostRuntime) -> Result<(), Fail> {
     for (arrays, expected) in [(126, INITIALIZE_1), (127, "None")] {
         let opened = repeated(alloc, first, "[", arrays, "")?;
         let content = repeated(alloc, opened.as_str(), "]", arrays, "}")?;
-        assert!(rt; reads(alloc, content.as_bytes(), expected)?, "{arrays} arrays");
+        assert!(rt;
+            reads(alloc, content.as_bytes(), expected)?,
+            "{arrays} arrays"
+        );
     }
     Ok(())
 }
