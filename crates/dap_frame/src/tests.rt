@@ -1,9 +1,9 @@
-use crate::{Decoder, FrameFault, encode, frame_laws};
+use crate::{Decoder, FramingFault, encode, frame_laws};
 use std::alloc::Global;
 use std::process::Abort;
 
 /// A stream, its contents one after the other, how many they are, and the fault behind them.
-type Row = (&'static [u8], &'static [u8], usize, Option<FrameFault>);
+type Row = (&'static [u8], &'static [u8], usize, Option<FramingFault>);
 
 const ROWS: [Row; 29] = [
     (b"", b"", 0, None),
@@ -29,96 +29,106 @@ const ROWS: [Row; 29] = [
         b"Content-Length: 5\n\n{\"a\":\r\n",
         b"",
         0,
-        Some(FrameFault::BadField),
+        Some(FramingFault::BadField),
     ),
-    (b"\r\n", b"", 0, Some(FrameFault::NoLength)),
+    (b"\r\n", b"", 0, Some(FramingFault::NoLength)),
     (
         b"content-length: 49\r\n\r\n",
         b"",
         0,
-        Some(FrameFault::NoLength),
+        Some(FramingFault::NoLength),
     ),
     (
         b"Content-Length: 1\r\n\r\n{A b: c\r\n",
         b"{",
         1,
-        Some(FrameFault::BadField),
+        Some(FramingFault::BadField),
     ),
-    (b"Content-Length:49\r\n", b"", 0, Some(FrameFault::BadField)),
-    (b": 49\r\n", b"", 0, Some(FrameFault::BadField)),
-    (b"X\r\n", b"", 0, Some(FrameFault::BadField)),
-    (b"X: \t\r\n", b"", 0, Some(FrameFault::BadField)),
-    (b"X: \r\r\n", b"", 0, Some(FrameFault::BadField)),
+    (
+        b"Content-Length:49\r\n",
+        b"",
+        0,
+        Some(FramingFault::BadField),
+    ),
+    (b": 49\r\n", b"", 0, Some(FramingFault::BadField)),
+    (b"X\r\n", b"", 0, Some(FramingFault::BadField)),
+    (b"X: \t\r\n", b"", 0, Some(FramingFault::BadField)),
+    (b"X: \r\r\n", b"", 0, Some(FramingFault::BadField)),
     (
         b"Content-Length: 49\r\nContent-Length: 49\r\n",
         b"",
         0,
-        Some(FrameFault::TwoLengths),
+        Some(FramingFault::TwoLengths),
     ),
     (
         b"Content-Length: 49\r\nContent-Length: x\r\n",
         b"",
         0,
-        Some(FrameFault::TwoLengths),
+        Some(FramingFault::TwoLengths),
     ),
     (
         b"Content-Length: 049\r\n",
         b"",
         0,
-        Some(FrameFault::BadLength),
+        Some(FramingFault::BadLength),
     ),
     (
         b"Content-Length: 00\r\n",
         b"",
         0,
-        Some(FrameFault::BadLength),
+        Some(FramingFault::BadLength),
     ),
-    (b"Content-Length: \r\n", b"", 0, Some(FrameFault::BadLength)),
+    (
+        b"Content-Length: \r\n",
+        b"",
+        0,
+        Some(FramingFault::BadLength),
+    ),
     (
         b"Content-Length: 4 \r\n",
         b"",
         0,
-        Some(FrameFault::BadLength),
+        Some(FramingFault::BadLength),
     ),
     (
         b"Content-Length: +4\r\n",
         b"",
         0,
-        Some(FrameFault::BadLength),
+        Some(FramingFault::BadLength),
     ),
     (
         b"Content-Length: 10000000\r\n",
         b"",
         0,
-        Some(FrameFault::BadLength),
+        Some(FramingFault::BadLength),
     ),
     (b"Content-Length: 1048576\r\n\r\n", b"", 0, None),
     (
         b"Content-Length: 1048577\r\n",
         b"",
         0,
-        Some(FrameFault::TooLarge),
+        Some(FramingFault::TooLarge),
     ),
     (
         b"Content-Length: 9999999\r\n",
         b"",
         0,
-        Some(FrameFault::TooLarge),
+        Some(FramingFault::TooLarge),
     ),
 ];
 
 /// Feeds a piece; where memory was refused, once more.
-fn feed(decoder: &mut Decoder, piece: &[u8]) -> Result<(), FrameFault> {
+fn feed(decoder: &mut Decoder, piece: &[u8]) -> Result<(), FramingFault> {
     match decoder.feed(piece) {
-        Err(FrameFault::NoMemory) => decoder.feed(piece),
+        Err(FramingFault::NoMemory) => decoder.feed(piece),
         fed => fed,
     }
 }
 
 /// The next content; where memory was refused, asked once more.
-fn next(decoder: &mut Decoder) -> Result<Option<Vec<u8>>, FrameFault> {
+fn next(decoder: &mut Decoder) -> Result<Option<Vec<u8>>, FramingFault> {
     match decoder.next_content() {
-        Err(FrameFault::NoMemory) => decoder.next_content(),
+        Err(FramingFault::NoMemory) => decoder.next_content(),
         next => next,
     }
 }
@@ -128,7 +138,7 @@ fn next(decoder: &mut Decoder) -> Result<Option<Vec<u8>>, FrameFault> {
 struct Seen<'a> {
     awaited: &'a [u8],
     contents: usize,
-    fault: Option<FrameFault>,
+    fault: Option<FramingFault>,
 }
 
 /// Feeds a piece, and takes all contents that are whole then.
@@ -183,7 +193,7 @@ fn rows_however_cut(rt: HostRuntime) {
 }
 
 /// A header part of `20 + 3 + letters + 4` bytes.
-fn header_of(rt: &impl Abort, alloc: Global, letters: usize, step: usize) -> Option<FrameFault> {
+fn header_of(rt: &impl Abort, alloc: Global, letters: usize, step: usize) -> Option<FramingFault> {
     let mut decoder = Decoder::new(alloc);
     let mut seen = Seen {
         awaited: b"",
@@ -206,7 +216,7 @@ fn header_limit(rt: HostRuntime) {
         assert_eq!(rt; header_of(&rt, rt.alloc(), 997, step), None);
         assert_eq!(rt;
             header_of(&rt, rt.alloc(), 998, step),
-            Some(FrameFault::HeaderTooLong)
+            Some(FramingFault::HeaderTooLong)
         );
     }
 }

@@ -2,7 +2,7 @@
 mod memory;
 
 use crate::{Closed, Event, SessionFault, drive};
-use dap_frame::FrameFault;
+use dap_frame::FramingFault;
 use memory::{FramesPut, NoFiles, OrdersPushed, Script};
 use std::alloc::{AllocError, Global};
 use std::process::Abort;
@@ -190,7 +190,7 @@ fn gives_up_at_faults(rt: HostRuntime) -> Result<(), Fail> {
     )?;
     assert_eq!(rt;
         framing.result,
-        Err(SessionFault::Frame(FrameFault::NoLength))
+        Err(SessionFault::Framing(FramingFault::NoLength))
     );
     assert_eq!(rt; framing.quits, 1);
     assert_frames(&rt, &framing, &[INITIALIZED_1]);
