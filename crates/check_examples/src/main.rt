@@ -1,7 +1,7 @@
 //! Prints the listings of the programs in `examples/`, one behind the other, for the stored run that compares them.
 #![tactic(auto)]
 
-use pl0_adapter::{Reading, Writing, execute};
+use adapter::{Reading, Writing, execute};
 use std::process::ExitCode;
 
 const EXAMPLES: [&str; 7] = [

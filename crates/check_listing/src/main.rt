@@ -1,7 +1,7 @@
 //! `pl0dap` once more, for the stored run of `--check` on a lawful program.
 #![tactic(auto)]
 
-use pl0_adapter::{Reading, Writing, run};
+use adapter::{Reading, Writing, run};
 use std::process::ExitCode;
 
 fn main(rt: HostRuntime) -> ExitCode {

@@ -1,7 +1,7 @@
-//! `pl0dap`: a debug adapter for PL/0 over standard input and output. What it does is said in `pl0_adapter`.
+//! `pl0dap`: a debug adapter for PL/0 over standard input and output. What it does is said in `adapter`.
 #![tactic(auto)]
 
-use pl0_adapter::{Reading, Writing, run};
+use adapter::{Reading, Writing, run};
 use std::process::ExitCode;
 
 fn main(rt: HostRuntime) -> ExitCode {

@@ -1,0 +1,4 @@
+pub mod Known
+pub mod Transferring
+pub mod Turns
+mod ArgumentKinds

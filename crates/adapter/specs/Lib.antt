@@ -1,0 +1,7 @@
+pub mod Transfer
+pub mod Serving
+pub mod ExitReasons
+pub mod Loading
+pub mod Arguments
+pub mod Checking
+pub mod Running

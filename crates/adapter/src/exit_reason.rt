@@ -1,0 +1,162 @@
+//! How a run ends: the exit status, and the last line on standard error.
+
+ghost use Rattle.std.specs.Prelude.{◌≡◌, Some};
+ghost use Rattle.adapter.specs.ExitReasons.{reason_of_serve, reason_of_session, reason_of_framing, reason_of_check, reason_of_arguments, fault_number, status_of};
+
+use crate::checking::CheckFault;
+use crate::arguments::ArgumentsFault;
+use crate::serving::{ServeFault, Served};
+use dap_frame::FrameFault;
+use dap_session::SessionFault;
+use pl0_tree::{FaultKind, Place};
+use std::fmt;
+
+/// How a run of the program ends. `Display` writes the last line on standard error, without its line feed; nothing
+/// after a good end, nor where the words were not understood, which has a text of its own.
+#[derive(Clone, Copy, Debug, PartialEq, Eq)]
+pub enum ExitReason {
+    /// All went well.
+    Success,
+    /// The input failed.
+    ReadFailed,
+    /// The output failed.
+    WriteFailed,
+    /// A framing fault, by its number from 1.
+    Framing(u8),
+    /// Any other refusal of the session, by its number.
+    Refused(u8),
+    /// The file to judge can't be read.
+    CannotRead,
+    /// The first fault of the text that was judged, by its number, and where it stands.
+    Syntax { number: u8, place: Place },
+    /// Memory was refused where nobody is served.
+    NoMemory,
+    /// The words of the command line were not understood.
+    NotUnderstood,
+}
+
+impl ExitReason {
+    /// The exit status: 0 after a good end, 1 where reading or writing failed, 2 after a framing fault, 3 after any
+    /// other refusal, 4 where the words were not understood.
+    pub fn status(self) -> u8
+        ensures { result ≡ status_of self }
+    {
+        match self {
+            ExitReason::Success => 0,
+            ExitReason::ReadFailed | ExitReason::WriteFailed | ExitReason::CannotRead => 1,
+            ExitReason::Framing(_) => 2,
+            ExitReason::Refused(_) | ExitReason::Syntax { .. } | ExitReason::NoMemory => 3,
+            ExitReason::NotUnderstood => 4,
+        }
+    }
+}
+
+impl fmt::Display for ExitReason {
+    ghost use Rattle.std.specs.Prelude.{Some};
+    ghost use Rattle.adapter.specs.ExitReasons.{last_line};
+
+    ghost output = { λ ending. Some (last_line ending) };
+
+    fn fmt<W: fmt::Write>(&self, f: &mut fmt::Formatter<W>) -> fmt::Result {
+        match self {
+            ExitReason::Success | ExitReason::NotUnderstood => Ok(()),
+            ExitReason::ReadFailed => f.write_str("pl0dap: read failed"),
+            ExitReason::WriteFailed => f.write_str("pl0dap: write failed"),
+            ExitReason::Framing(number) => write!(f, "pl0dap: frame {number}"),
+            ExitReason::Refused(number) => write!(f, "pl0dap: refused {number}"),
+            ExitReason::CannotRead => f.write_str("pl0dap: cannot read"),
+            ExitReason::Syntax { number, place } => {
+                let line = place.line;
+                let column = place.column;
+                write!(f, "pl0dap: syntax {number} {line} {column}")
+            }
+            ExitReason::NoMemory => f.write_str("pl0dap: no memory"),
+        }
+    }
+}
+
+/// How the program ends after `check`.
+pub fn end_of_check(outcome: &Result<(), CheckFault>) -> ExitReason
+    ensures { result ≡ reason_of_check outcome.now }
+{
+    match outcome {
+        Ok(()) => ExitReason::Success,
+        Err(CheckFault::CannotRead) => ExitReason::CannotRead,
+        Err(CheckFault::Syntax { kind, place }) => ExitReason::Syntax {
+            number: number_of(*kind),
+            place: *place,
+        },
+        Err(CheckFault::WriteFailed) => ExitReason::WriteFailed,
+        Err(CheckFault::NoMemory) => ExitReason::NoMemory,
+    }
+}
+
+/// The number of a fault of a text.
+fn number_of(kind: FaultKind) -> u8
+    ensures { result ≡ fault_number kind }
+{
+    match kind {
+        FaultKind::TooLong => 1,
+        FaultKind::NotAscii => 2,
+        FaultKind::BadCharacter => 3,
+        FaultKind::NumberTooLarge => 4,
+        FaultKind::NameTooLong => 5,
+        FaultKind::Expected => 6,
+        FaultKind::TooDeep => 7,
+        FaultKind::TooManyNames => 8,
+        FaultKind::Twice => 9,
+        FaultKind::Unknown => 10,
+        FaultKind::TooEarly => 11,
+        FaultKind::WrongKind => 12,
+    }
+}
+
+/// How the program ends where the words of its command line name no mode.
+pub fn end_of_arguments(fault: ArgumentsFault) -> ExitReason
+    ensures { result ≡ reason_of_arguments fault }
+{
+    match fault {
+        ArgumentsFault::Help => ExitReason::Success,
+        ArgumentsFault::NotUnderstood => ExitReason::NotUnderstood,
+        ArgumentsFault::NoMemory => ExitReason::NoMemory,
+    }
+}
+
+/// How the program ends after `serve`.
+pub fn end_of_serve(outcome: &Result<Served, ServeFault>) -> ExitReason
+    ensures { result ≡ reason_of_serve outcome.now }
+{
+    match outcome {
+        Ok(_) => ExitReason::Success,
+        Err(ServeFault::WriteFailed) => ExitReason::WriteFailed,
+        Err(ServeFault::ReadFailed) => ExitReason::ReadFailed,
+        Err(ServeFault::Session(fault)) => end_of_session(*fault),
+    }
+}
+
+fn end_of_session(fault: SessionFault) -> ExitReason
+    ensures { result ≡ reason_of_session fault }
+{
+    match fault {
+        SessionFault::Frame(fault) => end_of_framing(fault),
+        SessionFault::NoMemory => ExitReason::Refused(2),
+        SessionFault::SeqExhausted => ExitReason::Refused(3),
+        SessionFault::OrdersFull => ExitReason::Refused(4),
+        SessionFault::RunnerGone => ExitReason::Refused(5),
+        SessionFault::WriterGone => ExitReason::Refused(6),
+    }
+}
+
+fn end_of_framing(fault: FrameFault) -> ExitReason
+    ensures { result ≡ reason_of_framing fault }
+{
+    match fault {
+        FrameFault::HeaderTooLong => ExitReason::Framing(1),
+        FrameFault::BadField => ExitReason::Framing(2),
+        FrameFault::NoLength => ExitReason::Framing(3),
+        FrameFault::TwoLengths => ExitReason::Framing(4),
+        FrameFault::BadLength => ExitReason::Framing(5),
+        FrameFault::TooLarge => ExitReason::Framing(6),
+        FrameFault::NoMemory => ExitReason::Refused(2),
+    }
+}

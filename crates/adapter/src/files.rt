@@ -1,0 +1,96 @@
+//! Program files.
+
+ghost use Rattle.std.specs.Prelude.{◌≡◌, []};
+ghost use Rattle.adapter.specs.Loading.{loads};
+
+use dap_session::{LoadFault, Loader};
+use std::alloc::Global;
+use std::fs;
+use std::io::{ErrorKind, Read};
+use std::rt::Files;
+
+/// The most bytes of a file that are given: one more than a program's text may have, so that a longer one shows.
+const MOST: usize = 65_537;
+
+/// Loads files of the system, and keeps what it was asked for and what it gave.
+#[derive(Drop)]
+pub struct FileLoader<'a, R: Files> {
+    rt: &'a R,
+    alloc: Global,
+    given: Vec<Given>,
+}
+
+/// A path that was asked for, and the answer.
+#[derive(Drop)]
+struct Given {
+    path: String,
+    answer: Result<Vec<u8>, LoadFault>,
+}
+
+impl<'a, R: Files> FileLoader<'a, R> {
+    /// A loader that was asked for nothing yet.
+    pub fn new(rt: &'a R, alloc: Global) -> FileLoader<'a, R>
+        ensures { loads result.given.items ≡ [] }
+    {
+        FileLoader {
+            rt,
+            alloc,
+            given: Vec::new(alloc),
+        }
+    }
+}
+
+impl<R: Files> Loader for FileLoader<'_, R> {
+    ghost use Rattle.adapter.specs.Loading.{loads};
+
+    ghost loaded = { λ loader. loads loader.given.items };
+
+    fn load(&mut self, path: &str) -> Result<Vec<u8>, LoadFault> {
+        let Ok(asked) = String::from_str(self.alloc, path) else {
+            return Err(LoadFault::NoMemory);
+        };
+        match beginning(self.rt, self.alloc, path) {
+            Ok(bytes) => {
+                let Ok(copy) = Vec::from_slice(self.alloc, bytes.as_slice()) else {
+                    return Err(LoadFault::NoMemory);
+                };
+                match self.given.push(Given {
+                    path: asked,
+                    answer: Ok(copy),
+                }) {
+                    Ok(()) => Ok(bytes),
+                    Err(_) => Err(LoadFault::NoMemory),
+                }
+            }
+            Err(LoadFault::CannotRead) => match self.given.push(Given {
+                path: asked,
+                answer: Err(LoadFault::CannotRead),
+            }) {
+                Ok(()) => Err(LoadFault::CannotRead),
+                Err(_) => Err(LoadFault::NoMemory),
+            },
+            Err(LoadFault::NoMemory) => Err(LoadFault::NoMemory),
+        }
+    }
+}
+
+ghost use Rattle.std.specs.Prelude.{◌≤◌, length, IfOk};
+
+/// The file's bytes, the first `MOST` of them where it has more.
+fn beginning<R: Files>(rt: &R, alloc: Global, path: &str) -> Result<Vec<u8>, LoadFault>
+    ensures { IfOk result (λ bytes. length bytes.items ≤ 65537) }
+{
+    let mut bytes = Vec::new(alloc);
+    let outcome = match fs::open(rt, path) {
+        Ok(file) => file.take(MOST as u64).read_to_end(&mut bytes),
+        Err(error) => Err(error),
+    };
+    match outcome {
+        Ok(_) => {
+            bytes.truncate(MOST);
+            Ok(bytes)
+        }
+        Err(error) if error.kind() == ErrorKind::OutOfMemory => Err(LoadFault::NoMemory),
+        Err(_) => Err(LoadFault::CannotRead),
+    }
+}

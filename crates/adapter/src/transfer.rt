@@ -1,0 +1,79 @@
+//! From the input to events, and from frames to the output.
+ghost use Rattle.std.specs.Prelude.{◌≡◌, ◌<◌, map, MatchBool};
+ghost use Rattle.std.specs.List.{concat};
+ghost use Rattle.std.specs.Io.KnownBytes.{Appends};
+ghost use Rattle.dap_session.specs.Events.{incoming_of};
+ghost use Rattle.adapter.specs.Transfer.{ComesFrom, AppendsPart};
+
+use crate::streams::{IoFault, Sink, Source};
+use dap_session::Event;
+use std::alloc::Global;
+use std::sync::Wait;
+
+/// How many bytes a piece has at most.
+pub const ROOM: usize = 4096;
+
+/// Reads the next piece, or tells why there is none. An interrupted read is tried again. What stands in `room` doesn't
+/// matter: it is lent, so that it need not be cleared for each read.
+pub fn next_event<I: Source>(
+    rt: &impl Wait,
+    alloc: Global,
+    input: &mut I,
+    room: &mut [u8; ROOM],
+) -> Event
+    ensures { ComesFrom (incoming_of result) (I.left input.old) (I.left input.new) (I.failures input.old) (I.failures input.new) }
+{
+    // Before the read: what was read can't be given back.
+    let Ok(mut piece) = Vec::with_capacity(alloc, ROOM) else {
+        return Event::NoMemory;
+    };
+    for _ in rt.forever() {
+        match input.read(room) {
+            Ok(0) => return Event::End,
+            Ok(count) => {
+                piece.extend_from_slice(&room[..count]).unwrap();
+                return Event::Piece(piece);
+            }
+            Err(IoFault::Failed) => return Event::ReadFailed,
+            Err(IoFault::Interrupted) => {}
+        }
+    }
+    unreachable!()
+}
+
+/// Writes frames one after another, and says whether all were; where not, the output failed behind a beginning.
+pub fn write_frames<O: Sink>(rt: &impl Wait, output: &mut O, frames: &[Vec<u8>]) -> bool
+    ensures written { MatchBool result
+        (Appends (O.written output.old) (O.written output.new) (concat (map (λ frame. frame.items) frames.now)))
+        (AppendsPart (O.written output.old) (O.written output.new) (concat (map (λ frame. frame.items) frames.now))) }
+    ensures count { MatchBool result (O.failures output.new ≡ O.failures output.old) (O.failures output.old < O.failures output.new) }
+{
+    for frame in frames {
+        if !write_all(rt, output, frame.as_slice()) {
+            return false;
+        }
+    }
+    true
+}
+
+/// Writes all bytes, or a beginning of them where the output fails. An interrupted write is tried again.
+pub fn write_all<O: Sink>(rt: &impl Wait, output: &mut O, bytes: &[u8]) -> bool
+    ensures written { MatchBool result
+        (Appends (O.written output.old) (O.written output.new) bytes.now)
+        (AppendsPart (O.written output.old) (O.written output.new) bytes.now) }
+    ensures count { MatchBool result (O.failures output.new ≡ O.failures output.old) (O.failures output.old < O.failures output.new) }
+{
+    let mut rest = bytes;
+    for _ in rt.forever() {
+        if rest.is_empty() {
+            return true;
+        }
+        match output.write(rest) {
+            Ok(0) => return false,
+            Ok(count) => rest = rest.split_at(count).1,
+            Err(IoFault::Failed) => return false,
+            Err(IoFault::Interrupted) => {}
+        }
+    }
+    unreachable!()
+}

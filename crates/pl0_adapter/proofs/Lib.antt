@@ -1,4 +1,0 @@
-pub mod Known
-pub mod Transferring
-pub mod Turns
-mod ModeKinds
