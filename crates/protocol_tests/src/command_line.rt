@@ -1,9 +1,9 @@
-//! What the words of a command line ask for, and the texts about them.
+//! What the arguments of a command line ask for, and the texts about them.
 
-use pl0_adapter::mode::{Mode, WordsFault, help, mode, usage};
+use adapter::arguments::{ArgumentsFault, Invocation, help, parse_arguments, usage};
 use std::test::Fail;
 
-/// Words after the program's name, and the file that they ask to judge.
+/// Arguments, and the file that they ask to judge.
 const CHECKS: [(&[&str], &str); 5] = [
     (&["pl0dap", "--check", "p.pl0"], "p.pl0"),
     (&["pl0dap", "--check=p.pl0"], "p.pl0"),
@@ -36,27 +36,27 @@ const OTHERS: [&[&str]; 11] = [
 ];
 
 #[test]
-fn reads_the_words(rt: HostRuntime) {
+fn parses_arguments(rt: HostRuntime) {
     let alloc = rt.alloc();
-    for words in SERVES.as_slice() {
-        assert_eq!(rt; mode(alloc, words), Ok(Mode::Serve), "{words:?}");
+    for arguments in SERVES.as_slice() {
+        assert_eq!(rt; parse_arguments(alloc, arguments), Ok(Invocation::Serve), "{arguments:?}");
     }
-    for (words, file) in CHECKS.as_slice() {
-        assert_eq!(rt; mode(alloc, words), Ok(Mode::Check(file)), "{words:?}");
+    for (arguments, file) in CHECKS.as_slice() {
+        assert_eq!(rt; parse_arguments(alloc, arguments), Ok(Invocation::Check(file)), "{arguments:?}");
     }
 }
 
 #[test]
-fn reads_no_other_words(rt: HostRuntime) {
+fn refuses_other_arguments(rt: HostRuntime) {
     let alloc = rt.alloc();
-    for words in HELPS.as_slice() {
-        assert_eq!(rt; mode(alloc, words), Err(WordsFault::Help), "{words:?}");
+    for arguments in HELPS.as_slice() {
+        assert_eq!(rt; parse_arguments(alloc, arguments), Err(ArgumentsFault::Help), "{arguments:?}");
     }
-    for words in OTHERS.as_slice() {
+    for arguments in OTHERS.as_slice() {
         assert_eq!(rt;
-            mode(alloc, words),
-            Err(WordsFault::NotUnderstood),
-            "{words:?}"
+            parse_arguments(alloc, arguments),
+            Err(ArgumentsFault::NotUnderstood),
+            "{arguments:?}"
         );
     }
 }
@@ -69,14 +69,14 @@ Options:
       --check <FILE>  Print the steps and code of the program in FILE, and exit
   -h, --help          Print help
 
-An editor starts pl0dap with no words, and speaks the protocol over its standard
+An editor starts pl0dap with no arguments, and speaks the protocol over its standard
 input and output.
 
 Exit status:
   0  the client disconnected, its input ended, or the listing or help was printed
   1  reading or writing failed
   2  the input was not framed as the protocol asks
-  3  another refusal, such as a fault in FILE or want of memory
+  3  another refusal, such as a fault in FILE or out of memory
   4  the command line was not understood
 ";
 
@@ -90,7 +90,7 @@ For more information, try '--help'.
 ";
 
 #[test]
-fn says_what_words_it_understands(rt: HostRuntime) -> Result<(), Fail> {
+fn says_what_arguments_it_understands(rt: HostRuntime) -> Result<(), Fail> {
     let alloc = rt.alloc();
     assert_eq!(rt; help(alloc)?.as_str(), HELP);
     let text = usage(alloc, &["pl0dap", "--chec", "a"])?;

@@ -3,7 +3,7 @@ ghost use Rattle.std.specs.Prelude.{◌≡◌, ◌+◌, None, IfOk};
 ghost use Rattle.dap_session.specs.Events.{incoming_of};
 
 use dap_session::{Event, Inbox, LoadFault, Loader, Order, OrderFault, Orders, Out};
-use pl0_adapter::{Gate, IoFault, Sink, Source};
+use adapter::{Gate, IoFault, Sink, Source};
 use std::alloc::{AllocError, Global};
 use std::cell::Cell;
 use std::process::Abort;

@@ -2,7 +2,7 @@
 
 use crate::fakes::{OneFile, Output, Streams, Unreadable};
 use dap_session::Loader;
-use pl0_adapter::{check, end_of_check};
+use adapter::{check, end_of_check};
 use std::alloc::Global;
 use std::cell::Cell;
 use std::process::Abort;

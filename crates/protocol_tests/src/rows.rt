@@ -1,7 +1,7 @@
 //! Worked rows: what an editor sends and must get, and how the session and the program end after it.
 
 use crate::transcript::{ANSWERED, SENT, frames};
-use dap_frame::FrameFault;
+use dap_frame::FramingFault;
 use dap_session::{Closed, SessionFault};
 use std::test::Fail;
 
@@ -146,36 +146,36 @@ pub const ROWS: [Row; 9] = [
 ];
 
 /// Bytes that are at fault, wherever they stand, how, and the program's last line.
-pub const FAULTS: [(&str, FrameFault, &str); 7] = [
+pub const FAULTS: [(&str, FramingFault, &str); 7] = [
     (
         "Content-Length: 49\n\n{\"seq\":1,\"type\":\"request\",\"command\":\"initialize\"}\r\n\r\n",
-        FrameFault::BadField,
+        FramingFault::BadField,
         "pl0dap: frame 2",
     ),
-    ("A b: c\r\n", FrameFault::BadField, "pl0dap: frame 2"),
+    ("A b: c\r\n", FramingFault::BadField, "pl0dap: frame 2"),
     (
         "Content-Length:49\r\n",
-        FrameFault::BadField,
+        FramingFault::BadField,
         "pl0dap: frame 2",
     ),
     (
         "content-length: 49\r\n\r\n",
-        FrameFault::NoLength,
+        FramingFault::NoLength,
         "pl0dap: frame 3",
     ),
     (
         "Content-Length: 49\r\nContent-Length: 49\r\n",
-        FrameFault::TwoLengths,
+        FramingFault::TwoLengths,
         "pl0dap: frame 4",
     ),
     (
         "Content-Length: 049\r\n",
-        FrameFault::BadLength,
+        FramingFault::BadLength,
         "pl0dap: frame 5",
     ),
     (
         "Content-Length: 1048577\r\n",
-        FrameFault::TooLarge,
+        FramingFault::TooLarge,
         "pl0dap: frame 6",
     ),
 ];
@@ -184,14 +184,14 @@ pub const FAULTS: [(&str, FrameFault, &str); 7] = [
 pub const fn fault_row(
     transcript: &'static str,
     tail: &'static str,
-    fault: FrameFault,
+    fault: FramingFault,
     last_line: &'static str,
 ) -> Row {
     Row {
         name: "a fault",
         transcript,
         tail,
-        end: Err(SessionFault::Frame(fault)),
+        end: Err(SessionFault::Framing(fault)),
         status: 2,
         last_line,
     }

@@ -4,7 +4,7 @@ use crate::fakes::{Input, OneFile, OpenGate, Output, Streams};
 use crate::rows::{FAULTS, HELLO, INITIALIZE, ROWS, Row, fault_row};
 use crate::text::repeated;
 use crate::transcript::{ANSWERED, SENT, frames, input};
-use pl0_adapter::{Reading, ServeFault, Served, Writing, end_of_serve, serve};
+use adapter::{Reading, ServeFault, Served, Writing, end_of_serve, serve};
 use std::alloc::Global;
 use std::cell::Cell;
 use std::process::Abort;
