@@ -19,6 +19,3 @@ pub use decoder::Decoder;
 pub use encoding::encode;
 pub use fault::FramingFault;
 pub use laws::frame_laws;
-
-#[cfg(test)]
-mod tests;

@@ -152,18 +152,9 @@ impl Session {
         ensures well { OnOk result (IsWell self.new.ending) }
     {
         match event {
-            Event::Piece(piece) => match self.take_piece(piece.as_slice(), out, orders) {
-                Ok(()) => Ok(()),
-                Err(fault) => Err(fault),
-            },
-            Event::End => match self.close(Closed::InputEnded, orders) {
-                Ok(()) => Ok(()),
-                Err(fault) => Err(fault),
-            },
-            Event::ReadFailed => match self.close(Closed::ReadFailed, orders) {
-                Ok(()) => Ok(()),
-                Err(fault) => Err(fault),
-            },
+            Event::Piece(piece) => self.take_piece(piece.as_slice(), out, orders),
+            Event::End => self.close(Closed::InputEnded, orders),
+            Event::ReadFailed => self.close(Closed::ReadFailed, orders),
             Event::NoMemory => Err(SessionFault::NoMemory),
         }
     }

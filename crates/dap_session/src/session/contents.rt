@@ -70,14 +70,10 @@ impl Session {
         ensures well { OnOk result (IsWell self.new.ending) }
     {
         while self.ending.is_none() {
-            let content = match next_content(&mut self.decoder) {
-                Ok(Some(content)) => content,
-                Ok(None) => return Ok(()),
-                Err(fault) => return Err(fault),
+            let Some(content) = next_content(&mut self.decoder)? else {
+                return Ok(());
             };
-            if let Err(fault) = self.take_content(content.as_slice(), out, orders) {
-                return Err(fault);
-            }
+            self.take_content(content.as_slice(), out, orders)?;
         }
         Ok(())
     }
