@@ -11,7 +11,7 @@ use std::test::Fail;
 
 const LAWFUL: &[u8] = b"var x;\n\nbegin x := 1;\n! x end.\n";
 
-const LISTING: &str = "0 3 7 assign
+const LISTING: &[u8] = b"0 3 7 assign
 1 4 1 write
 2 4 8 return
 
@@ -30,7 +30,7 @@ fn is_judged<R: Abort + Wait, L: Loader>(
     alloc: Global,
     loader: &mut L,
     streams: Streams,
-    expected: (&str, u8, &str),
+    expected: (&[u8], u8, &str),
 ) -> Result<bool, Fail> {
     let mut output = Output {
         rt,
@@ -44,7 +44,7 @@ fn is_judged<R: Abort + Wait, L: Loader>(
     let line = format!(in alloc; "{reason}")?;
     let (written, status, last_line) = expected;
     Ok(
-        output.bytes.as_slice() == written.as_bytes()
+        output.bytes.as_slice() == written
             && reason.status() == status
             && line.as_str() == last_line,
     )
@@ -71,7 +71,7 @@ fn prints_the_listing(rt: HostRuntime) -> Result<(), Fail> {
 fn names_the_first_fault(rt: HostRuntime) -> Result<(), Fail> {
     let alloc = rt.alloc();
     let file = &mut OneFile::new(alloc, b"x := 1.");
-    let expected = ("", 3, "pl0dap: syntax 10 1 1");
+    let expected: (&[u8], u8, &str) = (b"", 3, "pl0dap: syntax 10 1 1");
     assert!(rt; is_judged(&rt, alloc, file, Streams::WELL, expected)?);
     Ok(())
 }
@@ -83,7 +83,7 @@ fn says_that_a_file_cannot_be_read(rt: HostRuntime) -> Result<(), Fail> {
         alloc,
         asked: Vec::new(alloc),
     };
-    let expected = ("", 1, "pl0dap: cannot read");
+    let expected: (&[u8], u8, &str) = (b"", 1, "pl0dap: cannot read");
     assert!(rt; is_judged(&rt, alloc, none, Streams::WELL, expected)?);
     Ok(())
 }
@@ -99,8 +99,7 @@ fn says_that_a_listing_was_cut(rt: HostRuntime) -> Result<(), Fail> {
             takes_nothing: room % 2 == 1,
             ..Streams::WELL
         };
-        let (written, _) = LISTING.split_at(room);
-        let expected = (written, 1, "pl0dap: write failed");
+        let expected = (&LISTING[..room], 1, "pl0dap: write failed");
         assert!(rt;
             is_judged(&rt, alloc, file, streams, expected)?,
             "at {room}"
