@@ -1,4 +1,5 @@
 pub mod Known
 pub mod Transferring
 pub mod Turns
+pub mod ListingLines
 mod ArgumentKinds

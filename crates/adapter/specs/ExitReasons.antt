@@ -16,7 +16,7 @@ use Rattle.adapter.specs.declared.arguments.ArgumentsFault.TheVariants as argume
 use Rattle.adapter.specs.declared.exit_reason.ExitReason.{ExitReason}
 use Rattle.adapter.specs.declared.exit_reason.ExitReason.TheVariants.{Success, ReadFailed, WriteFailed, Framing, Refused, CannotRead, Syntax, NoMemory, NotUnderstood}
 
--- framing faults by their numbers; want of memory is a refusal of the session
+-- framing faults by their numbers; out of memory is a refusal of the session
 abbrev pub reason_of_framing : FrameFault → ExitReason
 reason_of_framing frame.HeaderTooLong = Framing 1
 reason_of_framing frame.BadField = Framing 2
@@ -80,8 +80,7 @@ status_of (Syntax number place) = 3
 status_of NoMemory = 3
 status_of NotUnderstood = 4
 
--- the last line on standard error, without its line feed; none after a good end, nor behind the text on words that were not
--- understood
+-- the last line on standard error, without its line feed; none at success, nor where the usage stands in its place
 abbrev pub last_line : ExitReason → List ℕ
 last_line Success = []
 last_line ReadFailed = codes "pl0dap: read failed"

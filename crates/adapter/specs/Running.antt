@@ -1,51 +1,88 @@
--- What the program does with the words of its command line, and how it ends.
-use Rattle.std.specs.Prelude.{◌≡◌, ◌⊎◌, ◌<◌, ℕ, List, [], ◌∷◌, Some, None, Result, Ok, Err}
+-- What the program does with its arguments, and how it ends.
+use Rattle.std.specs.Prelude.{◌≡◌, ◌⊎◌, ℕ, List, [], ◌∷◌, ◌++◌, Some, None, Result, Ok, Err}
 use Rattle.clap.specs.Words.{Text}
 use Rattle.clap.specs.declared.error.kind.ErrorKind.TheVariants.{DisplayHelp}
 use Rattle.dap_session.specs.Ports.{Load}
+use Rattle.adapter.specs.declared.arguments.ArgumentsFault.TheVariants as fault
+use Rattle.adapter.specs.declared.arguments.TheConstants.{HELP, USAGE}
 use Rattle.adapter.specs.declared.checking.CheckFault.{CheckFault}
 use Rattle.adapter.specs.declared.exit_reason.ExitReason.{ExitReason}
 use Rattle.adapter.specs.declared.exit_reason.ExitReason.TheVariants.{Success, WriteFailed, NoMemory, NotUnderstood}
-use Rattle.adapter.specs.declared.arguments.ArgumentsFault.TheVariants as fault
 use Rattle.adapter.specs.declared.serving.Served.{Served}
 use Rattle.adapter.specs.declared.serving.ServeFault.{ServeFault}
-use Rattle.adapter.specs.Checking.{IsChecked}
-use Rattle.adapter.specs.ExitReasons.{reason_of_serve, reason_of_check}
 use Rattle.adapter.specs.Arguments.{Reads, IsParsed, refusals}
+use Rattle.adapter.specs.Checking.{IsChecked}
+use Rattle.adapter.specs.ExitReasons.{reason_of_serve, reason_of_check, last_line}
+use Rattle.adapter.specs.Listing.{line_feed}
 use Rattle.adapter.specs.Serving.{Streams, IsServed, IsFailed}
+use Rattle.adapter.specs.Transfer.{Output, output, WritesAll, FailsIn, Says}
 
 -- how serving went, well or not
 abbrev pub HasServed : Result Served ServeFault → Streams → Streams → Type 0
 HasServed (Ok how) old later = IsServed how old later
 HasServed (Err why) old later = IsFailed why old later
 
--- A client was served, and the ending tells how that went.
-pub record EndsServing (ending : ExitReason) (old later : Streams) : Type 0 where
+-- A client was served, and the reason says how that went.
+pub record EndsServing (reason : ExitReason) (old later : Streams) : Type 0 where
   pub outcome : Result Served ServeFault
   pub served : HasServed outcome old later
-  pub ending_is : ending ≡ reason_of_serve outcome
+  pub reason_is : reason ≡ reason_of_serve outcome
 
--- The file was judged that one loader, asked for nothing before, gave for the path, and the ending tells how that went.
-pub record EndsChecking (path : Text) (ending : ExitReason) (old later : Streams) : Type 0 where
+-- nothing was read
+abbrev pub KeepsInput : Streams → Streams → Type 0
+KeepsInput old later = (later.left ≡ old.left) × (later.read_failures ≡ old.read_failures)
+
+abbrev pub output_of : Streams → Output
+output_of streams = output streams.written streams.write_failures
+
+-- The file at the path was judged, and the reason says how that went.
+pub record EndsChecking (path : Text) (reason : ExitReason) (loads later_loads : List Load) (old later : Streams) : Type 0 where
   pub outcome : Result (Unit {0}) CheckFault
-  pub loaded : List Load
-  pub checked : IsChecked path outcome [] loaded old.write_failures later.write_failures
-  pub ending_is : ending ≡ reason_of_check outcome
+  pub checked : IsChecked path outcome loads later_loads (output_of old) (output_of later)
+  pub input : KeepsInput old later
+  pub reason_is : reason ≡ reason_of_check outcome
 
--- The help was written, or the output failed, or memory was refused.
-abbrev pub EndsHelping : ExitReason → ℕ → ℕ → Type 0
-EndsHelping ending failures later =
-    (ending ≡ Success) ⊎ (((ending ≡ WriteFailed) × (failures < later)) ⊎ (ending ≡ NoMemory))
+-- The help was written, or the output failed.
+abbrev pub EndsHelping : ExitReason → Output → Output → Type 0
+EndsHelping reason before after =
+    ((reason ≡ Success) × WritesAll HELP.now before after) ⊎ ((reason ≡ WriteFailed) × FailsIn HELP.now before after)
 
--- The words ask for no client to be served, nor for a file or for help, or memory was refused where nobody is served.
+-- The arguments are not understood, or there was no memory to read them.
 abbrev pub EndsIdle : List Text → ExitReason → Type 0
-EndsIdle words ending =
-    ((ending ≡ NotUnderstood) × IsParsed words (Err fault.NotUnderstood)) ⊎ (ending ≡ NoMemory)
+EndsIdle arguments reason =
+    ((reason ≡ NotUnderstood) × IsParsed arguments (Err fault.NotUnderstood)) ⊎ (reason ≡ NoMemory)
 
--- the words ask for one of these, and it was done
-abbrev pub Runs : List Text → ExitReason → Streams → Streams → Type 0
-Runs words ending old later =
-    (Reads words None × EndsServing ending old later)
-    ⊎ (((path : Text) × Reads words (Some path) × EndsChecking path ending old later)
-    ⊎ (((refusals words ≡ DisplayHelp ∷ []) × EndsHelping ending old.write_failures later.write_failures)
-    ⊎ ((later ≡ old) × EndsIdle words ending)))
+-- The arguments ask for one of these, and it was done.
+abbrev pub Performs : List Text → ExitReason → List Load → List Load → Streams → Streams → Type 0
+Performs arguments reason loads later_loads old later =
+    (Reads arguments None × EndsServing reason old later × (later_loads ≡ loads))
+    ⊎ (((path : Text) × Reads arguments (Some path) × EndsChecking path reason loads later_loads old later)
+    ⊎ (((refusals arguments ≡ DisplayHelp ∷ []) × EndsHelping reason (output_of old) (output_of later) × KeepsInput old later × (later_loads ≡ loads))
+    ⊎ ((later ≡ old) × EndsIdle arguments reason × (later_loads ≡ loads))))
+
+-- what is said of arguments that are not understood: some message, and then the usage
+abbrev pub IsUsage : List ℕ → Type 0
+IsUsage text = (message : List ℕ) × (text ≡ message ++ USAGE.now)
+
+-- What is written to standard error: nothing at status 0, the usage at status 4, else the last line.
+abbrev pub Reports : ExitReason → Output → Output → Type 0
+Reports Success before after = after ≡ before
+Reports NotUnderstood before after = (text : List ℕ) × IsUsage text × Says text before after
+Reports reason before after = Says (last_line reason ++ line_feed) before after
+
+-- The program did what the arguments ask for, ended as that went, and said so on standard error.
+pub record Executes (arguments : List Text) (reason : ExitReason) (loads later_loads : List Load) (old later : Streams) (errors later_errors : Output) : Type 0 where
+  pub performs : Performs arguments reason loads later_loads old later
+  pub reports : Reports reason errors later_errors
+
+-- The system gave no arguments, or none that are text, or there was no memory for them.
+pub record GetsNoArguments (reason : ExitReason) (old later : Streams) (errors later_errors : Output) : Type 0 where
+  pub reason_is : reason ≡ NoMemory
+  pub kept : later ≡ old
+  pub reports : Reports reason errors later_errors
+
+-- The program ran on the arguments that the system gave, with a loader that was asked for nothing before.
+abbrev pub Runs : ExitReason → Streams → Streams → Output → Output → Type 0
+Runs reason old later errors later_errors =
+    ((arguments : List Text) × (loads : List Load) × Executes arguments reason [] loads old later errors later_errors)
+    ⊎ GetsNoArguments reason old later errors later_errors

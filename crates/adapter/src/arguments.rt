@@ -28,20 +28,32 @@ pub enum ArgumentsFault {
     NoMemory,
 }
 
-const ABOUT: &str = "A debug adapter for PL/0, which speaks the Debug Adapter Protocol.";
+/// What `--help` prints.
+pub const HELP: &str = "A debug adapter for PL/0, which speaks the Debug Adapter Protocol.
 
-const USAGE: &str = "pl0dap [--check FILE]";
+Usage: pl0dap [--check FILE]
 
-const AFTER_HELP: &str =
-    "An editor starts pl0dap with no arguments, and speaks the protocol over its standard
+Options:
+      --check <FILE>  Print the steps and code of the program in FILE, and exit
+  -h, --help          Print help
+
+An editor starts pl0dap with no arguments, and speaks the protocol over its standard
 input and output.
 
 Exit status:
   0  the client disconnected, its input ended, or the listing or help was printed
   1  reading or writing failed
   2  the input was not framed as the protocol asks
-  3  another refusal, such as a fault in FILE or out of memory
-  4  the command line was not understood";
+  3  another refusal, such as a fault in FILE, or out of memory
+  4  the command line was not understood
+";
+
+/// What is said last of arguments that were not understood.
+pub const USAGE: &str = "
+Usage: pl0dap [--check FILE]
+
+For more information, try '--help'.
+";
 
 /// Reads the arguments, of which the first is the program's name: none after it is `Serve`, and `--check FILE` or
 /// `--check=FILE` is `Check`.
@@ -72,23 +84,18 @@ pub fn parse_arguments<'a>(
     }
 }
 
-/// The text of `--help`, for standard output. It ends its last line.
-pub fn help(alloc: Global) -> Result<String, AllocError> {
-    command_line(alloc)?.render_help()
-}
-
-/// What of the arguments `parse_arguments` did not understand, with a hint and the usage, for standard error. It ends its
-/// last line. Of arguments that are understood it is the usage alone.
-pub fn usage(alloc: Global, arguments: &[&str]) -> Result<String, AllocError> {
+/// What of the arguments `parse_arguments` did not understand, in a line or more, which may come with a hint; nothing of
+/// arguments that it understands.
+pub(crate) fn objection(alloc: Global, arguments: &[&str]) -> Result<String, AllocError> {
     let command = command_line(alloc)?;
-    match command.try_get_matches_from(arguments) {
-        Ok(_matches) => format!(in alloc; "Usage: {USAGE}\n"),
-        Err(error) => {
-            if error.kind() == ErrorKind::OutOfMemory {
-                return Err(AllocError);
-            }
-            format!(in alloc; "{error}")
-        }
+    let Err(error) = command.try_get_matches_from(arguments) else {
+        return Ok(String::new(alloc));
+    };
+    // What `clap` says ends in a usage of its own.
+    let text = error.to_string(alloc)?;
+    match text.as_str().split_once("\nUsage: ") {
+        Some((message, _usage)) => String::from_str(alloc, message),
+        None => Ok(text),
     }
 }
 
@@ -98,11 +105,6 @@ fn command_line<'a>(alloc: Global) -> Result<Command<'a>, AllocError>
     let check = Arg::new(alloc, "check")
         .long("check")
         .action(ArgAction::Set)
-        .value_name("FILE")
-        .help("Print the steps and code of the program in FILE, and exit");
-    Command::new(alloc, "pl0dap")
-        .about(ABOUT)
-        .override_usage(USAGE)
-        .after_help(AFTER_HELP)
-        .arg(check)
+        .value_name("FILE");
+    Command::new(alloc, "pl0dap").arg(check)
 }

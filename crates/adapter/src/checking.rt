@@ -1,6 +1,9 @@
 //! Judging a program text: its listing, or its first fault.
 
-ghost use Rattle.adapter.specs.Checking.{IsChecked};
+ghost use Rattle.std.specs.Prelude.{string_bytes, IfOk, IfErr};
+ghost use Rattle.pl0_tree.specs.Faults.{IsFirstFault, FaultIs};
+ghost use Rattle.adapter.specs.Checking.{IsChecked, IsListingOf};
+ghost use Rattle.adapter.specs.Transfer.{output as output_at};
 
 use crate::listing::listing;
 use crate::streams::Sink;
@@ -9,7 +12,7 @@ use dap_session::{LoadFault, Loader};
 use pl0_code::compile;
 use pl0_syntax::parse;
 use pl0_tree::{FaultKind, Place, SyntaxFault};
-use std::alloc::Global;
+use std::alloc::{AllocError, Global};
 use std::sync::Wait;
 
 /// Why no listing was written.
@@ -21,15 +24,15 @@ pub enum CheckFault {
     Syntax { kind: FaultKind, place: Place },
     /// The output failed. A beginning of the listing may be written.
     WriteFailed,
-    /// A growth was refused.
+    /// Memory ran out.
     NoMemory,
 }
 
-/// Writes the listing of the program text in a file. The loader is asked once.
+/// Writes the listing of the program text in a file, once. The loader is asked once, for this path.
 ///
 /// # Errors
 ///
-/// Nothing is written but at `WriteFailed`.
+/// Nothing was written, but at `WriteFailed` a beginning of the listing.
 pub fn check<R: Wait, L: Loader, O: Sink>(
     rt: &R,
     alloc: Global,
@@ -37,27 +40,38 @@ pub fn check<R: Wait, L: Loader, O: Sink>(
     loader: &mut L,
     output: &mut O,
 ) -> Result<(), CheckFault>
-    ensures { IsChecked path.now result (L.loaded loader.old) (L.loaded loader.new) (O.failures output.old) (O.failures output.new) }
+    ensures { IsChecked path.now result (L.loaded loader.old) (L.loaded loader.new)
+        (output_at (O.written output.old) (O.failures output.old))
+        (output_at (O.written output.new) (O.failures output.new)) }
 {
     let text = match loader.load(path) {
         Ok(text) => text,
         Err(LoadFault::CannotRead) => return Err(CheckFault::CannotRead),
         Err(LoadFault::NoMemory) => return Err(CheckFault::NoMemory),
     };
-    let tree = match parse(alloc, text.as_slice()) {
-        Ok(tree) => tree,
+    let listing = match list(alloc, text.as_slice()) {
+        Ok(listing) => listing,
         Err(SyntaxFault::InText { kind, place }) => return Err(CheckFault::Syntax { kind, place }),
         Err(SyntaxFault::NoMemory) => return Err(CheckFault::NoMemory),
-    };
-    let Ok(unit) = compile(alloc, tree) else {
-        return Err(CheckFault::NoMemory);
-    };
-    let Ok(listing) = listing(alloc, &unit) else {
-        return Err(CheckFault::NoMemory);
     };
     if write_all(rt, output, listing.as_bytes()) {
         Ok(())
     } else {
         Err(CheckFault::WriteFailed)
+    }
+}
+
+/// The listing of a program text, or its first fault.
+fn list(alloc: Global, text: &[u8]) -> Result<String, SyntaxFault>
+    ensures ok { IfOk result (λ listing. IsListingOf text.now (string_bytes listing)) }
+    ensures err { IfErr result (FaultIs (IsFirstFault text.now)) }
+{
+    let tree = parse(alloc, text)?;
+    let Ok(unit) = compile(alloc, tree) else {
+        return Err(SyntaxFault::NoMemory);
+    };
+    match listing(alloc, &unit) {
+        Ok(listing) => Ok(listing),
+        Err(AllocError) => Err(SyntaxFault::NoMemory),
     }
 }

@@ -1,18 +1,18 @@
-//! How a run ends: the exit status, and the last line on standard error.
+//! Why a run ends: the exit status, and the last line on standard error.
 
 ghost use Rattle.std.specs.Prelude.{◌≡◌, Some};
 ghost use Rattle.adapter.specs.ExitReasons.{reason_of_serve, reason_of_session, reason_of_framing, reason_of_check, reason_of_arguments, fault_number, status_of};
 
-use crate::checking::CheckFault;
 use crate::arguments::ArgumentsFault;
+use crate::checking::CheckFault;
 use crate::serving::{ServeFault, Served};
 use dap_frame::FrameFault;
 use dap_session::SessionFault;
 use pl0_tree::{FaultKind, Place};
 use std::fmt;
 
-/// How a run of the program ends. `Display` writes the last line on standard error, without its line feed; nothing
-/// after a good end, nor where the words were not understood, which has a text of its own.
+/// Why a run of the program ends. `Display` writes the last line on standard error, without its line feed; nothing at
+/// `Success`, nor at `NotUnderstood`, of which standard error gets the usage.
 #[derive(Clone, Copy, Debug, PartialEq, Eq)]
 pub enum ExitReason {
     /// All went well.
@@ -29,15 +29,15 @@ pub enum ExitReason {
     CannotRead,
     /// The first fault of the text that was judged, by its number, and where it stands.
     Syntax { number: u8, place: Place },
-    /// Memory was refused where nobody is served.
+    /// Memory ran out where nobody is served.
     NoMemory,
-    /// The words of the command line were not understood.
+    /// The command line was not understood.
     NotUnderstood,
 }
 
 impl ExitReason {
-    /// The exit status: 0 after a good end, 1 where reading or writing failed, 2 after a framing fault, 3 after any
-    /// other refusal, 4 where the words were not understood.
+    /// The exit status: 0 at success, 1 where reading or writing failed, 2 after a framing fault, 3 after any other
+    /// refusal, 4 where the command line was not understood.
     pub fn status(self) -> u8
         ensures { result ≡ status_of self }
     {
@@ -55,7 +55,7 @@ impl fmt::Display for ExitReason {
     ghost use Rattle.std.specs.Prelude.{Some};
     ghost use Rattle.adapter.specs.ExitReasons.{last_line};
 
-    ghost output = { λ ending. Some (last_line ending) };
+    ghost output = { λ reason. Some (last_line reason) };
 
     fn fmt<W: fmt::Write>(&self, f: &mut fmt::Formatter<W>) -> fmt::Result {
         match self {
@@ -111,7 +111,7 @@ fn number_of(kind: FaultKind) -> u8
     }
 }
 
-/// How the program ends where the words of its command line name no mode.
+/// How the program ends where its arguments name no invocation.
 pub fn end_of_arguments(fault: ArgumentsFault) -> ExitReason
     ensures { result ≡ reason_of_arguments fault }
 {

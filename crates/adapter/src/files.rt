@@ -3,18 +3,21 @@
 ghost use Rattle.std.specs.Prelude.{◌≡◌, []};
 ghost use Rattle.adapter.specs.Loading.{loads};
 
+use crate::streams::{IoFault, Reading, Source};
+use crate::transfer::ROOM;
 use dap_session::{LoadFault, Loader};
 use std::alloc::Global;
 use std::fs;
-use std::io::{ErrorKind, Read};
+use std::io::ErrorKind;
 use std::rt::Files;
+use std::sync::Wait;
 
 /// The most bytes of a file that are given: one more than a program's text may have, so that a longer one shows.
 const MOST: usize = 65_537;
 
 /// Loads files of the system, and keeps what it was asked for and what it gave.
 #[derive(Drop)]
-pub struct FileLoader<'a, R: Files> {
+pub struct FileLoader<'a, R: Files + Wait> {
     rt: &'a R,
     alloc: Global,
     given: Vec<Given>,
@@ -27,7 +30,7 @@ struct Given {
     answer: Result<Vec<u8>, LoadFault>,
 }
 
-impl<'a, R: Files> FileLoader<'a, R> {
+impl<'a, R: Files + Wait> FileLoader<'a, R> {
     /// A loader that was asked for nothing yet.
     pub fn new(rt: &'a R, alloc: Global) -> FileLoader<'a, R>
         ensures { loads result.given.items ≡ [] }
@@ -40,7 +43,7 @@ impl<'a, R: Files> FileLoader<'a, R> {
     }
 }
 
-impl<R: Files> Loader for FileLoader<'_, R> {
+impl<R: Files + Wait> Loader for FileLoader<'_, R> {
     ghost use Rattle.adapter.specs.Loading.{loads};
 
     ghost loaded = { λ loader. loads loader.given.items };
@@ -49,7 +52,7 @@ impl<R: Files> Loader for FileLoader<'_, R> {
         let Ok(asked) = String::from_str(self.alloc, path) else {
             return Err(LoadFault::NoMemory);
         };
-        match beginning(self.rt, self.alloc, path) {
+        match read_file(self.rt, self.alloc, path) {
             Ok(bytes) => {
                 let Ok(copy) = Vec::from_slice(self.alloc, bytes.as_slice()) else {
                     return Err(LoadFault::NoMemory);
@@ -74,23 +77,54 @@ impl<R: Files> Loader for FileLoader<'_, R> {
     }
 }
 
-ghost use Rattle.std.specs.Prelude.{◌≤◌, length, IfOk};
+ghost use Rattle.std.specs.Prelude.{◌<◌, ◌≤◌, length, Err, IfOk, OnOk};
+ghost use Rattle.adapter.specs.Transfer.{BeginsWith};
+ghost use Rattle.dap_session.specs.declared.ports.LoadFault.TheVariants.{CannotRead, NoMemory};
 
-/// The file's bytes, the first `MOST` of them where it has more.
-fn beginning<R: Files>(rt: &R, alloc: Global, path: &str) -> Result<Vec<u8>, LoadFault>
+/// The first bytes of a file, `MOST` of them where it has more.
+fn read_file<R: Files + Wait>(rt: &R, alloc: Global, path: &str) -> Result<Vec<u8>, LoadFault>
     ensures { IfOk result (λ bytes. length bytes.items ≤ 65537) }
 {
-    let mut bytes = Vec::new(alloc);
-    let outcome = match fs::open(rt, path) {
-        Ok(file) => file.take(MOST as u64).read_to_end(&mut bytes),
-        Err(error) => Err(error),
-    };
-    match outcome {
-        Ok(_) => {
-            bytes.truncate(MOST);
-            Ok(bytes)
-        }
+    match fs::open(rt, path) {
+        Ok(file) => read_beginning(rt, alloc, &mut Reading::new(rt, file)),
         Err(error) if error.kind() == ErrorKind::OutOfMemory => Err(LoadFault::NoMemory),
         Err(_) => Err(LoadFault::CannotRead),
     }
+}
+
+/// The first bytes of a source, 65,537 of them where it has more, and else all up to its end. An interrupted read is tried
+/// again.
+///
+/// # Errors
+///
+/// `CannotRead` where a read failed, and `NoMemory`.
+pub fn read_beginning<R: Wait, S: Source>(
+    rt: &R,
+    alloc: Global,
+    source: &mut S,
+) -> Result<Vec<u8>, LoadFault>
+    ensures bytes { IfOk result (λ bytes. BeginsWith bytes.items (S.left source.old) (S.left source.new)) }
+    ensures short { IfOk result (λ bytes. length bytes.items ≤ 65537) }
+    ensures ok { OnOk result (S.failures source.new ≡ S.failures source.old) }
+    ensures cannot_read { result ≡ Err CannotRead → S.failures source.old < S.failures source.new }
+    ensures no_memory { result ≡ Err NoMemory → S.failures source.new ≡ S.failures source.old }
+{
+    let mut bytes = Vec::new(alloc);
+    let mut room = [0; ROOM];
+    for _ in rt.forever() {
+        if bytes.len() >= MOST {
+            bytes.truncate(MOST);
+            return Ok(bytes);
+        }
+        match source.read(&mut room) {
+            Ok(0) => return Ok(bytes),
+            Ok(count) => match bytes.extend_from_slice(&room[..count]) {
+                Ok(()) => {}
+                Err(_) => return Err(LoadFault::NoMemory),
+            },
+            Err(IoFault::Failed) => return Err(LoadFault::CannotRead),
+            Err(IoFault::Interrupted) => {}
+        }
+    }
+    unreachable!()
 }

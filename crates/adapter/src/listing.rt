@@ -1,62 +1,128 @@
 //! The listing of a program: its steps, an empty line, and its code.
 
-use pl0_code::{Instruction, Unit};
+ghost use Rattle.std.specs.Prelude.{◌≡◌, ◌++◌, string_bytes, slice_get, IfOk, OnOk};
+ghost use Rattle.pl0_tree.specs.Plain.{plain_block};
+ghost use Rattle.pl0_tree.specs.Steps.{steps};
+ghost use Rattle.adapter.specs.Listing.{listing_text, lines_from, step_line, kind_name, instruction_line, instruction_text, operation_number, begun_by, begun_text};
+
+use pl0_code::{Instruction, Operation, Unit};
 use pl0_tree::{Step, StepKind, StepNo};
 use std::alloc::{AllocError, Global};
 
-/// A line for each step: number, line, column and kind. Behind an empty line a line for each instruction: number, name,
-/// level and address, and ` @n` where it begins step n.
-pub fn listing(alloc: Global, unit: &Unit) -> Result<String, AllocError> {
+/// The listing of a program: a line for each step, with its number, line, column and kind; an empty line; and a line for
+/// each instruction, with its number, name, level and address, and ` @n` where it begins step n.
+pub fn listing(alloc: Global, unit: &Unit) -> Result<String, AllocError>
+    ensures { IfOk result (λ text. string_bytes text
+        ≡ listing_text (steps (plain_block unit.now.tree.program)) unit.now.code.items unit.now.lines.items) }
+{
     let mut text = String::new(alloc);
-    for (number, step) in unit.steps.iter().enumerate() {
-        write_step(&mut text, number, *step)?;
-    }
+    write_steps(&mut text, unit.steps.as_slice())?;
     text.push_str("\n")?;
-    for (number, instruction) in unit.code.iter().enumerate() {
-        write_instruction(&mut text, number, *instruction)?;
-        write_begun(&mut text, unit.lines.get(number).copied().flatten())?;
-    }
+    write_code(&mut text, unit.code.as_slice(), unit.lines.as_slice())?;
     Ok(text)
 }
 
-fn write_step(text: &mut String, number: StepNo, step: Step) -> Result<(), AllocError> {
-    let kind = match step.kind {
+fn write_steps(text: &mut String, steps: &[Step]) -> Result<(), AllocError>
+    ensures { OnOk result (string_bytes text.new
+        ≡ string_bytes text.old ++ lines_from (λ n s. step_line n s.kind s.place) 0 steps.now) }
+{
+    for (number, step) in steps.iter().enumerate() {
+        write_step(text, number, *step)?;
+    }
+    Ok(())
+}
+
+fn write_step(text: &mut String, number: StepNo, step: Step) -> Result<(), AllocError>
+    ensures { OnOk result (string_bytes text.new ≡ string_bytes text.old ++ step_line number step.kind step.place) }
+{
+    let kind = name_of_kind(step.kind);
+    let line = step.place.line;
+    let column = step.place.column;
+    writeln!(text, "{number} {line} {column} {kind}")
+}
+
+fn name_of_kind(kind: StepKind) -> &'static str
+    ensures { result.now ≡ kind_name kind }
+{
+    match kind {
         StepKind::Assign => "assign",
         StepKind::Call => "call",
         StepKind::Write => "write",
         StepKind::If => "if",
         StepKind::While => "while",
         StepKind::Return => "return",
-    };
-    let line = step.place.line;
-    let column = step.place.column;
-    writeln!(text, "{number} {line} {column} {kind}")
+    }
+}
+
+/// The instructions, each with the step beside it that it begins.
+fn write_code(
+    text: &mut String,
+    code: &[Instruction],
+    begun: &[Option<StepNo>],
+) -> Result<(), AllocError>
+    ensures { OnOk result (string_bytes text.new ≡ string_bytes text.old
+        ++ lines_from (λ n i. instruction_line n i (begun_by (slice_get begun.now n))) 0 code.now) }
+{
+    for (number, instruction) in code.iter().enumerate() {
+        write_instruction(text, number, *instruction, step_begun(begun, number))?;
+    }
+    Ok(())
+}
+
+/// The step that an instruction begins.
+fn step_begun(begun: &[Option<StepNo>], number: usize) -> Option<StepNo>
+    ensures { result ≡ begun_by (slice_get begun.now number) }
+{
+    match begun.get(number) {
+        Some(step) => *step,
+        None => None,
+    }
 }
 
 fn write_instruction(
     text: &mut String,
     number: usize,
     instruction: Instruction,
-) -> Result<(), AllocError> {
+    begins: Option<StepNo>,
+) -> Result<(), AllocError>
+    ensures { OnOk result (string_bytes text.new ≡ string_bytes text.old ++ instruction_line number instruction begins) }
+{
+    write!(text, "{number} ")?;
+    write_operation(text, instruction)?;
+    write_begun(text, begins)?;
+    text.push_str("\n")
+}
+
+/// An instruction's name, level and address.
+fn write_operation(text: &mut String, instruction: Instruction) -> Result<(), AllocError>
+    ensures { OnOk result (string_bytes text.new ≡ string_bytes text.old ++ instruction_text instruction) }
+{
     match instruction {
-        Instruction::Literal(value) => write!(text, "{number} LIT 0 {value}"),
+        Instruction::Literal(value) => write!(text, "LIT 0 {value}"),
         Instruction::Operate(operation) => {
-            let operation = operation as u8;
-            write!(text, "{number} OPR 0 {operation}")
+            let number = number_of_operation(operation);
+            write!(text, "OPR 0 {number}")
         }
-        Instruction::Load { level, address } => write!(text, "{number} LOD {level} {address}"),
-        Instruction::Store { level, address } => write!(text, "{number} STO {level} {address}"),
-        Instruction::Call { level, address } => write!(text, "{number} CAL {level} {address}"),
-        Instruction::Enter(cells) => write!(text, "{number} INT 0 {cells}"),
-        Instruction::Jump(address) => write!(text, "{number} JMP 0 {address}"),
-        Instruction::JumpIfZero(address) => write!(text, "{number} JPC 0 {address}"),
+        Instruction::Load { level, address } => write!(text, "LOD {level} {address}"),
+        Instruction::Store { level, address } => write!(text, "STO {level} {address}"),
+        Instruction::Call { level, address } => write!(text, "CAL {level} {address}"),
+        Instruction::Enter(cells) => write!(text, "INT 0 {cells}"),
+        Instruction::Jump(address) => write!(text, "JMP 0 {address}"),
+        Instruction::JumpIfZero(address) => write!(text, "JPC 0 {address}"),
     }
 }
 
-/// Ends the line of an instruction, with the step that it begins.
-fn write_begun(text: &mut String, begins: Option<StepNo>) -> Result<(), AllocError> {
+fn number_of_operation(operation: Operation) -> u8
+    ensures { result ≡ operation_number operation }
+{
+    operation as u8
+}
+
+fn write_begun(text: &mut String, begins: Option<StepNo>) -> Result<(), AllocError>
+    ensures { OnOk result (string_bytes text.new ≡ string_bytes text.old ++ begun_text begins) }
+{
     match begins {
-        Some(step) => writeln!(text, " @{step}"),
-        None => text.push_str("\n"),
+        Some(step) => write!(text, " @{step}"),
+        None => Ok(()),
     }
 }

@@ -1,10 +1,10 @@
 //! The session's ports in one thread.
-ghost use Rattle.std.specs.Prelude.{◌≡◌, ◌+◌};
 
+use crate::counting::next_count;
 use dap_session::{Order, OrderFault, Orders, Out};
 use std::sync::Wait;
 
-/// Frames in the order in which they were put. Want of memory for one more is a refusal.
+/// Frames in the order in which they were put. Where memory runs out for one more, it is refused.
 #[derive(Drop)]
 pub struct FramesPut<'a, R: Wait> {
     pub rt: &'a R,
@@ -26,18 +26,6 @@ impl<R: Wait> Out for FramesPut<'_, R> {
             }
         }
     }
-}
-
-/// One more. It waits for good where no count is left.
-fn next_count(rt: &impl Wait, count: u64) -> u64
-    ensures { result ≡ count + 1 }
-{
-    for _ in rt.forever() {
-        if let Some(next) = count.checked_add(1) {
-            return next;
-        }
-    }
-    unreachable!()
 }
 
 /// Where no runner is: orders are counted and dropped.

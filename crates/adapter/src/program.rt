@@ -1,19 +1,25 @@
-//! The program from the words of its command line to its end.
+//! The program from its arguments to its end.
 
-ghost use Rattle.std.specs.Prelude.{List, map};
-ghost use Rattle.clap.specs.Words.{Text};
-ghost use Rattle.adapter.specs.Running.{Runs, EndsServing, EndsHelping};
+ghost use Rattle.std.specs.Prelude.{◌≡◌, ◌++◌, ℕ, List, map, decimal};
+ghost use Rattle.adapter.specs.declared.exit_reason.ExitReason.TheVariants.{NoMemory, Syntax};
+ghost use Rattle.adapter.specs.ExitReasons.{last_line};
+ghost use Rattle.adapter.specs.Listing.{line_feed};
+ghost use Rattle.adapter.specs.Running.{Performs, Reports, Executes, Runs, EndsHelping, IsUsage};
 ghost use Rattle.adapter.specs.Serving.{streams};
+ghost use Rattle.adapter.specs.Transfer.{Says, output as output_at};
 
+use crate::arguments::{ArgumentsFault, HELP, Invocation, USAGE, objection, parse_arguments};
 use crate::checking::check;
-use crate::exit_reason::{ExitReason, end_of_check, end_of_serve, end_of_arguments};
+use crate::exit_reason::{ExitReason, end_of_arguments, end_of_check, end_of_serve};
 use crate::files::FileLoader;
-use crate::arguments::{ArgumentsFault, Invocation, help, parse_arguments, usage};
 use crate::serving::{Gate, serve};
 use crate::streams::{Sink, Source};
-use crate::transfer::write_all;
+use crate::transfer::{say, write_all};
+use dap_session::Loader;
+use itoa::Buffer;
 use log::sink::Console;
 use log::{Level, Logged, error};
+use pl0_tree::Place;
 use std::alloc::{AllocError, Global};
 use std::rt::{Env, Files};
 use std::sync::Wait;
@@ -27,111 +33,184 @@ impl Gate for OpenGate {
     fn pass(&mut self, _run: u64, _slice: u64) {}
 }
 
-/// Does what the words of the command line ask for over this input and output, and writes the last line on standard
-/// error where the ending has one. What is left to a `main` is to end with the ending's status.
-pub fn run<R: Wait + Env + Files + Eprint + AllocGlobal, I: Source, O: Sink>(
+/// Does what the arguments of this process ask for, as [`execute`] does, with the files of the system. What is left to a
+/// `main` is to end with the reason's status.
+pub fn run<R: Wait + Env + Files + Eprint + AllocGlobal, I: Source, O: Sink, E: Sink>(
     rt: &R,
     input: &mut I,
     output: &mut O,
+    errors: &mut E,
 ) -> ExitReason
-    // It does so for some words: what the system gives is nobody's to say.
-    ensures { (words : List Text) × Runs words result
+    // It does so for some arguments and some files: what the system gives, no contract can say.
+    ensures { Runs result
         (streams (I.left input.old) (I.failures input.old) (O.written output.old) (O.failures output.old))
-        (streams (I.left input.new) (I.failures input.new) (O.written output.new) (O.failures output.new)) }
+        (streams (I.left input.new) (I.failures input.new) (O.written output.new) (O.failures output.new))
+        (output_at (E.written errors.old) (E.failures errors.old))
+        (output_at (E.written errors.new) (E.failures errors.new)) }
 {
-    let ending = run_given(rt, input, output);
-    if 0 < ending.status() && ending.status() < 4 {
-        // Nobody is left to be told where standard error is closed too.
-        let _ = eprintln!(rt; "{ending}");
-    }
-    ending
+    let mut files = FileLoader::new(rt, rt.alloc());
+    let Ok(given) = given_arguments(rt) else {
+        return refuse_arguments(rt, errors);
+    };
+    let Ok(arguments) = texts(rt.alloc(), given.as_slice()) else {
+        return refuse_arguments(rt, errors);
+    };
+    execute(rt, arguments.as_slice(), &mut files, input, output, errors)
 }
 
-fn run_given<R: Wait + Env + Files + Eprint + AllocGlobal, I: Source, O: Sink>(
-    rt: &R,
-    input: &mut I,
-    output: &mut O,
-) -> ExitReason
-    ensures { (words : List Text) × Runs words result
-        (streams (I.left input.old) (I.failures input.old) (O.written output.old) (O.failures output.old))
-        (streams (I.left input.new) (I.failures input.new) (O.written output.new) (O.failures output.new)) }
-{
-    let Ok(given) = given_words(rt) else {
-        return ExitReason::NoMemory;
-    };
-    let Ok(words) = texts(rt.alloc(), given.as_slice()) else {
-        return ExitReason::NoMemory;
-    };
-    execute(rt, words.as_slice(), input, output)
-}
-
-/// The words of the command line, the program's name first.
-fn given_words(rt: &(impl Env + AllocGlobal)) -> io::Result<Vec<String>> {
+/// The arguments of this process, the program's name first.
+fn given_arguments(rt: &(impl Env + AllocGlobal)) -> io::Result<Vec<String>> {
     Ok(env::args(rt)?.collect(rt.alloc())?)
 }
 
-fn texts(alloc: Global, words: &[String]) -> Result<Vec<&str>, AllocError> {
-    words.iter().map(|word| word.as_str()).collect(alloc)
+fn texts(alloc: Global, arguments: &[String]) -> Result<Vec<&str>, AllocError> {
+    arguments
+        .iter()
+        .map(|argument| argument.as_str())
+        .collect(alloc)
 }
 
-/// Does what the words ask for, of which the first is the program's name. What it has to say on words that it doesn't
-/// understand goes to standard error.
-pub fn execute<R: Wait + Files + Eprint + AllocGlobal, I: Source, O: Sink>(
+/// Ends where there was no memory for the arguments.
+fn refuse_arguments<R: Wait + Eprint + AllocGlobal, E: Sink>(rt: &R, errors: &mut E) -> ExitReason
+    ensures reason { result ≡ NoMemory }
+    ensures reports { Reports result
+        (output_at (E.written errors.old) (E.failures errors.old))
+        (output_at (E.written errors.new) (E.failures errors.new)) }
+{
+    report(rt, &[], ExitReason::NoMemory, errors);
+    ExitReason::NoMemory
+}
+
+/// Does what the arguments ask for, of which the first is the program's name, and reports the end on `errors`: nothing at
+/// status 0, the usage at status 4, and else the last line. Where `errors` fails, nothing else changes.
+pub fn execute<R: Wait + Eprint + AllocGlobal, L: Loader, I: Source, O: Sink, E: Sink>(
     rt: &R,
-    words: &[&str],
+    arguments: &[&str],
+    loader: &mut L,
+    input: &mut I,
+    output: &mut O,
+    errors: &mut E,
+) -> ExitReason
+    ensures { Executes (map (λ argument. argument.now) arguments.entry.now) result (L.loaded loader.old) (L.loaded loader.new)
+        (streams (I.left input.old) (I.failures input.old) (O.written output.old) (O.failures output.old))
+        (streams (I.left input.new) (I.failures input.new) (O.written output.new) (O.failures output.new))
+        (output_at (E.written errors.old) (E.failures errors.old))
+        (output_at (E.written errors.new) (E.failures errors.new)) }
+{
+    let reason = perform(rt, arguments, loader, input, output);
+    report(rt, arguments, reason, errors);
+    reason
+}
+
+/// Does what the arguments ask for.
+fn perform<R: Wait + AllocGlobal, L: Loader, I: Source, O: Sink>(
+    rt: &R,
+    arguments: &[&str],
+    loader: &mut L,
     input: &mut I,
     output: &mut O,
 ) -> ExitReason
-    ensures { Runs (map (λ word. word.now) words.entry.now) result
+    ensures { Performs (map (λ argument. argument.now) arguments.entry.now) result (L.loaded loader.old) (L.loaded loader.new)
         (streams (I.left input.old) (I.failures input.old) (O.written output.old) (O.failures output.old))
         (streams (I.left input.new) (I.failures input.new) (O.written output.new) (O.failures output.new)) }
 {
-    match parse_arguments(rt.alloc(), words) {
-        Ok(Invocation::Serve) => serve_client(rt, input, output),
+    match parse_arguments(rt.alloc(), arguments) {
+        Ok(Invocation::Serve) => {
+            let outcome = serve(rt, rt.alloc(), input, output, loader, &mut OpenGate);
+            end_of_serve(&outcome)
+        }
         Ok(Invocation::Check(file)) => {
-            let mut files = FileLoader::new(rt, rt.alloc());
-            end_of_check(&check(rt, rt.alloc(), file, &mut files, output))
+            let outcome = check(rt, rt.alloc(), file, loader, output);
+            end_of_check(&outcome)
         }
         Err(ArgumentsFault::Help) => show_help(rt, output),
-        Err(ArgumentsFault::NotUnderstood) => {
-            if let Ok(text) = usage(rt.alloc(), words) {
-                let _ = eprint!(rt; "{text}");
-            }
-            end_of_arguments(ArgumentsFault::NotUnderstood)
-        }
-        Err(ArgumentsFault::NoMemory) => end_of_arguments(ArgumentsFault::NoMemory),
+        Err(fault) => end_of_arguments(fault),
     }
 }
 
-/// Serves the client, and logs why serving failed.
-fn serve_client<R: Wait + Files + Eprint + AllocGlobal, I: Source, O: Sink>(
-    rt: &R,
-    input: &mut I,
-    output: &mut O,
-) -> ExitReason
-    ensures { EndsServing result
-        (streams (I.left input.old) (I.failures input.old) (O.written output.old) (O.failures output.old))
-        (streams (I.left input.new) (I.failures input.new) (O.written output.new) (O.failures output.new)) }
+/// Writes the help.
+fn show_help<O: Sink>(rt: &impl Wait, output: &mut O) -> ExitReason
+    ensures { EndsHelping result
+        (output_at (O.written output.old) (O.failures output.old))
+        (output_at (O.written output.new) (O.failures output.new)) }
 {
-    let mut files = FileLoader::new(rt, rt.alloc());
-    let outcome = serve(rt, rt.alloc(), input, output, &mut files, &mut OpenGate);
-    if let Err(fault) = &outcome {
-        let notes = Logged::new(rt, Level::Error, Console(rt));
-        error!(notes; "serving ended with {fault:?}");
-    }
-    end_of_serve(&outcome)
-}
-
-/// Writes the help, or says why not.
-fn show_help<R: Wait + AllocGlobal, O: Sink>(rt: &R, output: &mut O) -> ExitReason
-    ensures { EndsHelping result (O.failures output.old) (O.failures output.new) }
-{
-    let Ok(text) = help(rt.alloc()) else {
-        return ExitReason::NoMemory;
-    };
-    if write_all(rt, output, text.as_bytes()) {
+    if write_all(rt, output, HELP.as_bytes()) {
         end_of_arguments(ArgumentsFault::Help)
     } else {
         ExitReason::WriteFailed
+    }
+}
+
+/// Logs the end, and says on `errors` what it has to say there.
+fn report<R: Wait + Eprint + AllocGlobal, E: Sink>(
+    rt: &R,
+    arguments: &[&str],
+    reason: ExitReason,
+    errors: &mut E,
+)
+    ensures { Reports reason
+        (output_at (E.written errors.old) (E.failures errors.old))
+        (output_at (E.written errors.new) (E.failures errors.new)) }
+{
+    log_end(rt, reason);
+    match reason {
+        ExitReason::Success => {}
+        ExitReason::ReadFailed => say(rt, errors, &["pl0dap: read failed\n"]),
+        ExitReason::WriteFailed => say(rt, errors, &["pl0dap: write failed\n"]),
+        ExitReason::Framing(number) => say_number(rt, errors, "pl0dap: frame ", number),
+        ExitReason::Refused(number) => say_number(rt, errors, "pl0dap: refused ", number),
+        ExitReason::CannotRead => say(rt, errors, &["pl0dap: cannot read\n"]),
+        ExitReason::Syntax { number, place } => say_syntax(rt, errors, number, place),
+        ExitReason::NoMemory => say(rt, errors, &["pl0dap: no memory\n"]),
+        ExitReason::NotUnderstood => say_usage(rt, errors, arguments),
+    }
+}
+
+/// At status 1 to 3 a note goes to the log, which stands before the last line.
+fn log_end<R: Eprint>(rt: &R, reason: ExitReason) {
+    if 0 < reason.status() && reason.status() < 4 {
+        let notes = Logged::new(rt, Level::Error, Console(rt));
+        error!(notes; "ended by {reason:?}");
+    }
+}
+
+fn say_number<E: Sink>(rt: &impl Wait, errors: &mut E, text: &str, number: u8)
+    ensures { Says (text.now ++ (decimal number ++ line_feed))
+        (output_at (E.written errors.old) (E.failures errors.old))
+        (output_at (E.written errors.new) (E.failures errors.new)) }
+{
+    let mut digits = Buffer::new();
+    say(rt, errors, &[text, digits.format(number), "\n"]);
+}
+
+fn say_syntax<E: Sink>(rt: &impl Wait, errors: &mut E, number: u8, place: Place)
+    ensures { Says (last_line (Syntax number place) ++ line_feed)
+        (output_at (E.written errors.old) (E.failures errors.old))
+        (output_at (E.written errors.new) (E.failures errors.new)) }
+{
+    let mut digits = Buffer::new();
+    let mut line = Buffer::new();
+    let mut column = Buffer::new();
+    let texts = [
+        "pl0dap: syntax ",
+        digits.format(number),
+        " ",
+        line.format(place.line),
+        " ",
+        column.format(place.column),
+        "\n",
+    ];
+    say(rt, errors, &texts);
+}
+
+/// Says what was wrong with the arguments, where there is memory for it, and then the usage.
+fn say_usage<R: Wait + AllocGlobal, E: Sink>(rt: &R, errors: &mut E, arguments: &[&str])
+    ensures { (text : List ℕ) × IsUsage text × Says text
+        (output_at (E.written errors.old) (E.failures errors.old))
+        (output_at (E.written errors.new) (E.failures errors.new)) }
+{
+    match objection(rt.alloc(), arguments) {
+        Ok(message) => say(rt, errors, &[message.as_str(), USAGE]),
+        Err(AllocError) => say(rt, errors, &[USAGE]),
     }
 }

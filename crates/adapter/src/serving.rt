@@ -15,7 +15,7 @@ pub enum Served {
     InputEnded,
 }
 
-/// Why serving failed. Of several reasons the first named here is told.
+/// Why serving failed. Of several reasons the first named here is given.
 #[derive(Clone, Copy, Debug, PartialEq, Eq)]
 pub enum ServeFault {
     WriteFailed,

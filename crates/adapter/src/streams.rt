@@ -1,7 +1,9 @@
 //! Bytes in and bytes out.
-ghost use Rattle.std.specs.Prelude.{◌≡◌, ◌<◌};
+ghost use Rattle.std.specs.Prelude.{◌≡◌, ◌≢◌, ◌+◌};
 
+use crate::counting::next_count;
 use std::io::{self, ErrorKind, Read, Write};
+use std::sync::Wait;
 
 /// Why a read or a write did nothing.
 #[derive(Clone, Copy, Debug, PartialEq, Eq)]
@@ -54,86 +56,111 @@ pub trait Sink {
         ensures interrupted { result ≡ Err Interrupted → failures self.new ≡ failures self.old };
 }
 
-/// A source over std's `Read`.
+/// A source over std's `Read`. It waits for good where a failure could not be counted any more.
 #[derive(Drop)]
-pub struct Reading<R: Read + Drop> {
-    inner: R,
+pub struct Reading<'a, R: Wait, I: Read + Drop> {
+    rt: &'a R,
+    inner: I,
     failures: u64,
 }
 
-impl<R: Read + Drop> Reading<R> {
-    pub fn new(inner: R) -> Reading<R>
-        ensures { result ≡ record { inner = inner; failures = 0 } }
+impl<'a, R: Wait, I: Read + Drop> Reading<'a, R, I> {
+    /// A source of which no read failed yet.
+    pub fn new(rt: &'a R, inner: I) -> Reading<'a, R, I>
+        ensures inner { result.inner ≡ inner }
+        ensures failures { result.failures ≡ 0 }
     {
-        Reading { inner, failures: 0 }
+        Reading {
+            rt,
+            inner,
+            failures: 0,
+        }
     }
 }
 
-impl<R: Read + Drop> Source for Reading<R> {
-    ghost left = { λ s. R.remaining s.inner };
+impl<R: Wait, I: Read + Drop> Source for Reading<'_, R, I> {
+    ghost left = { λ s. I.remaining s.inner };
 
     ghost failures = { λ s. s.failures };
 
     fn read(&mut self, room: &mut [u8]) -> Result<usize, IoFault> {
         match self.inner.read(room) {
             Ok(count) => Ok(count),
-            Err(error) => Err(counted(&error, &mut self.failures)),
+            Err(error) => {
+                let fault = io_fault(&error);
+                self.failures = counted(self.rt, fault, self.failures);
+                Err(fault)
+            }
         }
     }
 }
 
-/// A sink over std's `Write`. It doesn't flush: standard output has no buffer of its own here.
+/// A sink over std's `Write`. It doesn't flush: standard output has no buffer of its own here. It waits for good where a
+/// failure could not be counted any more.
 #[derive(Drop)]
-pub struct Writing<W: Write + Drop> {
-    inner: W,
+pub struct Writing<'a, R: Wait, O: Write + Drop> {
+    rt: &'a R,
+    inner: O,
     failures: u64,
 }
 
-impl<W: Write + Drop> Writing<W> {
-    pub fn new(inner: W) -> Writing<W>
-        ensures { result ≡ record { inner = inner; failures = 0 } }
+impl<'a, R: Wait, O: Write + Drop> Writing<'a, R, O> {
+    /// A sink of which no write failed yet.
+    pub fn new(rt: &'a R, inner: O) -> Writing<'a, R, O>
+        ensures inner { result.inner ≡ inner }
+        ensures failures { result.failures ≡ 0 }
     {
-        Writing { inner, failures: 0 }
+        Writing {
+            rt,
+            inner,
+            failures: 0,
+        }
     }
 }
 
-impl<W: Write + Drop> Sink for Writing<W> {
-    ghost written = { λ s. W.contents s.inner };
+impl<R: Wait, O: Write + Drop> Sink for Writing<'_, R, O> {
+    ghost written = { λ s. O.contents s.inner };
 
     ghost failures = { λ s. s.failures };
 
     fn write(&mut self, bytes: &[u8]) -> Result<usize, IoFault> {
         match self.inner.write(bytes) {
-            Ok(0) if !bytes.is_empty() => Err(count_failure(&mut self.failures)),
+            Ok(0) if !bytes.is_empty() => {
+                self.failures = next_count(self.rt, self.failures);
+                Err(IoFault::Failed)
+            }
             Ok(count) => Ok(count),
-            Err(error) => Err(counted(&error, &mut self.failures)),
+            Err(error) => {
+                let fault = io_fault(&error);
+                self.failures = counted(self.rt, fault, self.failures);
+                Err(fault)
+            }
         }
     }
 }
 
+ghost use Rattle.std.specs.IoError.{error_kind};
+ghost use Rattle.std.specs.declared.io.ErrorKind.TheVariants as kind;
 ghost use Rattle.adapter.specs.declared.streams.IoFault.TheVariants.{Failed, Interrupted};
 
-/// The fault that an error of std is; a failure is counted.
-fn counted(error: &io::Error, failures: &mut u64) -> IoFault
-    ensures failed { result ≡ Failed → failures.old < failures.new }
-    ensures interrupted { result ≡ Interrupted → failures.new ≡ failures.old }
+/// The fault that an error of std is: an interruption exactly where that is its kind.
+fn io_fault(error: &io::Error) -> IoFault
+    ensures interrupted { result ≡ Interrupted → error_kind error.now ≡ kind.Interrupted }
+    ensures failed { result ≡ Failed → error_kind error.now ≢ kind.Interrupted }
 {
-    if error.kind() == ErrorKind::Interrupted {
-        return IoFault::Interrupted;
+    match error.kind() {
+        ErrorKind::Interrupted => IoFault::Interrupted,
+        _ => IoFault::Failed,
     }
-    count_failure(failures)
 }
 
-/// Counts a failure. The one that would be the 2^64th counts as an interruption, which says nothing and is tried again.
-fn count_failure(failures: &mut u64) -> IoFault
-    ensures failed { result ≡ Failed → failures.old < failures.new }
-    ensures interrupted { result ≡ Interrupted → failures.new ≡ failures.old }
+/// The count of failures after this fault.
+fn counted(rt: &impl Wait, fault: IoFault, failures: u64) -> u64
+    ensures failed { fault ≡ Failed → result ≡ failures + 1 }
+    ensures interrupted { fault ≡ Interrupted → result ≡ failures }
 {
-    match failures.checked_add(1) {
-        Some(count) => {
-            *failures = count;
-            IoFault::Failed
-        }
-        None => IoFault::Interrupted,
+    match fault {
+        IoFault::Failed => next_count(rt, failures),
+        IoFault::Interrupted => failures,
     }
 }

@@ -3,7 +3,7 @@ ghost use Rattle.std.specs.Prelude.{◌≡◌, ◌<◌, map, MatchBool};
 ghost use Rattle.std.specs.List.{concat};
 ghost use Rattle.std.specs.Io.KnownBytes.{Appends};
 ghost use Rattle.dap_session.specs.Events.{incoming_of};
-ghost use Rattle.adapter.specs.Transfer.{ComesFrom, AppendsPart};
+ghost use Rattle.adapter.specs.Transfer.{ComesFrom, AppendsPart, Says, output as output_at};
 
 use crate::streams::{IoFault, Sink, Source};
 use dap_session::Event;
@@ -13,7 +13,7 @@ use std::sync::Wait;
 /// How many bytes a piece has at most.
 pub const ROOM: usize = 4096;
 
-/// Reads the next piece, or tells why there is none. An interrupted read is tried again. What stands in `room` doesn't
+/// Reads the next piece, or says why there is none. An interrupted read is tried again. What stands in `room` doesn't
 /// matter: it is lent, so that it need not be cleared for each read.
 pub fn next_event<I: Source>(
     rt: &impl Wait,
@@ -41,7 +41,7 @@ pub fn next_event<I: Source>(
     unreachable!()
 }
 
-/// Writes frames one after another, and says whether all were; where not, the output failed behind a beginning.
+/// Writes frames one after another, and says whether all were; where not, the output failed after a beginning.
 pub fn write_frames<O: Sink>(rt: &impl Wait, output: &mut O, frames: &[Vec<u8>]) -> bool
     ensures written { MatchBool result
         (Appends (O.written output.old) (O.written output.new) (concat (map (λ frame. frame.items) frames.now)))
@@ -54,6 +54,19 @@ pub fn write_frames<O: Sink>(rt: &impl Wait, output: &mut O, frames: &[Vec<u8>])
         }
     }
     true
+}
+
+/// Writes texts one after another. Where the output fails, a beginning of them was written, and the others are dropped.
+pub fn say<O: Sink>(rt: &impl Wait, output: &mut O, texts: &[&str])
+    ensures { Says (concat (map (λ text. text.now) texts.entry.now))
+        (output_at (O.written output.old) (O.failures output.old))
+        (output_at (O.written output.new) (O.failures output.new)) }
+{
+    for text in texts {
+        if !write_all(rt, output, text.as_bytes()) {
+            return;
+        }
+    }
 }
 
 /// Writes all bytes, or a beginning of them where the output fails. An interrupted write is tried again.

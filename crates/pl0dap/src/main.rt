@@ -5,7 +5,8 @@ use adapter::{Reading, Writing, run};
 use std::process::ExitCode;
 
 fn main(rt: HostRuntime) -> ExitCode {
-    let input = &mut Reading::new(rt.stdin());
-    let output = &mut Writing::new(rt.stdout());
-    ExitCode::from(run(&rt, input, output).status())
+    let input = &mut Reading::new(&rt, rt.stdin());
+    let output = &mut Writing::new(&rt, rt.stdout());
+    let errors = &mut Writing::new(&rt, rt.stderr());
+    ExitCode::from(run(&rt, input, output, errors).status())
 }
