@@ -4,7 +4,7 @@ PROGRAM = crates/pl0dap/out/pl0dap
 SPEED = crates/speed/out/speed
 SOURCES = crates.txt $(shell find crates -name out -prune -o -type f \( -name '*.rt' -o -name '*.antt' \) -print)
 
-.PHONY: build demo rows refusals misuse check install bench
+.PHONY: build demo rows refusals misuse check plants gate-times install bench
 
 build: $(PROGRAM)
 
@@ -31,6 +31,14 @@ rows: $(PROGRAM)
 # The merge gate: proves everything from nothing, and runs everything.
 check:
 	rt ci
+
+# Planted bugs that the gate leaves out for want of time: those of all crates, or of CRATE.
+plants:
+	python3 tools/plants.py $(CRATE)
+
+# What CRATE costs the gate, in processor seconds, and whether it is within its budget.
+gate-times:
+	python3 tools/gate_times.py $(CRATE)
 
 # Programs that the compiler must refuse, which the gate can't judge.
 misuse:

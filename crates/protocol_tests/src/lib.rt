@@ -1,0 +1,30 @@
+//! Tests of the protocol's crates and of the adapter, over their public calls alone: what no contract says, as the frames and
+//! texts that editors know, and that each call can succeed at the largest sizes. It is never installed.
+//!
+//! `frames`, `requests` and `messages` try one layer each. `rows` has the worked rows, as transcripts; `driving` runs them
+//! through a session over ports in memory, and `serving` through the adapter over streams in memory, both of which stand in
+//! `fakes`. `listings` and `command_line` try what the program does beside serving.
+#![tactic(auto)]
+
+#[cfg(test)]
+mod command_line;
+#[cfg(test)]
+mod driving;
+#[cfg(test)]
+mod fakes;
+#[cfg(test)]
+mod frames;
+#[cfg(test)]
+mod listings;
+#[cfg(test)]
+mod messages;
+#[cfg(test)]
+mod requests;
+#[cfg(test)]
+mod rows;
+#[cfg(test)]
+mod serving;
+#[cfg(test)]
+mod text;
+#[cfg(test)]
+mod transcript;

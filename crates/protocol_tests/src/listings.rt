@@ -1,0 +1,109 @@
+//! Judging a text: its listing byte for byte, its first fault, and each way in which neither can be told.
+
+use crate::fakes::{OneFile, Output, Streams, Unreadable};
+use dap_session::Loader;
+use adapter::{check, end_of_check};
+use std::alloc::Global;
+use std::cell::Cell;
+use std::process::Abort;
+use std::sync::Wait;
+use std::test::Fail;
+
+const LAWFUL: &[u8] = b"var x;\n\nbegin x := 1;\n! x end.\n";
+
+const LISTING: &[u8] = b"0 3 7 assign
+1 4 1 write
+2 4 8 return
+
+0 JMP 0 1
+1 INT 0 4
+2 LIT 0 1 @0
+3 STO 0 3
+4 LOD 0 3 @1
+5 OPR 0 14
+6 OPR 0 0 @2
+";
+
+/// Whether judging what the loader gives writes this, and ends the program with this status and last line.
+fn is_judged<R: Abort + Wait, L: Loader>(
+    rt: &R,
+    alloc: Global,
+    loader: &mut L,
+    streams: Streams,
+    expected: (&[u8], u8, &str),
+) -> Result<bool, Fail> {
+    let mut output = Output {
+        rt,
+        bytes: Vec::new(alloc),
+        streams,
+        written: &Cell::new(0),
+        is_interrupted: false,
+        failures: 0,
+    };
+    let reason = end_of_check(&check(rt, alloc, "p.pl0", loader, &mut output));
+    let line = format!(in alloc; "{reason}")?;
+    let (written, status, last_line) = expected;
+    Ok(
+        output.bytes.as_slice() == written
+            && reason.status() == status
+            && line.as_str() == last_line,
+    )
+}
+
+#[test]
+fn prints_the_listing(rt: HostRuntime) -> Result<(), Fail> {
+    let alloc = rt.alloc();
+    for write_step in [1, usize::MAX] {
+        let file = &mut OneFile::new(alloc, LAWFUL);
+        let streams = Streams {
+            write_step,
+            ..Streams::WELL
+        };
+        assert!(rt;
+            is_judged(&rt, alloc, file, streams, (LISTING, 0, ""))?,
+            "by {write_step}"
+        );
+    }
+    Ok(())
+}
+
+#[test]
+fn names_the_first_fault(rt: HostRuntime) -> Result<(), Fail> {
+    let alloc = rt.alloc();
+    let file = &mut OneFile::new(alloc, b"x := 1.");
+    let expected: (&[u8], u8, &str) = (b"", 3, "pl0dap: syntax 10 1 1");
+    assert!(rt; is_judged(&rt, alloc, file, Streams::WELL, expected)?);
+    Ok(())
+}
+
+#[test]
+fn says_that_a_file_cannot_be_read(rt: HostRuntime) -> Result<(), Fail> {
+    let alloc = rt.alloc();
+    let none = &mut Unreadable {
+        alloc,
+        asked: Vec::new(alloc),
+    };
+    let expected: (&[u8], u8, &str) = (b"", 1, "pl0dap: cannot read");
+    assert!(rt; is_judged(&rt, alloc, none, Streams::WELL, expected)?);
+    Ok(())
+}
+
+/// The output fails, or takes nothing, at each byte of the listing.
+#[test]
+fn says_that_a_listing_was_cut(rt: HostRuntime) -> Result<(), Fail> {
+    let alloc = rt.alloc();
+    for room in 0..LISTING.len() {
+        let file = &mut OneFile::new(alloc, LAWFUL);
+        let streams = Streams {
+            room,
+            takes_nothing: room % 2 == 1,
+            ..Streams::WELL
+        };
+        let expected = (&LISTING[..room], 1, "pl0dap: write failed");
+        assert!(rt;
+            is_judged(&rt, alloc, file, streams, expected)?,
+            "at {room}"
+        );
+    }
+    Ok(())
+}

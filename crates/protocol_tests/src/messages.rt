@@ -1,0 +1,291 @@
+//! Messages written as contents.
+
+use crate::text::repeated;
+use dap_msg::{
+    Body, BreakpointAnswer, BreakpointRefusal, CommandName, EventBody, Exception, Items, Outgoing,
+    Refusal, Scope, StackFrame, StopReason, Supported, Text, Variable, write,
+};
+use std::alloc::{AllocError, Global};
+use std::test::Fail;
+
+fn text(alloc: Global, text: &str) -> Result<Text, AllocError> {
+    Ok(Text::new(String::from_str(alloc, text)?))
+}
+
+fn answer(command: Supported, outcome: Result<Body, Refusal>) -> Outgoing {
+    Outgoing::Answer {
+        request_seq: 4,
+        command: CommandName::Supported(command),
+        result: outcome,
+    }
+}
+
+/// Whether a message is written as this content, after what stood there.
+fn is_written(alloc: Global, message: &Outgoing, seq: u64, expected: &str) -> Result<bool, Fail> {
+    let mut out = b"> ".to_vec(alloc)?;
+    write(message, seq, &mut out)?;
+    let whole = format!(in alloc; "> {expected}")?;
+    Ok(out.as_slice() == whole.as_bytes())
+}
+
+/// Whether the answer to a command with this body is written as this content, but for its end.
+fn is_body_written(
+    alloc: Global,
+    command: Supported,
+    body: Body,
+    expected: &str,
+) -> Result<bool, Fail> {
+    let content = format!(in alloc;
+        "{{{expected},\"request_seq\":4,\"seq\":6,\"success\":true,\"type\":\"response\"}}"
+    )?;
+    is_written(alloc, &answer(command, Ok(body)), 6, content.as_str())
+}
+
+/// What an answer to `initialize` begins with.
+const CAPABILITIES: &str =
+    r#""body":{"supportsConditionalBreakpoints":true,"supportsConfigurationDoneRequest":true,"supportsHitConditionalBreakpoints":true},"command":"initialize""#;
+
+#[test]
+fn writes_small_bodies(rt: HostRuntime) -> Result<(), Fail> {
+    let rows = [
+        (Supported::Initialize, Body::Capabilities, CAPABILITIES),
+        (
+            Supported::Threads,
+            Body::Threads,
+            r#""body":{"threads":[{"id":1,"name":"main"}]},"command":"threads""#,
+        ),
+        (
+            Supported::Continue,
+            Body::Continued,
+            r#""body":{"allThreadsContinued":true},"command":"continue""#,
+        ),
+        (
+            Supported::Evaluate,
+            Body::Value(i64::MIN),
+            r#""body":{"result":"-9223372036854775808","variablesReference":0},"command":"evaluate""#,
+        ),
+        (Supported::Pause, Body::None, r#""command":"pause""#),
+    ];
+    for (command, body, expected) in rows {
+        assert!(rt;
+            is_body_written(rt.alloc(), command, body, expected)?,
+            "{expected}"
+        );
+    }
+    Ok(())
+}
+
+#[test]
+fn writes_breakpoints(rt: HostRuntime) -> Result<(), Fail> {
+    let alloc = rt.alloc();
+    let answers = [
+        BreakpointAnswer::At(3),
+        BreakpointAnswer::Unverified(BreakpointRefusal::OtherSource),
+        BreakpointAnswer::Unverified(BreakpointRefusal::NoStep),
+        BreakpointAnswer::Unverified(BreakpointRefusal::BadCondition),
+        BreakpointAnswer::Unverified(BreakpointRefusal::BadHitCondition),
+    ];
+    let body = Body::Breakpoints(Items::new(answers.to_vec(alloc)?));
+    let expected =
+        r#""body":{"breakpoints":[{"line":3,"verified":true},{"message":"otherSource","verified":false},{"message":"noStep","verified":false},{"message":"badCondition","verified":false},{"message":"badHitCondition","verified":false}]},"command":"setBreakpoints""#;
+    assert!(rt; is_body_written(alloc, Supported::SetBreakpoints, body, expected)?);
+    Ok(())
+}
+
+/// So many frames of the main block.
+fn frames(alloc: Global, count: usize) -> Result<Vec<StackFrame>, Fail> {
+    let mut frames = Vec::new(alloc);
+    for _ in 0..count {
+        frames.push(StackFrame {
+            id: 1,
+            name: text(alloc, "main")?,
+            line: 1,
+            column: 40,
+        })?;
+    }
+    Ok(frames)
+}
+
+/// One frame, and 1,024 of them: an answer as large isn't refused for want of memory.
+#[test]
+fn writes_frames(rt: HostRuntime) -> Result<(), Fail> {
+    let alloc = rt.alloc();
+    let frame = r#"{"column":40,"id":1,"line":1,"name":"main","source":{"path":"p.pl0"}}"#;
+    let next = format!(in alloc; ",{frame}")?;
+    let first = format!(in alloc; "\"body\":{{\"stackFrames\":[{frame}")?;
+    let last = "],\"totalFrames\":1024},\"command\":\"stackTrace\"";
+    for count in [1, 1024] {
+        let body = Body::StackTrace {
+            path: text(alloc, "p.pl0")?,
+            frames: Items::new(frames(alloc, count)?),
+            total: 1024,
+        };
+        let expected = repeated(
+            alloc,
+            first.as_str(),
+            next.as_str(),
+            count.saturating_sub(1),
+            last,
+        )?;
+        assert!(rt;
+            is_body_written(alloc, Supported::StackTrace, body, expected.as_str())?,
+            "{count}"
+        );
+    }
+    Ok(())
+}
+
+#[test]
+fn writes_scopes(rt: HostRuntime) -> Result<(), Fail> {
+    let alloc = rt.alloc();
+    let mut scopes = Vec::new(alloc);
+    for (name, reference) in [("p", 3), ("main", 1)] {
+        let name = text(alloc, name)?;
+        scopes.push(Scope { name, reference })?;
+    }
+    let body = Body::Scopes(Items::new(scopes));
+    let expected =
+        r#""body":{"scopes":[{"expensive":false,"name":"p","variablesReference":3},{"expensive":false,"name":"main","variablesReference":1}]},"command":"scopes""#;
+    assert!(rt; is_body_written(alloc, Supported::Scopes, body, expected)?);
+    Ok(())
+}
+
+#[test]
+fn writes_variables(rt: HostRuntime) -> Result<(), Fail> {
+    let alloc = rt.alloc();
+    let none = Body::Variables(Items::new(Vec::new(alloc)));
+    let expected = r#""body":{"variables":[]},"command":"variables""#;
+    assert!(rt; is_body_written(alloc, Supported::Variables, none, expected)?);
+    let mut variables = Vec::new(alloc);
+    let name = text(alloc, "x")?;
+    let value = i64::MAX;
+    variables.push(Variable { name, value })?;
+    let body = Body::Variables(Items::new(variables));
+    let expected =
+        r#""body":{"variables":[{"name":"x","value":"9223372036854775807","variablesReference":0}]},"command":"variables""#;
+    assert!(rt; is_body_written(alloc, Supported::Variables, body, expected)?);
+    Ok(())
+}
+
+/// Refusals, and the message of each.
+const REFUSALS: [(Refusal, &str); 12] = [
+    (Refusal::Unsupported, "unsupported"),
+    (Refusal::BadArguments, "badArguments"),
+    (Refusal::WrongPhase, "wrongPhase"),
+    (Refusal::NotStopped, "notStopped"),
+    (Refusal::UnknownThread, "unknownThread"),
+    (Refusal::UnknownFrame, "unknownFrame"),
+    (Refusal::UnknownReference, "unknownReference"),
+    (Refusal::BadExpression, "badExpression"),
+    (Refusal::Overflow, "overflow"),
+    (Refusal::DivideByZero, "divideByZero"),
+    (Refusal::CannotRead, "cannotRead"),
+    (
+        Refusal::Syntax {
+            number: 11,
+            line: 1,
+            column: 19,
+        },
+        "syntax 11 1 19",
+    ),
+];
+
+#[test]
+fn writes_refusals(rt: HostRuntime) -> Result<(), Fail> {
+    let alloc = rt.alloc();
+    for (refusal, message) in REFUSALS.as_slice() {
+        let expected = format!(in alloc;
+            "{{\"body\":{{}},\"command\":\"launch\",\"message\":\"{message}\",\"request_seq\":4,\"seq\":9007199254740991,\"success\":false,\"type\":\"response\"}}"
+        )?;
+        let answer = answer(Supported::Launch, Err(*refusal));
+        assert!(rt;
+            is_written(alloc, &answer, 9007199254740991, expected.as_str())?,
+            "{message}"
+        );
+    }
+    Ok(())
+}
+
+#[test]
+fn writes_names_as_they_came(rt: HostRuntime) -> Result<(), Fail> {
+    let alloc = rt.alloc();
+    let answer = Outgoing::Answer {
+        request_seq: 7,
+        command: CommandName::Unsupported(text(alloc, r#"a"b\c"#)?),
+        result: Err(Refusal::Unsupported),
+    };
+    let expected =
+        r#"{"body":{},"command":"a\"b\\c","message":"unsupported","request_seq":7,"seq":1,"success":false,"type":"response"}"#;
+    assert!(rt; is_written(alloc, &answer, 1, expected)?);
+    Ok(())
+}
+
+/// Events, and the beginning of the content of each.
+const EVENTS: [(EventBody, &str); 4] = [
+    (EventBody::Initialized, r#""event":"initialized""#),
+    (
+        EventBody::Output(-1),
+        r#""body":{"category":"stdout","output":"-1\n"},"event":"output""#,
+    ),
+    (
+        EventBody::Exited(1),
+        r#""body":{"exitCode":1},"event":"exited""#,
+    ),
+    (EventBody::Terminated, r#""event":"terminated""#),
+];
+
+/// Reasons of stops, and what the body of each says of them.
+const STOPS: [(StopReason, &str); 8] = [
+    (StopReason::Breakpoint, r#""reason":"breakpoint""#),
+    (StopReason::Step, r#""reason":"step""#),
+    (StopReason::Entry, r#""reason":"entry""#),
+    (StopReason::Pause, r#""reason":"pause""#),
+    (
+        StopReason::Exception(Exception::Overflow),
+        r#""reason":"exception","text":"overflow""#,
+    ),
+    (
+        StopReason::Exception(Exception::DivideByZero),
+        r#""reason":"exception","text":"divideByZero""#,
+    ),
+    (
+        StopReason::Exception(Exception::Depth),
+        r#""reason":"exception","text":"depth""#,
+    ),
+    (
+        StopReason::Exception(Exception::StepLimit),
+        r#""reason":"exception","text":"stepLimit""#,
+    ),
+];
+
+/// Whether an event is written as this content, but for its end.
+fn is_event_written(alloc: Global, event: EventBody, expected: &str) -> Result<bool, Fail> {
+    let content = format!(in alloc; "{{{expected},\"seq\":6,\"type\":\"event\"}}")?;
+    is_written(alloc, &Outgoing::Event(event), 6, content.as_str())
+}
+
+#[test]
+fn writes_events(rt: HostRuntime) -> Result<(), Fail> {
+    for (event, expected) in EVENTS.as_slice() {
+        assert!(rt;
+            is_event_written(rt.alloc(), *event, expected)?,
+            "{expected}"
+        );
+    }
+    Ok(())
+}
+
+#[test]
+fn writes_stops(rt: HostRuntime) -> Result<(), Fail> {
+    let alloc = rt.alloc();
+    for (reason, said) in STOPS.as_slice() {
+        let expected = format!(in alloc;
+            "\"body\":{{\"allThreadsStopped\":true,{said},\"threadId\":1}},\"event\":\"stopped\""
+        )?;
+        assert!(rt;
+            is_event_written(alloc, EventBody::Stopped(*reason), expected.as_str())?,
+            "{said}"
+        );
+    }
+    Ok(())
+}

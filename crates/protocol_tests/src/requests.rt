@@ -1,0 +1,496 @@
+//! Contents read as requests.
+
+use crate::text::repeated;
+use dap_msg::{Request, read};
+use std::alloc::Global;
+use std::test::Fail;
+
+const INITIALIZE_1: &str =
+    "Some(Request { seq: 1, body: Initialize(InitializeArguments { lines_start_at_1: true, columns_start_at_1: true }) })";
+
+/// Contents, and what they are read as.
+const CONTENTS: [(&[u8], &str); 14] = [
+    (
+        br#"{"seq":1,"type":"request","command":"initialize"}"#,
+        INITIALIZE_1,
+    ),
+    (
+        br#"{"seq":2,"type":"request","command":"disconnect"}"#,
+        "Some(Request { seq: 2, body: Disconnect })",
+    ),
+    (
+        b" {\r\n\t\"command\" : \"threads\", \"type\":\"request\", \"seq\":3 }\n",
+        "Some(Request { seq: 3, body: Threads })",
+    ),
+    (
+        br#"{"seq":4,"type":"request","command":"setExceptionBreakpoints","arguments":{}}"#,
+        r#"Some(Request { seq: 4, body: Unsupported(Text { text: "setExceptionBreakpoints" }) })"#,
+    ),
+    (
+        br#"{"seq":5,"type":"request","command":"threads","seq":6,"seq":1,"command":"initialize"}"#,
+        INITIALIZE_1,
+    ),
+    (
+        br#"{"seq":1,"type":"request","command":"threads","command":7}"#,
+        "None",
+    ),
+    (br#"{"seq":1,"type":"event","command":"threads"}"#, "None"),
+    (br#"{"seq":1,"command":"threads"}"#, "None"),
+    (br#"{"seq":1,"type":"request"}"#, "None"),
+    (br#"{"seq":1}"#, "None"),
+    (
+        br#"[{"seq":1,"type":"request","command":"threads"}]"#,
+        "None",
+    ),
+    (b"[", "None"),
+    (b"", "None"),
+    (
+        b"{\"seq\":1,\"type\":\"request\",\"command\":\"threads\",\"x\":\"\xff\"}",
+        "None",
+    ),
+];
+
+/// Values of `seq`, and what a request under them is read as.
+const SEQS: [(&str, &str); 9] = [
+    ("0", "None"),
+    ("1.0", "None"),
+    ("1e0", "None"),
+    ("\"1\"", "None"),
+    ("-1", "None"),
+    ("-0", "None"),
+    ("1e400", "None"),
+    ("9007199254740992", "None"),
+    (
+        "9007199254740991",
+        "Some(Request { seq: 9007199254740991, body: Threads })",
+    ),
+];
+
+/// Commands, their arguments, and what is asked.
+type Row = (&'static str, &'static str, &'static str);
+
+const INITIALIZE: [Row; 6] = [
+    ("initialize", "null", "BadArguments(Initialize)"),
+    ("initialize", "[]", "BadArguments(Initialize)"),
+    (
+        "initialize",
+        r#"{"linesStartAt1":null}"#,
+        "BadArguments(Initialize)",
+    ),
+    (
+        "initialize",
+        r#"{"columnsStartAt1":1}"#,
+        "BadArguments(Initialize)",
+    ),
+    (
+        "initialize",
+        r#"{"linesStartAt1":false,"clientID":7}"#,
+        "Initialize(InitializeArguments { lines_start_at_1: false, columns_start_at_1: true })",
+    ),
+    (
+        "initialize",
+        r#"{"columnsStartAt1":false}"#,
+        "Initialize(InitializeArguments { lines_start_at_1: true, columns_start_at_1: false })",
+    ),
+];
+
+const LAUNCH: [Row; 11] = [
+    (
+        "launch",
+        r#"{"program":"p.pl0"}"#,
+        r#"Launch(LaunchArguments { program: Text { text: "p.pl0" }, stop_on_entry: false })"#,
+    ),
+    (
+        "launch",
+        r#"{"program":" ~","stopOnEntry":true,"noDebug":false}"#,
+        r#"Launch(LaunchArguments { program: Text { text: " ~" }, stop_on_entry: true })"#,
+    ),
+    ("launch", "{}", "BadArguments(Launch)"),
+    ("launch", r#"{"program":""}"#, "BadArguments(Launch)"),
+    ("launch", r#"{"program":"\u001f"}"#, "BadArguments(Launch)"),
+    ("launch", r#"{"program":"\u007f"}"#, "BadArguments(Launch)"),
+    ("launch", r#"{"program":"é"}"#, "BadArguments(Launch)"),
+    ("launch", r#"{"program":null}"#, "BadArguments(Launch)"),
+    (
+        "launch",
+        r#"{"program":"p.pl0","stopOnEntry":1}"#,
+        "BadArguments(Launch)",
+    ),
+    (
+        "launch",
+        r#"{"program":"p.pl0","noDebug":true}"#,
+        "BadArguments(Launch)",
+    ),
+    (
+        "launch",
+        r#"{"program":"p.pl0","noDebug":null}"#,
+        "BadArguments(Launch)",
+    ),
+];
+
+const SET_BREAKPOINTS: [Row; 12] = [
+    (
+        "setBreakpoints",
+        r#"{"source":{}}"#,
+        "SetBreakpoints(SetBreakpointsArguments { path: None, breakpoints: Items { items: [] } })",
+    ),
+    (
+        "setBreakpoints",
+        r#"{"source":{"path":"p.pl0"},"breakpoints":[{"line":0,"condition":"x > 2","hitCondition":"%2"},{"line":2147483647,"condition":""}]}"#,
+        r#"SetBreakpoints(SetBreakpointsArguments { path: Some(Text { text: "p.pl0" }), breakpoints: Items { items: [SourceBreakpoint { line: 0, condition: Text { text: "x > 2" }, hit_condition: Text { text: "%2" } }, SourceBreakpoint { line: 2147483647, condition: Text { text: "" }, hit_condition: Text { text: "" } }] } })"#,
+    ),
+    ("setBreakpoints", "{}", "BadArguments(SetBreakpoints)"),
+    (
+        "setBreakpoints",
+        r#"{"source":"p.pl0"}"#,
+        "BadArguments(SetBreakpoints)",
+    ),
+    (
+        "setBreakpoints",
+        r#"{"source":{"path":null}}"#,
+        "BadArguments(SetBreakpoints)",
+    ),
+    (
+        "setBreakpoints",
+        r#"{"source":{},"breakpoints":{}}"#,
+        "BadArguments(SetBreakpoints)",
+    ),
+    (
+        "setBreakpoints",
+        r#"{"source":{},"breakpoints":[7]}"#,
+        "BadArguments(SetBreakpoints)",
+    ),
+    (
+        "setBreakpoints",
+        r#"{"source":{},"breakpoints":[{}]}"#,
+        "BadArguments(SetBreakpoints)",
+    ),
+    (
+        "setBreakpoints",
+        r#"{"source":{},"breakpoints":[{"line":-1}]}"#,
+        "BadArguments(SetBreakpoints)",
+    ),
+    (
+        "setBreakpoints",
+        r#"{"source":{},"breakpoints":[{"line":1},{"line":2147483648}]}"#,
+        "BadArguments(SetBreakpoints)",
+    ),
+    (
+        "setBreakpoints",
+        r#"{"source":{},"breakpoints":[{"line":1,"condition":null}]}"#,
+        "BadArguments(SetBreakpoints)",
+    ),
+    (
+        "setBreakpoints",
+        r#"{"source":{},"breakpoints":[{"line":1,"hitCondition":2}]}"#,
+        "BadArguments(SetBreakpoints)",
+    ),
+];
+
+const WITHOUT_ARGUMENTS: [Row; 3] = [
+    ("configurationDone", "null", "ConfigurationDone"),
+    ("threads", "\"x\"", "Threads"),
+    ("disconnect", "null", "Disconnect"),
+];
+
+const THREADS: [Row; 11] = [
+    (
+        "continue",
+        r#"{"threadId":1}"#,
+        "Continue(ThreadArguments { thread_id: 1 })",
+    ),
+    (
+        "next",
+        r#"{"threadId":2}"#,
+        "Next(ThreadArguments { thread_id: 2 })",
+    ),
+    (
+        "stepIn",
+        r#"{"threadId":0}"#,
+        "StepIn(ThreadArguments { thread_id: 0 })",
+    ),
+    (
+        "stepOut",
+        r#"{"threadId":9007199254740991}"#,
+        "StepOut(ThreadArguments { thread_id: 9007199254740991 })",
+    ),
+    (
+        "pause",
+        r#"{"threadId":1,"granularity":"line"}"#,
+        "Pause(ThreadArguments { thread_id: 1 })",
+    ),
+    ("continue", "{}", "BadArguments(Continue)"),
+    ("continue", r#"{"threadId":1e0}"#, "BadArguments(Continue)"),
+    ("next", r#"{"threadId":-1}"#, "BadArguments(Next)"),
+    ("stepIn", r#"{"threadId":"1"}"#, "BadArguments(StepIn)"),
+    (
+        "stepOut",
+        r#"{"threadId":9007199254740992}"#,
+        "BadArguments(StepOut)",
+    ),
+    ("pause", "null", "BadArguments(Pause)"),
+];
+
+const FRAMES: [Row; 9] = [
+    (
+        "stackTrace",
+        r#"{"threadId":1}"#,
+        "StackTrace(StackTraceArguments { thread_id: 1, start_frame: 0, levels: 0 })",
+    ),
+    (
+        "stackTrace",
+        r#"{"threadId":1,"startFrame":1,"levels":2}"#,
+        "StackTrace(StackTraceArguments { thread_id: 1, start_frame: 1, levels: 2 })",
+    ),
+    (
+        "stackTrace",
+        r#"{"startFrame":1}"#,
+        "BadArguments(StackTrace)",
+    ),
+    (
+        "stackTrace",
+        r#"{"threadId":1,"startFrame":-1}"#,
+        "BadArguments(StackTrace)",
+    ),
+    (
+        "stackTrace",
+        r#"{"threadId":1,"levels":null}"#,
+        "BadArguments(StackTrace)",
+    ),
+    (
+        "scopes",
+        r#"{"frameId":4}"#,
+        "Scopes(ScopesArguments { frame_id: 4 })",
+    ),
+    ("scopes", r#"{"frameId":4.0}"#, "BadArguments(Scopes)"),
+    (
+        "variables",
+        r#"{"variablesReference":3}"#,
+        "Variables(VariablesArguments { variables_reference: 3 })",
+    ),
+    ("variables", r#"{"frameId":3}"#, "BadArguments(Variables)"),
+];
+
+const EXPRESSIONS: [Row; 6] = [
+    (
+        "evaluate",
+        r#"{"expression":"k + n","frameId":4}"#,
+        r#"Evaluate(EvaluateArguments { expression: Text { text: "k + n" }, frame_id: 4 })"#,
+    ),
+    (
+        "evaluate",
+        r#"{"expression":"1 / n"}"#,
+        r#"Evaluate(EvaluateArguments { expression: Text { text: "1 / n" }, frame_id: 1 })"#,
+    ),
+    ("evaluate", r#"{"frameId":4}"#, "BadArguments(Evaluate)"),
+    ("evaluate", r#"{"expression":7}"#, "BadArguments(Evaluate)"),
+    (
+        "evaluate",
+        r#"{"expression":"k","frameId":null}"#,
+        "BadArguments(Evaluate)",
+    ),
+    (
+        "completions",
+        "{}",
+        r#"Unsupported(Text { text: "completions" })"#,
+    ),
+];
+
+/// Whether a content is read as this, a request or none.
+fn reads(alloc: Global, content: &[u8], expected: &str) -> Result<bool, Fail> {
+    let request = read(alloc, content)?;
+    Ok(format!(in alloc; "{request:?}")?.as_str() == expected)
+}
+
+#[test]
+fn reads_contents(rt: HostRuntime) -> Result<(), Fail> {
+    for (content, expected) in CONTENTS.as_slice() {
+        assert!(rt; reads(rt.alloc(), content, expected)?, "{expected}");
+    }
+    Ok(())
+}
+
+#[test]
+fn reads_seqs(rt: HostRuntime) -> Result<(), Fail> {
+    let alloc = rt.alloc();
+    for (seq, expected) in SEQS.as_slice() {
+        let content = format!(in alloc;
+            "{{\"command\":\"threads\",\"type\":\"request\",\"seq\":{seq}}}"
+        )?;
+        assert!(rt; reads(alloc, content.as_bytes(), expected)?, "{seq}");
+    }
+    Ok(())
+}
+
+/// Whether a request for a command with these arguments asks for this, and names the command for its answer.
+fn asks(alloc: Global, row: Row) -> Result<bool, Fail> {
+    let (command, arguments, expected) = row;
+    let content = format!(in alloc;
+        "{{\"seq\":7,\"type\":\"request\",\"command\":\"{command}\",\"arguments\":{arguments}}}"
+    )?;
+    let Some(Request { seq: 7, body }) = read(alloc, content.as_bytes())? else {
+        return Ok(false);
+    };
+    let asked = format!(in alloc; "{body:?}")?;
+    Ok(asked.as_str() == expected && body.into_name().as_str() == command)
+}
+
+#[test]
+fn reads_arguments(rt: HostRuntime) -> Result<(), Fail> {
+    let tables = [
+        INITIALIZE.as_slice(),
+        &LAUNCH,
+        &SET_BREAKPOINTS,
+        &WITHOUT_ARGUMENTS,
+        &THREADS,
+        &FRAMES,
+        &EXPRESSIONS,
+    ];
+    for row in tables.as_slice().iter().copied().flatten() {
+        assert!(rt; asks(rt.alloc(), *row)?, "{row:?}");
+    }
+    Ok(())
+}
+
+/// Arguments with a part that may stand so many times, and no more.
+struct Limit {
+    command: &'static str,
+    first: &'static str,
+    repeated: &'static str,
+    most: usize,
+    last: &'static str,
+}
+
+const LIMITS: [Limit; 5] = [
+    Limit {
+        command: "launch",
+        first: r#"{"program":""#,
+        repeated: "a",
+        most: 255,
+        last: r#""}"#,
+    },
+    Limit {
+        command: "evaluate",
+        first: r#"{"expression":""#,
+        repeated: "é",
+        most: 512,
+        last: r#""}"#,
+    },
+    Limit {
+        command: "setBreakpoints",
+        first: r#"{"source":{},"breakpoints":[{"line":1,"condition":""#,
+        repeated: "a",
+        most: 1024,
+        last: r#""}]}"#,
+    },
+    Limit {
+        command: "setBreakpoints",
+        first: r#"{"source":{},"breakpoints":[{"line":1,"hitCondition":""#,
+        repeated: "a",
+        most: 1024,
+        last: r#""}]}"#,
+    },
+    Limit {
+        command: "setBreakpoints",
+        first: r#"{"source":{},"breakpoints":[{"line":1}"#,
+        repeated: r#",{"line":1}"#,
+        most: 255,
+        last: "]}",
+    },
+];
+
+/// Whether the arguments fit with their part so many times.
+fn fits(alloc: Global, limit: &Limit, times: usize) -> Result<bool, Fail> {
+    let command = limit.command;
+    let head = format!(in alloc;
+        "{{\"type\":\"request\",\"command\":\"{command}\",\"seq\":1,\"arguments\":"
+    )?;
+    let arguments = repeated(alloc, limit.first, limit.repeated, times, limit.last)?;
+    let content = format!(in alloc; "{head}{arguments}}}")?;
+    let Some(request) = read(alloc, content.as_bytes())? else {
+        return Ok(false);
+    };
+    Ok(!format!(in alloc; "{request:?}")?.contains("BadArguments"))
+}
+
+#[test]
+fn reads_arguments_up_to_their_limits(rt: HostRuntime) -> Result<(), Fail> {
+    for limit in LIMITS.as_slice() {
+        let first = limit.first;
+        assert!(rt; fits(rt.alloc(), limit, limit.most)?, "{first}");
+        assert!(rt;
+            !fits(rt.alloc(), limit, limit.most.saturating_add(1))?,
+            "one more: {first}"
+        );
+    }
+    Ok(())
+}
+
+#[test]
+fn reads_names_up_to_64_bytes(rt: HostRuntime) -> Result<(), Fail> {
+    let alloc = rt.alloc();
+    let first = r#"{"seq":1,"type":"request","command":""#;
+    let longest = repeated(
+        alloc,
+        r#"Some(Request { seq: 1, body: Unsupported(Text { text: ""#,
+        "a",
+        64,
+        r#"" }) })"#,
+    )?;
+    for (times, expected) in [(64, longest.as_str()), (65, "None"), (0, "None")] {
+        let content = repeated(alloc, first, "a", times, r#""}"#)?;
+        assert!(rt;
+            reads(alloc, content.as_bytes(), expected)?,
+            "{times} letters"
+        );
+    }
+    Ok(())
+}
+
+#[test]
+fn reads_names_of_printable_characters(rt: HostRuntime) -> Result<(), Fail> {
+    let alloc = rt.alloc();
+    let rows = [
+        (
+            r"~ \\",
+            r#"Some(Request { seq: 1, body: Unsupported(Text { text: "~ \\" }) })"#,
+        ),
+        (r"\u007f", "None"),
+        (r"\n", "None"),
+        ("é", "None"),
+    ];
+    for (name, expected) in rows.as_slice() {
+        let content = format!(in alloc;
+            "{{\"seq\":1,\"type\":\"request\",\"command\":\"{name}\"}}"
+        )?;
+        assert!(rt; reads(alloc, content.as_bytes(), expected)?, "{name}");
+    }
+    Ok(())
+}
+
+#[test]
+fn reads_values_up_to_127_deep(rt: HostRuntime) -> Result<(), Fail> {
+    let alloc = rt.alloc();
+    let first = r#"{"seq":1,"type":"request","command":"initialize","x":"#;
+    for (arrays, expected) in [(126, INITIALIZE_1), (127, "None")] {
+        let opened = repeated(alloc, first, "[", arrays, "")?;
+        let content = repeated(alloc, opened.as_str(), "]", arrays, "}")?;
+        assert!(rt;
+            reads(alloc, content.as_bytes(), expected)?,
+            "{arrays} arrays"
+        );
+    }
+    Ok(())
+}
+
+/// A content of 1,048,576 bytes is read, and not refused for want of memory.
+#[test]
+fn reads_the_largest_content(rt: HostRuntime) -> Result<(), Fail> {
+    let alloc = rt.alloc();
+    let first = r#"{"seq":1,"type":"request","command":"initialize","x":""#;
+    let rest = 1_048_574usize.saturating_sub(first.len());
+    let content = repeated(alloc, first, "x", rest, "\"}")?;
+    assert!(rt; content.len() == 1_048_576);
+    assert!(rt; reads(alloc, content.as_bytes(), INITIALIZE_1)?);
+    Ok(())
+}

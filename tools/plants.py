@@ -1,0 +1,58 @@
+#!/usr/bin/env python3
+"""Tries planted bugs: edits that the prover must refuse, and that the merge gate leaves out for want of time.
+
+usage: plants.py [CRATE..]
+
+The edits of `crates/CRATE/plants/` have the form of those of `must-fail/`. For each crate that is named, and for each with
+such a folder where none is, a copy of the crate is given its plants in place of its must-fail edits, and `rt must-fail`
+tries them over the work that is kept in `out/`. Prints a line for each edit. The status is 1 where one got through or
+can't be tried.
+"""
+import re
+import shutil
+import subprocess
+import sys
+
+from scratch import TOP, crate_lines, crate_names, scratch_copy
+
+ANSWER = re.compile(r"rt: must-fail \S+/(\S+)\.edit: (refused|NOT REFUSED|BAD EDIT)(.*)")
+
+
+def verdict(answer: str, rest: str) -> str:
+    if answer == "refused":
+        says_little = "says little of the contract" in rest
+        return "refused, but only since a proof names what it took away" if says_little else "refused"
+    return "GOT THROUGH" if answer == "NOT REFUSED" else f"CAN'T BE TRIED{rest}"
+
+
+def try_plants(name: str) -> bool:
+    """Whether each plant of the crate is refused; prints a line for each."""
+    plants = sorted((TOP / "crates" / name / "plants").glob("*.edit"))
+    if not plants:
+        print(f"{name}: no plants")
+        return True
+    print(f"{name}: {len(plants)} plants", flush=True)
+    with scratch_copy(name) as top:
+        edits = top / "crates" / name / "must-fail"
+        shutil.rmtree(edits, ignore_errors=True)
+        edits.mkdir()
+        for plant in plants:
+            shutil.copy(plant, edits)
+        run = subprocess.run(["rt", "must-fail", name], cwd=top, stdout=subprocess.PIPE, stderr=subprocess.STDOUT, text=True)
+    answers = ANSWER.findall(run.stdout)
+    for edit, answer, rest in answers:
+        print(f"  {edit}: {verdict(answer, rest)}")
+    if len(answers) < len(plants):
+        print(run.stdout)
+    return run.returncode == 0 and len(answers) == len(plants)
+
+
+def main() -> int:
+    names = crate_names(sys.argv[1:])
+    if not names:
+        names = [name for name in crate_lines() if (TOP / "crates" / name / "plants").is_dir()]
+    return 0 if all([try_plants(name) for name in names]) else 1
+
+
+if __name__ == "__main__":
+    sys.exit(main())
