@@ -1,0 +1,5 @@
+pub mod Declared
+pub mod Rows
+pub mod Numbers
+pub mod Taking
+pub mod Fitting

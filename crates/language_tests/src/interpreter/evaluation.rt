@@ -1,0 +1,152 @@
+// The values of names, expressions and conditions.
+
+ghost use Rattle.std.specs.Prelude.{◌≡◌, neg_ℤ, option_map, slice_get};
+ghost use Rattle.pl0_tree.specs.Scope.{block_at};
+ghost use Rattle.pl0_meaning.specs.Values.{number_of, number_at, constant_of, declared_number, name_number, or_zero, operation, comparison, checked, is_odd, value, truth};
+ghost use Rattle.pl0_tree.specs.Plain.{plain_block, plain_expression, plain_condition};
+ghost use Rattle.pl0_tree.specs.Tree.{constants};
+ghost use Rattle.pl0_tree.specs.declared.tree.Block.{out-Block};
+ghost use Rattle.language_tests.specs.Names.{meaning_of};
+
+use crate::interpreter::finding::{find, frame_at};
+use crate::interpreter::frame::Frame;
+use crate::interpreter::scope::{Meaning, block_at, home};
+use pl0_meaning::RunFault;
+use pl0_tree::{Block, Condition, Expression, Operator, Relation};
+
+fn number_at(frames: &[Frame], frame: Option<usize>, index: usize) -> Option<i64>
+    ensures { result ≡ number_at frames.now frame index }
+{
+    let frame = frame_at(frames, frame?)?;
+    frame.numbers().get(index).copied()
+}
+
+fn kept_value(block: &Block, index: usize) -> Option<i64>
+    ensures { result ≡ option_map (λ c. c.value) (slice_get (out-Block block.now).constants.items index) }
+{
+    let constant = block.constants.get(index)?;
+    Some(constant.value)
+}
+
+fn constant_value(block: &Block, index: usize) -> Option<i64>
+    ensures { result ≡ option_map (λ c. c.value) (slice_get (constants (plain_block block.now)) index) }
+{
+    kept_value(block, index)
+}
+
+fn constant_of(main: &Block, path: &[usize], index: usize) -> Option<i64>
+    ensures { result ≡ constant_of (block_at (plain_block main.now) path.now) index }
+{
+    constant_value(block_at(main, path)?, index)
+}
+
+// What is declared in a block, as a frame has it.
+fn declared_number(
+    main: &Block,
+    frames: &[Frame],
+    frame: usize,
+    path: &[usize],
+    meaning: Meaning,
+) -> Option<i64>
+    ensures { result ≡ declared_number (plain_block main.now) frames.now frame path.now (meaning_of meaning) }
+{
+    match meaning {
+        Meaning::Constant(index) => constant_of(main, path, index),
+        Meaning::Variable(index) => number_at(frames, find(frames, frame, path), index),
+        Meaning::Procedure(_) => None,
+    }
+}
+
+// The number that a name stands for in a frame.
+fn name_number(main: &Block, frames: &[Frame], frame: usize, name: &str) -> Option<i64>
+    ensures { result ≡ name_number (plain_block main.now) frames.now frame name.now }
+{
+    let reader = frame_at(frames, frame)?;
+    let home = home(main, reader.block(), name)?;
+    declared_number(main, frames, frame, home.path, home.meaning)
+}
+
+fn negated(x: i64) -> Result<i64, RunFault>
+    ensures { result ≡ checked (neg_ℤ x) }
+{
+    x.checked_neg().ok_or(RunFault::Overflow)
+}
+
+fn operation(operator: Operator, x: i64, y: i64) -> Result<i64, RunFault>
+    ensures { result ≡ operation operator x y }
+{
+    match operator {
+        Operator::Add => x.checked_add(y).ok_or(RunFault::Overflow),
+        Operator::Subtract => x.checked_sub(y).ok_or(RunFault::Overflow),
+        Operator::Multiply => x.checked_mul(y).ok_or(RunFault::Overflow),
+        Operator::Divide => {
+            if y == 0 {
+                Err(RunFault::DivideByZero)
+            } else {
+                x.checked_div(y).ok_or(RunFault::Overflow)
+            }
+        }
+    }
+}
+
+fn comparison(relation: Relation, x: i64, y: i64) -> bool
+    ensures { result ≡ comparison relation x y }
+{
+    match relation {
+        Relation::Equal => x == y,
+        Relation::Unequal => x != y,
+        Relation::Less => x < y,
+        Relation::AtMost => x <= y,
+        Relation::Greater => x > y,
+        Relation::AtLeast => x >= y,
+    }
+}
+
+fn is_odd(x: i64) -> bool
+    ensures { result ≡ is_odd x }
+{
+    x % 2 != 0
+}
+
+/// The value of an expression in a frame, the left operand first.
+pub(crate) fn value(
+    main: &Block,
+    frames: &[Frame],
+    frame: usize,
+    expression: &Expression,
+) -> Result<i64, RunFault>
+    ensures { result ≡ value (plain_block main.now) frames.now frame (plain_expression expression.now) }
+{
+    match expression {
+        Expression::Number(number) => Ok(*number),
+        Expression::Name(name) => {
+            let number = name_number(main, frames, frame, name.text.as_str());
+            Ok(number.unwrap_or(0))
+        }
+        Expression::Negate(inner) => negated(value(main, frames, frame, inner)?),
+        Expression::Binary(operator, left, right) => {
+            let x = value(main, frames, frame, left)?;
+            let y = value(main, frames, frame, right)?;
+            operation(*operator, x, y)
+        }
+    }
+}
+
+/// Whether a condition holds in a frame.
+pub(crate) fn truth(
+    main: &Block,
+    frames: &[Frame],
+    frame: usize,
+    condition: &Condition,
+) -> Result<bool, RunFault>
+    ensures { result ≡ truth (plain_block main.now) frames.now frame (plain_condition condition.now) }
+{
+    match condition {
+        Condition::Odd(expression) => Ok(is_odd(value(main, frames, frame, expression)?)),
+        Condition::Compare(relation, left, right) => {
+            let x = value(main, frames, frame, left)?;
+            let y = value(main, frames, frame, right)?;
+            Ok(comparison(*relation, x, y))
+        }
+    }
+}

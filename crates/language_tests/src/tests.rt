@@ -1,0 +1,16 @@
+//! Worked rows, limits, refused memory, and random programs beside the plain interpreter.
+
+mod beside;
+mod code;
+mod compiled;
+mod editor;
+mod faults;
+mod memory;
+mod plain;
+mod programs;
+mod random;
+mod runs;
+mod shown;
+mod steps;
+mod table;
+mod tokens;
