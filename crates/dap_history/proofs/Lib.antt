@@ -1,0 +1,15 @@
+pub mod Readings
+pub mod Along
+pub mod Answered
+pub mod Numbered
+pub mod Last
+pub mod ShownQ
+pub mod Quiet
+pub mod Silent
+pub mod Outputs
+pub mod Early
+pub mod Told
+pub mod Rows
+pub mod Each
+pub mod Behind
+pub mod BehindStops

@@ -1,0 +1,93 @@
+-- The numbers told are those that the program wrote.
+use Rattle.std.proofs.Common.{◌≡◌, inl, inr, ℕ, ◌≤◌, List, [], ◌∷◌, ◌++◌, ℤ, Option, None, Some, Ok, Err, refl, sym, ◌∙◌, ap, subst, append-nil, arith}
+use Rattle.std.specs.Prelude.{map, Result, Bool, true, false, unwrap_or}
+use Rattle.std.specs.List.{filter_map}
+use Rattle.std.proofs.lemmas.List.{map-append}
+use Rattle.std.proofs.lemmas.List.Elements.{filter_map-append}
+use Rattle.dap_msg.specs.declared.command.CommandName.{CommandName}
+use Rattle.dap_msg.specs.declared.outgoing.Body.{Body}
+use Rattle.dap_msg.specs.declared.outgoing.Refusal.{Refusal}
+use Rattle.dap_msg.specs.declared.outgoing.Outgoing.{Outgoing}
+use Rattle.dap_msg.specs.declared.outgoing.Outgoing.TheVariants.{Answer, Event}
+use Rattle.dap_msg.specs.declared.outgoing.EventBody.{EventBody}
+use Rattle.dap_msg.specs.declared.outgoing.EventBody.TheVariants as event
+use Rattle.dap_msg.specs.declared.outgoing.StopReason.{StopReason}
+use Rattle.pl0_tree.specs.declared.tree.Block.{Block}
+use Rattle.pl0_tree.specs.Faults.{IsTreeOf}
+use Rattle.pl0_meaning.specs.Runs.{written}
+use Rattle.pl0_meaning.specs.Laws.{WrittenJoins}
+use Rattle.dbg_runner.specs.Lawful.{Reported, IsLawful}
+use Rattle.dbg_runner.specs.declared.end.End.{End}
+use Rattle.dbg_runner.specs.declared.end.End.TheVariants as end
+use Rattle.dap_history.specs.Last.{or_else, last_such}
+use Rattle.dap_history.specs.Orders.{Run, PlainOrder}
+use Rattle.dap_history.specs.History.{Launched, Item, Content, Loaded, Accepted, Fault, InputEnd, ReadFailure, MemoryFailure, Step, History, Effect, behind, messages, messages_of}
+use Rattle.dap_history.specs.Readings.{go, launched, last_run, position, finish_of, waiting_pause}
+use Rattle.dap_history.specs.Replies.{Reply, nothing}
+use Rattle.dap_history.specs.Reports.{outputs, stands, goes_on, held, report_effect}
+use Rattle.dap_history.specs.Laws.{output, numbers}
+use Rattle.dap_history.proofs.Readings.{messages_of-snoc, launched-snoc, position-snoc, last_run-snoc}
+
+-- ---- the numbers of a step
+
+-- an answer is no number
+pub answer_aside : (seq : ℕ) (command : CommandName) (result : Result Body Refusal) (step : Step) → step.answer ≡ Some (Answer seq command result) → numbers (messages step) ≡ filter_map output (map Event step.effect.events)
+answer_aside seq command result step is = ap (λ a. numbers (behind a (map Event step.effect.events))) is
+
+pub no_answer : (step : Step) → step.answer ≡ None → numbers (messages step) ≡ filter_map output (map Event step.effect.events)
+no_answer step is = ap (λ a. numbers (behind a (map Event step.effect.events))) is
+
+-- the numbers of a report are told as they are
+outputs_told : (vs : List ℤ) → filter_map output (map Event (map event.Output vs)) ≡ vs
+outputs_told [] = refl
+outputs_told (v ∷ vs) = ap (λ l. v ∷ l) (outputs_told vs)
+
+behind_outputs : (r : Reported) (events : List EventBody) → filter_map output (map Event events) ≡ [] → filter_map output (map Event (outputs r ++ events)) ≡ r.outputs
+behind_outputs r events none =
+    ap (filter_map output) (map-append Event (outputs r) events)
+    ∙ filter_map-append output (map Event (outputs r)) (map Event events)
+    ∙ ap (λ l. filter_map output (map Event (outputs r)) ++ l) none
+    ∙ append-nil (filter_map output (map Event (outputs r)))
+    ∙ outputs_told r.outputs
+
+-- whatever the report's end, its numbers are those that it tells
+pub report_tells : (past : History) (r : Reported) (e : End) → (e ≡ end.NoMemory → r.outputs ≡ []) → filter_map output (map Event (report_effect past r e).events) ≡ r.outputs
+report_tells past r end.More none = outputs_told r.outputs
+report_tells past r (end.Due reason) none = behind_outputs r _ refl
+report_tells past r end.Held none = held_tells (waiting_pause past)
+  where
+    held_tells : (pauses : Bool) → filter_map output (map Event (held past r pauses).events) ≡ r.outputs
+    held_tells true = behind_outputs r _ refl
+    held_tells false = outputs_told r.outputs
+report_tells past r end.Done none = behind_outputs r _ refl
+report_tells past r (end.Fault fault) none = behind_outputs r _ refl
+report_tells past r end.NoMemory none = sym (none refl)
+
+pub report_launches : (past : History) (r : Reported) (e : End) → (report_effect past r e).launched ≡ None
+report_launches past r end.More = refl
+report_launches past r (end.Due reason) = refl
+report_launches past r end.Held = held_launches (waiting_pause past)
+  where
+    held_launches : (pauses : Bool) → (held past r pauses).launched ≡ None
+    held_launches true = refl
+    held_launches false = refl
+report_launches past r end.Done = refl
+report_launches past r (end.Fault fault) = refl
+report_launches past r end.NoMemory = refl
+
+-- a run that a report orders is of the report's text
+pub data GoesAs (text : List ℕ) : Option Run → Type 0 where
+  no_run : GoesAs text None
+  as_text : (run : Run) → run.text ≡ text → GoesAs text (Some run)
+
+pub report_goes : (past : History) (r : Reported) (e : End) → GoesAs r.unit.tree.text.items (last_such go (report_effect past r e).orders)
+report_goes past r end.More = no_run
+report_goes past r (end.Due reason) = no_run
+report_goes past r end.Held = held_goes (waiting_pause past)
+  where
+    held_goes : (pauses : Bool) → GoesAs r.unit.tree.text.items (last_such go (held past r pauses).orders)
+    held_goes true = no_run
+    held_goes false = as_text _ refl
+report_goes past r end.Done = no_run
+report_goes past r (end.Fault fault) = no_run
+report_goes past r end.NoMemory = no_run

@@ -1,0 +1,17 @@
+pub mod Last
+pub mod Orders
+pub mod History
+pub mod Readings
+pub mod Replies
+pub mod Launching
+pub mod Breakpoints
+pub mod Running
+pub mod Frames
+pub mod Inspection
+pub mod Reports
+pub mod Emission
+pub mod Events
+pub mod Output
+pub mod Laws
+pub mod Stops
+pub mod Texts

@@ -1,0 +1,63 @@
+-- Reports of the runner: which are accepted, and what they cause.
+use Rattle.std.specs.Prelude.{◌≡◌, ℕ, ◌+◌, Bool, true, false, List, [], ◌∷◌, ◌++◌, map, Option, None, Some, option_map, unwrap_or}
+use Rattle.dap_msg.specs.declared.outgoing.EventBody.{EventBody}
+use Rattle.dap_msg.specs.declared.outgoing.EventBody.TheVariants as event
+use Rattle.dap_msg.specs.declared.outgoing.StopReason.TheVariants as stop
+use Rattle.dbg_plan.specs.declared.breakpoint.Breakpoint.{Breakpoint}
+use Rattle.dbg_runner.specs.Lawful.{Reported}
+use Rattle.dbg_runner.specs.declared.end.End.{End}
+use Rattle.dbg_runner.specs.declared.end.End.TheVariants as end
+use Rattle.dap_history.specs.declared.situation.Situation.TheVariants.{Running}
+use Rattle.dap_history.specs.Orders.{Plan, Run, PlainOrder, Go}
+use Rattle.dap_history.specs.History.{History, Effect}
+use Rattle.dap_history.specs.Readings.{situation, last_run, runs, position, plan, waiting_plan, waiting_pause}
+use Rattle.dap_history.specs.Replies.{nothing, telling, stop_of, exception_of, stops, ends}
+
+-- the report is of this run, and begins where the program stands
+pub record IsExpected (run : Run) (begins : ℕ) (r : Reported) : Type 0 where
+  pub number : r.run ≡ run.number
+  pub text : r.unit.tree.text.items ≡ run.text
+  pub breakpoints : r.breakpoints ≡ run.plan.breakpoints
+  pub first : r.first ≡ run.plan.first
+  pub mode : r.mode ≡ run.mode
+  pub begins_is : r.begins ≡ begins
+
+-- A report is accepted while the program runs, where it goes on with the run that was ordered last.
+pub record Accepts (past : History) (r : Reported) : Type 0 where
+  pub running : situation past ≡ Running
+  pub run : Run
+  pub run_is : last_run past ≡ Some run
+  pub expected : IsExpected run (position past) r
+
+-- ---- what an accepted report causes
+
+-- first its numbers, in order
+abbrev pub outputs : Reported → List EventBody
+outputs r = map event.Output r.outputs
+
+-- breakpoints that wait are put in where the report ends, and count from the next position
+abbrev pub put_in_at : ℕ → Option (List Breakpoint) → Option Plan
+put_in_at finish waits = option_map (λ bs. record { breakpoints = bs; first = finish + 1 }) waits
+
+-- the numbers, and then these events; the debuggee is here, and what waits is put in
+abbrev pub stands : History → Reported → List EventBody → Effect
+stands past r events =
+    record nothing { events = outputs r ++ events; put_in = put_in_at r.finish (waiting_plan past) }
+
+-- the run goes on as another one, in the same mode, where it was held
+abbrev pub goes_on : History → Reported → Effect
+goes_on past r =
+    let put_in = put_in_at r.finish (waiting_plan past) in
+    record nothing { events = outputs r; put_in = put_in; orders = Go (record { number = runs past + 1; text = r.unit.tree.text.items; begins = r.finish; plan = unwrap_or put_in (plan past); mode = r.mode }) ∷ [] }
+
+abbrev pub held : History → Reported → Bool → Effect
+held past r true = stands past r (stops stop.Pause)
+held past r false = goes_on past r
+
+abbrev pub report_effect : History → Reported → End → Effect
+report_effect past r end.More = telling (outputs r)
+report_effect past r (end.Due reason) = stands past r (stops (stop_of reason))
+report_effect past r end.Held = held past r (waiting_pause past)
+report_effect past r end.Done = telling (outputs r ++ ends 0)
+report_effect past r (end.Fault fault) = stands past r (stops (stop.Exception (exception_of fault)))
+report_effect past r end.NoMemory = nothing
