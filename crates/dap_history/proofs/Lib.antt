@@ -13,3 +13,4 @@ pub mod Rows
 pub mod Each
 pub mod Behind
 pub mod BehindStops
+pub mod Standing

@@ -30,7 +30,7 @@ use Rattle.dap_history.specs.Laws.{output, numbers, NumbersAreWritten}
 use Rattle.dap_history.proofs.Readings.{messages_of-snoc, launched-snoc, position-snoc, last_run-snoc, situation-snoc}
 use Rattle.dap_history.proofs.Along.{IsTaken, IsKept, lawful_reports, along}
 use Rattle.dap_history.proofs.Early.{IsEarly, IsEarlyMark, unanswered_late, answered_late, result_late, early_reply, early_unwrap}
-use Rattle.dap_history.proofs.Silent.{GoesBy, no_go, of_text, IsSilent, all_silent}
+use Rattle.dap_history.proofs.Silent.{GoesBy, no_go, of_text, no_stop, IsSilent, all_silent}
 use Rattle.dap_history.proofs.Outputs.{answer_aside, no_answer, report_tells, report_launches, GoesAs, no_run, as_text, report_goes}
 
 -- what is told before a program is launched, and after
@@ -69,12 +69,12 @@ pub record IsAside (past : History) (step : Step) : Type 0 where
 
 goes_none : (past : History) (o : Option Run) → GoesBy past o → launched past ≡ None → o ≡ None
 goes_none past None no_go is = refl
-goes_none past (Some run) (of_text run' l there text) is = absurd cc
+goes_none past (Some run) (of_text run' l there text begins) is = absurd cc
 
 goes_text : (past : History) (o : Option Run) (l : Launched) → GoesBy past o → launched past ≡ Some l → ((run : Run) → last_run past ≡ Some run → run.text ≡ l.text)
     → (run : Run) → or_else o (last_run past) ≡ Some run → run.text ≡ l.text
 goes_text past None l no_go is before run e = before run e
-goes_text past (Some other) l (of_text run' k there text) is before run e =
+goes_text past (Some other) l (of_text run' k there text begins) is before run e =
     let same : other ≡ run = cc in
     let launch : k ≡ l = cc in
     ap (λ (r : Run). r.text) (sym same) ∙ text ∙ ap (λ (k : Launched). k.text) launch
@@ -105,7 +105,7 @@ aside_keeps past step aside marks told = record {
     was_early (inl m) = subst IsEarly (sym (marks m)) tt
     was_early (inr is) = is.1
 
-silent_aside : (past : History) (step : Step) (effect : Effect) → step.effect ≡ effect → finish_of step.item ≡ None → IsSilent past effect → numbers (messages step) ≡ filter_map output (map Event step.effect.events) → IsAside past step
+silent_aside : (past : History) (step : Step) (effect : Effect) → step.effect ≡ effect → finish_of step.item ≡ None → IsSilent (situation past) past effect → numbers (messages step) ≡ filter_map output (map Event step.effect.events) → IsAside past step
 silent_aside past step effect is stays silent tells = record {
   tells_none = tells ∙ ap (λ (e : Effect). filter_map output (map Event e.events)) is ∙ silent.tells_none;
   launches_none = ap (λ (e : Effect). e.launched) is ∙ silent.launches_none;
@@ -113,7 +113,7 @@ silent_aside past step effect is stays silent tells = record {
   goes = subst (λ (e : Effect). GoesBy past (last_such go e.orders)) (sym is) silent.goes;
 }
 
-nothing_aside : (past : History) (item : Item) (step : Step) → step.item ≡ item → finish_of item ≡ None → (effect : Effect) → IsSilent past effect → HasEffect effect step → Told past → Told (past ++ step ∷ [])
+nothing_aside : (past : History) (item : Item) (step : Step) → step.item ≡ item → finish_of item ≡ None → (effect : Effect) → IsSilent (situation past) past effect → HasEffect effect step → Told past → Told (past ++ step ∷ [])
 nothing_aside past item step is stays effect silent has told =
     aside_keeps past step (silent_aside past step effect has.effect_is (ap finish_of is ∙ stays) silent (no_answer step has.answer_is))
     (λ m. absurd (unanswered_late step has.answer_is m)) told
@@ -176,7 +176,7 @@ module _ (one : OneProgram) (joins : WrittenJoins) where
 
   -- ---- a launch
 
-  launch_aside : (past : History) (launch : Launch) (file : Option (List ℕ)) (step : Step) → step.item ≡ Loaded launch file → (reply : Reply) (effect : Effect) → reply.effect ≡ effect → IsSilent past effect
+  launch_aside : (past : History) (launch : Launch) (file : Option (List ℕ)) (step : Step) → step.item ≡ Loaded launch file → (reply : Reply) (effect : Effect) → reply.effect ≡ effect → IsSilent (situation past) past effect
       → Answers launch.seq (name.Supported supported.Launch) reply step → Told past → Told (past ++ step ∷ [])
   launch_aside past launch file step is reply effect same silent answers told =
       aside_keeps past step
@@ -186,9 +186,9 @@ module _ (one : OneProgram) (joins : WrittenJoins) where
   launch_keeps : (past : History) (launch : Launch) (file : Option (List ℕ)) (step : Step) → step.item ≡ Loaded launch file → situation past ≡ Ready
       → (reply : Reply) → Launches launch.arguments file reply → Answers launch.seq (name.Supported supported.Launch) reply step → Told past → Told (past ++ step ∷ [])
   launch_keeps past launch None step is ready reply launches answers told =
-      launch_aside past launch None step is reply nothing (ap (λ (r : Reply). r.effect) launches) (record { tells_none = refl; launches_none = refl; goes = no_go }) answers told
+      launch_aside past launch None step is reply nothing (ap (λ (r : Reply). r.effect) launches) (record { tells_none = refl; launches_none = refl; goes = no_go; stops = no_stop }) answers told
   launch_keeps past launch (Some text) step is ready reply (inl refuses) answers told =
-      launch_aside past launch (Some text) step is reply nothing (ap (λ (r : Reply). r.effect) refuses.reply_is) (record { tells_none = refl; launches_none = refl; goes = no_go }) answers told
+      launch_aside past launch (Some text) step is reply nothing (ap (λ (r : Reply). r.effect) refuses.reply_is) (record { tells_none = refl; launches_none = refl; goes = no_go; stops = no_stop }) answers told
   launch_keeps past launch (Some text) step is ready reply (inr launched_) answers told =
       let effect : step.effect ≡ launches launch.arguments text launched_.program = answers.effect_is ∙ ap (λ (r : Reply). r.effect) launched_.reply_is in
       let before = told.tells None (told.early (subst IsEarly (sym ready) tt)) in
@@ -226,7 +226,7 @@ module _ (one : OneProgram) (joins : WrittenJoins) where
   -- ---- each item
 
   pub told_more : (past : History) (item : Item) (step : Step) → step.item ≡ item → IsTaken IsLawful past item → Causes past item step → Told past → Told (past ++ step ∷ [])
-  told_more past (Content None) step is taken causes told = nothing_aside past (Content None) step is refl nothing (record { tells_none = refl; launches_none = refl; goes = no_go }) causes told
+  told_more past (Content None) step is taken causes told = nothing_aside past (Content None) step is refl nothing (record { tells_none = refl; launches_none = refl; goes = no_go; stops = no_stop }) causes told
   told_more past (Content (Some request)) step is taken causes told =
       aside_keeps past step
       (silent_aside past step causes.0.effect causes.2.effect_is (ap finish_of is) (all_silent (situation past) past request.body causes.0 causes.1) (answer_aside _ _ _ step causes.2.answer_is))
@@ -236,10 +236,10 @@ module _ (one : OneProgram) (joins : WrittenJoins) where
       by_answer not = early_reply (situation past) past request.body causes.0 causes.1 (decided (answer_mark (name_of request.body) causes.0.result) not)
   told_more past (Loaded launch file) step is ready causes told = launch_keeps past launch file step is ready causes.0 causes.1 causes.2 told
   told_more past (Accepted r) step is taken causes told = report_keeps past r step is causes taken.0 taken.1 told
-  told_more past (Fault k) step is taken causes told = nothing_aside past (Fault k) step is refl nothing (record { tells_none = refl; launches_none = refl; goes = no_go }) causes told
-  told_more past InputEnd step is taken causes told = nothing_aside past InputEnd step is refl (ordering (Quit ∷ [])) (record { tells_none = refl; launches_none = refl; goes = no_go }) causes told
-  told_more past ReadFailure step is taken causes told = nothing_aside past ReadFailure step is refl (ordering (Quit ∷ [])) (record { tells_none = refl; launches_none = refl; goes = no_go }) causes told
-  told_more past MemoryFailure step is taken causes told = nothing_aside past MemoryFailure step is refl nothing (record { tells_none = refl; launches_none = refl; goes = no_go }) causes told
+  told_more past (Fault k) step is taken causes told = nothing_aside past (Fault k) step is refl nothing (record { tells_none = refl; launches_none = refl; goes = no_go; stops = no_stop }) causes told
+  told_more past InputEnd step is taken causes told = nothing_aside past InputEnd step is refl (ordering (Quit ∷ [])) (record { tells_none = refl; launches_none = refl; goes = no_go; stops = no_stop }) causes told
+  told_more past ReadFailure step is taken causes told = nothing_aside past ReadFailure step is refl (ordering (Quit ∷ [])) (record { tells_none = refl; launches_none = refl; goes = no_go; stops = no_stop }) causes told
+  told_more past MemoryFailure step is taken causes told = nothing_aside past MemoryFailure step is refl nothing (record { tells_none = refl; launches_none = refl; goes = no_go; stops = no_stop }) causes told
 
   pub told_kept : IsKept IsLawful Told
   told_kept = record {

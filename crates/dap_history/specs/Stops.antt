@@ -4,8 +4,7 @@ use Rattle.dap_msg.specs.Commands.{name_of}
 use Rattle.dap_msg.specs.declared.request.Request.{Request}
 use Rattle.dap_msg.specs.declared.command.Command.{Command}
 use Rattle.dap_msg.specs.declared.command.Command.TheVariants as command
-use Rattle.dap_msg.specs.declared.outgoing.Outgoing.{Outgoing}
-use Rattle.dap_msg.specs.declared.outgoing.Outgoing.TheVariants.{Answer, Event}
+use Rattle.dap_msg.specs.declared.outgoing.Outgoing.TheVariants.{Answer}
 use Rattle.dap_msg.specs.declared.outgoing.Body.{Body}
 use Rattle.dap_msg.specs.declared.outgoing.EventBody.{EventBody}
 use Rattle.dap_msg.specs.declared.outgoing.EventBody.TheVariants as event
@@ -17,10 +16,12 @@ use Rattle.dbg_plan.specs.declared.mode.Mode.{Mode}
 use Rattle.dbg_plan.specs.declared.mode.Mode.TheVariants as mode
 use Rattle.dbg_plan.specs.declared.mode.Reason.{Reason}
 use Rattle.dbg_plan.specs.Due.{due}
+use Rattle.dap_history.specs.declared.situation.Situation.{Situation}
+use Rattle.dap_history.specs.declared.situation.Situation.TheVariants.{Stopped, Faulted}
 use Rattle.dap_history.specs.Last.{last_such}
 use Rattle.dap_history.specs.Orders.{Run}
 use Rattle.dap_history.specs.History.{Launched, Content, Step, History}
-use Rattle.dap_history.specs.Readings.{launched, last_run, position, plan}
+use Rattle.dap_history.specs.Readings.{situation, launched, last_run, position, plan}
 use Rattle.dap_history.specs.Replies.{Reply, stop_of, exception_of}
 use Rattle.dap_history.specs.Inspection.{RepliesAt, asked_of}
 use Rattle.dap_history.specs.Events.{Incoming, Rest, AreLawful, IsHistoryOf}
@@ -29,11 +30,11 @@ abbrev pub stop_told : EventBody → Option StopReason
 stop_told (event.Stopped reason) = Some reason
 stop_told _ = None
 
--- the stop that a step tells, if it tells one
+-- the stop that a step reports, if it reports one
 abbrev pub stop_in : Step → Option StopReason
 stop_in step = last_such stop_told step.effect.events
 
--- In this history, behind what came before, the program stopped at position m.
+-- In this history, after what came before, the program stopped at position m.
 pub record StopsAt (past before : History) (reason : StopReason) (m : ℕ) : Type 0 where
   pub step : Step
   pub after : History
@@ -66,7 +67,7 @@ IsRunsStop l run reason m =
 abbrev pub first_mode : Launched → Mode
 first_mode l = if l.stop_on_entry then mode.Entry else mode.Continue
 
--- A stop behind these steps: of the last run, or, before any, at position 0.
+-- A stop after these steps: of the last run, or, before any, at position 0.
 abbrev pub IsRightStop : Launched → History → Option Run → StopReason → ℕ → Type 0
 IsRightStop l before (Some run) reason m = IsRunsStop l run reason m
 IsRightStop l before None reason m =
@@ -79,6 +80,12 @@ EachStopIsRight =
     → (l : Launched) × (launched before ≡ Some l) × IsRightStop l before (last_run before) reason m
 
 -- ---- what is asked at a stop
+
+-- the program stands: of runs that began, stops and ends, the last was a stop
+abbrev pub IsStanding : Situation → Type 0
+IsStanding Stopped = Unit {0}
+IsStanding Faulted = Unit {0}
+IsStanding _ = ⊥
 
 -- the program stopped last at position m
 pub record StoppedLastAt (past : History) (m : ℕ) : Type 0 where
@@ -98,24 +105,24 @@ IsQuestion (command.Variables asked) = Unit {0}
 IsQuestion (command.Evaluate asked) = Unit {0}
 IsQuestion _ = ⊥
 
--- Behind these steps the question was answered with this body.
-pub record AnswersQuestion (past before : History) (request : Request) (b : Body) : Type 0 where
-  pub step : Step
+-- after these steps the question was taken
+pub record Asks (past before : History) (request : Request) (step : Step) : Type 0 where
   pub after : History
   pub past_is : past ≡ before ++ step ∷ after
   pub item_is : step.item ≡ Content (Some request)
   pub question : IsQuestion request.body
-  pub answer_is : step.answer ≡ Some (Answer request.seq (name_of request.body) (Ok b))
 
--- the body is what the program shows at position m
-pub record IsShownAt (l : Launched) (before : History) (m : ℕ) (question : Command) (b : Body) : Type 0 where
+-- the step answers the question by what the program shows at position m
+pub record AnswersFrom (l : Launched) (before : History) (m : ℕ) (request : Request) (step : Step) : Type 0 where
   pub reply : Reply
-  pub result_is : reply.result ≡ Ok b
-  pub shown : RepliesAt (asked_of before l) (at l.program m) question reply
+  pub shown : RepliesAt (asked_of before l) (at l.program m) request.body reply
+  pub answer_is : step.answer ≡ Some (Answer request.seq (name_of request.body) reply.result)
 
--- Frames, scopes, variables and values are those of the launched program at the last stop.
+-- Where the program stands, frames, scopes, variables and values are those of the launched program at its last stop.
+-- Elsewhere no question is answered with a body.
 abbrev pub QuestionsAreAnsweredThere : Type 0
 QuestionsAreAnsweredThere =
     (events : List Incoming) (past : History) (rest : Rest) → IsHistoryOf events past rest
-    → (before : History) (request : Request) (b : Body) → AnswersQuestion past before request b
-    → (l : Launched) × (m : ℕ) × (launched before ≡ Some l) × StoppedLastAt before m × IsShownAt l before m request.body b
+    → (before : History) (request : Request) (step : Step) → Asks past before request step
+    → (IsStanding (situation before) → (l : Launched) × (m : ℕ) × (launched before ≡ Some l) × StoppedLastAt before m × AnswersFrom l before m request step)
+    × ((b : Body) → step.answer ≡ Some (Answer request.seq (name_of request.body) (Ok b)) → IsStanding (situation before))

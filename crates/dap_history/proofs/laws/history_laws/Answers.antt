@@ -3,6 +3,7 @@ use Rattle.dap_history.proofs.Last.{disconnect_last}
 use Rattle.dap_history.proofs.Numbered.{numbers_count}
 use Rattle.dap_history.proofs.BehindStops.{stops_stand_behind}
 use Rattle.dap_history.proofs.Told.{numbers_written}
+use Rattle.dap_history.proofs.Standing.{questions_answered}
 use Rattle.dap_history.proofs.laws.history_laws.Goals as goal
 
 pub returns-clause-answers : goal.returns-clause-answers
@@ -19,3 +20,6 @@ returns-clause-outputs c = λ one. numbers_written one c.meaning_laws.ensures.jo
 
 pub returns-clause-behind : goal.returns-clause-behind
 returns-clause-behind c = λ one. stops_stand_behind one c.meaning_laws.ensures.joins
+
+pub returns-clause-questions : goal.returns-clause-questions
+returns-clause-questions c = questions_answered
