@@ -14,3 +14,5 @@ pub mod Each
 pub mod Behind
 pub mod BehindStops
 pub mod Standing
+pub mod Passing
+pub mod Stopping

@@ -75,19 +75,22 @@ report_launches past r end.Done = refl
 report_launches past r (end.Fault fault) = refl
 report_launches past r end.NoMemory = refl
 
--- a run that a report orders is of the report's text
-pub data GoesAs (text : List ℕ) : Option Run → Type 0 where
-  no_run : GoesAs text None
-  as_text : (run : Run) → run.text ≡ text → GoesAs text (Some run)
+-- a run that a report orders is of the report's text, and begins at its end
+pub data GoesAs (text : List ℕ) (finish : ℕ) : Option Run → Type 0 where
+  no_run : GoesAs text finish None
+  as_text : (run : Run) → run.text ≡ text → run.begins ≡ finish → GoesAs text finish (Some run)
 
-pub report_goes : (past : History) (r : Reported) (e : End) → GoesAs r.unit.tree.text.items (last_such go (report_effect past r e).orders)
+abbrev pub GoesOn : Reported → Effect → Type 0
+GoesOn r effect = GoesAs r.unit.tree.text.items r.finish (last_such go effect.orders)
+
+pub report_goes : (past : History) (r : Reported) (e : End) → GoesOn r (report_effect past r e)
 report_goes past r end.More = no_run
 report_goes past r (end.Due reason) = no_run
 report_goes past r end.Held = held_goes (waiting_pause past)
   where
-    held_goes : (pauses : Bool) → GoesAs r.unit.tree.text.items (last_such go (held past r pauses).orders)
+    held_goes : (pauses : Bool) → GoesOn r (held past r pauses)
     held_goes true = no_run
-    held_goes false = as_text _ refl
+    held_goes false = as_text _ refl refl
 report_goes past r end.Done = no_run
 report_goes past r (end.Fault fault) = no_run
 report_goes past r end.NoMemory = no_run

@@ -31,7 +31,7 @@ use Rattle.dap_history.proofs.Readings.{messages_of-snoc, launched-snoc, positio
 use Rattle.dap_history.proofs.Along.{IsTaken, IsKept, lawful_reports, along}
 use Rattle.dap_history.proofs.Early.{IsEarly, IsEarlyMark, unanswered_late, answered_late, result_late, early_reply, early_unwrap}
 use Rattle.dap_history.proofs.Silent.{GoesBy, no_go, of_text, no_stop, IsSilent, all_silent}
-use Rattle.dap_history.proofs.Outputs.{answer_aside, no_answer, report_tells, report_launches, GoesAs, no_run, as_text, report_goes}
+use Rattle.dap_history.proofs.Outputs.{answer_aside, no_answer, report_tells, report_launches, GoesAs, GoesOn, no_run, as_text, report_goes}
 
 -- what is told before a program is launched, and after
 abbrev pub TellsOf : History → Option Launched → Type 0
@@ -130,13 +130,13 @@ module _ (one : OneProgram) (joins : WrittenJoins) where
   report_text : (past : History) (r : Reported) (l : Launched) → Accepts past r → TellsOf past (Some l) → r.unit.tree.text.items ≡ l.text
   report_text past r l accepts tells = accepts.expected.text ∙ tells.1 accepts.run accepts.run_is
 
-  report_program : (past : History) (r : Reported) (l : Launched) → Accepts past r → TellsOf past (Some l) → reported_program r ≡ l.program
+  pub report_program : (past : History) (r : Reported) (l : Launched) → Accepts past r → TellsOf past (Some l) → reported_program r ≡ l.program
   report_program past r l accepts tells =
       one l.text _ _ (subst (λ t. ∥ IsTreeOf t (reported_program r) ∥₁) (report_text past r l accepts tells) r.unit.tree.lawful) tells.2
 
-  as_run : (text : List ℕ) (o : Option Run) (before : Option Run) → GoesAs text o → ((run : Run) → before ≡ Some run → run.text ≡ text) → (run : Run) → or_else o before ≡ Some run → run.text ≡ text
-  as_run text None before no_run was run e = was run e
-  as_run text (Some other) before (as_text run' is) was run e =
+  as_run : (text : List ℕ) (finish : ℕ) (o : Option Run) (before : Option Run) → GoesAs text finish o → ((run : Run) → before ≡ Some run → run.text ≡ text) → (run : Run) → or_else o before ≡ Some run → run.text ≡ text
+  as_run text finish None before no_run was run e = was run e
+  as_run text finish (Some other) before (as_text run' is begins) was run e =
       let same : other ≡ run = cc in ap (λ (r : Run). r.text) (sym same) ∙ is
 
   report_tells_of : (past : History) (r : Reported) (step : Step) → step.item ≡ Accepted r → HasEffect (report_effect past r r.ends) step → Accepts past r → IsLawful r
@@ -155,8 +155,8 @@ module _ (one : OneProgram) (joins : WrittenJoins) where
             ∙ ap (λ n. written l.program 0 (position past) ++ n) (told ∙ wrote)
             ∙ joins l.program 0 (position past) r.finish (omega arith) behind
             ∙ ap (written l.program 0) (sym here),
-        λ run e. as_run l.text (last_such go step.effect.orders) (last_run past)
-            (subst (λ t. GoesAs t (last_such go step.effect.orders)) text (subst (λ (e : Effect). GoesAs r.unit.tree.text.items (last_such go e.orders)) (sym has.effect_is) (report_goes past r r.ends)))
+        λ run e. as_run l.text r.finish (last_such go step.effect.orders) (last_run past)
+            (subst (λ t. GoesAs t r.finish (last_such go step.effect.orders)) text (subst (GoesOn r) (sym has.effect_is) (report_goes past r r.ends)))
             tells.1 run (sym (last_run-snoc past step) ∙ e),
         tells.2,
       )

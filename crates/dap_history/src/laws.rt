@@ -1,5 +1,5 @@
 ghost use Rattle.dap_history.specs.Laws.{EachIsAnsweredOnce, SeqCountFromOne, DisconnectIsLast, NumbersAreWritten, StopsStandBehind};
-ghost use Rattle.dap_history.specs.Stops.{QuestionsAreAnsweredThere};
+ghost use Rattle.dap_history.specs.Stops.{EachStopIsRight, QuestionsAreAnsweredThere};
 ghost use Rattle.dap_history.specs.Texts.{OneProgram};
 
 use pl0_meaning::meaning_laws;
@@ -11,6 +11,7 @@ pub fn history_laws()
     ensures last { DisconnectIsLast }
     ensures outputs { OneProgram → NumbersAreWritten }
     ensures behind { OneProgram → StopsStandBehind }
+    ensures stops { OneProgram → EachStopIsRight }
     ensures questions { QuestionsAreAnsweredThere }
 {
     meaning_laws();

@@ -3,6 +3,7 @@ use Rattle.dap_history.proofs.Last.{disconnect_last}
 use Rattle.dap_history.proofs.Numbered.{numbers_count}
 use Rattle.dap_history.proofs.BehindStops.{stops_stand_behind}
 use Rattle.dap_history.proofs.Told.{numbers_written}
+use Rattle.dap_history.proofs.Stopping.{each_stop_right}
 use Rattle.dap_history.proofs.Standing.{questions_answered}
 use Rattle.dap_history.proofs.laws.history_laws.Goals as goal
 
@@ -23,3 +24,6 @@ returns-clause-behind c = λ one. stops_stand_behind one c.meaning_laws.ensures.
 
 pub returns-clause-questions : goal.returns-clause-questions
 returns-clause-questions c = questions_answered
+
+pub returns-clause-stops : goal.returns-clause-stops
+returns-clause-stops c = λ one. each_stop_right one c.meaning_laws.ensures.joins
