@@ -63,7 +63,7 @@ each_kept Q P kept = record {
           causes = subst (λ i. Causes past i after.step) (sym after.item_is) after.causes;
         }))
 
-none_first : (front : History) (step : Step) (more : History) → ¬ ([] ≡ front ++ step ∷ more)
+pub none_first : (front : History) (step : Step) (more : History) → ¬ ([] ≡ front ++ step ∷ more)
 none_first [] step more e = absurd cc
 none_first (x ∷ xs) step more e = absurd cc
 

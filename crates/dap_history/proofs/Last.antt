@@ -1,94 +1,73 @@
--- The answer to the `disconnect` that closed is the last message.
-use Rattle.std.proofs.Common.{◌≡◌, ℕ, List, [], ◌∷◌, ◌++◌, Option, None, Some, Ok, refl, sym, ◌∙◌, ap, subst}
+-- A `disconnect` that is taken is the last item, and its answer the last message.
+use Rattle.std.proofs.Common.{◌≡◌, ◌⊎◌, inl, inr, ℕ, List, [], ◌∷◌, ◌++◌, Option, None, Some, Ok, refl, sym, ◌∙◌, ap, subst}
 use Rattle.std.specs.Prelude.{map}
-use Rattle.dap_msg.specs.Commands.{name_of}
-use Rattle.dap_msg.specs.declared.command.Command.{Command}
 use Rattle.dap_msg.specs.declared.command.Command.TheVariants as command
 use Rattle.dap_msg.specs.declared.command.CommandName.TheVariants as name
 use Rattle.dap_msg.specs.declared.command.Supported.TheVariants.{Disconnect}
-use Rattle.dap_msg.specs.declared.outgoing.Outgoing.{Outgoing}
 use Rattle.dap_msg.specs.declared.outgoing.Outgoing.TheVariants.{Answer, Event}
 use Rattle.dap_msg.specs.declared.outgoing.Body.TheVariants as body
-use Rattle.dbg_runner.specs.declared.end.End.{End}
-use Rattle.dbg_runner.specs.declared.end.End.TheVariants as end
-use Rattle.dap_history.specs.declared.ending.Closed.TheVariants.{Disconnected}
-use Rattle.dap_history.specs.declared.ending.Ending.TheVariants as ending
-use Rattle.dap_history.specs.declared.situation.Situation.{Situation}
-use Rattle.dap_history.specs.Last.{or_else}
-use Rattle.dap_history.specs.History.{Item, Content, Loaded, Accepted, Fault, InputEnd, ReadFailure, MemoryFailure, Step, History, behind, messages, messages_of}
-use Rattle.dap_history.specs.Readings.{situation, closing, closing_command, closing_report, ending_of}
+use Rattle.dbg_runner.specs.Lawful.{Reported}
+use Rattle.dap_history.specs.declared.ending.Ending.{Ending}
+use Rattle.dap_history.specs.Last.{or_else, last_such}
+use Rattle.dap_history.specs.History.{Item, Content, Step, History, behind, messages, messages_of}
+use Rattle.dap_history.specs.Readings.{closing, ending_of}
 use Rattle.dap_history.specs.Replies.{Reply}
-use Rattle.dap_history.specs.Emission.{RepliesIn, Answers, Causes, IsAfter}
+use Rattle.dap_history.specs.Emission.{Causes, IsAfter}
 use Rattle.dap_history.specs.Events.{IsTaking}
 use Rattle.dap_history.specs.Laws.{DisconnectIsLast}
-use Rattle.dap_history.proofs.Readings.{or_else-none, messages_of-snoc, ending_of-snoc}
-use Rattle.dap_history.proofs.Along.{IsKept, any_reports, along}
+use Rattle.dap_history.proofs.Readings.{last_such-append, messages_of-snoc}
+use Rattle.dap_history.proofs.Along.{IsTaken, IsKept, any_reports, along}
+use Rattle.dap_history.proofs.Each.{splits, none_first, WasTaken, EachTaken, each_kept, each_first}
+use Rattle.dap_history.proofs.Passing.{none_left}
 
-abbrev EndsWell : History → Type 0
-EndsWell past =
-    ending_of past ≡ Some (ending.Closed Disconnected)
-    → (before : List Outgoing) × (seq : ℕ) × (messages_of past ≡ before ++ Answer seq (name.Supported Disconnect) (Ok body.None) ∷ [])
+-- no item follows one that closes
+pub record ClosesLast (past : History) : Type 0 where
+  pub last : (before : History) (step : Step) (after : History) (by : Ending) → past ≡ before ++ step ∷ after → closing step.item ≡ Some by → after ≡ []
 
--- a command that closes is `disconnect`, and is answered without events
-abbrev IsLastAnswer : ℕ → Command → Step → Type 0
-IsLastAnswer seq asked step = messages step ≡ Answer seq (name.Supported Disconnect) (Ok body.None) ∷ []
+-- where an item closed, none is taken any more
+closed_there : (before : History) (step : Step) (after : History) (by : Ending) → closing step.item ≡ Some by → ¬ IsTaking (before ++ step ∷ after)
+closed_there before step after by closes taking =
+    let none = none_left (ending_of (step ∷ after)) (ending_of before) (sym (last_such-append (λ (s : Step). closing s.item) before (step ∷ after)) ∙ taking) in
+    let e = sym (none_left (ending_of after) (closing step.item) none.0).1 ∙ closes in
+    absurd cc
 
-disconnects : (s : Situation) (past : History) (seq : ℕ) (asked : Command) (reply : Reply) (step : Step) → closing_command asked ≡ Some (ending.Closed Disconnected)
-    → RepliesIn s past asked reply → Answers seq (name_of asked) reply step → IsLastAnswer seq asked step
-disconnects s past seq command.Disconnect reply step is replies answers =
-    ap (λ a. behind a (map Event step.effect.events)) answers.answer_is
-    ∙ ap (λ e. Answer seq (name.Supported Disconnect) reply.result ∷ map Event e.events) answers.effect_is
-    ∙ ap (λ r. Answer seq (name.Supported Disconnect) r.result ∷ map Event r.effect.events) replies
-disconnects s past seq (command.Initialize a) reply step is replies answers = absurd cc
-disconnects s past seq (command.Launch a) reply step is replies answers = absurd cc
-disconnects s past seq (command.SetBreakpoints a) reply step is replies answers = absurd cc
-disconnects s past seq command.ConfigurationDone reply step is replies answers = absurd cc
-disconnects s past seq command.Threads reply step is replies answers = absurd cc
-disconnects s past seq (command.Continue a) reply step is replies answers = absurd cc
-disconnects s past seq (command.Next a) reply step is replies answers = absurd cc
-disconnects s past seq (command.StepIn a) reply step is replies answers = absurd cc
-disconnects s past seq (command.StepOut a) reply step is replies answers = absurd cc
-disconnects s past seq (command.Pause a) reply step is replies answers = absurd cc
-disconnects s past seq (command.StackTrace a) reply step is replies answers = absurd cc
-disconnects s past seq (command.Scopes a) reply step is replies answers = absurd cc
-disconnects s past seq (command.Variables a) reply step is replies answers = absurd cc
-disconnects s past seq (command.Evaluate a) reply step is replies answers = absurd cc
-disconnects s past seq (command.Unsupported a) reply step is replies answers = absurd cc
-disconnects s past seq (command.BadArguments a) reply step is replies answers = absurd cc
+closes_last_more : (past : History) (s : Step) → IsTaking past → ClosesLast past → ClosesLast (past ++ s ∷ [])
+closes_last_more past s taking here = record {
+  last = λ before step after by is closes. by_place before step after by closes (splits past s before step after is);
+}
+  where
+    by_place : (before : History) (step : Step) (after : History) (by : Ending) → closing step.item ≡ Some by
+        → ((past ≡ before) × (s ≡ step) × (after ≡ [])) ⊎ ((rest : History) × (past ≡ before ++ step ∷ rest)) → after ≡ []
+    by_place before step after by closes (inl is) = is.2
+    by_place before step after by closes (inr is) = absurd (closed_there before step is.0 by closes (subst IsTaking is.1 taking))
 
--- no report disconnects
-report_stays : (e : End) → ¬ (closing_report e ≡ Some (ending.Closed Disconnected))
-report_stays end.More is = absurd cc
-report_stays (end.Due r) is = absurd cc
-report_stays end.Held is = absurd cc
-report_stays end.Done is = absurd cc
-report_stays (end.Fault f) is = absurd cc
-report_stays end.NoMemory is = absurd cc
-
-last_of : (past : History) (item : Item) (step : Step) → closing item ≡ Some (ending.Closed Disconnected) → Causes past item step
-    → (seq : ℕ) × (messages step ≡ Answer seq (name.Supported Disconnect) (Ok body.None) ∷ [])
-last_of past (Content None) step is causes = absurd cc
-last_of past (Content (Some request)) step is causes =
-    (request.seq, disconnects (situation past) past request.seq request.body causes.0 step is causes.1 causes.2)
-last_of past (Loaded launch file) step is causes = absurd cc
-last_of past (Accepted r) step is causes = absurd (report_stays r.ends is)
-last_of past (Fault k) step is causes = absurd cc
-last_of past InputEnd step is causes = absurd cc
-last_of past ReadFailure step is causes = absurd cc
-last_of past MemoryFailure step is causes = absurd cc
-
-ends_well : (past : History) (item : Item) (step : Step) → step.item ≡ item → IsTaking past → Causes past item step → EndsWell (past ++ step ∷ [])
-ends_well past item step item_is taking causes is =
-    let closes : closing item ≡ Some (ending.Closed Disconnected) =
-    ap closing (sym item_is) ∙ sym (ending_of-snoc past step ∙ ap (or_else (closing step.item)) taking ∙ or_else-none (closing step.item)) ∙ is in
-    let last = last_of past item step closes causes in
-    (messages_of past, last.0, messages_of-snoc past step ∙ ap (λ l. messages_of past ++ l) last.1)
-
-ends_kept : IsKept (λ r. Unit {0}) EndsWell
-ends_kept = record {
-  step = λ past item new taking taken after here.
-      subst EndsWell (sym after.new_is) (ends_well past item after.step after.item_is taking after.causes);
+closes_last_kept : (Q : Reported → Type 0) → IsKept Q ClosesLast
+closes_last_kept Q = record {
+  step = λ past item new taking taken after here. subst ClosesLast (sym after.new_is) (closes_last_more past after.step taking here);
 }
 
+closes_last_first : ClosesLast []
+closes_last_first = record { last = λ before step after by is closes. absurd (none_first before step after is) }
+
+-- the messages of a `disconnect`
+answers_it : (past : History) (step : Step) (seq : ℕ) → Causes past (Content (Some (record { seq = seq; body = command.Disconnect }))) step → messages step ≡ Answer seq (name.Supported Disconnect) (Ok body.None) ∷ []
+answers_it past step seq is =
+    ap (λ a. behind a (map Event step.effect.events)) is.2.answer_is
+    ∙ ap (λ e. Answer seq (name.Supported Disconnect) is.0.result ∷ map Event e.events) is.2.effect_is
+    ∙ ap (λ (r : Reply). Answer seq (name.Supported Disconnect) r.result ∷ map Event r.effect.events) is.1
+
 pub disconnect_last : DisconnectIsLast
-disconnect_last events past rest history = along (λ r. Unit {0}) EndsWell ends_kept (λ is. absurd cc) events past rest (any_reports events) history
+disconnect_last events past rest history before step after seq past_is item_is = (
+  ends,
+  ap messages_of (past_is ∙ ap (λ a. before ++ step ∷ a) ends) ∙ messages_of-snoc before step
+      ∙ ap (λ l. messages_of before ++ l) (answers_it before step seq (subst (λ i. Causes before i step) item_is was.causes)),
+)
+  where
+    each : EachTaken (λ r. Unit {0}) ClosesLast past
+    each = along (λ r. Unit {0}) (EachTaken (λ r. Unit {0}) ClosesLast) (each_kept (λ r. Unit {0}) ClosesLast (closes_last_kept (λ r. Unit {0}))) (each_first (λ r. Unit {0}) ClosesLast closes_last_first) events past rest (any_reports events) history
+
+    was : WasTaken (λ r. Unit {0}) ClosesLast before step
+    was = each.each before step after past_is
+
+    ends : after ≡ []
+    ends = each.now.last before step after _ past_is (ap closing item_is)

@@ -3,6 +3,7 @@ use Rattle.std.specs.Prelude.{◌≡◌, ◌++◌, ◌∷◌, [], ℕ, ◌+◌, 
 use Rattle.std.specs.List.{filter_map}
 use Rattle.dap_frame.specs.Frame.{frame_of}
 use Rattle.dap_msg.specs.Commands.{name_of}
+use Rattle.dap_msg.specs.declared.command.Command.TheVariants as command
 use Rattle.dap_msg.specs.declared.command.CommandName.{CommandName}
 use Rattle.dap_msg.specs.declared.command.CommandName.TheVariants as name
 use Rattle.dap_msg.specs.declared.command.Supported.TheVariants as supported
@@ -13,10 +14,8 @@ use Rattle.dap_msg.specs.declared.outgoing.EventBody.TheVariants as event
 use Rattle.dap_msg.specs.declared.outgoing.StopReason.{StopReason}
 use Rattle.dap_msg.specs.Outgoing.{text_of}
 use Rattle.pl0_meaning.specs.Runs.{written}
-use Rattle.dap_history.specs.declared.ending.Closed.TheVariants.{Disconnected}
-use Rattle.dap_history.specs.declared.ending.Ending.TheVariants as ending
 use Rattle.dap_history.specs.History.{Launched, Item, Content, Loaded, Accepted, Fault, InputEnd, ReadFailure, MemoryFailure, Step, History, messages, messages_of}
-use Rattle.dap_history.specs.Readings.{launched, position, ending_of}
+use Rattle.dap_history.specs.Readings.{launched, position}
 use Rattle.dap_history.specs.Events.{Incoming, Rest, AreLawful, IsHistoryOf}
 use Rattle.dap_history.specs.Output.{frames_from}
 
@@ -53,12 +52,13 @@ SeqCountFromOne =
 
 -- ---- Last message
 
--- Where a `disconnect` closed the session, its answer is the last message.
+-- A `disconnect` that is taken is the last item, and its answer under its seq is the last message.
 abbrev pub DisconnectIsLast : Type 0
 DisconnectIsLast =
     (events : List Incoming) (past : History) (rest : Rest) → IsHistoryOf events past rest
-    → ending_of past ≡ Some (ending.Closed Disconnected)
-    → (before : List Outgoing) × (seq : ℕ) × (messages_of past ≡ before ++ Answer seq (name.Supported supported.Disconnect) (Ok body.None) ∷ [])
+    → (before : History) (step : Step) (after : History) (seq : ℕ) → past ≡ before ++ step ∷ after
+    → step.item ≡ Content (Some (record { seq = seq; body = command.Disconnect }))
+    → (after ≡ []) × (messages_of past ≡ messages_of before ++ Answer seq (name.Supported supported.Disconnect) (Ok body.None) ∷ [])
 
 -- ---- Output order
 
