@@ -16,3 +16,4 @@ pub mod BehindStops
 pub mod Standing
 pub mod Passing
 pub mod Stopping
+pub mod OneHistory
