@@ -3,19 +3,17 @@ use Rattle.std.proofs.Common.{◌≡◌, ℕ, zero, suc, ◌+◌, ◌<◌, ◌�
 use Rattle.std.specs.Prelude.{option_map, option_and_then}
 use Rattle.std.specs.Option.{option_map_or}
 use Rattle.std.proofs.lemmas.Option.{slice_get_within, slice_get-get_or}
-use Rattle.pl0_tree.specs.declared.tree.Constant.{Constant}
-use Rattle.pl0_tree.specs.declared.tree.Block.{Block, Block', out-Block, Row_of-Procedure, end_of-Procedure, more_of-Procedure}
-use Rattle.pl0_tree.specs.declared.tree.Procedure.{Procedure, Procedure'}
+use Rattle.pl0_tree.specs.Tree.{Constant, Block, ABlock, Procedures, NoMore, AProcedure as AndProcedure, constants}
 use Rattle.pl0_tree.specs.declared.nesting.Nesting.{Nesting}
 use Rattle.pl0_tree.specs.Scope.{Path, block_at, Meaning, AConstant, AVariable, AProcedure, Declaration, first_declaration, or_else, home}
-use Rattle.pl0_tree.specs.Steps.{block_paths, procedures_paths, procedure_paths, blocks}
+use Rattle.pl0_tree.specs.Steps.{block_paths, procedures_paths, blocks}
 use Rattle.pl0_tree.specs.Blocks.{IsNesting, AreNestings}
 use Rattle.pl0_meaning.specs.Values.{constant_of, or_zero}
+use Rattle.pl0_meaning.specs.Homes.{IsDeclaredBy, home_is}
 use Rattle.dbg_plan.specs.declared.binding.Located.{Located}
 use Rattle.dbg_plan.specs.declared.bound.BoundExpression.TheVariants as bound
 use Rattle.dbg_plan.specs.Bound.{IsDeclaredBound, IsNameBound}
 use Rattle.dbg_plan.specs.Reads.{located, bound_of}
-use Rattle.dbg_plan.proofs.ValuesHomes.{IsDeclaredBy, first_declared}
 
 -- ---- a path is shorter than the list of all
 
@@ -33,24 +31,20 @@ below_append n (p ∷ ps) qs first second = (first.0, below_append n ps qs first
 
 mutual
   block_short : (b : Block) (q : Path) → AreBelow (length q + length (block_paths b q)) (block_paths b q)
-  block_short (Block' constants variables shape row body end) q =
+  block_short (ABlock cs xs row body end) q =
       let ps = procedures_paths row 0 q in
       let n = length q + length (ps ++ q ∷ []) in
       below_append n ps (q ∷ []) (below_more (length q + length ps + 1) n ps (omega (arith, length-append ps (q ∷ []))) (row_short row 0 q)) (omega (arith, length-append ps (q ∷ [])), tt)
 
-  row_short : {m : _} (row : Row_of-Procedure m) (i : ℕ) (q : Path) → AreBelow (length q + length (procedures_paths row i q) + 1) (procedures_paths row i q)
-  row_short end_of-Procedure i q = tt
-  row_short (more_of-Procedure p row) i q =
-      let first = procedure_paths p i q in
+  row_short : (row : Procedures) (i : ℕ) (q : Path) → AreBelow (length q + length (procedures_paths row i q) + 1) (procedures_paths row i q)
+  row_short NoMore i q = tt
+  row_short (AndProcedure x b row) i q =
+      let first = block_paths b (i ∷ q) in
       let rest = procedures_paths row (i + 1) q in
       let n = length q + length (first ++ rest) + 1 in
       below_append n first rest
-      (below_more (length q + length first + 1) n first (omega (arith, length-append first rest)) (procedure_short p i q))
+      (below_more (length (i ∷ q) + length first) n first (omega (arith, length-append first rest)) (block_short b (i ∷ q)))
       (below_more (length q + length rest + 1) n rest (omega (arith, length-append first rest)) (row_short row (i + 1) q))
-
-  procedure_short : (p : Procedure) (i : ℕ) (q : Path) → AreBelow (length q + length (procedure_paths p i q) + 1) (procedure_paths p i q)
-  procedure_short (Procedure' x b) i q =
-      below_more (length (i ∷ q) + length (block_paths b (i ∷ q))) (length q + length (block_paths b (i ∷ q)) + 1) (block_paths b (i ∷ q)) (omega arith) (block_short b (i ∷ q))
 
 below_at : (n : ℕ) (qs : List Path) (k : ℕ) (q : Path) → AreBelow n qs → slice_get qs k ≡ Some q → length q < n
 below_at n [] k q all e = cc
@@ -132,10 +126,18 @@ module _ (main : Block) (table : List (Option Nesting)) (nested : AreNestings ma
   declared_home (i ∷ q) b d at first =
       ap (λ o. or_else (option_map (λ (e : Declaration). record { path = i ∷ q; declaration = e }) o) (home main q w)) (ap (λ o. option_and_then (first_declaration w) o) at ∙ first)
 
+  same_block : (a b : Block) → ◌≡◌ {A = Option Block} (Some a) (Some b) → a ≡ b
+  same_block a b e = cc
+
+  declared_by : (q : Path) (b : Block) (d : Declaration) → block_at main q ≡ Some b → first_declaration w b ≡ Some d → IsDeclaredBy b d.meaning
+  declared_by q b d at first =
+      let h = home_is main q w (record { path = q; declaration = d }) (declared_home q b d at first) in
+      subst (λ x. IsDeclaredBy x d.meaning) (same_block h.block b (sym h.there ∙ at)) h.declared
+
   bound_there : (q r : Path) (b : Block) (m : Meaning) → block_at main r ≡ Some b → levels + length r ≡ length q → IsDeclaredBy b m → IsDeclaredBound main q r m (bound_of (located b levels m))
   bound_there q r b (AConstant k) at e declared =
-      let some = slice_get-get_or (out-Block b).constants.items k in
-      (or_zero (constant_of (Some b) k), ap (λ o. constant_of o k) at ∙ some_value (out-Block b).constants.items k declared, refl)
+      let some = slice_get-get_or (constants b) k in
+      (or_zero (constant_of (Some b) k), ap (λ o. constant_of o k) at ∙ some_value (constants b) k declared, refl)
     where
       some_value : (cs : List Constant) (k : ℕ) → k < length cs → option_map (λ (c : Constant). c.value) (slice_get cs k) ≡ Some (or_zero (option_map (λ (c : Constant). c.value) (slice_get cs k)))
       some_value [] k lt = absurd (omega arith)
@@ -158,7 +160,7 @@ module _ (main : Block) (table : List (Option Nesting)) (nested : AreNestings ma
           let same : located b levels d.meaning ≡ result = cc in
           subst (λ l. IsNameBound main q (home main q w) (bound_of l)) same
           (subst (λ o. IsNameBound main q o (bound_of (located b levels d.meaning))) (sym (here.same ∙ declared_home here.path b d block first))
-          (bound_there q here.path b d.meaning block here.levels_are (first_declared w b d first)))
+          (bound_there q here.path b d.meaning block here.levels_are (declared_by here.path b d block first)))
 
   none_first : (b : Block) → None ≡ option_map (λ (d : Declaration). located b levels d.meaning) (first_declaration w b) → first_declaration w b ≡ None
   none_first b e = none_of (first_declaration w b) e

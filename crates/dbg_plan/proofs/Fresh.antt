@@ -1,10 +1,11 @@
 -- A debuggee with a new plan.
 use Rattle.pl0_machine.specs.Machine.{Standing, program}
-use Rattle.std.proofs.Common.{◌≡◌, ℕ, length, replicate, slice_index, refl, arith, subst, sym, ◌∙◌, zero, suc, ap}
+use Rattle.std.proofs.Common.{◌≡◌, ℕ, false, None, option_map, length, replicate, slice_index, refl, arith, subst, sym, ◌∙◌, zero, suc, ap}
+use Rattle.std.specs.Arc.{arc_value}
 use Rattle.dbg_plan.specs.declared.debuggee.Debuggee.TheInside.{Inside}
 use Rattle.dbg_plan.specs.Plans.{IsNumbered}
-use Rattle.dbg_plan.specs.Counting.{breakpoints_of, MayBePlanOf}
-use Rattle.dbg_plan.specs.Counts.{IsCounting, plan_of, next_at, next_of}
+use Rattle.dbg_plan.specs.Counting.{AreCounts, breakpoints_of, MayBePlanOf, IsInOrder}
+use Rattle.dbg_plan.specs.Counts.{IsCounting, StandsBy, plan_of, next_at, next_of}
 use Rattle.dbg_plan.proofs.Here.{begin}
 
 zeros : (n k : ℕ) → slice_index (replicate n 0) k ≡ 0
@@ -22,4 +23,20 @@ fresh d was new machine considered first counts numbered fits =
       counts = rw (first, next) (begin (program new.machine) _ (next_of d) _ numbered (λ k. ap (λ cs. slice_index cs k) counts ∙ zeros 256 k));
       begun = omega arith;
       stands = rw (considered, machine) was.stands;
+      in_order = subst (λ (m : Standing). IsInOrder m.unit) (sym machine) was.in_order;
+    }
+
+-- a debuggee over a machine, with no plan
+pub begun : (new : Inside) → new.plan ≡ None → new.considered ≡ false → new.first ≡ new.machine.position → length new.counts ≡ 256 → IsInOrder new.machine.unit → IsCounting new
+begun new plan considered first room in_order =
+    let next : next_of new ≡ new.machine.position = ap (λ b. next_at new.machine.position b) considered in
+    let none : plan_of new ≡ None = ap (λ o. option_map arc_value o) plan in
+    record {
+      numbered = subst (λ o. IsNumbered (breakpoints_of o)) (sym none) (record { few = omega arith; numbers = tt });
+      fits = subst (λ o. MayBePlanOf new.machine.unit o) (sym none) tt;
+      room = room;
+      counts = subst (λ o. AreCounts (program new.machine) (breakpoints_of o) new.first (next_of new) new.counts) (sym none) tt;
+      begun = omega (arith, first, next);
+      stands = subst (λ b. StandsBy new.machine b) (sym considered) tt;
+      in_order = in_order;
     }

@@ -1,8 +1,9 @@
 -- Conditions that an editor asks for.
 use Rattle.std.proofs.Common.{◌≢◌, ℕ, List, [], Option, Some, None}
-use Rattle.pl0_tree.specs.declared.tree.Block.{Block}
+use Rattle.pl0_tree.specs.Tree.{Block}
 use Rattle.pl0_tree.specs.declared.fault.SyntaxFault.{SyntaxFault}
 use Rattle.pl0_tree.specs.declared.fault.SyntaxFault.TheVariants.{InText, NoMemory}
+use Rattle.pl0_tree.specs.Plain.{plain_condition}
 use Rattle.pl0_tree.specs.Steps.{step_path}
 use Rattle.pl0_tree.specs.Faults.{IsFirstConditionFault, FaultIs}
 use Rattle.pl0_syntax.specs.Laws.{FaultExcludesConditions}
@@ -15,5 +16,5 @@ no_guard excludes main n text some (InText kind place) is = λ has. by_guard has
   where
     by_guard : (guard : Option Guard) → ReadsGuard main n text guard → ⊥
     by_guard None empty = some empty
-    by_guard (Some guard) reads = excludes main (step_path main n) text kind place guard.condition is reads.1
+    by_guard (Some guard) reads = excludes main (step_path main n) text kind place (plain_condition guard.condition) is reads.1
 no_guard excludes main n text some NoMemory is = tt

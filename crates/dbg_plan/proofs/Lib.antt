@@ -4,6 +4,7 @@ pub mod Places
 pub mod Here
 pub mod Fresh
 pub mod Further
+pub mod Stepping
 pub mod HitNumbers
 pub mod Parts
 pub mod Lines
@@ -14,7 +15,6 @@ pub mod UnitBlocks
 pub mod Guards
 pub mod ByNumber
 pub mod ValuesUp
-pub mod ValuesHomes
 pub mod ValuesLinks
 pub mod ValuesBound
 pub mod ValuesMet

@@ -1,7 +1,8 @@
 -- Lines answered one after another.
 use Rattle.std.proofs.Common.{◌≡◌, ℕ, ◌+◌, ◌<◌, ◌≤◌, List, [], ◌∷◌, ◌++◌, length, take, get_or, Option, refl, ap, sym, ◌∙◌, subst, arith, append_assoc, append-nil}
 use Rattle.std.proofs.lemmas.List.{take_more, length-append}
-use Rattle.pl0_tree.specs.declared.tree.Block.{Block}
+use Rattle.pl0_tree.specs.Tree.{Block}
+use Rattle.pl0_machine.specs.Machine.{program_of}
 use Rattle.dbg_plan.specs.declared.breakpoint.Breakpoint.{Breakpoint}
 use Rattle.dbg_plan.specs.declared.resolving.Asked.{Asked}
 use Rattle.dbg_plan.specs.declared.resolving.Answer.{Answer}
@@ -52,7 +53,7 @@ one_more main asked i line answers all bs new answer lt is old more all_is =
     } in
     subst (λ l. Resolved main asked (i + 1) l new) (sym all_is) (subst (λ l. Resolved main asked (i + 1) (answers ++ answer ∷ []) l) (sym more.behind) now)
 
-pub plan_is : (u : Compiled) (n : ℕ) (bs : List Breakpoint) (lines : List (Option ℕ)) (plan : Listed) → plan ≡ record { steps = n; breakpoints = bs; watched = watched_lines bs lines } → lines ≡ u.lines.items → n ≡ length (steps u.tree.program) → AreAtSteps u.tree.program bs → IsPlanOf u plan
+pub plan_is : (u : Compiled) (n : ℕ) (bs : List Breakpoint) (lines : List (Option ℕ)) (plan : Listed) → plan ≡ record { steps = n; breakpoints = bs; watched = watched_lines bs lines } → lines ≡ u.lines.items → n ≡ length (steps (program_of u)) → AreAtSteps (program_of u) bs → IsPlanOf u plan
 plan_is u n bs lines plan is beside all placed =
     let this : IsPlanOf u (record { steps = n; breakpoints = bs; watched = watched_lines bs lines }) = record { steps = all; bound = placed; watched = ap (λ l. watched_lines bs l) beside } in
     subst (λ (p : Listed). IsPlanOf u p) (sym is) this

@@ -13,16 +13,17 @@ use Rattle.std.proofs.lemmas.List.Quantifiers.{position-Some}
 use Rattle.std.proofs.lemmas.List.Sums.{position_or_len_is}
 use Rattle.std.proofs.lemmas.Option.{slice_get-map}
 use Rattle.pl0_tree.specs.declared.tree.Place.{Place}
-use Rattle.pl0_tree.specs.declared.tree.Block.{Block}
+use Rattle.pl0_tree.specs.Tree.{Block}
 use Rattle.pl0_tree.specs.declared.step.Step.{Step}
 use Rattle.pl0_tree.specs.declared.step.StepKind.TheVariants.{Return}
-use Rattle.pl0_tree.specs.Tokens.{Token, tokens_of}
-use Rattle.pl0_tree.specs.Reading.{ReadsProgram}
+use Rattle.pl0_tree.specs.Faults.{IsTreeOf}
 use Rattle.pl0_tree.specs.Scope.{IsBefore}
 use Rattle.pl0_tree.specs.Ascending.{Ascend}
 use Rattle.pl0_tree.specs.Steps.{StepAt, IsStep, AreSteps, steps}
 use Rattle.pl0_unit.specs.declared.unit.Unit.{Unit as Compiled}
+use Rattle.pl0_machine.specs.Machine.{program_of}
 use Rattle.dbg_plan.specs.Answers.{step_from}
+use Rattle.dbg_plan.specs.Counting.{IsInOrder}
 
 -- the table tells of each step what the program has there
 pub record Tells (main : Block) (ts : List StepAt) (i : ℕ) (s : Step) : Type 0 where
@@ -73,21 +74,18 @@ same_position main line (s ∷ ss) (t ∷ ts) are =
 
 -- ---- the table of a unit
 
-module _ (u : Compiled) (tokens_ascend : (text : List ℕ) → Ascend (map (λ (t : Token). t.place) (tokens_of text)))
-    (steps_ascend : (tokens : List Token) (main : Block) → ReadsProgram tokens main → Ascend (map (λ (t : Token). t.place) tokens) → Ascend (map (λ (s : StepAt). s.place) (steps main))) where
-  pub unit_rises : IsNonDecreasingBy (λ (s : Step). s.place.line) u.steps.items
-  unit_rises i j d le lt =
-      ∥∥₁_elim u.compiled le_prop (λ h. ∥∥₁_elim u.tree.lawful le_prop (λ read.
-      lines_rise u.tree.program u.steps.items (steps u.tree.program) h.steps (steps_ascend (tokens_of u.tree.text.items) u.tree.program read.reads (tokens_ascend u.tree.text.items)) i j d le lt))
+pub unit_ascends : (u : Compiled) → ((text : List ℕ) (main : Block) → IsTreeOf text main → Ascend (map (λ (s : StepAt). s.place) (steps main))) → ∥ Ascend (map (λ (s : StepAt). s.place) (steps (program_of u))) ∥₁
+unit_ascends u in_order = ∥∥₁_map u.tree.lawful (in_order u.tree.text.items (program_of u))
 
-  pub unit_ascends : ∥ Ascend (map (λ (s : StepAt). s.place) (steps u.tree.program)) ∥₁
-  unit_ascends = ∥∥₁_map u.tree.lawful (λ read. steps_ascend (tokens_of u.tree.text.items) u.tree.program read.reads (tokens_ascend u.tree.text.items))
+pub unit_rises : (u : Compiled) → IsInOrder u → IsNonDecreasingBy (λ (s : Step). s.place.line) u.steps.items
+unit_rises u in_order i j d le lt =
+    ∥∥₁_elim u.compiled le_prop (λ h. ∥∥₁_elim in_order.places le_prop (λ ascend. lines_rise (program_of u) u.steps.items (steps (program_of u)) h.steps ascend i j d le lt))
 
-pub unit_length : (u : Compiled) → length u.steps.items ≡ length (steps u.tree.program)
-unit_length u = ∥∥₁_elim u.compiled (ℕ_set _ _) (λ h. same_length u.tree.program u.steps.items (steps u.tree.program) h.steps)
+pub unit_length : (u : Compiled) → length u.steps.items ≡ length (steps (program_of u))
+unit_length u = ∥∥₁_elim u.compiled (ℕ_set _ _) (λ h. same_length (program_of u) u.steps.items (steps (program_of u)) h.steps)
 
-unit_position : (u : Compiled) (line : ℕ) → position_or_len (from_line line) u.steps.items ≡ position_or_len (from_line_at line) (steps u.tree.program)
-unit_position u line = ∥∥₁_elim u.compiled (ℕ_set _ _) (λ h. same_position u.tree.program line u.steps.items (steps u.tree.program) h.steps)
+unit_position : (u : Compiled) (line : ℕ) → position_or_len (from_line line) u.steps.items ≡ position_or_len (from_line_at line) (steps (program_of u))
+unit_position u line = ∥∥₁_elim u.compiled (ℕ_set _ _) (λ h. same_position (program_of u) line u.steps.items (steps (program_of u)) h.steps)
 
 some_step : Step
 some_step = record { kind = Return; place = record { line = 1; column = 1 }; block = 0 }
@@ -96,7 +94,7 @@ some_step_at : StepAt
 some_step_at = record { kind = Return; place = record { line = 1; column = 1 }; path = [] }
 
 -- what a search in the table finds
-found : (u : Compiled) (line i : ℕ) (d : Step) → i ≤ length u.steps.items → IsPartitionPoint (λ (s : Step). nat_lt s.place.line line ≡ true) (λ (s : Step). nat_lt s.place.line line ≡ false) u.steps.items i → position_or_len (from_line_at line) (steps u.tree.program) ≡ i
+found : (u : Compiled) (line i : ℕ) (d : Step) → i ≤ length u.steps.items → IsPartitionPoint (λ (s : Step). nat_lt s.place.line line ≡ true) (λ (s : Step). nat_lt s.place.line line ≡ false) u.steps.items i → position_or_len (from_line_at line) (steps (program_of u)) ≡ i
 found u line i d le point =
     sym (unit_position u line)
     ∙ position_or_len_is (from_line line) u.steps.items i d le (λ k lt. let below = point.0 k d (omega arith) lt in grind (arith, nat_tests)) (λ lt. let at = point.1 i d (omega arith) lt in grind (arith, nat_tests))
@@ -107,9 +105,9 @@ some_if false n = refl
 
 -- the step of a line, by a search in the table
 pub step_is : (u : Compiled) (line i : ℕ) → i ≤ length u.steps.items → IsPartitionPoint (λ (s : Step). nat_lt s.place.line line ≡ true) (λ (s : Step). nat_lt s.place.line line ≡ false) u.steps.items i →
-    then_some (nat_lt i (length u.steps.items)) i ≡ step_from u.tree.program line
+    then_some (nat_lt i (length u.steps.items)) i ≡ step_from (program_of u) line
 step_is u line i le point =
-    some_if (nat_lt i (length u.steps.items)) i ∙ ap (λ k. cond (nat_lt i k) (Some i) None) (unit_length u) ∙ sym (ap (λ k. cond (nat_lt k (length (steps u.tree.program))) (Some k) None) (found u line i some_step le point))
+    some_if (nat_lt i (length u.steps.items)) i ∙ ap (λ k. cond (nat_lt i k) (Some i) None) (unit_length u) ∙ sym (ap (λ k. cond (nat_lt k (length (steps (program_of u)))) (Some k) None) (found u line i some_step le point))
 
 -- a step that is found is one of the program
 pub step_within : (main : Block) (line n : ℕ) → step_from main line ≡ Some n → n < length (steps main)

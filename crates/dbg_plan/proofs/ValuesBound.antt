@@ -1,34 +1,20 @@
 -- What is bound has the value of the source.
-use Rattle.std.proofs.Common.{◌≡◌, ℕ, ◌<◌, List, length, slice_get, Option, Some, None, IsSome, Ok, ℤ, pos, neg_ℤ, refl, sym, ap, ◌∙◌, subst, arith}
+use Rattle.std.proofs.Common.{◌≡◌, ℕ, List, slice_get, Option, Some, None, IsSome, Ok, ℤ, pos, neg_ℤ, refl, sym, ap, ◌∙◌, subst}
 use Rattle.std.proofs.lemmas.Option.{slice_get-get_or}
-use Rattle.pl0_tree.specs.declared.tree.Block.{Block, out-Block}
-use Rattle.pl0_tree.specs.declared.tree.Expression.{Expression}
-use Rattle.pl0_tree.specs.declared.tree.Expression.TheVariants.{Name as Named, Number, Negate', Binary'}
-use Rattle.pl0_tree.specs.declared.tree.Condition.{Condition}
-use Rattle.pl0_tree.specs.declared.tree.Condition.TheVariants.{Odd, Compare}
-use Rattle.pl0_tree.specs.Scope.{Path, word, block_at, Meaning, AConstant, AVariable, AProcedure, Home, home}
+use Rattle.pl0_tree.specs.Tree.{Block, Expression, Variable, Number, Negate, Binary, Condition, Odd, Compare}
+use Rattle.pl0_tree.specs.Scope.{Meaning, AConstant, AVariable, AProcedure, Home, home}
 use Rattle.pl0_meaning.specs.Values.{Frame, Configuration, frame_at, number_of, number_at, find, declared_number, meant_number, number_in, name_number, or_zero, after, checked, operation, comparison, is_odd, value, truth}
 use Rattle.pl0_unit.specs.Code.{level}
-use Rattle.pl0_machine.specs.Frames.{IsFrameOf, AreLinked}
+use Rattle.pl0_meaning.specs.Frames.{AreLinked}
+use Rattle.pl0_meaning.specs.Homes.{home_is}
+use Rattle.pl0_meaning.specs.Linking.{found, frame_of, variable_within}
 use Rattle.dbg_plan.specs.declared.bound.BoundExpression.{BoundExpression}
 use Rattle.dbg_plan.specs.declared.bound.BoundExpression.TheVariants as bound
 use Rattle.dbg_plan.specs.declared.bound.BoundCondition.{BoundCondition}
 use Rattle.dbg_plan.specs.declared.bound.BoundCondition.TheVariants as bound_condition
 use Rattle.dbg_plan.specs.Bound.{IsDeclaredBound, IsNameBound, IsExpressionBound, IsConditionBound}
 use Rattle.dbg_plan.specs.Reads.{number_up, bound_value, bound_truth, CanRead, CanTest}
-use Rattle.dbg_plan.proofs.ValuesHomes.{IsDeclaredBy, IsHome, home_is}
-use Rattle.dbg_plan.proofs.ValuesLinks.{frame_of, found}
-
-same_block : (a b : Block) → ◌≡◌ {A = Option Block} (Some a) (Some b) → a ≡ b
-same_block a b e = cc
-
--- a variable of the home of a name is one of the frame that is found
-variable_within : (main : Block) (q : Path) (h : Home) (k : ℕ) (f : Frame) → IsHome main q h → h.declaration.meaning ≡ AVariable k → IsFrameOf main f → f.block ≡ h.path → k < length f.numbers
-variable_within main q h k f is means fr b =
-    let lt = subst (λ m. IsDeclaredBy is.block m) means is.declared in
-    let same = same_block is.block fr.block (sym is.there ∙ ap (λ p. block_at main p) (sym b) ∙ fr.found) in
-    let n = fr.count in
-    omega (arith, lt, ap (λ x. length (out-Block x).variables.items) same, n)
+use Rattle.dbg_plan.proofs.ValuesLinks.{leads}
 
 -- a bound expression can be read, and has this number
 abbrev pub Reads : Configuration → ℕ → BoundExpression → ℤ → Type 0
@@ -51,7 +37,7 @@ module _ (main : Block) (c : Configuration) (i : ℕ) (f : Frame) (linked : AreL
       let there : number_at c (find c i h.path) k ≡ slice_get r.frame.numbers k =
       ap (λ o. number_at c o k) r.is ∙ ap (λ o. number_of o k) r.there in
       let some : IsSome (slice_get r.frame.numbers k) = subst (λ o. IsSome o) (sym (slice_get-get_or r.frame.numbers k (pos 0) lt)) refl in
-      subst (λ o. Reads c i b (or_zero o)) (sym there) (reads_variable c i (level f.block h.path) k b (slice_get r.frame.numbers k) is (r.leads k) some)
+      subst (λ o. Reads c i b (or_zero o)) (sym there) (reads_variable c i (level f.block h.path) k b (slice_get r.frame.numbers k) is (leads main c f.block i f h.path linked at refl home_of.around k ∙ there) some)
 
   declared_reads : (x : List ℕ) (h : Home) (m : Meaning) (b : BoundExpression) → home main f.block x ≡ Some h → h.declaration.meaning ≡ m → IsDeclaredBound main f.block h.path m b → Reads c i b (or_zero (declared_number main c i h.path m))
   declared_reads x h (AConstant k) b e means is = reads_number c i b is.0 _ is.2 (ap or_zero (sym is.1))
@@ -70,11 +56,11 @@ module _ (main : Block) (c : Configuration) (i : ℕ) (f : Frame) (linked : AreL
   -- an expression that is bound has its value
   pub expression_reads : (e : Expression) (b : BoundExpression) → IsExpressionBound main f.block e b → CanRead c i b × (bound_value c i b ≡ value main c i e)
   expression_reads (Number n) b is = subst (λ e. CanRead c i e × (bound_value c i e ≡ Ok n)) (sym is) (tt, refl)
-  expression_reads (Named x) b is = name_reads (word x) b is
-  expression_reads (Negate' p e) (bound.Negate' p' b) is =
+  expression_reads (Variable x) b is = name_reads x.word b is
+  expression_reads (Negate e) (bound.Negate' p b) is =
       let r = expression_reads e b is in (r.0, ap (λ v. after v (λ x. checked (neg_ℤ x))) r.1)
-  expression_reads (Negate' p e) b is = absurd is
-  expression_reads (Binary' op p left r right) (bound.Binary' op' p' first r' second) is =
+  expression_reads (Negate e) b is = absurd is
+  expression_reads (Binary op left right) (bound.Binary' op' p first r second) is =
       let l = expression_reads left first is.1 in
       let m = expression_reads right second is.2 in (
         (l.0, m.0),
@@ -82,7 +68,7 @@ module _ (main : Block) (c : Configuration) (i : ℕ) (f : Frame) (linked : AreL
             ∙ ap (λ w. after (value main c i left) (λ x. after w (λ y. operation op' x y))) m.1
             ∙ ap (λ o. after (value main c i left) (λ x. after (value main c i right) (λ y. operation o x y))) is.0,
       )
-  expression_reads (Binary' op p left r right) b is = absurd is
+  expression_reads (Binary op left right) b is = absurd is
 
   -- a condition that is bound has its truth
   pub condition_reads : (t : Condition) (b : BoundCondition) → IsConditionBound main f.block t b → CanTest c i b × (bound_truth c i b ≡ truth main c i t)

@@ -4,15 +4,15 @@ use Rattle.std.specs.Option.{option_map_or}
 use Rattle.std.specs.Result.{result_unwrap_or}
 use Rattle.std.proofs.Math.Logic.{∥∥₁_elim}
 use Rattle.std.specs.Coded.{Coded, Coded-set, codes, ×_prop, Unit-prop}
-use Rattle.pl0_tree.specs.declared.tree.Block.{Block}
-use Rattle.pl0_tree.specs.declared.tree.Statement.{Statement, Row_of-Statement, end_of-Statement, more_of-Statement}
-use Rattle.pl0_tree.specs.declared.tree.Statement.TheVariants.{Empty, Assign, Call, Write, Begin', If', While'}
+use Rattle.pl0_tree.specs.Tree.{Statement, Empty, Then, Assign, Call, Write, If, While, Block}
+use Rattle.pl0_tree.specs.Plain.{plain_condition}
 use Rattle.pl0_tree.specs.Scope.{Path, block_at}
-use Rattle.pl0_tree.specs.Steps.{StepAt, statement_steps, row_steps, steps, step_path}
+use Rattle.pl0_tree.specs.Steps.{StepAt, statement_steps, steps, step_path}
 use Rattle.pl0_meaning.specs.contracts.RunFault as run_fault
 use Rattle.pl0_meaning.specs.declared.RunFault.{RunFault}
 use Rattle.pl0_meaning.specs.Values.{Frame, Configuration, return_of, first_step, StandsBefore, truth}
-use Rattle.pl0_machine.specs.Frames.{AreLinked}
+use Rattle.pl0_meaning.specs.Frames.{AreLinked}
+use Rattle.pl0_meaning.specs.Linking.{frame_at-top}
 use Rattle.pl0_machine.specs.Machine.{Standing, program, configuration, frames, top_of, IsNext}
 use Rattle.dbg_plan.specs.declared.bound.BoundExpression.{BoundExpression}
 use Rattle.dbg_plan.specs.declared.bound.BoundExpression.TheVariants.{Number, Variable, Negate', Binary'}
@@ -26,7 +26,6 @@ use Rattle.dbg_plan.specs.Due.{true_or_faulty}
 use Rattle.dbg_plan.specs.Counting.{holds_in, holds_now}
 use Rattle.dbg_plan.specs.Values.{told}
 use Rattle.dbg_plan.specs.Reads.{bound_truth, CanRead, CanTest}
-use Rattle.dbg_plan.proofs.ValuesLinks.{frame_at-top}
 use Rattle.dbg_plan.proofs.ValuesBound.{condition_reads}
 
 -- ---- a frame's next step is one of its block
@@ -39,19 +38,14 @@ of_append : (q : Path) (xs ys : List StepAt) → AreOf q xs → AreOf q ys → A
 of_append q [] ys first second = second
 of_append q (x ∷ xs) ys first second = (first.0, of_append q xs ys first.1 second)
 
-mutual
-  steps_of : (s : Statement) (q : Path) → AreOf q (statement_steps s q)
-  steps_of Empty q = tt
-  steps_of (Assign x e) q = (refl, tt)
-  steps_of (Call p x) q = (refl, tt)
-  steps_of (Write p e) q = (refl, tt)
-  steps_of (Begin' shape row) q = row_steps_of row q
-  steps_of (If' p c b body) q = (refl, steps_of body q)
-  steps_of (While' p c b body) q = (refl, steps_of body q)
-
-  row_steps_of : {m : _} (row : Row_of-Statement m) (q : Path) → AreOf q (row_steps row q)
-  row_steps_of end_of-Statement q = tt
-  row_steps_of (more_of-Statement s row) q = of_append q (statement_steps s q) (row_steps row q) (steps_of s q) (row_steps_of row q)
+steps_of : (s : Statement) (q : Path) → AreOf q (statement_steps s q)
+steps_of Empty q = tt
+steps_of (Then s t) q = of_append q (statement_steps s q) (statement_steps t q) (steps_of s q) (steps_of t q)
+steps_of (Assign x e) q = (refl, tt)
+steps_of (Call p x) q = (refl, tt)
+steps_of (Write p e) q = (refl, tt)
+steps_of (If p c body) q = (refl, steps_of body q)
+steps_of (While p c body) q = (refl, steps_of body q)
 
 first_of : (q : Path) (ss : List StepAt) (s : StepAt) → AreOf q ss → slice_get ss 0 ≡ Some s → s.path ≡ q
 first_of q [] s all e = cc
@@ -81,9 +75,6 @@ stands_in main f n st =
 
 -- ---- facts that have at most one proof
 
-pub none_prop : IsProp ⊥
-none_prop a b = absurd a
-
 pub CanRead-prop : (c : Configuration) (i : ℕ) (b : BoundExpression) → IsProp (CanRead c i b)
 CanRead-prop c i (Number n) = Unit-prop
 CanRead-prop c i (Variable level k) = hlevel codes
@@ -101,17 +92,17 @@ coded_truth = hlevel (codes, run_fault.the_row.coded)
 
 -- it can be tested in the newest frame, and gives the truth of its source
 abbrev pub IsTested : Block → Configuration → ℕ → Guard → Type 0
-IsTested main c top guard = CanTest c top guard.bound × (bound_truth c top guard.bound ≡ truth main c (length c - 1) guard.condition)
+IsTested main c top guard = CanTest c top guard.bound × (bound_truth c top guard.bound ≡ truth main c (length c - 1) (plain_condition guard.condition))
 
-tested : (main : Block) (c : Configuration) (n top : ℕ) (guard : Guard) → AreLinked main c → IsNext main (top_of c) n → IsConditionBound main (step_path main n) guard.condition guard.bound → top ≡ length c - 1 → IsTested main c top guard
+tested : (main : Block) (c : Configuration) (n top : ℕ) (guard : Guard) → AreLinked main c → IsNext main (top_of c) n → IsConditionBound main (step_path main n) (plain_condition guard.condition) guard.bound → top ≡ length c - 1 → IsTested main c top guard
 tested main [] n top guard linked next is at = absurd next
 tested main (f ∷ below) n top guard linked next is at =
     let here : length below ≡ length (f ∷ below) - 1 = omega arith in
-    let bound = subst (λ q. IsConditionBound main q guard.condition guard.bound) (sym (stands_in main f n next)) is in
+    let bound = subst (λ q. IsConditionBound main q (plain_condition guard.condition) guard.bound) (sym (stands_in main f n next)) is in
     subst (λ i. IsTested main (f ∷ below) i guard) (sym at)
-    (condition_reads main (f ∷ below) (length (f ∷ below) - 1) f linked (frame_at-top f below (length (f ∷ below) - 1) here) guard.condition guard.bound bound)
+    (condition_reads main (f ∷ below) (length (f ∷ below) - 1) f linked (frame_at-top f below (length (f ∷ below) - 1) here) (plain_condition guard.condition) guard.bound bound)
 
-pub is_tested : (main : Block) (c : Configuration) (n top : ℕ) (guard : Guard) → ∥ AreLinked main c ∥₁ → IsNext main (top_of c) n → IsConditionBound main (step_path main n) guard.condition guard.bound → top ≡ length c - 1 → IsTested main c top guard
+pub is_tested : (main : Block) (c : Configuration) (n top : ℕ) (guard : Guard) → ∥ AreLinked main c ∥₁ → IsNext main (top_of c) n → IsConditionBound main (step_path main n) (plain_condition guard.condition) guard.bound → top ≡ length c - 1 → IsTested main c top guard
 is_tested main c n top guard linked next is at =
     ∥∥₁_elim linked (×_prop (CanTest-prop c top guard.bound) (Coded-set coded_truth _ _)) (λ l. tested main c n top guard l next is at)
 

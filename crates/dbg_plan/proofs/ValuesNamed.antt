@@ -1,19 +1,18 @@
 -- A name that was looked up for a frame's block has its number in that frame.
-use Rattle.std.proofs.Common.{◌≡◌, ℕ, ◌<◌, List, [], ◌∷◌, length, slice_get, Option, Some, None, IsSome, Result, Ok, ℤ, refl, sym, ap, subst, ◌∙◌, arith}
+use Rattle.std.proofs.Common.{◌≡◌, ℕ, ◌<◌, List, length, slice_get, Option, Some, None, IsSome, Result, Ok, ℤ, refl, sym, ap, subst, ◌∙◌, arith}
 use Rattle.std.proofs.Math.Logic.{∥∥₁_elim}
-use Rattle.std.proofs.Math.Nat.{ℕ_set}
-use Rattle.std.specs.Coded.{Coded, Coded-set, codes, ×_prop, Unit-prop}
+use Rattle.std.specs.Coded.{Coded, Coded-set, codes, ×_prop}
 use Rattle.std.proofs.lemmas.Option.{slice_get_within}
-use Rattle.pl0_tree.specs.declared.tree.Block.{Block}
+use Rattle.pl0_tree.specs.Tree.{Block}
 use Rattle.pl0_tree.specs.declared.nesting.Nesting.{Nesting}
 use Rattle.pl0_tree.specs.Scope.{Path, home}
 use Rattle.pl0_tree.specs.Steps.{blocks}
-use Rattle.pl0_tree.specs.Blocks.{IsNesting, AreNestings}
+use Rattle.pl0_tree.specs.Blocks.{AreNestings}
 use Rattle.pl0_meaning.specs.contracts.RunFault as run_fault
 use Rattle.pl0_meaning.specs.declared.RunFault.{RunFault}
+use Rattle.pl0_meaning.specs.Frames.{AreLinked}
 use Rattle.pl0_meaning.specs.Values.{Frame, Configuration, frame_at, or_zero, name_number}
 use Rattle.pl0_machine.specs.declared.outcome.FrameView.{FrameView}
-use Rattle.pl0_machine.specs.Frames.{AreLinked}
 use Rattle.pl0_machine.specs.Machine.{Shows}
 use Rattle.dbg_plan.specs.declared.binding.Located.{Located}
 use Rattle.dbg_plan.specs.declared.binding.Located.TheVariants as at
@@ -21,30 +20,7 @@ use Rattle.dbg_plan.specs.Bound.{IsNameBound}
 use Rattle.dbg_plan.specs.Reads.{number_up, bound_value, bound_of}
 use Rattle.dbg_plan.proofs.BoundWalk.{nestings_lengths}
 use Rattle.dbg_plan.proofs.ValuesBound.{Reads, name_reads}
-use Rattle.dbg_plan.proofs.ValuesMet.{CanRead-prop, none_prop}
-
--- ---- a table of blocks is one in at most one way
-
-coded_path : Coded (Option Path)
-coded_path = hlevel codes
-
-path_set : IsSet (Option Path)
-path_set = Coded-set coded_path
-
-IsNesting-prop : (main : Block) (nesting : Option Nesting) (q : Path) → IsProp (IsNesting main nesting q)
-IsNesting-prop main None [] = Unit-prop
-IsNesting-prop main None (i ∷ q) = none_prop
-IsNesting-prop main (Some nesting) [] = none_prop
-IsNesting-prop main (Some nesting) (i ∷ q) = ×_prop (path_set _ _) (ℕ_set _ _)
-
-AreNestings-prop : (main : Block) (table : List (Option Nesting)) (qs : List Path) → IsProp (AreNestings main table qs)
-AreNestings-prop main [] [] = Unit-prop
-AreNestings-prop main [] (q ∷ qs) = none_prop
-AreNestings-prop main (nesting ∷ table) [] = none_prop
-AreNestings-prop main (nesting ∷ table) (q ∷ qs) = ×_prop (IsNesting-prop main nesting q) (AreNestings-prop main table qs)
-
-pub are_nestings : (main : Block) (table : List (Option Nesting)) → ∥ AreNestings main table (blocks main) ∥₁ → AreNestings main table (blocks main)
-are_nestings main table nested = ∥∥₁_elim nested (AreNestings-prop main table (blocks main)) (λ n. n)
+use Rattle.dbg_plan.proofs.ValuesMet.{CanRead-prop}
 
 -- ---- the frame's block
 

@@ -1,22 +1,11 @@
 -- Links followed one by one.
-use Rattle.std.proofs.Common.{◌≡◌, ℕ, zero, suc, ◌+◌, ◌-◌, ◌<◌, nat_eq, [], ◌∷◌, length, slice_get, Option, Some, None, IsSome, ℤ, refl, sym, ap, ◌∙◌, subst, arith, ⊎_elim}
+use Rattle.std.proofs.Common.{◌≡◌, ℕ, zero, suc, ◌+◌, ◌-◌, ◌<◌, length, slice_get, Option, Some, None, IsSome, ℤ, refl, sym, ap, ◌∙◌, subst, arith}
 use Rattle.std.specs.Prelude.{option_and_then}
-use Rattle.std.proofs.lemmas.Bool.{ne_eqb, cond-false, cases_eq}
 use Rattle.std.proofs.lemmas.Option.{slice_get_within}
 use Rattle.pl0_meaning.specs.Values.{Frame, Configuration, frame_at, number_of}
+use Rattle.pl0_meaning.specs.Linking.{frame_within}
 use Rattle.pl0_machine.specs.Machine.{parent_of, variables_of}
 use Rattle.dbg_plan.specs.Reads.{number_up}
-
-pub frame_at-below : (f : Frame) (below : Configuration) (i : ℕ) → (length below ≡ i → ⊥) → frame_at (f ∷ below) i ≡ frame_at below i
-frame_at-below f below i ne = cond-false (nat_eq (length below) i) (Some f) (frame_at below i) (ne_eqb (length below) i ne)
-
-pub frame_within : (c : Configuration) (i : ℕ) (f : Frame) → frame_at c i ≡ Some f → i < length c
-frame_within [] i f e = cc
-frame_within (g ∷ below) i f e =
-    ⊎_elim
-    (λ same. omega arith)
-    (λ other. let h = frame_within below i f (sym (frame_at-below g below i other) ∙ e) in omega (arith, h))
-    (cases_eq (length below) i)
 
 -- what one link leads to
 pub record HasLink (c : Configuration) (level k i : ℕ) : Type 0 where

@@ -10,7 +10,7 @@ use Rattle.std.proofs.lemmas.List.Elements.{All-cons}
 use Rattle.std.proofs.lemmas.List.Folds.{list_any_none}
 use Rattle.std.proofs.lemmas.List.Sorted.{list_any-IsPermutation}
 use Rattle.std.proofs.lemmas.Option.{slice_get-map}
-use Rattle.pl0_tree.specs.declared.tree.Block.{Block}
+use Rattle.pl0_tree.specs.Tree.{Block}
 use Rattle.pl0_tree.specs.Steps.{steps}
 use Rattle.dbg_plan.specs.declared.breakpoint.Breakpoint.{Breakpoint}
 use Rattle.dbg_plan.specs.Plans.{AreAtSteps, has_breakpoint, watched_lines, is_of, those_of}

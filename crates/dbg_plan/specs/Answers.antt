@@ -2,7 +2,8 @@
 use Rattle.std.specs.Prelude.{◌≡◌, ◌≢◌, ℕ, ◌<◌, ◌^◌, nat_le, List, [], ◌∷◌, ◌++◌, string_bytes, Option, Some, None}
 use Rattle.std.specs.List.{position}
 use Rattle.std.specs.Fmt.{decimal}
-use Rattle.pl0_tree.specs.declared.tree.Block.{Block}
+use Rattle.pl0_tree.specs.Tree.{Block}
+use Rattle.pl0_tree.specs.Plain.{plain_condition}
 use Rattle.pl0_tree.specs.Faults.{IsConditionOf}
 use Rattle.pl0_tree.specs.Steps.{steps, step_path}
 use Rattle.dbg_plan.specs.declared.breakpoint.Rule.{Rule}
@@ -22,7 +23,7 @@ step_from main line = position (λ s. nat_le line s.place.line) (steps main)
 -- the text reads as a condition in the block of step n
 abbrev pub ReadsGuard : Block → ℕ → List ℕ → Option Guard → Type 0
 ReadsGuard main n text None = text ≡ []
-ReadsGuard main n text (Some guard) = (text ≢ []) × IsConditionOf main (step_path main n) text guard.condition
+ReadsGuard main n text (Some guard) = (text ≢ []) × IsConditionOf main (step_path main n) text (plain_condition guard.condition)
 
 -- k, or %k
 abbrev pub rule_text : Rule → List ℕ

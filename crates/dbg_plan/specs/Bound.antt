@@ -1,11 +1,7 @@
 -- Expressions and conditions whose names were looked up once.
 use Rattle.std.specs.Prelude.{◌≡◌, Option, Some, None, ℤ, pos}
-use Rattle.pl0_tree.specs.declared.tree.Block.{Block}
-use Rattle.pl0_tree.specs.declared.tree.Expression.{Expression}
-use Rattle.pl0_tree.specs.declared.tree.Expression.TheVariants.{Name as Named, Number, Negate', Binary'}
-use Rattle.pl0_tree.specs.declared.tree.Condition.{Condition}
-use Rattle.pl0_tree.specs.declared.tree.Condition.TheVariants.{Odd, Compare}
-use Rattle.pl0_tree.specs.Scope.{Path, word, block_at, Meaning, AConstant, AVariable, AProcedure, Home, home}
+use Rattle.pl0_tree.specs.Tree.{Block, Expression, Variable, Number, Negate, Binary, Condition, Odd, Compare}
+use Rattle.pl0_tree.specs.Scope.{Path, block_at, Meaning, AConstant, AVariable, AProcedure, Home, home}
 use Rattle.pl0_meaning.specs.Values.{constant_of}
 use Rattle.pl0_unit.specs.Code.{level}
 use Rattle.dbg_plan.specs.declared.bound.BoundExpression.{BoundExpression}
@@ -28,12 +24,12 @@ IsNameBound main q (Some h) b = IsDeclaredBound main q h.path h.declaration.mean
 -- The bound expression is the expression, read in the block q.
 abbrev pub IsExpressionBound : Block → Path → Expression → BoundExpression → Type 0
 IsExpressionBound main q (Number n) b = b ≡ bound.Number n
-IsExpressionBound main q (Named x) b = IsNameBound main q (home main q (word x)) b
-IsExpressionBound main q (Negate' p e) (bound.Negate' p' b) = IsExpressionBound main q e b
-IsExpressionBound main q (Negate' p e) b = ⊥
-IsExpressionBound main q (Binary' op p left r right) (bound.Binary' op' p' first r' second) =
+IsExpressionBound main q (Variable x) b = IsNameBound main q (home main q x.word) b
+IsExpressionBound main q (Negate e) (bound.Negate' p b) = IsExpressionBound main q e b
+IsExpressionBound main q (Negate e) b = ⊥
+IsExpressionBound main q (Binary op left right) (bound.Binary' op' p first r second) =
     (op' ≡ op) × IsExpressionBound main q left first × IsExpressionBound main q right second
-IsExpressionBound main q (Binary' op p left r right) b = ⊥
+IsExpressionBound main q (Binary op left right) b = ⊥
 
 abbrev pub IsConditionBound : Block → Path → Condition → BoundCondition → Type 0
 IsConditionBound main q (Odd e) (bound_condition.Odd b) = IsExpressionBound main q e b

@@ -1,6 +1,7 @@
 -- What contracts see of a debuggee. What it has counted follows from this.
 use Rattle.std.specs.Prelude.{◌≡◌, ℕ, ◌+◌, ◌<◌, List, Option}
-use Rattle.pl0_tree.specs.declared.tree.Block.{Block}
+use Rattle.pl0_tree.specs.Tree.{Block}
+use Rattle.pl0_tree.specs.Plain.{plain_block}
 use Rattle.pl0_unit.specs.declared.unit.Unit.{Unit as Compiled}
 use Rattle.pl0_machine.specs.Machine.{Standing, depth_of}
 use Rattle.dbg_plan.specs.declared.breakpoint.Breakpoint.{Breakpoint}
@@ -21,7 +22,7 @@ abbrev pub machine_of : Debugged → Standing
 machine_of d = record { unit = d.unit; position = d.position }
 
 abbrev pub program_of : Debugged → Block
-program_of d = d.unit.tree.program
+program_of d = plain_block d.unit.tree.program
 
 -- a frame is alive
 abbrev pub IsRunning : Standing → Type 0

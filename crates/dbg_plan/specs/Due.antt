@@ -2,7 +2,8 @@
 use Rattle.std.specs.Prelude.{ℕ, zero, suc, ◌+◌, ◌-◌, ◌%◌, Bool, true, false, ◌&&◌, nat_eq, nat_le, nat_lt, if◌then◌else◌, List, [], ◌∷◌, length, slice_get, Option, Some, None, unwrap_or, option_map, Result, Ok, Err}
 use Rattle.std.specs.List.{list_any}
 use Rattle.pl0_tree.specs.declared.tree.Place.{Place}
-use Rattle.pl0_tree.specs.declared.tree.Block.{Block}
+use Rattle.pl0_tree.specs.Tree.{Block}
+use Rattle.pl0_tree.specs.Plain.{plain_condition}
 use Rattle.pl0_tree.specs.Steps.{StepAt, steps}
 use Rattle.pl0_meaning.specs.declared.RunFault.{RunFault}
 use Rattle.pl0_meaning.specs.Values.{Configuration, truth, next_step}
@@ -38,7 +39,7 @@ true_or_faulty (Err fault) = true
 -- the condition, if there is one, holds in the newest frame
 abbrev pub holds : Block → Configuration → Option Guard → Bool
 holds main c None = true
-holds main c (Some guard) = true_or_faulty (truth main c (length c - 1) guard.condition)
+holds main c (Some guard) = true_or_faulty (truth main c (length c - 1) (plain_condition guard.condition))
 
 -- the program stands at the breakpoint's step, and its condition holds there
 abbrev pub arrives : Block → Breakpoint → Configuration → Bool

@@ -1,9 +1,11 @@
 -- Plans: breakpoints in the order asked.
 use Rattle.std.specs.Prelude.{◌≡◌, ℕ, ◌+◌, ◌<◌, ◌≤◌, Bool, false, nat_eq, List, [], ◌∷◌, length, map, filter, Option, Some, None}
 use Rattle.std.specs.List.{list_any}
-use Rattle.pl0_tree.specs.declared.tree.Block.{Block}
+use Rattle.pl0_tree.specs.Tree.{Block}
 use Rattle.pl0_tree.specs.Steps.{steps, step_path}
+use Rattle.pl0_tree.specs.Plain.{plain_condition}
 use Rattle.pl0_unit.specs.declared.unit.Unit.{Unit as Compiled}
+use Rattle.pl0_machine.specs.Machine.{program_of}
 use Rattle.dbg_plan.specs.declared.breakpoint.Rule.{Rule}
 use Rattle.dbg_plan.specs.declared.breakpoint.Rule.TheVariants.{From, Every}
 use Rattle.dbg_plan.specs.declared.breakpoint.Guard.{Guard}
@@ -54,7 +56,7 @@ watched_lines breakpoints lines = map (has_breakpoint breakpoints) lines
 -- a condition is bound to the names of the block of step n
 abbrev pub IsGuardAt : Block → ℕ → Option Guard → Type 0
 IsGuardAt main n None = Unit {0}
-IsGuardAt main n (Some guard) = IsConditionBound main (step_path main n) guard.condition guard.bound
+IsGuardAt main n (Some guard) = IsConditionBound main (step_path main n) (plain_condition guard.condition) guard.bound
 
 -- each breakpoint stands at a step of the program, and its condition is bound there
 abbrev pub AreAtSteps : Block → List Breakpoint → Type 0
@@ -63,6 +65,6 @@ AreAtSteps main (b ∷ bs) = (b.step < length (steps main)) × IsGuardAt main b.
 
 -- the plan was made for this program
 pub record IsPlanOf (unit : Compiled) (plan : Listed) : Type 0 where
-  pub steps : plan.steps ≡ length (steps unit.tree.program)
-  pub bound : AreAtSteps unit.tree.program plan.breakpoints
+  pub steps : plan.steps ≡ length (steps (program_of unit))
+  pub bound : AreAtSteps (program_of unit) plan.breakpoints
   pub watched : plan.watched ≡ watched_lines plan.breakpoints unit.lines.items

@@ -1,6 +1,6 @@
 -- What the functions that evaluate and that look names up promise. No public contract cites this file.
 use Rattle.std.specs.Prelude.{ℕ, zero, suc, Bool, Option, Some, IsSome, option_and_then, Result, Ok, ℤ, pos, neg_ℤ}
-use Rattle.pl0_tree.specs.declared.tree.Block.{Block}
+use Rattle.pl0_tree.specs.Tree.{Block}
 use Rattle.pl0_tree.specs.Scope.{Meaning, AConstant, AVariable, AProcedure}
 use Rattle.pl0_meaning.specs.declared.RunFault.{RunFault}
 use Rattle.pl0_meaning.specs.Values.{Configuration, frame_at, number_of, constant_of, or_zero, after, checked, operation, comparison, is_odd}

@@ -1,9 +1,10 @@
 // Looks names up by their text.
 
-ghost use Rattle.std.specs.Prelude.{ℕ, ◌≡◌, ◌<◌, length, slice_get, option_map, find, position, Some, IfOk};
+ghost use Rattle.std.specs.Prelude.{ℕ, ◌≡◌, ◌<◌, length, slice_get, option_map, find, position, Some, IfOk, string_bytes};
 ghost use Rattle.std.specs.List.{list_any};
 ghost use Rattle.std.specs.Str.{bytes_eq};
-ghost use Rattle.pl0_tree.specs.Scope.{Path, word, first_declaration, home};
+ghost use Rattle.pl0_tree.specs.Plain.{plain_expression, plain_condition, plain_block};
+ghost use Rattle.pl0_tree.specs.Scope.{Path, first_declaration, home};
 ghost use Rattle.pl0_tree.specs.Steps.{blocks};
 ghost use Rattle.pl0_tree.specs.Blocks.{AreNestings};
 ghost use Rattle.pl0_tree.specs.declared.tree.Procedure.{out-Procedure};
@@ -11,7 +12,7 @@ ghost use Rattle.dbg_plan.specs.Bound.{IsNameBound, IsExpressionBound, IsConditi
 ghost use Rattle.dbg_plan.specs.Reads.{located, bound_of};
 
 use crate::bound::{BoundCondition, BoundExpression};
-use pl0_names::block;
+use pl0_syntax::block;
 use pl0_tree::{Block, Condition, Constant, Expression, Name, Nesting, Procedure};
 use std::alloc::{AllocError, Global};
 
@@ -24,7 +25,7 @@ pub enum Located {
 }
 
 fn constant_in(constants: &[Constant], text: &str) -> Option<i64>
-    ensures { result ≡ option_map (λ c. c.value) (find (λ c. bytes_eq (word c.name) text.now) constants.now) }
+    ensures { result ≡ option_map (λ c. c.value) (find (λ c. bytes_eq (string_bytes c.name.text) text.now) constants.now) }
 {
     constants
         .iter()
@@ -33,13 +34,13 @@ fn constant_in(constants: &[Constant], text: &str) -> Option<i64>
 }
 
 fn variable_in(variables: &[Name], text: &str) -> Option<usize>
-    ensures { result ≡ position (λ x. bytes_eq (word x) text.now) variables.now }
+    ensures { result ≡ position (λ x. bytes_eq (string_bytes x.text) text.now) variables.now }
 {
     variables.iter().position(|name| name.text.as_str() == text)
 }
 
 fn has_procedure(procedures: &[Procedure], text: &str) -> bool
-    ensures { result ≡ list_any (λ p. bytes_eq (word (out-Procedure p).name) text.now) procedures.now }
+    ensures { result ≡ list_any (λ p. bytes_eq (string_bytes (out-Procedure p).name.text) text.now) procedures.now }
 {
     procedures
         .iter()
@@ -48,7 +49,7 @@ fn has_procedure(procedures: &[Procedure], text: &str) -> bool
 
 // What a block declares a name as, for the frames of a block so many levels further in. A procedure counts as 0.
 fn declared_in(block: &Block, level: usize, text: &str) -> Option<Located>
-    ensures { result ≡ option_map (λ d. located block.now level d.meaning) (first_declaration text.now block.now) }
+    ensures { result ≡ option_map (λ d. located (plain_block block.now) level d.meaning) (first_declaration text.now (plain_block block.now)) }
 {
     if let Some(value) = constant_in(&block.constants, text) {
         return Some(Located::Number(value));
@@ -65,9 +66,9 @@ fn declared_in(block: &Block, level: usize, text: &str) -> Option<Located>
 /// What a name stands for in the block of a number, of a program with this table of blocks: what the nearest block that
 /// declares it says, from that one outward. A name that can't be read counts as 0.
 pub fn locate(main: &Block, table: &[Option<Nesting>], number: u32, text: &str) -> Located
-    requires table { AreNestings main.now table.now (blocks main.now) }
+    requires table { AreNestings (plain_block main.now) table.now (blocks (plain_block main.now)) }
     requires within { number < length table.now }
-    ensures { (q : Path) → slice_get (blocks main.now) number ≡ Some q → IsNameBound main.now q (home main.now q text.now) (bound_of result) }
+    ensures { (q : Path) → slice_get (blocks (plain_block main.now)) number ≡ Some q → IsNameBound (plain_block main.now) q (home (plain_block main.now) q text.now) (bound_of result) }
 {
     let mut around = number;
     let mut level = 0;
@@ -103,9 +104,9 @@ fn bind_expression(
     number: u32,
     expression: &Expression,
 ) -> Result<BoundExpression, AllocError>
-    requires table { AreNestings main.now table.now (blocks main.now) }
+    requires table { AreNestings (plain_block main.now) table.now (blocks (plain_block main.now)) }
     requires within { number < length table.now }
-    ensures { (q : Path) → slice_get (blocks main.now) number ≡ Some q → IfOk result (IsExpressionBound main.now q expression.now) }
+    ensures { (q : Path) → slice_get (blocks (plain_block main.now)) number ≡ Some q → IfOk result (IsExpressionBound (plain_block main.now) q (plain_expression expression.now)) }
 {
     match expression {
         Expression::Name(name) => {
@@ -136,9 +137,9 @@ pub fn bind_condition(
     number: u32,
     condition: &Condition,
 ) -> Result<BoundCondition, AllocError>
-    requires table { AreNestings main.now table.now (blocks main.now) }
+    requires table { AreNestings (plain_block main.now) table.now (blocks (plain_block main.now)) }
     requires within { number < length table.now }
-    ensures { (q : Path) → slice_get (blocks main.now) number ≡ Some q → IfOk result (IsConditionBound main.now q condition.now) }
+    ensures { (q : Path) → slice_get (blocks (plain_block main.now)) number ≡ Some q → IfOk result (IsConditionBound (plain_block main.now) q (plain_condition condition.now)) }
 {
     match condition {
         Condition::Odd(expression) => {

@@ -6,15 +6,13 @@ ghost use Rattle.pl0_machine.specs.Machine.{program, frames, top_of, IsNext};
 ghost use Rattle.dbg_plan.specs.declared.mode.Reason.TheVariants as reason;
 ghost use Rattle.dbg_plan.specs.Due.{reason_of, depth_at};
 ghost use Rattle.dbg_plan.specs.Debugged.{IsRunning};
-ghost use Rattle.dbg_plan.specs.Counting.{increased, is_due, holds_now, counted, counted_at, any_due, due_at, AreCounts, CountsOn, MayBePlanOf, IsMetHere, breakpoints_of};
+ghost use Rattle.dbg_plan.specs.Counting.{increased, is_due, holds_now, counted, counted_at, any_due, due_at, AreCounts, CountsOn, MayBePlanOf, IsMetHere, breakpoints_of, IsInOrder};
 
 use crate::breakpoint::{Breakpoint, Rule};
 use crate::evaluation::is_met;
 use crate::mode::{Mode, Reason};
 use crate::plan::Plan;
-use pl0_lexer::lexer_laws;
 use pl0_machine::Machine;
-use pl0_names::steps_laws;
 use std::sync::Arc;
 
 // What is kept of one more arrival.
@@ -82,6 +80,7 @@ pub fn count_arrivals(machine: &Machine, breakpoints: &[Breakpoint], counts: &mu
 pub fn count_position(machine: &Machine, plan: &Option<Arc<Plan>>, counts: &mut [u32]) -> bool
     requires running { IsRunning machine.now }
     requires fits { MayBePlanOf machine.now.unit (option_map arc_value plan.now) }
+    requires in_order { IsInOrder machine.now.unit }
     requires room { length counts.old ≡ 256 }
     // Whatever position the counts begin at, they go on, and tell what is due.
     ensures { (first : ℕ) → first ≤ machine.now.position
@@ -91,8 +90,6 @@ pub fn count_position(machine: &Machine, plan: &Option<Arc<Plan>>, counts: &mut 
     match plan {
         None => false,
         Some(plan) => {
-            lexer_laws();
-            steps_laws();
             if !plan.is_watched(machine.address()) {
                 return false;
             }

@@ -9,6 +9,7 @@ ghost use Rattle.dbg_plan.specs.Counting.{breakpoints_of, MayBePlanOf};
 use crate::counting::{count_position, reason_here};
 use crate::evaluation::{EvalFault, evaluate};
 use crate::mode::{Mode, Reason};
+use crate::order::order_laws;
 use crate::plan::Plan;
 use pl0_machine::{Machine, StepOutcome};
 use pl0_meaning::RunFault;
@@ -69,6 +70,7 @@ fn entered(plan: Arc<Plan>) -> Option<Arc<Plan>>
 
 impl Debuggee {
     ghost use Rattle.std.specs.Prelude.{◌≡◌, ◌+◌, ◌<◌, ◌++◌, [], option_map, vec_len, vec_capacity};
+    ghost use Rattle.pl0_tree.specs.Plain.{plain_expression};
     ghost use Rattle.pl0_meaning.specs.Runs.{written_by};
     ghost use Rattle.pl0_meaning.specs.Values.{value};
     ghost use Rattle.pl0_machine.specs.Machine.{Stepped, outcome_of, frames, depth_of};
@@ -81,6 +83,7 @@ impl Debuggee {
     pub fn new(machine: Machine) -> Debuggee
         ensures { result ≡ record { unit = machine.unit; position = machine.position; breakpoints = []; first = machine.position; next = machine.position } }
     {
+        order_laws(machine.unit());
         let position = machine.position();
         Debuggee {
             machine,
@@ -191,7 +194,7 @@ impl Debuggee {
     /// The first fault of the evaluation, the left operand first.
     pub fn evaluate(&self, frame: usize, expression: &Expression) -> Result<i64, EvalFault>
         requires { frame < depth_of (machine_of self.now) }
-        ensures { value (program_of self.now) (frames (machine_of self.now)) frame expression.now ≡ told result }
+        ensures { value (program_of self.now) (frames (machine_of self.now)) frame (plain_expression expression.now) ≡ told result }
     {
         evaluate(&self.machine, frame, expression)
     }

@@ -1,6 +1,7 @@
 // The values of expressions and conditions in the frames of a machine.
 
 ghost use Rattle.std.specs.Prelude.{◌≡◌, ◌<◌, IsSome, Some, neg_ℤ};
+ghost use Rattle.pl0_tree.specs.Plain.{plain_expression};
 ghost use Rattle.pl0_meaning.specs.Values.{value, name_number, or_zero, operation, comparison, checked, is_odd};
 ghost use Rattle.pl0_machine.specs.Machine.{program, frames, depth_of};
 ghost use Rattle.dbg_plan.specs.Debugged.{IsRunning};
@@ -158,7 +159,7 @@ fn name_value(machine: &Machine, frame: usize, text: &str) -> i64
 /// The first fault, the left operand first.
 pub fn evaluate(machine: &Machine, frame: usize, expression: &Expression) -> Result<i64, EvalFault>
     requires { frame < depth_of machine.now }
-    ensures { value (program machine.now) (frames machine.now) frame expression.now ≡ told result }
+    ensures { value (program machine.now) (frames machine.now) frame (plain_expression expression.now) ≡ told result }
 {
     match expression {
         Expression::Name(name) => Ok(name_value(machine, frame, name.text.as_str())),

@@ -15,6 +15,7 @@ mod counting;
 mod debuggee;
 mod evaluation;
 mod mode;
+mod order;
 mod plan;
 mod resolving;
 mod rule;

@@ -3,16 +3,16 @@
 ghost use Rattle.std.specs.Prelude.{◌≡◌, ◌<◌, ◌≤◌, length, IfOk, IfErr};
 ghost use Rattle.pl0_tree.specs.Steps.{steps};
 ghost use Rattle.pl0_tree.specs.Faults.{FaultIs};
+ghost use Rattle.pl0_machine.specs.Machine.{program_of};
 ghost use Rattle.dbg_plan.specs.Plans.{IsPlanOf};
 ghost use Rattle.dbg_plan.specs.Answers.{step_from, HasGuard, AreAnswered};
 ghost use Rattle.dbg_plan.specs.Answering.{IsGuardOf, AnswersLine};
 
 use crate::binding::bind_condition;
 use crate::breakpoint::{Breakpoint, Guard};
+use crate::order::order_laws;
 use crate::plan::Plan;
 use crate::rule::{BadHit, read_rule};
-use pl0_lexer::lexer_laws;
-use pl0_names::steps_laws;
 use pl0_syntax::{editor_laws, parse_condition};
 use pl0_tree::{StepNo, SyntaxFault};
 use pl0_unit::Unit;
@@ -37,10 +37,9 @@ pub enum Answer {
 
 // The first step at a line or behind it.
 fn first_step(unit: &Unit, line: u32) -> Option<StepNo>
-    ensures { result ≡ step_from unit.now.tree.program line }
+    ensures { result ≡ step_from (program_of unit.now) line }
 {
-    lexer_laws();
-    steps_laws();
+    order_laws(unit);
     let first = unit.steps.partition_point(|step| step.place.line < line);
     (first < unit.steps.len()).then_some(first)
 }
@@ -52,15 +51,22 @@ fn read_guard(
     text: &str,
     step: StepNo,
 ) -> Result<Option<Guard>, SyntaxFault>
-    requires { step < length (steps unit.now.tree.program) }
-    ensures guard { IfOk result (IsGuardOf unit.now.tree.program step text.now) }
-    ensures fault { IfErr result (FaultIs (λ kind place. ¬ HasGuard unit.now.tree.program step text.now)) }
+    requires { step < length (steps (program_of unit.now)) }
+    ensures guard { IfOk result (IsGuardOf (program_of unit.now) step text.now) }
+    ensures fault { IfErr result (FaultIs (λ kind place. ¬ HasGuard (program_of unit.now) step text.now)) }
 {
     if text.is_empty() {
         return Ok(None);
     }
     editor_laws();
-    let condition = match parse_condition(alloc, text.as_bytes(), &unit.tree, step) {
+    let condition = match parse_condition(
+        alloc,
+        text.as_bytes(),
+        &unit.tree.program,
+        &unit.steps,
+        &unit.nestings,
+        step,
+    ) {
         Ok(condition) => condition,
         Err(fault) => return Err(fault),
     };
@@ -84,7 +90,7 @@ fn answer_line(
     asked: &Asked,
     breakpoints: &mut Vec<Breakpoint>,
 ) -> Result<Answer, AllocError>
-    ensures { IfOk result (AnswersLine unit.now.tree.program asked.now breakpoints.old.items breakpoints.new.items) }
+    ensures { IfOk result (AnswersLine (program_of unit.now) asked.now breakpoints.old.items breakpoints.new.items) }
 {
     let step = match first_step(unit, asked.line) {
         Some(step) => step,
@@ -120,7 +126,7 @@ pub fn resolve(
     asked: &[Asked],
 ) -> Result<(Plan, Vec<Answer>), AllocError>
     requires { length asked.now ≤ 256 }
-    ensures answers { IfOk result (λ r. AreAnswered unit.now.tree.program asked.now r.1.items r.0.breakpoints) }
+    ensures answers { IfOk result (λ r. AreAnswered (program_of unit.now) asked.now r.1.items r.0.breakpoints) }
     ensures plan { IfOk result (λ r. IsPlanOf unit.now r.0) }
 {
     let mut answers = Vec::with_capacity(alloc, asked.len())?;

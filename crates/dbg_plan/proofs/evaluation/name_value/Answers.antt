@@ -4,21 +4,22 @@ use Rattle.pl0_tree.specs.Scope.{Path, home}
 use Rattle.pl0_tree.specs.Steps.{blocks}
 use Rattle.pl0_tree.specs.Blocks.{AreNestings}
 use Rattle.pl0_meaning.specs.Values.{name_number, or_zero}
-use Rattle.pl0_machine.specs.Machine.{program, frames, frame_of}
+use Rattle.pl0_machine.specs.Machine.{program_of, program, frames, frame_of}
 use Rattle.dbg_plan.specs.Bound.{IsNameBound}
 use Rattle.dbg_plan.specs.Reads.{bound_of}
 use Rattle.dbg_plan.proofs.ValuesBound.{Reads}
-use Rattle.dbg_plan.proofs.ValuesNamed.{are_nestings, block_within, located_reads, number_is, variable_up, variable_is}
+use Rattle.dbg_plan.proofs.UnitBlocks.{unit_nestings}
+use Rattle.dbg_plan.proofs.ValuesNamed.{block_within, located_reads, number_is, variable_up, variable_is}
 use Rattle.dbg_plan.proofs.evaluation.name_value.Goals as goal
 use Rattle.dbg_plan.proofs.evaluation.name_value.Goals.{After-deref, After-locate}
 
 unit_is : (c : After-deref) → c.deref-unit.result.now ≡ c.args.machine.now.unit
 unit_is c = c.deref-unit.ensures ∙ c.unit.ensures
 
-table_is : (c : After-deref) → AreNestings c.deref-unit.result.now.tree.program c.deref.result.now (blocks c.deref-unit.result.now.tree.program)
+table_is : (c : After-deref) → AreNestings (program_of c.deref-unit.result.now) c.deref.result.now (blocks (program_of c.deref-unit.result.now))
 table_is c =
     let u = c.deref-unit.result.now in
-    subst (λ t. AreNestings u.tree.program t (blocks u.tree.program)) (sym c.deref.ensures.value) (are_nestings u.tree.program u.nestings.items u.nested)
+    subst (λ t. AreNestings (program_of u) t (blocks (program_of u))) (sym c.deref.ensures.value) (unit_nestings u)
 
 pub locate-requires-clause-table : goal.locate-requires-clause-table
 locate-requires-clause-table c = table_is c
@@ -27,7 +28,7 @@ pub locate-requires-clause-within : goal.locate-requires-clause-within
 locate-requires-clause-within c =
     let m = c.args.machine.now in
     let table : AreNestings (program m) c.deref.result.now (blocks (program m)) =
-    subst (λ u. AreNestings u.tree.program c.deref.result.now (blocks u.tree.program)) (unit_is c) (table_is c) in
+    subst (λ u. AreNestings (program_of u) c.deref.result.now (blocks (program_of u))) (unit_is c) (table_is c) in
     block_within (program m) c.deref.result.now (frame_of m c.args.frame) c.frame-view.result table c.frame-view.ensures
 
 -- what was looked up is the name's number
@@ -35,7 +36,7 @@ reads : (c : After-locate) → Reads (frames c.args.machine.now) c.args.frame (b
 reads c =
     let m = c.args.machine.now in
     let same : c.deref-unit.result.now ≡ m.unit = c.deref-unit.ensures ∙ c.unit.ensures in
-    let bound = subst (λ u. (q : Path) → slice_get (blocks u.tree.program) c.frame-view.result.block ≡ Some q → IsNameBound u.tree.program q (home u.tree.program q c.args.text.now) (bound_of c.locate.result)) same c.locate.ensures in
+    let bound = subst (λ u. (q : Path) → slice_get (blocks (program_of u)) c.frame-view.result.block ≡ Some q → IsNameBound (program_of u) q (home (program_of u) q c.args.text.now) (bound_of c.locate.result)) same c.locate.ensures in
     located_reads (program m) (frames m) c.args.frame c.frame-view.result c.args.text.now c.locate.result c.depth-depth.ensures.linked c.frame-view.ensures bound
 
 pub variable-requires : goal.variable-requires

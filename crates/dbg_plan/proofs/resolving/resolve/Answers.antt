@@ -1,4 +1,5 @@
 use Rattle.std.proofs.Common.{arith}
+use Rattle.pl0_machine.specs.Machine.{program_of}
 use Rattle.dbg_plan.proofs.Lines.{one_more, plan_is}
 use Rattle.dbg_plan.proofs.StepLines.{unit_length}
 use Rattle.dbg_plan.proofs.Watching.{are_within}
@@ -6,12 +7,12 @@ use Rattle.dbg_plan.proofs.resolving.resolve.Goals as goal
 
 pub loop-line-preserved : goal.loop-line-preserved
 loop-line-preserved c =
-    one_more c.args.unit.now.tree.program c.args.asked.now c.loop-line.line-index c.line-item.result c.loop-line.answers.items _ c.loop-line.breakpoints.items _ c.in_ok-answer.answer
+    one_more (program_of c.args.unit.now) c.args.asked.now c.loop-line.line-index c.line-item.result c.loop-line.answers.items _ c.loop-line.breakpoints.items _ c.in_ok-answer.answer
     c.loop-line-test.true c.line-item.is c.loop-line.invariant c.in_ok-answer.ensures c.in_ok-push.ensures.items
 
 pub new-requires-clause-within : goal.new-requires-clause-within
 new-requires-clause-within c =
-    are_within c.args.unit.now.tree.program c.len.result c.loop-line.breakpoints.items (omega (arith, unit_length c.args.unit.now, c.args.unit.now.steps.ok, c.len.ensures)) c.loop-line.invariant.placed
+    are_within (program_of c.args.unit.now) c.len.result c.loop-line.breakpoints.items (omega (arith, unit_length c.args.unit.now, c.args.unit.now.steps.ok, c.len.ensures)) c.loop-line.invariant.placed
 
 pub returns-clause-plan : goal.returns-clause-plan
 returns-clause-plan c =

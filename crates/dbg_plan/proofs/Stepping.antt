@@ -1,0 +1,99 @@
+-- A debuggee whose machine took a step.
+use Rattle.std.proofs.Common.{◌≡◌, ℕ, ◌+◌, ◌<◌, Bool, true, false, [], ◌∷◌, length, Option, Some, None, ℤ, refl, sym, ap, ◌∙◌, subst, arith, add-one}
+use Rattle.pl0_tree.specs.Tree.{Block}
+use Rattle.pl0_meaning.specs.declared.RunFault.{RunFault}
+use Rattle.pl0_meaning.specs.Values.{Configuration}
+use Rattle.pl0_meaning.specs.Runs.{Outcome, Goes, Faults, Over, at, outcome, outcome_from, after_step as stepped_from, next_of as led_to}
+use Rattle.pl0_machine.specs.declared.outcome.StepOutcome.{StepOutcome}
+use Rattle.pl0_machine.specs.declared.outcome.StepOutcome.TheVariants.{Went, Done, Fault}
+use Rattle.pl0_machine.specs.Machine.{Standing, program_of, program, frames_of, outcome_of, told, Stepped}
+use Rattle.dbg_plan.specs.declared.debuggee.Debuggee.TheInside.{Inside}
+use Rattle.dbg_plan.specs.Debugged.{IsRunning}
+use Rattle.dbg_plan.specs.Counting.{AreCounts, breakpoints_of, MayBePlanOf, IsInOrder}
+use Rattle.dbg_plan.specs.Counts.{IsCounting, plan_of, next_at, next_of, StandsBy}
+
+at_next : (main : Block) (n : ℕ) → at main (n + 1) ≡ led_to (outcome main n)
+at_next main n = rw add-one (from (at main n))
+  where
+    from : (o : Option Configuration) → stepped_from main n o ≡ led_to (outcome_from main n o)
+    from None = refl
+    from (Some c) = refl
+
+module _ (old new : Standing) (result : StepOutcome) (stepped : Stepped (outcome_of old) old result new) where
+  -- the program is the same
+  pub same_unit : new.unit ≡ old.unit
+  same_unit = by_outcome (outcome_of old) stepped
+    where
+      by_outcome : (o : Outcome) → Stepped o old result new → new.unit ≡ old.unit
+      by_outcome (Goes written c) s = ap (λ (m : Standing). m.unit) s.1
+      by_outcome (Faults fault) s = ap (λ (m : Standing). m.unit) s.1
+      by_outcome Over s = absurd s
+
+  -- where the step led on, the program runs
+  pub went_on : (written : Option ℤ) → result ≡ Went written → (new ≡ record old { position = old.position + 1 }) × IsRunning new
+  went_on written is = by_outcome (outcome_of old) refl stepped
+    where
+      by_outcome : (o : Outcome) → outcome_of old ≡ o → Stepped o old result new → (new ≡ record old { position = old.position + 1 }) × IsRunning new
+      by_outcome (Goes written []) e s = let other : result ≡ Done = s.0 in cc
+      by_outcome (Goes written (f ∷ below)) e s =
+          let there : at (program old) (old.position + 1) ≡ Some (f ∷ below) = at_next (program old) old.position ∙ ap led_to e in
+          let some : 0 < length (f ∷ below) = omega arith in
+          (s.1, subst (λ m. IsRunning m) (sym s.1) (subst (λ o. 0 < length (frames_of o)) (sym there) some))
+      by_outcome (Faults fault) e s = let other : result ≡ Fault fault = s.0 in cc
+      by_outcome Over e s = absurd s
+
+  -- where it faults, all is as before
+  pub stays_there : (fault : RunFault) → result ≡ Fault fault → new ≡ old
+  stays_there fault is = by_outcome (outcome_of old) stepped
+    where
+      told_other : (written : Option ℤ) (c : Configuration) → result ≡ told written c → ⊥
+      told_other written [] e = cc
+      told_other written (f ∷ below) e = cc
+
+      by_outcome : (o : Outcome) → Stepped o old result new → new ≡ old
+      by_outcome (Goes written c) s = absurd (told_other written c s.0)
+      by_outcome (Faults other) s = s.1
+      by_outcome Over s = absurd s
+
+  -- where it does not fault, the position is the next one
+  pub goes_on : ((fault : RunFault) → result ≡ Fault fault → ⊥) → new.position ≡ old.position + 1
+  goes_on other = by_outcome (outcome_of old) stepped
+    where
+      by_outcome : (o : Outcome) → Stepped o old result new → new.position ≡ old.position + 1
+      by_outcome (Goes written c) s = ap (λ (m : Standing). m.position) s.1
+      by_outcome (Faults fault) s = absurd (other fault s.0)
+      by_outcome Over s = absurd s
+
+module _ (d : Inside) (was : IsCounting d) (machine : Standing) (result : StepOutcome) (stepped : Stepped (outcome_of d.machine) d.machine result machine) (behind : next_of d ≡ d.machine.position + 1) where
+  fits_still : MayBePlanOf machine.unit (plan_of d)
+  fits_still = subst (λ u. MayBePlanOf u (plan_of d)) (sym (same_unit d.machine machine result stepped)) was.fits
+
+  in_order_still : IsInOrder machine.unit
+  in_order_still = subst (λ u. IsInOrder u) (sym (same_unit d.machine machine result stepped)) was.in_order
+
+  -- the counts are those of the positions before the next to be considered
+  module _ (considered : Bool) (next : next_at machine.position considered ≡ next_of d) (stands : StandsBy machine considered) where
+    pub counting_still : IsCounting (record d { machine = machine; considered = considered })
+    counting_still =
+        let begun = was.begun in
+        record {
+          numbered = was.numbered;
+          fits = fits_still;
+          room = was.room;
+          counts = subst (λ u. AreCounts (program_of u) (breakpoints_of (plan_of d)) d.first (next_at machine.position considered) d.counts) (sym (same_unit d.machine machine result stepped))
+              (subst (λ n. AreCounts (program d.machine) (breakpoints_of (plan_of d)) d.first n d.counts) (sym next) was.counts);
+          begun = omega (arith, begun, next);
+          stands = stands;
+          in_order = in_order_still;
+        }
+
+  pub after_fault : (fault : RunFault) → result ≡ Fault fault → IsRunning d.machine → IsCounting (record d { machine = machine; considered = true })
+  after_fault fault is running =
+      let same = stays_there d.machine machine result stepped fault is in
+      counting_still true (ap (λ (m : Standing). m.position + 1) same ∙ sym behind) (subst (λ m. IsRunning m) (sym same) running)
+
+  pub after_step : machine.position ≡ d.machine.position + 1 → IsCounting (record d { machine = machine; considered = false })
+  after_step on = counting_still false (on ∙ sym behind) tt
+
+  pub not_fault : ((fault : RunFault) → result ≡ Fault fault → ⊥) → IsCounting (record d { machine = machine; considered = false })
+  not_fault other = after_step (goes_on d.machine machine result stepped other)
