@@ -5,37 +5,52 @@
 //! `serde_json`'s own definition of reading says what value a content has; [`write`] appends
 //! exactly the defined text of a message.
 //!
-//! A further command is a line in [`Supported`], a variant of [`Command`] and of [`Body`], and a
-//! file in `requests`. The crate's own lemma, that a content is one request or none, is short
-//! (`proofs/Once`): that a session gives one answer to each request rests on it.
+//! Each command has a file in `src/requests` (its arguments, and the body of its answer) and one in
+//! `specs` with the same as definitions; `Request` in `specs` says which request a content is, and
+//! `Outgoing` what a message's content is. A further command is a variant of [`Supported`], of
+//! [`Command`] and of [`Body`], and such a pair of files. [`message_laws`] says of all contents
+//! what doesn't depend on the commands: a content is one request or none (`proofs/Once`), and a
+//! request has the `seq` and the `command` of its content (`proofs/WellFormed`).
 #![tactic(auto)]
 
 mod arguments;
 mod command;
+mod events;
+mod items;
 mod laws;
 mod outgoing;
+mod printable;
 mod reading;
 mod request;
 mod requests;
-#[cfg(test)]
-mod tests;
 mod text;
 mod writing;
 
 pub use command::{Command, CommandName, Supported};
+pub use items::Items;
 pub use laws::message_laws;
-pub use outgoing::{Body, EventBody, Outgoing, Refusal};
+pub use outgoing::{
+    Body, BreakpointAnswer, BreakpointRefusal, EventBody, Exception, Outgoing, Refusal, Scope,
+    StackFrame, StopReason, Variable,
+};
 pub use reading::read;
 pub use request::Request;
+pub use requests::evaluate::EvaluateArguments;
 pub use requests::initialize::InitializeArguments;
+pub use requests::launch::LaunchArguments;
+pub use requests::resume::ThreadArguments;
+pub use requests::scopes::ScopesArguments;
+pub use requests::set_breakpoints::{SetBreakpointsArguments, SourceBreakpoint};
+pub use requests::stack_trace::StackTraceArguments;
+pub use requests::variables::VariablesArguments;
 use std::alloc::AllocError;
 pub use text::Text;
 pub use writing::write;
 
-/// Why a content was not read, or a message not written.
+/// Why a content was not read, or a message was not written.
 #[derive(Clone, Copy, Debug, PartialEq, Eq)]
 pub enum MsgFault {
-    /// A growth was refused.
+    /// An allocation failed.
     NoMemory,
 }
 

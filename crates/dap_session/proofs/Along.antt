@@ -1,5 +1,5 @@
 -- What holds along a history.
-use Rattle.std.proofs.Common.{◌≡◌, inl, inr, ℕ, zero, suc, ◌+◌, List, [], ◌∷◌, ◌++◌, None, Some, Ok, refl, sym, ◌∙◌, ap, subst, arith}
+use Rattle.std.proofs.Common.{◌≡◌, ◌⊎◌, inl, inr, ℕ, zero, suc, ◌+◌, List, [], ◌∷◌, ◌++◌, None, Some, Ok, refl, sym, ◌∙◌, ap, subst, arith}
 use Rattle.std.specs.Prelude.{map, slice_get, option_map}
 use Rattle.std.proofs.lemmas.List.{map-append}
 use Rattle.std.proofs.lemmas.List.Elements.{filter_map-append}
@@ -21,7 +21,7 @@ use Rattle.dap_session.specs.declared.ending.Ending.TheVariants as ending
 use Rattle.dap_session.specs.Events.{Incoming, Piece, End, ReadFailed, NoMemory, IsTaking, Takes, Rests, Closes, Leads, LeadsAll}
 use Rattle.dap_session.specs.Output.{frames_from}
 use Rattle.dap_session.specs.Laws.{answered, asked, EachIsAnsweredOnce, SeqCountFromOne, DisconnectIsLast}
-use Rattle.dap_session.proofs.Readings.{or_else-none, messages_of-after, ending_of-after}
+use Rattle.dap_session.proofs.Readings.{goes_on, or_else-none, messages_of-after, ending_of-after}
 
 -- what one more item keeps, while the session takes any
 pub record IsKept (P : History → Type 0) : Type 0 where
@@ -95,11 +95,11 @@ EndsWell past =
 
 last_here : (past : History) (seq : ℕ) (body_ : Command) → closing_command body_ ≡ Some (ending.Closed Disconnected)
     → Answer seq (name_of body_) (result_in (situation past) body_) ≡ Answer seq (name.Supported Disconnect) (Ok body.None)
-last_here past seq (command.Initialize arguments) is = absurd cc
-last_here past seq command.Threads is = absurd cc
-last_here past seq command.Disconnect is = refl
-last_here past seq (command.Unsupported name) is = absurd cc
-last_here past seq (command.BadArguments supported) is = absurd cc
+last_here past seq body_ closes = here (goes_on body_)
+  where
+    here : (closing_command body_ ≡ None) ⊎ (body_ ≡ command.Disconnect) → Answer seq (name_of body_) (result_in (situation past) body_) ≡ Answer seq (name.Supported Disconnect) (Ok body.None)
+    here (inl none) = let e : None ≡ Some (ending.Closed Disconnected) = sym none ∙ closes in absurd cc
+    here (inr is) = ap (λ b. Answer seq (name_of b) (result_in (situation past) b)) is
 
 last_of : (past : History) (item : Item) → closing item ≡ Some (ending.Closed Disconnected)
     → (seq : ℕ) × (emits past item ≡ Answer seq (name.Supported Disconnect) (Ok body.None) ∷ [])

@@ -1,6 +1,5 @@
 -- How an event can end a session.
 use Rattle.std.proofs.Common.{◌≡◌, ◌⊎◌, inl, inr, ℕ, List, [], ◌∷◌, ◌++◌, Option, None, Some, refl, sym, ◌∙◌, ap, subst}
-use Rattle.dap_msg.specs.declared.command.Command.{Command}
 use Rattle.dap_msg.specs.declared.command.Command.TheVariants as command
 use Rattle.dap_msg.specs.declared.request.Request.{Request}
 use Rattle.dap_session.specs.declared.ending.Closed.TheVariants.{Disconnected}
@@ -13,7 +12,7 @@ use Rattle.dap_session.specs.Last.{or_else}
 use Rattle.dap_session.specs.Laws.{EndsBy, EventTellsTheEnding}
 use Rattle.dap_session.proofs.GivingUp.{leads_split}
 use Rattle.dap_session.proofs.OneHistory.{IsReadOnce, one_history}
-use Rattle.dap_session.proofs.Readings.{or_else-none, ending_of-after}
+use Rattle.dap_session.proofs.Readings.{goes_on, or_else-none, ending_of-after}
 
 -- no ending, or the one by `disconnect`
 abbrev pub GoesOnOrDisconnects : Option Ending → Type 0
@@ -21,14 +20,11 @@ GoesOnOrDisconnects by = (by ≡ None) ⊎ (by ≡ Some (ending.Closed Disconnec
 
 content_ending : (request : Option Request) → GoesOnOrDisconnects (closing (Content request))
 content_ending None = inl refl
-content_ending (Some request) = command_ending request.body
+content_ending (Some request) = command_ending (goes_on request.body)
   where
-    command_ending : (body : Command) → GoesOnOrDisconnects (closing_command body)
-    command_ending (command.Initialize arguments) = inl refl
-    command_ending command.Threads = inl refl
-    command_ending command.Disconnect = inr refl
-    command_ending (command.Unsupported name) = inl refl
-    command_ending (command.BadArguments supported) = inl refl
+    command_ending : (closing_command request.body ≡ None) ⊎ (request.body ≡ command.Disconnect) → GoesOnOrDisconnects (closing_command request.body)
+    command_ending (inl none) = inl none
+    command_ending (inr is) = inr (ap closing_command is)
 
 ending_of-taking : (past : History) (item : Item) → IsTaking past → ending_of (after past item) ≡ closing item
 ending_of-taking past item taking = ending_of-after past item ∙ ap (or_else (closing item)) taking ∙ or_else-none (closing item)

@@ -1,14 +1,16 @@
 -- How the readings of a history go on with one more item.
-use Rattle.std.proofs.Common.{◌≡◌, ℕ, ◌+◌, List, [], ◌∷◌, ◌++◌, length, Option, None, Some, refl, sym, ◌∙◌, ap, arith, append-nil, length-append}
+use Rattle.std.proofs.Common.{◌≡◌, ◌⊎◌, inl, inr, ℕ, ◌+◌, List, [], ◌∷◌, ◌++◌, length, Option, None, Some, refl, sym, ◌∙◌, ap, arith, append-nil, length-append}
 use Rattle.std.specs.Prelude.{unwrap_or}
 use Rattle.std.proofs.lemmas.Grind.{flat_map-append}
 use Rattle.dap_frame.specs.Frame.{frame_of}
+use Rattle.dap_msg.specs.declared.command.Command.{Command}
+use Rattle.dap_msg.specs.declared.command.Command.TheVariants as command
 use Rattle.dap_msg.specs.declared.outgoing.Outgoing.{Outgoing}
 use Rattle.dap_msg.specs.Outgoing.{text_of}
 use Rattle.dap_session.specs.Last.{or_else, last_such}
 use Rattle.dap_session.specs.declared.situation.Situation.{Situation}
 use Rattle.dap_session.specs.declared.situation.Situation.TheVariants.{Fresh}
-use Rattle.dap_session.specs.History.{Item, History, messages_of, orders_of, mark_of, situation, closing, ending_of, next_seq, emits, causes, step_of, after}
+use Rattle.dap_session.specs.History.{Item, History, messages_of, orders_of, mark_of, situation, closing, closing_command, ending_of, next_seq, emits, causes, step_of, after}
 use Rattle.dap_session.specs.Output.{frames_from}
 
 pub or_else-none : {A : Type 0} (x : Option A) → or_else x None ≡ x
@@ -54,3 +56,23 @@ pub frames_from-append : (n : ℕ) (xs ys : List Outgoing) → frames_from n (xs
 frames_from-append n [] ys = ap (λ k. frames_from k ys) (omega arith)
 frames_from-append n (x ∷ xs) ys =
     ap (λ l. frame_of (text_of x n) ∷ l) (frames_from-append (n + 1) xs ys ∙ ap (λ k. frames_from (n + 1) xs ++ frames_from k ys) (omega arith))
+
+-- only `disconnect` closes the session
+pub goes_on : (body : Command) → (closing_command body ≡ None) ⊎ (body ≡ command.Disconnect)
+goes_on (command.Initialize arguments) = inl refl
+goes_on (command.Launch arguments) = inl refl
+goes_on (command.SetBreakpoints arguments) = inl refl
+goes_on command.ConfigurationDone = inl refl
+goes_on command.Threads = inl refl
+goes_on (command.Continue arguments) = inl refl
+goes_on (command.Next arguments) = inl refl
+goes_on (command.StepIn arguments) = inl refl
+goes_on (command.StepOut arguments) = inl refl
+goes_on (command.Pause arguments) = inl refl
+goes_on (command.StackTrace arguments) = inl refl
+goes_on (command.Scopes arguments) = inl refl
+goes_on (command.Variables arguments) = inl refl
+goes_on (command.Evaluate arguments) = inl refl
+goes_on command.Disconnect = inr refl
+goes_on (command.Unsupported name) = inl refl
+goes_on (command.BadArguments supported) = inl refl

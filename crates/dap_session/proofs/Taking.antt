@@ -21,7 +21,7 @@ use Rattle.dap_session.specs.History.{Item, Content, History, messages_of, order
 use Rattle.dap_session.specs.Ports.{Ports}
 use Rattle.dap_session.specs.Output.{frames_from, Adds, Sends, SendsPart, HasCause}
 use Rattle.dap_session.specs.State.{State, Knows, IsWell}
-use Rattle.dap_session.proofs.Readings.{or_else-none, messages_of-after, orders_of-after, ending_of-after, situation-after, next_seq-after, frames_from-append}
+use Rattle.dap_session.proofs.Readings.{goes_on, or_else-none, messages_of-after, orders_of-after, ending_of-after, situation-after, next_seq-after, frames_from-append}
 
 pub adds_item : (past : History) (item : Item) → Adds past (after past item) (emits past item) (causes past item)
 adds_item past item = record { messages_are = messages_of-after past item; orders_are = orders_of-after past item }
@@ -215,11 +215,8 @@ takes_more past bytes (c ∷ contents) mid left content request more taken takin
 
 -- no command makes the session give up
 pub well_closing : (body : Command) (ending : Option Ending) → ending ≡ closing_command body → IsWell ending
-well_closing body ending is = rw is (each body)
+well_closing body ending is = rw is (each (goes_on body))
   where
-    each : (body : Command) → IsWell (closing_command body)
-    each (command.Initialize arguments) = tt
-    each command.Threads = tt
-    each command.Disconnect = tt
-    each (command.Unsupported name) = tt
-    each (command.BadArguments supported) = tt
+    each : (closing_command body ≡ None) ⊎ (body ≡ command.Disconnect) → IsWell (closing_command body)
+    each (inl none) = rw none tt
+    each (inr is) = rw is tt

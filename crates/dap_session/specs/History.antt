@@ -7,7 +7,7 @@ use Rattle.dap_msg.specs.declared.command.Command.{Command}
 use Rattle.dap_msg.specs.declared.command.Command.TheVariants as command
 use Rattle.dap_msg.specs.Commands.{name_of}
 use Rattle.dap_msg.specs.declared.outgoing.Outgoing.{Outgoing}
-use Rattle.dap_msg.specs.declared.outgoing.Outgoing.TheVariants.{Answer, Event}
+use Rattle.dap_msg.specs.declared.outgoing.Outgoing.TheVariants.{Answer}
 use Rattle.dap_msg.specs.declared.outgoing.Body.{Body}
 use Rattle.dap_msg.specs.declared.outgoing.Body.TheVariants as body
 use Rattle.dap_msg.specs.declared.outgoing.Refusal.{Refusal}
@@ -51,10 +51,7 @@ orders_of past = flat_map (λ step. step.orders) past
 -- the situation that a message leads to
 abbrev pub mark_of : Outgoing → Option Situation
 mark_of (Answer seq name (Ok body.Capabilities)) = Some Ready
-mark_of (Answer seq name (Ok body.None)) = None
-mark_of (Answer seq name (Ok body.Threads)) = None
-mark_of (Answer seq name (Err r)) = None
-mark_of (Event e) = None
+mark_of _ = None
 
 -- the situation: that of the last message that led to one, at first Fresh
 abbrev pub situation : History → Situation
@@ -62,11 +59,8 @@ situation past = unwrap_or (last_such mark_of (messages_of past)) Fresh
 
 -- how a command closes the session, if it does
 abbrev pub closing_command : Command → Option Ending
-closing_command (command.Initialize arguments) = None
-closing_command command.Threads = None
 closing_command command.Disconnect = Some (ending.Closed Disconnected)
-closing_command (command.Unsupported name) = None
-closing_command (command.BadArguments supported) = None
+closing_command _ = None
 
 -- how an item closes it, if it does
 abbrev pub closing : Item → Option Ending
@@ -96,13 +90,13 @@ abbrev pub threads_in : Situation → Result Body Refusal
 threads_in Fresh = Err refusal.WrongPhase
 threads_in Ready = Ok body.Threads
 
--- the answer to a command in a situation
+-- the answer to a command in a situation; each command but these is refused as unsupported
 abbrev pub result_in : Situation → Command → Result Body Refusal
 result_in s (command.Initialize arguments) = initialize_in s
 result_in s command.Threads = threads_in s
 result_in s command.Disconnect = Ok body.None
-result_in s (command.Unsupported name) = Err refusal.Unsupported
 result_in s (command.BadArguments supported) = Err refusal.BadArguments
+result_in s _ = Err refusal.Unsupported
 
 -- the messages that an item causes: a request is answered, and nothing else
 abbrev pub emits : History → Item → List Outgoing

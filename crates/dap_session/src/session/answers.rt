@@ -36,13 +36,6 @@ impl Session {
             Command::Initialize(_) => self.initialize(seq),
             Command::Threads => self.threads(seq),
             Command::Disconnect => self.disconnect(seq),
-            Command::Unsupported(text) => {
-                self.answer(
-                    seq,
-                    CommandName::Unsupported(text),
-                    Err(Refusal::Unsupported),
-                )
-            }
             Command::BadArguments(command) => {
                 self.answer(
                     seq,
@@ -50,6 +43,7 @@ impl Session {
                     Err(Refusal::BadArguments),
                 )
             }
+            command => self.answer(seq, command.into_name(), Err(Refusal::Unsupported)),
         }
     }
 
