@@ -10,9 +10,9 @@ use Rattle.dap_msg.specs.declared.outgoing.Outgoing.TheVariants.{Answer, Event}
 use Rattle.dap_msg.specs.declared.outgoing.EventBody.{EventBody}
 use Rattle.dap_msg.specs.declared.outgoing.EventBody.TheVariants as event
 use Rattle.pl0_meaning.specs.Laws.{WrittenJoins}
-use Rattle.dbg_runner.specs.Lawful.{Reported, IsLawful}
-use Rattle.dbg_runner.specs.declared.end.End.{End}
-use Rattle.dbg_runner.specs.declared.end.End.TheVariants as end
+use Rattle.dap_history.specs.Plain.{Reported, IsLawful}
+use Rattle.dap_history.specs.Plain.{Outcome}
+use Rattle.dap_history.specs.Plain as slice
 use Rattle.dap_history.specs.declared.launch.Launch.{Launch}
 use Rattle.dap_history.specs.History.{Item, Content, Loaded, Accepted, Fault, InputEnd, ReadFailure, MemoryFailure, Step, History, Effect, behind, messages, messages_of}
 use Rattle.dap_history.specs.Readings.{situation, waiting_pause}
@@ -34,18 +34,18 @@ outputs_alone : (vs : List ℤ) → Quiet (map Event (map event.Output vs))
 outputs_alone [] = tt
 outputs_alone (v ∷ vs) = ((λ no. absurd no), outputs_alone vs)
 
-report_quiet : (past : History) (r : Reported) (e : End) → Quiet (map Event (report_effect past r e).events)
-report_quiet past r end.More = outputs_alone r.outputs
-report_quiet past r (end.Due reason) = outputs_quiet r.outputs (stops (stop_of reason)) (silent_quiet (stops (stop_of reason)) refl)
-report_quiet past r end.Held = held_quiet (waiting_pause past)
+report_quiet : (past : History) (r : Reported) (e : Outcome) → Quiet (map Event (report_effect past r e).events)
+report_quiet past r slice.More = outputs_alone r.numbers
+report_quiet past r (slice.Due reason) = outputs_quiet r.numbers (stops (stop_of reason)) (silent_quiet (stops (stop_of reason)) refl)
+report_quiet past r slice.Held = held_quiet (waiting_pause past)
   where
     held_quiet : (pauses : Bool) → Quiet (map Event (held past r pauses).events)
-    held_quiet true = outputs_quiet r.outputs (stops stop.Pause) (silent_quiet (stops stop.Pause) refl)
-    held_quiet false = outputs_alone r.outputs
-report_quiet past r end.Done = outputs_quiet r.outputs (ends 0) (silent_quiet (ends 0) refl)
-report_quiet past r (end.Fault fault) =
-    outputs_quiet r.outputs (stops (stop.Exception (exception_of fault))) (silent_quiet (stops (stop.Exception (exception_of fault))) refl)
-report_quiet past r end.NoMemory = tt
+    held_quiet true = outputs_quiet r.numbers (stops stop.Pause) (silent_quiet (stops stop.Pause) refl)
+    held_quiet false = outputs_alone r.numbers
+report_quiet past r slice.Done = outputs_quiet r.numbers (ends 0) (silent_quiet (ends 0) refl)
+report_quiet past r (slice.Fault fault) =
+    outputs_quiet r.numbers (stops (stop.Exception (exception_of fault))) (silent_quiet (stops (stop.Exception (exception_of fault))) refl)
+report_quiet past r slice.NoMemory = tt
 
 unanswered_quiet : (step : Step) (effect : Effect) → HasEffect effect step → Quiet (map Event effect.events) → Quiet (messages step)
 unanswered_quiet step effect has quiet =
@@ -68,7 +68,7 @@ step_quiet past (Content (Some request)) step is =
     answered_quiet _ _ _ step is.0.effect is.2.answer_is is.2.effect_is
     (silent_quiet is.0.effect.events (all_silent (situation past) past request.body is.0 is.1).tells_none)
 step_quiet past (Loaded launch file) step is = answered_quiet _ _ _ step is.0.effect is.2.answer_is is.2.effect_is (launch_quiet launch file is.0 is.1)
-step_quiet past (Accepted r) step is = unanswered_quiet step _ is (report_quiet past r r.ends)
+step_quiet past (Accepted r) step is = unanswered_quiet step _ is (report_quiet past r r.outcome)
 step_quiet past (Fault k) step is = unanswered_quiet step _ is tt
 step_quiet past InputEnd step is = unanswered_quiet step _ is tt
 step_quiet past ReadFailure step is = unanswered_quiet step _ is tt

@@ -3,13 +3,11 @@ pub mod Along
 pub mod Answered
 pub mod Numbered
 pub mod Last
-pub mod ShownQ
 pub mod Quiet
 pub mod Silent
 pub mod Outputs
 pub mod Early
 pub mod Told
-pub mod Rows
 pub mod Each
 pub mod Behind
 pub mod BehindStops
@@ -17,3 +15,4 @@ pub mod Standing
 pub mod Passing
 pub mod Stopping
 pub mod OneHistory
+pub mod BlockCode

@@ -12,17 +12,17 @@ use Rattle.dap_msg.specs.declared.outgoing.Outgoing.TheVariants.{Answer, Event}
 use Rattle.dap_msg.specs.declared.outgoing.EventBody.{EventBody}
 use Rattle.dap_msg.specs.declared.outgoing.EventBody.TheVariants as event
 use Rattle.dap_msg.specs.declared.outgoing.StopReason.{StopReason}
-use Rattle.pl0_tree.specs.declared.tree.Block.{Block}
+use Rattle.pl0_tree.specs.Tree.{Block}
 use Rattle.pl0_tree.specs.Faults.{IsTreeOf}
 use Rattle.pl0_meaning.specs.Runs.{written}
 use Rattle.pl0_meaning.specs.Laws.{WrittenJoins}
-use Rattle.dbg_runner.specs.Lawful.{Reported, IsLawful}
-use Rattle.dbg_runner.specs.declared.end.End.{End}
-use Rattle.dbg_runner.specs.declared.end.End.TheVariants as end
+use Rattle.dap_history.specs.Plain.{Reported, IsLawful}
+use Rattle.dap_history.specs.Plain.{Outcome}
+use Rattle.dap_history.specs.Plain as slice
 use Rattle.dap_history.specs.Last.{or_else, last_such}
 use Rattle.dap_history.specs.Orders.{Run, PlainOrder}
 use Rattle.dap_history.specs.History.{Launched, Item, Content, Loaded, Accepted, Fault, InputEnd, ReadFailure, MemoryFailure, Step, History, Effect, behind, messages, messages_of}
-use Rattle.dap_history.specs.Readings.{go, launched, last_run, position, finish_of, waiting_pause}
+use Rattle.dap_history.specs.Readings.{go, launched, last_run, position, end_of, waiting_pause}
 use Rattle.dap_history.specs.Replies.{Reply, nothing}
 use Rattle.dap_history.specs.Reports.{outputs, stands, goes_on, held, report_effect}
 use Rattle.dap_history.specs.Laws.{output, numbers}
@@ -42,55 +42,55 @@ outputs_told : (vs : List ℤ) → filter_map output (map Event (map event.Outpu
 outputs_told [] = refl
 outputs_told (v ∷ vs) = ap (λ l. v ∷ l) (outputs_told vs)
 
-behind_outputs : (r : Reported) (events : List EventBody) → filter_map output (map Event events) ≡ [] → filter_map output (map Event (outputs r ++ events)) ≡ r.outputs
+behind_outputs : (r : Reported) (events : List EventBody) → filter_map output (map Event events) ≡ [] → filter_map output (map Event (outputs r ++ events)) ≡ r.numbers
 behind_outputs r events none =
     ap (filter_map output) (map-append Event (outputs r) events)
     ∙ filter_map-append output (map Event (outputs r)) (map Event events)
     ∙ ap (λ l. filter_map output (map Event (outputs r)) ++ l) none
     ∙ append-nil (filter_map output (map Event (outputs r)))
-    ∙ outputs_told r.outputs
+    ∙ outputs_told r.numbers
 
 -- whatever the report's end, its numbers are those that it tells
-pub report_tells : (past : History) (r : Reported) (e : End) → (e ≡ end.NoMemory → r.outputs ≡ []) → filter_map output (map Event (report_effect past r e).events) ≡ r.outputs
-report_tells past r end.More none = outputs_told r.outputs
-report_tells past r (end.Due reason) none = behind_outputs r _ refl
-report_tells past r end.Held none = held_tells (waiting_pause past)
+pub report_tells : (past : History) (r : Reported) (e : Outcome) → (e ≡ slice.NoMemory → r.numbers ≡ []) → filter_map output (map Event (report_effect past r e).events) ≡ r.numbers
+report_tells past r slice.More none = outputs_told r.numbers
+report_tells past r (slice.Due reason) none = behind_outputs r _ refl
+report_tells past r slice.Held none = held_tells (waiting_pause past)
   where
-    held_tells : (pauses : Bool) → filter_map output (map Event (held past r pauses).events) ≡ r.outputs
+    held_tells : (pauses : Bool) → filter_map output (map Event (held past r pauses).events) ≡ r.numbers
     held_tells true = behind_outputs r _ refl
-    held_tells false = outputs_told r.outputs
-report_tells past r end.Done none = behind_outputs r _ refl
-report_tells past r (end.Fault fault) none = behind_outputs r _ refl
-report_tells past r end.NoMemory none = sym (none refl)
+    held_tells false = outputs_told r.numbers
+report_tells past r slice.Done none = behind_outputs r _ refl
+report_tells past r (slice.Fault fault) none = behind_outputs r _ refl
+report_tells past r slice.NoMemory none = sym (none refl)
 
-pub report_launches : (past : History) (r : Reported) (e : End) → (report_effect past r e).launched ≡ None
-report_launches past r end.More = refl
-report_launches past r (end.Due reason) = refl
-report_launches past r end.Held = held_launches (waiting_pause past)
+pub report_launches : (past : History) (r : Reported) (e : Outcome) → (report_effect past r e).launched ≡ None
+report_launches past r slice.More = refl
+report_launches past r (slice.Due reason) = refl
+report_launches past r slice.Held = held_launches (waiting_pause past)
   where
     held_launches : (pauses : Bool) → (held past r pauses).launched ≡ None
     held_launches true = refl
     held_launches false = refl
-report_launches past r end.Done = refl
-report_launches past r (end.Fault fault) = refl
-report_launches past r end.NoMemory = refl
+report_launches past r slice.Done = refl
+report_launches past r (slice.Fault fault) = refl
+report_launches past r slice.NoMemory = refl
 
 -- a run that a report orders is of the report's text, and begins at its end
 pub data GoesAs (text : List ℕ) (finish : ℕ) : Option Run → Type 0 where
   no_run : GoesAs text finish None
-  as_text : (run : Run) → run.text ≡ text → run.begins ≡ finish → GoesAs text finish (Some run)
+  as_text : (run : Run) → run.text ≡ text → run.start ≡ finish → GoesAs text finish (Some run)
 
 abbrev pub GoesOn : Reported → Effect → Type 0
-GoesOn r effect = GoesAs r.unit.tree.text.items r.finish (last_such go effect.orders)
+GoesOn r effect = GoesAs r.text r.end (last_such go effect.orders)
 
-pub report_goes : (past : History) (r : Reported) (e : End) → GoesOn r (report_effect past r e)
-report_goes past r end.More = no_run
-report_goes past r (end.Due reason) = no_run
-report_goes past r end.Held = held_goes (waiting_pause past)
+pub report_goes : (past : History) (r : Reported) (e : Outcome) → GoesOn r (report_effect past r e)
+report_goes past r slice.More = no_run
+report_goes past r (slice.Due reason) = no_run
+report_goes past r slice.Held = held_goes (waiting_pause past)
   where
     held_goes : (pauses : Bool) → GoesOn r (held past r pauses)
     held_goes true = no_run
     held_goes false = as_text _ refl refl
-report_goes past r end.Done = no_run
-report_goes past r (end.Fault fault) = no_run
-report_goes past r end.NoMemory = no_run
+report_goes past r slice.Done = no_run
+report_goes past r (slice.Fault fault) = no_run
+report_goes past r slice.NoMemory = no_run

@@ -17,20 +17,20 @@ use Rattle.dap_msg.specs.declared.outgoing.EventBody.{EventBody}
 use Rattle.dap_msg.specs.declared.outgoing.EventBody.TheVariants as event
 use Rattle.dap_msg.specs.declared.outgoing.StopReason.{StopReason}
 use Rattle.dap_msg.specs.declared.outgoing.StopReason.TheVariants as stop
-use Rattle.pl0_tree.specs.declared.tree.Block.{Block}
+use Rattle.pl0_tree.specs.Tree.{Block}
 use Rattle.pl0_meaning.specs.Laws.{WrittenJoins}
-use Rattle.dbg_plan.specs.declared.breakpoint.Breakpoint.{Breakpoint}
+use Rattle.dap_history.specs.Plain.{Breakpoint}
 use Rattle.dbg_plan.specs.declared.mode.Mode.{Mode}
-use Rattle.dbg_plan.specs.Due.{due}
-use Rattle.dbg_runner.specs.Lawful.{Reported, IsLawful, EndsBy, reported_program, due_in as due_of}
-use Rattle.dbg_runner.specs.declared.end.End.{End}
-use Rattle.dbg_runner.specs.declared.end.End.TheVariants as end
+use Rattle.dap_history.specs.Plain.{due}
+use Rattle.dap_history.specs.Plain.{Reported, IsLawful, EndsBy, reported_due}
+use Rattle.dap_history.specs.Plain.{Outcome}
+use Rattle.dap_history.specs.Plain as slice
 use Rattle.dap_history.specs.declared.situation.Situation.{Situation}
 use Rattle.dap_history.specs.declared.situation.Situation.TheVariants.{Fresh, Ready, Configuring, Running, Stopped, Faulted, Ended}
 use Rattle.dap_history.specs.Last.{or_else, last_such}
 use Rattle.dap_history.specs.Orders.{Run, PlainOrder, Go, Hold, Quit}
 use Rattle.dap_history.specs.History.{Launched, Item, Content, Loaded, Accepted, Fault, InputEnd, ReadFailure, MemoryFailure, Step, History, Effect, behind, messages}
-use Rattle.dap_history.specs.Readings.{go, situation, position, launched, last_run, finish_of, command_mark, answer_mark, event_mark, stop_mark, message_mark, order_mark, step_mark}
+use Rattle.dap_history.specs.Readings.{go, situation, position, launched, last_run, end_of, command_mark, answer_mark, event_mark, stop_mark, message_mark, order_mark, step_mark}
 use Rattle.dap_history.specs.declared.launch.Launch.{Launch}
 use Rattle.dap_history.specs.Launching.{Launches}
 use Rattle.dap_history.specs.Replies.{Reply, refused, stops, ends, stop_of}
@@ -192,7 +192,7 @@ runs_not step answer none is = neither (mark_else IsRunning (last_such order_mar
 -- the runs that a step orders begin at this position
 pub data BeginsAt (here : ℕ) : Option Run → Type 0 where
   none_begins : BeginsAt here None
-  begins_at : (run : Run) → run.begins ≡ here → BeginsAt here (Some run)
+  begins_at : (run : Run) → run.start ≡ here → BeginsAt here (Some run)
 
 begins_by : (past : History) (o : Option Run) → GoesBy past o → BeginsAt (position past) o
 begins_by past None no_go = none_begins
@@ -213,14 +213,14 @@ loaded_orders launch (Some text) reply (inr is) = ap (λ (r : Reply). last_such 
 loaded_begins : (here : ℕ) (o : Option Run) → o ≡ None → BeginsAt here o
 loaded_begins here o is = subst (BeginsAt here) (sym is) none_begins
 
-pub item_begins : (past : History) (item : Item) (step : Step) → Causes past item step → BeginsHere (unwrap_or (finish_of item) (position past)) step.effect
+pub item_begins : (past : History) (item : Item) (step : Step) → Causes past item step → BeginsHere (unwrap_or (end_of item) (position past)) step.effect
 item_begins past (Content None) step is = subst (BeginsHere (position past)) (sym is.effect_is) none_begins
 item_begins past (Content (Some request)) step is =
     subst (BeginsHere (position past)) (sym is.2.effect_is) (begins_by past (last_such go is.0.effect.orders) (all_silent (situation past) past request.body is.0 is.1).goes)
 item_begins past (Loaded launch file) step is =
     subst (BeginsHere (position past)) (sym is.2.effect_is) (loaded_begins (position past) (last_such go is.0.effect.orders) (loaded_orders launch file is.0 is.1))
 item_begins past (Accepted r) step is =
-    subst (BeginsHere r.finish) (sym is.effect_is) (begins_on r.unit.tree.text.items r.finish (last_such go (report_effect past r r.ends).orders) (report_goes past r r.ends))
+    subst (BeginsHere r.end) (sym is.effect_is) (begins_on r.text r.end (last_such go (report_effect past r r.outcome).orders) (report_goes past r r.outcome))
 item_begins past (Fault k) step is = subst (BeginsHere (position past)) (sym is.effect_is) none_begins
 item_begins past InputEnd step is = subst (BeginsHere (position past)) (sym is.effect_is) none_begins
 item_begins past ReadFailure step is = subst (BeginsHere (position past)) (sym is.effect_is) none_begins
@@ -232,7 +232,7 @@ launches_not Q past (Content None) step taken is running = ap (λ (e : Effect). 
 launches_not Q past (Content (Some request)) step taken is running =
     ap (λ (e : Effect). e.launched) is.2.effect_is ∙ (all_silent (situation past) past request.body is.0 is.1).launches_none
 launches_not Q past (Loaded launch file) step taken is running = absurd (subst IsRunning taken running)
-launches_not Q past (Accepted r) step taken is running = ap (λ (e : Effect). e.launched) is.effect_is ∙ report_launches past r r.ends
+launches_not Q past (Accepted r) step taken is running = ap (λ (e : Effect). e.launched) is.effect_is ∙ report_launches past r r.outcome
 launches_not Q past (Fault k) step taken is running = ap (λ (e : Effect). e.launched) is.effect_is
 launches_not Q past InputEnd step taken is running = ap (λ (e : Effect). e.launched) is.effect_is
 launches_not Q past ReadFailure step taken is running = ap (λ (e : Effect). e.launched) is.effect_is
@@ -266,16 +266,16 @@ last_mark : (r : Reported) (es : List EventBody) → last_such message_mark (map
 last_mark r es = ap (last_such message_mark) (map-append Event (outputs r) es) ∙ last_such-append message_mark (map Event (outputs r)) (map Event es)
 
 -- where a report leads nowhere, its end isn't due
-abbrev pub NotDueAtEnd : Reported → Type 0
-NotDueAtEnd r = (r.finish ≡ r.begins) ⊎ (due_of r r.finish ≡ None)
+abbrev pub NotDueAtEnd : Block → Reported → Type 0
+NotDueAtEnd main r = (r.end ≡ r.start) ⊎ (reported_due main r r.end ≡ None)
 
-pub undue_end : (past : History) (r : Reported) (e : End) → EndsBy r e → mark_of_effect (report_effect past r e) ≡ None → NotDueAtEnd r
-undue_end past r end.More is none = inr is.1
-undue_end past r (end.Due reason) is none = let e = sym (last_mark r (stops (stop_of reason))) ∙ none in absurd cc
-undue_end past r end.Held is none = inl is.0
-undue_end past r end.Done is none = let e = sym (last_mark r (ends 0)) ∙ none in absurd cc
-undue_end past r (end.Fault fault) is none = is.1
-undue_end past r end.NoMemory is none = inl is.0
+pub undue_end : (main : Block) (past : History) (r : Reported) (e : Outcome) → EndsBy main r e → mark_of_effect (report_effect past r e) ≡ None → NotDueAtEnd main r
+undue_end main past r slice.More is none = inr is.1
+undue_end main past r (slice.Due reason) is none = let e = sym (last_mark r (stops (stop_of reason))) ∙ none in absurd cc
+undue_end main past r slice.Held is none = inl is
+undue_end main past r slice.Done is none = let e = sym (last_mark r (ends 0)) ∙ none in absurd cc
+undue_end main past r (slice.Fault fault) is none = is.1
+undue_end main past r slice.NoMemory is none = inl is
 
 -- ---- along a history
 
@@ -285,44 +285,44 @@ module _ (one : OneProgram) (joins : WrittenJoins) where
     pub told : Told past
     pub configuring : IsConfiguring (situation past) → (last_run past ≡ None) × (position past ≡ 0)
     pub running : IsRunning (situation past) → (l : Launched) → launched past ≡ Some l → (run : Run) → last_run past ≡ Some run
-        → (run.begins ≤ position past) × NoneDueUpTo l run (position past)
+        → (run.start ≤ position past) × NoneDueUpTo l run (position past)
 
   -- the report is of the launched program, the last run, and what that run passed
   module _ (past : History) (r : Reported) (accepts : Accepts past r) (lawful : IsLawful r) (ran : Ran past) (l : Launched) (is : launched past ≡ Some l) where
     abbrev run : Run
     run = accepts.run
 
-    pub same_due : (k : ℕ) → due_in l run k ≡ due_of r k
+    pub same_due : (k : ℕ) → due_in l run k ≡ reported_due lawful.program r k
     same_due k =
         sym
-        (ap (λ (p : Block). due p r.breakpoints r.first r.mode k) (report_program one joins past r l accepts (ran.told.tells (Some l) is))
-              ∙ ap (λ (bs : List Breakpoint). due l.program bs r.first r.mode k) accepts.expected.breakpoints
-              ∙ ap (λ f. due l.program run.plan.breakpoints f r.mode k) accepts.expected.first
-              ∙ ap (λ (m : Mode). due l.program run.plan.breakpoints run.plan.first m k) accepts.expected.mode)
+        (ap (λ (p : Block). due p r.breakpoints r.counted_from r.mode k) (report_program one joins past r lawful l accepts (ran.told.tells (Some l) is))
+              ∙ ap (λ (bs : List Breakpoint). due l.program bs r.counted_from r.mode k) accepts.expected.breakpoints
+              ∙ ap (λ f. due l.program run.plan.breakpoints f r.mode k) accepts.expected.counted_from
+              ∙ ap (λ (m : Mode). due l.program run.plan.breakpoints run.plan.counted_from m k) accepts.expected.mode)
 
-    was : (run.begins ≤ position past) × NoneDueUpTo l run (position past)
+    was : (run.start ≤ position past) × NoneDueUpTo l run (position past)
     was = ran.running (subst IsRunning (sym accepts.running) tt) l is run accepts.run_is
 
-    pub begun_there : run.begins ≤ r.begins
-    begun_there = subst (λ n. run.begins ≤ n) (sym accepts.expected.begins_is) was.0
+    pub begun_there : run.start ≤ r.start
+    begun_there = subst (λ n. run.start ≤ n) (sym accepts.expected.start_is) was.0
 
-    pub begun_before : run.begins ≤ r.finish
+    pub begun_before : run.start ≤ r.end
     begun_before = let a = begun_there in let b = lawful.begun in omega (arith, a, b)
 
-    pub none_before : NoneDueBefore l run r.finish
+    pub none_before : NoneDueBefore l run r.end
     none_before k above below =
         ⊎_elim
-        (λ (past_begin : r.begins < k). same_due k ∙ lawful.passed k past_begin below)
-        (λ (up_to : k ≤ r.begins). was.1 k above (subst (λ n. k ≤ n) accepts.expected.begins_is up_to))
-        (cases_lt r.begins k)
+        (λ (past_begin : r.start < k). same_due k ∙ lawful.passed k past_begin below)
+        (λ (up_to : k ≤ r.start). was.1 k above (subst (λ n. k ≤ n) accepts.expected.start_is up_to))
+        (cases_lt r.start k)
 
-    pub none_up_to : NotDueAtEnd r → NoneDueUpTo l run r.finish
+    pub none_up_to : NotDueAtEnd lawful.program r → NoneDueUpTo l run r.end
     none_up_to at_end k above up_to =
         ⊎_elim
-        (λ (below : k < r.finish). none_before k above below)
-        (λ (there : r.finish ≤ k). let same : k ≡ r.finish = omega (arith, there, up_to) in by_end at_end same)
-        (cases_lt k r.finish)
+        (λ (below : k < r.end). none_before k above below)
+        (λ (there : r.end ≤ k). let same : k ≡ r.end = omega (arith, there, up_to) in by_end at_end same)
+        (cases_lt k r.end)
       where
-        by_end : NotDueAtEnd r → k ≡ r.finish → due_in l run k ≡ None
-        by_end (inl stays) same = was.1 k above (let b = accepts.expected.begins_is in omega (arith, stays, same, b))
-        by_end (inr undue) same = same_due k ∙ ap (due_of r) same ∙ undue
+        by_end : NotDueAtEnd lawful.program r → k ≡ r.end → due_in l run k ≡ None
+        by_end (inl stays) same = was.1 k above (let b = accepts.expected.start_is in omega (arith, stays, same, b))
+        by_end (inr undue) same = same_due k ∙ ap (reported_due lawful.program r) same ∙ undue

@@ -5,7 +5,7 @@ use Rattle.std.specs.Prelude.{Bool, false, unwrap_or, option_map, length, map}
 use Rattle.dap_history.specs.Last.{or_else, last_such}
 use Rattle.dap_history.specs.Orders.{Plan}
 use Rattle.dap_history.specs.History.{Step, History, Effect, messages, orders_of}
-use Rattle.dap_history.specs.Readings.{situation, settings, launched, last_run, runs, position, plan, waiting_plan, waiting_pause, is_held, step_mark, settings_by, finish_of, waits_by, pauses_by, go, is_pause, hold_mark}
+use Rattle.dap_history.specs.Readings.{situation, settings, launched, last_run, runs, position, plan, waiting_plan, waiting_pause, is_held, step_mark, settings_by, end_of, waits_by, pauses_by, go, is_pause, hold_mark}
 use Rattle.dap_history.specs.Replies.{nothing}
 use Rattle.dap_history.proofs.Readings.{situation-snoc, settings-snoc, launched-snoc, position-snoc, plan-snoc, last_run-snoc, runs-snoc, waiting_plan-snoc, waiting_pause-snoc, is_held-snoc}
 
@@ -28,7 +28,7 @@ pub record IsQuiet (step : Step) : Type 0 where
   pub stays : step_mark step ≡ None
   pub sets_nothing : settings_by step.item step.answer ≡ None
   pub pauses_nothing : is_pause step.answer ≡ None
-  pub moves_nothing : finish_of step.item ≡ None
+  pub moves_nothing : end_of step.item ≡ None
 
 pub quiet_readings : (past : History) (step : Step) → IsQuiet step → SameReadings past (past ++ step ∷ [])
 quiet_readings past step quiet = record {

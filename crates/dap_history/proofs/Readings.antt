@@ -6,12 +6,12 @@ use Rattle.std.proofs.lemmas.List.Elements.{filter_map-append}
 use Rattle.std.proofs.lemmas.Grind.{flat_map-append}
 use Rattle.dap_history.specs.Last.{or_else, last_such}
 use Rattle.dap_msg.specs.declared.requests.initialize.InitializeArguments.{InitializeArguments}
-use Rattle.dbg_plan.specs.declared.breakpoint.Breakpoint.{Breakpoint}
+use Rattle.dap_history.specs.Plain.{Breakpoint}
 use Rattle.dap_history.specs.declared.situation.Situation.{Situation}
 use Rattle.dap_history.specs.declared.situation.Situation.TheVariants.{Fresh}
 use Rattle.dap_history.specs.Orders.{Plan, no_plan, Run}
 use Rattle.dap_history.specs.History.{Launched, Step, History, messages, messages_of, orders_of, next_seq}
-use Rattle.dap_history.specs.Readings.{step_mark, situation, settings_by, from_one, settings, launched, go, last_run, runs, finish_of, position, plan, waits_by, waiting_plan, pauses_by, waiting_pause, hold_mark, is_held, closing, ending_of}
+use Rattle.dap_history.specs.Readings.{step_mark, situation, settings_by, from_one, settings, launched, go, last_run, runs, end_of, position, plan, waits_by, waiting_plan, pauses_by, waiting_pause, hold_mark, is_held, closing, ending_of}
 
 pub or_else-none : {A : Type 0} (x : Option A) → or_else x None ≡ x
 or_else-none None = refl
@@ -58,8 +58,8 @@ settings-snoc past step = reading-snoc (λ (s : Step). settings_by s.item s.answ
 pub launched-snoc : (past : History) (step : Step) → launched (past ++ step ∷ []) ≡ or_else step.effect.launched (launched past)
 launched-snoc past step = last_such-snoc (λ (s : Step). s.effect.launched) past step
 
-pub position-snoc : (past : History) (step : Step) → position (past ++ step ∷ []) ≡ unwrap_or (finish_of step.item) (position past)
-position-snoc past step = reading-snoc (λ (s : Step). finish_of s.item) past step 0
+pub position-snoc : (past : History) (step : Step) → position (past ++ step ∷ []) ≡ unwrap_or (end_of step.item) (position past)
+position-snoc past step = reading-snoc (λ (s : Step). end_of s.item) past step 0
 
 pub plan-snoc : (past : History) (step : Step) → plan (past ++ step ∷ []) ≡ unwrap_or step.effect.put_in (plan past)
 plan-snoc past step = reading-snoc (λ (s : Step). s.effect.put_in) past step no_plan

@@ -11,10 +11,11 @@ use Rattle.dap_msg.specs.declared.outgoing.EventBody.{EventBody}
 use Rattle.dap_msg.specs.declared.outgoing.Refusal.{Refusal}
 use Rattle.dap_msg.specs.declared.outgoing.Refusal.TheVariants as refusal
 use Rattle.dap_msg.specs.declared.requests.set_breakpoints.SetBreakpointsArguments.{SetBreakpointsArguments}
-use Rattle.dbg_plan.specs.declared.breakpoint.Breakpoint.{Breakpoint}
+use Rattle.dap_history.specs.Plain.{Breakpoint}
 use Rattle.dbg_plan.specs.declared.mode.Reason.{Reason}
 use Rattle.dbg_plan.specs.declared.mode.Reason.TheVariants as reason
-use Rattle.dbg_plan.specs.Due.{due, depth_at}
+use Rattle.dbg_plan.specs.Due.{depth_at}
+use Rattle.dap_history.specs.Plain.{due}
 use Rattle.pl0_meaning.specs.Values.{Configuration, Frame}
 use Rattle.pl0_meaning.specs.Runs.{at}
 use Rattle.dbg_plan.specs.declared.evaluation.EvalFault.{EvalFault}
@@ -40,11 +41,11 @@ use Rattle.dap_msg.specs.declared.outgoing.StopReason.{StopReason}
 -- the runs ordered are of the launched text
 pub data GoesBy (past : History) : Option Run → Type 0 where
   no_go : GoesBy past None
-  of_text : (run : Run) (l : Launched) → launched past ≡ Some l → run.text ≡ l.text → run.begins ≡ position past → GoesBy past (Some run)
+  of_text : (run : Run) (l : Launched) → launched past ≡ Some l → run.text ≡ l.text → run.start ≡ position past → GoesBy past (Some run)
 
 -- why position 0 is due, if it is
 abbrev pub due_first : History → Launched → Option Reason
-due_first past l = due l.program (plan past).breakpoints (plan past).first (entry_mode l) 0
+due_first past l = due l.program (plan past).breakpoints (plan past).counted_from (entry_mode l) 0
 
 -- a reply stops the program at position 0 alone, in Configuring, where it is due
 pub data StopsBy (s : Situation) (past : History) : Option StopReason → Type 0 where

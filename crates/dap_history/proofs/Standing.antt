@@ -19,13 +19,13 @@ use Rattle.dap_msg.specs.declared.outgoing.EventBody.TheVariants as event
 use Rattle.dap_msg.specs.declared.outgoing.StopReason.{StopReason}
 use Rattle.dap_msg.specs.declared.outgoing.StopReason.TheVariants as stop
 use Rattle.pl0_meaning.specs.Runs.{at}
-use Rattle.dbg_runner.specs.Lawful.{Reported}
+use Rattle.dap_history.specs.Plain.{Reported}
 use Rattle.dap_history.specs.declared.situation.Situation.{Situation}
 use Rattle.dap_history.specs.declared.situation.Situation.TheVariants.{Fresh, Ready, Configuring, Running, Stopped, Faulted, Ended}
 use Rattle.dap_history.specs.Last.{or_else, last_such}
 use Rattle.dap_history.specs.Orders.{PlainOrder, Go, Hold, Quit}
 use Rattle.dap_history.specs.History.{Launched, Item, Content, Loaded, Accepted, Fault, InputEnd, ReadFailure, MemoryFailure, Step, History, behind, messages}
-use Rattle.dap_history.specs.Readings.{situation, position, launched, finish_of, command_mark, answer_mark, event_mark, message_mark, order_mark, step_mark}
+use Rattle.dap_history.specs.Readings.{situation, position, launched, end_of, command_mark, answer_mark, event_mark, message_mark, order_mark, step_mark}
 use Rattle.dap_history.specs.Replies.{Reply, OfProgram, refused}
 use Rattle.dap_history.specs.Inspection.{RepliesAt, asked_of, Inspects, InspectsIn}
 use Rattle.dap_history.specs.Emission.{RepliesIn, Answers, Causes}
@@ -138,7 +138,7 @@ abbrev pub Stood : History → Type 0
 Stood past = IsStanding (situation past) → (m : ℕ) × StoppedLastAt past m × (m ≡ position past)
 
 -- no report is accepted where the program stands
-moves_nothing : (Q : Reported → Type 0) (past : History) (item : Item) → IsTaken Q past item → IsStanding (situation past) → finish_of item ≡ None
+moves_nothing : (Q : Reported → Type 0) (past : History) (item : Item) → IsTaken Q past item → IsStanding (situation past) → end_of item ≡ None
 moves_nothing Q past (Content request) taken is = refl
 moves_nothing Q past (Loaded launch file) taken is = refl
 moves_nothing Q past (Accepted r) taken is = absurd (subst IsStanding taken.0.running is)

@@ -4,21 +4,21 @@ use Rattle.std.specs.Prelude.{map, unwrap_or}
 use Rattle.dap_msg.specs.declared.outgoing.EventBody.TheVariants as event
 use Rattle.dap_msg.specs.declared.outgoing.StopReason.{StopReason}
 use Rattle.dap_msg.specs.declared.outgoing.StopReason.TheVariants as stop
-use Rattle.pl0_tree.specs.declared.tree.Block.{Block}
+use Rattle.pl0_tree.specs.Tree.{Block}
 use Rattle.pl0_meaning.specs.Runs.{outcome}
 use Rattle.pl0_meaning.specs.Laws.{WrittenJoins}
 use Rattle.dbg_plan.specs.declared.mode.Reason.{Reason}
 use Rattle.dbg_plan.specs.declared.mode.Reason.TheVariants as reason
-use Rattle.dbg_runner.specs.Lawful.{Reported, IsLawful, EndsBy}
-use Rattle.dbg_runner.specs.declared.end.End.{End}
-use Rattle.dbg_runner.specs.declared.end.End.TheVariants as end
+use Rattle.dap_history.specs.Plain.{Reported, IsLawful, EndsBy}
+use Rattle.dap_history.specs.Plain.{Outcome}
+use Rattle.dap_history.specs.Plain as slice
 use Rattle.dap_history.specs.declared.launch.Launch.{Launch}
 use Rattle.dap_history.specs.declared.situation.Situation.{Situation}
 use Rattle.dap_history.specs.declared.situation.Situation.TheVariants.{Ready, Configuring, Running}
 use Rattle.dap_history.specs.Last.{or_else, last_such}
 use Rattle.dap_history.specs.Orders.{Run}
 use Rattle.dap_history.specs.History.{Launched, Item, Content, Loaded, Accepted, Fault, InputEnd, ReadFailure, MemoryFailure, Step, History, Effect}
-use Rattle.dap_history.specs.Readings.{go, situation, position, launched, last_run, waiting_pause, finish_of, order_mark, step_mark}
+use Rattle.dap_history.specs.Readings.{go, situation, position, launched, last_run, waiting_pause, end_of, order_mark, step_mark}
 use Rattle.dap_history.specs.Replies.{Reply, stops, ends, stop_of, exception_of}
 use Rattle.dap_history.specs.Launching.{Launches}
 use Rattle.dap_history.specs.Reports.{Accepts, outputs, held, report_effect}
@@ -45,18 +45,18 @@ module _ (one : OneProgram) (joins : WrittenJoins) where
       → (last_run (past ++ step ∷ []) ≡ None) × (position (past ++ step ∷ []) ≡ 0)
   configuring_more past step taken causes ran is = by_mark (mark_unwrap IsConfiguring (step_mark step) (situation past) (subst IsConfiguring (situation-snoc past step) is))
     where
-      keeps : last_such go step.effect.orders ≡ None → finish_of step.item ≡ None → (last_run past ≡ None) × (position past ≡ 0)
+      keeps : last_such go step.effect.orders ≡ None → end_of step.item ≡ None → (last_run past ≡ None) × (position past ≡ 0)
           → (last_run (past ++ step ∷ []) ≡ None) × (position (past ++ step ∷ []) ≡ 0)
       keeps no_run stays before = (
         last_run-snoc past step ∙ ap (λ o. or_else o (last_run past)) no_run ∙ before.0,
         position-snoc past step ∙ ap (λ o. unwrap_or o (position past)) stays ∙ before.1,
       )
 
-      by_load : (item : Item) → IsLoaded item → IsTaken IsLawful past item → Causes past item step → (last_such go step.effect.orders ≡ None) × (finish_of item ≡ None) × (situation past ≡ Ready)
+      by_load : (item : Item) → IsLoaded item → IsTaken IsLawful past item → Causes past item step → (last_such go step.effect.orders ≡ None) × (end_of item ≡ None) × (situation past ≡ Ready)
       by_load (Loaded launch file) loaded ready is = (ap (λ (e : Effect). last_such go e.orders) is.2.effect_is ∙ loaded_orders launch file is.0 is.1, refl, ready)
       by_load _ loaded taken is = absurd loaded
 
-      stays_there : (item : Item) → IsTaken IsLawful past item → IsConfiguring (situation past) → finish_of item ≡ None
+      stays_there : (item : Item) → IsTaken IsLawful past item → IsConfiguring (situation past) → end_of item ≡ None
       stays_there (Accepted r) taken is = absurd (subst IsConfiguring taken.0.running is)
       stays_there _ taken is = refl
 
@@ -70,48 +70,48 @@ module _ (one : OneProgram) (joins : WrittenJoins) where
 
   -- the run that goes on passed nothing that is due
   goes_on : (past : History) (item : Item) (step : Step) → step.item ≡ item → IsTaken IsLawful past item → Causes past item step → Ran one joins past → IsRunning (situation past) → step_mark step ≡ None
-      → (l : Launched) → launched past ≡ Some l → (run : Run) → last_run past ≡ Some run → (n : ℕ) → n ≡ unwrap_or (finish_of item) (position past) → (run.begins ≤ n) × NoneDueUpTo l run n
+      → (l : Launched) → launched past ≡ Some l → (run : Run) → last_run past ≡ Some run → (n : ℕ) → n ≡ unwrap_or (end_of item) (position past) → (run.start ≤ n) × NoneDueUpTo l run n
   goes_on past (Accepted r) step item_is taken causes ran running none l is run run_is n n_is =
       let same : taken.0.run ≡ run = let e = sym taken.0.run_is ∙ run_is in cc in
-      let at_end = undue_end past r r.ends taken.1.end (sym (mark_of (report_effect past r r.ends) step causes) ∙ none) in
-      subst (λ m. (run.begins ≤ m) × NoneDueUpTo l run m) (sym n_is)
-      (subst (λ (run : Run). (run.begins ≤ r.finish) × NoneDueUpTo l run r.finish) same
+      let at_end = undue_end taken.1.program past r r.outcome taken.1.outcome (sym (mark_of (report_effect past r r.outcome) step causes) ∙ none) in
+      subst (λ m. (run.start ≤ m) × NoneDueUpTo l run m) (sym n_is)
+      (subst (λ (run : Run). (run.start ≤ r.end) × NoneDueUpTo l run r.end) same
       (begun_before one joins past r taken.0 taken.1 ran l is, none_up_to one joins past r taken.0 taken.1 ran l is at_end))
-  goes_on past (Content request) step item_is taken causes ran running none l is run run_is n n_is = subst (λ m. (run.begins ≤ m) × NoneDueUpTo l run m) (sym n_is) (ran.running running l is run run_is)
-  goes_on past (Loaded launch file) step item_is taken causes ran running none l is run run_is n n_is = subst (λ m. (run.begins ≤ m) × NoneDueUpTo l run m) (sym n_is) (ran.running running l is run run_is)
-  goes_on past (Fault k) step item_is taken causes ran running none l is run run_is n n_is = subst (λ m. (run.begins ≤ m) × NoneDueUpTo l run m) (sym n_is) (ran.running running l is run run_is)
-  goes_on past InputEnd step item_is taken causes ran running none l is run run_is n n_is = subst (λ m. (run.begins ≤ m) × NoneDueUpTo l run m) (sym n_is) (ran.running running l is run run_is)
-  goes_on past ReadFailure step item_is taken causes ran running none l is run run_is n n_is = subst (λ m. (run.begins ≤ m) × NoneDueUpTo l run m) (sym n_is) (ran.running running l is run run_is)
-  goes_on past MemoryFailure step item_is taken causes ran running none l is run run_is n n_is = subst (λ m. (run.begins ≤ m) × NoneDueUpTo l run m) (sym n_is) (ran.running running l is run run_is)
+  goes_on past (Content request) step item_is taken causes ran running none l is run run_is n n_is = subst (λ m. (run.start ≤ m) × NoneDueUpTo l run m) (sym n_is) (ran.running running l is run run_is)
+  goes_on past (Loaded launch file) step item_is taken causes ran running none l is run run_is n n_is = subst (λ m. (run.start ≤ m) × NoneDueUpTo l run m) (sym n_is) (ran.running running l is run run_is)
+  goes_on past (Fault k) step item_is taken causes ran running none l is run run_is n n_is = subst (λ m. (run.start ≤ m) × NoneDueUpTo l run m) (sym n_is) (ran.running running l is run run_is)
+  goes_on past InputEnd step item_is taken causes ran running none l is run run_is n n_is = subst (λ m. (run.start ≤ m) × NoneDueUpTo l run m) (sym n_is) (ran.running running l is run run_is)
+  goes_on past ReadFailure step item_is taken causes ran running none l is run run_is n n_is = subst (λ m. (run.start ≤ m) × NoneDueUpTo l run m) (sym n_is) (ran.running running l is run run_is)
+  goes_on past MemoryFailure step item_is taken causes ran running none l is run run_is n n_is = subst (λ m. (run.start ≤ m) × NoneDueUpTo l run m) (sym n_is) (ran.running running l is run run_is)
 
   running_more : (past : History) (step : Step) → IsTaken IsLawful past step.item → Causes past step.item step → Ran one joins past → IsRunning (situation (past ++ step ∷ []))
       → (l : Launched) → launched (past ++ step ∷ []) ≡ Some l → (run : Run) → last_run (past ++ step ∷ []) ≡ Some run
-      → (run.begins ≤ position (past ++ step ∷ [])) × NoneDueUpTo l run (position (past ++ step ∷ []))
+      → (run.start ≤ position (past ++ step ∷ [])) × NoneDueUpTo l run (position (past ++ step ∷ []))
   running_more past step taken causes ran running l is run run_is =
       by_run (last_such go step.effect.orders) refl (item_begins past step.item step causes)
     where
       by_mark : last_such go step.effect.orders ≡ None → (MarkIs IsRunning (step_mark step) ⊎ ((step_mark step ≡ None) × IsRunning (situation past)))
-          → (run.begins ≤ position (past ++ step ∷ [])) × NoneDueUpTo l run (position (past ++ step ∷ []))
+          → (run.start ≤ position (past ++ step ∷ [])) × NoneDueUpTo l run (position (past ++ step ∷ []))
       by_mark none (inl mark) = absurd (runs_not step (answers_only past step.item step causes) none mark)
       by_mark none (inr was) =
           goes_on past step.item step refl taken causes ran was.1 was.0 l
           (ap (λ o. or_else o (launched past)) (sym (launches_not IsLawful past step.item step taken causes was.1)) ∙ sym (launched-snoc past step) ∙ is)
           run (ap (λ o. or_else o (last_run past)) (sym none) ∙ sym (last_run-snoc past step) ∙ run_is) (position (past ++ step ∷ [])) (position-snoc past step)
 
-      by_run : (o : Option Run) → last_such go step.effect.orders ≡ o → BeginsAt (unwrap_or (finish_of step.item) (position past)) (last_such go step.effect.orders)
-          → (run.begins ≤ position (past ++ step ∷ [])) × NoneDueUpTo l run (position (past ++ step ∷ []))
+      by_run : (o : Option Run) → last_such go step.effect.orders ≡ o → BeginsAt (unwrap_or (end_of step.item) (position past)) (last_such go step.effect.orders)
+          → (run.start ≤ position (past ++ step ∷ [])) × NoneDueUpTo l run (position (past ++ step ∷ []))
       by_run None none begins = by_mark none (mark_unwrap IsRunning (step_mark step) (situation past) (subst IsRunning (situation-snoc past step) running))
-      by_run (Some new) goes begins = here (subst (BeginsAt (unwrap_or (finish_of step.item) (position past))) goes begins)
+      by_run (Some new) goes begins = here (subst (BeginsAt (unwrap_or (end_of step.item) (position past))) goes begins)
         where
           same : new ≡ run
           same = let e = sym (ap (λ o. or_else o (last_run past)) goes) ∙ sym (last_run-snoc past step) ∙ run_is in cc
 
-          from : BeginsAt (unwrap_or (finish_of step.item) (position past)) (Some new) → new.begins ≡ unwrap_or (finish_of step.item) (position past)
+          from : BeginsAt (unwrap_or (end_of step.item) (position past)) (Some new) → new.start ≡ unwrap_or (end_of step.item) (position past)
           from (begins_at run' is) = is
 
-          here : BeginsAt (unwrap_or (finish_of step.item) (position past)) (Some new) → (run.begins ≤ position (past ++ step ∷ [])) × NoneDueUpTo l run (position (past ++ step ∷ []))
+          here : BeginsAt (unwrap_or (end_of step.item) (position past)) (Some new) → (run.start ≤ position (past ++ step ∷ [])) × NoneDueUpTo l run (position (past ++ step ∷ []))
           here begins =
-              let there : run.begins ≡ position (past ++ step ∷ []) = ap (λ (r : Run). r.begins) (sym same) ∙ from begins ∙ sym (position-snoc past step) in
+              let there : run.start ≡ position (past ++ step ∷ []) = ap (λ (r : Run). r.start) (sym same) ∙ from begins ∙ sym (position-snoc past step) in
               (omega (arith, there), λ k above up_to. absurd (omega (arith, there, above, up_to)))
 
   ran_more : (past : History) (step : Step) → IsTaken IsLawful past step.item → Causes past step.item step → Ran one joins past → Ran one joins (past ++ step ∷ [])
@@ -144,44 +144,44 @@ module _ (one : OneProgram) (joins : WrittenJoins) where
   stop_after r s = last_such-append stop_told (outputs r) (stops s)
 
   end_after : (r : Reported) (code : ℕ) → last_such stop_told (outputs r ++ ends code) ≡ None
-  end_after r code = last_such-append stop_told (outputs r) (ends code) ∙ outputs_stop_not r.outputs
+  end_after r code = last_such-append stop_told (outputs r) (ends code) ∙ outputs_stop_not r.numbers
 
-  due_stop : (l : Launched) (run : Run) (m : ℕ) (r : Reason) → (due_in l run m ≡ Some r) × (run.begins < m) × NoneDueBefore l run m → IsRunsStop l run (stop_of r) m
+  due_stop : (l : Launched) (run : Run) (m : ℕ) (r : Reason) → (due_in l run m ≡ Some r) × (run.start < m) × NoneDueBefore l run m → IsRunsStop l run (stop_of r) m
   due_stop l run m reason.Breakpoint is = (reason.Breakpoint, refl, is.0, is.1, is.2)
   due_stop l run m reason.Entry is = (reason.Entry, refl, is.0, is.1, is.2)
   due_stop l run m reason.Step is = (reason.Step, refl, is.0, is.1, is.2)
 
   -- a report stops its run where it has to
   module _ (past : History) (r : Reported) (accepts : Accepts past r) (lawful : IsLawful r) (ran : Ran one joins past) (l : Launched) (is : launched past ≡ Some l) where
-    stops_run : (e : End) → EndsBy r e → (s : StopReason) → last_such stop_told (report_effect past r e).events ≡ Some s → IsRunsStop l accepts.run s r.finish
-    stops_run end.More ends_by s told = let e = sym (outputs_stop_not r.outputs) ∙ told in absurd cc
-    stops_run (end.Due why) ends_by s told =
+    stops_run : (e : Outcome) → EndsBy lawful.program r e → (s : StopReason) → last_such stop_told (report_effect past r e).events ≡ Some s → IsRunsStop l accepts.run s r.end
+    stops_run slice.More ends_by s told = let e = sym (outputs_stop_not r.numbers) ∙ told in absurd cc
+    stops_run (slice.Due why) ends_by s told =
         let same : stop_of why ≡ s = let e = sym (stop_after r (stop_of why)) ∙ told in cc in
         let from = begun_there one joins past r accepts lawful ran l is in
         let on = ends_by.0 in
-        subst (λ s. IsRunsStop l accepts.run s r.finish) same
-        (due_stop l accepts.run r.finish why (same_due one joins past r accepts lawful ran l is r.finish ∙ ends_by.1, omega (arith, from, on), none_before one joins past r accepts lawful ran l is))
-    stops_run end.Held ends_by s told = by_pause (waiting_pause past) told
+        subst (λ s. IsRunsStop l accepts.run s r.end) same
+        (due_stop l accepts.run r.end why (same_due one joins past r accepts lawful ran l is r.end ∙ ends_by.1, omega (arith, from, on), none_before one joins past r accepts lawful ran l is))
+    stops_run slice.Held ends_by s told = by_pause (waiting_pause past) told
       where
-        by_pause : (pauses : Bool) → last_such stop_told (held past r pauses).events ≡ Some s → IsRunsStop l accepts.run s r.finish
+        by_pause : (pauses : Bool) → last_such stop_told (held past r pauses).events ≡ Some s → IsRunsStop l accepts.run s r.end
         by_pause true told =
             let same : stop.Pause ≡ s = let e = sym (stop_after r stop.Pause) ∙ told in cc in
-            subst (λ s. IsRunsStop l accepts.run s r.finish) same
-            (begun_before one joins past r accepts lawful ran l is, none_up_to one joins past r accepts lawful ran l is (inl ends_by.0))
-        by_pause false told = let e = sym (outputs_stop_not r.outputs) ∙ told in absurd cc
-    stops_run end.Done ends_by s told = let e = sym (end_after r 0) ∙ told in absurd cc
-    stops_run (end.Fault fault) ends_by s told =
+            subst (λ s. IsRunsStop l accepts.run s r.end) same
+            (begun_before one joins past r accepts lawful ran l is, none_up_to one joins past r accepts lawful ran l is (inl ends_by))
+        by_pause false told = let e = sym (outputs_stop_not r.numbers) ∙ told in absurd cc
+    stops_run slice.Done ends_by s told = let e = sym (end_after r 0) ∙ told in absurd cc
+    stops_run (slice.Fault fault) ends_by s told =
         let same : stop.Exception (exception_of fault) ≡ s = let e = sym (stop_after r (stop.Exception (exception_of fault))) ∙ told in cc in
-        let faults = ap (λ p. outcome p r.finish) (sym (report_program one joins past r l accepts (ran.told.tells (Some l) is))) ∙ ends_by.2 in
-        subst (λ s. IsRunsStop l accepts.run s r.finish) same
+        let faults = ap (λ p. outcome p r.end) (sym (report_program one joins past r lawful l accepts (ran.told.tells (Some l) is))) ∙ ends_by.2 in
+        subst (λ s. IsRunsStop l accepts.run s r.end) same
         (fault, refl, faults, begun_before one joins past r accepts lawful ran l is, none_up_to one joins past r accepts lawful ran l is ends_by.1)
-    stops_run end.NoMemory ends_by s told = absurd cc
+    stops_run slice.NoMemory ends_by s told = absurd cc
 
-  report_stops : (past : History) (r : Reported) → Accepts past r → IsLawful r → Ran one joins past → (s : StopReason) → last_such stop_told (report_effect past r r.ends).events ≡ Some s
-      → (l : Option Launched) → launched past ≡ l → RightStop past s r.finish
+  report_stops : (past : History) (r : Reported) → Accepts past r → IsLawful r → Ran one joins past → (s : StopReason) → last_such stop_told (report_effect past r r.outcome).events ≡ Some s
+      → (l : Option Launched) → launched past ≡ l → RightStop past s r.end
   report_stops past r accepts lawful ran s told None is = let e = sym (ran.told.tells None is).1 ∙ accepts.run_is in absurd cc
   report_stops past r accepts lawful ran s told (Some l) is =
-      (l, is, subst (λ o. IsRightStop l past o s r.finish) (sym accepts.run_is) (stops_run past r accepts lawful ran l is r.ends lawful.end s told))
+      (l, is, subst (λ o. IsRightStop l past o s r.end) (sym accepts.run_is) (stops_run past r accepts lawful ran l is r.outcome lawful.outcome s told))
 
   -- a reply stops the program at position 0
   reply_stops : (past : History) (o : Option StopReason) → StopsBy (situation past) past o → Ran one joins past → (s : StopReason) → o ≡ Some s → RightStop past s (position past)
@@ -200,7 +200,7 @@ module _ (one : OneProgram) (joins : WrittenJoins) where
   stop_of_effect step effect is = ap (λ (e : Effect). last_such stop_told e.events) is
 
   step_stops : (past : History) (item : Item) (step : Step) → IsTaken IsLawful past item → Causes past item step → Ran one joins past → (s : StopReason) → stop_in step ≡ Some s
-      → RightStop past s (unwrap_or (finish_of item) (position past))
+      → RightStop past s (unwrap_or (end_of item) (position past))
   step_stops past (Content None) step taken is ran s stop_is = let e = sym (stop_of_effect step _ is.effect_is) ∙ stop_is in absurd cc
   step_stops past (Content (Some request)) step taken is ran s stop_is =
       reply_stops past (last_such stop_told is.0.effect.events) (all_silent (situation past) past request.body is.0 is.1).stops ran s (sym (stop_of_effect step _ is.2.effect_is) ∙ stop_is)

@@ -11,15 +11,15 @@ use Rattle.dap_msg.specs.declared.outgoing.Outgoing.TheVariants.{Answer, Event}
 use Rattle.pl0_tree.specs.Faults.{IsTreeOf}
 use Rattle.pl0_meaning.specs.Runs.{written, written_from}
 use Rattle.pl0_meaning.specs.Laws.{WrittenJoins}
-use Rattle.dbg_runner.specs.Lawful.{Reported, IsLawful, EndsBy, reported_program}
-use Rattle.dbg_runner.specs.declared.end.End.TheVariants as end
+use Rattle.dap_history.specs.Plain.{Reported, IsLawful, EndsBy}
+use Rattle.dap_history.specs.Plain as slice
 use Rattle.dap_history.specs.declared.launch.Launch.{Launch}
 use Rattle.dap_history.specs.declared.situation.Situation.{Situation}
 use Rattle.dap_history.specs.declared.situation.Situation.TheVariants.{Fresh, Ready, Configuring, Running, Stopped, Faulted, Ended}
 use Rattle.dap_history.specs.Last.{or_else, last_such}
 use Rattle.dap_history.specs.Orders.{Run, Quit}
 use Rattle.dap_history.specs.History.{Launched, Item, Content, Loaded, Accepted, Fault, InputEnd, ReadFailure, MemoryFailure, Step, History, Effect, behind, messages, messages_of}
-use Rattle.dap_history.specs.Readings.{go, launched, last_run, position, finish_of, situation, answer_mark, message_mark, order_mark, step_mark}
+use Rattle.dap_history.specs.Readings.{go, launched, last_run, position, end_of, situation, answer_mark, message_mark, order_mark, step_mark}
 use Rattle.dap_history.specs.Replies.{Reply, nothing, ordering}
 use Rattle.dap_history.specs.Launching.{Launches, launches}
 use Rattle.dap_history.specs.Reports.{Accepts, report_effect}
@@ -64,7 +64,7 @@ decided (Some Ended) not = absurd (not (λ x. x))
 pub record IsAside (past : History) (step : Step) : Type 0 where
   pub tells_none : numbers (messages step) ≡ []
   pub launches_none : step.effect.launched ≡ None
-  pub moves_nothing : finish_of step.item ≡ None
+  pub moves_nothing : end_of step.item ≡ None
   pub goes : GoesBy past (last_such go step.effect.orders)
 
 goes_none : (past : History) (o : Option Run) → GoesBy past o → launched past ≡ None → o ≡ None
@@ -105,7 +105,7 @@ aside_keeps past step aside marks told = record {
     was_early (inl m) = subst IsEarly (sym (marks m)) tt
     was_early (inr is) = is.1
 
-silent_aside : (past : History) (step : Step) (effect : Effect) → step.effect ≡ effect → finish_of step.item ≡ None → IsSilent (situation past) past effect → numbers (messages step) ≡ filter_map output (map Event step.effect.events) → IsAside past step
+silent_aside : (past : History) (step : Step) (effect : Effect) → step.effect ≡ effect → end_of step.item ≡ None → IsSilent (situation past) past effect → numbers (messages step) ≡ filter_map output (map Event step.effect.events) → IsAside past step
 silent_aside past step effect is stays silent tells = record {
   tells_none = tells ∙ ap (λ (e : Effect). filter_map output (map Event e.events)) is ∙ silent.tells_none;
   launches_none = ap (λ (e : Effect). e.launched) is ∙ silent.launches_none;
@@ -113,62 +113,62 @@ silent_aside past step effect is stays silent tells = record {
   goes = subst (λ (e : Effect). GoesBy past (last_such go e.orders)) (sym is) silent.goes;
 }
 
-nothing_aside : (past : History) (item : Item) (step : Step) → step.item ≡ item → finish_of item ≡ None → (effect : Effect) → IsSilent (situation past) past effect → HasEffect effect step → Told past → Told (past ++ step ∷ [])
+nothing_aside : (past : History) (item : Item) (step : Step) → step.item ≡ item → end_of item ≡ None → (effect : Effect) → IsSilent (situation past) past effect → HasEffect effect step → Told past → Told (past ++ step ∷ [])
 nothing_aside past item step is stays effect silent has told =
-    aside_keeps past step (silent_aside past step effect has.effect_is (ap finish_of is ∙ stays) silent (no_answer step has.answer_is))
+    aside_keeps past step (silent_aside past step effect has.effect_is (ap end_of is ∙ stays) silent (no_answer step has.answer_is))
     (λ m. absurd (unanswered_late step has.answer_is m)) told
 
 -- ---- a report
 
 module _ (one : OneProgram) (joins : WrittenJoins) where
-  nothing_between : (r : Reported) → IsLawful r → r.ends ≡ end.NoMemory → r.outputs ≡ []
+  nothing_between : (r : Reported) → IsLawful r → r.outcome ≡ slice.NoMemory → r.numbers ≡ []
   nothing_between r lawful is =
-      let ends : EndsBy r end.NoMemory = subst (EndsBy r) is lawful.end in
-      let none : r.begins - r.begins ≡ 0 = omega arith in
-      lawful.outputs ∙ ap (written (reported_program r) r.begins) ends.0 ∙ ap (written_from (reported_program r) r.begins) none
+      let ends : EndsBy lawful.program r slice.NoMemory = subst (EndsBy lawful.program r) is lawful.outcome in
+      let none : r.start - r.start ≡ 0 = omega arith in
+      lawful.numbers ∙ ap (written lawful.program r.start) ends ∙ ap (written_from lawful.program r.start) none
 
-  report_text : (past : History) (r : Reported) (l : Launched) → Accepts past r → TellsOf past (Some l) → r.unit.tree.text.items ≡ l.text
+  report_text : (past : History) (r : Reported) (l : Launched) → Accepts past r → TellsOf past (Some l) → r.text ≡ l.text
   report_text past r l accepts tells = accepts.expected.text ∙ tells.1 accepts.run accepts.run_is
 
-  pub report_program : (past : History) (r : Reported) (l : Launched) → Accepts past r → TellsOf past (Some l) → reported_program r ≡ l.program
-  report_program past r l accepts tells =
-      one l.text _ _ (subst (λ t. ∥ IsTreeOf t (reported_program r) ∥₁) (report_text past r l accepts tells) r.unit.tree.lawful) tells.2
+  pub report_program : (past : History) (r : Reported) (lawful : IsLawful r) (l : Launched) → Accepts past r → TellsOf past (Some l) → lawful.program ≡ l.program
+  report_program past r lawful l accepts tells =
+      one l.text _ _ (subst (λ t. ∥ IsTreeOf t lawful.program ∥₁) (report_text past r l accepts tells) lawful.reads) tells.2
 
   as_run : (text : List ℕ) (finish : ℕ) (o : Option Run) (before : Option Run) → GoesAs text finish o → ((run : Run) → before ≡ Some run → run.text ≡ text) → (run : Run) → or_else o before ≡ Some run → run.text ≡ text
   as_run text finish None before no_run was run e = was run e
   as_run text finish (Some other) before (as_text run' is begins) was run e =
       let same : other ≡ run = cc in ap (λ (r : Run). r.text) (sym same) ∙ is
 
-  report_tells_of : (past : History) (r : Reported) (step : Step) → step.item ≡ Accepted r → HasEffect (report_effect past r r.ends) step → Accepts past r → IsLawful r
+  report_tells_of : (past : History) (r : Reported) (step : Step) → step.item ≡ Accepted r → HasEffect (report_effect past r r.outcome) step → Accepts past r → IsLawful r
       → (l : Option Launched) → TellsOf past l → TellsOf (past ++ step ∷ []) l
   report_tells_of past r step is has accepts lawful None tells = absurd (let e = sym tells.1 ∙ accepts.run_is in cc)
   report_tells_of past r step is has accepts lawful (Some l) tells =
-      let here : position (past ++ step ∷ []) ≡ r.finish = position-snoc past step ∙ ap (λ i. unwrap_or (finish_of i) (position past)) is in
+      let here : position (past ++ step ∷ []) ≡ r.end = position-snoc past step ∙ ap (λ i. unwrap_or (end_of i) (position past)) is in
       let text = report_text past r l accepts tells in
-      let told : numbers (messages step) ≡ r.outputs =
-      no_answer step has.answer_is ∙ ap (λ (e : Effect). filter_map output (map Event e.events)) has.effect_is ∙ report_tells past r r.ends (nothing_between r lawful) in
-      let wrote : r.outputs ≡ written l.program (position past) r.finish =
-      lawful.outputs ∙ ap (λ p. written p r.begins r.finish) (report_program past r l accepts tells) ∙ ap (λ b. written l.program b r.finish) accepts.expected.begins_is in
-      let behind : position past ≤ r.finish = subst (λ b. b ≤ r.finish) accepts.expected.begins_is lawful.begun in (
+      let told : numbers (messages step) ≡ r.numbers =
+      no_answer step has.answer_is ∙ ap (λ (e : Effect). filter_map output (map Event e.events)) has.effect_is ∙ report_tells past r r.outcome (nothing_between r lawful) in
+      let wrote : r.numbers ≡ written l.program (position past) r.end =
+      lawful.numbers ∙ ap (λ p. written p r.start r.end) (report_program past r lawful l accepts tells) ∙ ap (λ b. written l.program b r.end) accepts.expected.start_is in
+      let behind : position past ≤ r.end = subst (λ b. b ≤ r.end) accepts.expected.start_is lawful.begun in (
         numbers-snoc past step
             ∙ ap (λ n. n ++ numbers (messages step)) tells.0
             ∙ ap (λ n. written l.program 0 (position past) ++ n) (told ∙ wrote)
-            ∙ joins l.program 0 (position past) r.finish (omega arith) behind
+            ∙ joins l.program 0 (position past) r.end (omega arith) behind
             ∙ ap (written l.program 0) (sym here),
-        λ run e. as_run l.text r.finish (last_such go step.effect.orders) (last_run past)
-            (subst (λ t. GoesAs t r.finish (last_such go step.effect.orders)) text (subst (GoesOn r) (sym has.effect_is) (report_goes past r r.ends)))
+        λ run e. as_run l.text r.end (last_such go step.effect.orders) (last_run past)
+            (subst (λ t. GoesAs t r.end (last_such go step.effect.orders)) text (subst (GoesOn r) (sym has.effect_is) (report_goes past r r.outcome)))
             tells.1 run (sym (last_run-snoc past step) ∙ e),
         tells.2,
       )
 
-  report_keeps : (past : History) (r : Reported) (step : Step) → step.item ≡ Accepted r → HasEffect (report_effect past r r.ends) step → Accepts past r → IsLawful r → Told past → Told (past ++ step ∷ [])
+  report_keeps : (past : History) (r : Reported) (step : Step) → step.item ≡ Accepted r → HasEffect (report_effect past r r.outcome) step → Accepts past r → IsLawful r → Told past → Told (past ++ step ∷ [])
   report_keeps past r step is has accepts lawful told = record {
     early = λ e. launch_same ∙ told.early (was_early (early_unwrap (step_mark step) (situation past) (subst IsEarly (situation-snoc past step) e)));
     tells = λ l e. report_tells_of past r step is has accepts lawful l (told.tells l (sym launch_same ∙ e));
   }
     where
       launch_same : launched (past ++ step ∷ []) ≡ launched past
-      launch_same = launched-snoc past step ∙ ap (λ (e : Effect). or_else e.launched (launched past)) has.effect_is ∙ ap (λ o. or_else o (launched past)) (report_launches past r r.ends)
+      launch_same = launched-snoc past step ∙ ap (λ (e : Effect). or_else e.launched (launched past)) has.effect_is ∙ ap (λ o. or_else o (launched past)) (report_launches past r r.outcome)
 
       was_early : (IsEarlyMark (step_mark step)) ⊎ ((step_mark step ≡ None) × IsEarly (situation past)) → IsEarly (situation past)
       was_early (inl m) = absurd (unanswered_late step has.answer_is m)
@@ -180,7 +180,7 @@ module _ (one : OneProgram) (joins : WrittenJoins) where
       → Answers launch.seq (name.Supported supported.Launch) reply step → Told past → Told (past ++ step ∷ [])
   launch_aside past launch file step is reply effect same silent answers told =
       aside_keeps past step
-      (silent_aside past step effect (answers.effect_is ∙ same) (ap finish_of is) silent (answer_aside _ _ _ step answers.answer_is))
+      (silent_aside past step effect (answers.effect_is ∙ same) (ap end_of is) silent (answer_aside _ _ _ step answers.answer_is))
       (λ m. absurd (answered_late _ _ reply step answers (result_late (name.Supported supported.Launch) (λ x. x) reply.result) m)) told
 
   launch_keeps : (past : History) (launch : Launch) (file : Option (List ℕ)) (step : Step) → step.item ≡ Loaded launch file → situation past ≡ Ready
@@ -194,7 +194,7 @@ module _ (one : OneProgram) (joins : WrittenJoins) where
       let before = told.tells None (told.early (subst IsEarly (sym ready) tt)) in
       let now : launched (past ++ step ∷ []) ≡ (launches launch.arguments text launched_.program).launched =
       launched-snoc past step ∙ ap (λ (e : Effect). or_else e.launched (launched past)) effect in
-      let stays : position (past ++ step ∷ []) ≡ 0 = position-snoc past step ∙ ap (λ i. unwrap_or (finish_of i) (position past)) is ∙ before.2 in
+      let stays : position (past ++ step ∷ []) ≡ 0 = position-snoc past step ∙ ap (λ i. unwrap_or (end_of i) (position past)) is ∙ before.2 in
       let runs_ : last_run (past ++ step ∷ []) ≡ None = last_run-snoc past step ∙ ap (λ (e : Effect). or_else (last_such go e.orders) (last_run past)) effect ∙ before.1 in
       let quiet : numbers (messages (step)) ≡ [] = answer_aside _ _ _ step answers.answer_is ∙ ap (λ (e : Effect). filter_map output (map Event e.events)) effect in record {
         early = λ e. absurd (is_late (early_unwrap (step_mark step) (situation past) (subst IsEarly (situation-snoc past step) e)));
@@ -229,7 +229,7 @@ module _ (one : OneProgram) (joins : WrittenJoins) where
   told_more past (Content None) step is taken causes told = nothing_aside past (Content None) step is refl nothing (record { tells_none = refl; launches_none = refl; goes = no_go; stops = no_stop }) causes told
   told_more past (Content (Some request)) step is taken causes told =
       aside_keeps past step
-      (silent_aside past step causes.0.effect causes.2.effect_is (ap finish_of is) (all_silent (situation past) past request.body causes.0 causes.1) (answer_aside _ _ _ step causes.2.answer_is))
+      (silent_aside past step causes.0.effect causes.2.effect_is (ap end_of is) (all_silent (situation past) past request.body causes.0 causes.1) (answer_aside _ _ _ step causes.2.answer_is))
       (λ m. by_answer (λ early. answered_late _ _ causes.0 step causes.2 early m)) told
     where
       by_answer : ¬ (¬ IsEarlyMark (answer_mark (name_of request.body) causes.0.result)) → situation past ≡ Fresh

@@ -10,14 +10,12 @@ use Rattle.dap_msg.specs.declared.outgoing.Refusal.TheVariants as refusal
 use Rattle.dap_msg.specs.declared.outgoing.BreakpointAnswer.{BreakpointAnswer}
 use Rattle.dap_msg.specs.declared.outgoing.BreakpointAnswer.TheVariants as told
 use Rattle.dap_msg.specs.declared.outgoing.BreakpointRefusal.TheVariants as why
-use Rattle.pl0_tree.specs.declared.tree.Block.{Block}
+use Rattle.pl0_tree.specs.Tree.{Block}
 use Rattle.pl0_tree.specs.Steps.{steps}
-use Rattle.dbg_plan.specs.declared.breakpoint.Breakpoint.{Breakpoint}
+use Rattle.dap_history.specs.Plain.{Breakpoint, AreResolved}
 use Rattle.dbg_plan.specs.declared.resolving.Asked.{Asked}
 use Rattle.dbg_plan.specs.declared.resolving.Answer.{Answer}
 use Rattle.dbg_plan.specs.declared.resolving.Answer.TheVariants.{At, NoStep, BadCondition, BadHit}
-use Rattle.dbg_plan.specs.Answers.{AreAnswered}
-use Rattle.dbg_plan.specs.Plans.{AreNumbered, AreAtSteps}
 use Rattle.dap_history.specs.declared.situation.Situation.{Situation}
 use Rattle.dap_history.specs.declared.situation.Situation.TheVariants.{Fresh, Ready, Configuring, Running, Stopped, Faulted, Ended}
 use Rattle.dap_history.specs.Orders.{PlainOrder, Hold}
@@ -51,14 +49,11 @@ AreAskedAs less [] [] = Unit {0}
 AreAskedAs less (b ∷ bs) (asked ∷ more) = IsAskedAs less b asked × AreAskedAs less bs more
 AreAskedAs less _ _ = ⊥
 
--- Each line is answered from the program alone. The breakpoints are those that were answered with a step, numbered in the
--- order asked, and the names of their conditions mean what they do at their steps.
+-- Each line is answered from the program alone. The breakpoints are those that were answered with a step, in the order asked.
 pub record IsResolved (main : Block) (less : ℕ) (lines : List SourceBreakpoint) (answers : List Answer) (breakpoints : List Breakpoint) : Type 0 where
   pub asked : List Asked
   pub as_asked : AreAskedAs less lines asked
-  pub answered : AreAnswered main asked answers breakpoints
-  pub numbered : AreNumbered 0 breakpoints
-  pub bound : AreAtSteps main breakpoints
+  pub resolved : AreResolved main asked answers breakpoints
 
 -- the line of step n, from 1
 abbrev pub step_line : Block → ℕ → ℕ
@@ -83,9 +78,9 @@ hold_once past = if is_held past then [] else Hold (runs past) ∷ []
 -- A debuggee that the session holds gets the plan at once: before `configurationDone` it counts from position 0, later
 -- from the position behind the one where the program stands. In a run it waits.
 abbrev pub effect_in : Situation → History → List Breakpoint → Effect
-effect_in Configuring past bs = record nothing { put_in = Some (record { breakpoints = bs; first = 0 }) }
-effect_in Stopped past bs = record nothing { put_in = Some (record { breakpoints = bs; first = position past + 1 }) }
-effect_in Faulted past bs = record nothing { put_in = Some (record { breakpoints = bs; first = position past + 1 }) }
+effect_in Configuring past bs = record nothing { put_in = Some (record { breakpoints = bs; counted_from = 0 }) }
+effect_in Stopped past bs = record nothing { put_in = Some (record { breakpoints = bs; counted_from = position past + 1 }) }
+effect_in Faulted past bs = record nothing { put_in = Some (record { breakpoints = bs; counted_from = position past + 1 }) }
 effect_in Running past bs = record nothing { waits = Some bs; orders = hold_once past }
 effect_in Ended past bs = nothing
 effect_in Fresh past bs = nothing

@@ -63,7 +63,7 @@ Causes past (Content (Some request)) step =
     (reply : Reply) × RepliesIn (situation past) past request.body reply × Answers request.seq (name_of request.body) reply step
 Causes past (Loaded launch file) step =
     (reply : Reply) × Launches launch.arguments file reply × Answers launch.seq (name.Supported supported.Launch) reply step
-Causes past (Accepted r) step = HasEffect (report_effect past r r.ends) step
+Causes past (Accepted r) step = HasEffect (report_effect past r r.outcome) step
 Causes past (Fault k) step = HasEffect nothing step
 Causes past InputEnd step = HasEffect (ordering (Quit ∷ [])) step
 Causes past ReadFailure step = HasEffect (ordering (Quit ∷ [])) step

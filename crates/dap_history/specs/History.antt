@@ -6,9 +6,9 @@ use Rattle.dap_history.specs.declared.launch.Launch.{Launch}
 use Rattle.dap_msg.specs.declared.outgoing.Outgoing.{Outgoing}
 use Rattle.dap_msg.specs.declared.outgoing.Outgoing.TheVariants.{Event}
 use Rattle.dap_msg.specs.declared.outgoing.EventBody.{EventBody}
-use Rattle.pl0_tree.specs.declared.tree.Block.{Block}
-use Rattle.dbg_plan.specs.declared.breakpoint.Breakpoint.{Breakpoint}
-use Rattle.dbg_runner.specs.Lawful.{Reported}
+use Rattle.pl0_tree.specs.Tree.{Block}
+use Rattle.dap_history.specs.Plain.{Breakpoint}
+use Rattle.dap_history.specs.Plain.{Reported}
 use Rattle.dap_history.specs.Orders.{Plan, PlainOrder}
 
 -- A program that is launched: its path, its text, and what the text reads as.

@@ -1,4 +1,5 @@
 pub mod Last
+pub mod Plain
 pub mod Orders
 pub mod History
 pub mod Readings

@@ -18,10 +18,10 @@ use Rattle.dap_msg.specs.declared.outgoing.EventBody.{EventBody}
 use Rattle.dap_msg.specs.declared.outgoing.EventBody.TheVariants as event
 use Rattle.dap_msg.specs.declared.outgoing.StopReason.{StopReason}
 use Rattle.dap_msg.specs.declared.outgoing.StopReason.TheVariants as reason
-use Rattle.dbg_plan.specs.declared.breakpoint.Breakpoint.{Breakpoint}
-use Rattle.dbg_runner.specs.Lawful.{Reported}
-use Rattle.dbg_runner.specs.declared.end.End.{End}
-use Rattle.dbg_runner.specs.declared.end.End.TheVariants as end
+use Rattle.dap_history.specs.Plain.{Breakpoint}
+use Rattle.dap_history.specs.Plain.{Reported}
+use Rattle.dap_history.specs.Plain.{Outcome}
+use Rattle.dap_history.specs.Plain as slice
 use Rattle.dap_history.specs.Last.{or_else, last_such}
 use Rattle.dap_history.specs.Orders.{Plan, no_plan, Run, PlainOrder, Go, Hold, Quit}
 use Rattle.dap_history.specs.History.{Launched, Item, Content, Loaded, Accepted, Fault, InputEnd, ReadFailure, MemoryFailure, Step, History, messages, orders_of}
@@ -107,13 +107,13 @@ last_run past = last_such go (orders_of past)
 abbrev pub runs : History → ℕ
 runs past = length (filter_map go (orders_of past))
 
-abbrev pub finish_of : Item → Option ℕ
-finish_of (Accepted r) = Some r.finish
-finish_of _ = None
+abbrev pub end_of : Item → Option ℕ
+end_of (Accepted r) = Some r.end
+end_of _ = None
 
 -- where the program stands: at the end of the last accepted report
 abbrev pub position : History → ℕ
-position past = unwrap_or (last_such (λ step. finish_of step.item) past) 0
+position past = unwrap_or (last_such (λ step. end_of step.item) past) 0
 
 -- the plan in force: the last that was put in
 abbrev pub plan : History → Plan
@@ -156,8 +156,8 @@ closing_command command.Disconnect = Some (ending.Closed Disconnected)
 closing_command _ = None
 
 -- how a report does
-abbrev pub closing_report : End → Option Ending
-closing_report end.NoMemory = Some (ending.Fault NoMemory)
+abbrev pub closing_report : Outcome → Option Ending
+closing_report slice.NoMemory = Some (ending.Fault NoMemory)
 closing_report _ = None
 
 -- how an item closes the session, if it does
@@ -165,7 +165,7 @@ abbrev pub closing : Item → Option Ending
 closing (Content None) = None
 closing (Content (Some request)) = closing_command request.body
 closing (Loaded launch file) = None
-closing (Accepted r) = closing_report r.ends
+closing (Accepted r) = closing_report r.outcome
 closing (Fault k) = Some (ending.Fault (Frame k))
 closing InputEnd = Some (ending.Closed InputEnded)
 closing ReadFailure = Some (ending.Closed ReadFailed)

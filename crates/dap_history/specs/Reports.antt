@@ -3,10 +3,10 @@ use Rattle.std.specs.Prelude.{◌≡◌, ℕ, ◌+◌, Bool, true, false, List, 
 use Rattle.dap_msg.specs.declared.outgoing.EventBody.{EventBody}
 use Rattle.dap_msg.specs.declared.outgoing.EventBody.TheVariants as event
 use Rattle.dap_msg.specs.declared.outgoing.StopReason.TheVariants as stop
-use Rattle.dbg_plan.specs.declared.breakpoint.Breakpoint.{Breakpoint}
-use Rattle.dbg_runner.specs.Lawful.{Reported}
-use Rattle.dbg_runner.specs.declared.end.End.{End}
-use Rattle.dbg_runner.specs.declared.end.End.TheVariants as end
+use Rattle.dap_history.specs.Plain.{Breakpoint}
+use Rattle.dap_history.specs.Plain.{Reported}
+use Rattle.dap_history.specs.Plain.{Outcome}
+use Rattle.dap_history.specs.Plain as slice
 use Rattle.dap_history.specs.declared.situation.Situation.TheVariants.{Running}
 use Rattle.dap_history.specs.Orders.{Plan, Run, PlainOrder, Go}
 use Rattle.dap_history.specs.History.{History, Effect}
@@ -16,11 +16,11 @@ use Rattle.dap_history.specs.Replies.{nothing, telling, stop_of, exception_of, s
 -- the report is of this run, and begins where the program stands
 pub record IsExpected (run : Run) (begins : ℕ) (r : Reported) : Type 0 where
   pub number : r.run ≡ run.number
-  pub text : r.unit.tree.text.items ≡ run.text
+  pub text : r.text ≡ run.text
   pub breakpoints : r.breakpoints ≡ run.plan.breakpoints
-  pub first : r.first ≡ run.plan.first
+  pub counted_from : r.counted_from ≡ run.plan.counted_from
   pub mode : r.mode ≡ run.mode
-  pub begins_is : r.begins ≡ begins
+  pub start_is : r.start ≡ begins
 
 -- A report is accepted while the program runs, where it goes on with the run that was ordered last.
 pub record Accepts (past : History) (r : Reported) : Type 0 where
@@ -33,31 +33,31 @@ pub record Accepts (past : History) (r : Reported) : Type 0 where
 
 -- first its numbers, in order
 abbrev pub outputs : Reported → List EventBody
-outputs r = map event.Output r.outputs
+outputs r = map event.Output r.numbers
 
 -- breakpoints that wait are put in where the report ends, and count from the next position
 abbrev pub put_in_at : ℕ → Option (List Breakpoint) → Option Plan
-put_in_at finish waits = option_map (λ bs. record { breakpoints = bs; first = finish + 1 }) waits
+put_in_at finish waits = option_map (λ bs. record { breakpoints = bs; counted_from = finish + 1 }) waits
 
 -- the numbers, and then these events; the debuggee is here, and what waits is put in
 abbrev pub stands : History → Reported → List EventBody → Effect
 stands past r events =
-    record nothing { events = outputs r ++ events; put_in = put_in_at r.finish (waiting_plan past) }
+    record nothing { events = outputs r ++ events; put_in = put_in_at r.end (waiting_plan past) }
 
 -- the run goes on as another one, in the same mode, where it was held
 abbrev pub goes_on : History → Reported → Effect
 goes_on past r =
-    let put_in = put_in_at r.finish (waiting_plan past) in
-    record nothing { events = outputs r; put_in = put_in; orders = Go (record { number = runs past + 1; text = r.unit.tree.text.items; begins = r.finish; plan = unwrap_or put_in (plan past); mode = r.mode }) ∷ [] }
+    let put_in = put_in_at r.end (waiting_plan past) in
+    record nothing { events = outputs r; put_in = put_in; orders = Go (record { number = runs past + 1; text = r.text; start = r.end; plan = unwrap_or put_in (plan past); mode = r.mode }) ∷ [] }
 
 abbrev pub held : History → Reported → Bool → Effect
 held past r true = stands past r (stops stop.Pause)
 held past r false = goes_on past r
 
-abbrev pub report_effect : History → Reported → End → Effect
-report_effect past r end.More = telling (outputs r)
-report_effect past r (end.Due reason) = stands past r (stops (stop_of reason))
-report_effect past r end.Held = held past r (waiting_pause past)
-report_effect past r end.Done = telling (outputs r ++ ends 0)
-report_effect past r (end.Fault fault) = stands past r (stops (stop.Exception (exception_of fault)))
-report_effect past r end.NoMemory = nothing
+abbrev pub report_effect : History → Reported → Outcome → Effect
+report_effect past r slice.More = telling (outputs r)
+report_effect past r (slice.Due reason) = stands past r (stops (stop_of reason))
+report_effect past r slice.Held = held past r (waiting_pause past)
+report_effect past r slice.Done = telling (outputs r ++ ends 0)
+report_effect past r (slice.Fault fault) = stands past r (stops (stop.Exception (exception_of fault)))
+report_effect past r slice.NoMemory = nothing

@@ -6,7 +6,8 @@ use Rattle.dap_msg.specs.declared.outgoing.Refusal.TheVariants as refusal
 use Rattle.dbg_plan.specs.declared.mode.Mode.{Mode}
 use Rattle.dbg_plan.specs.declared.mode.Mode.TheVariants as mode
 use Rattle.dbg_plan.specs.declared.mode.Reason.{Reason}
-use Rattle.dbg_plan.specs.Due.{due, depth_at}
+use Rattle.dbg_plan.specs.Due.{depth_at}
+use Rattle.dap_history.specs.Plain.{due}
 use Rattle.dap_history.specs.declared.situation.Situation.{Situation}
 use Rattle.dap_history.specs.declared.situation.Situation.TheVariants.{Fresh, Ready, Configuring, Running, Stopped, Faulted, Ended}
 use Rattle.dap_history.specs.Orders.{Plan, PlainOrder, Go}
@@ -18,7 +19,7 @@ use Rattle.dap_history.specs.Replies.{Reply, telling, ordering, answered, refuse
 -- the order of the next run, which begins at this position under this plan and in this mode
 abbrev pub goes : History → Launched → ℕ → Plan → Mode → List PlainOrder
 goes past l begins p m =
-    Go (record { number = runs past + 1; text = l.text; begins = begins; plan = p; mode = m }) ∷ []
+    Go (record { number = runs past + 1; text = l.text; start = begins; plan = p; mode = m }) ∷ []
 
 -- the same, where the session holds the debuggee
 abbrev pub resumes : History → Launched → Mode → List PlainOrder
@@ -36,7 +37,7 @@ enters past l None = ordering (resumes past l mode.Continue)
 
 abbrev pub Configures : History → Reply → Type 0
 Configures past reply = OfProgram (launched past) (λ l. reply
-    ≡ causing body.None (enters past l (due l.program (plan past).breakpoints (plan past).first (entry_mode l) 0)))
+    ≡ causing body.None (enters past l (due l.program (plan past).breakpoints (plan past).counted_from (entry_mode l) 0)))
 
 abbrev pub ConfiguresIn : Situation → History → Reply → Type 0
 ConfiguresIn Configuring past reply = Configures past reply
