@@ -21,7 +21,7 @@ use Rattle.dap_history.specs.Replies.{Reply, stops, ends, stop_of, exception_of}
 use Rattle.dap_history.specs.Launching.{Launches}
 use Rattle.dap_history.specs.Reports.{held, report_effect}
 use Rattle.dap_history.specs.Emission.{HasEffect, Causes}
-use Rattle.dap_history.specs.Texts.{OneProgram}
+use Rattle.dap_history.proofs.Texts.{OneProgram}
 use Rattle.dap_history.specs.Laws.{output, numbers, StopsStandBehind}
 use Rattle.dap_history.proofs.Readings.{messages_of-snoc}
 use Rattle.dap_history.proofs.Along.{lawful_reports, along}

@@ -16,3 +16,5 @@ pub mod Passing
 pub mod Stopping
 pub mod OneHistory
 pub mod BlockCode
+pub mod Texts
+pub mod OneReply

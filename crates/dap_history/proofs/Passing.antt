@@ -37,7 +37,7 @@ use Rattle.dap_history.specs.Replies.{Reply, refused, stops, ends, stop_of}
 use Rattle.dap_history.specs.Reports.{Accepts, outputs, report_effect}
 use Rattle.dap_history.specs.Emission.{RepliesIn, Answers, HasEffect, Causes, IsAfter}
 use Rattle.dap_history.specs.Stops.{due_in, NoneDueUpTo, NoneDueBefore}
-use Rattle.dap_history.specs.Texts.{OneProgram}
+use Rattle.dap_history.proofs.Texts.{OneProgram}
 use Rattle.dap_history.proofs.Readings.{situation-snoc, position-snoc, launched-snoc, last_run-snoc, last_such-append, or_else-none}
 use Rattle.dap_history.proofs.Along.{IsTaken, IsKept}
 use Rattle.dap_history.proofs.Silent.{GoesBy, no_go, of_text, all_silent}

@@ -136,7 +136,7 @@ configures_in_silent Stopped past reply is = silent_if past reply _ (nothing_sil
 configures_in_silent Faulted past reply is = silent_if past reply _ (nothing_silent past) is
 configures_in_silent Ended past reply is = silent_if past reply _ (nothing_silent past) is
 
-abbrev resuming : History → Pace → ℕ → Launched → Reply
+abbrev pub resuming : History → Pace → ℕ → Launched → Reply
 resuming past pace thread l =
     on_thread thread (causing (body_of pace) (ordering (resumes past l (mode_of pace (depth_at l.program (position past))))))
 

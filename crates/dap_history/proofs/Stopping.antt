@@ -23,7 +23,7 @@ use Rattle.dap_history.specs.Replies.{Reply, stops, ends, stop_of, exception_of}
 use Rattle.dap_history.specs.Launching.{Launches}
 use Rattle.dap_history.specs.Reports.{Accepts, outputs, held, report_effect}
 use Rattle.dap_history.specs.Emission.{Causes, HasEffect, IsAfter}
-use Rattle.dap_history.specs.Texts.{OneProgram}
+use Rattle.dap_history.proofs.Texts.{OneProgram}
 use Rattle.dap_history.specs.Stops.{stop_told, stop_in, StopsAt, NoneDueUpTo, NoneDueBefore, due_in, IsRunsStop, IsRightStop, EachStopIsRight}
 use Rattle.dap_history.proofs.Readings.{situation-snoc, position-snoc, launched-snoc, last_run-snoc, last_such-append}
 use Rattle.dap_history.proofs.Along.{IsTaken, IsKept, lawful_reports, along}

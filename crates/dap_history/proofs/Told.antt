@@ -24,7 +24,7 @@ use Rattle.dap_history.specs.Replies.{Reply, nothing, ordering}
 use Rattle.dap_history.specs.Launching.{Launches, launches}
 use Rattle.dap_history.specs.Reports.{Accepts, report_effect}
 use Rattle.dap_history.specs.Emission.{Answers, HasEffect, Causes, IsAfter}
-use Rattle.dap_history.specs.Texts.{OneProgram}
+use Rattle.dap_history.proofs.Texts.{OneProgram}
 use Rattle.dap_history.specs.Events.{Incoming, Rest, IsTaking, AreLawful, IsHistoryOf}
 use Rattle.dap_history.specs.Laws.{output, numbers, NumbersAreWritten}
 use Rattle.dap_history.proofs.Readings.{messages_of-snoc, launched-snoc, position-snoc, last_run-snoc, situation-snoc}

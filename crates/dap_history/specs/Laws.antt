@@ -19,6 +19,14 @@ use Rattle.dap_history.specs.Readings.{launched, position}
 use Rattle.dap_history.specs.Events.{Incoming, Rest, AreLawful, IsHistoryOf}
 use Rattle.dap_history.specs.Output.{frames_from}
 
+-- ---- One history
+
+-- A list of events has at most one history, and leaves one rest.
+abbrev pub HistoryIsOne : Type 0
+HistoryIsOne =
+    (events : List Incoming) (past other : History) (rest left : Rest) → IsHistoryOf events past rest → IsHistoryOf events other left
+    → (past ≡ other) × (rest ≡ left)
+
 -- ---- Answered once
 
 -- the seq and the command that an answer names, and those of a request

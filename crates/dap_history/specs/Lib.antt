@@ -15,4 +15,3 @@ pub mod Events
 pub mod Output
 pub mod Laws
 pub mod Stops
-pub mod Texts

@@ -1,18 +1,25 @@
-ghost use Rattle.dap_history.specs.Laws.{EachIsAnsweredOnce, SeqCountFromOne, DisconnectIsLast, NumbersAreWritten, StopsStandBehind};
+ghost use Rattle.dap_history.specs.Laws.{HistoryIsOne, EachIsAnsweredOnce, SeqCountFromOne, DisconnectIsLast, NumbersAreWritten, StopsStandBehind};
 ghost use Rattle.dap_history.specs.Stops.{EachStopIsRight, QuestionsAreAnsweredThere};
-ghost use Rattle.dap_history.specs.Texts.{OneProgram};
 
+use dap_frame::frame_laws;
+use dap_msg::message_laws;
 use pl0_meaning::meaning_laws;
+use pl0_syntax::{editor_laws, text_laws};
 
 /// What holds of all that a session sends, whatever events come. It does nothing: its contract is the laws.
 pub fn history_laws()
+    ensures one { HistoryIsOne }
     ensures answers { EachIsAnsweredOnce }
     ensures numbers { SeqCountFromOne }
-    ensures last { DisconnectIsLast }
-    ensures outputs { OneProgram → NumbersAreWritten }
-    ensures behind { OneProgram → StopsStandBehind }
-    ensures stops { OneProgram → EachStopIsRight }
+    ensures outputs { NumbersAreWritten }
+    ensures behind { StopsStandBehind }
+    ensures stops { EachStopIsRight }
     ensures questions { QuestionsAreAnsweredThere }
+    ensures last { DisconnectIsLast }
 {
+    frame_laws();
+    message_laws();
+    text_laws();
+    editor_laws();
     meaning_laws();
 }
