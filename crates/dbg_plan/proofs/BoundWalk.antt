@@ -11,7 +11,7 @@ use Rattle.pl0_tree.specs.Blocks.{IsNesting, AreNestings}
 use Rattle.pl0_meaning.specs.Values.{constant_of, or_zero}
 use Rattle.pl0_meaning.specs.Homes.{IsDeclaredBy, home_is}
 use Rattle.dbg_plan.specs.declared.binding.Located.{Located}
-use Rattle.dbg_plan.specs.declared.bound.BoundExpression.TheVariants as bound
+use Rattle.dbg_plan.specs.declared.located.LocatedExpression.TheVariants as bound
 use Rattle.dbg_plan.specs.Bound.{IsDeclaredBound, IsNameBound}
 use Rattle.dbg_plan.specs.Reads.{located, bound_of}
 

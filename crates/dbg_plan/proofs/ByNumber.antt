@@ -17,7 +17,7 @@ tie s b = grind (arith, nat_tests)
 
 pub stays_in_order : (bs ordered : List Breakpoint) → IsStableByKey (λ (b : Breakpoint). b.step) nat_cmp bs ordered → (s : ℕ) → those_of s ordered ≡ those_of s bs
 stays_in_order bs ordered stable s =
-    let any : Breakpoint = record { number = 0; step = s; guard = None; rule = None } in
+    let any : Breakpoint = record { number = 0; step = s; condition = None; rule = None } in
     filter_agree (is_of s) _ (tie s) ordered ∙ stable any ∙ sym (filter_agree (is_of s) _ (tie s) bs)
 
 -- ---- the first with a number is the one that has it

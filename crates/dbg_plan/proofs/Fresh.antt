@@ -3,8 +3,8 @@ use Rattle.pl0_machine.specs.Machine.{Standing, program}
 use Rattle.std.proofs.Common.{◌≡◌, ℕ, false, None, option_map, length, replicate, slice_index, refl, arith, subst, sym, ◌∙◌, zero, suc, ap}
 use Rattle.std.specs.Arc.{arc_value}
 use Rattle.dbg_plan.specs.declared.debuggee.Debuggee.TheInside.{Inside}
-use Rattle.dbg_plan.specs.Plans.{IsNumbered}
-use Rattle.dbg_plan.specs.Counting.{AreCounts, breakpoints_of, MayBePlanOf, IsInOrder}
+use Rattle.dbg_plan.specs.Plans.{IsNumbered, listed_of}
+use Rattle.dbg_plan.specs.Counting.{AreCounts, MayBePlanOf, IsInOrder}
 use Rattle.dbg_plan.specs.Counts.{IsCounting, StandsBy, plan_of, next_at, next_of}
 use Rattle.dbg_plan.proofs.Here.{begin}
 
@@ -13,7 +13,7 @@ zeros zero k = refl
 zeros (suc n) zero = refl
 zeros (suc n) (suc k) = zeros n k
 
-pub fresh : (d : Inside) → IsCounting d → (new : Inside) → new.machine ≡ d.machine → new.considered ≡ d.considered → new.first ≡ next_of d → new.counts ≡ replicate 256 0 → IsNumbered (breakpoints_of (plan_of new)) → MayBePlanOf d.machine.unit (plan_of new) → IsCounting new
+pub fresh : (d : Inside) → IsCounting d → (new : Inside) → new.machine ≡ d.machine → new.considered ≡ d.considered → new.counted_from ≡ next_of d → new.counts ≡ replicate 256 0 → IsNumbered (listed_of (plan_of new)) → MayBePlanOf d.machine.unit (plan_of new) → IsCounting new
 fresh d was new machine considered first counts numbered fits =
     let next : next_of new ≡ next_of d = ap (λ b. next_at new.machine.position b) considered ∙ ap (λ (m : Standing). next_at m.position d.considered) machine in
     record {
@@ -27,15 +27,15 @@ fresh d was new machine considered first counts numbered fits =
     }
 
 -- a debuggee over a machine, with no plan
-pub begun : (new : Inside) → new.plan ≡ None → new.considered ≡ false → new.first ≡ new.machine.position → length new.counts ≡ 256 → IsInOrder new.machine.unit → IsCounting new
+pub begun : (new : Inside) → new.plan ≡ None → new.considered ≡ false → new.counted_from ≡ new.machine.position → length new.counts ≡ 256 → IsInOrder new.machine.unit → IsCounting new
 begun new plan considered first room in_order =
     let next : next_of new ≡ new.machine.position = ap (λ b. next_at new.machine.position b) considered in
     let none : plan_of new ≡ None = ap (λ o. option_map arc_value o) plan in
     record {
-      numbered = subst (λ o. IsNumbered (breakpoints_of o)) (sym none) (record { few = omega arith; numbers = tt });
+      numbered = subst (λ o. IsNumbered (listed_of o)) (sym none) (record { few = omega arith; numbers = tt });
       fits = subst (λ o. MayBePlanOf new.machine.unit o) (sym none) tt;
       room = room;
-      counts = subst (λ o. AreCounts (program new.machine) (breakpoints_of o) new.first (next_of new) new.counts) (sym none) tt;
+      counts = subst (λ o. AreCounts (program new.machine) (listed_of o) new.counted_from (next_of new) new.counts) (sym none) tt;
       begun = omega (arith, first, next);
       stands = subst (λ b. StandsBy new.machine b) (sym considered) tt;
       in_order = in_order;

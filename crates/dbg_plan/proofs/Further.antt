@@ -1,6 +1,7 @@
 -- A debuggee that was considered, one position further.
 use Rattle.std.proofs.Common.{◌≡◌, ℕ, ◌+◌, ◌≤◌, Bool, true, false, if◌then◌else◌, List, length, Option, Some, refl, arith, subst, sym, ◌∙◌, ap}
 use Rattle.pl0_machine.specs.Machine.{Standing, program}
+use Rattle.dbg_plan.specs.Plans.{listed_of}
 use Rattle.dbg_plan.specs.declared.debuggee.Debuggee.TheInside.{Inside}
 use Rattle.dbg_plan.specs.declared.mode.Mode.{Mode}
 use Rattle.dbg_plan.specs.declared.mode.Reason.{Reason}
@@ -8,7 +9,7 @@ use Rattle.dbg_plan.specs.declared.mode.Reason.TheVariants as reason
 use Rattle.dbg_plan.specs.Due.{reason_of, depth_at}
 use Rattle.dbg_plan.specs.Debugged.{IsRunning, IsConsidered, due_now}
 use Rattle.dbg_plan.specs.Advances.{further}
-use Rattle.dbg_plan.specs.Counting.{AreCounts, CountsOn, breakpoints_of, MayBePlanOf, IsInOrder}
+use Rattle.dbg_plan.specs.Counting.{AreCounts, CountsOn, MayBePlanOf, IsInOrder}
 use Rattle.dbg_plan.specs.Counts.{IsCounting, debugged_of, plan_of, next_at, next_of}
 
 -- the next position to be considered tells whether this one was
@@ -17,7 +18,7 @@ was_considered position true h = refl
 was_considered position false h = absurd (omega (arith, h))
 
 -- the machine took a step, and the position that it led to is counted
-module _ (d : Inside) (was : IsCounting d) (behind : next_of d ≡ d.machine.position + 1) (machine : Standing) (on : machine ≡ record d.machine { position = d.machine.position + 1 }) (running : IsRunning machine) (counts : List ℕ) (hit : Bool) (counting : (first : ℕ) → first ≤ machine.position → AreCounts (program machine) (breakpoints_of (plan_of d)) first machine.position d.counts → CountsOn (program machine) (breakpoints_of (plan_of d)) machine.position first d.counts hit counts) where
+module _ (d : Inside) (was : IsCounting d) (behind : next_of d ≡ d.machine.position + 1) (machine : Standing) (on : machine ≡ record d.machine { position = d.machine.position + 1 }) (running : IsRunning machine) (counts : List ℕ) (hit : Bool) (counting : (first : ℕ) → first ≤ machine.position → AreCounts (program machine) (listed_of (plan_of d)) first machine.position d.counts → CountsOn (program machine) (listed_of (plan_of d)) machine.position first d.counts hit counts) where
   abbrev pub now : Inside
   now = record d { machine = machine; counts = counts }
 
@@ -27,11 +28,11 @@ module _ (d : Inside) (was : IsCounting d) (behind : next_of d ≡ d.machine.pos
   same : program machine ≡ program d.machine
   same = ap (λ (m : Standing). program m) on
 
-  counts_on : CountsOn (program machine) (breakpoints_of (plan_of d)) machine.position d.first d.counts hit counts
+  counts_on : CountsOn (program machine) (listed_of (plan_of d)) machine.position d.counted_from d.counts hit counts
   counts_on =
       let place : machine.position ≡ next_of d = ap (λ (m : Standing). m.position) on ∙ sym behind in
       let begun = was.begun in
-      counting d.first (omega (arith, begun, place)) (rw (same, place) was.counts)
+      counting d.counted_from (omega (arith, begun, place)) (rw (same, place) was.counts)
 
   pub stays_counting : length counts ≡ 256 → IsCounting now
   stays_counting room =
@@ -42,7 +43,7 @@ module _ (d : Inside) (was : IsCounting d) (behind : next_of d ≡ d.machine.pos
         numbered = was.numbered;
         fits = subst (λ (m : Standing). MayBePlanOf m.unit (plan_of d)) (sym on) was.fits;
         room = room;
-        counts = subst (λ n. AreCounts (program machine) (breakpoints_of (plan_of d)) d.first n counts) (sym next) counts_on.counts;
+        counts = subst (λ n. AreCounts (program machine) (listed_of (plan_of d)) d.counted_from n counts) (sym next) counts_on.counts;
         begun = omega (arith, begun, behind, place, next);
         stands = rw (considered) running;
         in_order = subst (λ (m : Standing). IsInOrder m.unit) (sym on) was.in_order;

@@ -1,6 +1,7 @@
 -- One more position considered: the counts and what is due, over plain variables.
 use Rattle.std.proofs.Common.{◌≡◌, ◌≢◌, ◌⊎◌, inl, inr, cond, nat_eq, ℕ, zero, suc, ◌+◌, ◌*◌, ◌%◌, ◌<◌, ◌≤◌, Bool, true, false, List, [], ◌∷◌, length, slice_index, Option, Some, None, ap, sym, ◌∙◌, refl, subst, arith, All, add-one, map}
-use Rattle.std.specs.Prelude.{◌&&◌, nat_le, if◌then◌else◌}
+use Rattle.std.specs.List.{list_any}
+use Rattle.std.specs.Prelude.{◌&&◌, ◌||◌, nat_le, if◌then◌else◌}
 use Rattle.std.proofs.lemmas.Bool.Decides.{nat_tests, eqb_tells}
 use Rattle.pl0_tree.specs.Tree.{Block}
 use Rattle.pl0_tree.specs.Steps.{steps}
@@ -11,17 +12,22 @@ use Rattle.dbg_plan.specs.declared.breakpoint.Rule.{Rule}
 use Rattle.dbg_plan.specs.declared.breakpoint.Rule.TheVariants.{From, Every}
 use Rattle.std.proofs.lemmas.Nat.{mod-mul-add}
 use Rattle.std.proofs.lemmas.List.Elements.{All-cons, All-filter}
-use Rattle.dbg_plan.specs.Due.{arrives_at, arrivals}
-use Rattle.dbg_plan.specs.Plans.{Listed, IsNumbered, AreNumbered, AreAtSteps, IsGuardAt, those_of, is_of, IsRule}
-use Rattle.dbg_plan.specs.Counting.{holds_now, IsMetHere, counted, any_due, AreCounts, CountFrom, CountsOn, breakpoints_of, reduced}
+use Rattle.dbg_plan.specs.Breakpoints.{Breakpoint as PlainBreakpoint, plain_breakpoint, plain_breakpoints}
+use Rattle.dbg_plan.specs.Due.{arrives_at, arrivals, is_hit}
+use Rattle.dbg_plan.specs.Plans.{Listed, IsNumbered, AreNumbered, AreAtSteps, IsBoundAt, those_of, is_of, IsRule, listed_of}
+use Rattle.dbg_plan.specs.Counting.{holds_now, IsMetHere, counted, any_due, AreCounts, CountFrom, CountsOn, reduced}
 use Rattle.dbg_plan.proofs.Places.{arrives_here}
 use Rattle.dbg_plan.proofs.Tally.{tally, tally_due}
 
 le_true : (t m : ℕ) → t ≤ m → nat_le t m ≡ true
 le_true t m le = grind (arith, nat_tests)
 
+any_plain : (hit : PlainBreakpoint → Bool) (bs : List Breakpoint) → list_any hit (plain_breakpoints bs) ≡ list_any (λ b. hit (plain_breakpoint b)) bs
+any_plain hit [] = refl
+any_plain hit (b ∷ bs) = ap (λ v. hit (plain_breakpoint b) || v) (any_plain hit bs)
+
 -- one position further
-arrivals_rise : (main : Block) (b : Breakpoint) (first m : ℕ) → first ≤ m → arrivals main b first (m + 1) ≡ (if arrives_at main b m then arrivals main b first m + 1 else arrivals main b first m)
+arrivals_rise : (main : Block) (b : PlainBreakpoint) (first m : ℕ) → first ≤ m → arrivals main b first (m + 1) ≡ (if arrives_at main b m then arrivals main b first m + 1 else arrivals main b first m)
 arrivals_rise main b first m le = rw add-one (ap (λ (v : Bool). if v && arrives_at main b m then arrivals main b first m + 1 else arrivals main b first m) (le_true first m le))
 
 module _ (m : Standing) (ascend : ∥ Ascend (map (λ step. step.place) (steps (program m))) ∥₁) (p : ℕ) (here : IsNext (program m) (top_of (frames m)) p) (bs : List Breakpoint) (numbered : IsNumbered bs) (counts : List ℕ) (room : length counts ≡ 256) where
@@ -29,28 +35,28 @@ module _ (m : Standing) (ascend : ∥ Ascend (map (λ step. step.place) (steps (
   counts_on first le h =
       let main = (program m) in
       let few = numbered.few in
-      let a : Breakpoint → Bool = λ b. arrives_at main b m.position in
-      let old : Breakpoint → ℕ = λ b. arrivals main b first m.position in
-      let new : Breakpoint → ℕ = λ b. arrivals main b first (m.position + 1) in
+      let a : Breakpoint → Bool = λ b. arrives_at main (plain_breakpoint b) m.position in
+      let old : Breakpoint → ℕ = λ b. arrivals main (plain_breakpoint b) first m.position in
+      let new : Breakpoint → ℕ = λ b. arrivals main (plain_breakpoint b) first (m.position + 1) in
       let agree = arrives_here main ascend (configuration m) p here in
-      let rises : (b : Breakpoint) → new b ≡ (if a b then old b + 1 else old b) = λ b. arrivals_rise main b first m.position le in
+      let rises : (b : Breakpoint) → new b ≡ (if a b then old b + 1 else old b) = λ b. arrivals_rise main (plain_breakpoint b) first m.position le in
       record {
         counts = tally (is_of p) (holds_now m) a old new agree rises bs 0 counts numbered.numbers (omega arith) h;
-        due_is = tally_due (is_of p) (holds_now m) a old new agree rises bs 0 counts numbered.numbers (omega arith) h;
+        due_is = tally_due (is_of p) (holds_now m) a old new agree rises bs 0 counts numbered.numbers (omega arith) h ∙ sym (any_plain (is_hit main first m.position) bs);
       }
 
 -- what the code's walk leaves, by what it knows of the plan and its entry
-pub goes_on : (m : Standing) → ∥ Ascend (map (λ step. step.place) (steps (program m))) ∥₁ → (p : ℕ) → IsNext (program m) (top_of (frames m)) p → (plan : Option Listed) (listed : Listed) → plan ≡ Some listed → IsNumbered listed.breakpoints → (entry : List Breakpoint) → entry ≡ those_of p listed.breakpoints → (counts : List ℕ) → length counts ≡ 256 → (due : Bool) (new : List ℕ) → due ≡ any_due (holds_now m) entry counts → new ≡ counted (holds_now m) entry counts → (first : ℕ) → first ≤ m.position → AreCounts (program m) (breakpoints_of plan) first m.position counts → CountsOn (program m) (breakpoints_of plan) m.position first counts due new
+pub goes_on : (m : Standing) → ∥ Ascend (map (λ step. step.place) (steps (program m))) ∥₁ → (p : ℕ) → IsNext (program m) (top_of (frames m)) p → (plan : Option Listed) (listed : Listed) → plan ≡ Some listed → IsNumbered listed.breakpoints → (entry : List Breakpoint) → entry ≡ those_of p listed.breakpoints → (counts : List ℕ) → length counts ≡ 256 → (due : Bool) (new : List ℕ) → due ≡ any_due (holds_now m) entry counts → new ≡ counted (holds_now m) entry counts → (first : ℕ) → first ≤ m.position → AreCounts (program m) (listed_of plan) first m.position counts → CountsOn (program m) (listed_of plan) m.position first counts due new
 goes_on m ascend p here plan listed is numbered entry entry_is counts room due new due_is new_is first le h =
     let main = (program m) in
     let f = holds_now m in
     let bs = listed.breakpoints in
-    let old : AreCounts main bs first m.position counts = subst (λ q. AreCounts main (breakpoints_of q) first m.position counts) is h in
+    let old : AreCounts main bs first m.position counts = subst (λ q. AreCounts main (listed_of q) first m.position counts) is h in
     let on = counts_on m ascend p here bs numbered counts room first le old in
-    let at_plan : CountsOn main (breakpoints_of plan) m.position first counts (any_due f (those_of p bs) counts) (counted f (those_of p bs) counts) = subst (λ q. CountsOn main (breakpoints_of q) m.position first counts (any_due f (those_of p bs) counts) (counted f (those_of p bs) counts)) (sym is) on in
-    let at_entry : CountsOn main (breakpoints_of plan) m.position first counts (any_due f entry counts) (counted f entry counts) = subst (λ es. CountsOn main (breakpoints_of plan) m.position first counts (any_due f es counts) (counted f es counts)) (sym entry_is) at_plan in
-    let at_due : CountsOn main (breakpoints_of plan) m.position first counts due (counted f entry counts) = subst (λ d. CountsOn main (breakpoints_of plan) m.position first counts d (counted f entry counts)) (sym due_is) at_entry in
-    subst (λ cs. CountsOn main (breakpoints_of plan) m.position first counts due cs) (sym new_is) at_due
+    let at_plan : CountsOn main (listed_of plan) m.position first counts (any_due f (those_of p bs) counts) (counted f (those_of p bs) counts) = subst (λ q. CountsOn main (listed_of q) m.position first counts (any_due f (those_of p bs) counts) (counted f (those_of p bs) counts)) (sym is) on in
+    let at_entry : CountsOn main (listed_of plan) m.position first counts (any_due f entry counts) (counted f entry counts) = subst (λ es. CountsOn main (listed_of plan) m.position first counts (any_due f es counts) (counted f es counts)) (sym entry_is) at_plan in
+    let at_due : CountsOn main (listed_of plan) m.position first counts due (counted f entry counts) = subst (λ d. CountsOn main (listed_of plan) m.position first counts d (counted f entry counts)) (sym due_is) at_entry in
+    subst (λ cs. CountsOn main (listed_of plan) m.position first counts due cs) (sym new_is) at_due
 
 -- ---- each number is that of a count
 
@@ -65,7 +71,7 @@ within bs numbered p counts room =
     let few = numbered.few in
     All-filter (is_of p) (λ b. b.number < length counts) bs (are_below bs 0 (length counts) numbered.numbers (omega arith))
 
-met_here : (m : Standing) (p : ℕ) → IsNext (program m) (top_of (frames m)) p → (b : Breakpoint) (bs : List Breakpoint) → IsGuardAt (program m) b.step b.guard → All (IsMetHere m) (those_of p bs) → All (IsMetHere m) (those_of p (b ∷ bs))
+met_here : (m : Standing) (p : ℕ) → IsNext (program m) (top_of (frames m)) p → (b : Breakpoint) (bs : List Breakpoint) → IsBoundAt (program m) b.step b.condition → All (IsMetHere m) (those_of p bs) → All (IsMetHere m) (those_of p (b ∷ bs))
 met_here m p next b bs bound rest = by_step (eqb_tells p b.step)
   where
     by_step : ((nat_eq p b.step ≡ true) × (p ≡ b.step)) ⊎ ((nat_eq p b.step ≡ false) × (p ≢ b.step)) → All (IsMetHere m) (those_of p (b ∷ bs))
@@ -81,7 +87,7 @@ are_met m p next (b ∷ bs) bound = met_here m p next b bs bound.1 (are_met m p 
 
 -- ---- a new plan
 
-none_yet : (main : Block) (b : Breakpoint) (t m : ℕ) → m ≤ t → arrivals main b t m ≡ 0
+none_yet : (main : Block) (b : PlainBreakpoint) (t m : ℕ) → m ≤ t → arrivals main b t m ≡ 0
 none_yet main b t zero le = refl
 none_yet main b t (suc m) le =
     let late : nat_le t m ≡ false = grind (arith, nat_tests) in
@@ -93,10 +99,10 @@ reduced_zero (Some (From k)) r = omega arith
 reduced_zero (Some (Every k)) r =
     let e : 0 ≡ 0 * k + 0 = omega arith in ap (λ m. m % k) e ∙ mod-mul-add 0 k 0 r
 
-counts_begin : (main : Block) (bs : List Breakpoint) (t n : ℕ) (counts : List ℕ) → AreNumbered n bs → ((k : ℕ) → slice_index counts k ≡ 0) → CountFrom (λ b. arrivals main b t t) n bs counts
+counts_begin : (main : Block) (bs : List Breakpoint) (t n : ℕ) (counts : List ℕ) → AreNumbered n bs → ((k : ℕ) → slice_index counts k ≡ 0) → CountFrom (λ b. arrivals main (plain_breakpoint b) t t) n bs counts
 counts_begin main [] t n counts numbered zeros = tt
 counts_begin main (b ∷ bs) t n counts numbered zeros =
-    let none : arrivals main b t t ≡ 0 = none_yet main b t t (omega arith) in
+    let none : arrivals main (plain_breakpoint b) t t ≡ 0 = none_yet main (plain_breakpoint b) t t (omega arith) in
     (zeros n ∙ sym (ap (λ k. reduced b.rule k) none ∙ reduced_zero b.rule numbered.1), counts_begin main bs t (n + 1) counts numbered.2 zeros)
 
 pub begin : (main : Block) (bs : List Breakpoint) (t : ℕ) (counts : List ℕ) → IsNumbered bs → ((k : ℕ) → slice_index counts k ≡ 0) → AreCounts main bs t t counts

@@ -7,7 +7,7 @@ use Rattle.std.proofs.lemmas.Str.Parse.{IsNumeralModel, numerals_by_value, tells
 use Rattle.std.proofs.lemmas.Fmt.{decimal_digit, decimal-digits_value, first_decimal, parse-decimal}
 use Rattle.dbg_plan.specs.declared.breakpoint.Rule.{Rule}
 use Rattle.dbg_plan.specs.declared.breakpoint.Rule.TheVariants.{From, Every}
-use Rattle.dbg_plan.specs.Answers.{ReadsRule, HasRule}
+use Rattle.dbg_plan.specs.Resolutions.{ReadsRule, HasRule}
 
 digits_model : IsNumeralModel (AllDigits 10) (digits_value 10)
 digits_model = numerals_by_value (AllDigits 10) tells_digits

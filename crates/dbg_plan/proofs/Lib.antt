@@ -12,7 +12,7 @@ pub mod Watching
 pub mod StepLines
 pub mod Texts
 pub mod UnitBlocks
-pub mod Guards
+pub mod Conditions
 pub mod ByNumber
 pub mod ValuesUp
 pub mod ValuesLinks

@@ -1,25 +1,35 @@
 -- Lines answered one after another.
-use Rattle.std.proofs.Common.{◌≡◌, ℕ, ◌+◌, ◌<◌, ◌≤◌, List, [], ◌∷◌, ◌++◌, length, take, get_or, Option, refl, ap, sym, ◌∙◌, subst, arith, append_assoc, append-nil}
-use Rattle.std.proofs.lemmas.List.{take_more, length-append}
+use Rattle.std.proofs.Common.{◌≡◌, ℕ, ◌+◌, ◌<◌, ◌≤◌, List, [], ◌∷◌, ◌++◌, length, take, get_or, Option, refl, ap, sym, ◌∙◌, subst, arith, append_assoc, append-nil, All}
+use Rattle.std.proofs.lemmas.List.{take_more, length-append, length-map, map-append}
+use Rattle.std.proofs.lemmas.List.Elements.{All-cons}
 use Rattle.pl0_tree.specs.Tree.{Block}
 use Rattle.pl0_machine.specs.Machine.{program_of}
 use Rattle.dbg_plan.specs.declared.breakpoint.Breakpoint.{Breakpoint}
-use Rattle.dbg_plan.specs.declared.resolving.Asked.{Asked}
-use Rattle.dbg_plan.specs.declared.resolving.Answer.{Answer}
+use Rattle.dbg_plan.specs.declared.resolving.SourceBreakpoint.{SourceBreakpoint}
+use Rattle.dbg_plan.specs.declared.breakpoint.BoundCondition.{BoundCondition}
+use Rattle.dbg_plan.specs.declared.resolving.Resolution.{Resolution}
+use Rattle.dbg_plan.specs.declared.resolving.Resolution.TheVariants.{BadCondition, BadHitCondition}
+use Rattle.pl0_tree.specs.declared.tree.Place.{Place}
+use Rattle.pl0_tree.specs.declared.fault.FaultKind.{FaultKind}
+use Rattle.pl0_tree.specs.declared.fault.SyntaxFault.{SyntaxFault}
+use Rattle.pl0_tree.specs.declared.fault.SyntaxFault.TheVariants.{InText}
+use Rattle.pl0_tree.specs.Faults.{FaultIs}
+use Rattle.std.specs.Prelude.{Some, option_map, string_bytes}
 use Rattle.pl0_tree.specs.Steps.{steps}
 use Rattle.pl0_unit.specs.declared.unit.Unit.{Unit as Compiled}
-use Rattle.dbg_plan.specs.Plans.{Listed, AreNumbered, AreAtSteps, IsPlanOf, watched_lines}
-use Rattle.dbg_plan.specs.Answers.{IsAnswered, AreAnswered}
-use Rattle.dbg_plan.specs.Answering.{AnswersLine}
+use Rattle.dbg_plan.specs.Breakpoints.{Breakpoint as PlainBreakpoint, text_condition, plain_breakpoint, plain_breakpoints}
+use Rattle.dbg_plan.specs.Plans.{Listed, IsRule, AreNumbered, AreAtSteps, IsPlanOf, AreBreakpointsOf, breakpoint_limit, watched_lines}
+use Rattle.dbg_plan.specs.Resolutions.{step_from, HasConditionAt, HasRule, IsResolvedTo, AreResolved}
+use Rattle.dbg_plan.specs.Resolving.{IsBoundConditionOf, ResolvesLine}
 
 -- the first i lines are answered
-pub record Resolved (main : Block) (asked : List Asked) (i : ℕ) (answers : List Answer) (bs : List Breakpoint) : Type 0 where
+pub record Resolved (main : Block) (asked : List SourceBreakpoint) (i : ℕ) (answers : List Resolution) (bs : List Breakpoint) : Type 0 where
   pub few : length bs ≤ i
-  pub answered : AreAnswered main (take i asked) answers bs
+  pub answered : AreResolved main (take i asked) answers (plain_breakpoints bs)
   pub numbered : AreNumbered 0 bs
   pub placed : AreAtSteps main bs
 
-pub none : (main : Block) (asked : List Asked) (answers : List Answer) (bs : List Breakpoint) → answers ≡ [] → bs ≡ [] → Resolved main asked 0 answers bs
+pub none : (main : Block) (asked : List SourceBreakpoint) (answers : List Resolution) (bs : List Breakpoint) → answers ≡ [] → bs ≡ [] → Resolved main asked 0 answers bs
 none main asked answers bs no_answer no_breakpoint =
     let nothing : Resolved main asked 0 [] [] = record { few = omega arith; answered = refl; numbered = tt; placed = tt } in
     subst (λ l. Resolved main asked 0 l bs) (sym no_answer) (subst (λ l. Resolved main asked 0 [] l) (sym no_breakpoint) nothing)
@@ -32,22 +42,23 @@ more_placed : (main : Block) (bs mine : List Breakpoint) → AreAtSteps main bs 
 more_placed main [] mine old new = new
 more_placed main (b ∷ bs) mine old new = (old.0, old.1, more_placed main bs mine old.2 new)
 
-more_answered : (main : Block) (lines : List Asked) (answers : List Answer) (bs mine : List Breakpoint) (line : Asked) (answer : Answer) →
-    AreAnswered main lines answers bs → IsAnswered main line answer mine → AreAnswered main (lines ++ line ∷ []) (answers ++ answer ∷ []) (bs ++ mine)
+more_answered : (main : Block) (lines : List SourceBreakpoint) (answers : List Resolution) (bs mine : List PlainBreakpoint) (line : SourceBreakpoint) (answer : Resolution) →
+    AreResolved main lines answers bs → IsResolvedTo main line answer mine → AreResolved main (lines ++ line ∷ []) (answers ++ answer ∷ []) (bs ++ mine)
 more_answered main [] [] bs mine line answer old new = (mine, [], ap (λ l. l ++ mine) old ∙ sym (append-nil mine), new, refl)
 more_answered main [] (a ∷ answers) bs mine line answer old new = absurd old
 more_answered main (x ∷ lines) [] bs mine line answer old new = absurd old
 more_answered main (x ∷ lines) (a ∷ answers) bs mine line answer old new =
     (old.0, old.1 ++ mine, ap (λ l. l ++ mine) old.2 ∙ append_assoc old.0 old.1 mine, old.3, more_answered main lines answers old.1 mine line answer old.4 new)
 
-pub one_more : (main : Block) (asked : List Asked) (i : ℕ) (line : Asked) (answers all : List Answer) (bs new : List Breakpoint) (answer : Answer) → i < length asked → line ≡ get_or asked i line →
-    Resolved main asked i answers bs → AnswersLine main line bs new answer → all ≡ answers ++ answer ∷ [] → Resolved main asked (i + 1) all new
+pub one_more : (main : Block) (asked : List SourceBreakpoint) (i : ℕ) (line : SourceBreakpoint) (answers all : List Resolution) (bs new : List Breakpoint) (answer : Resolution) → i < length asked → line ≡ get_or asked i line →
+    Resolved main asked i answers bs → ResolvesLine main line bs new answer → all ≡ answers ++ answer ∷ [] → Resolved main asked (i + 1) all new
 one_more main asked i line answers all bs new answer lt is old more all_is =
     let few = old.few in
     let one = more.few in
     let now : Resolved main asked (i + 1) (answers ++ answer ∷ []) (bs ++ more.mine) = record {
       few = omega (arith, length-append bs more.mine);
-      answered = subst (λ l. AreAnswered main l (answers ++ answer ∷ []) (bs ++ more.mine)) (sym (take_more asked i line lt ∙ ap (λ x. take i asked ++ x ∷ []) (sym is))) (more_answered main (take i asked) answers bs more.mine line answer old.answered more.answered);
+      answered = subst (λ l. AreResolved main l (answers ++ answer ∷ []) (plain_breakpoints (bs ++ more.mine))) (sym (take_more asked i line lt ∙ ap (λ x. take i asked ++ x ∷ []) (sym is)))
+          (subst (λ l. AreResolved main (take i asked ++ line ∷ []) (answers ++ answer ∷ []) l) (sym (map-append plain_breakpoint bs more.mine)) (more_answered main (take i asked) answers (plain_breakpoints bs) (plain_breakpoints more.mine) line answer old.answered more.answered));
       numbered = more_numbered 0 (length bs) bs more.mine (omega arith) old.numbered more.numbered;
       placed = more_placed main bs more.mine old.placed more.placed;
     } in
@@ -57,3 +68,40 @@ pub plan_is : (u : Compiled) (n : ℕ) (bs : List Breakpoint) (lines : List (Opt
 plan_is u n bs lines plan is beside all placed =
     let this : IsPlanOf u (record { steps = n; breakpoints = bs; watched = watched_lines bs lines }) = record { steps = all; bound = placed; watched = ap (λ l. watched_lines bs l) beside } in
     subst (λ (p : Listed). IsPlanOf u p) (sym is) this
+
+-- ---- the breakpoints as data
+
+all_at_steps : (main : Block) (bs : List Breakpoint) → AreAtSteps main bs → All (λ b. b.step < length (steps main)) (plain_breakpoints bs)
+all_at_steps main [] placed = λ k d lt. absurd (omega arith)
+all_at_steps main (b ∷ bs) placed = All-cons (λ b. b.step < length (steps main)) (plain_breakpoint b) (plain_breakpoints bs) placed.0 (all_at_steps main bs placed.2)
+
+all_rules : (n : ℕ) (bs : List Breakpoint) → AreNumbered n bs → All (λ b. IsRule b.rule) (plain_breakpoints bs)
+all_rules n [] numbered = λ k d lt. absurd (omega arith)
+all_rules n (b ∷ bs) numbered = All-cons (λ b. IsRule b.rule) (plain_breakpoint b) (plain_breakpoints bs) numbered.1 (all_rules (n + 1) bs numbered.2)
+
+pub breakpoints_are : (main : Block) (asked : List SourceBreakpoint) (i : ℕ) (answers : List Resolution) (bs : List Breakpoint) (plan : Listed) → Resolved main asked i answers bs → i ≤ breakpoint_limit → plan.breakpoints ≡ bs → AreBreakpointsOf main (plain_breakpoints plan.breakpoints)
+breakpoints_are main asked i answers bs plan old le same =
+    let few = old.few in
+    subst (λ l. AreBreakpointsOf main (plain_breakpoints l)) (sym same) (record {
+      few = omega (arith, few, length-map bs plain_breakpoint);
+      at_steps = all_at_steps main bs old.placed;
+      rules = all_rules 0 bs old.numbered;
+    })
+
+-- ---- lines without a breakpoint
+
+refused : (main : Block) (asked : SourceBreakpoint) (old : List Breakpoint) (answer : Resolution) → IsResolvedTo main asked answer [] → ResolvesLine main asked old old answer
+refused main asked old answer is =
+    record { mine = []; few = omega arith; behind = sym (append-nil old); answered = is; numbered = tt; placed = tt }
+
+pub bad_condition : (main : Block) (asked : SourceBreakpoint) (old : List Breakpoint) (n : ℕ) (text : List ℕ) (fault : SyntaxFault) (kind : FaultKind) (place : Place) → step_from main asked.line ≡ Some n → text ≡ string_bytes asked.condition →
+    FaultIs (λ kind place. ¬ HasConditionAt main n text) fault → fault ≡ InText kind place → ResolvesLine main asked old old BadCondition
+bad_condition main asked old n text fault kind place there same is e =
+    let none : ¬ HasConditionAt main n text = subst (λ f. FaultIs (λ kind place. ¬ HasConditionAt main n text) f) e is in
+    refused main asked old BadCondition (refl, (n, there, subst (λ t. ¬ HasConditionAt main n t) same none))
+
+pub bad_hit_condition : (main : Block) (asked : SourceBreakpoint) (old : List Breakpoint) (n : ℕ) (text hit : List ℕ) (condition : Option BoundCondition) → step_from main asked.line ≡ Some n → text ≡ string_bytes asked.condition →
+    IsBoundConditionOf main n text condition → hit ≡ string_bytes asked.hit_condition → ¬ HasRule hit → ResolvesLine main asked old old BadHitCondition
+bad_hit_condition main asked old n text hit condition there same is same_hit none =
+    let has : HasConditionAt main n text = record { condition = option_map text_condition condition; reads = is.reads } in
+    refused main asked old BadHitCondition (refl, subst (λ t. ¬ HasRule t) same_hit none, (n, there, subst (λ t. HasConditionAt main n t) same has))

@@ -13,6 +13,7 @@ use Rattle.pl0_tree.specs.Ascending.{Ascend}
 use Rattle.pl0_meaning.specs.Values.{Frame, Configuration, StandsBefore}
 use Rattle.pl0_machine.specs.Machine.{frames_of, top_of, IsNext}
 use Rattle.dbg_plan.specs.declared.breakpoint.Breakpoint.{Breakpoint}
+use Rattle.dbg_plan.specs.Breakpoints.{plain_breakpoint}
 use Rattle.dbg_plan.specs.Due.{same_place, same_step, is_at, holds, arrives_in}
 use Rattle.dbg_plan.specs.Plans.{is_of}
 use Rattle.dbg_plan.specs.Counting.{holds_in}
@@ -61,7 +62,7 @@ module _ (main : Block) (ordered : ∥ Ascend (map (λ step. step.place) (steps 
           sym (ap (λ o. same_step (slice_get (steps main) n) o) (sym before.next ∙ there.2) ∙ same_as (steps main) ascend p there.0 there.2 n)
       by_next ascend (inr past) = let within = before.within in let le = past.0 in absurd (omega arith)
 
-  pub arrives_here : (o : Option Configuration) (p : ℕ) → IsNext main (top_of (frames_of o)) p → (b : Breakpoint) → (is_of p b && holds_in main o b.guard) ≡ arrives_in main b o
+  pub arrives_here : (o : Option Configuration) (p : ℕ) → IsNext main (top_of (frames_of o)) p → (b : Breakpoint) → (is_of p b && holds_in main o (plain_breakpoint b).condition) ≡ arrives_in main (plain_breakpoint b) o
   arrives_here None p next b = absurd next
   arrives_here (Some []) p next b = absurd next
-  arrives_here (Some (f ∷ below)) p next b = ap (λ v. v && holds main (f ∷ below) b.guard) (stands_at f below p next b.step)
+  arrives_here (Some (f ∷ below)) p next b = ap (λ v. v && holds main (f ∷ below) (plain_breakpoint b).condition) (stands_at f below p next b.step)

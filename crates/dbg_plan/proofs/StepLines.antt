@@ -22,7 +22,7 @@ use Rattle.pl0_tree.specs.Ascending.{Ascend}
 use Rattle.pl0_tree.specs.Steps.{StepAt, IsStep, AreSteps, steps}
 use Rattle.pl0_unit.specs.declared.unit.Unit.{Unit as Compiled}
 use Rattle.pl0_machine.specs.Machine.{program_of}
-use Rattle.dbg_plan.specs.Answers.{step_from}
+use Rattle.dbg_plan.specs.Resolutions.{step_from}
 use Rattle.dbg_plan.specs.Counting.{IsInOrder}
 
 -- the table tells of each step what the program has there

@@ -7,9 +7,10 @@ use Rattle.pl0_meaning.specs.Runs.{Outcome, Goes, Faults, Over, at, outcome, out
 use Rattle.pl0_machine.specs.declared.outcome.StepOutcome.{StepOutcome}
 use Rattle.pl0_machine.specs.declared.outcome.StepOutcome.TheVariants.{Went, Done, Fault}
 use Rattle.pl0_machine.specs.Machine.{Standing, program_of, program, frames_of, outcome_of, told, Stepped}
+use Rattle.dbg_plan.specs.Plans.{listed_of}
 use Rattle.dbg_plan.specs.declared.debuggee.Debuggee.TheInside.{Inside}
 use Rattle.dbg_plan.specs.Debugged.{IsRunning}
-use Rattle.dbg_plan.specs.Counting.{AreCounts, breakpoints_of, MayBePlanOf, IsInOrder}
+use Rattle.dbg_plan.specs.Counting.{AreCounts, MayBePlanOf, IsInOrder}
 use Rattle.dbg_plan.specs.Counts.{IsCounting, plan_of, next_at, next_of, StandsBy}
 
 at_next : (main : Block) (n : ℕ) → at main (n + 1) ≡ led_to (outcome main n)
@@ -80,8 +81,8 @@ module _ (d : Inside) (was : IsCounting d) (machine : Standing) (result : StepOu
           numbered = was.numbered;
           fits = fits_still;
           room = was.room;
-          counts = subst (λ u. AreCounts (program_of u) (breakpoints_of (plan_of d)) d.first (next_at machine.position considered) d.counts) (sym (same_unit d.machine machine result stepped))
-              (subst (λ n. AreCounts (program d.machine) (breakpoints_of (plan_of d)) d.first n d.counts) (sym next) was.counts);
+          counts = subst (λ u. AreCounts (program_of u) (listed_of (plan_of d)) d.counted_from (next_at machine.position considered) d.counts) (sym (same_unit d.machine machine result stepped))
+              (subst (λ n. AreCounts (program d.machine) (listed_of (plan_of d)) d.counted_from n d.counts) (sym next) was.counts);
           begun = omega (arith, begun, next);
           stands = stands;
           in_order = in_order_still;

@@ -8,28 +8,28 @@ use Rattle.pl0_unit.specs.Code.{level}
 use Rattle.pl0_meaning.specs.Frames.{AreLinked}
 use Rattle.pl0_meaning.specs.Homes.{home_is}
 use Rattle.pl0_meaning.specs.Linking.{found, frame_of, variable_within}
-use Rattle.dbg_plan.specs.declared.bound.BoundExpression.{BoundExpression}
-use Rattle.dbg_plan.specs.declared.bound.BoundExpression.TheVariants as bound
-use Rattle.dbg_plan.specs.declared.bound.BoundCondition.{BoundCondition}
-use Rattle.dbg_plan.specs.declared.bound.BoundCondition.TheVariants as bound_condition
+use Rattle.dbg_plan.specs.declared.located.LocatedExpression.{LocatedExpression}
+use Rattle.dbg_plan.specs.declared.located.LocatedExpression.TheVariants as bound
+use Rattle.dbg_plan.specs.declared.located.LocatedCondition.{LocatedCondition}
+use Rattle.dbg_plan.specs.declared.located.LocatedCondition.TheVariants as bound_condition
 use Rattle.dbg_plan.specs.Bound.{IsDeclaredBound, IsNameBound, IsExpressionBound, IsConditionBound}
 use Rattle.dbg_plan.specs.Reads.{number_up, bound_value, bound_truth, CanRead, CanTest}
 use Rattle.dbg_plan.proofs.ValuesLinks.{leads}
 
 -- a bound expression can be read, and has this number
-abbrev pub Reads : Configuration → ℕ → BoundExpression → ℤ → Type 0
+abbrev pub Reads : Configuration → ℕ → LocatedExpression → ℤ → Type 0
 Reads c i b v = CanRead c i b × (bound_value c i b ≡ Ok v)
 
-reads_number : (c : Configuration) (i : ℕ) (b : BoundExpression) (v w : ℤ) → b ≡ bound.Number v → v ≡ w → Reads c i b w
+reads_number : (c : Configuration) (i : ℕ) (b : LocatedExpression) (v w : ℤ) → b ≡ bound.Number v → v ≡ w → Reads c i b w
 reads_number c i b v w is same = subst (λ e. Reads c i e w) (sym is) (tt, ap Ok same)
 
-reads_variable : (c : Configuration) (i n k : ℕ) (b : BoundExpression) (o : Option ℤ) → b ≡ bound.Variable n k → number_up c n k i ≡ o → IsSome o → Reads c i b (or_zero o)
+reads_variable : (c : Configuration) (i n k : ℕ) (b : LocatedExpression) (o : Option ℤ) → b ≡ bound.Variable n k → number_up c n k i ≡ o → IsSome o → Reads c i b (or_zero o)
 reads_variable c i n k b o is up some =
     subst (λ e. Reads c i e (or_zero o)) (sym is) (subst (λ p. IsSome p) (sym up) some, ap (λ p. Ok (or_zero p)) up)
 
 -- in frame i of a block q
 module _ (main : Block) (c : Configuration) (i : ℕ) (f : Frame) (linked : AreLinked main c) (at : frame_at c i ≡ Some f) where
-  variable_reads : (x : List ℕ) (h : Home) (k : ℕ) (b : BoundExpression) → home main f.block x ≡ Some h → h.declaration.meaning ≡ AVariable k → b ≡ bound.Variable (level f.block h.path) k → Reads c i b (or_zero (declared_number main c i h.path (AVariable k)))
+  variable_reads : (x : List ℕ) (h : Home) (k : ℕ) (b : LocatedExpression) → home main f.block x ≡ Some h → h.declaration.meaning ≡ AVariable k → b ≡ bound.Variable (level f.block h.path) k → Reads c i b (or_zero (declared_number main c i h.path (AVariable k)))
   variable_reads x h k b e means is =
       let home_of = home_is main f.block x h e in
       let r = found main c f.block i f h.path linked at refl home_of.around in
@@ -39,22 +39,22 @@ module _ (main : Block) (c : Configuration) (i : ℕ) (f : Frame) (linked : AreL
       let some : IsSome (slice_get r.frame.numbers k) = subst (λ o. IsSome o) (sym (slice_get-get_or r.frame.numbers k (pos 0) lt)) refl in
       subst (λ o. Reads c i b (or_zero o)) (sym there) (reads_variable c i (level f.block h.path) k b (slice_get r.frame.numbers k) is (leads main c f.block i f h.path linked at refl home_of.around k ∙ there) some)
 
-  declared_reads : (x : List ℕ) (h : Home) (m : Meaning) (b : BoundExpression) → home main f.block x ≡ Some h → h.declaration.meaning ≡ m → IsDeclaredBound main f.block h.path m b → Reads c i b (or_zero (declared_number main c i h.path m))
+  declared_reads : (x : List ℕ) (h : Home) (m : Meaning) (b : LocatedExpression) → home main f.block x ≡ Some h → h.declaration.meaning ≡ m → IsDeclaredBound main f.block h.path m b → Reads c i b (or_zero (declared_number main c i h.path m))
   declared_reads x h (AConstant k) b e means is = reads_number c i b is.0 _ is.2 (ap or_zero (sym is.1))
   declared_reads x h (AVariable k) b e means is = variable_reads x h k b e means is
   declared_reads x h (AProcedure k) b e means is = reads_number c i b (pos 0) (pos 0) is refl
 
-  home_reads : (x : List ℕ) (o : Option Home) (b : BoundExpression) → home main f.block x ≡ o → IsNameBound main f.block o b → Reads c i b (or_zero (meant_number main c i o))
+  home_reads : (x : List ℕ) (o : Option Home) (b : LocatedExpression) → home main f.block x ≡ o → IsNameBound main f.block o b → Reads c i b (or_zero (meant_number main c i o))
   home_reads x None b e is = reads_number c i b (pos 0) (pos 0) is refl
   home_reads x (Some h) b e is = declared_reads x h h.declaration.meaning b e refl is
 
   -- a name that is bound has its number
-  pub name_reads : (x : List ℕ) (b : BoundExpression) → IsNameBound main f.block (home main f.block x) b → Reads c i b (or_zero (name_number main c i x))
+  pub name_reads : (x : List ℕ) (b : LocatedExpression) → IsNameBound main f.block (home main f.block x) b → Reads c i b (or_zero (name_number main c i x))
   name_reads x b is =
       subst (λ o. Reads c i b (or_zero (number_in main c i o x))) (sym at) (home_reads x (home main f.block x) b refl is)
 
   -- an expression that is bound has its value
-  pub expression_reads : (e : Expression) (b : BoundExpression) → IsExpressionBound main f.block e b → CanRead c i b × (bound_value c i b ≡ value main c i e)
+  pub expression_reads : (e : Expression) (b : LocatedExpression) → IsExpressionBound main f.block e b → CanRead c i b × (bound_value c i b ≡ value main c i e)
   expression_reads (Number n) b is = subst (λ e. CanRead c i e × (bound_value c i e ≡ Ok n)) (sym is) (tt, refl)
   expression_reads (Variable x) b is = name_reads x.word b is
   expression_reads (Negate e) (bound.Negate' p b) is =
@@ -71,7 +71,7 @@ module _ (main : Block) (c : Configuration) (i : ℕ) (f : Frame) (linked : AreL
   expression_reads (Binary op left right) b is = absurd is
 
   -- a condition that is bound has its truth
-  pub condition_reads : (t : Condition) (b : BoundCondition) → IsConditionBound main f.block t b → CanTest c i b × (bound_truth c i b ≡ truth main c i t)
+  pub condition_reads : (t : Condition) (b : LocatedCondition) → IsConditionBound main f.block t b → CanTest c i b × (bound_truth c i b ≡ truth main c i t)
   condition_reads (Odd e) (bound_condition.Odd b) is =
       let r = expression_reads e b is in (r.0, ap (λ v. after v (λ x. Ok (is_odd x))) r.1)
   condition_reads (Compare relation left right) (bound_condition.Compare relation' first second) is =

@@ -1,5 +1,6 @@
 -- A condition of the machine's next step, in the newest frame.
 use Rattle.std.proofs.Common.{◌≡◌, ℕ, zero, suc, ◌-◌, ◌<◌, Bool, true, List, [], ◌∷◌, ◌++◌, length, slice_get, Option, Some, None, Result, Ok, Err, refl, sym, ap, ◌∙◌, subst, arith}
+use Rattle.std.specs.Prelude.{option_map}
 use Rattle.std.specs.Option.{option_map_or}
 use Rattle.std.specs.Result.{result_unwrap_or}
 use Rattle.std.proofs.Math.Logic.{∥∥₁_elim}
@@ -14,14 +15,15 @@ use Rattle.pl0_meaning.specs.Values.{Frame, Configuration, return_of, first_step
 use Rattle.pl0_meaning.specs.Frames.{AreLinked}
 use Rattle.pl0_meaning.specs.Linking.{frame_at-top}
 use Rattle.pl0_machine.specs.Machine.{Standing, program, configuration, frames, top_of, IsNext}
-use Rattle.dbg_plan.specs.declared.bound.BoundExpression.{BoundExpression}
-use Rattle.dbg_plan.specs.declared.bound.BoundExpression.TheVariants.{Number, Variable, Negate', Binary'}
-use Rattle.dbg_plan.specs.declared.bound.BoundCondition.{BoundCondition}
-use Rattle.dbg_plan.specs.declared.bound.BoundCondition.TheVariants.{Odd, Compare}
-use Rattle.dbg_plan.specs.declared.breakpoint.Guard.{Guard}
+use Rattle.dbg_plan.specs.declared.located.LocatedExpression.{LocatedExpression}
+use Rattle.dbg_plan.specs.declared.located.LocatedExpression.TheVariants.{Number, Variable, Negate', Binary'}
+use Rattle.dbg_plan.specs.declared.located.LocatedCondition.{LocatedCondition}
+use Rattle.dbg_plan.specs.declared.located.LocatedCondition.TheVariants.{Odd, Compare}
+use Rattle.dbg_plan.specs.declared.breakpoint.BoundCondition.{BoundCondition}
 use Rattle.dbg_plan.specs.declared.breakpoint.Breakpoint.{Breakpoint}
 use Rattle.dbg_plan.specs.declared.evaluation.EvalFault.{EvalFault}
 use Rattle.dbg_plan.specs.Bound.{IsConditionBound}
+use Rattle.dbg_plan.specs.Breakpoints.{text_condition, plain_breakpoint}
 use Rattle.dbg_plan.specs.Due.{true_or_faulty}
 use Rattle.dbg_plan.specs.Counting.{holds_in, holds_now}
 use Rattle.dbg_plan.specs.Values.{told}
@@ -75,13 +77,13 @@ stands_in main f n st =
 
 -- ---- facts that have at most one proof
 
-pub CanRead-prop : (c : Configuration) (i : ℕ) (b : BoundExpression) → IsProp (CanRead c i b)
+pub CanRead-prop : (c : Configuration) (i : ℕ) (b : LocatedExpression) → IsProp (CanRead c i b)
 CanRead-prop c i (Number n) = Unit-prop
 CanRead-prop c i (Variable level k) = hlevel codes
 CanRead-prop c i (Negate' p b) = CanRead-prop c i b
 CanRead-prop c i (Binary' op p first q second) = ×_prop (CanRead-prop c i first) (CanRead-prop c i second)
 
-CanTest-prop : (c : Configuration) (i : ℕ) (b : BoundCondition) → IsProp (CanTest c i b)
+CanTest-prop : (c : Configuration) (i : ℕ) (b : LocatedCondition) → IsProp (CanTest c i b)
 CanTest-prop c i (Odd b) = CanRead-prop c i b
 CanTest-prop c i (Compare relation first second) = ×_prop (CanRead-prop c i first) (CanRead-prop c i second)
 
@@ -91,29 +93,29 @@ coded_truth = hlevel (codes, run_fault.the_row.coded)
 -- ---- the condition
 
 -- it can be tested in the newest frame, and gives the truth of its source
-abbrev pub IsTested : Block → Configuration → ℕ → Guard → Type 0
-IsTested main c top guard = CanTest c top guard.bound × (bound_truth c top guard.bound ≡ truth main c (length c - 1) (plain_condition guard.condition))
+abbrev pub IsTested : Block → Configuration → ℕ → BoundCondition → Type 0
+IsTested main c top guard = CanTest c top guard.located × (bound_truth c top guard.located ≡ truth main c (length c - 1) (plain_condition guard.condition))
 
-tested : (main : Block) (c : Configuration) (n top : ℕ) (guard : Guard) → AreLinked main c → IsNext main (top_of c) n → IsConditionBound main (step_path main n) (plain_condition guard.condition) guard.bound → top ≡ length c - 1 → IsTested main c top guard
+tested : (main : Block) (c : Configuration) (n top : ℕ) (guard : BoundCondition) → AreLinked main c → IsNext main (top_of c) n → IsConditionBound main (step_path main n) (plain_condition guard.condition) guard.located → top ≡ length c - 1 → IsTested main c top guard
 tested main [] n top guard linked next is at = absurd next
 tested main (f ∷ below) n top guard linked next is at =
     let here : length below ≡ length (f ∷ below) - 1 = omega arith in
-    let bound = subst (λ q. IsConditionBound main q (plain_condition guard.condition) guard.bound) (sym (stands_in main f n next)) is in
+    let bound = subst (λ q. IsConditionBound main q (plain_condition guard.condition) guard.located) (sym (stands_in main f n next)) is in
     subst (λ i. IsTested main (f ∷ below) i guard) (sym at)
-    (condition_reads main (f ∷ below) (length (f ∷ below) - 1) f linked (frame_at-top f below (length (f ∷ below) - 1) here) (plain_condition guard.condition) guard.bound bound)
+    (condition_reads main (f ∷ below) (length (f ∷ below) - 1) f linked (frame_at-top f below (length (f ∷ below) - 1) here) (plain_condition guard.condition) guard.located bound)
 
-pub is_tested : (main : Block) (c : Configuration) (n top : ℕ) (guard : Guard) → ∥ AreLinked main c ∥₁ → IsNext main (top_of c) n → IsConditionBound main (step_path main n) (plain_condition guard.condition) guard.bound → top ≡ length c - 1 → IsTested main c top guard
+pub is_tested : (main : Block) (c : Configuration) (n top : ℕ) (guard : BoundCondition) → ∥ AreLinked main c ∥₁ → IsNext main (top_of c) n → IsConditionBound main (step_path main n) (plain_condition guard.condition) guard.located → top ≡ length c - 1 → IsTested main c top guard
 is_tested main c n top guard linked next is at =
-    ∥∥₁_elim linked (×_prop (CanTest-prop c top guard.bound) (Coded-set coded_truth _ _)) (λ l. tested main c n top guard l next is at)
+    ∥∥₁_elim linked (×_prop (CanTest-prop c top guard.located) (Coded-set coded_truth _ _)) (λ l. tested main c n top guard l next is at)
 
 unless_faulty : (r : Result Bool EvalFault) → result_unwrap_or r true ≡ true_or_faulty (told r)
 unless_faulty (Ok b) = refl
 unless_faulty (Err fault) = refl
 
 -- what is told of the condition is whether it holds
-pub holds_told : (m : Standing) (b : Breakpoint) (guard : Guard) (top : ℕ) (r : Result Bool EvalFault) (result : Bool) → configuration m ≡ Some (frames m) → b.guard ≡ Some guard → IsTested (program m) (frames m) top guard → bound_truth (frames m) top guard.bound ≡ told r → result ≡ result_unwrap_or r true → result ≡ holds_now m b
+pub holds_told : (m : Standing) (b : Breakpoint) (guard : BoundCondition) (top : ℕ) (r : Result Bool EvalFault) (result : Bool) → configuration m ≡ Some (frames m) → b.condition ≡ Some guard → IsTested (program m) (frames m) top guard → bound_truth (frames m) top guard.located ≡ told r → result ≡ result_unwrap_or r true → result ≡ holds_now m b
 holds_told m b guard top r result there is t value e =
     e ∙ unless_faulty r
     ∙ ap true_or_faulty (sym value ∙ t.1)
-    ∙ ap (λ g. holds_in (program m) (Some (frames m)) g) (sym is)
-    ∙ ap (λ o. holds_in (program m) o b.guard) (sym there)
+    ∙ ap (λ g. holds_in (program m) (Some (frames m)) (option_map text_condition g)) (sym is)
+    ∙ ap (λ o. holds_in (program m) o (plain_breakpoint b).condition) (sym there)

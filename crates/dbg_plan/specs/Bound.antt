@@ -4,25 +4,25 @@ use Rattle.pl0_tree.specs.Tree.{Block, Expression, Variable, Number, Negate, Bin
 use Rattle.pl0_tree.specs.Scope.{Path, block_at, Meaning, AConstant, AVariable, AProcedure, Home, home}
 use Rattle.pl0_meaning.specs.Values.{constant_of}
 use Rattle.pl0_unit.specs.Code.{level}
-use Rattle.dbg_plan.specs.declared.bound.BoundExpression.{BoundExpression}
-use Rattle.dbg_plan.specs.declared.bound.BoundExpression.TheVariants as bound
-use Rattle.dbg_plan.specs.declared.bound.BoundCondition.{BoundCondition}
-use Rattle.dbg_plan.specs.declared.bound.BoundCondition.TheVariants as bound_condition
+use Rattle.dbg_plan.specs.declared.located.LocatedExpression.{LocatedExpression}
+use Rattle.dbg_plan.specs.declared.located.LocatedExpression.TheVariants as bound
+use Rattle.dbg_plan.specs.declared.located.LocatedCondition.{LocatedCondition}
+use Rattle.dbg_plan.specs.declared.located.LocatedCondition.TheVariants as bound_condition
 
 -- what the block h declares, read in the block q: a constant by its value, a variable by how many static links lead to
 -- its frame and by its index there
-abbrev pub IsDeclaredBound : Block → Path → Path → Meaning → BoundExpression → Type 0
+abbrev pub IsDeclaredBound : Block → Path → Path → Meaning → LocatedExpression → Type 0
 IsDeclaredBound main q h (AConstant k) b = (v : ℤ) × (constant_of (block_at main h) k ≡ Some v) × (b ≡ bound.Number v)
 IsDeclaredBound main q h (AVariable k) b = b ≡ bound.Variable (level q h) k
 IsDeclaredBound main q h (AProcedure k) b = b ≡ bound.Number (pos 0)
 
 -- a name that can't be read counts as 0, as in the meaning
-abbrev pub IsNameBound : Block → Path → Option Home → BoundExpression → Type 0
+abbrev pub IsNameBound : Block → Path → Option Home → LocatedExpression → Type 0
 IsNameBound main q None b = b ≡ bound.Number (pos 0)
 IsNameBound main q (Some h) b = IsDeclaredBound main q h.path h.declaration.meaning b
 
 -- The bound expression is the expression, read in the block q.
-abbrev pub IsExpressionBound : Block → Path → Expression → BoundExpression → Type 0
+abbrev pub IsExpressionBound : Block → Path → Expression → LocatedExpression → Type 0
 IsExpressionBound main q (Number n) b = b ≡ bound.Number n
 IsExpressionBound main q (Variable x) b = IsNameBound main q (home main q x.word) b
 IsExpressionBound main q (Negate e) (bound.Negate' p b) = IsExpressionBound main q e b
@@ -31,7 +31,7 @@ IsExpressionBound main q (Binary op left right) (bound.Binary' op' p first r sec
     (op' ≡ op) × IsExpressionBound main q left first × IsExpressionBound main q right second
 IsExpressionBound main q (Binary op left right) b = ⊥
 
-abbrev pub IsConditionBound : Block → Path → Condition → BoundCondition → Type 0
+abbrev pub IsConditionBound : Block → Path → Condition → LocatedCondition → Type 0
 IsConditionBound main q (Odd e) (bound_condition.Odd b) = IsExpressionBound main q e b
 IsConditionBound main q (Compare relation left right) (bound_condition.Compare relation' first second) =
     (relation' ≡ relation) × IsExpressionBound main q left first × IsExpressionBound main q right second

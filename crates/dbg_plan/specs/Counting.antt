@@ -8,11 +8,11 @@ use Rattle.pl0_unit.specs.declared.unit.Unit.{Unit as Compiled}
 use Rattle.pl0_machine.specs.Machine.{Standing, program_of, program, configuration, frames, top_of, IsNext}
 use Rattle.dbg_plan.specs.declared.breakpoint.Rule.{Rule}
 use Rattle.dbg_plan.specs.declared.breakpoint.Rule.TheVariants.{From, Every}
-use Rattle.dbg_plan.specs.declared.breakpoint.Guard.{Guard}
 use Rattle.dbg_plan.specs.declared.breakpoint.Breakpoint.{Breakpoint}
+use Rattle.dbg_plan.specs.Breakpoints.{TextCondition, plain_breakpoint, plain_breakpoints}
 use Rattle.std.specs.List.{list_any}
 use Rattle.dbg_plan.specs.Due.{holds, arrivals, is_hit}
-use Rattle.dbg_plan.specs.Plans.{Listed, IsPlanOf, IsGuardAt}
+use Rattle.dbg_plan.specs.Plans.{Listed, IsPlanOf, IsBoundAt}
 
 -- what is kept of a number of arrivals
 abbrev pub reduced : Option Rule → ℕ → ℕ
@@ -32,18 +32,18 @@ is_due None n = true
 is_due (Some (From k)) n = nat_eq n k
 is_due (Some (Every k)) n = nat_eq n 0
 
-abbrev pub holds_in : Block → Option Configuration → Option Guard → Bool
-holds_in main None guard = false
-holds_in main (Some c) guard = holds main c guard
+abbrev pub holds_in : Block → Option Configuration → Option TextCondition → Bool
+holds_in main None condition = false
+holds_in main (Some c) condition = holds main c condition
 
 -- a breakpoint's condition, if it has one, holds in the machine's newest frame
 abbrev pub holds_now : Standing → Breakpoint → Bool
-holds_now m b = holds_in (program m) (configuration m) b.guard
+holds_now m b = holds_in (program m) (configuration m) (plain_breakpoint b).condition
 
 -- the machine stands at the breakpoint's step, and the condition is bound there
 pub record IsMetHere (m : Standing) (b : Breakpoint) : Type 0 where
   pub next : IsNext (program m) (top_of (frames m)) b.step
-  pub bound : IsGuardAt (program m) b.step b.guard
+  pub bound : IsBoundAt (program m) b.step b.condition
 
 abbrev pub increased_at : List ℕ → Breakpoint → ℕ
 increased_at counts b = increased b.rule (slice_index counts b.number)
@@ -68,11 +68,6 @@ any_due f (b ∷ bs) counts = due_at f b counts || any_due f bs (counted_at f b 
 
 -- ---- the counts of a plan
 
--- no plan is the empty one
-abbrev pub breakpoints_of : Option Listed → List Breakpoint
-breakpoints_of None = []
-breakpoints_of (Some plan) = plan.breakpoints
-
 abbrev pub MayBePlanOf : Compiled → Option Listed → Type 0
 MayBePlanOf unit None = Unit {0}
 MayBePlanOf unit (Some plan) = IsPlanOf unit plan
@@ -84,7 +79,7 @@ CountFrom number n (b ∷ bs) counts = (slice_index counts n ≡ reduced b.rule 
 
 -- the counts are those of the arrivals at the positions from `first` up to, but not including, `next`
 abbrev pub AreCounts : Block → List Breakpoint → ℕ → ℕ → List ℕ → Type 0
-AreCounts main breakpoints first next counts = CountFrom (λ b. arrivals main b first next) 0 breakpoints counts
+AreCounts main breakpoints first next counts = CountFrom (λ b. arrivals main (plain_breakpoint b) first next) 0 breakpoints counts
 
 -- the steps of a program stand in the order of their places
 pub record IsInOrder (unit : Compiled) : Type 0 where
@@ -93,4 +88,4 @@ pub record IsInOrder (unit : Compiled) : Type 0 where
 -- one more position was considered, and whether a breakpoint is due there
 pub record CountsOn (main : Block) (breakpoints : List Breakpoint) (position first : ℕ) (old : List ℕ) (due : Bool) (new : List ℕ) : Type 0 where
   pub counts : AreCounts main breakpoints first (position + 1) new
-  pub due_is : due ≡ list_any (is_hit main first position) breakpoints
+  pub due_is : due ≡ list_any (is_hit main first position) (plain_breakpoints breakpoints)

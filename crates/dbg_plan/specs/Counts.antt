@@ -3,8 +3,8 @@ use Rattle.std.specs.Prelude.{◌≡◌, ℕ, ◌+◌, ◌≤◌, Bool, true, fa
 use Rattle.std.specs.Arc.{arc_value}
 use Rattle.pl0_machine.specs.Machine.{Standing, program}
 use Rattle.dbg_plan.specs.declared.debuggee.Debuggee.TheInside.{Inside}
-use Rattle.dbg_plan.specs.Plans.{Listed, IsNumbered}
-use Rattle.dbg_plan.specs.Counting.{AreCounts, breakpoints_of, MayBePlanOf, IsInOrder}
+use Rattle.dbg_plan.specs.Plans.{Listed, IsNumbered, breakpoints_of, listed_of}
+use Rattle.dbg_plan.specs.Counting.{AreCounts, MayBePlanOf, IsInOrder}
 use Rattle.dbg_plan.specs.Debugged.{Debugged, IsRunning}
 
 abbrev pub plan_of : Inside → Option Listed
@@ -19,7 +19,7 @@ abbrev pub next_of : Inside → ℕ
 next_of d = next_at d.machine.position d.considered
 
 abbrev pub debugged_of : Inside → Debugged
-debugged_of d = record { unit = d.machine.unit; position = d.machine.position; breakpoints = breakpoints_of (plan_of d); first = d.first; next = next_of d }
+debugged_of d = record { unit = d.machine.unit; position = d.machine.position; breakpoints = breakpoints_of (plan_of d); counted_from = d.counted_from; next = next_of d }
 
 -- where a position was considered, the program runs
 abbrev pub StandsBy : Standing → Bool → Type 0
@@ -27,10 +27,10 @@ StandsBy m true = IsRunning m
 StandsBy m false = Unit {0}
 
 pub record IsCounting (d : Inside) : Type 0 where
-  pub numbered : IsNumbered (breakpoints_of (plan_of d))
+  pub numbered : IsNumbered (listed_of (plan_of d))
   pub fits : MayBePlanOf d.machine.unit (plan_of d)
   pub room : length d.counts ≡ 256
-  pub counts : AreCounts (program d.machine) (breakpoints_of (plan_of d)) d.first (next_of d) d.counts
-  pub begun : d.first ≤ next_of d
+  pub counts : AreCounts (program d.machine) (listed_of (plan_of d)) d.counted_from (next_of d) d.counts
+  pub begun : d.counted_from ≤ next_of d
   pub stands : StandsBy d.machine d.considered
   pub in_order : IsInOrder d.machine.unit

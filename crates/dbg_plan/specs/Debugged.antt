@@ -4,18 +4,18 @@ use Rattle.pl0_tree.specs.Tree.{Block}
 use Rattle.pl0_tree.specs.Plain.{plain_block}
 use Rattle.pl0_unit.specs.declared.unit.Unit.{Unit as Compiled}
 use Rattle.pl0_machine.specs.Machine.{Standing, depth_of}
-use Rattle.dbg_plan.specs.declared.breakpoint.Breakpoint.{Breakpoint}
+use Rattle.dbg_plan.specs.Breakpoints.{Breakpoint}
 use Rattle.dbg_plan.specs.declared.mode.Mode.{Mode}
 use Rattle.dbg_plan.specs.declared.mode.Reason.{Reason}
 use Rattle.dbg_plan.specs.Due.{due}
 
--- A program at a position, and its breakpoints in force, which count from position `first`. The positions below
+-- A program at a position, and its breakpoints in force, which count from position `counted_from`. The positions below
 -- `next` were considered.
 pub record Debugged : Type 0 where
   pub unit : Compiled
   pub position : ℕ
   pub breakpoints : List Breakpoint
-  pub first : ℕ
+  pub counted_from : ℕ
   pub next : ℕ
 
 abbrev pub machine_of : Debugged → Standing
@@ -40,4 +40,4 @@ pub record IsNext (d : Debugged) : Type 0 where
 
 -- why the position is due, if it is
 abbrev pub due_now : Debugged → Mode → Option Reason
-due_now d mode = due (program_of d) d.breakpoints d.first mode d.position
+due_now d mode = due (program_of d) d.breakpoints d.counted_from mode d.position

@@ -3,15 +3,13 @@ use Rattle.std.specs.Prelude.{ℕ, zero, suc, ◌+◌, ◌-◌, ◌%◌, Bool, t
 use Rattle.std.specs.List.{list_any}
 use Rattle.pl0_tree.specs.declared.tree.Place.{Place}
 use Rattle.pl0_tree.specs.Tree.{Block}
-use Rattle.pl0_tree.specs.Plain.{plain_condition}
 use Rattle.pl0_tree.specs.Steps.{StepAt, steps}
 use Rattle.pl0_meaning.specs.declared.RunFault.{RunFault}
 use Rattle.pl0_meaning.specs.Values.{Configuration, truth, next_step}
 use Rattle.pl0_meaning.specs.Runs.{at}
 use Rattle.dbg_plan.specs.declared.breakpoint.Rule.{Rule}
 use Rattle.dbg_plan.specs.declared.breakpoint.Rule.TheVariants.{From, Every}
-use Rattle.dbg_plan.specs.declared.breakpoint.Guard.{Guard}
-use Rattle.dbg_plan.specs.declared.breakpoint.Breakpoint.{Breakpoint}
+use Rattle.dbg_plan.specs.Breakpoints.{TextCondition, Breakpoint}
 use Rattle.dbg_plan.specs.declared.mode.Mode.{Mode}
 use Rattle.dbg_plan.specs.declared.mode.Mode.TheVariants.{Entry, Continue, In, Over, Out}
 use Rattle.dbg_plan.specs.declared.mode.Reason.{Reason}
@@ -37,13 +35,13 @@ true_or_faulty (Ok holds) = holds
 true_or_faulty (Err fault) = true
 
 -- the condition, if there is one, holds in the newest frame
-abbrev pub holds : Block → Configuration → Option Guard → Bool
+abbrev pub holds : Block → Configuration → Option TextCondition → Bool
 holds main c None = true
-holds main c (Some guard) = true_or_faulty (truth main c (length c - 1) (plain_condition guard.condition))
+holds main c (Some condition) = true_or_faulty (truth main c (length c - 1) condition.condition)
 
 -- the program stands at the breakpoint's step, and its condition holds there
 abbrev pub arrives : Block → Breakpoint → Configuration → Bool
-arrives main b c = is_at main b.step c && holds main c b.guard
+arrives main b c = is_at main b.step c && holds main c b.condition
 
 abbrev pub arrives_in : Block → Breakpoint → Option Configuration → Bool
 arrives_in main b None = false

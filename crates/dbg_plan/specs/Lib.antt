@@ -1,10 +1,12 @@
+pub mod ReadsAs
+pub mod Breakpoints
 pub mod Due
 pub mod Bound
 pub mod Plans
 pub mod Debugged
 pub mod Advances
-pub mod Answers
-pub mod Answering
+pub mod Resolutions
+pub mod Resolving
 pub mod Table
 pub mod Values
 pub mod Counting

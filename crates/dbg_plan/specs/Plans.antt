@@ -1,5 +1,5 @@
 -- Plans: breakpoints in the order asked.
-use Rattle.std.specs.Prelude.{◌≡◌, ℕ, ◌+◌, ◌<◌, ◌≤◌, Bool, false, nat_eq, List, [], ◌∷◌, length, map, filter, Option, Some, None}
+use Rattle.std.specs.Prelude.{◌≡◌, ℕ, ◌+◌, ◌<◌, ◌≤◌, Bool, false, nat_eq, All, List, [], ◌∷◌, length, map, filter, Option, Some, None}
 use Rattle.std.specs.List.{list_any}
 use Rattle.pl0_tree.specs.Tree.{Block}
 use Rattle.pl0_tree.specs.Steps.{steps, step_path}
@@ -8,8 +8,9 @@ use Rattle.pl0_unit.specs.declared.unit.Unit.{Unit as Compiled}
 use Rattle.pl0_machine.specs.Machine.{program_of}
 use Rattle.dbg_plan.specs.declared.breakpoint.Rule.{Rule}
 use Rattle.dbg_plan.specs.declared.breakpoint.Rule.TheVariants.{From, Every}
-use Rattle.dbg_plan.specs.declared.breakpoint.Guard.{Guard}
+use Rattle.dbg_plan.specs.declared.breakpoint.BoundCondition.{BoundCondition}
 use Rattle.dbg_plan.specs.declared.breakpoint.Breakpoint.{Breakpoint}
+use Rattle.dbg_plan.specs.Breakpoints.{Breakpoint as PlainBreakpoint, plain_breakpoints}
 use Rattle.dbg_plan.specs.Bound.{IsConditionBound}
 
 -- What contracts see of a plan: for how many steps it was made, its breakpoints in the order asked, and for each address
@@ -54,17 +55,36 @@ unfoldable pub watched_lines : List Breakpoint → List (Option ℕ) → List Bo
 watched_lines breakpoints lines = map (has_breakpoint breakpoints) lines
 
 -- a condition is bound to the names of the block of step n
-abbrev pub IsGuardAt : Block → ℕ → Option Guard → Type 0
-IsGuardAt main n None = Unit {0}
-IsGuardAt main n (Some guard) = IsConditionBound main (step_path main n) (plain_condition guard.condition) guard.bound
+abbrev pub IsBoundAt : Block → ℕ → Option BoundCondition → Type 0
+IsBoundAt main n None = Unit {0}
+IsBoundAt main n (Some c) = IsConditionBound main (step_path main n) (plain_condition c.condition) c.located
 
 -- each breakpoint stands at a step of the program, and its condition is bound there
 abbrev pub AreAtSteps : Block → List Breakpoint → Type 0
 AreAtSteps main [] = Unit {0}
-AreAtSteps main (b ∷ bs) = (b.step < length (steps main)) × IsGuardAt main b.step b.guard × AreAtSteps main bs
+AreAtSteps main (b ∷ bs) = (b.step < length (steps main)) × IsBoundAt main b.step b.condition × AreAtSteps main bs
 
--- the plan was made for this program
-pub record IsPlanOf (unit : Compiled) (plan : Listed) : Type 0 where
-  pub steps : plan.steps ≡ length (steps (program_of unit))
-  pub bound : AreAtSteps (program_of unit) plan.breakpoints
-  pub watched : plan.watched ≡ watched_lines plan.breakpoints unit.lines.items
+-- the plan was made for a program, beside whose instructions stand these steps
+pub record IsPlanFor (main : Block) (lines : List (Option ℕ)) (plan : Listed) : Type 0 where
+  pub steps : plan.steps ≡ length (steps main)
+  pub bound : AreAtSteps main plan.breakpoints
+  pub watched : plan.watched ≡ watched_lines plan.breakpoints lines
+
+abbrev pub IsPlanOf : Compiled → Listed → Type 0
+IsPlanOf unit plan = IsPlanFor (program_of unit) unit.lines.items plan
+
+-- ---- the breakpoints of a plan, as data
+
+-- no plan is the empty one
+abbrev pub listed_of : Option Listed → List Breakpoint
+listed_of None = []
+listed_of (Some plan) = plan.breakpoints
+
+abbrev pub breakpoints_of : Option Listed → List PlainBreakpoint
+breakpoints_of plan = plain_breakpoints (listed_of plan)
+
+-- they are few, each at a step of the program, and their rules count from 1
+pub record AreBreakpointsOf (main : Block) (breakpoints : List PlainBreakpoint) : Type 0 where
+  pub few : length breakpoints ≤ breakpoint_limit
+  pub at_steps : All (λ b. b.step < length (steps main)) breakpoints
+  pub rules : All (λ b. IsRule b.rule) breakpoints

@@ -7,10 +7,10 @@ use Rattle.pl0_meaning.specs.Values.{Configuration, frame_at, number_of, constan
 use Rattle.pl0_machine.specs.Machine.{parent_of}
 use Rattle.dbg_plan.specs.declared.binding.Located.{Located}
 use Rattle.dbg_plan.specs.declared.binding.Located.TheVariants as at
-use Rattle.dbg_plan.specs.declared.bound.BoundExpression.{BoundExpression}
-use Rattle.dbg_plan.specs.declared.bound.BoundExpression.TheVariants.{Number, Variable, Negate', Binary'}
-use Rattle.dbg_plan.specs.declared.bound.BoundCondition.{BoundCondition}
-use Rattle.dbg_plan.specs.declared.bound.BoundCondition.TheVariants.{Odd, Compare}
+use Rattle.dbg_plan.specs.declared.located.LocatedExpression.{LocatedExpression}
+use Rattle.dbg_plan.specs.declared.located.LocatedExpression.TheVariants.{Number, Variable, Negate', Binary'}
+use Rattle.dbg_plan.specs.declared.located.LocatedCondition.{LocatedCondition}
+use Rattle.dbg_plan.specs.declared.located.LocatedCondition.TheVariants.{Odd, Compare}
 
 -- variable k of the frame to which so many links lead from frame i
 abbrev pub number_up : Configuration → ℕ → ℕ → ℕ → Option ℤ
@@ -18,26 +18,26 @@ number_up c zero k i = number_of (frame_at c i) k
 number_up c (suc level) k i = option_and_then (number_up c level k) (parent_of i (frame_at c i))
 
 -- the value of a bound expression in frame i
-abbrev pub bound_value : Configuration → ℕ → BoundExpression → Result ℤ RunFault
+abbrev pub bound_value : Configuration → ℕ → LocatedExpression → Result ℤ RunFault
 bound_value c i (Number n) = Ok n
 bound_value c i (Variable level k) = Ok (or_zero (number_up c level k i))
 bound_value c i (Negate' p b) = after (bound_value c i b) (λ x. checked (neg_ℤ x))
 bound_value c i (Binary' op p first q second) =
     after (bound_value c i first) (λ x. after (bound_value c i second) (λ y. operation op x y))
 
-abbrev pub bound_truth : Configuration → ℕ → BoundCondition → Result Bool RunFault
+abbrev pub bound_truth : Configuration → ℕ → LocatedCondition → Result Bool RunFault
 bound_truth c i (Odd b) = after (bound_value c i b) (λ x. Ok (is_odd x))
 bound_truth c i (Compare relation first second) =
     after (bound_value c i first) (λ x. after (bound_value c i second) (λ y. Ok (comparison relation x y)))
 
 -- the links and variables of a bound expression are there
-abbrev pub CanRead : Configuration → ℕ → BoundExpression → Type 0
+abbrev pub CanRead : Configuration → ℕ → LocatedExpression → Type 0
 CanRead c i (Number n) = Unit {0}
 CanRead c i (Variable level k) = IsSome (number_up c level k i)
 CanRead c i (Negate' p b) = CanRead c i b
 CanRead c i (Binary' op p first q second) = CanRead c i first × CanRead c i second
 
-abbrev pub CanTest : Configuration → ℕ → BoundCondition → Type 0
+abbrev pub CanTest : Configuration → ℕ → LocatedCondition → Type 0
 CanTest c i (Odd b) = CanRead c i b
 CanTest c i (Compare relation first second) = CanRead c i first × CanRead c i second
 
@@ -49,6 +49,6 @@ located b level (AConstant k) = at.Number (or_zero (constant_of (Some b) k))
 located b level (AVariable k) = at.Variable level k
 located b level (AProcedure k) = at.Number (pos 0)
 
-abbrev pub bound_of : Located → BoundExpression
+abbrev pub bound_of : Located → LocatedExpression
 bound_of (at.Number n) = Number n
 bound_of (at.Variable level k) = Variable level k

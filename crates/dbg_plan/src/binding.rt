@@ -11,7 +11,7 @@ ghost use Rattle.pl0_tree.specs.declared.tree.Procedure.{out-Procedure};
 ghost use Rattle.dbg_plan.specs.Bound.{IsNameBound, IsExpressionBound, IsConditionBound};
 ghost use Rattle.dbg_plan.specs.Reads.{located, bound_of};
 
-use crate::bound::{BoundCondition, BoundExpression};
+use crate::located::{LocatedCondition, LocatedExpression};
 use pl0_syntax::block;
 use pl0_tree::{Block, Condition, Constant, Expression, Name, Nesting, Procedure};
 use std::alloc::{AllocError, Global};
@@ -88,12 +88,12 @@ pub fn locate(main: &Block, table: &[Option<Nesting>], number: u32, text: &str) 
 }
 
 // A name that was looked up, as an expression.
-fn expression_of(located: Located) -> BoundExpression
+fn expression_of(located: Located) -> LocatedExpression
     ensures { result ≡ bound_of located }
 {
     match located {
-        Located::Number(number) => BoundExpression::Number(number),
-        Located::Variable { level, index } => BoundExpression::Variable { level, index },
+        Located::Number(number) => LocatedExpression::Number(number),
+        Located::Variable { level, index } => LocatedExpression::Variable { level, index },
     }
 }
 
@@ -103,7 +103,7 @@ fn bind_expression(
     table: &[Option<Nesting>],
     number: u32,
     expression: &Expression,
-) -> Result<BoundExpression, AllocError>
+) -> Result<LocatedExpression, AllocError>
     requires table { AreNestings (plain_block main.now) table.now (blocks (plain_block main.now)) }
     requires within { number < length table.now }
     ensures { (q : Path) → slice_get (blocks (plain_block main.now)) number ≡ Some q → IfOk result (IsExpressionBound (plain_block main.now) q (plain_expression expression.now)) }
@@ -113,17 +113,17 @@ fn bind_expression(
             let located = locate(main, table, number, name.text.as_str());
             Ok(expression_of(located))
         }
-        Expression::Number(value) => Ok(BoundExpression::Number(*value)),
+        Expression::Number(value) => Ok(LocatedExpression::Number(*value)),
         Expression::Negate(inner) => {
             let inner = bind_expression(alloc, main, table, number, inner)?;
-            Ok(BoundExpression::Negate(Box::new(alloc, inner)?))
+            Ok(LocatedExpression::Negate(Box::new(alloc, inner)?))
         }
         Expression::Binary(operator, left, right) => {
             let left = bind_expression(alloc, main, table, number, left)?;
             let right = bind_expression(alloc, main, table, number, right)?;
             let left = Box::new(alloc, left)?;
             let right = Box::new(alloc, right)?;
-            Ok(BoundExpression::Binary(*operator, left, right))
+            Ok(LocatedExpression::Binary(*operator, left, right))
         }
     }
 }
@@ -136,7 +136,7 @@ pub fn bind_condition(
     table: &[Option<Nesting>],
     number: u32,
     condition: &Condition,
-) -> Result<BoundCondition, AllocError>
+) -> Result<LocatedCondition, AllocError>
     requires table { AreNestings (plain_block main.now) table.now (blocks (plain_block main.now)) }
     requires within { number < length table.now }
     ensures { (q : Path) → slice_get (blocks (plain_block main.now)) number ≡ Some q → IfOk result (IsConditionBound (plain_block main.now) q (plain_condition condition.now)) }
@@ -144,12 +144,12 @@ pub fn bind_condition(
     match condition {
         Condition::Odd(expression) => {
             let bound = bind_expression(alloc, main, table, number, expression)?;
-            Ok(BoundCondition::Odd(bound))
+            Ok(LocatedCondition::Odd(bound))
         }
         Condition::Compare(relation, left, right) => {
             let left = bind_expression(alloc, main, table, number, left)?;
             let right = bind_expression(alloc, main, table, number, right)?;
-            Ok(BoundCondition::Compare(*relation, left, right))
+            Ok(LocatedCondition::Compare(*relation, left, right))
         }
     }
 }

@@ -1,7 +1,14 @@
 // Breakpoints.
 
-use crate::bound::BoundCondition;
+ghost use Rattle.std.specs.Prelude.{string_bytes};
+ghost use Rattle.pl0_tree.specs.Plain.{plain_condition};
+ghost use Rattle.dbg_plan.specs.ReadsAs.{ReadsAs};
+
+use crate::located::LocatedCondition;
 use pl0_tree::{Condition, StepNo};
+
+/// The most breakpoints that a plan may have.
+pub const BREAKPOINT_LIMIT: usize = 256;
 
 /// Which arrivals at a breakpoint are due. Arrivals count from 1.
 #[derive(Clone, Copy, Debug, PartialEq, Eq)]
@@ -12,11 +19,14 @@ pub enum Rule {
     Every(u32),
 }
 
-/// A condition, with what its names are bound to at the breakpoint's step.
+/// A condition with its text, and with what its names mean at the breakpoint's step.
 #[derive(Drop)]
-pub struct Guard {
+pub struct BoundCondition {
+    pub text: String,
     pub condition: Condition,
-    pub bound: BoundCondition,
+    pub located: LocatedCondition,
+    // The condition is what the text reads as.
+    pub ghost reads: { ∥ ReadsAs (string_bytes text) (plain_condition condition) ∥₁ },
 }
 
 /// A breakpoint: its number in its plan, its step, and what an arrival has to meet.
@@ -24,6 +34,6 @@ pub struct Guard {
 pub struct Breakpoint {
     pub number: usize,
     pub step: StepNo,
-    pub guard: Option<Guard>,
+    pub condition: Option<BoundCondition>,
     pub rule: Option<Rule>,
 }

@@ -3,10 +3,11 @@
 ghost use Rattle.std.specs.Prelude.{◌≡◌, ◌<◌, ◌≤◌, ℕ, length, All, option_map, if◌then◌else◌, Some};
 ghost use Rattle.std.specs.Arc.{arc_value};
 ghost use Rattle.pl0_machine.specs.Machine.{program, frames, top_of, IsNext};
+ghost use Rattle.dbg_plan.specs.Plans.{listed_of};
 ghost use Rattle.dbg_plan.specs.declared.mode.Reason.TheVariants as reason;
 ghost use Rattle.dbg_plan.specs.Due.{reason_of, depth_at};
 ghost use Rattle.dbg_plan.specs.Debugged.{IsRunning};
-ghost use Rattle.dbg_plan.specs.Counting.{increased, is_due, holds_now, counted, counted_at, any_due, due_at, AreCounts, CountsOn, MayBePlanOf, IsMetHere, breakpoints_of, IsInOrder};
+ghost use Rattle.dbg_plan.specs.Counting.{increased, is_due, holds_now, counted, counted_at, any_due, due_at, AreCounts, CountsOn, MayBePlanOf, IsMetHere, IsInOrder};
 
 use crate::breakpoint::{Breakpoint, Rule};
 use crate::evaluation::is_met;
@@ -84,13 +85,13 @@ pub fn count_position(machine: &Machine, plan: &Option<Arc<Plan>>, counts: &mut 
     requires room { length counts.old ≡ 256 }
     // Whatever position the counts begin at, they go on, and tell what is due.
     ensures { (first : ℕ) → first ≤ machine.now.position
-        → AreCounts (program machine.now) (breakpoints_of (option_map arc_value plan.now)) first machine.now.position counts.old
-        → CountsOn (program machine.now) (breakpoints_of (option_map arc_value plan.now)) machine.now.position first counts.old result counts.new }
+        → AreCounts (program machine.now) (listed_of (option_map arc_value plan.now)) first machine.now.position counts.old
+        → CountsOn (program machine.now) (listed_of (option_map arc_value plan.now)) machine.now.position first counts.old result counts.new }
 {
     match plan {
         None => false,
         Some(plan) => {
-            if !plan.is_watched(machine.address()) {
+            if !plan.has_breakpoint(machine.address()) {
                 return false;
             }
             count_arrivals(machine, plan.entry(machine.place()), counts)

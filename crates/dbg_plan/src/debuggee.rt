@@ -3,9 +3,11 @@
 ghost use Rattle.std.specs.Prelude.{◌≡◌, option_map};
 ghost use Rattle.std.specs.Arc.{arc_value};
 ghost use Rattle.pl0_unit.specs.declared.unit.Unit.{Unit as Compiled};
-ghost use Rattle.dbg_plan.specs.Plans.{IsNumbered, IsPlanOf};
-ghost use Rattle.dbg_plan.specs.Counting.{breakpoints_of, MayBePlanOf};
+ghost use Rattle.dbg_plan.specs.Breakpoints.{plain_breakpoints};
+ghost use Rattle.dbg_plan.specs.Plans.{IsNumbered, IsPlanOf, breakpoints_of, listed_of};
+ghost use Rattle.dbg_plan.specs.Counting.{MayBePlanOf};
 
+use crate::breakpoint::BREAKPOINT_LIMIT;
 use crate::counting::{count_position, reason_here};
 use crate::evaluation::{EvalFault, evaluate};
 use crate::mode::{Mode, Reason};
@@ -33,8 +35,8 @@ pub enum Advance {
 pub struct Debuggee {
     machine: Machine,
     plan: Option<Arc<Plan>>,
-    counts: [u32; 256],
-    first: u64,
+    counts: [u32; BREAKPOINT_LIMIT],
+    counted_from: u64,
     // Whether the machine's position was considered. A flag, and no position, so that `advance` has nothing to store.
     considered: bool,
 }
@@ -42,12 +44,12 @@ pub struct Debuggee {
 impl Model for Debuggee {
     ghost use Rattle.dbg_plan.specs.Debugged.{Debugged};
     ghost use Rattle.pl0_unit.specs.contracts.unit.Unit as compiled;
-    ghost use Rattle.dbg_plan.specs.contracts.breakpoint.Breakpoint as breakpoint;
+    ghost use Rattle.dbg_plan.specs.Breakpoints.{breakpoint_code};
     ghost use Rattle.std.specs.Coded.{codes};
 
     ghost Value = { Debugged };
 
-    ghost coded = { Prim.hlevel (codes, compiled.the_row.coded, breakpoint.the_row.coded) };
+    ghost coded = { Prim.hlevel (codes, compiled.the_row.coded, breakpoint_code) };
 
     ghost use Rattle.dbg_plan.specs.Counts.{debugged_of, IsCounting};
 
@@ -58,7 +60,7 @@ impl Model for Debuggee {
 
 // A plan, or none where it is empty.
 fn entered(plan: Arc<Plan>) -> Option<Arc<Plan>>
-    ensures breakpoints { breakpoints_of (option_map arc_value result) ≡ plan.value.breakpoints }
+    ensures breakpoints { listed_of (option_map arc_value result) ≡ plan.value.breakpoints }
     ensures numbered { IsNumbered plan.value.breakpoints }
     ensures fits { (unit : Compiled) → IsPlanOf unit plan.value → MayBePlanOf unit (option_map arc_value result) }
 {
@@ -81,15 +83,15 @@ impl Debuggee {
 
     /// A machine under the empty plan. Its position is the next to be considered.
     pub fn new(machine: Machine) -> Debuggee
-        ensures { result ≡ record { unit = machine.unit; position = machine.position; breakpoints = []; first = machine.position; next = machine.position } }
+        ensures { result ≡ record { unit = machine.unit; position = machine.position; breakpoints = []; counted_from = machine.position; next = machine.position } }
     {
         order_laws(machine.unit());
         let position = machine.position();
         Debuggee {
             machine,
             plan: None,
-            counts: [0; 256],
-            first: position,
+            counts: [0; BREAKPOINT_LIMIT],
+            counted_from: position,
             considered: false,
         }
     }
@@ -109,10 +111,10 @@ impl Debuggee {
     }
 
     /// The first position that the plan counts.
-    pub fn first(&self) -> u64
-        ensures { result ≡ self.now.first }
+    pub fn counted_from(&self) -> u64
+        ensures { result ≡ self.now.counted_from }
     {
-        self.first
+        self.counted_from
     }
 
     // The next position to be considered.
@@ -141,12 +143,12 @@ impl Debuggee {
     /// Puts a plan in, which counts from the next position to be considered.
     pub fn set_plan(&mut self, plan: Arc<Plan>)
         requires { IsPlanOf self.old.unit plan.value }
-        ensures { self.new ≡ record self.old { breakpoints = plan.value.breakpoints; first = self.old.next } }
+        ensures { self.new ≡ record self.old { breakpoints = plain_breakpoints plan.value.breakpoints; counted_from = self.old.next } }
     {
-        let first = self.next();
+        let counted_from = self.next();
         self.plan = entered(plan);
-        self.counts = [0; 256];
-        self.first = first;
+        self.counts = [0; BREAKPOINT_LIMIT];
+        self.counted_from = counted_from;
     }
 
     /// Considers the position where the machine stands: whether it is due.

@@ -10,8 +10,8 @@ ghost use Rattle.dbg_plan.specs.Reads.{number_up, bound_value, bound_truth, CanR
 ghost use Rattle.dbg_plan.specs.Counting.{holds_now, IsMetHere};
 
 use crate::binding::{Located, locate};
-use crate::bound::{BoundCondition, BoundExpression};
 use crate::breakpoint::Breakpoint;
+use crate::located::{LocatedCondition, LocatedExpression};
 use pl0_machine::Machine;
 use pl0_tree::{Expression, Operator, Relation};
 use pl0_unit::Unit;
@@ -89,15 +89,21 @@ fn variable(machine: &Machine, frame: usize, level: usize, index: usize) -> i64
 }
 
 // The value of a bound expression in a frame of its block, the left operand first.
-fn value_of(machine: &Machine, frame: usize, expression: &BoundExpression) -> Result<i64, EvalFault>
+fn value_of(
+    machine: &Machine,
+    frame: usize,
+    expression: &LocatedExpression,
+) -> Result<i64, EvalFault>
     requires { CanRead (frames machine.now) frame expression.now }
     ensures { bound_value (frames machine.now) frame expression.now ≡ told result }
 {
     match expression {
-        BoundExpression::Number(number) => Ok(*number),
-        BoundExpression::Variable { level, index } => Ok(variable(machine, frame, *level, *index)),
-        BoundExpression::Negate(inner) => negated(value_of(machine, frame, inner)?),
-        BoundExpression::Binary(operator, left, right) => {
+        LocatedExpression::Number(number) => Ok(*number),
+        LocatedExpression::Variable { level, index } => Ok(variable(
+            machine, frame, *level, *index,
+        )),
+        LocatedExpression::Negate(inner) => negated(value_of(machine, frame, inner)?),
+        LocatedExpression::Binary(operator, left, right) => {
             let x = value_of(machine, frame, left)?;
             let y = value_of(machine, frame, right)?;
             combine(*operator, x, y)
@@ -107,13 +113,17 @@ fn value_of(machine: &Machine, frame: usize, expression: &BoundExpression) -> Re
 
 // Whether a bound condition holds in a frame of its block.
 #[inline]
-fn truth_of(machine: &Machine, frame: usize, condition: &BoundCondition) -> Result<bool, EvalFault>
+fn truth_of(
+    machine: &Machine,
+    frame: usize,
+    condition: &LocatedCondition,
+) -> Result<bool, EvalFault>
     requires { CanTest (frames machine.now) frame condition.now }
     ensures { bound_truth (frames machine.now) frame condition.now ≡ told result }
 {
     match condition {
-        BoundCondition::Odd(expression) => Ok(odd(value_of(machine, frame, expression)?)),
-        BoundCondition::Compare(relation, left, right) => {
+        LocatedCondition::Odd(expression) => Ok(odd(value_of(machine, frame, expression)?)),
+        LocatedCondition::Compare(relation, left, right) => {
             let x = value_of(machine, frame, left)?;
             let y = value_of(machine, frame, right)?;
             Ok(compare(*relation, x, y))
@@ -128,11 +138,11 @@ pub fn is_met(machine: &Machine, breakpoint: &Breakpoint) -> bool
     requires here { IsMetHere machine.now breakpoint.now }
     ensures { result ≡ holds_now machine.now breakpoint.now }
 {
-    match &breakpoint.guard {
+    match &breakpoint.condition {
         None => true,
-        Some(guard) => {
+        Some(condition) => {
             let top = machine.depth() - 1;
-            truth_of(machine, top, &guard.bound).unwrap_or(true)
+            truth_of(machine, top, &condition.located).unwrap_or(true)
         }
     }
 }

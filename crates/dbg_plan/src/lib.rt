@@ -9,11 +9,11 @@
 #![tactic(auto)]
 
 mod binding;
-mod bound;
 mod breakpoint;
 mod counting;
 mod debuggee;
 mod evaluation;
+mod located;
 mod mode;
 mod order;
 mod plan;
@@ -21,13 +21,13 @@ mod resolving;
 mod rule;
 mod table;
 
-pub use bound::{BoundCondition, BoundExpression};
-pub use breakpoint::{Breakpoint, Guard, Rule};
+pub use breakpoint::{BREAKPOINT_LIMIT, BoundCondition, Breakpoint, Rule};
 pub use debuggee::{Advance, Debuggee};
 pub use evaluation::EvalFault;
+pub use located::{LocatedCondition, LocatedExpression};
 pub use mode::{Mode, Reason};
 pub use plan::Plan;
-pub use resolving::{Answer, Asked, resolve};
+pub use resolving::{Resolution, SourceBreakpoint, resolve};
 
 #[cfg(test)]
 mod tests;

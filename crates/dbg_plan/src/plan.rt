@@ -69,7 +69,7 @@ impl Plan {
 
     /// Whether the step that begins at an address of the code has a breakpoint.
     #[inline(always)]
-    pub(crate) fn is_watched(&self, address: usize) -> bool
+    pub(crate) fn has_breakpoint(&self, address: usize) -> bool
         requires { address < length self.now.watched }
         ensures watched { slice_get self.now.watched address ≡ Some result }
         ensures numbered { IsNumbered self.now.breakpoints }

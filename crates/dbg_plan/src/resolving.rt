@@ -1,38 +1,41 @@
 // Lines that an editor asks for, resolved to breakpoints.
 
-ghost use Rattle.std.specs.Prelude.{◌≡◌, ◌<◌, ◌≤◌, length, IfOk, IfErr};
+ghost use Rattle.std.specs.Prelude.{◌≡◌, ◌<◌, ◌≤◌, length, Some, IfOk, IfErr};
 ghost use Rattle.pl0_tree.specs.Steps.{steps};
+ghost use Rattle.pl0_tree.specs.Plain.{plain_condition};
 ghost use Rattle.pl0_tree.specs.Faults.{FaultIs};
 ghost use Rattle.pl0_machine.specs.Machine.{program_of};
-ghost use Rattle.dbg_plan.specs.Plans.{IsPlanOf};
-ghost use Rattle.dbg_plan.specs.Answers.{step_from, HasGuard, AreAnswered};
-ghost use Rattle.dbg_plan.specs.Answering.{IsGuardOf, AnswersLine};
+ghost use Rattle.dbg_plan.specs.Breakpoints.{text_condition, plain_breakpoints};
+ghost use Rattle.dbg_plan.specs.ReadsAs.{ReadsAs};
+ghost use Rattle.dbg_plan.specs.Plans.{IsBoundAt, IsPlanOf, AreBreakpointsOf, breakpoint_limit};
+ghost use Rattle.dbg_plan.specs.Resolutions.{step_from, HasConditionAt, AreResolved};
+ghost use Rattle.dbg_plan.specs.Resolving.{IsBoundConditionOf, ResolvesLine};
 
 use crate::binding::bind_condition;
-use crate::breakpoint::{Breakpoint, Guard};
+use crate::breakpoint::{BoundCondition, Breakpoint};
 use crate::order::order_laws;
 use crate::plan::Plan;
-use crate::rule::{BadHit, read_rule};
+use crate::rule::{BadHitCondition, read_rule};
 use pl0_syntax::{editor_laws, parse_condition};
-use pl0_tree::{StepNo, SyntaxFault};
+use pl0_tree::{Condition, StepNo, SyntaxFault};
 use pl0_unit::Unit;
 use std::alloc::{AllocError, Global};
 
 /// A line, with the texts of a condition and of a hit rule. An empty text is an absent one.
 #[derive(Drop)]
-pub struct Asked {
+pub struct SourceBreakpoint {
     pub line: u32,
     pub condition: String,
-    pub hit: String,
+    pub hit_condition: String,
 }
 
 /// What a line is answered: its step, or why it has no breakpoint.
 #[derive(Clone, Copy, Debug, PartialEq, Eq)]
-pub enum Answer {
+pub enum Resolution {
     At(StepNo),
     NoStep,
     BadCondition,
-    BadHit,
+    BadHitCondition,
 }
 
 // The first step at a line or behind it.
@@ -44,16 +47,40 @@ fn first_step(unit: &Unit, line: u32) -> Option<StepNo>
     (first < unit.steps.len()).then_some(first)
 }
 
-// The condition of a text, bound to the names that a step can use; none where the text is empty.
-fn read_guard(
+// A condition that was read, with what its names mean in the block of a step.
+fn bind(
     alloc: Global,
     unit: &Unit,
     text: &str,
     step: StepNo,
-) -> Result<Option<Guard>, SyntaxFault>
+    condition: Condition,
+) -> Result<BoundCondition, AllocError>
+    requires within { step < length (steps (program_of unit.now)) }
+    requires reads { ∥ ReadsAs text.now (plain_condition condition) ∥₁ }
+    ensures text { IfOk result (λ c. text_condition c ≡ record { text = text.now; condition = plain_condition condition }) }
+    ensures bound { IfOk result (λ c. IsBoundAt (program_of unit.now) step (Some c)) }
+{
+    let number = unit.steps[step].block;
+    let main = &unit.tree.program;
+    let located = bind_condition(alloc, main, &unit.nestings, number, &condition)?;
+    let text = String::from_str(alloc, text)?;
+    Ok(BoundCondition {
+        text,
+        condition,
+        located,
+    })
+}
+
+// The condition of a text, bound to the names that a step can use; none where the text is empty.
+fn read_condition(
+    alloc: Global,
+    unit: &Unit,
+    text: &str,
+    step: StepNo,
+) -> Result<Option<BoundCondition>, SyntaxFault>
     requires { step < length (steps (program_of unit.now)) }
-    ensures guard { IfOk result (IsGuardOf (program_of unit.now) step text.now) }
-    ensures fault { IfErr result (FaultIs (λ kind place. ¬ HasGuard (program_of unit.now) step text.now)) }
+    ensures condition { IfOk result (IsBoundConditionOf (program_of unit.now) step text.now) }
+    ensures fault { IfErr result (FaultIs (λ kind place. ¬ HasConditionAt (program_of unit.now) step text.now)) }
 {
     if text.is_empty() {
         return Ok(None);
@@ -70,49 +97,42 @@ fn read_guard(
         Ok(condition) => condition,
         Err(fault) => return Err(fault),
     };
-    let number = unit.steps[step].block;
-    match bind_condition(
-        alloc,
-        &unit.tree.program,
-        &unit.nestings,
-        number,
-        &condition,
-    ) {
-        Ok(bound) => Ok(Some(Guard { condition, bound })),
+    match bind(alloc, unit, text, step, condition) {
+        Ok(bound) => Ok(Some(bound)),
         Err(_) => Err(SyntaxFault::NoMemory),
     }
 }
 
 // The answer to a line. Its breakpoint, if it has one, goes behind those before it, whose number is its own.
-fn answer_line(
+fn resolve_line(
     alloc: Global,
     unit: &Unit,
-    asked: &Asked,
+    asked: &SourceBreakpoint,
     breakpoints: &mut Vec<Breakpoint>,
-) -> Result<Answer, AllocError>
-    ensures { IfOk result (AnswersLine (program_of unit.now) asked.now breakpoints.old.items breakpoints.new.items) }
+) -> Result<Resolution, AllocError>
+    ensures { IfOk result (ResolvesLine (program_of unit.now) asked.now breakpoints.old.items breakpoints.new.items) }
 {
     let step = match first_step(unit, asked.line) {
         Some(step) => step,
-        None => return Ok(Answer::NoStep),
+        None => return Ok(Resolution::NoStep),
     };
-    let guard = match read_guard(alloc, unit, asked.condition.as_str(), step) {
-        Ok(guard) => guard,
+    let condition = match read_condition(alloc, unit, asked.condition.as_str(), step) {
+        Ok(condition) => condition,
         Err(SyntaxFault::NoMemory) => return Err(AllocError),
-        Err(SyntaxFault::InText { .. }) => return Ok(Answer::BadCondition),
+        Err(SyntaxFault::InText { .. }) => return Ok(Resolution::BadCondition),
     };
-    let rule = match read_rule(asked.hit.as_str()) {
+    let rule = match read_rule(asked.hit_condition.as_str()) {
         Ok(rule) => rule,
-        Err(BadHit) => return Ok(Answer::BadHit),
+        Err(BadHitCondition) => return Ok(Resolution::BadHitCondition),
     };
     let number = breakpoints.len();
     breakpoints.push(Breakpoint {
         number,
         step,
-        guard,
+        condition,
         rule,
     })?;
-    Ok(Answer::At(step))
+    Ok(Resolution::At(step))
 }
 
 /// The plan that is asked for, and an answer for each line.
@@ -123,16 +143,17 @@ fn answer_line(
 pub fn resolve(
     alloc: Global,
     unit: &Unit,
-    asked: &[Asked],
-) -> Result<(Plan, Vec<Answer>), AllocError>
-    requires { length asked.now ≤ 256 }
-    ensures answers { IfOk result (λ r. AreAnswered (program_of unit.now) asked.now r.1.items r.0.breakpoints) }
+    asked: &[SourceBreakpoint],
+) -> Result<(Plan, Vec<Resolution>), AllocError>
+    requires { length asked.now ≤ breakpoint_limit }
+    ensures answers { IfOk result (λ r. AreResolved (program_of unit.now) asked.now r.1.items (plain_breakpoints r.0.breakpoints)) }
     ensures plan { IfOk result (λ r. IsPlanOf unit.now r.0) }
+    ensures breakpoints { IfOk result (λ r. AreBreakpointsOf (program_of unit.now) (plain_breakpoints r.0.breakpoints)) }
 {
     let mut answers = Vec::with_capacity(alloc, asked.len())?;
     let mut breakpoints = Vec::new(alloc);
     for line in asked {
-        let answer = answer_line(alloc, unit, line, &mut breakpoints)?;
+        let answer = resolve_line(alloc, unit, line, &mut breakpoints)?;
         answers.push(answer)?;
     }
     let plan = Plan::new(alloc, unit.steps.len(), &unit.lines, breakpoints)?;

@@ -1,7 +1,7 @@
 // Hit texts.
 
 ghost use Rattle.std.specs.Prelude.{◌≡◌, ◌≢◌, ℕ, ◌<◌, ◌^◌, decimal, IfSome, IfNone, IfOk, OnErr};
-ghost use Rattle.dbg_plan.specs.Answers.{ReadsRule, HasRule};
+ghost use Rattle.dbg_plan.specs.Resolutions.{ReadsRule, HasRule};
 
 use crate::breakpoint::Rule;
 
@@ -10,7 +10,7 @@ const GREATEST: u32 = 2_147_483_647;
 
 /// A hit text that is no rule.
 #[derive(Drop)]
-pub struct BadHit;
+pub struct BadHitCondition;
 
 // The number of a rule that a text writes: decimal, without a sign or a leading zero.
 fn number(text: &str) -> Option<u32>
@@ -32,7 +32,7 @@ fn number(text: &str) -> Option<u32>
 /// # Errors
 ///
 /// The text is neither empty nor `k` or `%k`, with k from 1 to 2^31 - 1 in decimal.
-pub fn read_rule(text: &str) -> Result<Option<Rule>, BadHit>
+pub fn read_rule(text: &str) -> Result<Option<Rule>, BadHitCondition>
     ensures rule { IfOk result (ReadsRule text.now) }
     ensures bad { OnErr result (¬ HasRule text.now) }
 {
@@ -42,11 +42,11 @@ pub fn read_rule(text: &str) -> Result<Option<Rule>, BadHit>
     match text.strip_prefix('%') {
         Some(divisor) => match number(divisor) {
             Some(k) => Ok(Some(Rule::Every(k))),
-            None => Err(BadHit),
+            None => Err(BadHitCondition),
         },
         None => match number(text) {
             Some(k) => Ok(Some(Rule::From(k))),
-            None => Err(BadHit),
+            None => Err(BadHitCondition),
         },
     }
 }

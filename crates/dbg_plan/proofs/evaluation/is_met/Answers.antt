@@ -1,16 +1,16 @@
 use Rattle.std.proofs.Common.{◌-◌, ap, subst}
 use Rattle.pl0_machine.specs.Machine.{program, frames}
-use Rattle.dbg_plan.specs.Plans.{IsGuardAt}
+use Rattle.dbg_plan.specs.Plans.{IsBoundAt}
 use Rattle.dbg_plan.proofs.ValuesMet.{IsTested, is_tested, holds_told}
 use Rattle.dbg_plan.proofs.evaluation.is_met.Goals as goal
 use Rattle.dbg_plan.proofs.evaluation.is_met.Goals.{After-depth-top}
 
-tests : (c : After-depth-top) → IsTested (program c.args.machine.now) (frames c.args.machine.now) (c.depth-top.result - 1) c.in-Some.guard
+tests : (c : After-depth-top) → IsTested (program c.args.machine.now) (frames c.args.machine.now) (c.depth-top.result - 1) c.in-Some.condition
 tests c =
     let m = c.args.machine.now in
     let step = c.args.breakpoint.now.step in
-    let bound = subst (λ g. IsGuardAt (program m) step g) c.in-Some.is c.requires.here.bound in
-    is_tested (program m) (frames m) step (c.depth-top.result - 1) c.in-Some.guard c.depth-top.ensures.linked c.requires.here.next bound (ap (λ n. n - 1) c.depth-top.ensures.depth)
+    let bound = subst (λ g. IsBoundAt (program m) step g) c.in-Some.is c.requires.here.bound in
+    is_tested (program m) (frames m) step (c.depth-top.result - 1) c.in-Some.condition c.depth-top.ensures.linked c.requires.here.next bound (ap (λ n. n - 1) c.depth-top.ensures.depth)
 
 pub truth_of-requires : goal.truth_of-requires
 truth_of-requires c = (tests c).0
@@ -18,4 +18,4 @@ truth_of-requires c = (tests c).0
 pub returns-in-Some : goal.returns-in-Some
 returns-in-Some c =
     let t = tests (goal.at.returns-in-Some c).After-depth-top in
-    holds_told c.args.machine.now c.args.breakpoint.now c.in-Some.guard (c.depth-top.result - 1) c.truth_of.result c.unwrap_or.result c.depth-top.ensures.there c.in-Some.is t c.truth_of.ensures c.unwrap_or.ensures
+    holds_told c.args.machine.now c.args.breakpoint.now c.in-Some.condition (c.depth-top.result - 1) c.truth_of.result c.unwrap_or.result c.depth-top.ensures.there c.in-Some.is t c.truth_of.ensures c.unwrap_or.ensures

@@ -1,6 +1,7 @@
-use Rattle.std.proofs.Common.{arith}
+use Rattle.std.proofs.Common.{arith, ap}
 use Rattle.pl0_machine.specs.Machine.{program_of}
-use Rattle.dbg_plan.proofs.Lines.{one_more, plan_is}
+use Rattle.dbg_plan.specs.Plans.{Listed}
+use Rattle.dbg_plan.proofs.Lines.{one_more, plan_is, breakpoints_are}
 use Rattle.dbg_plan.proofs.StepLines.{unit_length}
 use Rattle.dbg_plan.proofs.Watching.{are_within}
 use Rattle.dbg_plan.proofs.resolving.resolve.Goals as goal
@@ -17,3 +18,7 @@ new-requires-clause-within c =
 pub returns-clause-plan : goal.returns-clause-plan
 returns-clause-plan c =
     plan_is c.args.unit.now c.len.result c.loop-line.breakpoints.items c.deref.result.now c.in_ok-plan.plan c.in_ok-plan.ensures c.deref.ensures.value (omega (arith, unit_length c.args.unit.now, c.args.unit.now.steps.ok, c.len.ensures)) c.loop-line.invariant.placed
+
+pub returns-clause-breakpoints : goal.returns-clause-breakpoints
+returns-clause-breakpoints c =
+    breakpoints_are (program_of c.args.unit.now) c.args.asked.now c.loop-line.line-index c.loop-line.answers.items c.loop-line.breakpoints.items c.in_ok-plan.plan c.loop-line.invariant (omega (arith, c.requires)) (ap (λ (p : Listed). p.breakpoints) c.in_ok-plan.ensures)

@@ -4,17 +4,17 @@ use pl0_tree::{Operator, Relation};
 
 /// An expression of one block.
 #[derive(Drop)]
-pub enum BoundExpression {
+pub enum LocatedExpression {
     Number(i64),
     /// A variable: how many static links lead to its frame, and its index there.
     Variable { level: usize, index: usize },
-    Negate(Box<BoundExpression>),
-    Binary(Operator, Box<BoundExpression>, Box<BoundExpression>),
+    Negate(Box<LocatedExpression>),
+    Binary(Operator, Box<LocatedExpression>, Box<LocatedExpression>),
 }
 
 /// A condition of one block.
 #[derive(Drop)]
-pub enum BoundCondition {
-    Odd(BoundExpression),
-    Compare(Relation, BoundExpression, BoundExpression),
+pub enum LocatedCondition {
+    Odd(LocatedExpression),
+    Compare(Relation, LocatedExpression, LocatedExpression),
 }

@@ -1,0 +1,73 @@
+-- What an editor asks for, and what it is answered.
+use Rattle.std.specs.Prelude.{◌≡◌, ◌≢◌, ℕ, ◌<◌, ◌^◌, nat_le, List, [], ◌∷◌, ◌++◌, string_bytes, Option, Some, None}
+use Rattle.std.specs.List.{position}
+use Rattle.std.specs.Fmt.{decimal}
+use Rattle.pl0_tree.specs.Tree.{Block}
+use Rattle.pl0_tree.specs.Faults.{IsConditionOf}
+use Rattle.pl0_tree.specs.Steps.{steps, step_path}
+use Rattle.dbg_plan.specs.declared.breakpoint.Rule.{Rule}
+use Rattle.dbg_plan.specs.declared.breakpoint.Rule.TheVariants.{From, Every}
+use Rattle.dbg_plan.specs.Breakpoints.{TextCondition, Breakpoint}
+use Rattle.dbg_plan.specs.declared.resolving.SourceBreakpoint.{SourceBreakpoint}
+use Rattle.dbg_plan.specs.declared.resolving.Resolution.{Resolution}
+use Rattle.dbg_plan.specs.declared.resolving.Resolution.TheVariants.{At, NoStep, BadCondition, BadHitCondition}
+
+-- The step of a line: the first, in source order, at this line or behind it.
+abbrev pub step_from : Block → ℕ → Option ℕ
+step_from main line = position (λ s. nat_le line s.place.line) (steps main)
+
+-- ---- conditions and hit texts, either of which may be absent: an empty text
+
+-- the text reads as a condition in the block of step n
+abbrev pub ReadsConditionAt : Block → ℕ → List ℕ → Option TextCondition → Type 0
+ReadsConditionAt main n text None = text ≡ []
+ReadsConditionAt main n text (Some c) = (text ≢ []) × (c.text ≡ text) × IsConditionOf main (step_path main n) text c.condition
+
+-- k, or %k
+abbrev pub rule_text : Rule → List ℕ
+rule_text (From k) = decimal k
+rule_text (Every k) = 37 ∷ decimal k
+
+abbrev pub rule_number : Rule → ℕ
+rule_number (From k) = k
+rule_number (Every k) = k
+
+abbrev pub ReadsRule : List ℕ → Option Rule → Type 0
+ReadsRule text None = text ≡ []
+ReadsRule text (Some rule) = (text ≡ rule_text rule) × (0 < rule_number rule) × (rule_number rule < 2 ^ 31)
+
+-- ---- answers
+
+-- the text reads as a condition at step n, or is empty
+pub record HasConditionAt (main : Block) (n : ℕ) (text : List ℕ) : Type 0 where
+  pub condition : Option TextCondition
+  pub reads : ReadsConditionAt main n text condition
+
+-- the text reads as a rule, or is empty
+pub record HasRule (text : List ℕ) : Type 0 where
+  pub rule : Option Rule
+  pub reads : ReadsRule text rule
+
+-- the breakpoint of a line that is answered with a step
+pub record IsBreakpointOf (main : Block) (asked : SourceBreakpoint) (n : ℕ) (b : Breakpoint) : Type 0 where
+  pub step : b.step ≡ n
+  pub condition : ReadsConditionAt main n (string_bytes asked.condition) b.condition
+  pub rule : ReadsRule (string_bytes asked.hit_condition) b.rule
+
+-- The answer to a line, and the breakpoints that it gives, one or none. Of several refusals the first is told.
+abbrev pub IsResolvedTo : Block → SourceBreakpoint → Resolution → List Breakpoint → Type 0
+IsResolvedTo main asked (At n) bs =
+    (step_from main asked.line ≡ Some n) × ((b : Breakpoint) × (bs ≡ b ∷ []) × IsBreakpointOf main asked n b)
+IsResolvedTo main asked NoStep bs = (step_from main asked.line ≡ None) × (bs ≡ [])
+IsResolvedTo main asked BadCondition bs =
+    (bs ≡ []) × ((n : ℕ) × (step_from main asked.line ≡ Some n) × (¬ HasConditionAt main n (string_bytes asked.condition)))
+IsResolvedTo main asked BadHitCondition bs =
+    (bs ≡ []) × (¬ HasRule (string_bytes asked.hit_condition)) × ((n : ℕ) × (step_from main asked.line ≡ Some n) × HasConditionAt main n (string_bytes asked.condition))
+
+-- Each line is answered, in order, and the breakpoints are those that the answers give, in order.
+abbrev pub AreResolved : Block → List SourceBreakpoint → List Resolution → List Breakpoint → Type 0
+AreResolved main [] [] bs = bs ≡ []
+AreResolved main [] (a ∷ answers) bs = ⊥
+AreResolved main (asked ∷ more) [] bs = ⊥
+AreResolved main (asked ∷ more) (a ∷ answers) bs =
+    (mine : List Breakpoint) × (rest : List Breakpoint) × (bs ≡ mine ++ rest) × IsResolvedTo main asked a mine × AreResolved main more answers rest

@@ -1,0 +1,24 @@
+-- One line after another: what is known when a line is answered.
+use Rattle.std.specs.Prelude.{◌≡◌, ℕ, ◌≤◌, List, ◌++◌, length, Option, option_map}
+use Rattle.pl0_tree.specs.Tree.{Block}
+use Rattle.dbg_plan.specs.declared.breakpoint.BoundCondition.{BoundCondition}
+use Rattle.dbg_plan.specs.declared.breakpoint.Breakpoint.{Breakpoint}
+use Rattle.dbg_plan.specs.Breakpoints.{text_condition, plain_breakpoints}
+use Rattle.dbg_plan.specs.declared.resolving.SourceBreakpoint.{SourceBreakpoint}
+use Rattle.dbg_plan.specs.declared.resolving.Resolution.{Resolution}
+use Rattle.dbg_plan.specs.Plans.{AreNumbered, AreAtSteps, IsBoundAt}
+use Rattle.dbg_plan.specs.Resolutions.{ReadsConditionAt, IsResolvedTo}
+
+-- the text reads as the condition at step n, whose names are bound there
+pub record IsBoundConditionOf (main : Block) (n : ℕ) (text : List ℕ) (condition : Option BoundCondition) : Type 0 where
+  pub reads : ReadsConditionAt main n text (option_map text_condition condition)
+  pub bound : IsBoundAt main n condition
+
+-- a line is answered, and its breakpoint, if it has one, stands behind the old ones, which its number counts
+pub record ResolvesLine (main : Block) (asked : SourceBreakpoint) (old new : List Breakpoint) (answer : Resolution) : Type 0 where
+  pub mine : List Breakpoint
+  pub few : length mine ≤ 1
+  pub behind : new ≡ old ++ mine
+  pub answered : IsResolvedTo main asked answer (plain_breakpoints mine)
+  pub numbered : AreNumbered (length old) mine
+  pub placed : AreAtSteps main mine
