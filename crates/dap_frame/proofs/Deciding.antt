@@ -1,4 +1,4 @@
--- Which of the three a rest is can be told: a frame, a fault, or neither yet.
+-- Each rest is one of the three: a frame, a fault, or neither yet.
 use Rattle.std.proofs.Common.{◌≡◌, ◌≢◌, ◌⊎◌, inl, inr, zero, suc, ◌+◌, ◌<◌, ◌≤◌, ℕ, Bool, true, false, List, [], ◌∷◌, ◌++◌, length, take, drop, refl, sym, ◌∙◌, ap, subst, arith, append_assoc, append-nil, length-append, length-take, take-append-drop}
 use Rattle.std.specs.Prelude.{decimal}
 use Rattle.std.specs.List.{list_all}
@@ -6,11 +6,11 @@ use Rattle.std.specs.Str.Parse.{digits_value}
 use Rattle.std.proofs.lemmas.Bool.{cases_eq, cases_lt, false≢true}
 use Rattle.std.proofs.lemmas.List.{length-take-le, take_all}
 use Rattle.std.proofs.lemmas.Fmt.{decimal_is_IsNumeral}
-use Rattle.dap_frame.specs.declared.fault.FrameFault.{FrameFault}
-use Rattle.dap_frame.specs.declared.fault.FrameFault.TheVariants.{HeaderTooLong, BadField, NoLength, TwoLengths, BadLength, TooLarge}
+use Rattle.dap_frame.specs.declared.fault.FramingFault.{FramingFault}
+use Rattle.dap_frame.specs.declared.fault.FramingFault.TheVariants.{HeaderTooLong, BadField, NoLength, TwoLengths, BadLength, TooLarge}
 use Rattle.dap_frame.specs.Header.{Field, IsField, is_name_byte, is_value_byte, line_end, field_text, line_of, lines_of, is_length, length_values, IsLength, content_limit, header_limit, IsHeader, AreFaultless, HasNoLineEnd, LineFault}
 use Rattle.dap_frame.specs.Frame.{IsOpen}
-use Rattle.dap_frame.specs.Laws.{IsTold}
+use Rattle.dap_frame.specs.Laws.{IsOneOfThree}
 use Rattle.dap_frame.proofs.Lines.{HasNo, name_no_colon, same_name, empty_one_line}
 use Rattle.dap_frame.proofs.Faults.{fault_from_line, length_values_at, length_values-append}
 use Rattle.dap_frame.proofs.Frames.{open_part, open_short}
@@ -141,11 +141,11 @@ length_or_not value =
       ]
     ]
 
--- ---- a line behind faultless fields
+-- ---- a line after faultless fields
 
 abbrev IsJudged : List Field → List ℕ → Type 0
 IsJudged fields line =
-    ((k : FrameFault) × LineFault fields line k)
+    ((k : FramingFault) × LineFault fields line k)
     ⊎ (((line ≡ []) × ((n : ℕ) × (n ≤ content_limit) × (length_values fields ≡ decimal n ∷ [])))
     ⊎ ((f : Field) × IsField f × (line ≡ field_text f) × AreFaultless (fields ++ f ∷ [])))
 
@@ -186,9 +186,9 @@ judge fields (x ∷ xs) ok = elim (field_or_not (x ∷ xs)) [
 
 -- ---- a rest
 
--- behind a whole header part stands its content, or too few bytes
-tell_whole : (bytes header x : List ℕ) (n : ℕ) → IsHeader header n → bytes ≡ header ++ x → IsTold bytes
-tell_whole bytes header x n is e = elim (cases_lt (length x) n) [
+-- after a whole header part stands its content, or too few bytes
+decide_whole : (bytes header x : List ℕ) (n : ℕ) → IsHeader header n → bytes ≡ header ++ x → IsOneOfThree bytes
+decide_whole bytes header x n is e = elim (cases_lt (length x) n) [
   | inl few ↦ inr (inr (subst IsOpen (sym e) (open_short header x n is few)))
   | inr many ↦ inl (
     take n x,
@@ -202,46 +202,46 @@ tell_whole bytes header x n is e = elim (cases_lt (length x) n) [
 ]
 
 -- where the header part ends in what is left of it no line
-tell_rest : (bytes : List ℕ) (fields : List Field) (left : List ℕ) → AreFaultless fields → take header_limit bytes ≡ lines_of fields ++ left → HasNoLineEnd left → IsTold bytes
-tell_rest bytes fields left ok e none = elim (cases_lt (length bytes) header_limit) [
+decide_rest : (bytes : List ℕ) (fields : List Field) (left : List ℕ) → AreFaultless fields → take header_limit bytes ≡ lines_of fields ++ left → HasNoLineEnd left → IsOneOfThree bytes
+decide_rest bytes fields left ok e none = elim (cases_lt (length bytes) header_limit) [
   | inl short ↦ inr (inr (open_part bytes fields left ok none (sym (take_all header_limit bytes (omega (arith, short))) ∙ e) short))
   | inr long ↦ inr (inl (HeaderTooLong, record { fields = fields; part = left; faultless = ok; there = long; spelled = e; incomplete = none }))
 ]
 
-tell_line : (bytes : List ℕ) (fields : List Field) (line after : List ℕ) → AreFaultless fields → take header_limit bytes ≡ lines_of fields ++ (line_of line ++ after) → HasNoLineEnd (line ++ 13 ∷ [])
-    → ((f : Field) → AreFaultless (fields ++ f ∷ []) → take header_limit bytes ≡ lines_of (fields ++ f ∷ []) ++ after → IsTold bytes) → IsTold bytes
-tell_line bytes fields line after ok e one more =
-    let behind = after ++ drop header_limit bytes in
-    let whole : bytes ≡ lines_of fields ++ (line_of line ++ behind) =
+decide_line : (bytes : List ℕ) (fields : List Field) (line after : List ℕ) → AreFaultless fields → take header_limit bytes ≡ lines_of fields ++ (line_of line ++ after) → HasNoLineEnd (line ++ 13 ∷ [])
+    → ((f : Field) → AreFaultless (fields ++ f ∷ []) → take header_limit bytes ≡ lines_of (fields ++ f ∷ []) ++ after → IsOneOfThree bytes) → IsOneOfThree bytes
+decide_line bytes fields line after ok e one more =
+    let others = after ++ drop header_limit bytes in
+    let whole : bytes ≡ lines_of fields ++ (line_of line ++ others) =
     sym (take-append-drop header_limit bytes) ∙ ap (λ l. l ++ drop header_limit bytes) e ∙ append_assoc (lines_of fields) (line_of line ++ after) (drop header_limit bytes)
     ∙ ap (λ l. lines_of fields ++ l) (append_assoc (line_of line) after (drop header_limit bytes)) in
     let short : length (lines_of fields ++ line_of line) ≤ header_limit =
     let l : length (take header_limit bytes) ≡ length (lines_of fields ++ line_of line) + length after = ap length (e ∙ sym (append_assoc (lines_of fields) (line_of line) after)) ∙ length-append (lines_of fields ++ line_of line) after in
     omega (arith, l, length-take header_limit bytes) in
     elim (judge fields line ok) [
-      | inl bad ↦ inr (inl (bad.0, fault_from_line bytes bad.0 (record { fields = fields; line = line; after = behind; faultless = ok; spelled = whole; one_line = one; within = short; faulty = bad.1 })))
+      | inl bad ↦ inr (inl (bad.0, fault_from_line bytes bad.0 (record { fields = fields; line = line; after = others; faultless = ok; spelled = whole; one_line = one; within = short; faulty = bad.1 })))
       | inr good ↦ elim good [
         | inl end ↦
             let empty : line_of line ≡ line_end = ap line_of end.0 in
-            tell_whole bytes (lines_of fields ++ line_end) behind end.1.0
+            decide_whole bytes (lines_of fields ++ line_end) others end.1.0
             (record { fields = fields; shaped = ok.shaped; spelled = refl; once = end.1.2; allowed = end.1.1; short = subst (λ l. length (lines_of fields ++ l) ≤ header_limit) empty short })
-            (whole ∙ ap (λ l. lines_of fields ++ (l ++ behind)) empty ∙ sym (append_assoc (lines_of fields) line_end behind))
+            (whole ∙ ap (λ l. lines_of fields ++ (l ++ others)) empty ∙ sym (append_assoc (lines_of fields) line_end others))
         | inr field ↦ more field.0 field.3 (e ∙ sym (append_assoc (lines_of fields) (line_of line) after) ∙ ap (λ l. l ++ after) (ap (λ t. lines_of fields ++ line_of t) field.2 ∙ sym (lines_of_more fields field.0)))
       ]
     ]
 
 -- line by line
-tell_lines : (fuel : ℕ) (bytes : List ℕ) (fields : List Field) (left : List ℕ) → AreFaultless fields → take header_limit bytes ≡ lines_of fields ++ left → length left < fuel → IsTold bytes
-tell_lines zero bytes fields left ok e few = absurd (omega (arith, few))
-tell_lines (suc fuel) bytes fields left ok e few = elim (cut left) [
-  | inl none ↦ tell_rest bytes fields left ok e none
+decide_lines : (fuel : ℕ) (bytes : List ℕ) (fields : List Field) (left : List ℕ) → AreFaultless fields → take header_limit bytes ≡ lines_of fields ++ left → length left < fuel → IsOneOfThree bytes
+decide_lines zero bytes fields left ok e few = absurd (omega (arith, few))
+decide_lines (suc fuel) bytes fields left ok e few = elim (cut left) [
+  | inl none ↦ decide_rest bytes fields left ok e none
   | inr found ↦
       let line = found.0 in
       let after = found.1 in
       let here : left ≡ line_of line ++ after = found.2 ∙ sym (append_assoc line line_end after) in
       let shorter : length after < fuel = let l = ap length here in omega (arith, l, few, length-append (line_of line) after, length-append line line_end) in
-      tell_line bytes fields line after ok (e ∙ ap (λ l. lines_of fields ++ l) here) found.3 (λ f sound so. tell_lines fuel bytes (fields ++ f ∷ []) after sound so shorter)
+      decide_line bytes fields line after ok (e ∙ ap (λ l. lines_of fields ++ l) here) found.3 (λ f sound so. decide_lines fuel bytes (fields ++ f ∷ []) after sound so shorter)
 ]
 
-pub told : (bytes : List ℕ) → IsTold bytes
-told bytes = tell_lines (length (take header_limit bytes) + 1) bytes [] (take header_limit bytes) (record { shaped = tt; lengths = inl refl }) refl (omega arith)
+pub decide : (bytes : List ℕ) → IsOneOfThree bytes
+decide bytes = decide_lines (length (take header_limit bytes) + 1) bytes [] (take header_limit bytes) (record { shaped = tt; lengths = inl refl }) refl (omega arith)

@@ -6,7 +6,7 @@ use Rattle.dap_frame.specs.declared.header.Header.TheVariants.{Open, Whole}
 use Rattle.dap_frame.specs.declared.header.Scan.{Scan}
 use Rattle.dap_frame.specs.Header.{IsHeader}
 use Rattle.dap_frame.specs.Frame.{IsFrameInFront, Frames}
-use Rattle.dap_frame.specs.Progress.{IsScanned, IsRead}
+use Rattle.dap_frame.specs.Progress.{IsScanned, IsRead, IsBounded}
 use Rattle.dap_frame.proofs.Frames.{frames_join}
 
 scanned_more : (scan : Scan) (rest piece : List ℕ) → IsScanned scan rest → IsScanned scan (rest ++ piece)
@@ -32,14 +32,27 @@ read_more (Open scan) rest piece is = scanned_more scan rest piece is
 read_more (Whole size content_len) rest piece is =
     (let there = is.0 in omega (arith, there, length-append rest piece), subst (λ h. IsHeader h content_len) (sym (take-append-le size rest piece is.0)) is.1)
 
--- the same of bytes of which the rest is the end, where the piece was taken or was not
-pub fed : (header : Header) (bytes piece new : List ℕ) (front : ℕ) (taken : Bool) → new ≡ cond taken (bytes ++ piece) bytes → front ≤ length bytes → IsRead header (drop front bytes)
-    → (front ≤ length new) × IsRead header (drop front new)
-fed header bytes piece new front false e there is = (subst (λ b. front ≤ length b) (sym e) there, subst (λ b. IsRead header (drop front b)) (sym e) is)
-fed header bytes piece new front true e there is = (
-  subst (λ b. front ≤ length b) (sym e) (omega (arith, there, length-append bytes piece)),
-  subst (λ b. IsRead header (drop front b)) (sym e) (subst (IsRead header) (sym (drop-append-le front bytes piece there)) (read_more header (drop front bytes) piece is)),
-)
+-- what a decoder keeps true of its bytes, the place where the rest begins, and how far that was read
+abbrev pub IsKept : Header → List ℕ → ℕ → Type 0
+IsKept header bytes front = (front ≤ length bytes) × IsRead header (drop front bytes) × IsBounded (length bytes) (length (drop front bytes))
+
+-- it stays true when a piece comes
+kept_more : (header : Header) (bytes piece : List ℕ) (front : ℕ) → IsKept header bytes front → IsKept header (bytes ++ piece) front
+kept_more header bytes piece front is =
+    let there = is.0 in
+    let bounded = is.2 in
+    let same : drop front (bytes ++ piece) ≡ drop front bytes ++ piece = drop-append-le front bytes piece there in
+    let longer = length-append bytes piece in
+    let more = length-append (drop front bytes) piece in (
+      omega (arith, there, longer),
+      subst (IsRead header) (sym same) (read_more header (drop front bytes) piece is.1),
+      subst (λ r. IsBounded (length (bytes ++ piece)) (length r)) (sym same) (omega (arith, bounded, longer, more)),
+    )
+
+-- and so it does where the piece was taken or was not
+pub fed : (header : Header) (bytes piece new : List ℕ) (front : ℕ) (taken : Bool) → new ≡ cond taken (bytes ++ piece) bytes → IsKept header bytes front → IsKept header new front
+fed header bytes piece new front false e is = subst (λ b. IsKept header b front) (sym e) is
+fed header bytes piece new front true e is = subst (λ b. IsKept header b front) (sym e) (kept_more header bytes piece front is)
 
 -- one frame more
 pub frames_one_more : (stream rest more content : List ℕ) (contents : List (List ℕ)) → Frames stream contents rest → IsFrameInFront rest content more → Frames stream (contents ++ content ∷ []) more

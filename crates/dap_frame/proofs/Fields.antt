@@ -42,7 +42,7 @@ at_colon line f i is e first at =
     colon_place f i is (subst (λ l. NoneBefore (Passes (is_byte 58) l) 0 (length l) i) e first) (subst (λ l. Passes (is_byte 58) l i) e at) in
     (ap (take i) e ∙ take_at f.name (58 ∷ 32 ∷ f.value) i (sym place), ap (drop i) e ∙ drop_at f.name (58 ∷ 32 ∷ f.value) i (sym place))
 
--- behind the colon stand one space and the value
+-- after the colon stand one space and the value
 pub no_prefix : (rest prefix : List ℕ) (f : Field) → rest ≡ 58 ∷ 32 ∷ f.value → prefix ≡ 58 ∷ 32 ∷ [] → bytes_eq (take (length prefix) rest) prefix ≡ false → ⊥
 no_prefix rest prefix f e p h =
     let k = subst (λ r. bytes_eq (take (length prefix) r) prefix ≡ false) e h in

@@ -8,12 +8,12 @@ use Rattle.std.specs.Str.Parse.{AllDigits}
 use Rattle.std.proofs.lemmas.Str.Parse.{digit_from_value}
 use Rattle.std.proofs.lemmas.Bool.Decides.{nat_tests}
 use Rattle.std.proofs.lemmas.Fmt.{decimal_injective, decimal_is_IsNumeral, length-decimal-le}
-use Rattle.dap_frame.specs.declared.fault.FrameFault.{FrameFault}
+use Rattle.dap_frame.specs.declared.fault.FramingFault.{FramingFault}
 use Rattle.dap_frame.specs.Header.{Field, IsField, is_value_byte, line_end, field_text, line_of, lines_of, length_values, header_limit, content_limit, IsHeader, AreFaultless, HasNoLineEnd, LineFault, HasFaultyLine, IsTooLong, FaultAt}
 use Rattle.dap_frame.specs.Frame.{IsFrameInFront, IsOpen, Frames, frame_of}
 use Rattle.dap_frame.proofs.Lines.{same_line, field_one_line, empty_one_line, text_not_empty}
 use Rattle.dap_frame.proofs.Located.{line_then, located, none_inside, is_field_at, same_fields}
-use Rattle.dap_frame.proofs.Faults.{no_line_fault, no_end_fault, no_faulty_line, take_behind, fault_cases}
+use Rattle.dap_frame.proofs.Faults.{no_line_fault, no_end_fault, no_faulty_line, take_after, fault_cases}
 
 -- two header parts in front of the same bytes are one, and name one length
 pub same_header : (a b x y : List ℕ) (m n : ℕ) → IsHeader a m → IsHeader b n → a ++ x ≡ b ++ y → (m ≡ n) × (x ≡ y)
@@ -53,41 +53,41 @@ header_faultless header n is = record { shaped = is.shaped; lengths = inr (n, is
 header_then : (header rest : List ℕ) (n : ℕ) (is : IsHeader header n) → header ++ rest ≡ lines_of is.fields ++ (line_end ++ rest)
 header_then header rest n is = ap (λ h. h ++ rest) is.spelled ∙ append_assoc (lines_of is.fields) line_end rest
 
--- a line behind the fields of a whole header part, or behind more: only the empty line stands there
-behind_end : (fields gs : List Field) (d rest line after : List ℕ) (k : FrameFault) → length_values fields ≡ d ∷ [] → HasNoLineEnd (line ++ 13 ∷ []) → LineFault gs line k
+-- a line after the fields of a whole header part, or after more: only the empty line stands there
+after_end : (fields gs : List Field) (d rest line after : List ℕ) (k : FramingFault) → length_values fields ≡ d ∷ [] → HasNoLineEnd (line ++ 13 ∷ []) → LineFault gs line k
     → (more : List Field) → AllByRecursion IsField more → gs ≡ fields ++ more → line_end ++ rest ≡ lines_of more ++ (line_of line ++ after) → ⊥
-behind_end fields gs d rest line after k once one bad [] are so e =
+after_end fields gs d rest line after k once one bad [] are so e =
     let lines = same_line [] line rest after empty_one_line one (e ∙ append_assoc line line_end after) in
     no_end_fault fields d k once (subst (λ l. LineFault fields l k) (sym lines.0) (subst (λ f. LineFault f line k) (so ∙ append-nil fields) bad))
-behind_end fields gs d rest line after k once one bad (g ∷ more) are so e =
+after_end fields gs d rest line after k once one bad (g ∷ more) are so e =
     text_not_empty g are.0 (same_line [] (field_text g) rest (lines_of more ++ (line_of line ++ after)) empty_one_line (field_one_line g are.0) (e ∙ line_then (field_text g) (lines_of more) (line_of line ++ after))).0
 
-whole_not_faulty : (header rest : List ℕ) (n : ℕ) (k : FrameFault) → IsHeader header n → HasFaultyLine (header ++ rest) k → ⊥
+whole_not_faulty : (header rest : List ℕ) (n : ℕ) (k : FramingFault) → IsHeader header n → HasFaultyLine (header ++ rest) k → ⊥
 whole_not_faulty header rest n k is h =
     elim (located is.fields h.fields (line_end ++ rest) h.line h.after is.shaped h.faultless.shaped h.one_line (sym (header_then header rest n is) ∙ h.spelled)) [
       | inl at ↦ no_line_fault h.fields at.1 at.0 k (subst AreFaultless at.2 (header_faultless header n is)) (subst (λ l. LineFault h.fields l k) at.3 h.faulty)
-      | inr at ↦ behind_end is.fields h.fields (decimal n) rest h.line h.after k is.once h.one_line h.faulty at.0 at.1 at.2 at.3
+      | inr at ↦ after_end is.fields h.fields (decimal n) rest h.line h.after k is.once h.one_line h.faulty at.0 at.1 at.2 at.3
     ]
 
 whole_not_long : (header rest : List ℕ) (n : ℕ) → IsHeader header n → IsTooLong (header ++ rest) → ⊥
 whole_not_long header rest n is long =
     let left = take (header_limit - length header) rest in
-    let cut : lines_of long.fields ++ long.part ≡ lines_of is.fields ++ (line_end ++ left) = sym long.spelled ∙ take_behind header rest header_limit is.short ∙ header_then header left n is in
+    let cut : lines_of long.fields ++ long.part ≡ lines_of is.fields ++ (line_end ++ left) = sym long.spelled ∙ take_after header rest header_limit is.short ∙ header_then header left n is in
     elim (located long.fields is.fields long.part [] left long.faultless.shaped is.shaped empty_one_line cut) [
       | inl at ↦ text_not_empty at.0 (is_field_at is.fields at.1 at.0 (subst (AllByRecursion IsField) at.2 long.faultless.shaped)) at.3
       | inr at ↦ none_inside at.0 long.part [] left long.incomplete at.3
     ]
 
 -- where a lawful header part stands in front no fault does
-pub no_fault_whole : (header rest : List ℕ) (n : ℕ) (k : FrameFault) → IsHeader header n → FaultAt (header ++ rest) k → ⊥
+pub no_fault_whole : (header rest : List ℕ) (n : ℕ) (k : FramingFault) → IsHeader header n → FaultAt (header ++ rest) k → ⊥
 no_fault_whole header rest n k is h = elim (fault_cases (header ++ rest) k h) [ inl a ↦ whole_not_long header rest n is a.1 | inr a ↦ whole_not_faulty header rest n k is a ]
 
-pub never_both : (bytes content rest : List ℕ) (k : FrameFault) → IsFrameInFront bytes content rest → FaultAt bytes k → ⊥
+pub never_both : (bytes content rest : List ℕ) (k : FramingFault) → IsFrameInFront bytes content rest → FaultAt bytes k → ⊥
 never_both bytes content rest k f h = no_fault_whole f.header (content ++ rest) (length content) k f.lawful (subst (λ b. FaultAt b k) f.spelled h)
 
 -- ---- neither
 
--- behind fields and a line that hasn't ended no frame stands in front
+-- after fields and a line that hasn't ended no frame stands in front
 no_frame_yet : (fields : List Field) (part content rest : List ℕ) → AreFaultless fields → HasNoLineEnd part → IsFrameInFront (lines_of fields ++ part) content rest → ⊥
 no_frame_yet fields part content rest ok none f =
     let e : lines_of fields ++ part ≡ lines_of f.lawful.fields ++ (line_end ++ (content ++ rest)) = f.spelled ∙ header_then f.header (content ++ rest) (length content) f.lawful in
@@ -106,7 +106,7 @@ open_part bytes fields part ok none e short = record {
   ];
 }
 
--- behind a whole header part there are too few bytes: more has to come
+-- after a whole header part there are too few bytes: more has to come
 pub open_short : (header part : List ℕ) (n : ℕ) → IsHeader header n → length part < n → IsOpen (header ++ part)
 open_short header part n is few = record {
   no_frame = λ content rest f.

@@ -34,8 +34,8 @@ field_no_return f is =
 
 -- ---- ends of lines
 
-no_end_behind : (x : ℕ) (xs : List ℕ) → HasNoLineEnd (x ∷ xs) → HasNoLineEnd xs
-no_end_behind x xs none before after e = none (x ∷ before) after (ap (λ l. x ∷ l) e)
+no_end_after : (x : ℕ) (xs : List ℕ) → HasNoLineEnd (x ∷ xs) → HasNoLineEnd xs
+no_end_after x xs none before after e = none (x ∷ before) after (ap (λ l. x ∷ l) e)
 
 no_return_no_end : (xs : List ℕ) → HasNo 13 xs → HasNoLineEnd (xs ++ 13 ∷ [])
 no_return_no_end [] h [] after e = absurd cc
@@ -63,7 +63,7 @@ same_line (a ∷ c ∷ as_) [] x y h k e =
     let first : a ≡ 13 = cc in let second : c ≡ 10 = cc in
     absurd (h [] (as_ ++ 13 ∷ []) cc)
 same_line (a ∷ as_) (b ∷ bs) x y h k e =
-    let rest = same_line as_ bs x y (no_end_behind a (as_ ++ 13 ∷ []) h) (no_end_behind b (bs ++ 13 ∷ []) k) cc in
+    let rest = same_line as_ bs x y (no_end_after a (as_ ++ 13 ∷ []) h) (no_end_after b (bs ++ 13 ∷ []) k) cc in
     let first : a ≡ b = cc in
     (ap (λ l. a ∷ l) rest.0 ∙ ap (λ c. c ∷ bs) first, rest.1)
 

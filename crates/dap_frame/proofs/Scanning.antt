@@ -6,7 +6,7 @@ use Rattle.std.proofs.Math.Seq.{take-add}
 use Rattle.std.proofs.lemmas.List.{get_or-take, get_or-drop, get_or-append-add, take_more, take_all, take_rest}
 use Rattle.std.proofs.lemmas.Grind.{flat_map-append}
 use Rattle.dap_frame.specs.declared.header.Scan.{Scan}
-use Rattle.dap_frame.specs.declared.fault.FrameFault.{FrameFault}
+use Rattle.dap_frame.specs.declared.fault.FramingFault.{FramingFault}
 use Rattle.dap_frame.specs.Header.{Field, IsField, line_end, field_text, line_of, lines_of, header_limit, AreFaultless, HasNoLineEnd, LineFault, IsTooLong, FaultAt}
 use Rattle.dap_frame.specs.Frame.{IsOpen}
 use Rattle.dap_frame.specs.Progress.{EndsAt, HasNoEnd, Names, IsScanned}
@@ -72,7 +72,7 @@ lines_of_more fields f = flat_map-append (λ g. line_of (field_text g)) fields (
 
 -- what the search for the end of the next line found
 pub record IsNextEnd (bytes : List ℕ) (j end : ℕ) : Type 0 where
-  pub behind : j ≤ end
+  pub from : j ≤ end
   pub there : end + 1 < length bytes
   pub ends : EndsAt bytes end
   pub first : HasNoEnd bytes j (end + 1)
@@ -87,7 +87,7 @@ scan_more bytes scan is end next small at f shape line names =
       fields = is.fields ++ f ∷ [];
       shaped = all_fields_more is.fields f is.shaped shape;
       names = names;
-      spelled = line_here bytes scan.judged end at.behind at.there at.ends ∙ ap (λ x. x ++ line_of (part bytes scan.judged end)) is.spelled ∙ ap (λ x. lines_of is.fields ++ line_of x) line ∙ sym (lines_of_more is.fields f);
+      spelled = line_here bytes scan.judged end at.from at.there at.ends ∙ ap (λ x. x ++ line_of (part bytes scan.judged end)) is.spelled ∙ ap (λ x. lines_of is.fields ++ line_of x) line ∙ sym (lines_of_more is.fields f);
       in_order = omega arith;
       there = omega (arith, l);
       within = omega (arith, l, small);
@@ -98,7 +98,7 @@ take_front : (rest : List ℕ) (size n : ℕ) → n ≤ size → take n (take si
 take_front rest size n h = take-take n size rest h
 
 -- the next line is faulty
-pub faulty_here : (rest : List ℕ) (size : ℕ) (scan : Scan) (is : IsScanned scan (take size rest)) (end : ℕ) (fault : FrameFault) → size ≤ header_limit → IsNextEnd (take size rest) scan.judged end
+pub faulty_here : (rest : List ℕ) (size : ℕ) (scan : Scan) (is : IsScanned scan (take size rest)) (end : ℕ) (fault : FramingFault) → size ≤ header_limit → IsNextEnd (take size rest) scan.judged end
     → LineFault is.fields (part (take size rest) scan.judged end) fault → FaultAt rest fault
 faulty_here rest size scan is end fault small at bad =
     let bytes = take size rest in
@@ -106,7 +106,7 @@ faulty_here rest size scan is end fault small at bad =
     let l = at.there in
     let few = length-take size rest in
     let front : take (end + 2) bytes ≡ lines_of is.fields ++ line_of line =
-    line_here bytes scan.judged end at.behind at.there at.ends ∙ ap (λ x. x ++ line_of line) is.spelled in
+    line_here bytes scan.judged end at.from at.there at.ends ∙ ap (λ x. x ++ line_of line) is.spelled in
     let whole : take (end + 2) rest ≡ lines_of is.fields ++ line_of line = sym (take_front rest size (end + 2) (omega (arith, l, few))) ∙ front in
     let long : length (lines_of is.fields ++ line_of line) ≤ header_limit = subst (λ x. length x ≤ header_limit) front (omega (arith, length-take (end + 2) bytes, l, few, small)) in
     fault_from_line rest fault (record {
@@ -115,7 +115,7 @@ faulty_here rest size scan is end fault small at bad =
       after = drop (end + 2) rest;
       faultless = faultless is.fields scan.named is.shaped is.names;
       spelled = sym (take-append-drop (end + 2) rest) ∙ ap (λ x. x ++ drop (end + 2) rest) whole ∙ append_assoc (lines_of is.fields) (line_of line) (drop (end + 2) rest);
-      one_line = one_line_here bytes scan.judged end at.behind at.there at.ends at.first;
+      one_line = one_line_here bytes scan.judged end at.from at.there at.ends at.first;
       within = long;
       faulty = bad;
     })
@@ -149,7 +149,7 @@ too_long_here rest size scan is small full none =
 -- no line ends in fewer: more has to come
 pub open_here : (rest : List ℕ) (size : ℕ) (scan : Scan) → IsScanned scan (take size rest) → size ≡ min (length rest) header_limit → length (take size rest) ≢ header_limit
     → HasNoEnd (take size rest) scan.judged (length (take size rest))
-    → IsScanned (record { judged = scan.judged; searched = length (take size rest); named = scan.named }) rest × IsOpen rest
+    → IsScanned (record { judged = scan.judged; searched = length (take size rest); named = scan.named }) rest × (length (take size rest) ≡ length rest) × IsOpen rest
 open_here rest size scan is e open_ none =
     let few = length-take size rest in
     let short : length rest < header_limit = omega (arith, e, few, open_) in
@@ -169,5 +169,6 @@ open_here rest size scan is e open_ none =
         within = omega (arith, l, short);
         no_end = subst (HasNoEnd rest scan.judged) (sym l) clear;
       },
+      l,
       open_part rest so.fields (drop scan.judged rest) (faultless so.fields scan.named so.shaped so.names) (no_line_end_left rest scan.judged clear) (cut_at rest scan so) short,
     )

@@ -1,7 +1,7 @@
 -- Frames on a stream, by the base protocol of the Debug Adapter Protocol, however the stream was cut into pieces.
 use Rattle.std.specs.Prelude.{◌≡◌, ℕ, List, [], ◌∷◌, ◌++◌, length, codes, decimal}
 use Rattle.dap_frame.specs.Header.{line_end, IsHeader, FaultAt}
-use Rattle.dap_frame.specs.declared.fault.FrameFault.{FrameFault}
+use Rattle.dap_frame.specs.declared.fault.FramingFault.{FramingFault}
 
 -- a whole frame stands in front: a lawful header part, and a content as long as that says
 pub record IsFrameInFront (bytes content rest : List ℕ) : Type 0 where
@@ -17,7 +17,7 @@ Frames bytes (content ∷ contents) rest = (more : List ℕ) × IsFrameInFront b
 -- neither a whole frame nor a fault stands in front
 pub record IsOpen (bytes : List ℕ) : Type 0 where
   pub no_frame : (content rest : List ℕ) → ¬ IsFrameInFront bytes content rest
-  pub no_fault : (fault : FrameFault) → ¬ FaultAt bytes fault
+  pub no_fault : (fault : FramingFault) → ¬ FaultAt bytes fault
 
 -- what is written for a content: the one field `Content-Length`
 abbrev pub frame_of : List ℕ → List ℕ

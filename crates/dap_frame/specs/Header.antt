@@ -4,8 +4,8 @@
 use Rattle.std.specs.Prelude.{◌≡◌, ◌≢◌, ◌⊎◌, ◌&&◌, ◌||◌, ◌==◌, ℕ, ◌<◌, ◌≤◌, ◌^◌, Bool, true, nat_le, List, [], ◌∷◌, ◌++◌, length, take, filter, flat_map, map, codes, decimal, IsTrue}
 use Rattle.std.specs.List.{list_all, AllByRecursion}
 use Rattle.std.specs.Str.{bytes_eq}
-use Rattle.dap_frame.specs.declared.fault.FrameFault.{FrameFault}
-use Rattle.dap_frame.specs.declared.fault.FrameFault.TheVariants.{HeaderTooLong, BadField, NoLength, TwoLengths, BadLength, TooLarge, NoMemory}
+use Rattle.dap_frame.specs.declared.fault.FramingFault.{FramingFault}
+use Rattle.dap_frame.specs.declared.fault.FramingFault.TheVariants.{HeaderTooLong, BadField, NoLength, TwoLengths, BadLength, TooLarge, NoMemory}
 
 -- CR LF
 abbrev pub line_end : List ℕ
@@ -82,8 +82,8 @@ pub record AreFaultless (fields : List Field) : Type 0 where
   pub shaped : AllByRecursion IsField fields
   pub lengths : (length_values fields ≡ []) ⊎ ((n : ℕ) × (n ≤ content_limit) × (length_values fields ≡ decimal n ∷ []))
 
--- the fault of a line, without its end, that stands behind faultless fields
-abbrev pub LineFault : List Field → List ℕ → FrameFault → Type 0
+-- the fault of a line, without its end, that stands after faultless fields
+abbrev pub LineFault : List Field → List ℕ → FramingFault → Type 0
 LineFault before line HeaderTooLong = ⊥
 LineFault before line BadField = (line ≢ []) × ((field : Field) → IsField field → line ≢ field_text field)
 LineFault before line NoLength = (line ≡ []) × (length_values before ≡ [])
@@ -92,8 +92,8 @@ LineFault before line BadLength = (field : Field) × IsField field × (line ≡ 
 LineFault before line TooLarge = (field : Field) × IsField field × (line ≡ field_text field) × IsTrue (is_length field) × (length_values before ≡ []) × ((n : ℕ) × IsLength field.value n × (content_limit < n))
 LineFault before line NoMemory = ⊥
 
--- behind faultless fields a line is complete within the limit, and has the fault
-pub record HasFaultyLine (bytes : List ℕ) (fault : FrameFault) : Type 0 where
+-- after faultless fields a line is complete within the limit, and has the fault
+pub record HasFaultyLine (bytes : List ℕ) (fault : FramingFault) : Type 0 where
   pub fields : List Field
   pub line : List ℕ
   pub after : List ℕ
@@ -113,7 +113,7 @@ pub record IsTooLong (bytes : List ℕ) : Type 0 where
   pub incomplete : HasNoLineEnd part
 
 -- the fault that the header part at the front of the bytes has
-abbrev pub FaultAt : List ℕ → FrameFault → Type 0
+abbrev pub FaultAt : List ℕ → FramingFault → Type 0
 FaultAt bytes HeaderTooLong = IsTooLong bytes
 FaultAt bytes BadField = HasFaultyLine bytes BadField
 FaultAt bytes NoLength = HasFaultyLine bytes NoLength

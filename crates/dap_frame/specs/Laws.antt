@@ -1,28 +1,28 @@
 -- What the definitions of frames and faults say of every stream.
 use Rattle.std.specs.Prelude.{◌≡◌, ◌⊎◌, ◌++◌, ◌≤◌, ℕ, List, length}
-use Rattle.dap_frame.specs.declared.fault.FrameFault.{FrameFault}
+use Rattle.dap_frame.specs.declared.fault.FramingFault.{FramingFault}
 use Rattle.dap_frame.specs.Header.{FaultAt, content_limit}
 use Rattle.dap_frame.specs.Frame.{IsFrameInFront, Frames, IsOpen, frame_of}
 
--- at most one frame stands in front: its content and the rest behind it are determined
+-- at most one frame stands in front: its content and the rest after it are determined
 abbrev pub FramesAreUnique : Type 0
 FramesAreUnique = (bytes c d x y : List ℕ) → IsFrameInFront bytes c x → IsFrameInFront bytes d y → (c ≡ d) × (x ≡ y)
 
 -- at most one fault stands in front
 abbrev pub FaultsAreUnique : Type 0
-FaultsAreUnique = (bytes : List ℕ) (j k : FrameFault) → FaultAt bytes j → FaultAt bytes k → j ≡ k
+FaultsAreUnique = (bytes : List ℕ) (j k : FramingFault) → FaultAt bytes j → FaultAt bytes k → j ≡ k
 
 -- and never both
 abbrev pub NeverBoth : Type 0
-NeverBoth = (bytes content rest : List ℕ) (fault : FrameFault) → IsFrameInFront bytes content rest → FaultAt bytes fault → ⊥
+NeverBoth = (bytes content rest : List ℕ) (fault : FramingFault) → IsFrameInFront bytes content rest → FaultAt bytes fault → ⊥
 
 -- a frame stands in front, or a fault, or more has to come
-abbrev pub IsTold : List ℕ → Type 0
-IsTold bytes = ((content : List ℕ) × (rest : List ℕ) × IsFrameInFront bytes content rest) ⊎ (((fault : FrameFault) × FaultAt bytes fault) ⊎ IsOpen bytes)
+abbrev pub IsOneOfThree : List ℕ → Type 0
+IsOneOfThree bytes = ((content : List ℕ) × (rest : List ℕ) × IsFrameInFront bytes content rest) ⊎ (((fault : FramingFault) × FaultAt bytes fault) ⊎ IsOpen bytes)
 
--- one of the three holds of each rest, and it can be told which
+-- one of the three holds of each rest
 abbrev pub OneOfThree : Type 0
-OneOfThree = (bytes : List ℕ) → IsTold bytes
+OneOfThree = (bytes : List ℕ) → IsOneOfThree bytes
 
 -- what is written for a content of an allowed length is read again, whatever follows it
 abbrev pub IsReadAgain : Type 0

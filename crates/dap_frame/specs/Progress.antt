@@ -1,5 +1,5 @@
 -- How far the header part at the front of a rest was read.
-use Rattle.std.specs.Prelude.{◌≡◌, ℕ, ◌+◌, ◌<◌, ◌≤◌, List, [], ◌∷◌, length, take, slice_index, Option, Some, None, decimal}
+use Rattle.std.specs.Prelude.{◌≡◌, ℕ, ◌+◌, ◌*◌, ◌<◌, ◌≤◌, List, [], ◌∷◌, length, take, slice_index, Option, Some, None, decimal}
 use Rattle.std.specs.List.{AllByRecursion}
 use Rattle.dap_frame.specs.declared.header.Header.{Header}
 use Rattle.dap_frame.specs.declared.header.Header.TheVariants.{Open, Whole}
@@ -20,7 +20,7 @@ abbrev pub Names : List Field → Option ℕ → Type 0
 Names fields None = length_values fields ≡ []
 Names fields (Some n) = (n ≤ content_limit) × (length_values fields ≡ decimal n ∷ [])
 
--- the lines that were judged are fields, and no line ends in what was searched behind them
+-- the lines that were judged are fields, and no line ends in what was searched after them
 pub record IsScanned (scan : Scan) (rest : List ℕ) : Type 0 where
   pub fields : List Field
   pub shaped : AllByRecursion IsField fields
@@ -36,7 +36,16 @@ abbrev pub IsRead : Header → List ℕ → Type 0
 IsRead (Open scan) rest = IsScanned scan rest
 IsRead (Whole size content_len) rest = (size ≤ length rest) × IsHeader (take size rest) content_len
 
--- and no further, as long as no more of it comes
+-- and no further, as long as no more of it comes: all of it was searched
 abbrev pub IsReadOut : Header → List ℕ → Type 0
-IsReadOut (Open scan) rest = IsScanned scan rest × IsOpen rest
+IsReadOut (Open scan) rest = IsScanned scan rest × (scan.searched ≡ length rest) × IsOpen rest
 IsReadOut (Whole size content_len) rest = (size ≤ length rest) × IsHeader (take size rest) content_len
+
+-- ---- how many bytes are kept
+
+abbrev pub spare : ℕ
+spare = 4096
+
+-- at most twice as many bytes are kept as are not yet given, and a constant number more
+abbrev pub IsBounded : ℕ → ℕ → Type 0
+IsBounded kept rest = kept ≤ 2 * rest + spare

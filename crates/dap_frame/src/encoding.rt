@@ -1,8 +1,8 @@
 ghost use Rattle.std.specs.Prelude.{◌≡◌, ◌+◌, ◌<◌, ◌≤◌, ◌++◌, length, drop, decimal, vec_len, vec_capacity, OnOk, OnErr, IfErr};
 ghost use Rattle.dap_frame.specs.Frame.{frame_of};
-ghost use Rattle.dap_frame.specs.declared.fault.FrameFault.TheVariants.{NoMemory};
+ghost use Rattle.dap_frame.specs.declared.fault.FramingFault.TheVariants.{NoMemory};
 
-use crate::fault::FrameFault;
+use crate::fault::FramingFault;
 use itoa::Buffer;
 use std::alloc::AllocError;
 
@@ -11,20 +11,20 @@ use std::alloc::AllocError;
 /// # Errors
 ///
 /// `NoMemory` alone, which leaves `out` as it was.
-pub fn encode(content: &[u8], out: &mut Vec<u8>) -> Result<(), FrameFault>
+pub fn encode(content: &[u8], out: &mut Vec<u8>) -> Result<(), FramingFault>
     ensures ok { OnOk result (out.new.items ≡ out.old.items ++ frame_of content.now) }
     ensures err { OnErr result (out.new.items ≡ out.old.items) }
     ensures memory { IfErr result (λ fault. fault ≡ NoMemory) }
-    // It comes only where room for the frame was missing.
+    // It comes only where `out` has no room for the frame.
     ensures full { OnErr result (vec_capacity out.old < vec_len out.old + length (frame_of content.now)) }
 {
     match append_frame(content, out) {
         Ok(()) => Ok(()),
-        Err(AllocError) => Err(FrameFault::NoMemory),
+        Err(AllocError) => Err(FramingFault::NoMemory),
     }
 }
 
-/// Makes room for the whole frame first, so that nothing can fail behind it.
+/// Makes room for the whole frame first, so that nothing can fail after that.
 fn append_frame(content: &[u8], out: &mut Vec<u8>) -> Result<(), AllocError>
     ensures ok { OnOk result (out.new.items ≡ out.old.items ++ frame_of content.now) }
     ensures err { OnErr result (out.new.items ≡ out.old.items) }

@@ -3,7 +3,7 @@ ghost use Rattle.dap_frame.specs.Header.{Field, IsField, LineFault, FaultAt, fie
 ghost use Rattle.dap_frame.specs.Frame.{IsOpen, IsFrameInFront};
 ghost use Rattle.dap_frame.specs.Progress.{EndsAt, HasNoEnd, IsScanned, IsRead, IsReadOut, Names};
 
-use crate::fault::FrameFault;
+use crate::fault::FramingFault;
 use crate::field::{field_of, length_of};
 use memchr::memchr;
 
@@ -38,7 +38,7 @@ impl Header {
 }
 
 /// Reads on, as far as the rest has come.
-pub fn read_on(rest: &[u8], header: Header) -> Result<Header, FrameFault>
+pub fn read_on(rest: &[u8], header: Header) -> Result<Header, FramingFault>
     requires { IsRead header rest.now }
     ensures ok { IfOk result (λ header. IsReadOut header rest.now) }
     ensures err { IfErr result (FaultAt rest.now) }
@@ -68,7 +68,7 @@ pub fn content_of(rest: &[u8], header: Header) -> Option<(&[u8], usize)>
 }
 
 /// Judges each line that is complete.
-fn scan_lines(rest: &[u8], mut scan: Scan) -> Result<Header, FrameFault>
+fn scan_lines(rest: &[u8], mut scan: Scan) -> Result<Header, FramingFault>
     requires { IsScanned scan rest.now }
     ensures ok { IfOk result (λ header. IsReadOut header rest.now) }
     ensures err { IfErr result (FaultAt rest.now) }
@@ -82,7 +82,7 @@ fn scan_lines(rest: &[u8], mut scan: Scan) -> Result<Header, FrameFault>
                     size: end + 2,
                     content_len,
                 }),
-                None => Err(FrameFault::NoLength),
+                None => Err(FramingFault::NoLength),
             };
         }
         scan = Scan {
@@ -92,13 +92,13 @@ fn scan_lines(rest: &[u8], mut scan: Scan) -> Result<Header, FrameFault>
         };
     }
     if bytes.len() == HEADER_LIMIT {
-        return Err(FrameFault::HeaderTooLong);
+        return Err(FramingFault::HeaderTooLong);
     }
     scan.searched = bytes.len();
     Ok(Header::Open(scan))
 }
 
-/// Where the first CR LF from `judged` on stands, of which no one ends by `searched`.
+/// Where the first CR LF from `judged` on stands; none ends before `searched`.
 fn line_end(bytes: &[u8], judged: usize, searched: usize) -> Option<usize>
     requires in_order { judged ≤ searched }
     requires there { searched ≤ length bytes.now }
@@ -117,23 +117,23 @@ fn line_end(bytes: &[u8], judged: usize, searched: usize) -> Option<usize>
     None
 }
 
-/// What is named once this line is read, which is not empty and stands behind fields that name `named`.
-fn judge_field(line: &[u8], named: Option<usize>) -> Result<Option<usize>, FrameFault>
+/// What is named once this line is read, which is not empty and stands after fields that name `named`.
+fn judge_field(line: &[u8], named: Option<usize>) -> Result<Option<usize>, FramingFault>
     ensures ok { (fields : List Field) → Names fields named → IfOk result (λ next. (field : Field) × IsField field × (line.now ≡ field_text field) × Names (fields ++ field ∷ []) next) }
     ensures err { (fields : List Field) → Names fields named → line.now ≢ [] → IfErr result (LineFault fields line.now) }
 {
     let Some(field) = field_of(line) else {
-        return Err(FrameFault::BadField);
+        return Err(FramingFault::BadField);
     };
     if field.name != b"Content-Length".as_slice() {
         return Ok(named);
     }
     if named.is_some() {
-        return Err(FrameFault::TwoLengths);
+        return Err(FramingFault::TwoLengths);
     }
     match length_of(field.value) {
-        None => Err(FrameFault::BadLength),
-        Some(length) if length > CONTENT_LIMIT => Err(FrameFault::TooLarge),
+        None => Err(FramingFault::BadLength),
+        Some(length) if length > CONTENT_LIMIT => Err(FramingFault::TooLarge),
         length => Ok(length),
     }
 }

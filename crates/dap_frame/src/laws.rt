@@ -1,14 +1,13 @@
 ghost use Rattle.dap_frame.specs.Laws.{FramesAreUnique, FaultsAreUnique, NeverBoth, OneOfThree, IsReadAgain, FramesJoin};
 
-/// Each rest has one frame in front, or one fault, or neither, and it can be told which; what is written is read again;
-/// and frames join.
+/// In front of each rest stands one frame, or one fault, or neither; what is written is read again; and frames join.
 ///
-/// Does nothing: its contract is the law.
+/// Does nothing: its contract is the laws.
 pub fn frame_laws()
     ensures frames { FramesAreUnique }
     ensures faults { FaultsAreUnique }
     ensures both { NeverBoth }
-    ensures told { OneOfThree }
+    ensures one_of_three { OneOfThree }
     ensures again { IsReadAgain }
     ensures join { FramesJoin }
 {}

@@ -17,8 +17,5 @@ mod laws;
 
 pub use decoder::Decoder;
 pub use encoding::encode;
-pub use fault::FrameFault;
+pub use fault::FramingFault;
 pub use laws::frame_laws;
-
-#[cfg(test)]
-mod tests;

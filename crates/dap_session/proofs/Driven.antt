@@ -1,6 +1,6 @@
 -- A session that is driven.
 use Rattle.std.proofs.Common.{◌≡◌, List, [], ◌∷◌, ◌++◌, Option, None, Some, refl, sym, ◌∙◌, ap, append_assoc, append-nil}
-use Rattle.dap_frame.specs.declared.fault.FrameFault.{FrameFault}
+use Rattle.dap_frame.specs.declared.fault.FramingFault.{FramingFault}
 use Rattle.dap_session.specs.declared.ending.Ending.{Ending}
 use Rattle.dap_session.specs.declared.ending.Ending.TheVariants as ending
 use Rattle.dap_session.specs.Events.{Incoming}
@@ -77,7 +77,7 @@ driven_stops session fault given_old given_mid given_new event old mid stopped l
   },
 )
 
-pub driven_breaks : (session : State) (k : FrameFault) (given_old given_mid given_new : List Incoming) (event : Incoming) (old mid stopped later : Ports)
+pub driven_breaks : (session : State) (k : FramingFault) (given_old given_mid given_new : List Incoming) (event : Incoming) (old mid stopped later : Ports)
     → Driven session given_old given_mid old mid → given_new ≡ given_mid ++ event ∷ []
     → ((events : List Incoming) (past : History) → StandsFor session events past → EndsAt k events past event mid stopped)
     → TriesQuit stopped later

@@ -5,7 +5,7 @@ use Rattle.dap_msg.specs.declared.request.Request.{Request}
 use Rattle.dap_session.specs.declared.ending.Closed.TheVariants.{Disconnected}
 use Rattle.dap_session.specs.declared.ending.Ending.{Ending}
 use Rattle.dap_session.specs.declared.ending.Ending.TheVariants as ending
-use Rattle.dap_session.specs.declared.fault.SessionFault.TheVariants.{Frame}
+use Rattle.dap_session.specs.declared.fault.SessionFault.TheVariants.{Framing}
 use Rattle.dap_session.specs.Events.{Incoming, Piece, End, ReadFailed, NoMemory, IsTaking, Takes, Rests, Closes, Leads}
 use Rattle.dap_session.specs.History.{Item, Content, Fault, InputEnd, ReadFailure, MemoryFailure, History, closing, closing_command, ending_of, after}
 use Rattle.dap_session.specs.Last.{or_else}
@@ -43,7 +43,7 @@ rests_ending mid bytes new piece by (inl closed) (inr off) is =
 rests_ending mid bytes new piece by (inr (inl open_)) here is =
     let e : Some by ≡ None = sym is ∙ ap ending_of open_.2 ∙ open_.0 in absurd cc
 rests_ending mid bytes new piece by (inr (inr fault)) here is =
-    let e : Some by ≡ Some (ending.Fault (Frame fault.1)) = sym is ∙ ap ending_of fault.3 ∙ ending_of-taking mid (Fault fault.1) fault.0 in inr (fault.1, cc)
+    let e : Some by ≡ Some (ending.Fault (Framing fault.1)) = sym is ∙ ap ending_of fault.3 ∙ ending_of-taking mid (Fault fault.1) fault.0 in inr (fault.1, cc)
 
 closes_ending : (past : History) (item : Item) (new : History) (by closes : Ending) → IsTaking past → closing item ≡ Some closes → Closes past item new → ending_of new ≡ Some by → by ≡ closes
 closes_ending past item new by closes taking is_closing (inl closed) is = absurd (closed.0 taking)

@@ -1,9 +1,9 @@
 -- A session that gave up has sent a beginning of what the events give.
 use Rattle.std.proofs.Common.{◌≡◌, inl, inr, ℕ, ◌+◌, List, [], ◌∷◌, ◌++◌, length, Some, refl, sym, ◌∙◌, ap, subst, append_assoc, append-nil, arith, length-append}
-use Rattle.dap_frame.specs.declared.fault.FrameFault.{FrameFault}
+use Rattle.dap_frame.specs.declared.fault.FramingFault.{FramingFault}
 use Rattle.dap_msg.specs.declared.outgoing.Outgoing.{Outgoing}
 use Rattle.dap_session.specs.declared.fault.SessionFault.{SessionFault}
-use Rattle.dap_session.specs.declared.fault.SessionFault.TheVariants.{Frame, NoMemory, SeqExhausted, OrdersFull, RunnerGone, WriterGone}
+use Rattle.dap_session.specs.declared.fault.SessionFault.TheVariants.{Framing, NoMemory, SeqExhausted, OrdersFull, RunnerGone, WriterGone}
 use Rattle.dap_session.specs.Events as event
 use Rattle.dap_session.specs.Events.{Incoming}
 use Rattle.dap_session.specs.declared.ports.Order.{Order}
@@ -95,7 +95,7 @@ sends_part_more past new whole old later sends grows =
 
 -- a seq that ran out on the way has run out in the whole
 cause_more : (fault : SessionFault) (old later : Ports) (new whole : History) → Grows new whole → HasCause fault old later new → MayCome fault old later whole
-cause_more (Frame k) old later new whole grows cause = absurd cause
+cause_more (Framing k) old later new whole grows cause = absurd cause
 cause_more NoMemory old later new whole grows cause = tt
 cause_more SeqExhausted old later new whole grows cause =
     let e = ap length grows.adds.messages_are in let l = length-append (messages_of new) grows.messages in omega (arith, e, l, cause)
@@ -113,17 +113,17 @@ given_up once past bytes fault whole end_ old later up all =
     let grows = grows_within once past bytes up.contents all.contents up.new all.mid whole up.left end_ up.taken all.taken all.rests in
     (sends_part_more past up.new whole old later up.sends grows, cause_more fault old later up.new whole grows up.cause)
 
-broken_off : IsReadOnce → (past : History) (bytes : List ℕ) (k : FrameFault) (whole : History) (end_ : List ℕ) (old later : Ports)
-    → Breaks past bytes (Frame k) old later → TakesAll past bytes whole end_ → Leaves (Frame k) past whole old later
+broken_off : IsReadOnce → (past : History) (bytes : List ℕ) (k : FramingFault) (whole : History) (end_ : List ℕ) (old later : Ports)
+    → Breaks past bytes (Framing k) old later → TakesAll past bytes whole end_ → Leaves (Framing k) past whole old later
 broken_off once past bytes k whole end_ old later b all =
     let same = (one_all once past bytes b.new whole b.left end_ b.taken all).0 in (
       subst (λ h. SendsPart past h old later) same (sends_is_part past b.new old later b.sends),
-      subst (λ h. ending_of h ≡ Some (ending.Fault (Frame k))) same b.ending_is,
+      subst (λ h. ending_of h ≡ Some (ending.Fault (Framing k))) same b.ending_is,
     )
 
 failed : IsReadOnce → (past : History) (bytes : List ℕ) (fault : SessionFault) (whole : History) (end_ : List ℕ) (old later : Ports)
     → Fails fault past bytes old later → TakesAll past bytes whole end_ → Leaves fault past whole old later
-failed once past bytes (Frame k) whole end_ old later f all = broken_off once past bytes k whole end_ old later f all
+failed once past bytes (Framing k) whole end_ old later f all = broken_off once past bytes k whole end_ old later f all
 failed once past bytes NoMemory whole end_ old later f all = given_up once past bytes NoMemory whole end_ old later f all
 failed once past bytes SeqExhausted whole end_ old later f all = given_up once past bytes SeqExhausted whole end_ old later f all
 failed once past bytes OrdersFull whole end_ old later f all = given_up once past bytes OrdersFull whole end_ old later f all

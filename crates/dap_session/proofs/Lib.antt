@@ -1,3 +1,4 @@
+pub mod Outcomes
 pub mod Readings
 pub mod Taking
 pub mod Way

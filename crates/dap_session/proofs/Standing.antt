@@ -11,8 +11,8 @@ use Rattle.dap_session.specs.Events.{Incoming, IsTaking, Leads, LeadsAll}
 use Rattle.dap_session.specs.Ports.{Ports}
 use Rattle.dap_session.specs.Output.{Sends}
 use Rattle.dap_session.specs.State.{State, Knows, StandsFor, Runs, KeepsOpen, FailsAt, EndsAt}
-use Rattle.dap_frame.specs.declared.fault.FrameFault.{FrameFault}
-use Rattle.dap_session.specs.declared.fault.SessionFault.TheVariants.{Frame}
+use Rattle.dap_frame.specs.declared.fault.FramingFault.{FramingFault}
+use Rattle.dap_session.specs.declared.fault.SessionFault.TheVariants.{Framing}
 use Rattle.dap_session.proofs.Readings.{messages_of-after, orders_of-after, ending_of-after, situation-after, next_seq-after}
 use Rattle.dap_session.proofs.Taking.{sends_stay}
 
@@ -89,7 +89,7 @@ goes_on_closing old new events past event item closed p q stands taking leads no
       sends_closing past item closed p q none closes frames orders,
     )
 
--- a closed session stands for whatever comes behind
+-- a closed session stands for whatever comes after
 leads_nowhere : (past : History) (rest : List ℕ) (event : Incoming) → ¬ IsTaking past → (left : List ℕ) × Leads past rest event past left
 leads_nowhere past rest (event.Piece piece) closed =
     (rest ++ piece, record { contents = []; mid = past; taken = (refl, refl); rests = inl (closed, refl) })
@@ -114,19 +114,19 @@ stays_closed session events past event p stands closed =
 
 -- ---- a framing fault
 
-not_frame : (k : FrameFault) (old later : Ports) → KeepsOpen (Frame k) old later → ⊥
+not_frame : (k : FramingFault) (old later : Ports) → KeepsOpen (Framing k) old later → ⊥
 not_frame k old later is = elim is.cause [ inl full ↦ absurd (let e = full.0 in cc) | inr gone ↦ absurd (let e = gone.0 in cc) ]
 
 -- at a framing fault the last event leads on, and all was sent
-leads_to_fault : (past : History) (rest : List ℕ) (event : Incoming) (k : FrameFault) (old later : Ports) → FailsAt (Frame k) past rest event old later
-    → (new : History) × (left : List ℕ) × Leads past rest event new left × (ending_of new ≡ Some (ending.Fault (Frame k))) × Sends past new old later
+leads_to_fault : (past : History) (rest : List ℕ) (event : Incoming) (k : FramingFault) (old later : Ports) → FailsAt (Framing k) past rest event old later
+    → (new : History) × (left : List ℕ) × Leads past rest event new left × (ending_of new ≡ Some (ending.Fault (Framing k))) × Sends past new old later
 leads_to_fault past rest (event.Piece piece) k old later b = (b.new, b.left, b.taken, b.ending_is, b.sends)
 leads_to_fault past rest event.End k old later b = absurd (not_frame k old later b)
 leads_to_fault past rest event.ReadFailed k old later b = absurd (not_frame k old later b)
 leads_to_fault past rest event.NoMemory k old later b = absurd (let e = b.0 in cc)
 
-pub ends_at_fault : (session : State) (k : FrameFault) (events : List Incoming) (past : History) (event : Incoming) (p q : Ports) (stands : StandsFor session events past)
-    → FailsAt (Frame k) past stands.rest event p q → EndsAt k events past event p q
+pub ends_at_fault : (session : State) (k : FramingFault) (events : List Incoming) (past : History) (event : Incoming) (p q : Ports) (stands : StandsFor session events past)
+    → FailsAt (Framing k) past stands.rest event p q → EndsAt k events past event p q
 ends_at_fault session k events past event p q stands fails =
     let b = leads_to_fault past stands.rest event k p q fails in
     record {

@@ -1,6 +1,6 @@
--- Which items a list of events gives, one after another. Nothing behind the closing is an item.
+-- Which items a list of events gives, one after another. Nothing after the closing is an item.
 use Rattle.std.specs.Prelude.{◌≡◌, ◌⊎◌, ◌++◌, ◌∷◌, [], ℕ, List, Option, None}
-use Rattle.dap_frame.specs.declared.fault.FrameFault.{FrameFault}
+use Rattle.dap_frame.specs.declared.fault.FramingFault.{FramingFault}
 use Rattle.dap_frame.specs.Frame.{IsFrameInFront, IsOpen}
 use Rattle.dap_frame.specs.Header.{FaultAt}
 use Rattle.dap_msg.specs.declared.request.Request.{Request}
@@ -43,7 +43,7 @@ abbrev pub Rests : History → List ℕ → History → Type 0
 Rests past bytes new =
     ((¬ IsTaking past) × (new ≡ past))
     ⊎ ((IsTaking past × IsOpen bytes × (new ≡ past))
-    ⊎ (IsTaking past × (k : FrameFault) × FaultAt bytes k × (new ≡ after past (Fault k))))
+    ⊎ (IsTaking past × (k : FramingFault) × FaultAt bytes k × (new ≡ after past (Fault k))))
 
 -- the contents of the bytes are taken, all that can be
 pub record TakesAll (past : History) (bytes : List ℕ) (new : History) (left : List ℕ) : Type 0 where

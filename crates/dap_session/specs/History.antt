@@ -1,7 +1,7 @@
 -- What a session has taken, and what that made it send: the requests and answers of the Debug Adapter Protocol. Which request
 -- is answered in which situation is this project's own profile.
 use Rattle.std.specs.Prelude.{ℕ, ◌+◌, List, [], ◌∷◌, ◌++◌, length, flat_map, unwrap_or, Option, None, Some, Result, Ok, Err}
-use Rattle.dap_frame.specs.declared.fault.FrameFault.{FrameFault}
+use Rattle.dap_frame.specs.declared.fault.FramingFault.{FramingFault}
 use Rattle.dap_msg.specs.declared.request.Request.{Request}
 use Rattle.dap_msg.specs.declared.command.Command.{Command}
 use Rattle.dap_msg.specs.declared.command.Command.TheVariants as command
@@ -16,7 +16,7 @@ use Rattle.dap_session.specs.Last.{last_such}
 use Rattle.dap_session.specs.declared.ports.Order.{Order}
 use Rattle.dap_session.specs.declared.ports.Order.TheVariants.{Quit}
 use Rattle.dap_session.specs.declared.ending.Closed.TheVariants.{Disconnected, InputEnded, ReadFailed}
-use Rattle.dap_session.specs.declared.fault.SessionFault.TheVariants.{Frame, NoMemory}
+use Rattle.dap_session.specs.declared.fault.SessionFault.TheVariants.{Framing, NoMemory}
 use Rattle.dap_session.specs.declared.ending.Ending.{Ending}
 use Rattle.dap_session.specs.declared.ending.Ending.TheVariants as ending
 use Rattle.dap_session.specs.declared.situation.Situation.{Situation}
@@ -25,7 +25,7 @@ use Rattle.dap_session.specs.declared.situation.Situation.TheVariants.{Fresh, Re
 -- what a session takes: a content, with the request that it is or none; a framing fault; how the input came to its end
 pub data Item : Type 0 where
   Content : Option Request → Item
-  Fault : FrameFault → Item
+  Fault : FramingFault → Item
   InputEnd : Item
   ReadFailure : Item
   MemoryFailure : Item
@@ -66,7 +66,7 @@ closing_command _ = None
 abbrev pub closing : Item → Option Ending
 closing (Content None) = None
 closing (Content (Some request)) = closing_command request.body
-closing (Fault k) = Some (ending.Fault (Frame k))
+closing (Fault k) = Some (ending.Fault (Framing k))
 closing InputEnd = Some (ending.Closed InputEnded)
 closing ReadFailure = Some (ending.Closed ReadFailed)
 closing MemoryFailure = Some (ending.Fault NoMemory)

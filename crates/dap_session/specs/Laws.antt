@@ -18,8 +18,8 @@ use Rattle.dap_session.specs.History.{Item, Content, Fault, InputEnd, ReadFailur
 use Rattle.dap_session.specs.Events.{Incoming, Piece, End, ReadFailed, NoMemory, IsTaking, IsHistoryOf}
 use Rattle.dap_session.specs.declared.fault.SessionFault.{SessionFault}
 use Rattle.dap_session.specs.declared.fault.SessionFault.TheVariants as fault
-use Rattle.dap_session.specs.declared.fault.SessionFault.TheVariants.{Frame}
-use Rattle.dap_frame.specs.declared.fault.FrameFault.{FrameFault}
+use Rattle.dap_session.specs.declared.fault.SessionFault.TheVariants.{Framing}
+use Rattle.dap_frame.specs.declared.fault.FramingFault.{FramingFault}
 use Rattle.dap_session.specs.State.{FailsAt}
 use Rattle.dap_session.specs.Ports.{Ports}
 use Rattle.dap_session.specs.Output.{SendsPart, TriesQuit, HasCause, frames_from}
@@ -69,7 +69,7 @@ HistoryIsOne =
 
 -- how an event can end a session
 abbrev pub EndsBy : Incoming → Ending → Type 0
-EndsBy (Piece piece) by = (by ≡ ending.Closed Disconnected) ⊎ ((k : FrameFault) × (by ≡ ending.Fault (Frame k)))
+EndsBy (Piece piece) by = (by ≡ ending.Closed Disconnected) ⊎ ((k : FramingFault) × (by ≡ ending.Fault (Framing k)))
 EndsBy End by = by ≡ ending.Closed InputEnded
 EndsBy ReadFailed by = by ≡ ending.Closed closed.ReadFailed
 EndsBy NoMemory by = by ≡ ending.Fault fault.NoMemory
@@ -83,7 +83,7 @@ EventTellsTheEnding =
 
 -- why a fault may come, seen from all that the events give
 abbrev pub MayCome : SessionFault → Ports → Ports → History → Type 0
-MayCome (Frame k) old later whole = ending_of whole ≡ Some (ending.Fault (Frame k))
+MayCome (Framing k) old later whole = ending_of whole ≡ Some (ending.Fault (Framing k))
 MayCome fault old later whole = HasCause fault old later whole
 
 -- A fault at an event leaves a beginning of what the event gives, and has its cause. Here and below `whole` is the one
@@ -95,7 +95,7 @@ FaultLeavesABeginning =
     → (whole : History) (left : List ℕ) → IsHistoryOf (before ++ last ∷ []) whole left
     → SendsPart past whole old later × MayCome fault old later whole
 
--- So a session that gave up has sent a beginning of what the events give, behind which one Quit may stand.
+-- So a session that gave up has sent a beginning of what the events give, after which one Quit may stand.
 abbrev pub GivingUpLeavesABeginning : Type 0
 GivingUpLeavesABeginning =
     (events : List Incoming) (fault : SessionFault) (old later : Ports) → StopsShort events fault old later

@@ -4,7 +4,7 @@ use Rattle.dap_frame.specs.Frame.{frame_of}
 use Rattle.dap_msg.specs.declared.outgoing.Outgoing.{Outgoing}
 use Rattle.dap_msg.specs.Outgoing.{text_of}
 use Rattle.dap_session.specs.declared.fault.SessionFault.{SessionFault}
-use Rattle.dap_session.specs.declared.fault.SessionFault.TheVariants.{Frame, NoMemory, SeqExhausted, OrdersFull, RunnerGone, WriterGone}
+use Rattle.dap_session.specs.declared.fault.SessionFault.TheVariants.{Framing, NoMemory, SeqExhausted, OrdersFull, RunnerGone, WriterGone}
 use Rattle.dap_session.specs.declared.ports.Order.{Order}
 use Rattle.dap_session.specs.declared.ports.Order.TheVariants.{Quit}
 use Rattle.dap_session.specs.Ports.{Ordered, Ports}
@@ -46,7 +46,7 @@ pub record SendsPart (past new : History) (old later : Ports) : Type 0 where
 
 -- Where the history new was on its way, a fault has its cause: a port refused just now, or the seq ran out.
 abbrev pub HasCause : SessionFault → Ports → Ports → History → Type 0
-HasCause (Frame k) old later new = ⊥
+HasCause (Framing k) old later new = ⊥
 HasCause NoMemory old later new = Unit {0}
 HasCause SeqExhausted old later new = 2 ^ 53 < next_seq new
 HasCause OrdersFull old later new = old.orders_full < later.orders_full

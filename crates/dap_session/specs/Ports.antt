@@ -8,7 +8,7 @@ pub record Written : Type 0 where
   pub frames : List (List ℕ)
   pub refusals : ℕ
 
--- The orders pushed, the oldest first, and how often one was refused: for want of room, and because nobody takes any.
+-- The orders pushed, the oldest first, and how often one was refused: because there was no room, and because nobody takes any.
 pub record Ordered : Type 0 where
   pub orders : List Order
   pub fulls : ℕ

@@ -1,8 +1,8 @@
 -- What a whole run of a session sends.
 use Rattle.std.specs.Prelude.{◌≡◌, ◌++◌, ◌∷◌, [], ℕ, List, Some}
-use Rattle.dap_frame.specs.declared.fault.FrameFault.{FrameFault}
+use Rattle.dap_frame.specs.declared.fault.FramingFault.{FramingFault}
 use Rattle.dap_session.specs.declared.fault.SessionFault.{SessionFault}
-use Rattle.dap_session.specs.declared.fault.SessionFault.TheVariants.{Frame}
+use Rattle.dap_session.specs.declared.fault.SessionFault.TheVariants.{Framing}
 use Rattle.dap_session.specs.declared.ending.Ending.{Ending}
 use Rattle.dap_session.specs.declared.ending.Ending.TheVariants.{Fault}
 use Rattle.dap_session.specs.History.{History, messages_of, orders_of, ending_of}
@@ -22,9 +22,9 @@ pub record Serves (events : List Incoming) (ending : Ending) (old later : Ports)
   pub orders_are : later.orders ≡ old.orders ++ orders_of past
 
 -- A framing fault ended the session. All was sent that the events give, and then a Quit was tried.
-pub record ServesUntilFault (events : List Incoming) (fault : FrameFault) (old later : Ports) : Type 0 where
+pub record ServesUntilFault (events : List Incoming) (fault : FramingFault) (old later : Ports) : Type 0 where
   pub mid : Ports
-  pub serves : Serves events (Fault (Frame fault)) old mid
+  pub serves : Serves events (Fault (Framing fault)) old mid
   pub quit : TriesQuit mid later
 
 -- The session gave up at the last event. What the others give was sent, and a beginning of what that one adds, and then

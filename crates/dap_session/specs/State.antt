@@ -1,12 +1,12 @@
 -- What a session keeps, and which lists of events it stands for.
 use Rattle.std.specs.Prelude.{◌≡◌, ◌<◌, ◌⊎◌, ◌++◌, ◌∷◌, [], ℕ, List, Option, None, Some}
 use Rattle.dap_frame.specs.Stream.{Stream}
-use Rattle.dap_frame.specs.declared.fault.FrameFault.{FrameFault}
+use Rattle.dap_frame.specs.declared.fault.FramingFault.{FramingFault}
 use Rattle.dap_session.specs.declared.situation.Situation.{Situation}
 use Rattle.dap_session.specs.declared.ending.Ending.{Ending}
 use Rattle.dap_session.specs.declared.ending.Ending.TheVariants.{Closed, Fault}
 use Rattle.dap_session.specs.declared.fault.SessionFault.{SessionFault}
-use Rattle.dap_session.specs.declared.fault.SessionFault.TheVariants.{Frame, OrdersFull, RunnerGone}
+use Rattle.dap_session.specs.declared.fault.SessionFault.TheVariants.{Framing, OrdersFull, RunnerGone}
 use Rattle.dap_session.specs.declared.fault.SessionFault.TheVariants as faults
 use Rattle.dap_session.specs.declared.ending.Want.{Want}
 use Rattle.dap_session.specs.declared.ending.Want.TheVariants as want_is
@@ -52,7 +52,7 @@ pub record GivesUp (past : History) (bytes : List ℕ) (fault : SessionFault) (o
   pub sends : SendsPart past new old later
   pub cause : HasCause fault old later new
 
--- From past a framing fault stood behind the contents, and all was sent that they give.
+-- From past a framing fault stood after the contents, and all was sent that they give.
 pub record Breaks (past : History) (bytes : List ℕ) (fault : SessionFault) (old later : Ports) : Type 0 where
   pub new : History
   pub left : List ℕ
@@ -62,7 +62,7 @@ pub record Breaks (past : History) (bytes : List ℕ) (fault : SessionFault) (ol
 
 -- what a fault leaves
 abbrev pub Fails : SessionFault → History → List ℕ → Ports → Ports → Type 0
-Fails (Frame k) past bytes old later = Breaks past bytes (Frame k) old later
+Fails (Framing k) past bytes old later = Breaks past bytes (Framing k) old later
 Fails fault past bytes old later = GivesUp past bytes fault old later
 
 -- The port for orders refused the Quit of a closing, by this fault, and nothing was sent.
@@ -78,11 +78,11 @@ FailsAt fault past rest ReadFailed old later = KeepsOpen fault old later
 FailsAt fault past rest NoMemory old later = (fault ≡ faults.NoMemory) × SendsNothing old later
 
 -- A framing fault ended the session at this event, and all was sent that the event gives.
-pub record EndsAt (fault : FrameFault) (events : List Incoming) (past : History) (event : Incoming) (old later : Ports) : Type 0 where
+pub record EndsAt (fault : FramingFault) (events : List Incoming) (past : History) (event : Incoming) (old later : Ports) : Type 0 where
   pub new : History
   pub left : List ℕ
   pub history : IsHistoryOf (events ++ event ∷ []) new left
-  pub ending_is : ending_of new ≡ Some (Fault (Frame fault))
+  pub ending_is : ending_of new ≡ Some (Fault (Framing fault))
   pub sends : Sends past new old later
 
 -- a session that didn't give up

@@ -1,7 +1,7 @@
 ghost use Rattle.std.specs.Prelude.{◌≡◌, ◌++◌, List, Err, IfOk, IfErr};
-ghost use Rattle.dap_frame.specs.declared.fault.FrameFault.{FrameFault};
+ghost use Rattle.dap_frame.specs.declared.fault.FramingFault.{FramingFault};
 ghost use Rattle.dap_session.specs.Events.{Incoming};
-ghost use Rattle.dap_session.specs.declared.fault.SessionFault.TheVariants.{Frame};
+ghost use Rattle.dap_session.specs.declared.fault.SessionFault.TheVariants.{Framing};
 ghost use Rattle.dap_session.specs.declared.ending.Ending.TheVariants as ending;
 ghost use Rattle.dap_session.specs.Output.{HasTriedQuit};
 ghost use Rattle.dap_session.specs.Ports.{ports};
@@ -14,12 +14,12 @@ use crate::session::Session;
 use std::alloc::Global;
 use std::sync::Wait;
 
-/// Takes events until the session is closed or gives up, and says what closed it. The loader is asked for nothing.
+/// Takes events until the session is closed or gives up, and returns what closed it. The loader is asked for nothing.
 ///
 /// # Errors
 ///
 /// At a framing fault all was sent that the contents before it give. At any other fault what was sent is a beginning of
-/// what the events give. Either way one order to quit is tried behind it.
+/// what the events give. Either way one order to quit is tried after that.
 pub fn drive<I: Inbox, L: Loader, O: Out, D: Orders>(
     rt: &impl Wait,
     alloc: Global,
@@ -28,7 +28,7 @@ pub fn drive<I: Inbox, L: Loader, O: Out, D: Orders>(
     out: &mut O,
     orders: &mut D,
 ) -> Result<Closed, SessionFault>
-    // All that the events give was sent, the frames of their messages and their orders, and the answer says what
+    // All that the events give was sent, the frames of their messages and their orders, and the result is what
     // closed the session.
     ensures ok { IfOk result (λ closed. (events : List Incoming)
         × (I.given inbox.new ≡ I.given inbox.old ++ events)
@@ -36,7 +36,7 @@ pub fn drive<I: Inbox, L: Loader, O: Out, D: Orders>(
         (ports (O.seen out.old) (D.seen orders.old))
         (ports (O.seen out.new) (D.seen orders.new))) }
     // So it was where a framing fault ended it.
-    ensures frame { (fault : FrameFault) → result ≡ Err (Frame fault) → (events : List Incoming)
+    ensures framing { (fault : FramingFault) → result ≡ Err (Framing fault) → (events : List Incoming)
         × (I.given inbox.new ≡ I.given inbox.old ++ events)
         × ServesUntilFault events fault
         (ports (O.seen out.old) (D.seen orders.old))
@@ -67,7 +67,7 @@ pub fn drive<I: Inbox, L: Loader, O: Out, D: Orders>(
     unreachable!()
 }
 
-/// Pushes the order to quit. Where it is refused, nobody is told.
+/// Pushes the order to quit. That it was refused is not reported.
 fn try_quit<D: Orders>(orders: &mut D)
     ensures { HasTriedQuit (D.seen orders.old) (D.seen orders.new) }
 {

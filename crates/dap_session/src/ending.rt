@@ -14,7 +14,9 @@ pub enum Closed {
 /// How a session ended: closed, or given up.
 #[derive(Clone, Copy, Debug, PartialEq, Eq)]
 pub enum Ending {
+    /// It was closed.
     Closed(Closed),
+    /// It gave up.
     Fault(SessionFault),
 }
 

@@ -18,8 +18,6 @@ mod laws;
 mod ports;
 mod session;
 mod situation;
-#[cfg(test)]
-mod tests;
 
 pub use driving::drive;
 pub use ending::{Closed, Ending, Want};

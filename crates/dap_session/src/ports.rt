@@ -9,13 +9,14 @@ pub enum Event {
     End,
     /// The input can't be read any more.
     ReadFailed,
-    /// There was no memory to read a piece into.
+    /// An allocation failed while a piece was read.
     NoMemory,
 }
 
 /// What a session asks of the runner.
 #[derive(Debug, Drop)]
 pub enum Order {
+    /// To end.
     Quit,
 }
 
@@ -31,7 +32,9 @@ pub enum OrderFault {
 /// Why a file was not loaded.
 #[derive(Clone, Copy, Debug, PartialEq, Eq)]
 pub enum LoadFault {
+    /// The file can't be read.
     CannotRead,
+    /// An allocation failed.
     NoMemory,
 }
 
@@ -94,7 +97,7 @@ pub trait Loader {
     ghost use Rattle.dap_session.specs.declared.ports.LoadFault.TheVariants.{CannotRead, NoMemory};
     ghost use Rattle.std.specs.Prelude.{◌≡◌, ◌++◌, ◌∷◌, [], ◌≤◌, List, Ok, Err, length, IfOk};
 
-    /// The paths asked for and the answers given so far, the oldest first; one for want of memory isn't among them.
+    /// The paths asked for and the answers given so far, the oldest first; an answer `NoMemory` isn't among them.
     ghost loaded: { Self → List Load };
 
     /// The file's bytes, the first 65,537 of them where it has more.

@@ -34,8 +34,8 @@ impl Model for Session {
 impl Session {
     ghost use Rattle.dap_session.specs.declared.ports.Event.TheVariants as event_is;
     ghost use Rattle.dap_session.specs.declared.fault.SessionFault.{SessionFault};
-    ghost use Rattle.dap_session.specs.declared.fault.SessionFault.TheVariants.{Frame, NoMemory};
-    ghost use Rattle.dap_frame.specs.declared.fault.FrameFault.{FrameFault};
+    ghost use Rattle.dap_session.specs.declared.fault.SessionFault.TheVariants.{Framing, NoMemory};
+    ghost use Rattle.dap_frame.specs.declared.fault.FramingFault.{FramingFault};
     ghost use Rattle.dap_session.specs.declared.ending.Ending.TheVariants as ending;
     ghost use Rattle.dap_session.specs.History.{History};
     ghost use Rattle.dap_session.specs.Events.{Incoming, incoming_of};
@@ -66,12 +66,12 @@ impl Session {
         }
     }
 
-    /// Takes an event, sends what it gives, and says what the session wants next.
+    /// Takes an event, sends what it gives, and returns what the session asks for next.
     ///
     /// # Errors
     ///
     /// At a framing fault all was sent that the contents before it give. At any other fault what was sent is a beginning
-    /// of what the event gives. Either way the session has given up: it sends nothing more and answers the same fault.
+    /// of what the event gives. Either way the session has given up: it sends nothing more and returns the same fault.
     pub fn take<O: Out, D: Orders>(
         &mut self,
         event: Event,
@@ -90,7 +90,7 @@ impl Session {
         ensures want { IfOk result (λ want. Wants want self.new.ending) }
 
         // So it is at a framing fault, with which the items end.
-        ensures frame { (fault : FrameFault) → result ≡ Err (Frame fault) → self.old.ending ≡ None →
+        ensures framing { (fault : FramingFault) → result ≡ Err (Framing fault) → self.old.ending ≡ None →
             (events : List Incoming) (past : History) → StandsFor self.old events past →
             EndsAt fault events past (incoming_of event)
             (ports (O.seen out.old) (D.seen orders.old))
@@ -152,18 +152,9 @@ impl Session {
         ensures well { OnOk result (IsWell self.new.ending) }
     {
         match event {
-            Event::Piece(piece) => match self.take_piece(piece.as_slice(), out, orders) {
-                Ok(()) => Ok(()),
-                Err(fault) => Err(fault),
-            },
-            Event::End => match self.close(Closed::InputEnded, orders) {
-                Ok(()) => Ok(()),
-                Err(fault) => Err(fault),
-            },
-            Event::ReadFailed => match self.close(Closed::ReadFailed, orders) {
-                Ok(()) => Ok(()),
-                Err(fault) => Err(fault),
-            },
+            Event::Piece(piece) => self.take_piece(piece.as_slice(), out, orders),
+            Event::End => self.close(Closed::InputEnded, orders),
+            Event::ReadFailed => self.close(Closed::ReadFailed, orders),
             Event::NoMemory => Err(SessionFault::NoMemory),
         }
     }

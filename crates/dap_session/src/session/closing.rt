@@ -27,10 +27,7 @@ impl Session {
         ensures err { OnErr result ((D.seen orders.new).orders ≡ (D.seen orders.old).orders) }
         ensures cause { IfErr result (λ fault. IsNotPushed fault (D.seen orders.old) (D.seen orders.new)) }
     {
-        match quit(orders) {
-            Ok(()) => {}
-            Err(fault) => return Err(fault),
-        }
+        quit(orders)?;
         self.ending = Some(Ending::Closed(closed));
         Ok(())
     }

@@ -2,7 +2,7 @@
 ghost use Rattle.std.specs.Prelude.{◌≡◌, ◌++◌, ◌∷◌, [], ◌⊎◌, Option, Some, None, IfOk, IfErr, OnOk, MatchOption};
 ghost use Rattle.dap_frame.specs.Frame.{IsFrameInFront, IsOpen};
 ghost use Rattle.dap_frame.specs.Header.{FaultAt};
-ghost use Rattle.dap_frame.specs.declared.fault.FrameFault.{FrameFault};
+ghost use Rattle.dap_frame.specs.declared.fault.FramingFault.{FramingFault};
 ghost use Rattle.dap_session.specs.declared.fault.SessionFault.TheVariants as faults;
 ghost use Rattle.dap_session.specs.Output.{RefusesNothing};
 ghost use Rattle.dap_session.specs.Ports.{ports};
@@ -10,7 +10,7 @@ ghost use Rattle.dap_session.specs.Ports.{ports};
 use super::Session;
 use crate::fault::SessionFault;
 use crate::ports::{Orders, Out};
-use dap_frame::{Decoder, FrameFault};
+use dap_frame::{Decoder, FramingFault};
 use dap_msg::read;
 
 impl Session {
@@ -70,14 +70,10 @@ impl Session {
         ensures well { OnOk result (IsWell self.new.ending) }
     {
         while self.ending.is_none() {
-            let content = match next_content(&mut self.decoder) {
-                Ok(Some(content)) => content,
-                Ok(None) => return Ok(()),
-                Err(fault) => return Err(fault),
+            let Some(content) = next_content(&mut self.decoder)? else {
+                return Ok(());
             };
-            if let Err(fault) = self.take_content(content.as_slice(), out, orders) {
-                return Err(fault);
-            }
+            self.take_content(content.as_slice(), out, orders)?;
         }
         Ok(())
     }
@@ -126,11 +122,11 @@ fn next_content(decoder: &mut Decoder) -> Result<Option<Vec<u8>>, SessionFault>
         (IsOpen decoder.old.rest × (decoder.new ≡ decoder.old))
         (λ content. IsFrameInFront decoder.old.rest content.items decoder.new.rest × (decoder.new.fault ≡ None))) }
     ensures fault { IfErr result (λ fault. (fault ≡ faults.NoMemory)
-        ⊎ ((k : FrameFault) × (fault ≡ faults.Frame k) × FaultAt decoder.old.rest k)) }
+        ⊎ ((k : FramingFault) × (fault ≡ faults.Framing k) × FaultAt decoder.old.rest k)) }
 {
     match decoder.next_content() {
         Ok(next) => Ok(next),
-        Err(FrameFault::NoMemory) => Err(SessionFault::NoMemory),
-        Err(fault) => Err(SessionFault::Frame(fault)),
+        Err(FramingFault::NoMemory) => Err(SessionFault::NoMemory),
+        Err(fault) => Err(SessionFault::Framing(fault)),
     }
 }

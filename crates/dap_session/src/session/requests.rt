@@ -62,18 +62,12 @@ impl Session {
         ensures stream { self.new.stream ≡ self.old.stream }
         ensures well { OnOk result (IsWell self.new.ending) }
     {
-        let prepared = match self.prepare(request) {
-            Ok(prepared) => prepared,
-            Err(fault) => return Err(fault),
-        };
         let Prepared {
             frame,
             situation,
             ending,
-        } = prepared;
-        if let Err(fault) = send(&ending, frame, out, orders) {
-            return Err(fault);
-        }
+        } = self.prepare(request)?;
+        send(&ending, frame, out, orders)?;
         self.next_seq += 1;
         self.situation = situation;
         self.ending = ending;
@@ -91,12 +85,8 @@ impl Session {
         ensures cause { IfErr result (λ fault. (fault ≡ NoMemory) ⊎ ((fault ≡ SeqExhausted) × (2 ^ 53 ≤ self.now.next_seq))) }
     {
         let response = self.respond(request);
-        let frame = match self.frame(&response.message) {
-            Ok(frame) => frame,
-            Err(fault) => return Err(fault),
-        };
         Ok(Prepared {
-            frame,
+            frame: self.frame(&response.message)?,
             situation: response.situation,
             ending: response.ending,
         })
@@ -144,10 +134,7 @@ fn send<O: Out, D: Orders>(
         later) }
 {
     if let Some(Ending::Closed(_)) = ending {
-        match quit(orders) {
-            Ok(()) => {}
-            Err(fault) => return Err(fault),
-        }
+        quit(orders)?;
     }
     match out.put(frame) {
         Ok(()) => Ok(()),

@@ -1,5 +1,5 @@
 use Rattle.dap_frame.proofs.Faults.{same_fault}
-use Rattle.dap_frame.proofs.Deciding.{told}
+use Rattle.dap_frame.proofs.Deciding.{decide}
 use Rattle.dap_frame.proofs.Frames.{same_frame, never_both, read_again, frames_join}
 use Rattle.dap_frame.proofs.laws.frame_laws.Goals as goal
 
@@ -18,5 +18,5 @@ returns-clause-again c = read_again
 pub returns-clause-join : goal.returns-clause-join
 returns-clause-join c = frames_join
 
-pub returns-clause-told : goal.returns-clause-told
-returns-clause-told c = told
+pub returns-clause-one_of_three : goal.returns-clause-one_of_three
+returns-clause-one_of_three c = decide

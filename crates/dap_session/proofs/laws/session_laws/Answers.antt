@@ -17,7 +17,7 @@ returns-clause-last c = disconnect_last
 
 pub returns-clause-history : goal.returns-clause-history
 returns-clause-history c =
-    some_history (record { told = c.frame_laws.ensures.told; read = c.message_laws.ensures.each }) [] []
+    some_history (record { one_of_three = c.frame_laws.ensures.one_of_three; read = c.message_laws.ensures.each }) [] []
 
 pub returns-clause-one : goal.returns-clause-one
 returns-clause-one c = λ events past other rest left history there.

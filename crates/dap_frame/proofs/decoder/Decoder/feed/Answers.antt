@@ -11,7 +11,7 @@ pub invariant_of-self : goal.invariant_of-self
 invariant_of-self c =
     let kept = c.compact-self-inside.ensures in
     fed c.self.inside.header c.compact-self-inside.new.bytes.items c.args.piece.now c.extend_from_slice.new.self.items c.compact-self-inside.result
-    (is_ok c.extend_from_slice.result) c.extend_from_slice.ensures.items kept.there (subst (IsRead c.self.inside.header) (sym kept.rest) c.self.invariant.1)
+    (is_ok c.extend_from_slice.result) c.extend_from_slice.ensures.items (kept.there, subst (IsRead c.self.inside.header) (sym kept.rest) c.self.invariant.1, kept.bounded)
 
 pub returns-clause-stream : goal.returns-clause-stream
 returns-clause-stream c = λ stream contents before.

@@ -1,4 +1,4 @@
-use Rattle.dap_session.specs.declared.fault.SessionFault.TheVariants.{Frame}
+use Rattle.dap_session.specs.declared.fault.SessionFault.TheVariants.{Framing}
 use Rattle.std.proofs.Common.{◌≡◌, None, Some, ap, sym, ◌∙◌}
 use Rattle.dap_session.proofs.Standing.{stays_closed, ends_at_fault}
 use Rattle.dap_session.proofs.session.Session.take.Goals as goal
@@ -10,7 +10,7 @@ returns-in-Some-Closed-clause-ok g c = λ events past stands.
     let v : c.self.inside.ending ≡ c.args.self.now.ending = ap (λ s. s.ending) c.self.view_is in
     let n : Some c.in-Some-Closed.field-0 ≡ None = sym e ∙ v ∙ taking in cc)
 
-pub returns-in-Err-clause-frame : goal.returns-in-Err-clause-frame
-returns-in-Err-clause-frame g c = λ k is taking events past stands.
-    let e : c.in-Err.fault ≡ Frame k = cc in
+pub returns-in-Err-clause-framing : goal.returns-in-Err-clause-framing
+returns-in-Err-clause-framing g c = λ k is taking events past stands.
+    let e : c.in-Err.fault ≡ Framing k = cc in
     ends_at_fault _ k events past _ _ _ stands (rw e at (c.in-Err.ensures.err events past stands))
