@@ -1,7 +1,8 @@
 -- What holds along a history: what holds at first and is kept by each item that is taken.
 use Rattle.std.proofs.Common.{◌≡◌, inl, inr, ℕ, List, [], ◌∷◌, ◌++◌, Option, None, Some, Result, Ok, Err, refl, sym, ◌∙◌, ap, subst}
 use Rattle.dap_msg.specs.declared.request.Request.{Request}
-use Rattle.dap_history.specs.Plain.{Reported, IsLawful}
+use Rattle.dap_history.specs.Plain.{PlainReport}
+use Rattle.dap_history.specs.Lawful.{IsLawful}
 use Rattle.dap_history.specs.declared.launch.Launch.{Launch}
 use Rattle.dap_history.specs.declared.fault.LoadFault.{LoadFault}
 use Rattle.dap_history.specs.declared.fault.LoadFault.TheVariants as load_fault
@@ -18,18 +19,18 @@ use Rattle.dap_history.specs.Launching.{wanted_in}
 use Rattle.dap_history.specs.Events.{Incoming, Piece, End, ReadFailed, NoMemory, File, Report, AreLawful, Rest, only_bytes, IsTaking, Takes, none, one_more, Rests, closed, open_ended, faulty, waits, TakesAll, MayTake, LeadsByPiece, LeadsByFile, LeadsByReport, Loads, Leads, LeadsAll, IsHistoryOf}
 
 -- an item is taken only so: a content that wants no file, a launch in Ready, a report that is accepted and as Q says
-abbrev pub IsTaken : (Reported → Type 0) → History → Item → Type 0
+abbrev pub IsTaken : (PlainReport → Type 0) → History → Item → Type 0
 IsTaken Q past (Content request) = wanted_in (situation past) request ≡ None
 IsTaken Q past (Loaded launch file) = situation past ≡ Ready
 IsTaken Q past (Accepted r) = Accepts past r × Q r
 IsTaken Q past _ = Unit {0}
 
 -- what one more item keeps, while the session takes any
-pub record IsKept (Q : Reported → Type 0) (P : History → Type 0) : Type 0 where
+pub record IsKept (Q : PlainReport → Type 0) (P : History → Type 0) : Type 0 where
   pub step : (past : History) (item : Item) (new : History) → IsTaking past → IsTaken Q past item → IsAfter past item new → P past → P new
 
 -- each report among the events is as Q says
-abbrev pub AllReports : (Reported → Type 0) → List Incoming → Type 0
+abbrev pub AllReports : (PlainReport → Type 0) → List Incoming → Type 0
 AllReports Q [] = Unit {0}
 AllReports Q (Report r ∷ events) = Q r × AllReports Q events
 AllReports Q (e ∷ events) = AllReports Q events
@@ -73,7 +74,7 @@ closes_for_good past item new by is after taking =
     ∙ ap (λ i. or_else (closing i) (ending_of past)) after.item_is ∙ ap (λ o. or_else o (ending_of past)) is in
     absurd cc
 
-module _ (Q : Reported → Type 0) (P : History → Type 0) (kept : IsKept Q P) where
+module _ (Q : PlainReport → Type 0) (P : History → Type 0) (kept : IsKept Q P) where
   -- what holds of a history, with its rest
   abbrev Holds : History → Rest → Type 0
   Holds past rest = P past × WaitsWell past rest
@@ -119,7 +120,7 @@ module _ (Q : Reported → Type 0) (P : History → Type 0) (kept : IsKept Q P) 
   along_file past rest (Some launch) (Err load_fault.NoMemory) new left same is here =
       subst (λ r. Holds new r) (sym is.1) (along_may past rest MemoryFailure new _ tt refl is.0 here)
 
-  along_report : (past : History) (rest : Rest) (r : Reported) (new : History) → Q r → LeadsByReport past r new → Holds past rest → Holds new rest
+  along_report : (past : History) (rest : Rest) (r : PlainReport) (new : History) → Q r → LeadsByReport past r new → Holds past rest → Holds new rest
   along_report past rest r new good (inl is) here = subst (λ h. Holds h rest) (sym is.1) here
   along_report past rest r new good (inr is) here = (
     kept.step past (Accepted r) new is.0 (is.1, good) is.2 here.0,

@@ -10,8 +10,8 @@ use Rattle.dap_msg.specs.declared.outgoing.Outgoing.TheVariants.{Answer, Event}
 use Rattle.dap_msg.specs.declared.outgoing.EventBody.{EventBody}
 use Rattle.dap_msg.specs.declared.outgoing.EventBody.TheVariants as event
 use Rattle.pl0_meaning.specs.Laws.{WrittenJoins}
-use Rattle.dap_history.specs.Plain.{Reported, IsLawful}
-use Rattle.dap_history.specs.Plain.{Outcome}
+use Rattle.dap_history.specs.Plain.{PlainReport, SliceOutcome}
+use Rattle.dap_history.specs.Lawful.{IsLawful}
 use Rattle.dap_history.specs.Plain as slice
 use Rattle.dap_history.specs.declared.launch.Launch.{Launch}
 use Rattle.dap_history.specs.History.{Item, Content, Loaded, Accepted, Fault, InputEnd, ReadFailure, MemoryFailure, Step, History, Effect, behind, messages, messages_of}
@@ -34,7 +34,7 @@ outputs_alone : (vs : List ℤ) → Quiet (map Event (map event.Output vs))
 outputs_alone [] = tt
 outputs_alone (v ∷ vs) = ((λ no. absurd no), outputs_alone vs)
 
-report_quiet : (past : History) (r : Reported) (e : Outcome) → Quiet (map Event (report_effect past r e).events)
+report_quiet : (past : History) (r : PlainReport) (e : SliceOutcome) → Quiet (map Event (report_effect past r e).events)
 report_quiet past r slice.More = outputs_alone r.numbers
 report_quiet past r (slice.Due reason) = outputs_quiet r.numbers (stops (stop_of reason)) (silent_quiet (stops (stop_of reason)) refl)
 report_quiet past r slice.Held = held_quiet (waiting_pause past)

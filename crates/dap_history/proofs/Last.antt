@@ -6,7 +6,7 @@ use Rattle.dap_msg.specs.declared.command.CommandName.TheVariants as name
 use Rattle.dap_msg.specs.declared.command.Supported.TheVariants.{Disconnect}
 use Rattle.dap_msg.specs.declared.outgoing.Outgoing.TheVariants.{Answer, Event}
 use Rattle.dap_msg.specs.declared.outgoing.Body.TheVariants as body
-use Rattle.dap_history.specs.Plain.{Reported}
+use Rattle.dap_history.specs.Plain.{PlainReport}
 use Rattle.dap_history.specs.declared.ending.Ending.{Ending}
 use Rattle.dap_history.specs.Last.{or_else, last_such}
 use Rattle.dap_history.specs.History.{Item, Content, Step, History, behind, messages, messages_of}
@@ -41,7 +41,7 @@ closes_last_more past s taking here = record {
     by_place before step after by closes (inl is) = is.2
     by_place before step after by closes (inr is) = absurd (closed_there before step is.0 by closes (subst IsTaking is.1 taking))
 
-closes_last_kept : (Q : Reported → Type 0) → IsKept Q ClosesLast
+closes_last_kept : (Q : PlainReport → Type 0) → IsKept Q ClosesLast
 closes_last_kept Q = record {
   step = λ past item new taking taken after here. subst ClosesLast (sym after.new_is) (closes_last_more past after.step taking here);
 }

@@ -18,3 +18,5 @@ pub mod OneHistory
 pub mod BlockCode
 pub mod Texts
 pub mod OneReply
+
+

@@ -1,12 +1,12 @@
 -- A list of events has one history, where an item has one effect.
 use Rattle.std.proofs.Common.{◌≡◌, ◌⊎◌, inl, inr, ℕ, List, [], ◌∷◌, ◌++◌, Option, None, Some, Result, Ok, Err, refl, sym, ◌∙◌, ap, subst}
-use Rattle.dap_frame.specs.declared.fault.FrameFault.{FrameFault}
+use Rattle.dap_frame.specs.declared.fault.FramingFault.{FramingFault}
 use Rattle.dap_frame.specs.Frame.{IsFrameInFront}
 use Rattle.dap_frame.specs.Laws.{FramesAreUnique, FaultsAreUnique, NeverBoth}
 use Rattle.dap_msg.specs.Laws.{OneReading}
 use Rattle.dap_msg.specs.declared.request.Request.{Request}
 use Rattle.dap_msg.specs.Request.{IsRequestOf}
-use Rattle.dap_history.specs.Plain.{Reported}
+use Rattle.dap_history.specs.Plain.{PlainReport}
 use Rattle.dap_history.specs.declared.launch.Launch.{Launch}
 use Rattle.dap_history.specs.declared.fault.LoadFault.{LoadFault}
 use Rattle.dap_history.specs.declared.fault.LoadFault.TheVariants as load_fault
@@ -111,7 +111,7 @@ module _ (once : IsReadOnce) where
   one_file past before (Some launch) (Err load_fault.CannotRead) new other rest left a b = one_may_load past before launch None new other rest left a b
   one_file past before (Some launch) (Err load_fault.NoMemory) new other rest left a b = (one_may past MemoryFailure new other a.0 b.0, a.1 ∙ sym b.1)
 
-  one_report : (past : History) (r : Reported) (new other : History) → LeadsByReport past r new → LeadsByReport past r other → new ≡ other
+  one_report : (past : History) (r : PlainReport) (new other : History) → LeadsByReport past r new → LeadsByReport past r other → new ≡ other
   one_report past r new other (inl a) (inl b) = a.1 ∙ sym b.1
   one_report past r new other (inl a) (inr b) = absurd (a.0 (b.0, b.1))
   one_report past r new other (inr a) (inl b) = absurd (b.0 (a.0, a.1))

@@ -28,12 +28,12 @@ use Rattle.dbg_plan.specs.declared.breakpoint.Rule.{Rule}
 use Rattle.dbg_plan.specs.declared.breakpoint.Rule.TheVariants.{From, Every}
 use Rattle.dbg_plan.specs.declared.evaluation.EvalFault.{EvalFault}
 use Rattle.dbg_plan.specs.declared.evaluation.EvalFault.TheVariants.{Overflow, DivideByZero}
-use Rattle.dbg_plan.specs.declared.resolving.Asked.{Asked}
-use Rattle.dbg_plan.specs.declared.resolving.Answer.{Answer as Resolution}
-use Rattle.dbg_plan.specs.declared.resolving.Answer.TheVariants.{At, NoStep, BadCondition, BadHit}
-use Rattle.dbg_plan.specs.Answers.{step_from, ReadsRule}
+use Rattle.dbg_plan.specs.declared.resolving.SourceBreakpoint.{SourceBreakpoint as AskedLine}
+use Rattle.dbg_plan.specs.declared.resolving.Resolution.{Resolution}
+use Rattle.dbg_plan.specs.declared.resolving.Resolution.TheVariants.{At, NoStep, BadCondition, BadHitCondition}
+use Rattle.dbg_plan.specs.Resolutions.{step_from, ReadsRule, ReadsConditionAt, IsBreakpointOf, IsResolvedTo, AreResolved}
 use Rattle.dbg_plan.specs.Values.{told}
-use Rattle.dap_history.specs.Plain.{Breakpoint, TextCondition, ReadsConditionAt, IsBreakpointOf, IsResolvedTo, AreResolved}
+use Rattle.dbg_plan.specs.Breakpoints.{Breakpoint, TextCondition}
 use Rattle.dap_history.specs.declared.situation.Situation.{Situation}
 use Rattle.dap_history.specs.declared.situation.Situation.TheVariants.{Fresh, Ready, Configuring, Running, Stopped, Faulted, Ended}
 use Rattle.dap_history.specs.declared.launch.Launch.{Launch}
@@ -104,32 +104,32 @@ module _ (once : IsTextOnce) where
       ∙ ap (λ c. Some (record { text = u.text; condition = c })) (once.one_condition main (step_path main n) text t.condition u.condition x.2 y.2)
 
   -- two lines with the same words
-  record SameLine (x y : Asked) : Type 0 where
+  record SameLine (x y : AskedLine) : Type 0 where
     line : x.line ≡ y.line
     condition : string_bytes x.condition ≡ string_bytes y.condition
-    hit : string_bytes x.hit ≡ string_bytes y.hit
+    hit : string_bytes x.hit_condition ≡ string_bytes y.hit_condition
 
-  one_breakpoint : (main : Block) (x y : Asked) (n k : ℕ) (a b : Breakpoint) → SameLine x y → n ≡ k → IsBreakpointOf main x n a → IsBreakpointOf main y k b → a ≡ b
+  one_breakpoint : (main : Block) (x y : AskedLine) (n k : ℕ) (a b : Breakpoint) → SameLine x y → n ≡ k → IsBreakpointOf main x n a → IsBreakpointOf main y k b → a ≡ b
   one_breakpoint main x y n k a b same at here there =
       let condition : a.condition ≡ b.condition =
       one_text main n (string_bytes x.condition) a.condition b.condition here.condition
       (subst (λ t. ReadsConditionAt main n t b.condition) (sym same.condition) (subst (λ i. ReadsConditionAt main i (string_bytes y.condition) b.condition) (sym at) there.condition)) in
-      let rule : a.rule ≡ b.rule = one_rule (string_bytes x.hit) a.rule b.rule here.rule (subst (λ t. ReadsRule t b.rule) (sym same.hit) there.rule) in
+      let rule : a.rule ≡ b.rule = one_rule (string_bytes x.hit_condition) a.rule b.rule here.rule (subst (λ t. ReadsRule t b.rule) (sym same.hit) there.rule) in
       ap (λ s. record { step = s; condition = a.condition; rule = a.rule }) (here.step ∙ at ∙ sym there.step)
       ∙ ap (λ c. record { step = b.step; condition = c; rule = a.rule }) condition
       ∙ ap (λ r. record { step = b.step; condition = b.condition; rule = r }) rule
 
-  same_step_from : (main : Block) (x y : Asked) (n k : ℕ) → SameLine x y → step_from main x.line ≡ Some n → step_from main y.line ≡ Some k → n ≡ k
+  same_step_from : (main : Block) (x y : AskedLine) (n k : ℕ) → SameLine x y → step_from main x.line ≡ Some n → step_from main y.line ≡ Some k → n ≡ k
   same_step_from main x y n k same here there = let e = sym here ∙ ap (step_from main) same.line ∙ there in cc
 
-  no_step_there : (main : Block) (x y : Asked) (k : ℕ) → SameLine x y → step_from main x.line ≡ None → ¬ (step_from main y.line ≡ Some k)
+  no_step_there : (main : Block) (x y : AskedLine) (k : ℕ) → SameLine x y → step_from main x.line ≡ None → ¬ (step_from main y.line ≡ Some k)
   no_step_there main x y k same here there = let e = sym here ∙ ap (step_from main) same.line ∙ there in absurd cc
 
-  other_way : (x y : Asked) → SameLine x y → SameLine y x
+  other_way : (x y : AskedLine) → SameLine x y → SameLine y x
   other_way x y same = record { line = sym same.line; condition = sym same.condition; hit = sym same.hit }
 
   -- what reads there reads here
-  condition_there : (main : Block) (x y : Asked) (n k : ℕ) → SameLine x y → step_from main x.line ≡ Some n → step_from main y.line ≡ Some k → (c : Option TextCondition)
+  condition_there : (main : Block) (x y : AskedLine) (n k : ℕ) → SameLine x y → step_from main x.line ≡ Some n → step_from main y.line ≡ Some k → (c : Option TextCondition)
       → ReadsConditionAt main n (string_bytes x.condition) c → ReadsConditionAt main k (string_bytes y.condition) c
   condition_there main x y n k same here there c reads =
       subst (λ t. ReadsConditionAt main k t c) same.condition (subst (λ i. ReadsConditionAt main i (string_bytes x.condition) c) (same_step_from main x y n k same here there) reads)
@@ -137,36 +137,36 @@ module _ (once : IsTextOnce) where
   abbrev SameAnswer : Resolution → List Breakpoint → Resolution → List Breakpoint → Type 0
   SameAnswer a bs b cs = (a ≡ b) × (bs ≡ cs)
 
-  one_line : (main : Block) (x y : Asked) (a b : Resolution) (bs cs : List Breakpoint) → SameLine x y → IsResolvedTo main x a bs → IsResolvedTo main y b cs → SameAnswer a bs b cs
+  one_line : (main : Block) (x y : AskedLine) (a b : Resolution) (bs cs : List Breakpoint) → SameLine x y → IsResolvedTo main x a bs → IsResolvedTo main y b cs → SameAnswer a bs b cs
   one_line main x y (At n) (At k) bs cs same here there =
       let at = same_step_from main x y n k same here.0 there.0 in
       (ap At at, here.1.1 ∙ ap (λ b. b ∷ []) (one_breakpoint main x y n k here.1.0 there.1.0 same at here.1.2 there.1.2) ∙ sym there.1.1)
   one_line main x y (At n) NoStep bs cs same here there = absurd (no_step_there main y x n (other_way x y same) there.0 here.0)
   one_line main x y (At n) BadCondition bs cs same here there =
       absurd (there.1.2 (record { condition = here.1.0.condition; reads = condition_there main x y n there.1.0 same here.0 there.1.1 here.1.0.condition here.1.2.condition }))
-  one_line main x y (At n) BadHit bs cs same here there =
+  one_line main x y (At n) BadHitCondition bs cs same here there =
       absurd (there.1 (record { rule = here.1.0.rule; reads = subst (λ t. ReadsRule t here.1.0.rule) same.hit here.1.2.rule }))
   one_line main x y NoStep (At k) bs cs same here there = absurd (no_step_there main x y k same here.0 there.0)
   one_line main x y NoStep NoStep bs cs same here there = (refl, here.1 ∙ sym there.1)
   one_line main x y NoStep BadCondition bs cs same here there = absurd (no_step_there main x y there.1.0 same here.0 there.1.1)
-  one_line main x y NoStep BadHit bs cs same here there = absurd (no_step_there main x y there.2.0 same here.0 there.2.1)
+  one_line main x y NoStep BadHitCondition bs cs same here there = absurd (no_step_there main x y there.2.0 same here.0 there.2.1)
   one_line main x y BadCondition (At k) bs cs same here there =
       absurd (here.1.2 (record { condition = there.1.0.condition; reads = condition_there main y x k here.1.0 (other_way x y same) there.0 here.1.1 there.1.0.condition there.1.2.condition }))
   one_line main x y BadCondition NoStep bs cs same here there = absurd (no_step_there main y x here.1.0 (other_way x y same) there.0 here.1.1)
   one_line main x y BadCondition BadCondition bs cs same here there = (refl, here.0 ∙ sym there.0)
-  one_line main x y BadCondition BadHit bs cs same here there =
+  one_line main x y BadCondition BadHitCondition bs cs same here there =
       absurd (here.1.2 (record { condition = there.2.2.condition; reads = condition_there main y x there.2.0 here.1.0 (other_way x y same) there.2.1 here.1.1 there.2.2.condition there.2.2.reads }))
-  one_line main x y BadHit (At k) bs cs same here there =
+  one_line main x y BadHitCondition (At k) bs cs same here there =
       absurd (here.1 (record { rule = there.1.0.rule; reads = subst (λ t. ReadsRule t there.1.0.rule) (sym same.hit) there.1.2.rule }))
-  one_line main x y BadHit NoStep bs cs same here there = absurd (no_step_there main y x here.2.0 (other_way x y same) there.0 here.2.1)
-  one_line main x y BadHit BadCondition bs cs same here there =
+  one_line main x y BadHitCondition NoStep bs cs same here there = absurd (no_step_there main y x here.2.0 (other_way x y same) there.0 here.2.1)
+  one_line main x y BadHitCondition BadCondition bs cs same here there =
       absurd (there.1.2 (record { condition = here.2.2.condition; reads = condition_there main x y here.2.0 there.1.0 same here.2.1 there.1.1 here.2.2.condition here.2.2.reads }))
-  one_line main x y BadHit BadHit bs cs same here there = (refl, here.0 ∙ sym there.0)
+  one_line main x y BadHitCondition BadHitCondition bs cs same here there = (refl, here.0 ∙ sym there.0)
 
-  same_line : (less : ℕ) (b : SourceBreakpoint) (x y : Asked) → IsAskedAs less b x → IsAskedAs less b y → SameLine x y
+  same_line : (less : ℕ) (b : SourceBreakpoint) (x y : AskedLine) → IsAskedAs less b x → IsAskedAs less b y → SameLine x y
   same_line less b x y here there = record { line = here.line ∙ sym there.line; condition = here.condition ∙ sym there.condition; hit = here.hit ∙ sym there.hit }
 
-  one_lines : (main : Block) (less : ℕ) (lines : List SourceBreakpoint) (xs ys : List Asked) (answers bs : List Resolution) (ps qs : List Breakpoint)
+  one_lines : (main : Block) (less : ℕ) (lines : List SourceBreakpoint) (xs ys : List AskedLine) (answers bs : List Resolution) (ps qs : List Breakpoint)
       → AreAskedAs less lines xs → AreAskedAs less lines ys → AreResolved main xs answers ps → AreResolved main ys bs qs → (answers ≡ bs) × (ps ≡ qs)
   one_lines main less [] [] [] [] [] ps qs x y here there = (refl, here ∙ sym there)
   one_lines main less [] [] [] (a ∷ answers) bs ps qs x y here there = absurd here

@@ -16,11 +16,10 @@ use Rattle.pl0_tree.specs.Tree.{Block}
 use Rattle.pl0_tree.specs.Faults.{IsTreeOf}
 use Rattle.pl0_meaning.specs.Runs.{written}
 use Rattle.pl0_meaning.specs.Laws.{WrittenJoins}
-use Rattle.dap_history.specs.Plain.{Reported, IsLawful}
-use Rattle.dap_history.specs.Plain.{Outcome}
+use Rattle.dap_history.specs.Plain.{PlainReport, SliceOutcome, Heading, PlainOrder}
+use Rattle.dap_history.specs.Lawful.{IsLawful}
 use Rattle.dap_history.specs.Plain as slice
 use Rattle.dap_history.specs.Last.{or_else, last_such}
-use Rattle.dap_history.specs.Orders.{Run, PlainOrder}
 use Rattle.dap_history.specs.History.{Launched, Item, Content, Loaded, Accepted, Fault, InputEnd, ReadFailure, MemoryFailure, Step, History, Effect, behind, messages, messages_of}
 use Rattle.dap_history.specs.Readings.{go, launched, last_run, position, end_of, waiting_pause}
 use Rattle.dap_history.specs.Replies.{Reply, nothing}
@@ -42,7 +41,7 @@ outputs_told : (vs : List ℤ) → filter_map output (map Event (map event.Outpu
 outputs_told [] = refl
 outputs_told (v ∷ vs) = ap (λ l. v ∷ l) (outputs_told vs)
 
-behind_outputs : (r : Reported) (events : List EventBody) → filter_map output (map Event events) ≡ [] → filter_map output (map Event (outputs r ++ events)) ≡ r.numbers
+behind_outputs : (r : PlainReport) (events : List EventBody) → filter_map output (map Event events) ≡ [] → filter_map output (map Event (outputs r ++ events)) ≡ r.numbers
 behind_outputs r events none =
     ap (filter_map output) (map-append Event (outputs r) events)
     ∙ filter_map-append output (map Event (outputs r)) (map Event events)
@@ -51,7 +50,7 @@ behind_outputs r events none =
     ∙ outputs_told r.numbers
 
 -- whatever the report's end, its numbers are those that it tells
-pub report_tells : (past : History) (r : Reported) (e : Outcome) → (e ≡ slice.NoMemory → r.numbers ≡ []) → filter_map output (map Event (report_effect past r e).events) ≡ r.numbers
+pub report_tells : (past : History) (r : PlainReport) (e : SliceOutcome) → (e ≡ slice.NoMemory → r.numbers ≡ []) → filter_map output (map Event (report_effect past r e).events) ≡ r.numbers
 report_tells past r slice.More none = outputs_told r.numbers
 report_tells past r (slice.Due reason) none = behind_outputs r _ refl
 report_tells past r slice.Held none = held_tells (waiting_pause past)
@@ -63,7 +62,7 @@ report_tells past r slice.Done none = behind_outputs r _ refl
 report_tells past r (slice.Fault fault) none = behind_outputs r _ refl
 report_tells past r slice.NoMemory none = sym (none refl)
 
-pub report_launches : (past : History) (r : Reported) (e : Outcome) → (report_effect past r e).launched ≡ None
+pub report_launches : (past : History) (r : PlainReport) (e : SliceOutcome) → (report_effect past r e).launched ≡ None
 report_launches past r slice.More = refl
 report_launches past r (slice.Due reason) = refl
 report_launches past r slice.Held = held_launches (waiting_pause past)
@@ -76,14 +75,14 @@ report_launches past r (slice.Fault fault) = refl
 report_launches past r slice.NoMemory = refl
 
 -- a run that a report orders is of the report's text, and begins at its end
-pub data GoesAs (text : List ℕ) (finish : ℕ) : Option Run → Type 0 where
+pub data GoesAs (text : List ℕ) (finish : ℕ) : Option Heading → Type 0 where
   no_run : GoesAs text finish None
-  as_text : (run : Run) → run.text ≡ text → run.start ≡ finish → GoesAs text finish (Some run)
+  as_text : (run : Heading) → run.text ≡ text → run.start ≡ finish → GoesAs text finish (Some run)
 
-abbrev pub GoesOn : Reported → Effect → Type 0
+abbrev pub GoesOn : PlainReport → Effect → Type 0
 GoesOn r effect = GoesAs r.text r.end (last_such go effect.orders)
 
-pub report_goes : (past : History) (r : Reported) (e : Outcome) → GoesOn r (report_effect past r e)
+pub report_goes : (past : History) (r : PlainReport) (e : SliceOutcome) → GoesOn r (report_effect past r e)
 report_goes past r slice.More = no_run
 report_goes past r (slice.Due reason) = no_run
 report_goes past r slice.Held = held_goes (waiting_pause past)

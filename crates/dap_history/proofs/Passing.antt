@@ -19,16 +19,15 @@ use Rattle.dap_msg.specs.declared.outgoing.StopReason.{StopReason}
 use Rattle.dap_msg.specs.declared.outgoing.StopReason.TheVariants as stop
 use Rattle.pl0_tree.specs.Tree.{Block}
 use Rattle.pl0_meaning.specs.Laws.{WrittenJoins}
-use Rattle.dap_history.specs.Plain.{Breakpoint}
+use Rattle.dbg_plan.specs.Breakpoints.{Breakpoint}
+use Rattle.dbg_plan.specs.Due.{due}
+use Rattle.dap_history.specs.Plain.{PlainReport, SliceOutcome, Heading, PlainOrder, Go, Hold, Quit}
+use Rattle.dap_history.specs.Lawful.{IsLawful, EndsBy, due_in as due_of}
 use Rattle.dbg_plan.specs.declared.mode.Mode.{Mode}
-use Rattle.dap_history.specs.Plain.{due}
-use Rattle.dap_history.specs.Plain.{Reported, IsLawful, EndsBy, reported_due}
-use Rattle.dap_history.specs.Plain.{Outcome}
 use Rattle.dap_history.specs.Plain as slice
 use Rattle.dap_history.specs.declared.situation.Situation.{Situation}
 use Rattle.dap_history.specs.declared.situation.Situation.TheVariants.{Fresh, Ready, Configuring, Running, Stopped, Faulted, Ended}
 use Rattle.dap_history.specs.Last.{or_else, last_such}
-use Rattle.dap_history.specs.Orders.{Run, PlainOrder, Go, Hold, Quit}
 use Rattle.dap_history.specs.History.{Launched, Item, Content, Loaded, Accepted, Fault, InputEnd, ReadFailure, MemoryFailure, Step, History, Effect, behind, messages}
 use Rattle.dap_history.specs.Readings.{go, situation, position, launched, last_run, end_of, command_mark, answer_mark, event_mark, stop_mark, message_mark, order_mark, step_mark}
 use Rattle.dap_history.specs.declared.launch.Launch.{Launch}
@@ -156,7 +155,7 @@ orders_run (o ∷ os) none is = by_last (orders_run os) (last_such go os) refl n
     by_order (Hold run) none is = is
     by_order Quit none is = is
 
-    by_last : (last_such go os ≡ None → ¬ MarkIs IsRunning (last_such order_mark os)) → (l : Option Run) → last_such go os ≡ l → or_else (last_such go os) (go o) ≡ None
+    by_last : (last_such go os ≡ None → ¬ MarkIs IsRunning (last_such order_mark os)) → (l : Option Heading) → last_such go os ≡ l → or_else (last_such go os) (go o) ≡ None
         → ¬ (MarkIs IsRunning (last_such order_mark os) ⊎ ((last_such order_mark os ≡ None) × MarkIs IsRunning (order_mark o)))
     by_last not (Some run) is none either = let e = sym (ap (λ l. or_else l (go o)) is) ∙ none in absurd cc
     by_last not None is none (inl mark) = not is mark
@@ -190,15 +189,15 @@ runs_not step answer none is = neither (mark_else IsRunning (last_such order_mar
 -- ---- runs begin where the program stands
 
 -- the runs that a step orders begin at this position
-pub data BeginsAt (here : ℕ) : Option Run → Type 0 where
+pub data BeginsAt (here : ℕ) : Option Heading → Type 0 where
   none_begins : BeginsAt here None
-  begins_at : (run : Run) → run.start ≡ here → BeginsAt here (Some run)
+  begins_at : (run : Heading) → run.start ≡ here → BeginsAt here (Some run)
 
-begins_by : (past : History) (o : Option Run) → GoesBy past o → BeginsAt (position past) o
+begins_by : (past : History) (o : Option Heading) → GoesBy past o → BeginsAt (position past) o
 begins_by past None no_go = none_begins
 begins_by past (Some run) (of_text run' l launch text begins) = begins_at run begins
 
-begins_on : (text : List ℕ) (finish : ℕ) (o : Option Run) → GoesAs text finish o → BeginsAt finish o
+begins_on : (text : List ℕ) (finish : ℕ) (o : Option Heading) → GoesAs text finish o → BeginsAt finish o
 begins_on text finish None no_run = none_begins
 begins_on text finish (Some run) (as_text run' text_is begins) = begins_at run begins
 
@@ -210,7 +209,7 @@ loaded_orders launch None reply is = ap (λ (r : Reply). last_such go r.effect.o
 loaded_orders launch (Some text) reply (inl is) = ap (λ (r : Reply). last_such go r.effect.orders) is.reply_is
 loaded_orders launch (Some text) reply (inr is) = ap (λ (r : Reply). last_such go r.effect.orders) is.reply_is
 
-loaded_begins : (here : ℕ) (o : Option Run) → o ≡ None → BeginsAt here o
+loaded_begins : (here : ℕ) (o : Option Heading) → o ≡ None → BeginsAt here o
 loaded_begins here o is = subst (BeginsAt here) (sym is) none_begins
 
 pub item_begins : (past : History) (item : Item) (step : Step) → Causes past item step → BeginsHere (unwrap_or (end_of item) (position past)) step.effect
@@ -227,7 +226,7 @@ item_begins past ReadFailure step is = subst (BeginsHere (position past)) (sym i
 item_begins past MemoryFailure step is = subst (BeginsHere (position past)) (sym is.effect_is) none_begins
 
 -- nothing is launched while a program runs
-pub launches_not : (Q : Reported → Type 0) (past : History) (item : Item) (step : Step) → IsTaken Q past item → Causes past item step → IsRunning (situation past) → step.effect.launched ≡ None
+pub launches_not : (Q : PlainReport → Type 0) (past : History) (item : Item) (step : Step) → IsTaken Q past item → Causes past item step → IsRunning (situation past) → step.effect.launched ≡ None
 launches_not Q past (Content None) step taken is running = ap (λ (e : Effect). e.launched) is.effect_is
 launches_not Q past (Content (Some request)) step taken is running =
     ap (λ (e : Effect). e.launched) is.2.effect_is ∙ (all_silent (situation past) past request.body is.0 is.1).launches_none
@@ -262,20 +261,20 @@ mark_of effect step has =
     ap (λ a. or_else (last_such order_mark step.effect.orders) (last_such message_mark (behind a (map Event step.effect.events)))) has.answer_is
     ∙ ap mark_of_effect has.effect_is
 
-last_mark : (r : Reported) (es : List EventBody) → last_such message_mark (map Event (outputs r ++ es)) ≡ or_else (last_such message_mark (map Event es)) (last_such message_mark (map Event (outputs r)))
+last_mark : (r : PlainReport) (es : List EventBody) → last_such message_mark (map Event (outputs r ++ es)) ≡ or_else (last_such message_mark (map Event es)) (last_such message_mark (map Event (outputs r)))
 last_mark r es = ap (last_such message_mark) (map-append Event (outputs r) es) ∙ last_such-append message_mark (map Event (outputs r)) (map Event es)
 
 -- where a report leads nowhere, its end isn't due
-abbrev pub NotDueAtEnd : Block → Reported → Type 0
-NotDueAtEnd main r = (r.end ≡ r.start) ⊎ (reported_due main r r.end ≡ None)
+abbrev pub NotDueAtEnd : Block → PlainReport → Type 0
+NotDueAtEnd main r = (r.end ≡ r.start) ⊎ (due_of main r r.end ≡ None)
 
-pub undue_end : (main : Block) (past : History) (r : Reported) (e : Outcome) → EndsBy main r e → mark_of_effect (report_effect past r e) ≡ None → NotDueAtEnd main r
+pub undue_end : (main : Block) (past : History) (r : PlainReport) (e : SliceOutcome) → EndsBy main r e → mark_of_effect (report_effect past r e) ≡ None → NotDueAtEnd main r
 undue_end main past r slice.More is none = inr is.1
 undue_end main past r (slice.Due reason) is none = let e = sym (last_mark r (stops (stop_of reason))) ∙ none in absurd cc
-undue_end main past r slice.Held is none = inl is
+undue_end main past r slice.Held is none = inl is.0
 undue_end main past r slice.Done is none = let e = sym (last_mark r (ends 0)) ∙ none in absurd cc
 undue_end main past r (slice.Fault fault) is none = is.1
-undue_end main past r slice.NoMemory is none = inl is
+undue_end main past r slice.NoMemory is none = inl is.0
 
 -- ---- along a history
 
@@ -284,36 +283,35 @@ module _ (one : OneProgram) (joins : WrittenJoins) where
   pub record Ran (past : History) : Type 0 where
     pub told : Told past
     pub configuring : IsConfiguring (situation past) → (last_run past ≡ None) × (position past ≡ 0)
-    pub running : IsRunning (situation past) → (l : Launched) → launched past ≡ Some l → (run : Run) → last_run past ≡ Some run
+    pub running : IsRunning (situation past) → (l : Launched) → launched past ≡ Some l → (run : Heading) → last_run past ≡ Some run
         → (run.start ≤ position past) × NoneDueUpTo l run (position past)
 
   -- the report is of the launched program, the last run, and what that run passed
-  module _ (past : History) (r : Reported) (accepts : Accepts past r) (lawful : IsLawful r) (ran : Ran past) (l : Launched) (is : launched past ≡ Some l) where
-    abbrev run : Run
+  module _ (past : History) (r : PlainReport) (accepts : Accepts past r) (lawful : IsLawful r) (ran : Ran past) (l : Launched) (is : launched past ≡ Some l) where
+    abbrev run : Heading
     run = accepts.run
 
-    pub same_due : (k : ℕ) → due_in l run k ≡ reported_due lawful.program r k
+    pub same_due : (k : ℕ) → due_in l run k ≡ due_of lawful.program r k
     same_due k =
+        let same = accepts.expected in
         sym
-        (ap (λ (p : Block). due p r.breakpoints r.counted_from r.mode k) (report_program one joins past r lawful l accepts (ran.told.tells (Some l) is))
-              ∙ ap (λ (bs : List Breakpoint). due l.program bs r.counted_from r.mode k) accepts.expected.breakpoints
-              ∙ ap (λ f. due l.program run.plan.breakpoints f r.mode k) accepts.expected.counted_from
-              ∙ ap (λ (m : Mode). due l.program run.plan.breakpoints run.plan.counted_from m k) accepts.expected.mode)
+        (ap (λ (p : Block). due p r.plan r.counted_from r.mode k) (report_program one joins past r lawful l accepts (ran.told.tells (Some l) is))
+        ∙ ap (λ (h : Heading). due l.program h.plan h.counted_from h.mode k) same)
 
     was : (run.start ≤ position past) × NoneDueUpTo l run (position past)
     was = ran.running (subst IsRunning (sym accepts.running) tt) l is run accepts.run_is
 
     pub begun_there : run.start ≤ r.start
-    begun_there = subst (λ n. run.start ≤ n) (sym accepts.expected.start_is) was.0
+    begun_there = subst (λ n. run.start ≤ n) (sym (ap (λ (h : Heading). h.start) accepts.expected)) was.0
 
     pub begun_before : run.start ≤ r.end
-    begun_before = let a = begun_there in let b = lawful.begun in omega (arith, a, b)
+    begun_before = let a = begun_there in let b = lawful.lawful.begun in omega (arith, a, b)
 
     pub none_before : NoneDueBefore l run r.end
     none_before k above below =
         ⊎_elim
-        (λ (past_begin : r.start < k). same_due k ∙ lawful.passed k past_begin below)
-        (λ (up_to : k ≤ r.start). was.1 k above (subst (λ n. k ≤ n) accepts.expected.start_is up_to))
+        (λ (past_begin : r.start < k). same_due k ∙ lawful.lawful.passed k past_begin below)
+        (λ (up_to : k ≤ r.start). was.1 k above (subst (λ n. k ≤ n) (ap (λ (h : Heading). h.start) accepts.expected) up_to))
         (cases_lt r.start k)
 
     pub none_up_to : NotDueAtEnd lawful.program r → NoneDueUpTo l run r.end
@@ -324,5 +322,5 @@ module _ (one : OneProgram) (joins : WrittenJoins) where
         (cases_lt k r.end)
       where
         by_end : NotDueAtEnd lawful.program r → k ≡ r.end → due_in l run k ≡ None
-        by_end (inl stays) same = was.1 k above (let b = accepts.expected.start_is in omega (arith, stays, same, b))
-        by_end (inr undue) same = same_due k ∙ ap (reported_due lawful.program r) same ∙ undue
+        by_end (inl stays) same = was.1 k above (let b = (ap (λ (h : Heading). h.start) accepts.expected) in omega (arith, stays, same, b))
+        by_end (inr undue) same = same_due k ∙ ap (due_of lawful.program r) same ∙ undue

@@ -3,7 +3,7 @@ use Rattle.std.proofs.Common.{◌≡◌, ℕ, ◌+◌, List, [], ◌∷◌, ◌+
 use Rattle.std.specs.List.{filter_map}
 use Rattle.std.specs.Prelude.{Bool, false, unwrap_or, option_map, length, map}
 use Rattle.dap_history.specs.Last.{or_else, last_such}
-use Rattle.dap_history.specs.Orders.{Plan}
+use Rattle.dap_history.specs.Plans.{Plan}
 use Rattle.dap_history.specs.History.{Step, History, Effect, messages, orders_of}
 use Rattle.dap_history.specs.Readings.{situation, settings, launched, last_run, runs, position, plan, waiting_plan, waiting_pause, is_held, step_mark, settings_by, end_of, waits_by, pauses_by, go, is_pause, hold_mark}
 use Rattle.dap_history.specs.Replies.{nothing}

@@ -6,10 +6,11 @@ use Rattle.std.proofs.lemmas.List.Elements.{filter_map-append}
 use Rattle.std.proofs.lemmas.Grind.{flat_map-append}
 use Rattle.dap_history.specs.Last.{or_else, last_such}
 use Rattle.dap_msg.specs.declared.requests.initialize.InitializeArguments.{InitializeArguments}
-use Rattle.dap_history.specs.Plain.{Breakpoint}
+use Rattle.dbg_plan.specs.Breakpoints.{Breakpoint}
+use Rattle.dap_history.specs.Plans.{Plan, no_plan}
+use Rattle.dap_history.specs.Plain.{Heading}
 use Rattle.dap_history.specs.declared.situation.Situation.{Situation}
 use Rattle.dap_history.specs.declared.situation.Situation.TheVariants.{Fresh}
-use Rattle.dap_history.specs.Orders.{Plan, no_plan, Run}
 use Rattle.dap_history.specs.History.{Launched, Step, History, messages, messages_of, orders_of, next_seq}
 use Rattle.dap_history.specs.Readings.{step_mark, situation, settings_by, from_one, settings, launched, go, last_run, runs, end_of, position, plan, waits_by, waiting_plan, pauses_by, waiting_pause, hold_mark, is_held, closing, ending_of}
 

@@ -1,6 +1,6 @@
 -- No reply tells a number or launches a program but that of a launch, and each Go of a reply is of the launched text.
 use Rattle.std.proofs.Common.{◌≡◌, ◌⊎◌, inl, inr, ℕ, List, [], ◌∷◌, ◌++◌, Bool, true, false, Option, None, Some, Ok, Err, refl, sym, ◌∙◌, ap, subst}
-use Rattle.std.specs.Prelude.{map, nat_eq, if◌then◌else◌}
+use Rattle.std.specs.Prelude.{map, nat_eq, if◌then◌else◌, ℤ, Result}
 use Rattle.std.specs.List.{filter_map}
 use Rattle.dap_msg.specs.declared.command.Command.{Command}
 use Rattle.dap_msg.specs.declared.command.Command.TheVariants as command
@@ -11,20 +11,18 @@ use Rattle.dap_msg.specs.declared.outgoing.EventBody.{EventBody}
 use Rattle.dap_msg.specs.declared.outgoing.Refusal.{Refusal}
 use Rattle.dap_msg.specs.declared.outgoing.Refusal.TheVariants as refusal
 use Rattle.dap_msg.specs.declared.requests.set_breakpoints.SetBreakpointsArguments.{SetBreakpointsArguments}
-use Rattle.dap_history.specs.Plain.{Breakpoint}
+use Rattle.dbg_plan.specs.Breakpoints.{Breakpoint}
+use Rattle.dbg_plan.specs.Due.{due, depth_at}
+use Rattle.dap_history.specs.Plain.{Heading, PlainOrder, Go, Hold}
 use Rattle.dbg_plan.specs.declared.mode.Reason.{Reason}
 use Rattle.dbg_plan.specs.declared.mode.Reason.TheVariants as reason
-use Rattle.dbg_plan.specs.Due.{depth_at}
-use Rattle.dap_history.specs.Plain.{due}
 use Rattle.pl0_meaning.specs.Values.{Configuration, Frame}
 use Rattle.pl0_meaning.specs.Runs.{at}
 use Rattle.dbg_plan.specs.declared.evaluation.EvalFault.{EvalFault}
 use Rattle.dbg_plan.specs.declared.evaluation.EvalFault.TheVariants.{Overflow, DivideByZero}
-use Rattle.std.specs.Prelude.{ℤ, Result}
 use Rattle.dap_history.specs.declared.situation.Situation.{Situation}
 use Rattle.dap_history.specs.declared.situation.Situation.TheVariants.{Fresh, Ready, Configuring, Running, Stopped, Faulted, Ended}
 use Rattle.dap_history.specs.Last.{last_such}
-use Rattle.dap_history.specs.Orders.{Run, PlainOrder, Go, Hold}
 use Rattle.dap_history.specs.History.{Launched, History, Effect}
 use Rattle.dap_history.specs.Readings.{go, launched, runs, is_held, plan, situation, position}
 use Rattle.dap_history.specs.Replies.{Reply, nothing, answered, refused, causing, ordering, OfProgram, on_thread, stop_of}
@@ -39,9 +37,9 @@ use Rattle.dap_history.specs.Stops.{stop_told}
 use Rattle.dap_msg.specs.declared.outgoing.StopReason.{StopReason}
 
 -- the runs ordered are of the launched text
-pub data GoesBy (past : History) : Option Run → Type 0 where
+pub data GoesBy (past : History) : Option Heading → Type 0 where
   no_go : GoesBy past None
-  of_text : (run : Run) (l : Launched) → launched past ≡ Some l → run.text ≡ l.text → run.start ≡ position past → GoesBy past (Some run)
+  of_text : (run : Heading) (l : Launched) → launched past ≡ Some l → run.text ≡ l.text → run.start ≡ position past → GoesBy past (Some run)
 
 -- why position 0 is due, if it is
 abbrev pub due_first : History → Launched → Option Reason

@@ -19,11 +19,10 @@ use Rattle.dap_msg.specs.declared.outgoing.EventBody.TheVariants as event
 use Rattle.dap_msg.specs.declared.outgoing.StopReason.{StopReason}
 use Rattle.dap_msg.specs.declared.outgoing.StopReason.TheVariants as stop
 use Rattle.pl0_meaning.specs.Runs.{at}
-use Rattle.dap_history.specs.Plain.{Reported}
+use Rattle.dap_history.specs.Plain.{PlainReport, PlainOrder, Go, Hold, Quit}
 use Rattle.dap_history.specs.declared.situation.Situation.{Situation}
 use Rattle.dap_history.specs.declared.situation.Situation.TheVariants.{Fresh, Ready, Configuring, Running, Stopped, Faulted, Ended}
 use Rattle.dap_history.specs.Last.{or_else, last_such}
-use Rattle.dap_history.specs.Orders.{PlainOrder, Go, Hold, Quit}
 use Rattle.dap_history.specs.History.{Launched, Item, Content, Loaded, Accepted, Fault, InputEnd, ReadFailure, MemoryFailure, Step, History, behind, messages}
 use Rattle.dap_history.specs.Readings.{situation, position, launched, end_of, command_mark, answer_mark, event_mark, message_mark, order_mark, step_mark}
 use Rattle.dap_history.specs.Replies.{Reply, OfProgram, refused}
@@ -138,7 +137,7 @@ abbrev pub Stood : History → Type 0
 Stood past = IsStanding (situation past) → (m : ℕ) × StoppedLastAt past m × (m ≡ position past)
 
 -- no report is accepted where the program stands
-moves_nothing : (Q : Reported → Type 0) (past : History) (item : Item) → IsTaken Q past item → IsStanding (situation past) → end_of item ≡ None
+moves_nothing : (Q : PlainReport → Type 0) (past : History) (item : Item) → IsTaken Q past item → IsStanding (situation past) → end_of item ≡ None
 moves_nothing Q past (Content request) taken is = refl
 moves_nothing Q past (Loaded launch file) taken is = refl
 moves_nothing Q past (Accepted r) taken is = absurd (subst IsStanding taken.0.running is)
@@ -166,7 +165,7 @@ stands_on past step m none was = record {
   position_is = was.position_is;
 }
 
-stood_more : (Q : Reported → Type 0) (past : History) (step : Step) → IsTaken Q past step.item → Causes past step.item step → Stood past → Stood (past ++ step ∷ [])
+stood_more : (Q : PlainReport → Type 0) (past : History) (step : Step) → IsTaken Q past step.item → Causes past step.item step → Stood past → Stood (past ++ step ∷ [])
 stood_more Q past step taken causes stood = by_stop (stop_in step) refl
   where
     onward : stop_in step ≡ None → (MarkIs IsStanding (step_mark step) ⊎ ((step_mark step ≡ None) × IsStanding (situation past)))
@@ -183,7 +182,7 @@ stood_more Q past step taken causes stood = by_stop (stop_in step) refl
     by_stop (Some r) is = stops_here past step r is
     by_stop None none = λ standing. onward none (mark_unwrap IsStanding (step_mark step) (situation past) (subst IsStanding (situation-snoc past step) standing))
 
-pub stood_kept : (Q : Reported → Type 0) → IsKept Q Stood
+pub stood_kept : (Q : PlainReport → Type 0) → IsKept Q Stood
 stood_kept Q = record {
   step = λ past item new taking taken after here.
       subst Stood (sym after.new_is)

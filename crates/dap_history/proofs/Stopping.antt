@@ -9,14 +9,13 @@ use Rattle.pl0_meaning.specs.Runs.{outcome}
 use Rattle.pl0_meaning.specs.Laws.{WrittenJoins}
 use Rattle.dbg_plan.specs.declared.mode.Reason.{Reason}
 use Rattle.dbg_plan.specs.declared.mode.Reason.TheVariants as reason
-use Rattle.dap_history.specs.Plain.{Reported, IsLawful, EndsBy}
-use Rattle.dap_history.specs.Plain.{Outcome}
+use Rattle.dap_history.specs.Plain.{PlainReport, SliceOutcome, Heading}
+use Rattle.dap_history.specs.Lawful.{IsLawful, EndsBy}
 use Rattle.dap_history.specs.Plain as slice
 use Rattle.dap_history.specs.declared.launch.Launch.{Launch}
 use Rattle.dap_history.specs.declared.situation.Situation.{Situation}
 use Rattle.dap_history.specs.declared.situation.Situation.TheVariants.{Ready, Configuring, Running}
 use Rattle.dap_history.specs.Last.{or_else, last_such}
-use Rattle.dap_history.specs.Orders.{Run}
 use Rattle.dap_history.specs.History.{Launched, Item, Content, Loaded, Accepted, Fault, InputEnd, ReadFailure, MemoryFailure, Step, History, Effect}
 use Rattle.dap_history.specs.Readings.{go, situation, position, launched, last_run, waiting_pause, end_of, order_mark, step_mark}
 use Rattle.dap_history.specs.Replies.{Reply, stops, ends, stop_of, exception_of}
@@ -70,12 +69,12 @@ module _ (one : OneProgram) (joins : WrittenJoins) where
 
   -- the run that goes on passed nothing that is due
   goes_on : (past : History) (item : Item) (step : Step) → step.item ≡ item → IsTaken IsLawful past item → Causes past item step → Ran one joins past → IsRunning (situation past) → step_mark step ≡ None
-      → (l : Launched) → launched past ≡ Some l → (run : Run) → last_run past ≡ Some run → (n : ℕ) → n ≡ unwrap_or (end_of item) (position past) → (run.start ≤ n) × NoneDueUpTo l run n
+      → (l : Launched) → launched past ≡ Some l → (run : Heading) → last_run past ≡ Some run → (n : ℕ) → n ≡ unwrap_or (end_of item) (position past) → (run.start ≤ n) × NoneDueUpTo l run n
   goes_on past (Accepted r) step item_is taken causes ran running none l is run run_is n n_is =
       let same : taken.0.run ≡ run = let e = sym taken.0.run_is ∙ run_is in cc in
-      let at_end = undue_end taken.1.program past r r.outcome taken.1.outcome (sym (mark_of (report_effect past r r.outcome) step causes) ∙ none) in
+      let at_end = undue_end taken.1.program past r r.outcome taken.1.lawful.outcome (sym (mark_of (report_effect past r r.outcome) step causes) ∙ none) in
       subst (λ m. (run.start ≤ m) × NoneDueUpTo l run m) (sym n_is)
-      (subst (λ (run : Run). (run.start ≤ r.end) × NoneDueUpTo l run r.end) same
+      (subst (λ (run : Heading). (run.start ≤ r.end) × NoneDueUpTo l run r.end) same
       (begun_before one joins past r taken.0 taken.1 ran l is, none_up_to one joins past r taken.0 taken.1 ran l is at_end))
   goes_on past (Content request) step item_is taken causes ran running none l is run run_is n n_is = subst (λ m. (run.start ≤ m) × NoneDueUpTo l run m) (sym n_is) (ran.running running l is run run_is)
   goes_on past (Loaded launch file) step item_is taken causes ran running none l is run run_is n n_is = subst (λ m. (run.start ≤ m) × NoneDueUpTo l run m) (sym n_is) (ran.running running l is run run_is)
@@ -85,7 +84,7 @@ module _ (one : OneProgram) (joins : WrittenJoins) where
   goes_on past MemoryFailure step item_is taken causes ran running none l is run run_is n n_is = subst (λ m. (run.start ≤ m) × NoneDueUpTo l run m) (sym n_is) (ran.running running l is run run_is)
 
   running_more : (past : History) (step : Step) → IsTaken IsLawful past step.item → Causes past step.item step → Ran one joins past → IsRunning (situation (past ++ step ∷ []))
-      → (l : Launched) → launched (past ++ step ∷ []) ≡ Some l → (run : Run) → last_run (past ++ step ∷ []) ≡ Some run
+      → (l : Launched) → launched (past ++ step ∷ []) ≡ Some l → (run : Heading) → last_run (past ++ step ∷ []) ≡ Some run
       → (run.start ≤ position (past ++ step ∷ [])) × NoneDueUpTo l run (position (past ++ step ∷ []))
   running_more past step taken causes ran running l is run run_is =
       by_run (last_such go step.effect.orders) refl (item_begins past step.item step causes)
@@ -98,7 +97,7 @@ module _ (one : OneProgram) (joins : WrittenJoins) where
           (ap (λ o. or_else o (launched past)) (sym (launches_not IsLawful past step.item step taken causes was.1)) ∙ sym (launched-snoc past step) ∙ is)
           run (ap (λ o. or_else o (last_run past)) (sym none) ∙ sym (last_run-snoc past step) ∙ run_is) (position (past ++ step ∷ [])) (position-snoc past step)
 
-      by_run : (o : Option Run) → last_such go step.effect.orders ≡ o → BeginsAt (unwrap_or (end_of step.item) (position past)) (last_such go step.effect.orders)
+      by_run : (o : Option Heading) → last_such go step.effect.orders ≡ o → BeginsAt (unwrap_or (end_of step.item) (position past)) (last_such go step.effect.orders)
           → (run.start ≤ position (past ++ step ∷ [])) × NoneDueUpTo l run (position (past ++ step ∷ []))
       by_run None none begins = by_mark none (mark_unwrap IsRunning (step_mark step) (situation past) (subst IsRunning (situation-snoc past step) running))
       by_run (Some new) goes begins = here (subst (BeginsAt (unwrap_or (end_of step.item) (position past))) goes begins)
@@ -111,7 +110,7 @@ module _ (one : OneProgram) (joins : WrittenJoins) where
 
           here : BeginsAt (unwrap_or (end_of step.item) (position past)) (Some new) → (run.start ≤ position (past ++ step ∷ [])) × NoneDueUpTo l run (position (past ++ step ∷ []))
           here begins =
-              let there : run.start ≡ position (past ++ step ∷ []) = ap (λ (r : Run). r.start) (sym same) ∙ from begins ∙ sym (position-snoc past step) in
+              let there : run.start ≡ position (past ++ step ∷ []) = ap (λ (r : Heading). r.start) (sym same) ∙ from begins ∙ sym (position-snoc past step) in
               (omega (arith, there), λ k above up_to. absurd (omega (arith, there, above, up_to)))
 
   ran_more : (past : History) (step : Step) → IsTaken IsLawful past step.item → Causes past step.item step → Ran one joins past → Ran one joins (past ++ step ∷ [])
@@ -140,20 +139,20 @@ module _ (one : OneProgram) (joins : WrittenJoins) where
   outputs_stop_not [] = refl
   outputs_stop_not (v ∷ vs) = ap (λ o. or_else o None) (outputs_stop_not vs)
 
-  stop_after : (r : Reported) (s : StopReason) → last_such stop_told (outputs r ++ stops s) ≡ Some s
+  stop_after : (r : PlainReport) (s : StopReason) → last_such stop_told (outputs r ++ stops s) ≡ Some s
   stop_after r s = last_such-append stop_told (outputs r) (stops s)
 
-  end_after : (r : Reported) (code : ℕ) → last_such stop_told (outputs r ++ ends code) ≡ None
+  end_after : (r : PlainReport) (code : ℕ) → last_such stop_told (outputs r ++ ends code) ≡ None
   end_after r code = last_such-append stop_told (outputs r) (ends code) ∙ outputs_stop_not r.numbers
 
-  due_stop : (l : Launched) (run : Run) (m : ℕ) (r : Reason) → (due_in l run m ≡ Some r) × (run.start < m) × NoneDueBefore l run m → IsRunsStop l run (stop_of r) m
+  due_stop : (l : Launched) (run : Heading) (m : ℕ) (r : Reason) → (due_in l run m ≡ Some r) × (run.start < m) × NoneDueBefore l run m → IsRunsStop l run (stop_of r) m
   due_stop l run m reason.Breakpoint is = (reason.Breakpoint, refl, is.0, is.1, is.2)
   due_stop l run m reason.Entry is = (reason.Entry, refl, is.0, is.1, is.2)
   due_stop l run m reason.Step is = (reason.Step, refl, is.0, is.1, is.2)
 
   -- a report stops its run where it has to
-  module _ (past : History) (r : Reported) (accepts : Accepts past r) (lawful : IsLawful r) (ran : Ran one joins past) (l : Launched) (is : launched past ≡ Some l) where
-    stops_run : (e : Outcome) → EndsBy lawful.program r e → (s : StopReason) → last_such stop_told (report_effect past r e).events ≡ Some s → IsRunsStop l accepts.run s r.end
+  module _ (past : History) (r : PlainReport) (accepts : Accepts past r) (lawful : IsLawful r) (ran : Ran one joins past) (l : Launched) (is : launched past ≡ Some l) where
+    stops_run : (e : SliceOutcome) → EndsBy lawful.program r e → (s : StopReason) → last_such stop_told (report_effect past r e).events ≡ Some s → IsRunsStop l accepts.run s r.end
     stops_run slice.More ends_by s told = let e = sym (outputs_stop_not r.numbers) ∙ told in absurd cc
     stops_run (slice.Due why) ends_by s told =
         let same : stop_of why ≡ s = let e = sym (stop_after r (stop_of why)) ∙ told in cc in
@@ -167,7 +166,7 @@ module _ (one : OneProgram) (joins : WrittenJoins) where
         by_pause true told =
             let same : stop.Pause ≡ s = let e = sym (stop_after r stop.Pause) ∙ told in cc in
             subst (λ s. IsRunsStop l accepts.run s r.end) same
-            (begun_before one joins past r accepts lawful ran l is, none_up_to one joins past r accepts lawful ran l is (inl ends_by))
+            (begun_before one joins past r accepts lawful ran l is, none_up_to one joins past r accepts lawful ran l is (inl ends_by.0))
         by_pause false told = let e = sym (outputs_stop_not r.numbers) ∙ told in absurd cc
     stops_run slice.Done ends_by s told = let e = sym (end_after r 0) ∙ told in absurd cc
     stops_run (slice.Fault fault) ends_by s told =
@@ -177,11 +176,11 @@ module _ (one : OneProgram) (joins : WrittenJoins) where
         (fault, refl, faults, begun_before one joins past r accepts lawful ran l is, none_up_to one joins past r accepts lawful ran l is ends_by.1)
     stops_run slice.NoMemory ends_by s told = absurd cc
 
-  report_stops : (past : History) (r : Reported) → Accepts past r → IsLawful r → Ran one joins past → (s : StopReason) → last_such stop_told (report_effect past r r.outcome).events ≡ Some s
+  report_stops : (past : History) (r : PlainReport) → Accepts past r → IsLawful r → Ran one joins past → (s : StopReason) → last_such stop_told (report_effect past r r.outcome).events ≡ Some s
       → (l : Option Launched) → launched past ≡ l → RightStop past s r.end
   report_stops past r accepts lawful ran s told None is = let e = sym (ran.told.tells None is).1 ∙ accepts.run_is in absurd cc
   report_stops past r accepts lawful ran s told (Some l) is =
-      (l, is, subst (λ o. IsRightStop l past o s r.end) (sym accepts.run_is) (stops_run past r accepts lawful ran l is r.outcome lawful.outcome s told))
+      (l, is, subst (λ o. IsRightStop l past o s r.end) (sym accepts.run_is) (stops_run past r accepts lawful ran l is r.outcome lawful.lawful.outcome s told))
 
   -- a reply stops the program at position 0
   reply_stops : (past : History) (o : Option StopReason) → StopsBy (situation past) past o → Ran one joins past → (s : StopReason) → o ≡ Some s → RightStop past s (position past)

@@ -11,13 +11,13 @@ use Rattle.dap_msg.specs.declared.outgoing.Outgoing.TheVariants.{Answer, Event}
 use Rattle.pl0_tree.specs.Faults.{IsTreeOf}
 use Rattle.pl0_meaning.specs.Runs.{written, written_from}
 use Rattle.pl0_meaning.specs.Laws.{WrittenJoins}
-use Rattle.dap_history.specs.Plain.{Reported, IsLawful, EndsBy}
+use Rattle.dap_history.specs.Plain.{PlainReport, Heading, Quit}
+use Rattle.dap_history.specs.Lawful.{IsLawful, EndsBy}
 use Rattle.dap_history.specs.Plain as slice
 use Rattle.dap_history.specs.declared.launch.Launch.{Launch}
 use Rattle.dap_history.specs.declared.situation.Situation.{Situation}
 use Rattle.dap_history.specs.declared.situation.Situation.TheVariants.{Fresh, Ready, Configuring, Running, Stopped, Faulted, Ended}
 use Rattle.dap_history.specs.Last.{or_else, last_such}
-use Rattle.dap_history.specs.Orders.{Run, Quit}
 use Rattle.dap_history.specs.History.{Launched, Item, Content, Loaded, Accepted, Fault, InputEnd, ReadFailure, MemoryFailure, Step, History, Effect, behind, messages, messages_of}
 use Rattle.dap_history.specs.Readings.{go, launched, last_run, position, end_of, situation, answer_mark, message_mark, order_mark, step_mark}
 use Rattle.dap_history.specs.Replies.{Reply, nothing, ordering}
@@ -38,7 +38,7 @@ abbrev pub TellsOf : History → Option Launched → Type 0
 TellsOf past None = (numbers (messages_of past) ≡ []) × (last_run past ≡ None) × (position past ≡ 0)
 TellsOf past (Some l) =
     (numbers (messages_of past) ≡ written l.program 0 (position past))
-    × ((run : Run) → last_run past ≡ Some run → run.text ≡ l.text)
+    × ((run : Heading) → last_run past ≡ Some run → run.text ≡ l.text)
     × ∥ IsTreeOf l.text l.program ∥₁
 
 pub record Told (past : History) : Type 0 where
@@ -67,17 +67,17 @@ pub record IsAside (past : History) (step : Step) : Type 0 where
   pub moves_nothing : end_of step.item ≡ None
   pub goes : GoesBy past (last_such go step.effect.orders)
 
-goes_none : (past : History) (o : Option Run) → GoesBy past o → launched past ≡ None → o ≡ None
+goes_none : (past : History) (o : Option Heading) → GoesBy past o → launched past ≡ None → o ≡ None
 goes_none past None no_go is = refl
 goes_none past (Some run) (of_text run' l there text begins) is = absurd cc
 
-goes_text : (past : History) (o : Option Run) (l : Launched) → GoesBy past o → launched past ≡ Some l → ((run : Run) → last_run past ≡ Some run → run.text ≡ l.text)
-    → (run : Run) → or_else o (last_run past) ≡ Some run → run.text ≡ l.text
+goes_text : (past : History) (o : Option Heading) (l : Launched) → GoesBy past o → launched past ≡ Some l → ((run : Heading) → last_run past ≡ Some run → run.text ≡ l.text)
+    → (run : Heading) → or_else o (last_run past) ≡ Some run → run.text ≡ l.text
 goes_text past None l no_go is before run e = before run e
 goes_text past (Some other) l (of_text run' k there text begins) is before run e =
     let same : other ≡ run = cc in
     let launch : k ≡ l = cc in
-    ap (λ (r : Run). r.text) (sym same) ∙ text ∙ ap (λ (k : Launched). k.text) launch
+    ap (λ (r : Heading). r.text) (sym same) ∙ text ∙ ap (λ (k : Launched). k.text) launch
 
 aside_tells : (past : History) (step : Step) → IsAside past step → (l : Option Launched) → launched past ≡ l → TellsOf past l → TellsOf (past ++ step ∷ []) l
 aside_tells past step aside None is tells = (
@@ -121,25 +121,25 @@ nothing_aside past item step is stays effect silent has told =
 -- ---- a report
 
 module _ (one : OneProgram) (joins : WrittenJoins) where
-  nothing_between : (r : Reported) → IsLawful r → r.outcome ≡ slice.NoMemory → r.numbers ≡ []
+  nothing_between : (r : PlainReport) → IsLawful r → r.outcome ≡ slice.NoMemory → r.numbers ≡ []
   nothing_between r lawful is =
-      let ends : EndsBy lawful.program r slice.NoMemory = subst (EndsBy lawful.program r) is lawful.outcome in
+      let ends : EndsBy lawful.program r slice.NoMemory = subst (EndsBy lawful.program r) is lawful.lawful.outcome in
       let none : r.start - r.start ≡ 0 = omega arith in
-      lawful.numbers ∙ ap (written lawful.program r.start) ends ∙ ap (written_from lawful.program r.start) none
+      lawful.lawful.numbers ∙ ap (written lawful.program r.start) ends.0 ∙ ap (written_from lawful.program r.start) none
 
-  report_text : (past : History) (r : Reported) (l : Launched) → Accepts past r → TellsOf past (Some l) → r.text ≡ l.text
-  report_text past r l accepts tells = accepts.expected.text ∙ tells.1 accepts.run accepts.run_is
+  report_text : (past : History) (r : PlainReport) (l : Launched) → Accepts past r → TellsOf past (Some l) → r.text ≡ l.text
+  report_text past r l accepts tells = ap (λ (h : Heading). h.text) accepts.expected ∙ tells.1 accepts.run accepts.run_is
 
-  pub report_program : (past : History) (r : Reported) (lawful : IsLawful r) (l : Launched) → Accepts past r → TellsOf past (Some l) → lawful.program ≡ l.program
+  pub report_program : (past : History) (r : PlainReport) (lawful : IsLawful r) (l : Launched) → Accepts past r → TellsOf past (Some l) → lawful.program ≡ l.program
   report_program past r lawful l accepts tells =
       one l.text _ _ (subst (λ t. ∥ IsTreeOf t lawful.program ∥₁) (report_text past r l accepts tells) lawful.reads) tells.2
 
-  as_run : (text : List ℕ) (finish : ℕ) (o : Option Run) (before : Option Run) → GoesAs text finish o → ((run : Run) → before ≡ Some run → run.text ≡ text) → (run : Run) → or_else o before ≡ Some run → run.text ≡ text
+  as_run : (text : List ℕ) (finish : ℕ) (o : Option Heading) (before : Option Heading) → GoesAs text finish o → ((run : Heading) → before ≡ Some run → run.text ≡ text) → (run : Heading) → or_else o before ≡ Some run → run.text ≡ text
   as_run text finish None before no_run was run e = was run e
   as_run text finish (Some other) before (as_text run' is begins) was run e =
-      let same : other ≡ run = cc in ap (λ (r : Run). r.text) (sym same) ∙ is
+      let same : other ≡ run = cc in ap (λ (r : Heading). r.text) (sym same) ∙ is
 
-  report_tells_of : (past : History) (r : Reported) (step : Step) → step.item ≡ Accepted r → HasEffect (report_effect past r r.outcome) step → Accepts past r → IsLawful r
+  report_tells_of : (past : History) (r : PlainReport) (step : Step) → step.item ≡ Accepted r → HasEffect (report_effect past r r.outcome) step → Accepts past r → IsLawful r
       → (l : Option Launched) → TellsOf past l → TellsOf (past ++ step ∷ []) l
   report_tells_of past r step is has accepts lawful None tells = absurd (let e = sym tells.1 ∙ accepts.run_is in cc)
   report_tells_of past r step is has accepts lawful (Some l) tells =
@@ -148,8 +148,8 @@ module _ (one : OneProgram) (joins : WrittenJoins) where
       let told : numbers (messages step) ≡ r.numbers =
       no_answer step has.answer_is ∙ ap (λ (e : Effect). filter_map output (map Event e.events)) has.effect_is ∙ report_tells past r r.outcome (nothing_between r lawful) in
       let wrote : r.numbers ≡ written l.program (position past) r.end =
-      lawful.numbers ∙ ap (λ p. written p r.start r.end) (report_program past r lawful l accepts tells) ∙ ap (λ b. written l.program b r.end) accepts.expected.start_is in
-      let behind : position past ≤ r.end = subst (λ b. b ≤ r.end) accepts.expected.start_is lawful.begun in (
+      lawful.lawful.numbers ∙ ap (λ p. written p r.start r.end) (report_program past r lawful l accepts tells) ∙ ap (λ b. written l.program b r.end) (ap (λ (h : Heading). h.start) accepts.expected) in
+      let behind : position past ≤ r.end = subst (λ b. b ≤ r.end) (ap (λ (h : Heading). h.start) accepts.expected) lawful.lawful.begun in (
         numbers-snoc past step
             ∙ ap (λ n. n ++ numbers (messages step)) tells.0
             ∙ ap (λ n. written l.program 0 (position past) ++ n) (told ∙ wrote)
@@ -161,7 +161,7 @@ module _ (one : OneProgram) (joins : WrittenJoins) where
         tells.2,
       )
 
-  report_keeps : (past : History) (r : Reported) (step : Step) → step.item ≡ Accepted r → HasEffect (report_effect past r r.outcome) step → Accepts past r → IsLawful r → Told past → Told (past ++ step ∷ [])
+  report_keeps : (past : History) (r : PlainReport) (step : Step) → step.item ≡ Accepted r → HasEffect (report_effect past r r.outcome) step → Accepts past r → IsLawful r → Told past → Told (past ++ step ∷ [])
   report_keeps past r step is has accepts lawful told = record {
     early = λ e. launch_same ∙ told.early (was_early (early_unwrap (step_mark step) (situation past) (subst IsEarly (situation-snoc past step) e)));
     tells = λ l e. report_tells_of past r step is has accepts lawful l (told.tells l (sym launch_same ∙ e));

@@ -12,13 +12,14 @@ use Rattle.dap_msg.specs.declared.outgoing.BreakpointAnswer.TheVariants as told
 use Rattle.dap_msg.specs.declared.outgoing.BreakpointRefusal.TheVariants as why
 use Rattle.pl0_tree.specs.Tree.{Block}
 use Rattle.pl0_tree.specs.Steps.{steps}
-use Rattle.dap_history.specs.Plain.{Breakpoint, AreResolved}
-use Rattle.dbg_plan.specs.declared.resolving.Asked.{Asked}
-use Rattle.dbg_plan.specs.declared.resolving.Answer.{Answer}
-use Rattle.dbg_plan.specs.declared.resolving.Answer.TheVariants.{At, NoStep, BadCondition, BadHit}
+use Rattle.dbg_plan.specs.Breakpoints.{Breakpoint}
+use Rattle.dbg_plan.specs.Resolutions.{AreResolved}
+use Rattle.dap_history.specs.Plain.{PlainOrder, Hold}
+use Rattle.dbg_plan.specs.declared.resolving.SourceBreakpoint.{SourceBreakpoint as AskedLine}
+use Rattle.dbg_plan.specs.declared.resolving.Resolution.{Resolution}
+use Rattle.dbg_plan.specs.declared.resolving.Resolution.TheVariants.{At, NoStep, BadCondition, BadHitCondition}
 use Rattle.dap_history.specs.declared.situation.Situation.{Situation}
 use Rattle.dap_history.specs.declared.situation.Situation.TheVariants.{Fresh, Ready, Configuring, Running, Stopped, Faulted, Ended}
-use Rattle.dap_history.specs.Orders.{PlainOrder, Hold}
 use Rattle.dap_history.specs.History.{Launched, History, Effect}
 use Rattle.dap_history.specs.Readings.{situation, settings, launched, runs, position, is_held}
 use Rattle.dap_history.specs.Replies.{Reply, nothing, answered, refused, causing, OfProgram}
@@ -39,19 +40,19 @@ column_offset past = offset (settings past).columns_start_at_1
 -- ---- what lines become
 
 -- a line asked for, counted from 1
-pub record IsAskedAs (less : ℕ) (b : SourceBreakpoint) (asked : Asked) : Type 0 where
+pub record IsAskedAs (less : ℕ) (b : SourceBreakpoint) (asked : AskedLine) : Type 0 where
   pub line : asked.line ≡ b.line + less
   pub condition : string_bytes asked.condition ≡ b.condition
-  pub hit : string_bytes asked.hit ≡ b.hit_condition
+  pub hit : string_bytes asked.hit_condition ≡ b.hit_condition
 
-abbrev pub AreAskedAs : ℕ → List SourceBreakpoint → List Asked → Type 0
+abbrev pub AreAskedAs : ℕ → List SourceBreakpoint → List AskedLine → Type 0
 AreAskedAs less [] [] = Unit {0}
 AreAskedAs less (b ∷ bs) (asked ∷ more) = IsAskedAs less b asked × AreAskedAs less bs more
 AreAskedAs less _ _ = ⊥
 
 -- Each line is answered from the program alone. The breakpoints are those that were answered with a step, in the order asked.
-pub record IsResolved (main : Block) (less : ℕ) (lines : List SourceBreakpoint) (answers : List Answer) (breakpoints : List Breakpoint) : Type 0 where
-  pub asked : List Asked
+pub record IsResolved (main : Block) (less : ℕ) (lines : List SourceBreakpoint) (answers : List Resolution) (breakpoints : List Breakpoint) : Type 0 where
+  pub asked : List AskedLine
   pub as_asked : AreAskedAs less lines asked
   pub resolved : AreResolved main asked answers breakpoints
 
@@ -59,11 +60,11 @@ pub record IsResolved (main : Block) (less : ℕ) (lines : List SourceBreakpoint
 abbrev pub step_line : Block → ℕ → ℕ
 step_line main n = option_map_or (λ s. s.place.line) (slice_get (steps main) n) 0
 
-abbrev pub told_as : Block → ℕ → Answer → BreakpointAnswer
+abbrev pub told_as : Block → ℕ → Resolution → BreakpointAnswer
 told_as main less (At n) = told.At (step_line main n - less)
 told_as main less NoStep = told.Unverified why.NoStep
 told_as main less BadCondition = told.Unverified why.BadCondition
-told_as main less BadHit = told.Unverified why.BadHitCondition
+told_as main less BadHitCondition = told.Unverified why.BadHitCondition
 
 -- ---- the answer
 
@@ -88,7 +89,7 @@ effect_in Ready past bs = nothing
 
 -- the lines are those of the launched source
 pub record Resolves (past : History) (l : Launched) (lines : List SourceBreakpoint) (reply : Reply) : Type 0 where
-  pub answers : List Answer
+  pub answers : List Resolution
   pub breakpoints : List Breakpoint
   pub resolved : IsResolved l.program (line_offset past) lines answers breakpoints
   pub reply_is : reply ≡ causing (body.Breakpoints (map (told_as l.program (line_offset past)) answers)) (effect_in (situation past) past breakpoints)

@@ -1,11 +1,12 @@
 -- Which items a list of events gives, one after another. Nothing behind the closing is an item.
 use Rattle.std.specs.Prelude.{◌≡◌, ◌⊎◌, ◌++◌, ◌∷◌, [], ℕ, List, Option, None, Some, Result, Ok, Err}
-use Rattle.dap_frame.specs.declared.fault.FrameFault.{FrameFault}
+use Rattle.dap_frame.specs.declared.fault.FramingFault.{FramingFault}
 use Rattle.dap_frame.specs.Frame.{IsFrameInFront, IsOpen}
 use Rattle.dap_frame.specs.Header.{FaultAt}
 use Rattle.dap_msg.specs.declared.request.Request.{Request}
 use Rattle.dap_msg.specs.Request.{IsRequestOf}
-use Rattle.dap_history.specs.Plain.{Reported, IsLawful}
+use Rattle.dap_history.specs.Plain.{PlainReport}
+use Rattle.dap_history.specs.Lawful.{IsLawful}
 use Rattle.dap_history.specs.declared.fault.LoadFault.{LoadFault}
 use Rattle.dap_history.specs.declared.fault.LoadFault.TheVariants as load_fault
 use Rattle.dap_history.specs.declared.launch.Launch.{Launch}
@@ -22,7 +23,7 @@ pub data Incoming : Type 0 where
   ReadFailed : Incoming
   NoMemory : Incoming
   File : Result (List ℕ) LoadFault → Incoming
-  Report : Reported → Incoming
+  Report : PlainReport → Incoming
 
 -- Each report is what the meaning of its program gives; a report's type keeps that.
 abbrev pub AreLawful : List Incoming → Type 0
@@ -61,7 +62,7 @@ pub data Takes : History → List ℕ → History → List ℕ → Type 0 where
 pub data Rests (past : History) (bytes : List ℕ) : History → Rest → Type 0 where
   closed : ¬ IsTaking past → Rests past bytes past (only_bytes bytes)
   open_ended : IsTaking past → IsOpen bytes → Rests past bytes past (only_bytes bytes)
-  faulty : (k : FrameFault) (new : History) → IsTaking past → FaultAt bytes k → IsAfter past (Fault k) new →
+  faulty : (k : FramingFault) (new : History) → IsTaking past → FaultAt bytes k → IsAfter past (Fault k) new →
       Rests past bytes new (only_bytes bytes)
   waits : (request : Option Request) (launch : Launch) (more : List ℕ) → IsTaking past → IsInFront bytes request more →
       wanted_in (situation past) request ≡ Some launch → Rests past bytes past (record { launch = Some launch; bytes = more })
@@ -99,7 +100,7 @@ LeadsByFile past rest (Some launch) (Err load_fault.CannotRead) new left =
 LeadsByFile past rest (Some launch) (Err load_fault.NoMemory) new left = MayTake past MemoryFailure new × (left ≡ rest)
 
 -- A report. One that isn't accepted is passed over.
-abbrev pub LeadsByReport : History → Reported → History → Type 0
+abbrev pub LeadsByReport : History → PlainReport → History → Type 0
 LeadsByReport past r new =
     ((¬ (IsTaking past × Accepts past r)) × (new ≡ past)) ⊎ (IsTaking past × Accepts past r × IsAfter past (Accepted r) new)
 

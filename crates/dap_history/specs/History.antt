@@ -1,15 +1,15 @@
 -- What a session has taken, and what that caused.
 use Rattle.std.specs.Prelude.{ℕ, ◌+◌, Bool, List, [], ◌∷◌, ◌++◌, map, length, flat_map, Option, None, Some, Result}
-use Rattle.dap_frame.specs.declared.fault.FrameFault.{FrameFault}
+use Rattle.dap_frame.specs.declared.fault.FramingFault.{FramingFault}
 use Rattle.dap_msg.specs.declared.request.Request.{Request}
 use Rattle.dap_history.specs.declared.launch.Launch.{Launch}
 use Rattle.dap_msg.specs.declared.outgoing.Outgoing.{Outgoing}
 use Rattle.dap_msg.specs.declared.outgoing.Outgoing.TheVariants.{Event}
 use Rattle.dap_msg.specs.declared.outgoing.EventBody.{EventBody}
 use Rattle.pl0_tree.specs.Tree.{Block}
-use Rattle.dap_history.specs.Plain.{Breakpoint}
-use Rattle.dap_history.specs.Plain.{Reported}
-use Rattle.dap_history.specs.Orders.{Plan, PlainOrder}
+use Rattle.dbg_plan.specs.Breakpoints.{Breakpoint}
+use Rattle.dap_history.specs.Plain.{PlainReport, PlainOrder}
+use Rattle.dap_history.specs.Plans.{Plan}
 
 -- A program that is launched: its path, its text, and what the text reads as.
 pub record Launched : Type 0 where
@@ -23,8 +23,8 @@ pub record Launched : Type 0 where
 pub data Item : Type 0 where
   Content : Option Request → Item
   Loaded : Launch → Option (List ℕ) → Item
-  Accepted : Reported → Item
-  Fault : FrameFault → Item
+  Accepted : PlainReport → Item
+  Fault : FramingFault → Item
   InputEnd : Item
   ReadFailure : Item
   MemoryFailure : Item

@@ -6,8 +6,7 @@ use Rattle.dap_msg.specs.declared.command.Command.{Command}
 use Rattle.dap_msg.specs.declared.command.Command.TheVariants as command
 use Rattle.dap_msg.specs.declared.outgoing.Body.TheVariants as body
 use Rattle.dap_msg.specs.declared.outgoing.Refusal.TheVariants as refusal
-use Rattle.pl0_tree.specs.Tree.{Block}
-use Rattle.pl0_tree.specs.Tree.{Expression}
+use Rattle.pl0_tree.specs.Tree.{Block, Expression}
 use Rattle.pl0_tree.specs.Faults.{IsExpressionOf}
 use Rattle.pl0_meaning.specs.Values.{Frame, Configuration, value}
 use Rattle.pl0_meaning.specs.Runs.{at}

@@ -1,6 +1,7 @@
 pub mod Last
 pub mod Plain
-pub mod Orders
+pub mod Lawful
+pub mod Plans
 pub mod History
 pub mod Readings
 pub mod Replies

@@ -1,7 +1,7 @@
 -- What a session goes by: each a question for the last such step, message or order of its history.
 use Rattle.std.specs.Prelude.{ℕ, ◌+◌, Bool, true, false, List, [], ◌∷◌, map, length, unwrap_or, Option, None, Some, option_map, Result, Ok, Err}
 use Rattle.std.specs.List.{filter_map}
-use Rattle.dap_frame.specs.declared.fault.FrameFault.{FrameFault}
+use Rattle.dap_frame.specs.declared.fault.FramingFault.{FramingFault}
 use Rattle.dap_msg.specs.declared.request.Request.{Request}
 use Rattle.dap_msg.specs.declared.requests.initialize.InitializeArguments.{InitializeArguments}
 use Rattle.dap_msg.specs.declared.command.Command.{Command}
@@ -18,12 +18,11 @@ use Rattle.dap_msg.specs.declared.outgoing.EventBody.{EventBody}
 use Rattle.dap_msg.specs.declared.outgoing.EventBody.TheVariants as event
 use Rattle.dap_msg.specs.declared.outgoing.StopReason.{StopReason}
 use Rattle.dap_msg.specs.declared.outgoing.StopReason.TheVariants as reason
-use Rattle.dap_history.specs.Plain.{Breakpoint}
-use Rattle.dap_history.specs.Plain.{Reported}
-use Rattle.dap_history.specs.Plain.{Outcome}
+use Rattle.dbg_plan.specs.Breakpoints.{Breakpoint}
+use Rattle.dap_history.specs.Plain.{PlainReport, SliceOutcome, Heading, PlainOrder, Go, Hold, Quit}
+use Rattle.dap_history.specs.Plans.{Plan, no_plan}
 use Rattle.dap_history.specs.Plain as slice
 use Rattle.dap_history.specs.Last.{or_else, last_such}
-use Rattle.dap_history.specs.Orders.{Plan, no_plan, Run, PlainOrder, Go, Hold, Quit}
 use Rattle.dap_history.specs.History.{Launched, Item, Content, Loaded, Accepted, Fault, InputEnd, ReadFailure, MemoryFailure, Step, History, messages, orders_of}
 use Rattle.dap_history.specs.declared.situation.Situation.{Situation}
 use Rattle.dap_history.specs.declared.situation.Situation.TheVariants.{Fresh, Ready, Configuring, Running, Stopped, Faulted, Ended}
@@ -94,13 +93,13 @@ launched past = last_such (λ step. step.effect.launched) past
 
 -- ---- runs
 
-abbrev pub go : PlainOrder → Option Run
+abbrev pub go : PlainOrder → Option Heading
 go (Go run) = Some run
 go (Hold run) = None
 go Quit = None
 
 -- the run that was ordered last
-abbrev pub last_run : History → Option Run
+abbrev pub last_run : History → Option Heading
 last_run past = last_such go (orders_of past)
 
 -- how many were ordered, which is the number of the last
@@ -156,7 +155,7 @@ closing_command command.Disconnect = Some (ending.Closed Disconnected)
 closing_command _ = None
 
 -- how a report does
-abbrev pub closing_report : Outcome → Option Ending
+abbrev pub closing_report : SliceOutcome → Option Ending
 closing_report slice.NoMemory = Some (ending.Fault NoMemory)
 closing_report _ = None
 

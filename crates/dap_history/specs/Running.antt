@@ -6,11 +6,11 @@ use Rattle.dap_msg.specs.declared.outgoing.Refusal.TheVariants as refusal
 use Rattle.dbg_plan.specs.declared.mode.Mode.{Mode}
 use Rattle.dbg_plan.specs.declared.mode.Mode.TheVariants as mode
 use Rattle.dbg_plan.specs.declared.mode.Reason.{Reason}
-use Rattle.dbg_plan.specs.Due.{depth_at}
-use Rattle.dap_history.specs.Plain.{due}
+use Rattle.dbg_plan.specs.Due.{depth_at, due}
+use Rattle.dap_history.specs.Plans.{Plan}
+use Rattle.dap_history.specs.Plain.{PlainOrder, Go}
 use Rattle.dap_history.specs.declared.situation.Situation.{Situation}
 use Rattle.dap_history.specs.declared.situation.Situation.TheVariants.{Fresh, Ready, Configuring, Running, Stopped, Faulted, Ended}
-use Rattle.dap_history.specs.Orders.{Plan, PlainOrder, Go}
 use Rattle.dap_history.specs.History.{Launched, History, Effect}
 use Rattle.dap_history.specs.Readings.{situation, launched, runs, position, plan}
 use Rattle.dap_history.specs.Breakpoints.{hold_once}
@@ -19,7 +19,7 @@ use Rattle.dap_history.specs.Replies.{Reply, telling, ordering, answered, refuse
 -- the order of the next run, which begins at this position under this plan and in this mode
 abbrev pub goes : History → Launched → ℕ → Plan → Mode → List PlainOrder
 goes past l begins p m =
-    Go (record { number = runs past + 1; text = l.text; start = begins; plan = p; mode = m }) ∷ []
+    Go (record { run = runs past + 1; text = l.text; plan = p.breakpoints; counted_from = p.counted_from; mode = m; start = begins }) ∷ []
 
 -- the same, where the session holds the debuggee
 abbrev pub resumes : History → Launched → Mode → List PlainOrder

@@ -15,11 +15,11 @@ use Rattle.pl0_meaning.specs.Runs.{at, outcome, Faults}
 use Rattle.dbg_plan.specs.declared.mode.Mode.{Mode}
 use Rattle.dbg_plan.specs.declared.mode.Mode.TheVariants as mode
 use Rattle.dbg_plan.specs.declared.mode.Reason.{Reason}
-use Rattle.dap_history.specs.Plain.{due}
+use Rattle.dbg_plan.specs.Due.{due}
+use Rattle.dap_history.specs.Plain.{Heading}
 use Rattle.dap_history.specs.declared.situation.Situation.{Situation}
 use Rattle.dap_history.specs.declared.situation.Situation.TheVariants.{Stopped, Faulted}
 use Rattle.dap_history.specs.Last.{last_such}
-use Rattle.dap_history.specs.Orders.{Run}
 use Rattle.dap_history.specs.History.{Launched, Content, Step, History}
 use Rattle.dap_history.specs.Readings.{situation, launched, last_run, position, plan}
 use Rattle.dap_history.specs.Replies.{Reply, stop_of, exception_of}
@@ -43,20 +43,20 @@ pub record StopsAt (past before : History) (reason : StopReason) (m : ℕ) : Typ
   pub position_is : m ≡ position (before ++ step ∷ [])
 
 -- why a position is due in a run of the program, if it is
-abbrev pub due_in : Launched → Run → ℕ → Option Reason
-due_in l run m = due l.program run.plan.breakpoints run.plan.counted_from run.mode m
+abbrev pub due_in : Launched → Heading → ℕ → Option Reason
+due_in l run m = due l.program run.plan run.counted_from run.mode m
 
 -- no position that the run came to, up to, but not including, m, is due; the one where it began isn't asked
-abbrev pub NoneDueBefore : Launched → Run → ℕ → Type 0
+abbrev pub NoneDueBefore : Launched → Heading → ℕ → Type 0
 NoneDueBefore l run m = (k : ℕ) → run.start < k → k < m → due_in l run k ≡ None
 
 -- the same, up to and including m
-abbrev pub NoneDueUpTo : Launched → Run → ℕ → Type 0
+abbrev pub NoneDueUpTo : Launched → Heading → ℕ → Type 0
 NoneDueUpTo l run m = (k : ℕ) → run.start < k → k ≤ m → due_in l run k ≡ None
 
 -- A run stopped at m for this reason: at the least position above its beginning that is due; where it was held; or before
 -- the step that faults.
-abbrev pub IsRunsStop : Launched → Run → StopReason → ℕ → Type 0
+abbrev pub IsRunsStop : Launched → Heading → StopReason → ℕ → Type 0
 IsRunsStop l run stop.Pause m = (run.start ≤ m) × NoneDueUpTo l run m
 IsRunsStop l run (stop.Exception x) m =
     (fault : RunFault) × (x ≡ exception_of fault) × (outcome l.program m ≡ Faults fault) × (run.start ≤ m) × NoneDueUpTo l run m
@@ -68,7 +68,7 @@ abbrev pub first_mode : Launched → Mode
 first_mode l = if l.stop_on_entry then mode.Entry else mode.Continue
 
 -- A stop after these steps: of the last run, or, before any, at position 0.
-abbrev pub IsRightStop : Launched → History → Option Run → StopReason → ℕ → Type 0
+abbrev pub IsRightStop : Launched → History → Option Heading → StopReason → ℕ → Type 0
 IsRightStop l before (Some run) reason m = IsRunsStop l run reason m
 IsRightStop l before None reason m =
     (m ≡ 0) × ((r : Reason) × (reason ≡ stop_of r) × (due l.program (plan before).breakpoints (plan before).counted_from (first_mode l) 0 ≡ Some r))

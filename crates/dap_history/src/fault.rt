@@ -1,10 +1,10 @@
-use dap_frame::FrameFault;
+use dap_frame::FramingFault;
 
 /// Why a session gave up.
 #[derive(Clone, Copy, Debug, PartialEq, Eq)]
 pub enum SessionFault {
     /// The input holds no frame where one should stand.
-    Frame(FrameFault),
+    Frame(FramingFault),
     /// An allocation was refused, here, in the loader or in the runner.
     NoMemory,
     /// A message would have a seq past 2^53 - 1.
