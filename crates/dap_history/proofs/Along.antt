@@ -67,7 +67,7 @@ wanted_ready Stopped request launch is = absurd cc
 wanted_ready Faulted request launch is = absurd cc
 wanted_ready Ended request launch is = absurd cc
 
--- no item is taken behind one that closes
+-- no item is taken after one that closes
 closes_for_good : (past : History) (item : Item) (new : History) (by : Ending) → closing item ≡ Some by → IsAfter past item new → ¬ IsTaking new
 closes_for_good past item new by is after taking =
     let e = sym taking ∙ ap ending_of after.new_is ∙ ending_of-snoc past after.step
@@ -107,7 +107,7 @@ module _ (Q : PlainReport → Type 0) (P : History → Type 0) (kept : IsKept Q 
 
   along_loads : (past : History) (launch : Launch) (file : Option (List ℕ)) (bytes : List ℕ) (new : History) (left : Rest) → situation past ≡ Ready → Loads past launch file bytes new left → P past → Holds new left
   along_loads past launch file bytes new left ready loads here =
-      along_all loads.mid bytes new left loads.behind (kept.step past (Loaded launch file) loads.mid loads.taking ready loads.loaded here)
+      along_all loads.mid bytes new left loads.after (kept.step past (Loaded launch file) loads.mid loads.taking ready loads.loaded here)
 
   along_file : (past : History) (rest : Rest) (launch : Option Launch) (file : Result (List ℕ) LoadFault) (new : History) (left : Rest) → rest.launch ≡ launch → LeadsByFile past rest launch file new left → Holds past rest → Holds new left
   along_file past rest None file new left same is here = subst (λ h. Holds h left) (sym is.0) (subst (λ r. Holds past r) (sym is.1) here)

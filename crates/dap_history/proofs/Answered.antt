@@ -8,7 +8,7 @@ use Rattle.dap_msg.specs.declared.command.CommandName.{CommandName}
 use Rattle.dap_msg.specs.declared.outgoing.Outgoing.{Outgoing}
 use Rattle.dap_msg.specs.declared.outgoing.Outgoing.TheVariants.{Answer, Event}
 use Rattle.dap_msg.specs.declared.outgoing.EventBody.{EventBody}
-use Rattle.dap_history.specs.History.{Item, Content, Loaded, Accepted, Fault, InputEnd, ReadFailure, MemoryFailure, Step, History, behind, messages, messages_of}
+use Rattle.dap_history.specs.History.{Item, Content, Loaded, Accepted, Fault, InputEnd, ReadFailure, MemoryFailure, Step, History, with_answer, messages, messages_of}
 use Rattle.dap_history.specs.Replies.{Reply}
 use Rattle.dap_history.specs.Emission.{Answers, HasEffect, Causes, IsAfter}
 use Rattle.dap_history.specs.Laws.{answered, asked, EachIsAnsweredOnce}
@@ -25,12 +25,12 @@ events_answer_nothing (e ∷ events) = events_answer_nothing events
 
 answers_once : (seq : ℕ) (command : CommandName) (reply : Reply) (step : Step) → Answers seq command reply step → filter_map answered (messages step) ≡ (seq, command) ∷ []
 answers_once seq command reply step is =
-    ap (λ a. filter_map answered (behind a (map Event step.effect.events))) is.answer_is
+    ap (λ a. filter_map answered (with_answer a (map Event step.effect.events))) is.answer_is
     ∙ ap (λ l. (seq, command) ∷ l) (events_answer_nothing step.effect.events)
 
 answers_never : (step : Step) → step.answer ≡ None → filter_map answered (messages step) ≡ []
 answers_never step is =
-    ap (λ a. filter_map answered (behind a (map Event step.effect.events))) is ∙ events_answer_nothing step.effect.events
+    ap (λ a. filter_map answered (with_answer a (map Event step.effect.events))) is ∙ events_answer_nothing step.effect.events
 
 -- an item has one answer if it asks, and else none
 once_here : (past : History) (item : Item) (step : Step) → Causes past item step → filter_map answered (messages step) ≡ filter_map asked (item ∷ [])

@@ -1,4 +1,4 @@
--- Each step of a history was caused by its item, behind the steps before it.
+-- Each step of a history was caused by its item, after the steps before it.
 use Rattle.std.proofs.Common.{◌≡◌, ◌⊎◌, inl, inr, ℕ, List, [], ◌∷◌, ◌++◌, refl, sym, ◌∙◌, ap, subst}
 use Rattle.dap_history.specs.Plain.{PlainReport}
 use Rattle.dap_history.specs.History.{Item, Step, History}
@@ -34,7 +34,7 @@ splits (p ∷ past) s (x ∷ front) step more is = onward (splits past s front s
     onward (inl e) = inl (ap (λ y. y ∷ past) same ∙ ap (λ ys. x ∷ ys) e.0, e.1, e.2)
     onward (inr e) = inr (e.0, ap (λ y. y ∷ past) same ∙ ap (λ ys. x ∷ ys) e.1)
 
--- the step was taken behind these
+-- the step was taken after these
 pub record WasTaken (Q : PlainReport → Type 0) (P : History → Type 0) (front : History) (step : Step) : Type 0 where
   pub held : P front
   pub taken : IsTaken Q front step.item

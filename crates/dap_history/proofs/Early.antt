@@ -19,7 +19,7 @@ use Rattle.dap_history.specs.declared.situation.Situation.{Situation}
 use Rattle.dap_history.specs.declared.situation.Situation.TheVariants.{Fresh, Ready, Configuring, Running, Stopped, Faulted, Ended}
 use Rattle.dap_history.specs.Last.{or_else, last_such}
 use Rattle.dap_history.specs.Plain.{PlainOrder, Go, Hold, Quit}
-use Rattle.dap_history.specs.History.{Step, History, behind, messages}
+use Rattle.dap_history.specs.History.{Step, History, with_answer, messages}
 use Rattle.dap_history.specs.Readings.{command_mark, answer_mark, stop_mark, event_mark, message_mark, order_mark, step_mark, situation}
 use Rattle.dap_history.specs.Replies.{Reply}
 use Rattle.dap_history.specs.Launching.{initialize_in}
@@ -72,7 +72,7 @@ pub unanswered_late : (step : Step) → step.answer ≡ None → ¬ IsEarlyMark 
 unanswered_late step none is =
     neither (last_such order_mark step.effect.orders) (last_such message_mark (map Event step.effect.events))
     (orders_late step.effect.orders) (events_late step.effect.events)
-    (subst (λ a. IsEarlyMark (or_else (last_such order_mark step.effect.orders) (last_such message_mark (behind a (map Event step.effect.events))))) none is)
+    (subst (λ a. IsEarlyMark (or_else (last_such order_mark step.effect.orders) (last_such message_mark (with_answer a (map Event step.effect.events))))) none is)
 
 -- nor one whose answer doesn't
 pub answered_late : (seq : ℕ) (command : CommandName) (reply : Reply) (step : Step) → Answers seq command reply step → ¬ IsEarlyMark (answer_mark command reply.result) → ¬ IsEarlyMark (step_mark step)
@@ -80,7 +80,7 @@ answered_late seq command reply step answers not is =
     neither (last_such order_mark step.effect.orders) (or_else (last_such message_mark (map Event step.effect.events)) (answer_mark command reply.result))
     (orders_late step.effect.orders)
     (neither (last_such message_mark (map Event step.effect.events)) (answer_mark command reply.result) (events_late step.effect.events) not)
-    (subst (λ a. IsEarlyMark (or_else (last_such order_mark step.effect.orders) (last_such message_mark (behind a (map Event step.effect.events))))) answers.answer_is is)
+    (subst (λ a. IsEarlyMark (or_else (last_such order_mark step.effect.orders) (last_such message_mark (with_answer a (map Event step.effect.events))))) answers.answer_is is)
 
 pub result_late : (command : CommandName) → ¬ IsEarlyMark (command_mark command) → (result : Result Body Refusal) → ¬ IsEarlyMark (answer_mark command result)
 result_late command not (Ok b) is = not is

@@ -9,7 +9,7 @@ use Rattle.dap_msg.specs.declared.outgoing.Body.TheVariants as body
 use Rattle.dap_history.specs.Plain.{PlainReport}
 use Rattle.dap_history.specs.declared.ending.Ending.{Ending}
 use Rattle.dap_history.specs.Last.{or_else, last_such}
-use Rattle.dap_history.specs.History.{Item, Content, Step, History, behind, messages, messages_of}
+use Rattle.dap_history.specs.History.{Item, Content, Step, History, with_answer, messages, messages_of}
 use Rattle.dap_history.specs.Readings.{closing, ending_of}
 use Rattle.dap_history.specs.Replies.{Reply}
 use Rattle.dap_history.specs.Emission.{Causes, IsAfter}
@@ -52,7 +52,7 @@ closes_last_first = record { last = λ before step after by is closes. absurd (n
 -- the messages of a `disconnect`
 answers_it : (past : History) (step : Step) (seq : ℕ) → Causes past (Content (Some (record { seq = seq; body = command.Disconnect }))) step → messages step ≡ Answer seq (name.Supported Disconnect) (Ok body.None) ∷ []
 answers_it past step seq is =
-    ap (λ a. behind a (map Event step.effect.events)) is.2.answer_is
+    ap (λ a. with_answer a (map Event step.effect.events)) is.2.answer_is
     ∙ ap (λ e. Answer seq (name.Supported Disconnect) is.0.result ∷ map Event e.events) is.2.effect_is
     ∙ ap (λ (r : Reply). Answer seq (name.Supported Disconnect) r.result ∷ map Event r.effect.events) is.1
 

@@ -7,10 +7,10 @@ pub mod Quiet
 pub mod Silent
 pub mod Outputs
 pub mod Early
-pub mod Told
+pub mod Progress
 pub mod Each
-pub mod Behind
-pub mod BehindStops
+pub mod AfterStops
+pub mod StopOrder
 pub mod Standing
 pub mod Passing
 pub mod Stopping

@@ -92,8 +92,8 @@ module _ (once : IsReadOnce) where
 
   one_loads : (past : History) (launch : Launch) (file : Option (List ℕ)) (bytes : List ℕ) (new other : History) (rest left : Rest) → Loads past launch file bytes new rest → Loads past launch file bytes other left → Same new rest other left
   one_loads past launch file bytes new other rest left a b =
-      one_all a.mid bytes new other rest left a.behind
-      (subst (λ h. TakesAll h bytes other left) (sym (once.one_after past (Loaded launch file) a.mid b.mid a.loaded b.loaded)) b.behind)
+      one_all a.mid bytes new other rest left a.after
+      (subst (λ h. TakesAll h bytes other left) (sym (once.one_after past (Loaded launch file) a.mid b.mid a.loaded b.loaded)) b.after)
 
   abbrev MayLoad : History → Rest → Launch → Option (List ℕ) → History → Rest → Type 0
   MayLoad past before launch file new rest = ((¬ IsTaking past) × (new ≡ past) × (rest ≡ before)) ⊎ Loads past launch file before.bytes new rest

@@ -41,7 +41,7 @@ use Rattle.dap_history.specs.History.{Launched, Item, Content, Loaded, Accepted,
 use Rattle.dap_history.specs.Readings.{situation, launched, position}
 use Rattle.dap_history.specs.Replies.{Reply, refused, causing, OfProgram}
 use Rattle.dap_history.specs.Launching.{RefusesText, LaunchesText, Launches, launches, syntax}
-use Rattle.dap_history.specs.Breakpoints.{IsAskedAs, AreAskedAs, IsResolved, told_as, effect_in, line_offset, Resolves, SetsOf, Sets, SetsIn, is_at}
+use Rattle.dap_history.specs.Breakpoints.{IsAskedAs, AreAskedAs, IsResolved, answer_of, effect_in, line_offset, Resolves, SetsOf, Sets, SetsIn, is_at}
 use Rattle.dap_history.specs.Running.{Pace, enters, ConfiguresIn, ResumesIn}
 use Rattle.dap_history.specs.Frames.{frame_by_id}
 use Rattle.dap_history.specs.Inspection.{Asked as Of, asked_of, result_reply, EvaluatesIn, HasResult, HasNoReading, RepliesFrom, RepliesAt, Inspects, InspectsIn}
@@ -188,8 +188,8 @@ module _ (once : IsTextOnce) where
   one_resolves past l lines r s a b =
       let same = one_lines l.program (line_offset past) lines a.resolved.asked b.resolved.asked a.answers b.answers a.breakpoints b.breakpoints a.resolved.as_asked b.resolved.as_asked a.resolved.resolved b.resolved.resolved in
       a.reply_is
-      ∙ ap (λ answers. causing (body.Breakpoints (map (told_as l.program (line_offset past)) answers)) (effect_in (situation past) past a.breakpoints)) same.0
-      ∙ ap (λ bs. causing (body.Breakpoints (map (told_as l.program (line_offset past)) b.answers)) (effect_in (situation past) past bs)) same.1
+      ∙ ap (λ answers. causing (body.Breakpoints (map (answer_of l.program (line_offset past)) answers)) (effect_in (situation past) past a.breakpoints)) same.0
+      ∙ ap (λ bs. causing (body.Breakpoints (map (answer_of l.program (line_offset past)) b.answers)) (effect_in (situation past) past bs)) same.1
       ∙ sym b.reply_is
 
   one_sets_of : (here : Bool) (past : History) (l : Launched) (lines : List SourceBreakpoint) (r s : Reply) → SetsOf here past l lines r → SetsOf here past l lines s → r ≡ s

@@ -1,4 +1,4 @@
--- The numbers told are those that the program wrote.
+-- The numbers reported are those that the program wrote.
 use Rattle.std.proofs.Common.{◌≡◌, inl, inr, ℕ, ◌≤◌, List, [], ◌∷◌, ◌++◌, ℤ, Option, None, Some, Ok, Err, refl, sym, ◌∙◌, ap, subst, append-nil, arith}
 use Rattle.std.specs.Prelude.{map, Result, Bool, true, false, unwrap_or}
 use Rattle.std.specs.List.{filter_map}
@@ -20,7 +20,7 @@ use Rattle.dap_history.specs.Plain.{PlainReport, SliceOutcome, Heading, PlainOrd
 use Rattle.dap_history.specs.Lawful.{IsLawful}
 use Rattle.dap_history.specs.Plain as slice
 use Rattle.dap_history.specs.Last.{or_else, last_such}
-use Rattle.dap_history.specs.History.{Launched, Item, Content, Loaded, Accepted, Fault, InputEnd, ReadFailure, MemoryFailure, Step, History, Effect, behind, messages, messages_of}
+use Rattle.dap_history.specs.History.{Launched, Item, Content, Loaded, Accepted, Fault, InputEnd, ReadFailure, MemoryFailure, Step, History, Effect, with_answer, messages, messages_of}
 use Rattle.dap_history.specs.Readings.{go, launched, last_run, position, end_of, waiting_pause}
 use Rattle.dap_history.specs.Replies.{Reply, nothing}
 use Rattle.dap_history.specs.Reports.{outputs, stands, goes_on, held, report_effect}
@@ -31,36 +31,36 @@ use Rattle.dap_history.proofs.Readings.{messages_of-snoc, launched-snoc, positio
 
 -- an answer is no number
 pub answer_aside : (seq : ℕ) (command : CommandName) (result : Result Body Refusal) (step : Step) → step.answer ≡ Some (Answer seq command result) → numbers (messages step) ≡ filter_map output (map Event step.effect.events)
-answer_aside seq command result step is = ap (λ a. numbers (behind a (map Event step.effect.events))) is
+answer_aside seq command result step is = ap (λ a. numbers (with_answer a (map Event step.effect.events))) is
 
 pub no_answer : (step : Step) → step.answer ≡ None → numbers (messages step) ≡ filter_map output (map Event step.effect.events)
-no_answer step is = ap (λ a. numbers (behind a (map Event step.effect.events))) is
+no_answer step is = ap (λ a. numbers (with_answer a (map Event step.effect.events))) is
 
--- the numbers of a report are told as they are
-outputs_told : (vs : List ℤ) → filter_map output (map Event (map event.Output vs)) ≡ vs
-outputs_told [] = refl
-outputs_told (v ∷ vs) = ap (λ l. v ∷ l) (outputs_told vs)
+-- the numbers of a report are reported as they are
+outputs_numbers : (vs : List ℤ) → filter_map output (map Event (map event.Output vs)) ≡ vs
+outputs_numbers [] = refl
+outputs_numbers (v ∷ vs) = ap (λ l. v ∷ l) (outputs_numbers vs)
 
-behind_outputs : (r : PlainReport) (events : List EventBody) → filter_map output (map Event events) ≡ [] → filter_map output (map Event (outputs r ++ events)) ≡ r.numbers
-behind_outputs r events none =
+after_outputs : (r : PlainReport) (events : List EventBody) → filter_map output (map Event events) ≡ [] → filter_map output (map Event (outputs r ++ events)) ≡ r.numbers
+after_outputs r events none =
     ap (filter_map output) (map-append Event (outputs r) events)
     ∙ filter_map-append output (map Event (outputs r)) (map Event events)
     ∙ ap (λ l. filter_map output (map Event (outputs r)) ++ l) none
     ∙ append-nil (filter_map output (map Event (outputs r)))
-    ∙ outputs_told r.numbers
+    ∙ outputs_numbers r.numbers
 
--- whatever the report's end, its numbers are those that it tells
-pub report_tells : (past : History) (r : PlainReport) (e : SliceOutcome) → (e ≡ slice.NoMemory → r.numbers ≡ []) → filter_map output (map Event (report_effect past r e).events) ≡ r.numbers
-report_tells past r slice.More none = outputs_told r.numbers
-report_tells past r (slice.Due reason) none = behind_outputs r _ refl
-report_tells past r slice.Held none = held_tells (waiting_pause past)
+-- whatever the report's end, its numbers are those that it reports
+pub report_numbers : (past : History) (r : PlainReport) (e : SliceOutcome) → (e ≡ slice.NoMemory → r.numbers ≡ []) → filter_map output (map Event (report_effect past r e).events) ≡ r.numbers
+report_numbers past r slice.More none = outputs_numbers r.numbers
+report_numbers past r (slice.Due reason) none = after_outputs r _ refl
+report_numbers past r slice.Held none = held_tells (waiting_pause past)
   where
     held_tells : (pauses : Bool) → filter_map output (map Event (held past r pauses).events) ≡ r.numbers
-    held_tells true = behind_outputs r _ refl
-    held_tells false = outputs_told r.numbers
-report_tells past r slice.Done none = behind_outputs r _ refl
-report_tells past r (slice.Fault fault) none = behind_outputs r _ refl
-report_tells past r slice.NoMemory none = sym (none refl)
+    held_tells true = after_outputs r _ refl
+    held_tells false = outputs_numbers r.numbers
+report_numbers past r slice.Done none = after_outputs r _ refl
+report_numbers past r (slice.Fault fault) none = after_outputs r _ refl
+report_numbers past r slice.NoMemory none = sym (none refl)
 
 pub report_launches : (past : History) (r : PlainReport) (e : SliceOutcome) → (report_effect past r e).launched ≡ None
 report_launches past r slice.More = refl

@@ -28,7 +28,7 @@ use Rattle.dap_history.specs.Plain as slice
 use Rattle.dap_history.specs.declared.situation.Situation.{Situation}
 use Rattle.dap_history.specs.declared.situation.Situation.TheVariants.{Fresh, Ready, Configuring, Running, Stopped, Faulted, Ended}
 use Rattle.dap_history.specs.Last.{or_else, last_such}
-use Rattle.dap_history.specs.History.{Launched, Item, Content, Loaded, Accepted, Fault, InputEnd, ReadFailure, MemoryFailure, Step, History, Effect, behind, messages}
+use Rattle.dap_history.specs.History.{Launched, Item, Content, Loaded, Accepted, Fault, InputEnd, ReadFailure, MemoryFailure, Step, History, Effect, with_answer, messages}
 use Rattle.dap_history.specs.Readings.{go, situation, position, launched, last_run, end_of, command_mark, answer_mark, event_mark, stop_mark, message_mark, order_mark, step_mark}
 use Rattle.dap_history.specs.declared.launch.Launch.{Launch}
 use Rattle.dap_history.specs.Launching.{Launches}
@@ -42,7 +42,7 @@ use Rattle.dap_history.proofs.Along.{IsTaken, IsKept}
 use Rattle.dap_history.proofs.Silent.{GoesBy, no_go, of_text, all_silent}
 use Rattle.dap_history.proofs.Outputs.{GoesAs, GoesOn, no_run, as_text, report_goes, report_launches}
 use Rattle.dap_history.proofs.Standing.{MarkIs, mark_else, mark_unwrap, IsAnswer, answers_only}
-use Rattle.dap_history.proofs.Told.{Told, told_kept, told_first, report_program}
+use Rattle.dap_history.proofs.Progress.{Progress, progress_kept, progress_first, report_program}
 
 -- ---- who leads to Configuring, and to Running
 
@@ -88,20 +88,20 @@ events_not P stopped faulted ended (e ∷ es) is = neither (events_not P stopped
     neither not (inr is) = event_not e is.1
 
 -- a step leads to Configuring by its answer alone
-configured_by : (step : Step) → MarkIs IsConfiguring (step_mark step) → MarkIs IsConfiguring (last_such message_mark (behind step.answer []))
+configured_by : (step : Step) → MarkIs IsConfiguring (step_mark step) → MarkIs IsConfiguring (last_such message_mark (with_answer step.answer []))
 configured_by step is = by_orders (mark_else IsConfiguring (last_such order_mark step.effect.orders) (last_such message_mark (messages step)) is)
   where
-    by_answer : (a : Option Outgoing) → MarkIs IsConfiguring (last_such message_mark (behind a (map Event step.effect.events))) → MarkIs IsConfiguring (last_such message_mark (behind a []))
+    by_answer : (a : Option Outgoing) → MarkIs IsConfiguring (last_such message_mark (with_answer a (map Event step.effect.events))) → MarkIs IsConfiguring (last_such message_mark (with_answer a []))
     by_answer None is = events_not IsConfiguring (λ x. x) (λ x. x) (λ x. x) step.effect.events is
     by_answer (Some a) is = by_events (mark_else IsConfiguring (last_such message_mark (map Event step.effect.events)) (message_mark a) is)
       where
         by_events : (MarkIs IsConfiguring (last_such message_mark (map Event step.effect.events)) ⊎ ((last_such message_mark (map Event step.effect.events) ≡ None) × MarkIs IsConfiguring (message_mark a)))
-            → MarkIs IsConfiguring (last_such message_mark (behind (Some a) []))
+            → MarkIs IsConfiguring (last_such message_mark (with_answer (Some a) []))
         by_events (inl is) = absurd (events_not IsConfiguring (λ x. x) (λ x. x) (λ x. x) step.effect.events is)
         by_events (inr is) = is.1
 
     by_orders : (MarkIs IsConfiguring (last_such order_mark step.effect.orders) ⊎ ((last_such order_mark step.effect.orders ≡ None) × MarkIs IsConfiguring (last_such message_mark (messages step))))
-        → MarkIs IsConfiguring (last_such message_mark (behind step.answer []))
+        → MarkIs IsConfiguring (last_such message_mark (with_answer step.answer []))
     by_orders (inl is) = absurd (orders_not step.effect.orders is)
     by_orders (inr is) = by_answer step.answer is.1
 
@@ -135,15 +135,15 @@ IsLoaded _ = ⊥
 
 -- a step leads to Configuring only where a launch was loaded
 pub loaded_there : (past : History) (item : Item) (step : Step) → Causes past item step → MarkIs IsConfiguring (step_mark step) → IsLoaded item
-loaded_there past (Content None) step is mark = absurd (subst (λ a. MarkIs IsConfiguring (last_such message_mark (behind a []))) is.answer_is (configured_by step mark))
+loaded_there past (Content None) step is mark = absurd (subst (λ a. MarkIs IsConfiguring (last_such message_mark (with_answer a []))) is.answer_is (configured_by step mark))
 loaded_there past (Content (Some request)) step is mark =
-    absurd (reply_not (situation past) past request.body is.0 is.1 (subst (λ a. MarkIs IsConfiguring (last_such message_mark (behind a []))) is.2.answer_is (configured_by step mark)))
+    absurd (reply_not (situation past) past request.body is.0 is.1 (subst (λ a. MarkIs IsConfiguring (last_such message_mark (with_answer a []))) is.2.answer_is (configured_by step mark)))
 loaded_there past (Loaded launch file) step is mark = tt
-loaded_there past (Accepted r) step is mark = absurd (subst (λ a. MarkIs IsConfiguring (last_such message_mark (behind a []))) is.answer_is (configured_by step mark))
-loaded_there past (Fault k) step is mark = absurd (subst (λ a. MarkIs IsConfiguring (last_such message_mark (behind a []))) is.answer_is (configured_by step mark))
-loaded_there past InputEnd step is mark = absurd (subst (λ a. MarkIs IsConfiguring (last_such message_mark (behind a []))) is.answer_is (configured_by step mark))
-loaded_there past ReadFailure step is mark = absurd (subst (λ a. MarkIs IsConfiguring (last_such message_mark (behind a []))) is.answer_is (configured_by step mark))
-loaded_there past MemoryFailure step is mark = absurd (subst (λ a. MarkIs IsConfiguring (last_such message_mark (behind a []))) is.answer_is (configured_by step mark))
+loaded_there past (Accepted r) step is mark = absurd (subst (λ a. MarkIs IsConfiguring (last_such message_mark (with_answer a []))) is.answer_is (configured_by step mark))
+loaded_there past (Fault k) step is mark = absurd (subst (λ a. MarkIs IsConfiguring (last_such message_mark (with_answer a []))) is.answer_is (configured_by step mark))
+loaded_there past InputEnd step is mark = absurd (subst (λ a. MarkIs IsConfiguring (last_such message_mark (with_answer a []))) is.answer_is (configured_by step mark))
+loaded_there past ReadFailure step is mark = absurd (subst (λ a. MarkIs IsConfiguring (last_such message_mark (with_answer a []))) is.answer_is (configured_by step mark))
+loaded_there past MemoryFailure step is mark = absurd (subst (λ a. MarkIs IsConfiguring (last_such message_mark (with_answer a []))) is.answer_is (configured_by step mark))
 
 -- a step leads to Running only where it orders a run
 orders_run : (os : List PlainOrder) → last_such go os ≡ None → ¬ MarkIs IsRunning (last_such order_mark os)
@@ -161,7 +161,7 @@ orders_run (o ∷ os) none is = by_last (orders_run os) (last_such go os) refl n
     by_last not None is none (inl mark) = not is mark
     by_last not None is none (inr mark) = by_order o (sym (ap (λ l. or_else l (go o)) is) ∙ none) mark.1
 
-answer_runs_not : (a : Option Outgoing) → IsAnswer a → (es : List EventBody) → ¬ MarkIs IsRunning (last_such message_mark (behind a (map Event es)))
+answer_runs_not : (a : Option Outgoing) → IsAnswer a → (es : List EventBody) → ¬ MarkIs IsRunning (last_such message_mark (with_answer a (map Event es)))
 answer_runs_not None is es mark = events_not IsRunning (λ x. x) (λ x. x) (λ x. x) es mark
 answer_runs_not (Some (Event e)) is es mark = is
 answer_runs_not (Some (Answer seq c result)) is es mark = neither (mark_else IsRunning (last_such message_mark (map Event es)) (answer_mark c result) mark)
@@ -229,7 +229,7 @@ item_begins past MemoryFailure step is = subst (BeginsHere (position past)) (sym
 pub launches_not : (Q : PlainReport → Type 0) (past : History) (item : Item) (step : Step) → IsTaken Q past item → Causes past item step → IsRunning (situation past) → step.effect.launched ≡ None
 launches_not Q past (Content None) step taken is running = ap (λ (e : Effect). e.launched) is.effect_is
 launches_not Q past (Content (Some request)) step taken is running =
-    ap (λ (e : Effect). e.launched) is.2.effect_is ∙ (all_silent (situation past) past request.body is.0 is.1).launches_none
+    ap (λ (e : Effect). e.launched) is.2.effect_is ∙ (all_silent (situation past) past request.body is.0 is.1).no_launch
 launches_not Q past (Loaded launch file) step taken is running = absurd (subst IsRunning taken running)
 launches_not Q past (Accepted r) step taken is running = ap (λ (e : Effect). e.launched) is.effect_is ∙ report_launches past r r.outcome
 launches_not Q past (Fault k) step taken is running = ap (λ (e : Effect). e.launched) is.effect_is
@@ -258,7 +258,7 @@ mark_of_effect effect = or_else (last_such order_mark effect.orders) (last_such 
 
 pub mark_of : (effect : Effect) (step : Step) → HasEffect effect step → step_mark step ≡ mark_of_effect effect
 mark_of effect step has =
-    ap (λ a. or_else (last_such order_mark step.effect.orders) (last_such message_mark (behind a (map Event step.effect.events)))) has.answer_is
+    ap (λ a. or_else (last_such order_mark step.effect.orders) (last_such message_mark (with_answer a (map Event step.effect.events)))) has.answer_is
     ∙ ap mark_of_effect has.effect_is
 
 last_mark : (r : PlainReport) (es : List EventBody) → last_such message_mark (map Event (outputs r ++ es)) ≡ or_else (last_such message_mark (map Event es)) (last_such message_mark (map Event (outputs r)))
@@ -281,7 +281,7 @@ undue_end main past r slice.NoMemory is none = inl is.0
 module _ (one : OneProgram) (joins : WrittenJoins) where
   -- a run passes nothing that is due, and none was ordered before `configurationDone`
   pub record Ran (past : History) : Type 0 where
-    pub told : Told past
+    pub so_far : Progress past
     pub configuring : IsConfiguring (situation past) → (last_run past ≡ None) × (position past ≡ 0)
     pub running : IsRunning (situation past) → (l : Launched) → launched past ≡ Some l → (run : Heading) → last_run past ≡ Some run
         → (run.start ≤ position past) × NoneDueUpTo l run (position past)
@@ -295,7 +295,7 @@ module _ (one : OneProgram) (joins : WrittenJoins) where
     same_due k =
         let same = accepts.expected in
         sym
-        (ap (λ (p : Block). due p r.plan r.counted_from r.mode k) (report_program one joins past r lawful l accepts (ran.told.tells (Some l) is))
+        (ap (λ (p : Block). due p r.plan r.counted_from r.mode k) (report_program one joins past r lawful l accepts (ran.so_far.progress (Some l) is))
         ∙ ap (λ (h : Heading). due l.program h.plan h.counted_from h.mode k) same)
 
     was : (run.start ≤ position past) × NoneDueUpTo l run (position past)

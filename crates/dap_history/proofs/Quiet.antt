@@ -1,4 +1,4 @@
--- A step that causes nothing behind its answer, and whose answer leads nowhere, changes no reading but the next seq.
+-- A step that causes nothing after its answer, and whose answer leads nowhere, changes no reading but the next seq.
 use Rattle.std.proofs.Common.{◌≡◌, ℕ, ◌+◌, List, [], ◌∷◌, ◌++◌, Option, None, Some, refl, sym, ◌∙◌, ap, subst, arith, length-append}
 use Rattle.std.specs.List.{filter_map}
 use Rattle.std.specs.Prelude.{Bool, false, unwrap_or, option_map, length, map}

@@ -1,4 +1,4 @@
--- No reply tells a number or launches a program but that of a launch, and each Go of a reply is of the launched text.
+-- No reply reports a number or launches a program but that of a launch, and each Go of a reply is of the launched text.
 use Rattle.std.proofs.Common.{◌≡◌, ◌⊎◌, inl, inr, ℕ, List, [], ◌∷◌, ◌++◌, Bool, true, false, Option, None, Some, Ok, Err, refl, sym, ◌∙◌, ap, subst}
 use Rattle.std.specs.Prelude.{map, nat_eq, if◌then◌else◌, ℤ, Result}
 use Rattle.std.specs.List.{filter_map}
@@ -33,7 +33,7 @@ use Rattle.dap_history.specs.Frames.{frame_by_id}
 use Rattle.dap_history.specs.Inspection.{Asked, asked_of, scopes, variables, stack_trace, result_reply, EvaluatesIn, RepliesFrom, RepliesAt, Inspects, InspectsIn}
 use Rattle.dap_history.specs.Emission.{threads_in, RepliesIn}
 use Rattle.dap_history.specs.Laws.{output, numbers}
-use Rattle.dap_history.specs.Stops.{stop_told}
+use Rattle.dap_history.specs.Stops.{stop_of_event}
 use Rattle.dap_msg.specs.declared.outgoing.StopReason.{StopReason}
 
 -- the runs ordered are of the launched text
@@ -51,16 +51,16 @@ pub data StopsBy (s : Situation) (past : History) : Option StopReason → Type 0
   at_first : (l : Launched) (r : Reason) → s ≡ Configuring → launched past ≡ Some l → due_first past l ≡ Some r → StopsBy s past (Some (stop_of r))
 
 pub record IsSilent (s : Situation) (past : History) (effect : Effect) : Type 0 where
-  pub tells_none : filter_map output (map Event effect.events) ≡ []
-  pub launches_none : effect.launched ≡ None
+  pub no_numbers : filter_map output (map Event effect.events) ≡ []
+  pub no_launch : effect.launched ≡ None
   pub goes : GoesBy past (last_such go effect.orders)
-  pub stops : StopsBy s past (last_such stop_told effect.events)
+  pub stops : StopsBy s past (last_such stop_of_event effect.events)
 
 silent_if : {s : Situation} (past : History) (reply other : Reply) → IsSilent s past other.effect → reply ≡ other → IsSilent s past reply.effect
 silent_if {s = s} past reply other silent is = subst (λ (r : Reply). IsSilent s past r.effect) (sym is) silent
 
 nothing_silent : {s : Situation} (past : History) → IsSilent s past nothing
-nothing_silent past = record { tells_none = refl; launches_none = refl; goes = no_go; stops = no_stop }
+nothing_silent past = record { no_numbers = refl; no_launch = refl; goes = no_go; stops = no_stop }
 
 thread_silent : {s : Situation} (past : History) (reply : Reply) (same : Bool) → IsSilent s past reply.effect → IsSilent s past (if same then reply else refused refusal.UnknownThread).effect
 thread_silent past reply true silent = silent
@@ -91,13 +91,13 @@ threads_silent Faulted past = nothing_silent past
 threads_silent Ended past = nothing_silent past
 
 effect_silent : {t : Situation} (s : Situation) (past : History) (bs : List Breakpoint) → IsSilent t past (effect_in s past bs)
-effect_silent Configuring past bs = record { tells_none = refl; launches_none = refl; goes = no_go; stops = no_stop }
-effect_silent Stopped past bs = record { tells_none = refl; launches_none = refl; goes = no_go; stops = no_stop }
-effect_silent Faulted past bs = record { tells_none = refl; launches_none = refl; goes = no_go; stops = no_stop }
-effect_silent Running past bs = record { tells_none = refl; launches_none = refl; goes = hold_goes past (is_held past); stops = no_stop }
-effect_silent Ended past bs = record { tells_none = refl; launches_none = refl; goes = no_go; stops = no_stop }
-effect_silent Fresh past bs = record { tells_none = refl; launches_none = refl; goes = no_go; stops = no_stop }
-effect_silent Ready past bs = record { tells_none = refl; launches_none = refl; goes = no_go; stops = no_stop }
+effect_silent Configuring past bs = record { no_numbers = refl; no_launch = refl; goes = no_go; stops = no_stop }
+effect_silent Stopped past bs = record { no_numbers = refl; no_launch = refl; goes = no_go; stops = no_stop }
+effect_silent Faulted past bs = record { no_numbers = refl; no_launch = refl; goes = no_go; stops = no_stop }
+effect_silent Running past bs = record { no_numbers = refl; no_launch = refl; goes = hold_goes past (is_held past); stops = no_stop }
+effect_silent Ended past bs = record { no_numbers = refl; no_launch = refl; goes = no_go; stops = no_stop }
+effect_silent Fresh past bs = record { no_numbers = refl; no_launch = refl; goes = no_go; stops = no_stop }
+effect_silent Ready past bs = record { no_numbers = refl; no_launch = refl; goes = no_go; stops = no_stop }
 
 sets_of_silent : {s : Situation} (same : Bool) (past : History) (l : Launched) (a : SetBreakpointsArguments) (reply : Reply) → SetsOf same past l a.breakpoints reply → IsSilent s past reply.effect
 sets_of_silent true past l a reply is = silent_if past reply _ (effect_silent (situation past) past is.breakpoints) is.reply_is
@@ -118,8 +118,8 @@ sets_in_silent Faulted past a reply is = sets_silent (launched past) past a repl
 sets_in_silent Ended past a reply is = sets_silent (launched past) past a reply refl is
 
 enters_silent : (past : History) (l : Launched) (why : Option Reason) → launched past ≡ Some l → due_first past l ≡ why → IsSilent Configuring past (enters past l why)
-enters_silent past l None is due_is = record { tells_none = refl; launches_none = refl; goes = of_text _ l is refl refl; stops = no_stop }
-enters_silent past l (Some r) is due_is = record { tells_none = refl; launches_none = refl; goes = no_go; stops = at_first l r refl is due_is }
+enters_silent past l None is due_is = record { no_numbers = refl; no_launch = refl; goes = of_text _ l is refl refl; stops = no_stop }
+enters_silent past l (Some r) is due_is = record { no_numbers = refl; no_launch = refl; goes = no_go; stops = at_first l r refl is due_is }
 
 configures_silent : (l : Option Launched) (past : History) (reply : Reply) → launched past ≡ l → OfProgram l (λ l. reply ≡ causing body.None (enters past l (due_first past l))) → IsSilent Configuring past reply.effect
 configures_silent None past reply is says = absurd says
@@ -141,7 +141,7 @@ resuming past pace thread l =
 resumes_silent : {s : Situation} (l : Option Launched) (past : History) (pace : Pace) (thread : ℕ) (reply : Reply) → launched past ≡ l → OfProgram l (λ l. reply ≡ resuming past pace thread l) → IsSilent s past reply.effect
 resumes_silent None past pace thread reply is says = absurd says
 resumes_silent (Some l) past pace thread reply is says =
-    silent_if past reply _ (thread_silent past _ (nat_eq thread 1) (record { tells_none = refl; launches_none = refl; goes = of_text _ l is refl refl; stops = no_stop })) says
+    silent_if past reply _ (thread_silent past _ (nat_eq thread 1) (record { no_numbers = refl; no_launch = refl; goes = of_text _ l is refl refl; stops = no_stop })) says
 
 resumes_in_silent : (s : Situation) (past : History) (pace : Pace) (thread : ℕ) (reply : Reply) → ResumesIn s past pace thread reply → IsSilent s past reply.effect
 resumes_in_silent Fresh past pace thread reply is = silent_if past reply _ (nothing_silent past) is
@@ -150,7 +150,7 @@ resumes_in_silent Configuring past pace thread reply is = silent_if past reply _
 resumes_in_silent Running past pace thread reply is = silent_if past reply _ (nothing_silent past) is
 resumes_in_silent Stopped past pace thread reply is = resumes_silent (launched past) past pace thread reply refl is
 resumes_in_silent Faulted past pace thread reply is =
-    silent_if past reply _ (thread_silent past _ (nat_eq thread 1) (record { tells_none = refl; launches_none = refl; goes = no_go; stops = no_stop })) is
+    silent_if past reply _ (thread_silent past _ (nat_eq thread 1) (record { no_numbers = refl; no_launch = refl; goes = no_go; stops = no_stop })) is
 resumes_in_silent Ended past pace thread reply is = silent_if past reply _ (nothing_silent past) is
 
 pause_silent : (s : Situation) (past : History) (thread : ℕ) → IsSilent s past (pause_in s past thread).effect
@@ -158,7 +158,7 @@ pause_silent Fresh past thread = nothing_silent past
 pause_silent Ready past thread = nothing_silent past
 pause_silent Configuring past thread = nothing_silent past
 pause_silent Running past thread =
-    thread_silent past _ (nat_eq thread 1) (record { tells_none = refl; launches_none = refl; goes = hold_goes past (is_held past); stops = no_stop })
+    thread_silent past _ (nat_eq thread 1) (record { no_numbers = refl; no_launch = refl; goes = hold_goes past (is_held past); stops = no_stop })
 pause_silent Stopped past thread = thread_silent past _ (nat_eq thread 1) (nothing_silent past)
 pause_silent Faulted past thread = thread_silent past _ (nat_eq thread 1) (nothing_silent past)
 pause_silent Ended past thread = nothing_silent past
@@ -232,6 +232,6 @@ all_silent s past (command.StackTrace a) reply is = inspects_in_silent s past (c
 all_silent s past (command.Scopes a) reply is = inspects_in_silent s past (command.Scopes a) reply is
 all_silent s past (command.Variables a) reply is = inspects_in_silent s past (command.Variables a) reply is
 all_silent s past (command.Evaluate a) reply is = inspects_in_silent s past (command.Evaluate a) reply is
-all_silent s past command.Disconnect reply is = silent_if past reply _ (record { tells_none = refl; launches_none = refl; goes = no_go; stops = no_stop }) is
+all_silent s past command.Disconnect reply is = silent_if past reply _ (record { no_numbers = refl; no_launch = refl; goes = no_go; stops = no_stop }) is
 all_silent s past (command.Unsupported a) reply is = silent_if past reply _ (nothing_silent past) is
 all_silent s past (command.BadArguments a) reply is = silent_if past reply _ (nothing_silent past) is

@@ -23,13 +23,13 @@ use Rattle.dap_history.specs.Plain.{PlainReport, PlainOrder, Go, Hold, Quit}
 use Rattle.dap_history.specs.declared.situation.Situation.{Situation}
 use Rattle.dap_history.specs.declared.situation.Situation.TheVariants.{Fresh, Ready, Configuring, Running, Stopped, Faulted, Ended}
 use Rattle.dap_history.specs.Last.{or_else, last_such}
-use Rattle.dap_history.specs.History.{Launched, Item, Content, Loaded, Accepted, Fault, InputEnd, ReadFailure, MemoryFailure, Step, History, behind, messages}
+use Rattle.dap_history.specs.History.{Launched, Item, Content, Loaded, Accepted, Fault, InputEnd, ReadFailure, MemoryFailure, Step, History, with_answer, messages}
 use Rattle.dap_history.specs.Readings.{situation, position, launched, end_of, command_mark, answer_mark, event_mark, message_mark, order_mark, step_mark}
 use Rattle.dap_history.specs.Replies.{Reply, OfProgram, refused}
 use Rattle.dap_history.specs.Inspection.{RepliesAt, asked_of, Inspects, InspectsIn}
 use Rattle.dap_history.specs.Emission.{RepliesIn, Answers, Causes}
 use Rattle.dap_history.specs.Events.{Incoming, Rest, IsHistoryOf}
-use Rattle.dap_history.specs.Stops.{stop_told, stop_in, IsStanding, StoppedLastAt, IsQuestion, Asks, AnswersFrom, QuestionsAreAnsweredThere}
+use Rattle.dap_history.specs.Stops.{stop_of_event, stop_in, IsStanding, StoppedLastAt, IsQuestion, Asks, AnswersFrom, QuestionsAreAnsweredThere}
 use Rattle.dap_history.proofs.Readings.{situation-snoc, position-snoc}
 use Rattle.dap_history.proofs.Along.{IsTaken, IsKept, any_reports, along}
 use Rattle.dap_history.proofs.Each.{WasTaken, EachTaken, each_kept, each_first}
@@ -90,10 +90,10 @@ orders_not (o ∷ os) is = neither (orders_not os) (mark_else IsStanding (last_s
     neither not (inr is) = order_not o is.1
 
 abbrev pub ReportsStop : List EventBody → Type 0
-ReportsStop es = (r : StopReason) × (last_such stop_told es ≡ Some r)
+ReportsStop es = (r : StopReason) × (last_such stop_of_event es ≡ Some r)
 
 stop_else : (e : EventBody) (es : List EventBody) → ReportsStop es → ReportsStop (e ∷ es)
-stop_else e es is = (is.0, ap (λ o. or_else o (stop_told e)) is.1)
+stop_else e es is = (is.0, ap (λ o. or_else o (stop_of_event e)) is.1)
 
 stop_first : (o : Option StopReason) (r : StopReason) → (s : StopReason) × (or_else o (Some r) ≡ Some s)
 stop_first None r = (r, refl)
@@ -101,7 +101,7 @@ stop_first (Some s) r = (s, refl)
 
 event_stops : (e : EventBody) (es : List EventBody) → MarkIs IsStanding (event_mark e) → ReportsStop (e ∷ es)
 event_stops event.Initialized es is = absurd is
-event_stops (event.Stopped r) es is = stop_first (last_such stop_told es) r
+event_stops (event.Stopped r) es is = stop_first (last_such stop_of_event es) r
 event_stops (event.Output v) es is = absurd is
 event_stops (event.Exited code) es is = absurd is
 event_stops event.Terminated es is = absurd is
@@ -114,7 +114,7 @@ events_stop (e ∷ es) is = either (events_stop es) (mark_else IsStanding (last_
     either more (inl is) = stop_else e es (more is)
     either more (inr is) = event_stops e es is.1
 
-messages_stop : (a : Option Outgoing) (es : List EventBody) → IsAnswer a → MarkIs IsStanding (last_such message_mark (behind a (map Event es))) → ReportsStop es
+messages_stop : (a : Option Outgoing) (es : List EventBody) → IsAnswer a → MarkIs IsStanding (last_such message_mark (with_answer a (map Event es))) → ReportsStop es
 messages_stop None es answer is = events_stop es is
 messages_stop (Some (Answer seq c result)) es answer is = either (mark_else IsStanding (last_such message_mark (map Event es)) (answer_mark c result) is)
   where

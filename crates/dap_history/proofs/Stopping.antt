@@ -23,13 +23,13 @@ use Rattle.dap_history.specs.Launching.{Launches}
 use Rattle.dap_history.specs.Reports.{Accepts, outputs, held, report_effect}
 use Rattle.dap_history.specs.Emission.{Causes, HasEffect, IsAfter}
 use Rattle.dap_history.proofs.Texts.{OneProgram}
-use Rattle.dap_history.specs.Stops.{stop_told, stop_in, StopsAt, NoneDueUpTo, NoneDueBefore, due_in, IsRunsStop, IsRightStop, EachStopIsRight}
+use Rattle.dap_history.specs.Stops.{stop_of_event, stop_in, StopsAt, NoneDueUpTo, NoneDueBefore, due_in, IsRunsStop, IsRightStop, EachStopIsRight}
 use Rattle.dap_history.proofs.Readings.{situation-snoc, position-snoc, launched-snoc, last_run-snoc, last_such-append}
 use Rattle.dap_history.proofs.Along.{IsTaken, IsKept, lawful_reports, along}
 use Rattle.dap_history.proofs.Each.{WasTaken, EachTaken, each_kept, each_first}
 use Rattle.dap_history.proofs.Silent.{StopsBy, no_stop, at_first, all_silent}
 use Rattle.dap_history.proofs.Standing.{MarkIs, mark_unwrap, answers_only}
-use Rattle.dap_history.proofs.Told.{Told, told_more, told_first, report_program}
+use Rattle.dap_history.proofs.Progress.{Progress, progress_more, progress_first, report_program}
 use Rattle.dap_history.proofs.Early.{IsEarly}
 use Rattle.dap_history.proofs.Passing.{IsConfiguring, IsRunning, IsLoaded, BeginsAt, none_begins, begins_at, item_begins, launches_not, loaded_there, loaded_orders, runs_not, none_left, no_mark_no_go, mark_of, undue_end, NotDueAtEnd, Ran, same_due, begun_there, begun_before, none_before, none_up_to}
 
@@ -37,8 +37,8 @@ module _ (one : OneProgram) (joins : WrittenJoins) where
   -- ---- what is kept
 
   -- before a launch nothing ran
-  not_begun : (past : History) → Told past → situation past ≡ Ready → (last_run past ≡ None) × (position past ≡ 0)
-  not_begun past told ready = let tells = told.tells None (told.early (subst IsEarly (sym ready) tt)) in (tells.1, tells.2)
+  not_begun : (past : History) → Progress past → situation past ≡ Ready → (last_run past ≡ None) × (position past ≡ 0)
+  not_begun past so_far ready = let progress = so_far.progress None (so_far.early (subst IsEarly (sym ready) tt)) in (progress.1, progress.2)
 
   configuring_more : (past : History) (step : Step) → IsTaken IsLawful past step.item → Causes past step.item step → Ran one joins past → IsConfiguring (situation (past ++ step ∷ []))
       → (last_run (past ++ step ∷ []) ≡ None) × (position (past ++ step ∷ []) ≡ 0)
@@ -63,7 +63,7 @@ module _ (one : OneProgram) (joins : WrittenJoins) where
           → (last_run (past ++ step ∷ []) ≡ None) × (position (past ++ step ∷ []) ≡ 0)
       by_mark (inl mark) =
           let load = by_load step.item (loaded_there past step.item step causes mark) taken causes in
-          keeps load.0 load.1 (not_begun past ran.told load.2)
+          keeps load.0 load.1 (not_begun past ran.so_far load.2)
       by_mark (inr is) =
           keeps (no_mark_no_go step.effect.orders (none_left (last_such order_mark step.effect.orders) _ is.0).0) (stays_there step.item taken is.1) (ran.configuring is.1)
 
@@ -115,7 +115,7 @@ module _ (one : OneProgram) (joins : WrittenJoins) where
 
   ran_more : (past : History) (step : Step) → IsTaken IsLawful past step.item → Causes past step.item step → Ran one joins past → Ran one joins (past ++ step ∷ [])
   ran_more past step taken causes ran = record {
-    told = told_more one joins past step.item step refl taken causes ran.told;
+    so_far = progress_more one joins past step.item step refl taken causes ran.so_far;
     configuring = configuring_more past step taken causes ran;
     running = running_more past step taken causes ran;
   }
@@ -128,22 +128,22 @@ module _ (one : OneProgram) (joins : WrittenJoins) where
   }
 
   ran_first : Ran one joins []
-  ran_first = record { told = told_first one joins; configuring = λ is. absurd is; running = λ is. absurd is }
+  ran_first = record { so_far = progress_first one joins; configuring = λ is. absurd is; running = λ is. absurd is }
 
   -- ---- the stop of a step
 
   abbrev RightStop : History → StopReason → ℕ → Type 0
   RightStop before reason m = (l : Launched) × (launched before ≡ Some l) × IsRightStop l before (last_run before) reason m
 
-  outputs_stop_not : (vs : List ℤ) → last_such stop_told (map event.Output vs) ≡ None
+  outputs_stop_not : (vs : List ℤ) → last_such stop_of_event (map event.Output vs) ≡ None
   outputs_stop_not [] = refl
   outputs_stop_not (v ∷ vs) = ap (λ o. or_else o None) (outputs_stop_not vs)
 
-  stop_after : (r : PlainReport) (s : StopReason) → last_such stop_told (outputs r ++ stops s) ≡ Some s
-  stop_after r s = last_such-append stop_told (outputs r) (stops s)
+  stop_after : (r : PlainReport) (s : StopReason) → last_such stop_of_event (outputs r ++ stops s) ≡ Some s
+  stop_after r s = last_such-append stop_of_event (outputs r) (stops s)
 
-  end_after : (r : PlainReport) (code : ℕ) → last_such stop_told (outputs r ++ ends code) ≡ None
-  end_after r code = last_such-append stop_told (outputs r) (ends code) ∙ outputs_stop_not r.numbers
+  end_after : (r : PlainReport) (code : ℕ) → last_such stop_of_event (outputs r ++ ends code) ≡ None
+  end_after r code = last_such-append stop_of_event (outputs r) (ends code) ∙ outputs_stop_not r.numbers
 
   due_stop : (l : Launched) (run : Heading) (m : ℕ) (r : Reason) → (due_in l run m ≡ Some r) × (run.start < m) × NoneDueBefore l run m → IsRunsStop l run (stop_of r) m
   due_stop l run m reason.Breakpoint is = (reason.Breakpoint, refl, is.0, is.1, is.2)
@@ -152,35 +152,35 @@ module _ (one : OneProgram) (joins : WrittenJoins) where
 
   -- a report stops its run where it has to
   module _ (past : History) (r : PlainReport) (accepts : Accepts past r) (lawful : IsLawful r) (ran : Ran one joins past) (l : Launched) (is : launched past ≡ Some l) where
-    stops_run : (e : SliceOutcome) → EndsBy lawful.program r e → (s : StopReason) → last_such stop_told (report_effect past r e).events ≡ Some s → IsRunsStop l accepts.run s r.end
-    stops_run slice.More ends_by s told = let e = sym (outputs_stop_not r.numbers) ∙ told in absurd cc
-    stops_run (slice.Due why) ends_by s told =
-        let same : stop_of why ≡ s = let e = sym (stop_after r (stop_of why)) ∙ told in cc in
+    stops_run : (e : SliceOutcome) → EndsBy lawful.program r e → (s : StopReason) → last_such stop_of_event (report_effect past r e).events ≡ Some s → IsRunsStop l accepts.run s r.end
+    stops_run slice.More ends_by s so_far = let e = sym (outputs_stop_not r.numbers) ∙ so_far in absurd cc
+    stops_run (slice.Due why) ends_by s so_far =
+        let same : stop_of why ≡ s = let e = sym (stop_after r (stop_of why)) ∙ so_far in cc in
         let from = begun_there one joins past r accepts lawful ran l is in
         let on = ends_by.0 in
         subst (λ s. IsRunsStop l accepts.run s r.end) same
         (due_stop l accepts.run r.end why (same_due one joins past r accepts lawful ran l is r.end ∙ ends_by.1, omega (arith, from, on), none_before one joins past r accepts lawful ran l is))
-    stops_run slice.Held ends_by s told = by_pause (waiting_pause past) told
+    stops_run slice.Held ends_by s so_far = by_pause (waiting_pause past) so_far
       where
-        by_pause : (pauses : Bool) → last_such stop_told (held past r pauses).events ≡ Some s → IsRunsStop l accepts.run s r.end
-        by_pause true told =
-            let same : stop.Pause ≡ s = let e = sym (stop_after r stop.Pause) ∙ told in cc in
+        by_pause : (pauses : Bool) → last_such stop_of_event (held past r pauses).events ≡ Some s → IsRunsStop l accepts.run s r.end
+        by_pause true so_far =
+            let same : stop.Pause ≡ s = let e = sym (stop_after r stop.Pause) ∙ so_far in cc in
             subst (λ s. IsRunsStop l accepts.run s r.end) same
             (begun_before one joins past r accepts lawful ran l is, none_up_to one joins past r accepts lawful ran l is (inl ends_by.0))
-        by_pause false told = let e = sym (outputs_stop_not r.numbers) ∙ told in absurd cc
-    stops_run slice.Done ends_by s told = let e = sym (end_after r 0) ∙ told in absurd cc
-    stops_run (slice.Fault fault) ends_by s told =
-        let same : stop.Exception (exception_of fault) ≡ s = let e = sym (stop_after r (stop.Exception (exception_of fault))) ∙ told in cc in
-        let faults = ap (λ p. outcome p r.end) (sym (report_program one joins past r lawful l accepts (ran.told.tells (Some l) is))) ∙ ends_by.2 in
+        by_pause false so_far = let e = sym (outputs_stop_not r.numbers) ∙ so_far in absurd cc
+    stops_run slice.Done ends_by s so_far = let e = sym (end_after r 0) ∙ so_far in absurd cc
+    stops_run (slice.Fault fault) ends_by s so_far =
+        let same : stop.Exception (exception_of fault) ≡ s = let e = sym (stop_after r (stop.Exception (exception_of fault))) ∙ so_far in cc in
+        let faults = ap (λ p. outcome p r.end) (sym (report_program one joins past r lawful l accepts (ran.so_far.progress (Some l) is))) ∙ ends_by.2 in
         subst (λ s. IsRunsStop l accepts.run s r.end) same
         (fault, refl, faults, begun_before one joins past r accepts lawful ran l is, none_up_to one joins past r accepts lawful ran l is ends_by.1)
-    stops_run slice.NoMemory ends_by s told = absurd cc
+    stops_run slice.NoMemory ends_by s so_far = absurd cc
 
-  report_stops : (past : History) (r : PlainReport) → Accepts past r → IsLawful r → Ran one joins past → (s : StopReason) → last_such stop_told (report_effect past r r.outcome).events ≡ Some s
+  report_stops : (past : History) (r : PlainReport) → Accepts past r → IsLawful r → Ran one joins past → (s : StopReason) → last_such stop_of_event (report_effect past r r.outcome).events ≡ Some s
       → (l : Option Launched) → launched past ≡ l → RightStop past s r.end
-  report_stops past r accepts lawful ran s told None is = let e = sym (ran.told.tells None is).1 ∙ accepts.run_is in absurd cc
-  report_stops past r accepts lawful ran s told (Some l) is =
-      (l, is, subst (λ o. IsRightStop l past o s r.end) (sym accepts.run_is) (stops_run past r accepts lawful ran l is r.outcome lawful.lawful.outcome s told))
+  report_stops past r accepts lawful ran s so_far None is = let e = sym (ran.so_far.progress None is).1 ∙ accepts.run_is in absurd cc
+  report_stops past r accepts lawful ran s so_far (Some l) is =
+      (l, is, subst (λ o. IsRightStop l past o s r.end) (sym accepts.run_is) (stops_run past r accepts lawful ran l is r.outcome lawful.lawful.outcome s so_far))
 
   -- a reply stops the program at position 0
   reply_stops : (past : History) (o : Option StopReason) → StopsBy (situation past) past o → Ran one joins past → (s : StopReason) → o ≡ Some s → RightStop past s (position past)
@@ -190,19 +190,19 @@ module _ (one : OneProgram) (joins : WrittenJoins) where
       let before = ran.configuring (subst IsConfiguring (sym configuring) tt) in
       (l, launch, subst (λ o. IsRightStop l past o s (position past)) (sym before.0) (before.1, (r, sym same, due_is)))
 
-  launch_stops_not : (launch : Launch) (file : Option (List ℕ)) (reply : Reply) → Launches launch.arguments file reply → last_such stop_told reply.effect.events ≡ None
-  launch_stops_not launch None reply is = ap (λ (r : Reply). last_such stop_told r.effect.events) is
-  launch_stops_not launch (Some text) reply (inl is) = ap (λ (r : Reply). last_such stop_told r.effect.events) is.reply_is
-  launch_stops_not launch (Some text) reply (inr is) = ap (λ (r : Reply). last_such stop_told r.effect.events) is.reply_is
+  launch_stops_not : (launch : Launch) (file : Option (List ℕ)) (reply : Reply) → Launches launch.arguments file reply → last_such stop_of_event reply.effect.events ≡ None
+  launch_stops_not launch None reply is = ap (λ (r : Reply). last_such stop_of_event r.effect.events) is
+  launch_stops_not launch (Some text) reply (inl is) = ap (λ (r : Reply). last_such stop_of_event r.effect.events) is.reply_is
+  launch_stops_not launch (Some text) reply (inr is) = ap (λ (r : Reply). last_such stop_of_event r.effect.events) is.reply_is
 
-  stop_of_effect : (step : Step) (effect : Effect) → step.effect ≡ effect → stop_in step ≡ last_such stop_told effect.events
-  stop_of_effect step effect is = ap (λ (e : Effect). last_such stop_told e.events) is
+  stop_of_effect : (step : Step) (effect : Effect) → step.effect ≡ effect → stop_in step ≡ last_such stop_of_event effect.events
+  stop_of_effect step effect is = ap (λ (e : Effect). last_such stop_of_event e.events) is
 
   step_stops : (past : History) (item : Item) (step : Step) → IsTaken IsLawful past item → Causes past item step → Ran one joins past → (s : StopReason) → stop_in step ≡ Some s
       → RightStop past s (unwrap_or (end_of item) (position past))
   step_stops past (Content None) step taken is ran s stop_is = let e = sym (stop_of_effect step _ is.effect_is) ∙ stop_is in absurd cc
   step_stops past (Content (Some request)) step taken is ran s stop_is =
-      reply_stops past (last_such stop_told is.0.effect.events) (all_silent (situation past) past request.body is.0 is.1).stops ran s (sym (stop_of_effect step _ is.2.effect_is) ∙ stop_is)
+      reply_stops past (last_such stop_of_event is.0.effect.events) (all_silent (situation past) past request.body is.0 is.1).stops ran s (sym (stop_of_effect step _ is.2.effect_is) ∙ stop_is)
   step_stops past (Loaded launch file) step taken is ran s stop_is =
       let e = sym (launch_stops_not launch file is.0 is.1) ∙ sym (stop_of_effect step _ is.2.effect_is) ∙ stop_is in absurd cc
   step_stops past (Accepted r) step taken is ran s stop_is =

@@ -8,7 +8,7 @@ use Rattle.dap_msg.specs.declared.requests.set_breakpoints.SourceBreakpoint.{Sou
 use Rattle.dap_msg.specs.declared.outgoing.Body.TheVariants as body
 use Rattle.dap_msg.specs.declared.outgoing.Refusal.TheVariants as refusal
 use Rattle.dap_msg.specs.declared.outgoing.BreakpointAnswer.{BreakpointAnswer}
-use Rattle.dap_msg.specs.declared.outgoing.BreakpointAnswer.TheVariants as told
+use Rattle.dap_msg.specs.declared.outgoing.BreakpointAnswer.TheVariants as answer
 use Rattle.dap_msg.specs.declared.outgoing.BreakpointRefusal.TheVariants as why
 use Rattle.pl0_tree.specs.Tree.{Block}
 use Rattle.pl0_tree.specs.Steps.{steps}
@@ -60,24 +60,24 @@ pub record IsResolved (main : Block) (less : ℕ) (lines : List SourceBreakpoint
 abbrev pub step_line : Block → ℕ → ℕ
 step_line main n = option_map_or (λ s. s.place.line) (slice_get (steps main) n) 0
 
-abbrev pub told_as : Block → ℕ → Resolution → BreakpointAnswer
-told_as main less (At n) = told.At (step_line main n - less)
-told_as main less NoStep = told.Unverified why.NoStep
-told_as main less BadCondition = told.Unverified why.BadCondition
-told_as main less BadHitCondition = told.Unverified why.BadHitCondition
+abbrev pub answer_of : Block → ℕ → Resolution → BreakpointAnswer
+answer_of main less (At n) = answer.At (step_line main n - less)
+answer_of main less NoStep = answer.Unverified why.NoStep
+answer_of main less BadCondition = answer.Unverified why.BadCondition
+answer_of main less BadHitCondition = answer.Unverified why.BadHitCondition
 
 -- ---- the answer
 
 -- lines of another source than the launched one
 abbrev pub other_source : List SourceBreakpoint → Reply
-other_source lines = answered (body.Breakpoints (map (λ b. told.Unverified why.OtherSource) lines))
+other_source lines = answered (body.Breakpoints (map (λ b. answer.Unverified why.OtherSource) lines))
 
 -- Hold of this run, where none was pushed
 abbrev pub hold_once : History → List PlainOrder
 hold_once past = if is_held past then [] else Hold (runs past) ∷ []
 
 -- A debuggee that the session holds gets the plan at once: before `configurationDone` it counts from position 0, later
--- from the position behind the one where the program stands. In a run it waits.
+-- from the position after the one where the program stands. In a run it waits.
 abbrev pub effect_in : Situation → History → List Breakpoint → Effect
 effect_in Configuring past bs = record nothing { put_in = Some (record { breakpoints = bs; counted_from = 0 }) }
 effect_in Stopped past bs = record nothing { put_in = Some (record { breakpoints = bs; counted_from = position past + 1 }) }
@@ -92,7 +92,7 @@ pub record Resolves (past : History) (l : Launched) (lines : List SourceBreakpoi
   pub answers : List Resolution
   pub breakpoints : List Breakpoint
   pub resolved : IsResolved l.program (line_offset past) lines answers breakpoints
-  pub reply_is : reply ≡ causing (body.Breakpoints (map (told_as l.program (line_offset past)) answers)) (effect_in (situation past) past breakpoints)
+  pub reply_is : reply ≡ causing (body.Breakpoints (map (answer_of l.program (line_offset past)) answers)) (effect_in (situation past) past breakpoints)
 
 -- the source is at this path
 abbrev pub is_at : Option (List ℕ) → List ℕ → Bool

@@ -56,7 +56,7 @@ pub record HasEffect (effect : Effect) (step : Step) : Type 0 where
   pub answer_is : step.answer ≡ None
   pub effect_is : step.effect ≡ effect
 
--- What an item causes: each request one answer, and what stands behind it.
+-- What an item causes: each request one answer, and what follows it.
 abbrev pub Causes : History → Item → Step → Type 0
 Causes past (Content None) step = HasEffect nothing step
 Causes past (Content (Some request)) step =

@@ -1,4 +1,4 @@
--- Which items a list of events gives, one after another. Nothing behind the closing is an item.
+-- Which items a list of events gives, one after another. Nothing after the closing is an item.
 use Rattle.std.specs.Prelude.{◌≡◌, ◌⊎◌, ◌++◌, ◌∷◌, [], ℕ, List, Option, None, Some, Result, Ok, Err}
 use Rattle.dap_frame.specs.declared.fault.FramingFault.{FramingFault}
 use Rattle.dap_frame.specs.Frame.{IsFrameInFront, IsOpen}
@@ -31,7 +31,7 @@ AreLawful [] = Unit {0}
 AreLawful (Report r ∷ events) = IsLawful r × AreLawful events
 AreLawful (e ∷ events) = AreLawful events
 
--- What came and isn't taken yet: a launch that waits for its file, and bytes behind it.
+-- What came and isn't taken yet: a launch that waits for its file, and bytes after it.
 pub record Rest : Type 0 where
   pub launch : Option Launch
   pub bytes : List ℕ
@@ -43,7 +43,7 @@ only_bytes bytes = record { launch = None; bytes = bytes }
 abbrev pub IsTaking : History → Type 0
 IsTaking past = ending_of past ≡ None
 
--- the content in front of the bytes, with the request that it is or none, and the bytes behind it
+-- the content in front of the bytes, with the request that it is or none, and the bytes after it
 pub record IsInFront (bytes : List ℕ) (request : Option Request) (more : List ℕ) : Type 0 where
   pub content : List ℕ
   pub framed : IsFrameInFront bytes content more
@@ -78,19 +78,19 @@ pub record TakesAll (past : History) (bytes : List ℕ) (new : History) (rest : 
 abbrev pub MayTake : History → Item → History → Type 0
 MayTake past item new = ((¬ IsTaking past) × (new ≡ past)) ⊎ (IsTaking past × IsAfter past item new)
 
--- bytes behind a launch that waits wait with it
+-- bytes after a launch that waits wait with it
 abbrev pub LeadsByPiece : History → Option Launch → List ℕ → History → Rest → Type 0
 LeadsByPiece past None bytes new left = TakesAll past bytes new left
 LeadsByPiece past (Some launch) bytes new left = (new ≡ past) × (left ≡ record { launch = Some launch; bytes = bytes })
 
--- the file of a launch; then the contents behind it
+-- the file of a launch; then the contents after it
 pub record Loads (past : History) (launch : Launch) (file : Option (List ℕ)) (bytes : List ℕ) (new : History) (left : Rest) : Type 0 where
   pub taking : IsTaking past
   pub mid : History
   pub loaded : IsAfter past (Loaded launch file) mid
-  pub behind : TakesAll mid bytes new left
+  pub after : TakesAll mid bytes new left
 
--- A file. One that wasn't wanted is passed over, also behind the closing.
+-- A file. One that wasn't wanted is passed over, also after the closing.
 abbrev pub LeadsByFile : History → Rest → Option Launch → Result (List ℕ) LoadFault → History → Rest → Type 0
 LeadsByFile past rest None file new left = (new ≡ past) × (left ≡ rest)
 LeadsByFile past rest (Some launch) (Ok file) new left =

@@ -29,7 +29,7 @@ pub data Item : Type 0 where
   ReadFailure : Item
   MemoryFailure : Item
 
--- What an item causes behind the answer, if it has one: events, and orders; the program that it launches, the plan that
+-- What an item causes after the answer, if it has one: events, and orders; the program that it launches, the plan that
 -- it puts into the debuggee, and the breakpoints that wait until the runner gives the debuggee back.
 pub record Effect : Type 0 where
   pub events : List EventBody
@@ -48,13 +48,13 @@ pub record Step : Type 0 where
 abbrev pub History : Type 0
 History = List Step
 
-abbrev pub behind : Option Outgoing → List Outgoing → List Outgoing
-behind None messages = messages
-behind (Some answer) messages = answer ∷ messages
+abbrev pub with_answer : Option Outgoing → List Outgoing → List Outgoing
+with_answer None messages = messages
+with_answer (Some answer) messages = answer ∷ messages
 
 -- the messages of a step: the answer, and then the events
 abbrev pub messages : Step → List Outgoing
-messages step = behind step.answer (map Event step.effect.events)
+messages step = with_answer step.answer (map Event step.effect.events)
 
 abbrev pub messages_of : History → List Outgoing
 messages_of past = flat_map messages past

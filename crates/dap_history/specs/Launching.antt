@@ -57,7 +57,7 @@ abbrev pub launches : LaunchArguments → List ℕ → Block → Effect
 launches arguments text program =
     record nothing { events = event.Initialized ∷ []; launched = Some (record { path = arguments.program; stop_on_entry = arguments.stop_on_entry; text = text; program = program }) }
 
--- the text has a fault, the first of which is told
+-- the text has a fault, the first of which is reported
 pub record RefusesText (text : List ℕ) (reply : Reply) : Type 0 where
   pub kind : FaultKind
   pub place : Place

@@ -78,7 +78,7 @@ output _ = None
 abbrev pub numbers : List Outgoing → List ℤ
 numbers messages = filter_map output messages
 
--- The numbers told are, in order, those that the program wrote up to its position; there are none before it is launched.
+-- The numbers reported are, in order, those that the program wrote up to its position; there are none before it is launched.
 abbrev pub NumbersAreWritten : Type 0
 NumbersAreWritten =
     (events : List Incoming) (past : History) (rest : Rest) → AreLawful events → IsHistoryOf events past rest
@@ -86,8 +86,8 @@ NumbersAreWritten =
     × (launched past ≡ None → numbers (messages_of past) ≡ [])
 
 -- Before a stop stand just the numbers of the steps up to where the program stands then.
-abbrev pub StopsStandBehind : Type 0
-StopsStandBehind =
+abbrev pub StopsFollowNumbers : Type 0
+StopsFollowNumbers =
     (events : List Incoming) (past : History) (rest : Rest) → AreLawful events → IsHistoryOf events past rest
     → (front : History) (step : Step) (more : History) → past ≡ front ++ step ∷ more
     → (l : Launched) → launched (front ++ step ∷ []) ≡ Some l

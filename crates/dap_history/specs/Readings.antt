@@ -64,7 +64,7 @@ order_mark (Go run) = Some Running
 order_mark (Hold run) = None
 order_mark Quit = None
 
--- the last mark of a step, its orders being behind its messages
+-- the last mark of a step, its orders being after its messages
 abbrev pub step_mark : Step → Option Situation
 step_mark step = or_else (last_such order_mark step.effect.orders) (last_such message_mark (messages step))
 
@@ -143,7 +143,7 @@ hold_mark (Go run) = Some false
 hold_mark (Hold run) = Some true
 hold_mark Quit = None
 
--- the last run was told to hold
+-- the last run was ordered to hold
 abbrev pub is_held : History → Bool
 is_held past = unwrap_or (last_such hold_mark (orders_of past)) false
 

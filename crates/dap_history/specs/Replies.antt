@@ -1,4 +1,4 @@
--- What a command is answered with, and what it causes behind the answer.
+-- What a command is answered with, and what it causes after the answer.
 use Rattle.std.specs.Prelude.{ℕ, nat_eq, if◌then◌else◌, List, [], ◌∷◌, Option, None, Some, Result, Ok, Err}
 use Rattle.dap_msg.specs.declared.outgoing.Body.{Body}
 use Rattle.dap_msg.specs.declared.outgoing.Refusal.{Refusal}
@@ -23,8 +23,8 @@ pub record Reply : Type 0 where
 abbrev pub nothing : Effect
 nothing = record { events = []; orders = []; launched = None; put_in = None; waits = None }
 
-abbrev pub telling : List EventBody → Effect
-telling events = record nothing { events = events }
+abbrev pub reporting : List EventBody → Effect
+reporting events = record nothing { events = events }
 
 abbrev pub ordering : List PlainOrder → Effect
 ordering orders = record nothing { orders = orders }

@@ -10,7 +10,7 @@ use Rattle.dap_history.specs.Plain as slice
 use Rattle.dap_history.specs.declared.situation.Situation.TheVariants.{Running}
 use Rattle.dap_history.specs.History.{History, Effect}
 use Rattle.dap_history.specs.Readings.{situation, last_run, runs, position, plan, waiting_plan, waiting_pause}
-use Rattle.dap_history.specs.Replies.{nothing, telling, stop_of, exception_of, stops, ends}
+use Rattle.dap_history.specs.Replies.{nothing, reporting, stop_of, exception_of, stops, ends}
 
 -- A report is accepted while the program runs, where it goes on with the run that was ordered last.
 pub record Accepts (past : History) (r : PlainReport) : Type 0 where
@@ -46,9 +46,9 @@ held past r true = stands past r (stops stop.Pause)
 held past r false = goes_on past r
 
 abbrev pub report_effect : History → PlainReport → SliceOutcome → Effect
-report_effect past r slice.More = telling (outputs r)
+report_effect past r slice.More = reporting (outputs r)
 report_effect past r (slice.Due reason) = stands past r (stops (stop_of reason))
 report_effect past r slice.Held = held past r (waiting_pause past)
-report_effect past r slice.Done = telling (outputs r ++ ends 0)
+report_effect past r slice.Done = reporting (outputs r ++ ends 0)
 report_effect past r (slice.Fault fault) = stands past r (stops (stop.Exception (exception_of fault)))
 report_effect past r slice.NoMemory = nothing

@@ -14,7 +14,7 @@ use Rattle.dap_history.specs.declared.situation.Situation.TheVariants.{Fresh, Re
 use Rattle.dap_history.specs.History.{Launched, History, Effect}
 use Rattle.dap_history.specs.Readings.{situation, launched, runs, position, plan}
 use Rattle.dap_history.specs.Breakpoints.{hold_once}
-use Rattle.dap_history.specs.Replies.{Reply, telling, ordering, answered, refused, causing, OfProgram, stop_of, stops, ends, on_thread}
+use Rattle.dap_history.specs.Replies.{Reply, reporting, ordering, answered, refused, causing, OfProgram, stop_of, stops, ends, on_thread}
 
 -- the order of the next run, which begins at this position under this plan and in this mode
 abbrev pub goes : History → Launched → ℕ → Plan → Mode → List PlainOrder
@@ -32,7 +32,7 @@ entry_mode l = if l.stop_on_entry then mode.Entry else mode.Continue
 
 -- position 0 is due, or the first run begins there
 abbrev pub enters : History → Launched → Option Reason → Effect
-enters past l (Some r) = telling (stops (stop_of r))
+enters past l (Some r) = reporting (stops (stop_of r))
 enters past l None = ordering (resumes past l mode.Continue)
 
 abbrev pub Configures : History → Reply → Type 0
@@ -68,11 +68,11 @@ abbrev pub Resumes : History → Pace → ℕ → Reply → Type 0
 Resumes past pace thread reply = OfProgram (launched past) (λ l. reply
     ≡ on_thread thread (causing (body_of pace) (ordering (resumes past l (mode_of pace (depth_at l.program (position past)))))))
 
--- Profile: behind a fault the program is over, with the code 1.
+-- Profile: after a fault the program is over, with the code 1.
 abbrev pub ResumesIn : Situation → History → Pace → ℕ → Reply → Type 0
 ResumesIn Running past pace thread reply = reply ≡ refused refusal.NotStopped
 ResumesIn Stopped past pace thread reply = Resumes past pace thread reply
-ResumesIn Faulted past pace thread reply = reply ≡ on_thread thread (causing (body_of pace) (telling (ends 1)))
+ResumesIn Faulted past pace thread reply = reply ≡ on_thread thread (causing (body_of pace) (reporting (ends 1)))
 ResumesIn _ past pace thread reply = reply ≡ refused refusal.WrongPhase
 
 -- ---- `pause`

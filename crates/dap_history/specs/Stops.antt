@@ -26,13 +26,13 @@ use Rattle.dap_history.specs.Replies.{Reply, stop_of, exception_of}
 use Rattle.dap_history.specs.Inspection.{RepliesAt, asked_of}
 use Rattle.dap_history.specs.Events.{Incoming, Rest, AreLawful, IsHistoryOf}
 
-abbrev pub stop_told : EventBody → Option StopReason
-stop_told (event.Stopped reason) = Some reason
-stop_told _ = None
+abbrev pub stop_of_event : EventBody → Option StopReason
+stop_of_event (event.Stopped reason) = Some reason
+stop_of_event _ = None
 
 -- the stop that a step reports, if it reports one
 abbrev pub stop_in : Step → Option StopReason
-stop_in step = last_such stop_told step.effect.events
+stop_in step = last_such stop_of_event step.effect.events
 
 -- In this history, after what came before, the program stopped at position m.
 pub record StopsAt (past before : History) (reason : StopReason) (m : ℕ) : Type 0 where

@@ -1,4 +1,4 @@
-ghost use Rattle.dap_history.specs.Laws.{HistoryIsOne, EachIsAnsweredOnce, SeqCountFromOne, DisconnectIsLast, NumbersAreWritten, StopsStandBehind};
+ghost use Rattle.dap_history.specs.Laws.{HistoryIsOne, EachIsAnsweredOnce, SeqCountFromOne, DisconnectIsLast, NumbersAreWritten, StopsFollowNumbers};
 ghost use Rattle.dap_history.specs.Stops.{EachStopIsRight, QuestionsAreAnsweredThere};
 
 use dap_frame::frame_laws;
@@ -12,7 +12,7 @@ pub fn history_laws()
     ensures answers { EachIsAnsweredOnce }
     ensures numbers { SeqCountFromOne }
     ensures outputs { NumbersAreWritten }
-    ensures behind { StopsStandBehind }
+    ensures behind { StopsFollowNumbers }
     ensures stops { EachStopIsRight }
     ensures questions { QuestionsAreAnsweredThere }
     ensures last { DisconnectIsLast }

@@ -3,8 +3,8 @@ use Rattle.dap_history.specs.Events.{only_bytes}
 use Rattle.dap_history.proofs.Answered.{each_answered}
 use Rattle.dap_history.proofs.Last.{disconnect_last}
 use Rattle.dap_history.proofs.Numbered.{numbers_count}
-use Rattle.dap_history.proofs.BehindStops.{stops_stand_behind}
-use Rattle.dap_history.proofs.Told.{numbers_written}
+use Rattle.dap_history.proofs.StopOrder.{stops_follow}
+use Rattle.dap_history.proofs.Progress.{numbers_written}
 use Rattle.dap_history.proofs.Stopping.{each_stop_right}
 use Rattle.dap_history.proofs.Standing.{questions_answered}
 use Rattle.dap_history.proofs.OneReply.{one_after}
@@ -38,7 +38,7 @@ pub returns-clause-outputs : goal.returns-clause-outputs
 returns-clause-outputs c = numbers_written (one_program c.text_laws.ensures.program) c.meaning_laws.ensures.joins
 
 pub returns-clause-behind : goal.returns-clause-behind
-returns-clause-behind c = stops_stand_behind (one_program c.text_laws.ensures.program) c.meaning_laws.ensures.joins
+returns-clause-behind c = stops_follow (one_program c.text_laws.ensures.program) c.meaning_laws.ensures.joins
 
 pub returns-clause-stops : goal.returns-clause-stops
 returns-clause-stops c = each_stop_right (one_program c.text_laws.ensures.program) c.meaning_laws.ensures.joins

@@ -1,4 +1,4 @@
--- No step tells a number behind a stop; so before a stop stand just the numbers written up to it.
+-- No step reports a number after a stop; so before a stop stand just the numbers written up to it.
 use Rattle.std.proofs.Common.{◌≡◌, inl, inr, ℕ, List, [], ◌∷◌, ◌++◌, ℤ, Option, None, Some, refl, sym, ◌∙◌, ap, subst, append-nil}
 use Rattle.std.specs.Prelude.{map, Bool, true, false}
 use Rattle.std.specs.List.{filter_map}
@@ -14,12 +14,12 @@ abbrev pub IsStop : Outgoing → Type 0
 IsStop (Event (event.Stopped r)) = Unit {0}
 IsStop _ = ⊥
 
--- behind a stop no number is told
+-- after a stop no number is reported
 abbrev pub Quiet : List Outgoing → Type 0
 Quiet [] = Unit {0}
 Quiet (m ∷ ms) = (IsStop m → numbers ms ≡ []) × Quiet ms
 
--- then those told before the stop are all
+-- then those reported before the stop are all
 pub all_before : (ms before : List Outgoing) (reason : StopReason) (after : List Outgoing) → Quiet ms → ms ≡ before ++ Event (event.Stopped reason) ∷ after → numbers before ≡ numbers ms
 all_before [] [] reason after quiet is = absurd cc
 all_before [] (b ∷ before) reason after quiet is = absurd cc
@@ -45,7 +45,7 @@ all_before (m ∷ ms) (b ∷ before) reason after quiet is =
     rest : ms ≡ before ++ Event (event.Stopped reason) ∷ after
     rest = cc
 
--- where no number is told at all
+-- where no number is reported at all
 pub silent_quiet : (es : List EventBody) → filter_map output (map Event es) ≡ [] → Quiet (map Event es)
 silent_quiet [] is = tt
 silent_quiet (event.Initialized ∷ es) is = ((λ no. absurd no), silent_quiet es is)

@@ -14,7 +14,7 @@ use Rattle.dap_history.specs.Plain.{PlainReport, SliceOutcome}
 use Rattle.dap_history.specs.Lawful.{IsLawful}
 use Rattle.dap_history.specs.Plain as slice
 use Rattle.dap_history.specs.declared.launch.Launch.{Launch}
-use Rattle.dap_history.specs.History.{Item, Content, Loaded, Accepted, Fault, InputEnd, ReadFailure, MemoryFailure, Step, History, Effect, behind, messages, messages_of}
+use Rattle.dap_history.specs.History.{Item, Content, Loaded, Accepted, Fault, InputEnd, ReadFailure, MemoryFailure, Step, History, Effect, with_answer, messages, messages_of}
 use Rattle.dap_history.specs.Readings.{situation, waiting_pause}
 use Rattle.dap_msg.specs.declared.outgoing.StopReason.TheVariants as stop
 use Rattle.dap_history.specs.Replies.{Reply, stops, ends, stop_of, exception_of}
@@ -22,13 +22,13 @@ use Rattle.dap_history.specs.Launching.{Launches}
 use Rattle.dap_history.specs.Reports.{held, report_effect}
 use Rattle.dap_history.specs.Emission.{HasEffect, Causes}
 use Rattle.dap_history.proofs.Texts.{OneProgram}
-use Rattle.dap_history.specs.Laws.{output, numbers, StopsStandBehind}
+use Rattle.dap_history.specs.Laws.{output, numbers, StopsFollowNumbers}
 use Rattle.dap_history.proofs.Readings.{messages_of-snoc}
 use Rattle.dap_history.proofs.Along.{lawful_reports, along}
 use Rattle.dap_history.proofs.Silent.{all_silent}
-use Rattle.dap_history.proofs.Told.{Told, told_first, told_kept, told_more}
+use Rattle.dap_history.proofs.Progress.{Progress, progress_first, progress_kept, progress_more}
 use Rattle.dap_history.proofs.Each.{EachTaken, each_kept, each_first}
-use Rattle.dap_history.proofs.Behind.{Quiet, all_before, silent_quiet, outputs_quiet}
+use Rattle.dap_history.proofs.AfterStops.{Quiet, all_before, silent_quiet, outputs_quiet}
 
 outputs_alone : (vs : List ℤ) → Quiet (map Event (map event.Output vs))
 outputs_alone [] = tt
@@ -49,12 +49,12 @@ report_quiet past r slice.NoMemory = tt
 
 unanswered_quiet : (step : Step) (effect : Effect) → HasEffect effect step → Quiet (map Event effect.events) → Quiet (messages step)
 unanswered_quiet step effect has quiet =
-    subst (λ a. Quiet (behind a (map Event step.effect.events))) (sym has.answer_is)
+    subst (λ a. Quiet (with_answer a (map Event step.effect.events))) (sym has.answer_is)
     (subst (λ (e : Effect). Quiet (map Event e.events)) (sym has.effect_is) quiet)
 
 answered_quiet : (seq : ℕ) (command : CommandName) (result : Result Body Refusal) (step : Step) (effect : Effect) → step.answer ≡ Some (Answer seq command result) → step.effect ≡ effect → Quiet (map Event effect.events) → Quiet (messages step)
 answered_quiet seq command result step effect answer is quiet =
-    subst (λ a. Quiet (behind a (map Event step.effect.events))) (sym answer)
+    subst (λ a. Quiet (with_answer a (map Event step.effect.events))) (sym answer)
     ((λ no. absurd no), subst (λ (e : Effect). Quiet (map Event e.events)) (sym is) quiet)
 
 launch_quiet : (launch : Launch) (file : Option (List ℕ)) (reply : Reply) → Launches launch.arguments file reply → Quiet (map Event reply.effect.events)
@@ -66,7 +66,7 @@ step_quiet : (past : History) (item : Item) (step : Step) → Causes past item s
 step_quiet past (Content None) step is = unanswered_quiet step _ is tt
 step_quiet past (Content (Some request)) step is =
     answered_quiet _ _ _ step is.0.effect is.2.answer_is is.2.effect_is
-    (silent_quiet is.0.effect.events (all_silent (situation past) past request.body is.0 is.1).tells_none)
+    (silent_quiet is.0.effect.events (all_silent (situation past) past request.body is.0 is.1).no_numbers)
 step_quiet past (Loaded launch file) step is = answered_quiet _ _ _ step is.0.effect is.2.answer_is is.2.effect_is (launch_quiet launch file is.0 is.1)
 step_quiet past (Accepted r) step is = unanswered_quiet step _ is (report_quiet past r r.outcome)
 step_quiet past (Fault k) step is = unanswered_quiet step _ is tt
@@ -74,12 +74,12 @@ step_quiet past InputEnd step is = unanswered_quiet step _ is tt
 step_quiet past ReadFailure step is = unanswered_quiet step _ is tt
 step_quiet past MemoryFailure step is = unanswered_quiet step _ is tt
 
-pub stops_stand_behind : OneProgram → WrittenJoins → StopsStandBehind
-stops_stand_behind one joins events past rest lawful history front step more past_is l is before reason after split =
-    let all = along IsLawful (EachTaken IsLawful Told) (each_kept IsLawful Told (told_kept one joins)) (each_first IsLawful Told (told_first one joins)) events past rest (lawful_reports events lawful) history in
+pub stops_follow : OneProgram → WrittenJoins → StopsFollowNumbers
+stops_follow one joins events past rest lawful history front step more past_is l is before reason after split =
+    let all = along IsLawful (EachTaken IsLawful Progress) (each_kept IsLawful Progress (progress_kept one joins)) (each_first IsLawful Progress (progress_first one joins)) events past rest (lawful_reports events lawful) history in
     let was = all.each front step more past_is in
-    let told = told_more one joins front step.item step refl was.taken was.causes was.held in
-    let wrote = (told.tells (Some l) is).0 in
+    let so_far = progress_more one joins front step.item step refl was.taken was.causes was.held in
+    let wrote = (so_far.progress (Some l) is).0 in
     filter_map-append output (messages_of front) before
     ∙ ap (λ n. numbers (messages_of front) ++ n) (all_before (messages step) before reason after (step_quiet front step.item step was.causes) split)
     ∙ sym (filter_map-append output (messages_of front) (messages step))
