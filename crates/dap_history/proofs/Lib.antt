@@ -20,3 +20,4 @@ pub mod Texts
 pub mod OneReply
 
 
+pub mod Contents

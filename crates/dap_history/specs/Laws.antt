@@ -1,7 +1,10 @@
 -- Laws of what a session sends, said without the rules of the commands and reports. `Stops` has the one on stops.
 use Rattle.std.specs.Prelude.{◌≡◌, ◌++◌, ◌∷◌, [], ℕ, ◌+◌, ℤ, List, map, Option, None, Some, option_map, slice_get, Ok}
 use Rattle.std.specs.List.{filter_map}
-use Rattle.dap_frame.specs.Frame.{frame_of}
+use Rattle.dap_frame.specs.Frame.{Frames, frame_of}
+use Rattle.dap_msg.specs.declared.request.Request.{Request}
+use Rattle.dap_msg.specs.Request.{IsRequestOf}
+use Rattle.dap_history.specs.declared.launch.Launch.{Launch}
 use Rattle.dap_msg.specs.Commands.{name_of}
 use Rattle.dap_msg.specs.declared.command.Command.TheVariants as command
 use Rattle.dap_msg.specs.declared.command.CommandName.{CommandName}
@@ -16,7 +19,7 @@ use Rattle.dap_msg.specs.Outgoing.{text_of}
 use Rattle.pl0_meaning.specs.Runs.{written}
 use Rattle.dap_history.specs.History.{Launched, Item, Content, Loaded, Accepted, Fault, InputEnd, ReadFailure, MemoryFailure, Step, History, messages, messages_of}
 use Rattle.dap_history.specs.Readings.{launched, position}
-use Rattle.dap_history.specs.Events.{Incoming, Rest, AreLawful, IsHistoryOf}
+use Rattle.dap_history.specs.Events.{Incoming, Piece, Rest, AreLawful, IsHistoryOf}
 use Rattle.dap_history.specs.Output.{frames_from}
 
 -- ---- One history
@@ -26,6 +29,44 @@ abbrev pub HistoryIsOne : Type 0
 HistoryIsOne =
     (events : List Incoming) (past other : History) (rest left : Rest) → IsHistoryOf events past rest → IsHistoryOf events other left
     → (past ≡ other) × (rest ≡ left)
+
+-- ---- Contents of the stream
+
+-- the pieces that came, joined
+abbrev pub stream_of : List Incoming → List ℕ
+stream_of [] = []
+stream_of (Piece piece ∷ events) = piece ++ stream_of events
+stream_of (e ∷ events) = stream_of events
+
+-- the request that a launch was
+abbrev pub launch_request : Launch → Request
+launch_request launch = record { seq = launch.seq; body = command.Launch launch.arguments }
+
+-- what the item's content is read as, if it is one of a content
+abbrev pub read_as : Item → Option (Option Request)
+read_as (Content request) = Some request
+read_as (Loaded launch file) = Some (Some (launch_request launch))
+read_as _ = None
+
+abbrev pub waiting : Option Launch → List (Option Request)
+waiting None = []
+waiting (Some launch) = Some (launch_request launch) ∷ []
+
+-- what the contents taken so far are read as, and that of a launch that waits
+abbrev pub contents_read : History → Option Launch → List (Option Request)
+contents_read past launch = filter_map read_as (map (λ (step : Step). step.item) past) ++ waiting launch
+
+-- each content is read so
+abbrev pub AreRead : List (List ℕ) → List (Option Request) → Type 0
+AreRead [] [] = Unit {0}
+AreRead (content ∷ contents) (request ∷ requests) = IsRequestOf content request × AreRead contents requests
+AreRead _ _ = ⊥
+
+-- However the stream was cut into pieces, the contents taken are, in order, those of its frames.
+abbrev pub ContentsAreOfTheStream : Type 0
+ContentsAreOfTheStream =
+    (events : List Incoming) (past : History) (rest : Rest) → IsHistoryOf events past rest
+    → (contents : List (List ℕ)) × Frames (stream_of events) contents rest.bytes × AreRead contents (contents_read past rest.launch)
 
 -- ---- Answered once
 

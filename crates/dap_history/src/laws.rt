@@ -1,4 +1,4 @@
-ghost use Rattle.dap_history.specs.Laws.{HistoryIsOne, EachIsAnsweredOnce, SeqCountFromOne, DisconnectIsLast, NumbersAreWritten, StopsFollowNumbers};
+ghost use Rattle.dap_history.specs.Laws.{HistoryIsOne, ContentsAreOfTheStream, EachIsAnsweredOnce, SeqCountFromOne, DisconnectIsLast, NumbersAreWritten, StopsFollowNumbers};
 ghost use Rattle.dap_history.specs.Stops.{EachStopIsRight, QuestionsAreAnsweredThere};
 
 use dap_frame::frame_laws;
@@ -9,10 +9,11 @@ use pl0_syntax::{editor_laws, text_laws};
 /// What holds of all that a session sends, whatever events come. It does nothing: its contract is the laws.
 pub fn history_laws()
     ensures one { HistoryIsOne }
-    ensures answers { EachIsAnsweredOnce }
-    ensures numbers { SeqCountFromOne }
+    ensures contents { ContentsAreOfTheStream }
+    ensures answered { EachIsAnsweredOnce }
+    ensures numbered { SeqCountFromOne }
     ensures outputs { NumbersAreWritten }
-    ensures behind { StopsFollowNumbers }
+    ensures order { StopsFollowNumbers }
     ensures stops { EachStopIsRight }
     ensures questions { QuestionsAreAnsweredThere }
     ensures last { DisconnectIsLast }

@@ -1,5 +1,6 @@
 use Rattle.std.proofs.Common.{[]}
 use Rattle.dap_history.specs.Events.{only_bytes}
+use Rattle.dap_history.proofs.Contents.{contents_of_stream}
 use Rattle.dap_history.proofs.Answered.{each_answered}
 use Rattle.dap_history.proofs.Last.{disconnect_last}
 use Rattle.dap_history.proofs.Numbered.{numbers_count}
@@ -28,17 +29,17 @@ returns-clause-one c = λ events past other rest left history there.
       });
     }) [] (only_bytes []) events past other rest left history there
 
-pub returns-clause-answers : goal.returns-clause-answers
-returns-clause-answers c = each_answered
+pub returns-clause-answered : goal.returns-clause-answered
+returns-clause-answered c = each_answered
 
-pub returns-clause-numbers : goal.returns-clause-numbers
-returns-clause-numbers c = numbers_count
+pub returns-clause-numbered : goal.returns-clause-numbered
+returns-clause-numbered c = numbers_count
 
 pub returns-clause-outputs : goal.returns-clause-outputs
 returns-clause-outputs c = numbers_written (one_program c.text_laws.ensures.program) c.meaning_laws.ensures.joins
 
-pub returns-clause-behind : goal.returns-clause-behind
-returns-clause-behind c = stops_follow (one_program c.text_laws.ensures.program) c.meaning_laws.ensures.joins
+pub returns-clause-order : goal.returns-clause-order
+returns-clause-order c = stops_follow (one_program c.text_laws.ensures.program) c.meaning_laws.ensures.joins
 
 pub returns-clause-stops : goal.returns-clause-stops
 returns-clause-stops c = each_stop_right (one_program c.text_laws.ensures.program) c.meaning_laws.ensures.joins
@@ -48,3 +49,6 @@ returns-clause-questions c = questions_answered
 
 pub returns-clause-last : goal.returns-clause-last
 returns-clause-last c = disconnect_last
+
+pub returns-clause-contents : goal.returns-clause-contents
+returns-clause-contents c = contents_of_stream c.frame_laws.ensures.join
