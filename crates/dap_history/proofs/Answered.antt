@@ -1,0 +1,62 @@
+-- Each request is answered once.
+use Rattle.std.proofs.Common.{◌≡◌, ℕ, List, [], ◌∷◌, ◌++◌, Option, None, Some, refl, sym, ◌∙◌, ap, subst, append-nil}
+use Rattle.std.specs.Prelude.{map}
+use Rattle.std.specs.List.{filter_map}
+use Rattle.std.proofs.lemmas.List.{map-append}
+use Rattle.std.proofs.lemmas.List.Elements.{filter_map-append}
+use Rattle.dap_msg.specs.declared.command.CommandName.{CommandName}
+use Rattle.dap_msg.specs.declared.outgoing.Outgoing.{Outgoing}
+use Rattle.dap_msg.specs.declared.outgoing.Outgoing.TheVariants.{Answer, Event}
+use Rattle.dap_msg.specs.declared.outgoing.EventBody.{EventBody}
+use Rattle.dap_history.specs.History.{Item, Content, Loaded, Accepted, Fault, InputEnd, ReadFailure, MemoryFailure, Step, History, with_answer, messages, messages_of}
+use Rattle.dap_history.specs.Replies.{Reply}
+use Rattle.dap_history.specs.Emission.{Answers, HasEffect, Causes, IsAfter}
+use Rattle.dap_history.specs.Laws.{answered, asked, EachIsAnsweredOnce}
+use Rattle.dap_history.proofs.Readings.{messages_of-snoc}
+use Rattle.dap_history.proofs.Along.{IsKept, any_reports, along}
+
+abbrev Once : History → Type 0
+Once past = filter_map answered (messages_of past) ≡ filter_map asked (map (λ (step : Step). step.item) past)
+
+-- events answer nothing
+events_answer_nothing : (events : List EventBody) → filter_map answered (map Event events) ≡ []
+events_answer_nothing [] = refl
+events_answer_nothing (e ∷ events) = events_answer_nothing events
+
+answers_once : (seq : ℕ) (command : CommandName) (reply : Reply) (step : Step) → Answers seq command reply step → filter_map answered (messages step) ≡ (seq, command) ∷ []
+answers_once seq command reply step is =
+    ap (λ a. filter_map answered (with_answer a (map Event step.effect.events))) is.answer_is
+    ∙ ap (λ l. (seq, command) ∷ l) (events_answer_nothing step.effect.events)
+
+answers_never : (step : Step) → step.answer ≡ None → filter_map answered (messages step) ≡ []
+answers_never step is =
+    ap (λ a. filter_map answered (with_answer a (map Event step.effect.events))) is ∙ events_answer_nothing step.effect.events
+
+-- an item has one answer if it asks, and else none
+once_here : (past : History) (item : Item) (step : Step) → Causes past item step → filter_map answered (messages step) ≡ filter_map asked (item ∷ [])
+once_here past (Content None) step is = answers_never step is.answer_is
+once_here past (Content (Some request)) step is = answers_once _ _ is.0 step is.2
+once_here past (Loaded launch file) step is = answers_once _ _ is.0 step is.2
+once_here past (Accepted r) step is = answers_never step is.answer_is
+once_here past (Fault k) step is = answers_never step is.answer_is
+once_here past InputEnd step is = answers_never step is.answer_is
+once_here past ReadFailure step is = answers_never step is.answer_is
+once_here past MemoryFailure step is = answers_never step is.answer_is
+
+once_more : (past : History) (item : Item) (step : Step) → step.item ≡ item → Causes past item step → Once past → Once (past ++ step ∷ [])
+once_more past item step item_is causes here =
+    ap (filter_map answered) (messages_of-snoc past step)
+    ∙ filter_map-append answered (messages_of past) (messages step)
+    ∙ ap (λ l. l ++ filter_map answered (messages step)) here
+    ∙ ap (λ l. filter_map asked (map (λ (s : Step). s.item) past) ++ l) (once_here past item step causes ∙ ap (λ i. filter_map asked (i ∷ [])) (sym item_is))
+    ∙ sym (filter_map-append asked (map (λ (s : Step). s.item) past) (step.item ∷ []))
+    ∙ ap (filter_map asked) (sym (map-append (λ (s : Step). s.item) past (step ∷ [])))
+
+once_kept : IsKept (λ r. Unit {0}) Once
+once_kept = record {
+  step = λ past item new taking taken after here.
+      subst Once (sym after.new_is) (once_more past item after.step after.item_is after.causes here);
+}
+
+pub each_answered : EachIsAnsweredOnce
+each_answered events past rest history = along (λ r. Unit {0}) Once once_kept refl events past rest (any_reports events) history

@@ -1,0 +1,71 @@
+-- Each step of a history was caused by its item, after the steps before it.
+use Rattle.std.proofs.Common.{◌≡◌, ◌⊎◌, inl, inr, ℕ, List, [], ◌∷◌, ◌++◌, refl, sym, ◌∙◌, ap, subst}
+use Rattle.dap_history.specs.Plain.{PlainReport}
+use Rattle.dap_history.specs.History.{Item, Step, History}
+use Rattle.dap_history.specs.Emission.{Causes, IsAfter}
+use Rattle.dap_history.specs.Events.{IsTaking}
+use Rattle.dap_history.proofs.Along.{IsTaken, IsKept}
+
+abbrev head_of : (xs : History) (first : Step) → Step
+head_of [] first = first
+head_of (x ∷ xs) first = x
+
+abbrev tail_of : History → History
+tail_of [] = []
+tail_of (x ∷ xs) = xs
+
+-- a list with one more element splits before that element, or at it
+pub splits : (past : History) (s : Step) (front : History) (step : Step) (more : History) → past ++ s ∷ [] ≡ front ++ step ∷ more
+    → ((past ≡ front) × (s ≡ step) × (more ≡ [])) ⊎ ((rest : History) × (past ≡ front ++ step ∷ rest))
+splits [] s [] step more is = inl (refl, ap (λ xs. head_of xs s) is, sym (ap tail_of is))
+splits [] s (x ∷ front) step more is = absurd (none front (ap tail_of is))
+  where
+    none : (front : History) → ¬ ([] ≡ front ++ step ∷ more)
+    none [] e = absurd cc
+    none (y ∷ ys) e = absurd cc
+splits (p ∷ past) s [] step more is = inr (past, ap (λ x. x ∷ past) (ap (λ xs. head_of xs s) is))
+splits (p ∷ past) s (x ∷ front) step more is = onward (splits past s front step more (ap tail_of is))
+  where
+    same : p ≡ x
+    same = ap (λ xs. head_of xs s) is
+
+    onward : (((past ≡ front) × (s ≡ step) × (more ≡ [])) ⊎ ((rest : History) × (past ≡ front ++ step ∷ rest)))
+        → ((p ∷ past ≡ x ∷ front) × (s ≡ step) × (more ≡ [])) ⊎ ((rest : History) × (p ∷ past ≡ (x ∷ front) ++ step ∷ rest))
+    onward (inl e) = inl (ap (λ y. y ∷ past) same ∙ ap (λ ys. x ∷ ys) e.0, e.1, e.2)
+    onward (inr e) = inr (e.0, ap (λ y. y ∷ past) same ∙ ap (λ ys. x ∷ ys) e.1)
+
+-- the step was taken after these
+pub record WasTaken (Q : PlainReport → Type 0) (P : History → Type 0) (front : History) (step : Step) : Type 0 where
+  pub held : P front
+  pub taken : IsTaken Q front step.item
+  pub causes : Causes front step.item step
+
+pub record EachTaken (Q : PlainReport → Type 0) (P : History → Type 0) (past : History) : Type 0 where
+  pub now : P past
+  pub each : (front : History) (step : Step) (more : History) → past ≡ front ++ step ∷ more → WasTaken Q P front step
+
+-- What is kept is so of each step of a history too.
+pub each_kept : (Q : PlainReport → Type 0) (P : History → Type 0) → IsKept Q P → IsKept Q (EachTaken Q P)
+each_kept Q P kept = record {
+  step = λ past item new taking taken after here. record {
+    now = kept.step past item new taking taken after here.now;
+    each = λ front step more is. one_of past item new taken after here front step more (splits past after.step front step more (sym after.new_is ∙ is));
+  };
+}
+  where
+    one_of : (past : History) (item : Item) (new : History) → IsTaken Q past item → (after : IsAfter past item new) → EachTaken Q P past → (front : History) (step : Step) (more : History)
+        → (((past ≡ front) × (after.step ≡ step) × (more ≡ [])) ⊎ ((rest : History) × (past ≡ front ++ step ∷ rest))) → WasTaken Q P front step
+    one_of past item new taken after here front step more (inr e) = here.each front step e.0 e.1
+    one_of past item new taken after here front step more (inl e) =
+        subst (λ f. WasTaken Q P f step) e.0 (subst (λ s. WasTaken Q P past s) e.1 (record {
+          held = here.now;
+          taken = subst (IsTaken Q past) (sym after.item_is) taken;
+          causes = subst (λ i. Causes past i after.step) (sym after.item_is) after.causes;
+        }))
+
+pub none_first : (front : History) (step : Step) (more : History) → ¬ ([] ≡ front ++ step ∷ more)
+none_first [] step more e = absurd cc
+none_first (x ∷ xs) step more e = absurd cc
+
+pub each_first : (Q : PlainReport → Type 0) (P : History → Type 0) → P [] → EachTaken Q P []
+each_first Q P first = record { now = first; each = λ front step more is. absurd (none_first front step more is) }

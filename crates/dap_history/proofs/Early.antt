@@ -1,0 +1,122 @@
+-- In Fresh and Ready nothing is launched: only the first `initialize` leads to Ready.
+use Rattle.std.proofs.Common.{◌≡◌, ◌⊎◌, inl, inr, ℕ, List, [], ◌∷◌, Option, None, Some, Ok, Err, refl, sym, ◌∙◌, ap, subst}
+use Rattle.std.specs.Prelude.{map, unwrap_or, Result}
+use Rattle.dap_msg.specs.Commands.{name_of}
+use Rattle.dap_msg.specs.declared.command.Command.{Command}
+use Rattle.dap_msg.specs.declared.command.Command.TheVariants as command
+use Rattle.dap_msg.specs.declared.command.CommandName.{CommandName}
+use Rattle.dap_msg.specs.declared.command.CommandName.TheVariants as name
+use Rattle.dap_msg.specs.declared.command.Supported.TheVariants as supported
+use Rattle.dap_msg.specs.declared.outgoing.Body.{Body}
+use Rattle.dap_msg.specs.declared.outgoing.Refusal.{Refusal}
+use Rattle.dap_msg.specs.declared.outgoing.Outgoing.{Outgoing}
+use Rattle.dap_msg.specs.declared.outgoing.Outgoing.TheVariants.{Answer, Event}
+use Rattle.dap_msg.specs.declared.outgoing.EventBody.{EventBody}
+use Rattle.dap_msg.specs.declared.outgoing.EventBody.TheVariants as event
+use Rattle.dap_msg.specs.declared.outgoing.StopReason.{StopReason}
+use Rattle.dap_msg.specs.declared.outgoing.StopReason.TheVariants as reason
+use Rattle.dap_history.specs.declared.situation.Situation.{Situation}
+use Rattle.dap_history.specs.declared.situation.Situation.TheVariants.{Fresh, Ready, Configuring, Running, Stopped, Faulted, Ended}
+use Rattle.dap_history.specs.Last.{or_else, last_such}
+use Rattle.dap_history.specs.Plain.{PlainOrder, Go, Hold, Quit}
+use Rattle.dap_history.specs.History.{Step, History, with_answer, messages}
+use Rattle.dap_history.specs.Readings.{command_mark, answer_mark, stop_mark, event_mark, message_mark, order_mark, step_mark, situation}
+use Rattle.dap_history.specs.Replies.{Reply}
+use Rattle.dap_history.specs.Launching.{initialize_in}
+use Rattle.dap_history.specs.Emission.{RepliesIn, Answers}
+
+abbrev pub IsEarly : Situation → Type 0
+IsEarly Fresh = Unit {0}
+IsEarly Ready = Unit {0}
+IsEarly _ = ⊥
+
+abbrev pub IsEarlyMark : Option Situation → Type 0
+IsEarlyMark None = ⊥
+IsEarlyMark (Some s) = IsEarly s
+
+early_else : (a b : Option Situation) → IsEarlyMark (or_else a b) → IsEarlyMark a ⊎ IsEarlyMark b
+early_else None b is = inr is
+early_else (Some s) b is = inl is
+
+-- of two marks, neither early
+neither : (a b : Option Situation) → ¬ IsEarlyMark a → ¬ IsEarlyMark b → ¬ IsEarlyMark (or_else a b)
+neither None b not_a not_b is = not_b is
+neither (Some s) b not_a not_b is = not_a is
+
+order_late : (o : PlainOrder) → ¬ IsEarlyMark (order_mark o)
+order_late (Go run) is = is
+order_late (Hold run) is = is
+order_late Quit is = is
+
+orders_late : (os : List PlainOrder) → ¬ IsEarlyMark (last_such order_mark os)
+orders_late [] is = is
+orders_late (o ∷ os) is = neither (last_such order_mark os) (order_mark o) (orders_late os) (order_late o) is
+
+event_late : (e : EventBody) → ¬ IsEarlyMark (event_mark e)
+event_late event.Initialized is = is
+event_late (event.Stopped reason.Breakpoint) is = is
+event_late (event.Stopped reason.Step) is = is
+event_late (event.Stopped reason.Entry) is = is
+event_late (event.Stopped reason.Pause) is = is
+event_late (event.Stopped (reason.Exception x)) is = is
+event_late (event.Output v) is = is
+event_late (event.Exited code) is = is
+event_late event.Terminated is = is
+
+events_late : (es : List EventBody) → ¬ IsEarlyMark (last_such message_mark (map Event es))
+events_late [] is = is
+events_late (e ∷ es) is = neither (last_such message_mark (map Event es)) (event_mark e) (events_late es) (event_late e) is
+
+-- a step without an answer leads to neither
+pub unanswered_late : (step : Step) → step.answer ≡ None → ¬ IsEarlyMark (step_mark step)
+unanswered_late step none is =
+    neither (last_such order_mark step.effect.orders) (last_such message_mark (map Event step.effect.events))
+    (orders_late step.effect.orders) (events_late step.effect.events)
+    (subst (λ a. IsEarlyMark (or_else (last_such order_mark step.effect.orders) (last_such message_mark (with_answer a (map Event step.effect.events))))) none is)
+
+-- nor one whose answer doesn't
+pub answered_late : (seq : ℕ) (command : CommandName) (reply : Reply) (step : Step) → Answers seq command reply step → ¬ IsEarlyMark (answer_mark command reply.result) → ¬ IsEarlyMark (step_mark step)
+answered_late seq command reply step answers not is =
+    neither (last_such order_mark step.effect.orders) (or_else (last_such message_mark (map Event step.effect.events)) (answer_mark command reply.result))
+    (orders_late step.effect.orders)
+    (neither (last_such message_mark (map Event step.effect.events)) (answer_mark command reply.result) (events_late step.effect.events) not)
+    (subst (λ a. IsEarlyMark (or_else (last_such order_mark step.effect.orders) (last_such message_mark (with_answer a (map Event step.effect.events))))) answers.answer_is is)
+
+pub result_late : (command : CommandName) → ¬ IsEarlyMark (command_mark command) → (result : Result Body Refusal) → ¬ IsEarlyMark (answer_mark command result)
+result_late command not (Ok b) is = not is
+result_late command not (Err r) is = is
+
+initialize_late : (s : Situation) → IsEarlyMark (answer_mark (name.Supported supported.Initialize) (initialize_in s).result) → s ≡ Fresh
+initialize_late Fresh is = refl
+initialize_late Ready is = absurd is
+initialize_late Configuring is = absurd is
+initialize_late Running is = absurd is
+initialize_late Stopped is = absurd is
+initialize_late Faulted is = absurd is
+initialize_late Ended is = absurd is
+
+-- an answer that leads to Ready is given in Fresh
+pub early_reply : (s : Situation) (past : History) (asked : Command) (reply : Reply) → RepliesIn s past asked reply → IsEarlyMark (answer_mark (name_of asked) reply.result) → s ≡ Fresh
+early_reply s past (command.Initialize a) reply is early =
+    initialize_late s (subst (λ (r : Reply). IsEarlyMark (answer_mark (name.Supported supported.Initialize) r.result)) is early)
+early_reply s past (command.Launch a) reply is early = absurd (result_late (name.Supported supported.Launch) (λ x. x) reply.result early)
+early_reply s past (command.SetBreakpoints a) reply is early = absurd (result_late (name.Supported supported.SetBreakpoints) (λ x. x) reply.result early)
+early_reply s past command.ConfigurationDone reply is early = absurd (result_late (name.Supported supported.ConfigurationDone) (λ x. x) reply.result early)
+early_reply s past command.Threads reply is early = absurd (result_late (name.Supported supported.Threads) (λ x. x) reply.result early)
+early_reply s past (command.Continue a) reply is early = absurd (result_late (name.Supported supported.Continue) (λ x. x) reply.result early)
+early_reply s past (command.Next a) reply is early = absurd (result_late (name.Supported supported.Next) (λ x. x) reply.result early)
+early_reply s past (command.StepIn a) reply is early = absurd (result_late (name.Supported supported.StepIn) (λ x. x) reply.result early)
+early_reply s past (command.StepOut a) reply is early = absurd (result_late (name.Supported supported.StepOut) (λ x. x) reply.result early)
+early_reply s past (command.Pause a) reply is early = absurd (result_late (name.Supported supported.Pause) (λ x. x) reply.result early)
+early_reply s past (command.StackTrace a) reply is early = absurd (result_late (name.Supported supported.StackTrace) (λ x. x) reply.result early)
+early_reply s past (command.Scopes a) reply is early = absurd (result_late (name.Supported supported.Scopes) (λ x. x) reply.result early)
+early_reply s past (command.Variables a) reply is early = absurd (result_late (name.Supported supported.Variables) (λ x. x) reply.result early)
+early_reply s past (command.Evaluate a) reply is early = absurd (result_late (name.Supported supported.Evaluate) (λ x. x) reply.result early)
+early_reply s past command.Disconnect reply is early = absurd (result_late (name.Supported supported.Disconnect) (λ x. x) reply.result early)
+early_reply s past (command.Unsupported text) reply is early = absurd (result_late (name.Unsupported text) (λ x. x) reply.result early)
+early_reply s past (command.BadArguments k) reply is early =
+    absurd (subst (λ (r : Reply). IsEarlyMark (answer_mark (name.Supported k) r.result)) is early)
+
+pub early_unwrap : (o : Option Situation) (s : Situation) → IsEarly (unwrap_or o s) → IsEarlyMark o ⊎ ((o ≡ None) × IsEarly s)
+early_unwrap None s is = inr (refl, is)
+early_unwrap (Some t) s is = inl is

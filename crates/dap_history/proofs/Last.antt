@@ -1,0 +1,73 @@
+-- A `disconnect` that is taken is the last item, and its answer the last message.
+use Rattle.std.proofs.Common.{◌≡◌, ◌⊎◌, inl, inr, ℕ, List, [], ◌∷◌, ◌++◌, Option, None, Some, Ok, refl, sym, ◌∙◌, ap, subst}
+use Rattle.std.specs.Prelude.{map}
+use Rattle.dap_msg.specs.declared.command.Command.TheVariants as command
+use Rattle.dap_msg.specs.declared.command.CommandName.TheVariants as name
+use Rattle.dap_msg.specs.declared.command.Supported.TheVariants.{Disconnect}
+use Rattle.dap_msg.specs.declared.outgoing.Outgoing.TheVariants.{Answer, Event}
+use Rattle.dap_msg.specs.declared.outgoing.Body.TheVariants as body
+use Rattle.dap_history.specs.Plain.{PlainReport}
+use Rattle.dap_history.specs.declared.ending.Ending.{Ending}
+use Rattle.dap_history.specs.Last.{or_else, last_such}
+use Rattle.dap_history.specs.History.{Item, Content, Step, History, with_answer, messages, messages_of}
+use Rattle.dap_history.specs.Readings.{closing, ending_of}
+use Rattle.dap_history.specs.Replies.{Reply}
+use Rattle.dap_history.specs.Emission.{Causes, IsAfter}
+use Rattle.dap_history.specs.Events.{IsTaking}
+use Rattle.dap_history.specs.Laws.{DisconnectIsLast}
+use Rattle.dap_history.proofs.Readings.{last_such-append, messages_of-snoc}
+use Rattle.dap_history.proofs.Along.{IsTaken, IsKept, any_reports, along}
+use Rattle.dap_history.proofs.Each.{splits, none_first, WasTaken, EachTaken, each_kept, each_first}
+use Rattle.dap_history.proofs.Passing.{none_left}
+
+-- no item follows one that closes
+pub record ClosesLast (past : History) : Type 0 where
+  pub last : (before : History) (step : Step) (after : History) (by : Ending) → past ≡ before ++ step ∷ after → closing step.item ≡ Some by → after ≡ []
+
+-- where an item closed, none is taken any more
+closed_there : (before : History) (step : Step) (after : History) (by : Ending) → closing step.item ≡ Some by → ¬ IsTaking (before ++ step ∷ after)
+closed_there before step after by closes taking =
+    let none = none_left (ending_of (step ∷ after)) (ending_of before) (sym (last_such-append (λ (s : Step). closing s.item) before (step ∷ after)) ∙ taking) in
+    let e = sym (none_left (ending_of after) (closing step.item) none.0).1 ∙ closes in
+    absurd cc
+
+closes_last_more : (past : History) (s : Step) → IsTaking past → ClosesLast past → ClosesLast (past ++ s ∷ [])
+closes_last_more past s taking here = record {
+  last = λ before step after by is closes. by_place before step after by closes (splits past s before step after is);
+}
+  where
+    by_place : (before : History) (step : Step) (after : History) (by : Ending) → closing step.item ≡ Some by
+        → ((past ≡ before) × (s ≡ step) × (after ≡ [])) ⊎ ((rest : History) × (past ≡ before ++ step ∷ rest)) → after ≡ []
+    by_place before step after by closes (inl is) = is.2
+    by_place before step after by closes (inr is) = absurd (closed_there before step is.0 by closes (subst IsTaking is.1 taking))
+
+closes_last_kept : (Q : PlainReport → Type 0) → IsKept Q ClosesLast
+closes_last_kept Q = record {
+  step = λ past item new taking taken after here. subst ClosesLast (sym after.new_is) (closes_last_more past after.step taking here);
+}
+
+closes_last_first : ClosesLast []
+closes_last_first = record { last = λ before step after by is closes. absurd (none_first before step after is) }
+
+-- the messages of a `disconnect`
+answers_it : (past : History) (step : Step) (seq : ℕ) → Causes past (Content (Some (record { seq = seq; body = command.Disconnect }))) step → messages step ≡ Answer seq (name.Supported Disconnect) (Ok body.None) ∷ []
+answers_it past step seq is =
+    ap (λ a. with_answer a (map Event step.effect.events)) is.2.answer_is
+    ∙ ap (λ e. Answer seq (name.Supported Disconnect) is.0.result ∷ map Event e.events) is.2.effect_is
+    ∙ ap (λ (r : Reply). Answer seq (name.Supported Disconnect) r.result ∷ map Event r.effect.events) is.1
+
+pub disconnect_last : DisconnectIsLast
+disconnect_last events past rest history before step after seq past_is item_is = (
+  ends,
+  ap messages_of (past_is ∙ ap (λ a. before ++ step ∷ a) ends) ∙ messages_of-snoc before step
+      ∙ ap (λ l. messages_of before ++ l) (answers_it before step seq (subst (λ i. Causes before i step) item_is was.causes)),
+)
+  where
+    each : EachTaken (λ r. Unit {0}) ClosesLast past
+    each = along (λ r. Unit {0}) (EachTaken (λ r. Unit {0}) ClosesLast) (each_kept (λ r. Unit {0}) ClosesLast (closes_last_kept (λ r. Unit {0}))) (each_first (λ r. Unit {0}) ClosesLast closes_last_first) events past rest (any_reports events) history
+
+    was : WasTaken (λ r. Unit {0}) ClosesLast before step
+    was = each.each before step after past_is
+
+    ends : after ≡ []
+    ends = each.now.last before step after _ past_is (ap closing item_is)

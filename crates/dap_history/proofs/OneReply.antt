@@ -1,0 +1,354 @@
+-- A command has one reply, a launch one, and so an item one step.
+use Rattle.std.proofs.Common.{◌≡◌, ◌≢◌, ◌⊎◌, inl, inr, ℕ, ◌+◌, ◌<◌, ◌≤◌, ◌^◌, zero, suc, Bool, true, false, ℤ, List, [], ◌∷◌, ◌++◌, get_or, Option, None, Some, Result, Ok, Err, refl, sym, ◌∙◌, ap, subst, arith}
+use Rattle.std.specs.Prelude.{string_bytes, map}
+use Rattle.std.specs.Fmt.{decimal}
+use Rattle.std.proofs.Math.Logic.{∥∥₁_elim}
+use Rattle.std.proofs.lemmas.Fmt.{decimal_injective, first_decimal}
+use Rattle.dap_msg.specs.Commands.{name_of}
+use Rattle.dap_msg.specs.declared.command.Command.{Command}
+use Rattle.dap_msg.specs.declared.command.Command.TheVariants as command
+use Rattle.dap_msg.specs.declared.command.CommandName.{CommandName}
+use Rattle.dap_msg.specs.declared.outgoing.Body.TheVariants as body
+use Rattle.dap_msg.specs.declared.outgoing.Outgoing.{Outgoing}
+use Rattle.dap_msg.specs.declared.outgoing.Outgoing.TheVariants.{Answer}
+use Rattle.dap_msg.specs.declared.requests.launch.LaunchArguments.{LaunchArguments}
+use Rattle.dap_msg.specs.declared.requests.set_breakpoints.SetBreakpointsArguments.{SetBreakpointsArguments}
+use Rattle.dap_msg.specs.declared.requests.set_breakpoints.SourceBreakpoint.{SourceBreakpoint}
+use Rattle.pl0_tree.specs.declared.tree.Place.{Place}
+use Rattle.pl0_tree.specs.declared.fault.FaultKind.{FaultKind}
+use Rattle.pl0_tree.specs.Tree.{Block, Condition, Expression}
+use Rattle.pl0_tree.specs.Scope.{Path}
+use Rattle.pl0_tree.specs.Steps.{step_path}
+use Rattle.pl0_tree.specs.Faults.{IsTreeOf, IsFirstFault, IsConditionOf, IsExpressionOf}
+use Rattle.pl0_syntax.specs.Laws.{AtMostOne, OneFault, FaultExcludesTrees}
+use Rattle.pl0_meaning.specs.declared.RunFault.{RunFault}
+use Rattle.pl0_meaning.specs.Values.{Frame, Configuration, value}
+use Rattle.pl0_meaning.specs.Runs.{at}
+use Rattle.dbg_plan.specs.declared.breakpoint.Rule.{Rule}
+use Rattle.dbg_plan.specs.declared.breakpoint.Rule.TheVariants.{From, Every}
+use Rattle.dbg_plan.specs.declared.evaluation.EvalFault.{EvalFault}
+use Rattle.dbg_plan.specs.declared.evaluation.EvalFault.TheVariants.{Overflow, DivideByZero}
+use Rattle.dbg_plan.specs.declared.resolving.SourceBreakpoint.{SourceBreakpoint as AskedLine}
+use Rattle.dbg_plan.specs.declared.resolving.Resolution.{Resolution}
+use Rattle.dbg_plan.specs.declared.resolving.Resolution.TheVariants.{At, NoStep, BadCondition, BadHitCondition}
+use Rattle.dbg_plan.specs.Resolutions.{step_from, ReadsRule, ReadsConditionAt, IsBreakpointOf, IsResolvedTo, AreResolved}
+use Rattle.dbg_plan.specs.Values.{told}
+use Rattle.dbg_plan.specs.Breakpoints.{Breakpoint, TextCondition}
+use Rattle.dap_history.specs.declared.situation.Situation.{Situation}
+use Rattle.dap_history.specs.declared.situation.Situation.TheVariants.{Fresh, Ready, Configuring, Running, Stopped, Faulted, Ended}
+use Rattle.dap_history.specs.declared.launch.Launch.{Launch}
+use Rattle.dap_history.specs.History.{Launched, Item, Content, Loaded, Accepted, Fault, InputEnd, ReadFailure, MemoryFailure, Step, History, Effect}
+use Rattle.dap_history.specs.Readings.{situation, launched, position}
+use Rattle.dap_history.specs.Replies.{Reply, refused, causing, OfProgram}
+use Rattle.dap_history.specs.Launching.{RefusesText, LaunchesText, Launches, launches, syntax}
+use Rattle.dap_history.specs.Breakpoints.{IsAskedAs, AreAskedAs, IsResolved, answer_of, effect_in, line_offset, Resolves, SetsOf, Sets, SetsIn, is_at}
+use Rattle.dap_history.specs.Running.{Pace, enters, ConfiguresIn, ResumesIn}
+use Rattle.dap_history.specs.Frames.{frame_by_id}
+use Rattle.dap_history.specs.Inspection.{Asked as Of, asked_of, result_reply, EvaluatesIn, HasResult, HasNoReading, RepliesFrom, RepliesAt, Inspects, InspectsIn}
+use Rattle.dap_history.specs.Emission.{RepliesIn, Answers, HasEffect, Causes, IsAfter}
+use Rattle.dap_history.proofs.Texts.{one_program}
+use Rattle.dap_history.proofs.Silent.{due_first, resuming}
+
+-- a text reads in one way, or has one first fault; so does an editor's
+pub record IsTextOnce : Type 0 where
+  pub one_tree : (text : List ℕ) → AtMostOne (IsTreeOf text)
+  pub one_fault : (text : List ℕ) → OneFault (IsFirstFault text)
+  pub not_both : FaultExcludesTrees
+  pub one_condition : (main : Block) (q : Path) (text : List ℕ) → AtMostOne (IsConditionOf main q text)
+  pub one_expression : (main : Block) (q : Path) (text : List ℕ) → AtMostOne (IsExpressionOf main q text)
+
+none_prop : (x y : ⊥) → x ≡ y
+none_prop x y = absurd x
+
+-- ---- rules
+
+rule_first : (k : ℕ) (rest : List ℕ) → 0 < k → k < 2 ^ 31 → ¬ (37 ∷ rest ≡ decimal k)
+rule_first k rest some fits is =
+    let first = first_decimal k some (omega (arith, fits)) in
+    let at = ap (λ t. get_or t 0 0) is in
+    omega (arith, first, at)
+
+same_number : (j k : ℕ) → j < 2 ^ 31 → k < 2 ^ 31 → decimal j ≡ decimal k → j ≡ k
+same_number j k low small is = decimal_injective j k (omega (arith, low)) (omega (arith, small)) is
+
+not_empty_decimal : (k : ℕ) → 0 < k → k < 2 ^ 31 → ¬ ([] ≡ decimal k)
+not_empty_decimal k some fits is =
+    let first = first_decimal k some (omega (arith, fits)) in
+    let at = ap (λ t. get_or t 0 0) is in
+    omega (arith, first, at)
+
+abbrev tail_of : List ℕ → List ℕ
+tail_of [] = []
+tail_of (x ∷ xs) = xs
+
+one_rule : (text : List ℕ) (a b : Option Rule) → ReadsRule text a → ReadsRule text b → a ≡ b
+one_rule text None None x y = refl
+one_rule text None (Some (From k)) x y = absurd (not_empty_decimal k y.1 y.2 (sym x ∙ y.0))
+one_rule text None (Some (Every k)) x y = absurd (let e = sym x ∙ y.0 in cc)
+one_rule text (Some (From k)) None x y = absurd (not_empty_decimal k x.1 x.2 (sym y ∙ x.0))
+one_rule text (Some (Every k)) None x y = absurd (let e = sym y ∙ x.0 in cc)
+one_rule text (Some (From j)) (Some (From k)) x y = ap (λ n. Some (From n)) (same_number j k x.2 y.2 (sym x.0 ∙ y.0))
+one_rule text (Some (From j)) (Some (Every k)) x y = absurd (rule_first j (decimal k) x.1 x.2 (sym y.0 ∙ x.0))
+one_rule text (Some (Every j)) (Some (From k)) x y = absurd (rule_first k (decimal j) y.1 y.2 (sym x.0 ∙ y.0))
+one_rule text (Some (Every j)) (Some (Every k)) x y = ap (λ n. Some (Every n)) (same_number j k x.2 y.2 (ap tail_of (sym x.0 ∙ y.0)))
+
+module _ (once : IsTextOnce) where
+  -- ---- breakpoints
+
+  one_text : (main : Block) (n : ℕ) (text : List ℕ) (a b : Option TextCondition) → ReadsConditionAt main n text a → ReadsConditionAt main n text b → a ≡ b
+  one_text main n text None None x y = refl
+  one_text main n text None (Some t) x y = absurd (y.0 x)
+  one_text main n text (Some t) None x y = absurd (x.0 y)
+  one_text main n text (Some t) (Some u) x y =
+      ap (λ s. Some (record { text = s; condition = t.condition })) (x.1 ∙ sym y.1)
+      ∙ ap (λ c. Some (record { text = u.text; condition = c })) (once.one_condition main (step_path main n) text t.condition u.condition x.2 y.2)
+
+  -- two lines with the same words
+  record SameLine (x y : AskedLine) : Type 0 where
+    line : x.line ≡ y.line
+    condition : string_bytes x.condition ≡ string_bytes y.condition
+    hit : string_bytes x.hit_condition ≡ string_bytes y.hit_condition
+
+  one_breakpoint : (main : Block) (x y : AskedLine) (n k : ℕ) (a b : Breakpoint) → SameLine x y → n ≡ k → IsBreakpointOf main x n a → IsBreakpointOf main y k b → a ≡ b
+  one_breakpoint main x y n k a b same at here there =
+      let condition : a.condition ≡ b.condition =
+      one_text main n (string_bytes x.condition) a.condition b.condition here.condition
+      (subst (λ t. ReadsConditionAt main n t b.condition) (sym same.condition) (subst (λ i. ReadsConditionAt main i (string_bytes y.condition) b.condition) (sym at) there.condition)) in
+      let rule : a.rule ≡ b.rule = one_rule (string_bytes x.hit_condition) a.rule b.rule here.rule (subst (λ t. ReadsRule t b.rule) (sym same.hit) there.rule) in
+      ap (λ s. record { step = s; condition = a.condition; rule = a.rule }) (here.step ∙ at ∙ sym there.step)
+      ∙ ap (λ c. record { step = b.step; condition = c; rule = a.rule }) condition
+      ∙ ap (λ r. record { step = b.step; condition = b.condition; rule = r }) rule
+
+  same_step_from : (main : Block) (x y : AskedLine) (n k : ℕ) → SameLine x y → step_from main x.line ≡ Some n → step_from main y.line ≡ Some k → n ≡ k
+  same_step_from main x y n k same here there = let e = sym here ∙ ap (step_from main) same.line ∙ there in cc
+
+  no_step_there : (main : Block) (x y : AskedLine) (k : ℕ) → SameLine x y → step_from main x.line ≡ None → ¬ (step_from main y.line ≡ Some k)
+  no_step_there main x y k same here there = let e = sym here ∙ ap (step_from main) same.line ∙ there in absurd cc
+
+  other_way : (x y : AskedLine) → SameLine x y → SameLine y x
+  other_way x y same = record { line = sym same.line; condition = sym same.condition; hit = sym same.hit }
+
+  -- what reads there reads here
+  condition_there : (main : Block) (x y : AskedLine) (n k : ℕ) → SameLine x y → step_from main x.line ≡ Some n → step_from main y.line ≡ Some k → (c : Option TextCondition)
+      → ReadsConditionAt main n (string_bytes x.condition) c → ReadsConditionAt main k (string_bytes y.condition) c
+  condition_there main x y n k same here there c reads =
+      subst (λ t. ReadsConditionAt main k t c) same.condition (subst (λ i. ReadsConditionAt main i (string_bytes x.condition) c) (same_step_from main x y n k same here there) reads)
+
+  abbrev SameAnswer : Resolution → List Breakpoint → Resolution → List Breakpoint → Type 0
+  SameAnswer a bs b cs = (a ≡ b) × (bs ≡ cs)
+
+  one_line : (main : Block) (x y : AskedLine) (a b : Resolution) (bs cs : List Breakpoint) → SameLine x y → IsResolvedTo main x a bs → IsResolvedTo main y b cs → SameAnswer a bs b cs
+  one_line main x y (At n) (At k) bs cs same here there =
+      let at = same_step_from main x y n k same here.0 there.0 in
+      (ap At at, here.1.1 ∙ ap (λ b. b ∷ []) (one_breakpoint main x y n k here.1.0 there.1.0 same at here.1.2 there.1.2) ∙ sym there.1.1)
+  one_line main x y (At n) NoStep bs cs same here there = absurd (no_step_there main y x n (other_way x y same) there.0 here.0)
+  one_line main x y (At n) BadCondition bs cs same here there =
+      absurd (there.1.2 (record { condition = here.1.0.condition; reads = condition_there main x y n there.1.0 same here.0 there.1.1 here.1.0.condition here.1.2.condition }))
+  one_line main x y (At n) BadHitCondition bs cs same here there =
+      absurd (there.1 (record { rule = here.1.0.rule; reads = subst (λ t. ReadsRule t here.1.0.rule) same.hit here.1.2.rule }))
+  one_line main x y NoStep (At k) bs cs same here there = absurd (no_step_there main x y k same here.0 there.0)
+  one_line main x y NoStep NoStep bs cs same here there = (refl, here.1 ∙ sym there.1)
+  one_line main x y NoStep BadCondition bs cs same here there = absurd (no_step_there main x y there.1.0 same here.0 there.1.1)
+  one_line main x y NoStep BadHitCondition bs cs same here there = absurd (no_step_there main x y there.2.0 same here.0 there.2.1)
+  one_line main x y BadCondition (At k) bs cs same here there =
+      absurd (here.1.2 (record { condition = there.1.0.condition; reads = condition_there main y x k here.1.0 (other_way x y same) there.0 here.1.1 there.1.0.condition there.1.2.condition }))
+  one_line main x y BadCondition NoStep bs cs same here there = absurd (no_step_there main y x here.1.0 (other_way x y same) there.0 here.1.1)
+  one_line main x y BadCondition BadCondition bs cs same here there = (refl, here.0 ∙ sym there.0)
+  one_line main x y BadCondition BadHitCondition bs cs same here there =
+      absurd (here.1.2 (record { condition = there.2.2.condition; reads = condition_there main y x there.2.0 here.1.0 (other_way x y same) there.2.1 here.1.1 there.2.2.condition there.2.2.reads }))
+  one_line main x y BadHitCondition (At k) bs cs same here there =
+      absurd (here.1 (record { rule = there.1.0.rule; reads = subst (λ t. ReadsRule t there.1.0.rule) (sym same.hit) there.1.2.rule }))
+  one_line main x y BadHitCondition NoStep bs cs same here there = absurd (no_step_there main y x here.2.0 (other_way x y same) there.0 here.2.1)
+  one_line main x y BadHitCondition BadCondition bs cs same here there =
+      absurd (there.1.2 (record { condition = here.2.2.condition; reads = condition_there main x y here.2.0 there.1.0 same here.2.1 there.1.1 here.2.2.condition here.2.2.reads }))
+  one_line main x y BadHitCondition BadHitCondition bs cs same here there = (refl, here.0 ∙ sym there.0)
+
+  same_line : (less : ℕ) (b : SourceBreakpoint) (x y : AskedLine) → IsAskedAs less b x → IsAskedAs less b y → SameLine x y
+  same_line less b x y here there = record { line = here.line ∙ sym there.line; condition = here.condition ∙ sym there.condition; hit = here.hit ∙ sym there.hit }
+
+  one_lines : (main : Block) (less : ℕ) (lines : List SourceBreakpoint) (xs ys : List AskedLine) (answers bs : List Resolution) (ps qs : List Breakpoint)
+      → AreAskedAs less lines xs → AreAskedAs less lines ys → AreResolved main xs answers ps → AreResolved main ys bs qs → (answers ≡ bs) × (ps ≡ qs)
+  one_lines main less [] [] [] [] [] ps qs x y here there = (refl, here ∙ sym there)
+  one_lines main less [] [] [] (a ∷ answers) bs ps qs x y here there = absurd here
+  one_lines main less [] [] [] [] (b ∷ bs) ps qs x y here there = absurd there
+  one_lines main less [] (u ∷ xs) ys answers bs ps qs x y here there = absurd x
+  one_lines main less [] [] (v ∷ ys) answers bs ps qs x y here there = absurd y
+  one_lines main less (l ∷ lines) [] ys answers bs ps qs x y here there = absurd x
+  one_lines main less (l ∷ lines) (u ∷ xs) [] answers bs ps qs x y here there = absurd y
+  one_lines main less (l ∷ lines) (u ∷ xs) (v ∷ ys) [] bs ps qs x y here there = absurd here
+  one_lines main less (l ∷ lines) (u ∷ xs) (v ∷ ys) (a ∷ answers) [] ps qs x y here there = absurd there
+  one_lines main less (l ∷ lines) (u ∷ xs) (v ∷ ys) (a ∷ answers) (b ∷ bs) ps qs x y here there =
+      let first = one_line main u v a b here.0 there.0 (same_line less l u v x.0 y.0) here.3 there.3 in
+      let rest = one_lines main less lines xs ys answers bs here.1 there.1 x.1 y.1 here.4 there.4 in (
+        ap (λ c. c ∷ answers) first.0 ∙ ap (λ cs. b ∷ cs) rest.0,
+        here.2 ∙ ap (λ m. m ++ here.1) first.1 ∙ ap (λ m. there.0 ++ m) rest.1 ∙ sym there.2,
+      )
+
+  one_resolves : (past : History) (l : Launched) (lines : List SourceBreakpoint) (r s : Reply) → Resolves past l lines r → Resolves past l lines s → r ≡ s
+  one_resolves past l lines r s a b =
+      let same = one_lines l.program (line_offset past) lines a.resolved.asked b.resolved.asked a.answers b.answers a.breakpoints b.breakpoints a.resolved.as_asked b.resolved.as_asked a.resolved.resolved b.resolved.resolved in
+      a.reply_is
+      ∙ ap (λ answers. causing (body.Breakpoints (map (answer_of l.program (line_offset past)) answers)) (effect_in (situation past) past a.breakpoints)) same.0
+      ∙ ap (λ bs. causing (body.Breakpoints (map (answer_of l.program (line_offset past)) b.answers)) (effect_in (situation past) past bs)) same.1
+      ∙ sym b.reply_is
+
+  one_sets_of : (here : Bool) (past : History) (l : Launched) (lines : List SourceBreakpoint) (r s : Reply) → SetsOf here past l lines r → SetsOf here past l lines s → r ≡ s
+  one_sets_of true past l lines r s a b = one_resolves past l lines r s a b
+  one_sets_of false past l lines r s a b = a ∙ sym b
+
+  -- of the launched program one thing is said
+  one_of_program : (o : Option Launched) (says : Launched → Reply → Type 0) (r s : Reply) → ((l : Launched) → says l r → says l s → r ≡ s)
+      → OfProgram o (λ l. says l r) → OfProgram o (λ l. says l s) → r ≡ s
+  one_of_program None says r s one a b = absurd a
+  one_of_program (Some l) says r s one a b = one l a b
+
+  one_sets : (past : History) (asked : SetBreakpointsArguments) (r s : Reply) → Sets past asked r → Sets past asked s → r ≡ s
+  one_sets past asked r s a b =
+      one_of_program (launched past) (λ l reply. SetsOf (is_at asked.path l.path) past l asked.breakpoints reply) r s
+      (λ l x y. one_sets_of (is_at asked.path l.path) past l asked.breakpoints r s x y) a b
+
+  one_sets_in : (s : Situation) (past : History) (asked : SetBreakpointsArguments) (r t : Reply) → SetsIn s past asked r → SetsIn s past asked t → r ≡ t
+  one_sets_in Fresh past asked r t a b = a ∙ sym b
+  one_sets_in Ready past asked r t a b = a ∙ sym b
+  one_sets_in Configuring past asked r t a b = one_sets past asked r t a b
+  one_sets_in Running past asked r t a b = one_sets past asked r t a b
+  one_sets_in Stopped past asked r t a b = one_sets past asked r t a b
+  one_sets_in Faulted past asked r t a b = one_sets past asked r t a b
+  one_sets_in Ended past asked r t a b = one_sets past asked r t a b
+
+  -- ---- runs
+
+  -- the reply is determined by the program
+  one_as : (o : Option Launched) (f : Launched → Reply) (r s : Reply) → OfProgram o (λ l. r ≡ f l) → OfProgram o (λ l. s ≡ f l) → r ≡ s
+  one_as None f r s a b = absurd a
+  one_as (Some l) f r s a b = a ∙ sym b
+
+  one_configures_in : (s : Situation) (past : History) (r t : Reply) → ConfiguresIn s past r → ConfiguresIn s past t → r ≡ t
+  one_configures_in Configuring past r t a b = one_as (launched past) (λ l. causing body.None (enters past l (due_first past l))) r t a b
+  one_configures_in Fresh past r t a b = a ∙ sym b
+  one_configures_in Ready past r t a b = a ∙ sym b
+  one_configures_in Running past r t a b = a ∙ sym b
+  one_configures_in Stopped past r t a b = a ∙ sym b
+  one_configures_in Faulted past r t a b = a ∙ sym b
+  one_configures_in Ended past r t a b = a ∙ sym b
+
+  one_resumes_in : (s : Situation) (past : History) (pace : Pace) (thread : ℕ) (r t : Reply) → ResumesIn s past pace thread r → ResumesIn s past pace thread t → r ≡ t
+  one_resumes_in Stopped past pace thread r t a b = one_as (launched past) (resuming past pace thread) r t a b
+  one_resumes_in Running past pace thread r t a b = a ∙ sym b
+  one_resumes_in Faulted past pace thread r t a b = a ∙ sym b
+  one_resumes_in Fresh past pace thread r t a b = a ∙ sym b
+  one_resumes_in Ready past pace thread r t a b = a ∙ sym b
+  one_resumes_in Configuring past pace thread r t a b = a ∙ sym b
+  one_resumes_in Ended past pace thread r t a b = a ∙ sym b
+
+  -- ---- questions
+
+  told_once : (a b : Result ℤ EvalFault) → told a ≡ told b → a ≡ b
+  told_once (Ok v) (Ok w) is = let e : v ≡ w = cc in ap Ok e
+  told_once (Ok v) (Err Overflow) is = absurd cc
+  told_once (Ok v) (Err DivideByZero) is = absurd cc
+  told_once (Err Overflow) (Ok w) is = absurd cc
+  told_once (Err DivideByZero) (Ok w) is = absurd cc
+  told_once (Err Overflow) (Err Overflow) is = refl
+  told_once (Err Overflow) (Err DivideByZero) is = absurd cc
+  told_once (Err DivideByZero) (Err Overflow) is = absurd cc
+  told_once (Err DivideByZero) (Err DivideByZero) is = refl
+
+  one_evaluates : (main : Block) (c : Configuration) (id : ℕ) (f : Option Frame) (text : List ℕ) (r s : Reply) → EvaluatesIn main c id f text r → EvaluatesIn main c id f text s → r ≡ s
+  one_evaluates main c id None text r s a b = a ∙ sym b
+  one_evaluates main c id (Some f) text r s (inl a) (inl b) =
+      let read = once.one_expression main f.block text a.expression b.expression a.reads b.reads in
+      a.reply_is ∙ ap result_reply (told_once a.result b.result (sym a.result_is ∙ ap (value main c _) read ∙ b.result_is)) ∙ sym b.reply_is
+  one_evaluates main c id (Some f) text r s (inl a) (inr b) = absurd (b.none a.expression a.reads)
+  one_evaluates main c id (Some f) text r s (inr a) (inl b) = absurd (a.none b.expression b.reads)
+  one_evaluates main c id (Some f) text r s (inr a) (inr b) = a.reply_is ∙ sym b.reply_is
+
+  one_from : (of : Of) (c : Configuration) (question : Command) (r s : Reply) → RepliesFrom of c question r → RepliesFrom of c question s → r ≡ s
+  one_from of c (command.StackTrace asked) r s a b = a ∙ sym b
+  one_from of c (command.Scopes asked) r s a b = a ∙ sym b
+  one_from of c (command.Variables asked) r s a b = a ∙ sym b
+  one_from of c (command.Evaluate asked) r s a b = one_evaluates of.program c asked.frame_id (frame_by_id c asked.frame_id) asked.expression r s a b
+  one_from of c _ r s a b = absurd a
+
+  one_at : (of : Of) (c : Option Configuration) (question : Command) (r s : Reply) → RepliesAt of c question r → RepliesAt of c question s → r ≡ s
+  one_at of None question r s a b = absurd a
+  one_at of (Some c) question r s a b = one_from of c question r s a b
+
+  one_inspects : (past : History) (question : Command) (r s : Reply) → Inspects past question r → Inspects past question s → r ≡ s
+  one_inspects past question r s a b =
+      one_of_program (launched past) (λ l reply. RepliesAt (asked_of past l) (at l.program (position past)) question reply) r s
+      (λ l x y. one_at (asked_of past l) (at l.program (position past)) question r s x y) a b
+
+  one_inspects_in : (s : Situation) (past : History) (question : Command) (r t : Reply) → InspectsIn s past question r → InspectsIn s past question t → r ≡ t
+  one_inspects_in Running past question r t a b = a ∙ sym b
+  one_inspects_in Stopped past question r t a b = one_inspects past question r t a b
+  one_inspects_in Faulted past question r t a b = one_inspects past question r t a b
+  one_inspects_in Fresh past question r t a b = a ∙ sym b
+  one_inspects_in Ready past question r t a b = a ∙ sym b
+  one_inspects_in Configuring past question r t a b = a ∙ sym b
+  one_inspects_in Ended past question r t a b = a ∙ sym b
+
+  -- ---- commands and launches
+
+  one_reply : (s : Situation) (past : History) (asked : Command) (r t : Reply) → RepliesIn s past asked r → RepliesIn s past asked t → r ≡ t
+  one_reply s past (command.Initialize a) r t x y = x ∙ sym y
+  one_reply s past (command.Launch a) r t x y = x ∙ sym y
+  one_reply s past (command.SetBreakpoints a) r t x y = one_sets_in s past a r t x y
+  one_reply s past command.ConfigurationDone r t x y = one_configures_in s past r t x y
+  one_reply s past command.Threads r t x y = x ∙ sym y
+  one_reply s past (command.Continue a) r t x y = one_resumes_in s past _ a.thread_id r t x y
+  one_reply s past (command.Next a) r t x y = one_resumes_in s past _ a.thread_id r t x y
+  one_reply s past (command.StepIn a) r t x y = one_resumes_in s past _ a.thread_id r t x y
+  one_reply s past (command.StepOut a) r t x y = one_resumes_in s past _ a.thread_id r t x y
+  one_reply s past (command.Pause a) r t x y = x ∙ sym y
+  one_reply s past (command.StackTrace a) r t x y = one_inspects_in s past (command.StackTrace a) r t x y
+  one_reply s past (command.Scopes a) r t x y = one_inspects_in s past (command.Scopes a) r t x y
+  one_reply s past (command.Variables a) r t x y = one_inspects_in s past (command.Variables a) r t x y
+  one_reply s past (command.Evaluate a) r t x y = one_inspects_in s past (command.Evaluate a) r t x y
+  one_reply s past command.Disconnect r t x y = x ∙ sym y
+  one_reply s past (command.Unsupported a) r t x y = x ∙ sym y
+  one_reply s past (command.BadArguments a) r t x y = x ∙ sym y
+
+  one_launch : (arguments : LaunchArguments) (file : Option (List ℕ)) (r s : Reply) → Launches arguments file r → Launches arguments file s → r ≡ s
+  one_launch arguments None r s a b = a ∙ sym b
+  one_launch arguments (Some text) r s (inl a) (inl b) =
+      let same = once.one_fault text a.kind b.kind a.place b.place a.first b.first in
+      a.reply_is ∙ ap (λ k. refused (syntax k a.place)) same.0 ∙ ap (λ p. refused (syntax b.kind p)) same.1 ∙ sym b.reply_is
+  one_launch arguments (Some text) r s (inl a) (inr b) = absurd (∥∥₁_elim b.reads none_prop (λ reads. once.not_both text a.kind a.place b.program a.first reads))
+  one_launch arguments (Some text) r s (inr a) (inl b) = absurd (∥∥₁_elim a.reads none_prop (λ reads. once.not_both text b.kind b.place a.program b.first reads))
+  one_launch arguments (Some text) r s (inr a) (inr b) =
+      a.reply_is ∙ ap (λ p. causing body.None (launches arguments text p)) (one_program once.one_tree text a.program b.program a.reads b.reads) ∙ sym b.reply_is
+
+  -- ---- items
+
+  abbrev SameCause : Step → Step → Type 0
+  SameCause s t = (s.answer ≡ t.answer) × (s.effect ≡ t.effect)
+
+  same_effect : (effect : Effect) (s t : Step) → HasEffect effect s → HasEffect effect t → SameCause s t
+  same_effect effect s t a b = (a.answer_is ∙ sym b.answer_is, a.effect_is ∙ sym b.effect_is)
+
+  same_answer : (seq : ℕ) (c : CommandName) (r q : Reply) (s t : Step) → r ≡ q → Answers seq c r s → Answers seq c q t → SameCause s t
+  same_answer seq c r q s t is a b = (
+    a.answer_is ∙ ap (λ (x : Reply). Some (Answer seq c x.result)) is ∙ sym b.answer_is,
+    a.effect_is ∙ ap (λ (x : Reply). x.effect) is ∙ sym b.effect_is,
+  )
+
+  one_cause : (past : History) (item : Item) (s t : Step) → Causes past item s → Causes past item t → SameCause s t
+  one_cause past (Content None) s t a b = same_effect _ s t a b
+  one_cause past (Content (Some request)) s t a b =
+      same_answer _ _ a.0 b.0 s t (one_reply (situation past) past request.body a.0 b.0 a.1 b.1) a.2 b.2
+  one_cause past (Loaded launch file) s t a b = same_answer _ _ a.0 b.0 s t (one_launch launch.arguments file a.0 b.0 a.1 b.1) a.2 b.2
+  one_cause past (Accepted r) s t a b = same_effect _ s t a b
+  one_cause past (Fault k) s t a b = same_effect _ s t a b
+  one_cause past InputEnd s t a b = same_effect _ s t a b
+  one_cause past ReadFailure s t a b = same_effect _ s t a b
+  one_cause past MemoryFailure s t a b = same_effect _ s t a b
+
+  pub one_after : (past : History) (item : Item) (a b : History) → IsAfter past item a → IsAfter past item b → a ≡ b
+  one_after past item a b x y =
+      let same = one_cause past item x.step y.step x.causes y.causes in
+      x.new_is
+      ∙ ap (λ i. past ++ record { item = i; answer = x.step.answer; effect = x.step.effect } ∷ []) (x.item_is ∙ sym y.item_is)
+      ∙ ap (λ o. past ++ record { item = y.step.item; answer = o; effect = x.step.effect } ∷ []) same.0
+      ∙ ap (λ e. past ++ record { item = y.step.item; answer = y.step.answer; effect = e } ∷ []) same.1
+      ∙ sym y.new_is

@@ -1,0 +1,326 @@
+-- A run passes no position that is due, and none was ordered before `configurationDone`.
+use Rattle.std.proofs.Common.{◌≡◌, ◌⊎◌, inl, inr, ⊎_elim, ℕ, zero, ◌+◌, ◌<◌, ◌≤◌, List, [], ◌∷◌, ◌++◌, Option, None, Some, Ok, Err, refl, sym, ◌∙◌, ap, subst, arith}
+use Rattle.std.specs.Prelude.{map, unwrap_or, Result}
+use Rattle.std.proofs.lemmas.Bool.{cases_lt, cases_eq}
+use Rattle.std.proofs.lemmas.List.{map-append}
+use Rattle.dap_msg.specs.Commands.{name_of}
+use Rattle.dap_msg.specs.declared.command.Command.{Command}
+use Rattle.dap_msg.specs.declared.command.Command.TheVariants as command
+use Rattle.dap_msg.specs.declared.command.CommandName.{CommandName}
+use Rattle.dap_msg.specs.declared.command.CommandName.TheVariants as name
+use Rattle.dap_msg.specs.declared.command.Supported.TheVariants as supported
+use Rattle.dap_msg.specs.declared.outgoing.Body.{Body}
+use Rattle.dap_msg.specs.declared.outgoing.Refusal.{Refusal}
+use Rattle.dap_msg.specs.declared.outgoing.Outgoing.{Outgoing}
+use Rattle.dap_msg.specs.declared.outgoing.Outgoing.TheVariants.{Answer, Event}
+use Rattle.dap_msg.specs.declared.outgoing.EventBody.{EventBody}
+use Rattle.dap_msg.specs.declared.outgoing.EventBody.TheVariants as event
+use Rattle.dap_msg.specs.declared.outgoing.StopReason.{StopReason}
+use Rattle.dap_msg.specs.declared.outgoing.StopReason.TheVariants as stop
+use Rattle.pl0_tree.specs.Tree.{Block}
+use Rattle.pl0_meaning.specs.Laws.{WrittenJoins}
+use Rattle.dbg_plan.specs.Breakpoints.{Breakpoint}
+use Rattle.dbg_plan.specs.Due.{due}
+use Rattle.dap_history.specs.Plain.{PlainReport, SliceOutcome, Heading, PlainOrder, Go, Hold, Quit}
+use Rattle.dap_history.specs.Lawful.{IsLawful, EndsBy, due_in as due_of}
+use Rattle.dbg_plan.specs.declared.mode.Mode.{Mode}
+use Rattle.dap_history.specs.Plain as slice
+use Rattle.dap_history.specs.declared.situation.Situation.{Situation}
+use Rattle.dap_history.specs.declared.situation.Situation.TheVariants.{Fresh, Ready, Configuring, Running, Stopped, Faulted, Ended}
+use Rattle.dap_history.specs.Last.{or_else, last_such}
+use Rattle.dap_history.specs.History.{Launched, Item, Content, Loaded, Accepted, Fault, InputEnd, ReadFailure, MemoryFailure, Step, History, Effect, with_answer, messages}
+use Rattle.dap_history.specs.Readings.{go, situation, position, launched, last_run, end_of, command_mark, answer_mark, event_mark, stop_mark, message_mark, order_mark, step_mark}
+use Rattle.dap_history.specs.declared.launch.Launch.{Launch}
+use Rattle.dap_history.specs.Launching.{Launches}
+use Rattle.dap_history.specs.Replies.{Reply, refused, stops, ends, stop_of}
+use Rattle.dap_history.specs.Reports.{Accepts, outputs, report_effect}
+use Rattle.dap_history.specs.Emission.{RepliesIn, Answers, HasEffect, Causes, IsAfter}
+use Rattle.dap_history.specs.Stops.{due_in, NoneDueUpTo, NoneDueBefore}
+use Rattle.dap_history.proofs.Texts.{OneProgram}
+use Rattle.dap_history.proofs.Readings.{situation-snoc, position-snoc, launched-snoc, last_run-snoc, last_such-append, or_else-none}
+use Rattle.dap_history.proofs.Along.{IsTaken, IsKept}
+use Rattle.dap_history.proofs.Silent.{GoesBy, no_go, of_text, all_silent}
+use Rattle.dap_history.proofs.Outputs.{GoesAs, GoesOn, no_run, as_text, report_goes, report_launches}
+use Rattle.dap_history.proofs.Standing.{MarkIs, mark_else, mark_unwrap, IsAnswer, answers_only}
+use Rattle.dap_history.proofs.Progress.{Progress, progress_kept, progress_first, report_program}
+
+-- ---- who leads to Configuring, and to Running
+
+abbrev pub IsConfiguring : Situation → Type 0
+IsConfiguring Configuring = Unit {0}
+IsConfiguring _ = ⊥
+
+abbrev pub IsRunning : Situation → Type 0
+IsRunning Running = Unit {0}
+IsRunning _ = ⊥
+
+orders_not : (os : List PlainOrder) → ¬ MarkIs IsConfiguring (last_such order_mark os)
+orders_not [] is = is
+orders_not (o ∷ os) is = neither (orders_not os) (mark_else IsConfiguring (last_such order_mark os) (order_mark o) is)
+  where
+    order_not : (o : PlainOrder) → ¬ MarkIs IsConfiguring (order_mark o)
+    order_not (Go run) is = is
+    order_not (Hold run) is = is
+    order_not Quit is = is
+
+    neither : ¬ MarkIs IsConfiguring (last_such order_mark os) → ¬ (MarkIs IsConfiguring (last_such order_mark os) ⊎ ((last_such order_mark os ≡ None) × MarkIs IsConfiguring (order_mark o)))
+    neither not (inl is) = not is
+    neither not (inr is) = order_not o is.1
+
+-- no event leads to a situation of which neither Stopped, Faulted nor Ended is one
+events_not : (P : Situation → Type 0) → ¬ P Stopped → ¬ P Faulted → ¬ P Ended → (es : List EventBody) → ¬ MarkIs P (last_such message_mark (map Event es))
+events_not P stopped faulted ended [] is = is
+events_not P stopped faulted ended (e ∷ es) is = neither (events_not P stopped faulted ended es) (mark_else P (last_such message_mark (map Event es)) (event_mark e) is)
+  where
+    event_not : (e : EventBody) → ¬ MarkIs P (event_mark e)
+    event_not event.Initialized is = is
+    event_not (event.Stopped stop.Breakpoint) is = stopped is
+    event_not (event.Stopped stop.Step) is = stopped is
+    event_not (event.Stopped stop.Entry) is = stopped is
+    event_not (event.Stopped stop.Pause) is = stopped is
+    event_not (event.Stopped (stop.Exception x)) is = faulted is
+    event_not (event.Output v) is = is
+    event_not (event.Exited code) is = ended is
+    event_not event.Terminated is = is
+
+    neither : ¬ MarkIs P (last_such message_mark (map Event es)) → ¬ (MarkIs P (last_such message_mark (map Event es)) ⊎ ((last_such message_mark (map Event es) ≡ None) × MarkIs P (event_mark e)))
+    neither not (inl is) = not is
+    neither not (inr is) = event_not e is.1
+
+-- a step leads to Configuring by its answer alone
+configured_by : (step : Step) → MarkIs IsConfiguring (step_mark step) → MarkIs IsConfiguring (last_such message_mark (with_answer step.answer []))
+configured_by step is = by_orders (mark_else IsConfiguring (last_such order_mark step.effect.orders) (last_such message_mark (messages step)) is)
+  where
+    by_answer : (a : Option Outgoing) → MarkIs IsConfiguring (last_such message_mark (with_answer a (map Event step.effect.events))) → MarkIs IsConfiguring (last_such message_mark (with_answer a []))
+    by_answer None is = events_not IsConfiguring (λ x. x) (λ x. x) (λ x. x) step.effect.events is
+    by_answer (Some a) is = by_events (mark_else IsConfiguring (last_such message_mark (map Event step.effect.events)) (message_mark a) is)
+      where
+        by_events : (MarkIs IsConfiguring (last_such message_mark (map Event step.effect.events)) ⊎ ((last_such message_mark (map Event step.effect.events) ≡ None) × MarkIs IsConfiguring (message_mark a)))
+            → MarkIs IsConfiguring (last_such message_mark (with_answer (Some a) []))
+        by_events (inl is) = absurd (events_not IsConfiguring (λ x. x) (λ x. x) (λ x. x) step.effect.events is)
+        by_events (inr is) = is.1
+
+    by_orders : (MarkIs IsConfiguring (last_such order_mark step.effect.orders) ⊎ ((last_such order_mark step.effect.orders ≡ None) × MarkIs IsConfiguring (last_such message_mark (messages step))))
+        → MarkIs IsConfiguring (last_such message_mark (with_answer step.answer []))
+    by_orders (inl is) = absurd (orders_not step.effect.orders is)
+    by_orders (inr is) = by_answer step.answer is.1
+
+-- no answer to a content does: a `launch` that is answered at once is refused
+result_not : (c : CommandName) → ¬ MarkIs IsConfiguring (command_mark c) → (result : Result Body Refusal) → ¬ MarkIs IsConfiguring (answer_mark c result)
+result_not c not (Ok b) is = not is
+result_not c not (Err r) is = is
+
+reply_not : (s : Situation) (past : History) (asked : Command) (reply : Reply) → RepliesIn s past asked reply → ¬ MarkIs IsConfiguring (answer_mark (name_of asked) reply.result)
+reply_not s past (command.Launch a) reply is mark = subst (λ (r : Reply). MarkIs IsConfiguring (answer_mark (name.Supported supported.Launch) r.result)) is mark
+reply_not s past (command.BadArguments k) reply is mark = subst (λ (r : Reply). MarkIs IsConfiguring (answer_mark (name.Supported k) r.result)) is mark
+reply_not s past (command.Initialize a) reply is mark = result_not (name.Supported supported.Initialize) (λ x. x) reply.result mark
+reply_not s past (command.SetBreakpoints a) reply is mark = result_not (name.Supported supported.SetBreakpoints) (λ x. x) reply.result mark
+reply_not s past command.ConfigurationDone reply is mark = result_not (name.Supported supported.ConfigurationDone) (λ x. x) reply.result mark
+reply_not s past command.Threads reply is mark = result_not (name.Supported supported.Threads) (λ x. x) reply.result mark
+reply_not s past (command.Continue a) reply is mark = result_not (name.Supported supported.Continue) (λ x. x) reply.result mark
+reply_not s past (command.Next a) reply is mark = result_not (name.Supported supported.Next) (λ x. x) reply.result mark
+reply_not s past (command.StepIn a) reply is mark = result_not (name.Supported supported.StepIn) (λ x. x) reply.result mark
+reply_not s past (command.StepOut a) reply is mark = result_not (name.Supported supported.StepOut) (λ x. x) reply.result mark
+reply_not s past (command.Pause a) reply is mark = result_not (name.Supported supported.Pause) (λ x. x) reply.result mark
+reply_not s past (command.StackTrace a) reply is mark = result_not (name.Supported supported.StackTrace) (λ x. x) reply.result mark
+reply_not s past (command.Scopes a) reply is mark = result_not (name.Supported supported.Scopes) (λ x. x) reply.result mark
+reply_not s past (command.Variables a) reply is mark = result_not (name.Supported supported.Variables) (λ x. x) reply.result mark
+reply_not s past (command.Evaluate a) reply is mark = result_not (name.Supported supported.Evaluate) (λ x. x) reply.result mark
+reply_not s past command.Disconnect reply is mark = result_not (name.Supported supported.Disconnect) (λ x. x) reply.result mark
+reply_not s past (command.Unsupported text) reply is mark = result_not (name.Unsupported text) (λ x. x) reply.result mark
+
+abbrev pub IsLoaded : Item → Type 0
+IsLoaded (Loaded launch file) = Unit {0}
+IsLoaded _ = ⊥
+
+-- a step leads to Configuring only where a launch was loaded
+pub loaded_there : (past : History) (item : Item) (step : Step) → Causes past item step → MarkIs IsConfiguring (step_mark step) → IsLoaded item
+loaded_there past (Content None) step is mark = absurd (subst (λ a. MarkIs IsConfiguring (last_such message_mark (with_answer a []))) is.answer_is (configured_by step mark))
+loaded_there past (Content (Some request)) step is mark =
+    absurd (reply_not (situation past) past request.body is.0 is.1 (subst (λ a. MarkIs IsConfiguring (last_such message_mark (with_answer a []))) is.2.answer_is (configured_by step mark)))
+loaded_there past (Loaded launch file) step is mark = tt
+loaded_there past (Accepted r) step is mark = absurd (subst (λ a. MarkIs IsConfiguring (last_such message_mark (with_answer a []))) is.answer_is (configured_by step mark))
+loaded_there past (Fault k) step is mark = absurd (subst (λ a. MarkIs IsConfiguring (last_such message_mark (with_answer a []))) is.answer_is (configured_by step mark))
+loaded_there past InputEnd step is mark = absurd (subst (λ a. MarkIs IsConfiguring (last_such message_mark (with_answer a []))) is.answer_is (configured_by step mark))
+loaded_there past ReadFailure step is mark = absurd (subst (λ a. MarkIs IsConfiguring (last_such message_mark (with_answer a []))) is.answer_is (configured_by step mark))
+loaded_there past MemoryFailure step is mark = absurd (subst (λ a. MarkIs IsConfiguring (last_such message_mark (with_answer a []))) is.answer_is (configured_by step mark))
+
+-- a step leads to Running only where it orders a run
+orders_run : (os : List PlainOrder) → last_such go os ≡ None → ¬ MarkIs IsRunning (last_such order_mark os)
+orders_run [] none is = is
+orders_run (o ∷ os) none is = by_last (orders_run os) (last_such go os) refl none (mark_else IsRunning (last_such order_mark os) (order_mark o) is)
+  where
+    by_order : (o : PlainOrder) → go o ≡ None → ¬ MarkIs IsRunning (order_mark o)
+    by_order (Go run) none is = absurd cc
+    by_order (Hold run) none is = is
+    by_order Quit none is = is
+
+    by_last : (last_such go os ≡ None → ¬ MarkIs IsRunning (last_such order_mark os)) → (l : Option Heading) → last_such go os ≡ l → or_else (last_such go os) (go o) ≡ None
+        → ¬ (MarkIs IsRunning (last_such order_mark os) ⊎ ((last_such order_mark os ≡ None) × MarkIs IsRunning (order_mark o)))
+    by_last not (Some run) is none either = let e = sym (ap (λ l. or_else l (go o)) is) ∙ none in absurd cc
+    by_last not None is none (inl mark) = not is mark
+    by_last not None is none (inr mark) = by_order o (sym (ap (λ l. or_else l (go o)) is) ∙ none) mark.1
+
+answer_runs_not : (a : Option Outgoing) → IsAnswer a → (es : List EventBody) → ¬ MarkIs IsRunning (last_such message_mark (with_answer a (map Event es)))
+answer_runs_not None is es mark = events_not IsRunning (λ x. x) (λ x. x) (λ x. x) es mark
+answer_runs_not (Some (Event e)) is es mark = is
+answer_runs_not (Some (Answer seq c result)) is es mark = neither (mark_else IsRunning (last_such message_mark (map Event es)) (answer_mark c result) mark)
+  where
+    command_not : (c : CommandName) → ¬ MarkIs IsRunning (command_mark c)
+    command_not (name.Supported supported.Initialize) is = is
+    command_not (name.Supported supported.Launch) is = is
+    command_not _ is = is
+
+    answer_not : (result : Result Body Refusal) → ¬ MarkIs IsRunning (answer_mark c result)
+    answer_not (Ok b) is = command_not c is
+    answer_not (Err r) is = is
+
+    neither : ¬ (MarkIs IsRunning (last_such message_mark (map Event es)) ⊎ ((last_such message_mark (map Event es) ≡ None) × MarkIs IsRunning (answer_mark c result)))
+    neither (inl is) = events_not IsRunning (λ x. x) (λ x. x) (λ x. x) es is
+    neither (inr is) = answer_not result is.1
+
+pub runs_not : (step : Step) → IsAnswer step.answer → last_such go step.effect.orders ≡ None → ¬ MarkIs IsRunning (step_mark step)
+runs_not step answer none is = neither (mark_else IsRunning (last_such order_mark step.effect.orders) (last_such message_mark (messages step)) is)
+  where
+    neither : ¬ (MarkIs IsRunning (last_such order_mark step.effect.orders) ⊎ ((last_such order_mark step.effect.orders ≡ None) × MarkIs IsRunning (last_such message_mark (messages step))))
+    neither (inl is) = orders_run step.effect.orders none is
+    neither (inr is) = answer_runs_not step.answer answer step.effect.events is.1
+
+-- ---- runs begin where the program stands
+
+-- the runs that a step orders begin at this position
+pub data BeginsAt (here : ℕ) : Option Heading → Type 0 where
+  none_begins : BeginsAt here None
+  begins_at : (run : Heading) → run.start ≡ here → BeginsAt here (Some run)
+
+begins_by : (past : History) (o : Option Heading) → GoesBy past o → BeginsAt (position past) o
+begins_by past None no_go = none_begins
+begins_by past (Some run) (of_text run' l launch text begins) = begins_at run begins
+
+begins_on : (text : List ℕ) (finish : ℕ) (o : Option Heading) → GoesAs text finish o → BeginsAt finish o
+begins_on text finish None no_run = none_begins
+begins_on text finish (Some run) (as_text run' text_is begins) = begins_at run begins
+
+abbrev pub BeginsHere : ℕ → Effect → Type 0
+BeginsHere here effect = BeginsAt here (last_such go effect.orders)
+
+pub loaded_orders : (launch : Launch) (file : Option (List ℕ)) (reply : Reply) → Launches launch.arguments file reply → last_such go reply.effect.orders ≡ None
+loaded_orders launch None reply is = ap (λ (r : Reply). last_such go r.effect.orders) is
+loaded_orders launch (Some text) reply (inl is) = ap (λ (r : Reply). last_such go r.effect.orders) is.reply_is
+loaded_orders launch (Some text) reply (inr is) = ap (λ (r : Reply). last_such go r.effect.orders) is.reply_is
+
+loaded_begins : (here : ℕ) (o : Option Heading) → o ≡ None → BeginsAt here o
+loaded_begins here o is = subst (BeginsAt here) (sym is) none_begins
+
+pub item_begins : (past : History) (item : Item) (step : Step) → Causes past item step → BeginsHere (unwrap_or (end_of item) (position past)) step.effect
+item_begins past (Content None) step is = subst (BeginsHere (position past)) (sym is.effect_is) none_begins
+item_begins past (Content (Some request)) step is =
+    subst (BeginsHere (position past)) (sym is.2.effect_is) (begins_by past (last_such go is.0.effect.orders) (all_silent (situation past) past request.body is.0 is.1).goes)
+item_begins past (Loaded launch file) step is =
+    subst (BeginsHere (position past)) (sym is.2.effect_is) (loaded_begins (position past) (last_such go is.0.effect.orders) (loaded_orders launch file is.0 is.1))
+item_begins past (Accepted r) step is =
+    subst (BeginsHere r.end) (sym is.effect_is) (begins_on r.text r.end (last_such go (report_effect past r r.outcome).orders) (report_goes past r r.outcome))
+item_begins past (Fault k) step is = subst (BeginsHere (position past)) (sym is.effect_is) none_begins
+item_begins past InputEnd step is = subst (BeginsHere (position past)) (sym is.effect_is) none_begins
+item_begins past ReadFailure step is = subst (BeginsHere (position past)) (sym is.effect_is) none_begins
+item_begins past MemoryFailure step is = subst (BeginsHere (position past)) (sym is.effect_is) none_begins
+
+-- nothing is launched while a program runs
+pub launches_not : (Q : PlainReport → Type 0) (past : History) (item : Item) (step : Step) → IsTaken Q past item → Causes past item step → IsRunning (situation past) → step.effect.launched ≡ None
+launches_not Q past (Content None) step taken is running = ap (λ (e : Effect). e.launched) is.effect_is
+launches_not Q past (Content (Some request)) step taken is running =
+    ap (λ (e : Effect). e.launched) is.2.effect_is ∙ (all_silent (situation past) past request.body is.0 is.1).no_launch
+launches_not Q past (Loaded launch file) step taken is running = absurd (subst IsRunning taken running)
+launches_not Q past (Accepted r) step taken is running = ap (λ (e : Effect). e.launched) is.effect_is ∙ report_launches past r r.outcome
+launches_not Q past (Fault k) step taken is running = ap (λ (e : Effect). e.launched) is.effect_is
+launches_not Q past InputEnd step taken is running = ap (λ (e : Effect). e.launched) is.effect_is
+launches_not Q past ReadFailure step taken is running = ap (λ (e : Effect). e.launched) is.effect_is
+launches_not Q past MemoryFailure step taken is running = ap (λ (e : Effect). e.launched) is.effect_is
+
+-- ---- the marks of a report
+
+pub none_left : {A : Type 0} (a b : Option A) → or_else a b ≡ None → (a ≡ None) × (b ≡ None)
+none_left None b is = (refl, is)
+none_left (Some x) b is = absurd cc
+
+pub no_mark_no_go : (os : List PlainOrder) → last_such order_mark os ≡ None → last_such go os ≡ None
+no_mark_no_go [] is = refl
+no_mark_no_go (o ∷ os) is =
+    ap (λ l. or_else l (go o)) (no_mark_no_go os (none_left (last_such order_mark os) (order_mark o) is).0) ∙ none_here o (none_left (last_such order_mark os) (order_mark o) is).1
+  where
+    none_here : (o : PlainOrder) → order_mark o ≡ None → go o ≡ None
+    none_here (Go run) is = absurd cc
+    none_here (Hold run) is = refl
+    none_here Quit is = refl
+
+abbrev pub mark_of_effect : Effect → Option Situation
+mark_of_effect effect = or_else (last_such order_mark effect.orders) (last_such message_mark (map Event effect.events))
+
+pub mark_of : (effect : Effect) (step : Step) → HasEffect effect step → step_mark step ≡ mark_of_effect effect
+mark_of effect step has =
+    ap (λ a. or_else (last_such order_mark step.effect.orders) (last_such message_mark (with_answer a (map Event step.effect.events)))) has.answer_is
+    ∙ ap mark_of_effect has.effect_is
+
+last_mark : (r : PlainReport) (es : List EventBody) → last_such message_mark (map Event (outputs r ++ es)) ≡ or_else (last_such message_mark (map Event es)) (last_such message_mark (map Event (outputs r)))
+last_mark r es = ap (last_such message_mark) (map-append Event (outputs r) es) ∙ last_such-append message_mark (map Event (outputs r)) (map Event es)
+
+-- where a report leads nowhere, its end isn't due
+abbrev pub NotDueAtEnd : Block → PlainReport → Type 0
+NotDueAtEnd main r = (r.end ≡ r.start) ⊎ (due_of main r r.end ≡ None)
+
+pub undue_end : (main : Block) (past : History) (r : PlainReport) (e : SliceOutcome) → EndsBy main r e → mark_of_effect (report_effect past r e) ≡ None → NotDueAtEnd main r
+undue_end main past r slice.More is none = inr is.1
+undue_end main past r (slice.Due reason) is none = let e = sym (last_mark r (stops (stop_of reason))) ∙ none in absurd cc
+undue_end main past r slice.Held is none = inl is.0
+undue_end main past r slice.Done is none = let e = sym (last_mark r (ends 0)) ∙ none in absurd cc
+undue_end main past r (slice.Fault fault) is none = is.1
+undue_end main past r slice.NoMemory is none = inl is.0
+
+-- ---- along a history
+
+module _ (one : OneProgram) (joins : WrittenJoins) where
+  -- a run passes nothing that is due, and none was ordered before `configurationDone`
+  pub record Ran (past : History) : Type 0 where
+    pub so_far : Progress past
+    pub configuring : IsConfiguring (situation past) → (last_run past ≡ None) × (position past ≡ 0)
+    pub running : IsRunning (situation past) → (l : Launched) → launched past ≡ Some l → (run : Heading) → last_run past ≡ Some run
+        → (run.start ≤ position past) × NoneDueUpTo l run (position past)
+
+  -- the report is of the launched program, the last run, and what that run passed
+  module _ (past : History) (r : PlainReport) (accepts : Accepts past r) (lawful : IsLawful r) (ran : Ran past) (l : Launched) (is : launched past ≡ Some l) where
+    abbrev run : Heading
+    run = accepts.run
+
+    pub same_due : (k : ℕ) → due_in l run k ≡ due_of lawful.program r k
+    same_due k =
+        let same = accepts.expected in
+        sym
+        (ap (λ (p : Block). due p r.plan r.counted_from r.mode k) (report_program one joins past r lawful l accepts (ran.so_far.progress (Some l) is))
+        ∙ ap (λ (h : Heading). due l.program h.plan h.counted_from h.mode k) same)
+
+    was : (run.start ≤ position past) × NoneDueUpTo l run (position past)
+    was = ran.running (subst IsRunning (sym accepts.running) tt) l is run accepts.run_is
+
+    pub begun_there : run.start ≤ r.start
+    begun_there = subst (λ n. run.start ≤ n) (sym (ap (λ (h : Heading). h.start) accepts.expected)) was.0
+
+    pub begun_before : run.start ≤ r.end
+    begun_before = let a = begun_there in let b = lawful.lawful.begun in omega (arith, a, b)
+
+    pub none_before : NoneDueBefore l run r.end
+    none_before k above below =
+        ⊎_elim
+        (λ (past_begin : r.start < k). same_due k ∙ lawful.lawful.passed k past_begin below)
+        (λ (up_to : k ≤ r.start). was.1 k above (subst (λ n. k ≤ n) (ap (λ (h : Heading). h.start) accepts.expected) up_to))
+        (cases_lt r.start k)
+
+    pub none_up_to : NotDueAtEnd lawful.program r → NoneDueUpTo l run r.end
+    none_up_to at_end k above up_to =
+        ⊎_elim
+        (λ (below : k < r.end). none_before k above below)
+        (λ (there : r.end ≤ k). let same : k ≡ r.end = omega (arith, there, up_to) in by_end at_end same)
+        (cases_lt k r.end)
+      where
+        by_end : NotDueAtEnd lawful.program r → k ≡ r.end → due_in l run k ≡ None
+        by_end (inl stays) same = was.1 k above (let b = (ap (λ (h : Heading). h.start) accepts.expected) in omega (arith, stays, same, b))
+        by_end (inr undue) same = same_due k ∙ ap (due_of lawful.program r) same ∙ undue

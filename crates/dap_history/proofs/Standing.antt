@@ -1,0 +1,249 @@
+-- Where the program stands it is where it stopped last, and what is asked there is answered from there.
+use Rattle.std.proofs.Common.{◌≡◌, ◌⊎◌, inl, inr, ℕ, List, [], ◌∷◌, ◌++◌, Option, None, Some, Ok, Err, refl, sym, ◌∙◌, ap, subst}
+use Rattle.std.specs.Prelude.{map, unwrap_or, Result, All}
+use Rattle.std.proofs.lemmas.List.{append_assoc}
+use Rattle.std.proofs.lemmas.List.Elements.{All-nil, All-cons, All-append}
+use Rattle.dap_msg.specs.Commands.{name_of}
+use Rattle.dap_msg.specs.declared.request.Request.{Request}
+use Rattle.dap_msg.specs.declared.command.Command.{Command}
+use Rattle.dap_msg.specs.declared.command.Command.TheVariants as command
+use Rattle.dap_msg.specs.declared.command.CommandName.{CommandName}
+use Rattle.dap_msg.specs.declared.command.CommandName.TheVariants as name
+use Rattle.dap_msg.specs.declared.command.Supported.TheVariants as supported
+use Rattle.dap_msg.specs.declared.outgoing.Body.{Body}
+use Rattle.dap_msg.specs.declared.outgoing.Refusal.{Refusal}
+use Rattle.dap_msg.specs.declared.outgoing.Outgoing.{Outgoing}
+use Rattle.dap_msg.specs.declared.outgoing.Outgoing.TheVariants.{Answer, Event}
+use Rattle.dap_msg.specs.declared.outgoing.EventBody.{EventBody}
+use Rattle.dap_msg.specs.declared.outgoing.EventBody.TheVariants as event
+use Rattle.dap_msg.specs.declared.outgoing.StopReason.{StopReason}
+use Rattle.dap_msg.specs.declared.outgoing.StopReason.TheVariants as stop
+use Rattle.pl0_meaning.specs.Runs.{at}
+use Rattle.dap_history.specs.Plain.{PlainReport, PlainOrder, Go, Hold, Quit}
+use Rattle.dap_history.specs.declared.situation.Situation.{Situation}
+use Rattle.dap_history.specs.declared.situation.Situation.TheVariants.{Fresh, Ready, Configuring, Running, Stopped, Faulted, Ended}
+use Rattle.dap_history.specs.Last.{or_else, last_such}
+use Rattle.dap_history.specs.History.{Launched, Item, Content, Loaded, Accepted, Fault, InputEnd, ReadFailure, MemoryFailure, Step, History, with_answer, messages}
+use Rattle.dap_history.specs.Readings.{situation, position, launched, end_of, command_mark, answer_mark, event_mark, message_mark, order_mark, step_mark}
+use Rattle.dap_history.specs.Replies.{Reply, OfProgram, refused}
+use Rattle.dap_history.specs.Inspection.{RepliesAt, asked_of, Inspects, InspectsIn}
+use Rattle.dap_history.specs.Emission.{RepliesIn, Answers, Causes}
+use Rattle.dap_history.specs.Events.{Incoming, Rest, IsHistoryOf}
+use Rattle.dap_history.specs.Stops.{stop_of_event, stop_in, IsStanding, StoppedLastAt, IsQuestion, Asks, AnswersFrom, QuestionsAreAnsweredThere}
+use Rattle.dap_history.proofs.Readings.{situation-snoc, position-snoc}
+use Rattle.dap_history.proofs.Along.{IsTaken, IsKept, any_reports, along}
+use Rattle.dap_history.proofs.Each.{WasTaken, EachTaken, each_kept, each_first}
+
+-- ---- marks of a kind
+
+-- the mark is a situation of which P holds
+abbrev pub MarkIs : (Situation → Type 0) → Option Situation → Type 0
+MarkIs P None = ⊥
+MarkIs P (Some s) = P s
+
+pub mark_else : (P : Situation → Type 0) (a b : Option Situation) → MarkIs P (or_else a b) → MarkIs P a ⊎ ((a ≡ None) × MarkIs P b)
+mark_else P None b is = inr (refl, is)
+mark_else P (Some s) b is = inl is
+
+pub mark_unwrap : (P : Situation → Type 0) (o : Option Situation) (s : Situation) → P (unwrap_or o s) → MarkIs P o ⊎ ((o ≡ None) × P s)
+mark_unwrap P None s is = inr (refl, is)
+mark_unwrap P (Some t) s is = inl is
+
+-- an answer stands in its place
+abbrev pub IsAnswer : Option Outgoing → Type 0
+IsAnswer None = Unit {0}
+IsAnswer (Some (Answer seq command result)) = Unit {0}
+IsAnswer (Some (Event e)) = ⊥
+
+pub answers_only : (past : History) (item : Item) (step : Step) → Causes past item step → IsAnswer step.answer
+answers_only past (Content None) step is = subst IsAnswer (sym is.answer_is) tt
+answers_only past (Content (Some request)) step is = subst IsAnswer (sym is.2.answer_is) tt
+answers_only past (Loaded launch file) step is = subst IsAnswer (sym is.2.answer_is) tt
+answers_only past (Accepted r) step is = subst IsAnswer (sym is.answer_is) tt
+answers_only past (Fault k) step is = subst IsAnswer (sym is.answer_is) tt
+answers_only past InputEnd step is = subst IsAnswer (sym is.answer_is) tt
+answers_only past ReadFailure step is = subst IsAnswer (sym is.answer_is) tt
+answers_only past MemoryFailure step is = subst IsAnswer (sym is.answer_is) tt
+
+-- ---- a step that leads to where the program stands reports a stop
+
+command_not : (c : CommandName) → ¬ MarkIs IsStanding (command_mark c)
+command_not (name.Supported supported.Initialize) is = is
+command_not (name.Supported supported.Launch) is = is
+command_not _ is = is
+
+answer_not : (c : CommandName) (result : Result Body Refusal) → ¬ MarkIs IsStanding (answer_mark c result)
+answer_not c (Ok b) is = command_not c is
+answer_not c (Err r) is = is
+
+orders_not : (os : List PlainOrder) → ¬ MarkIs IsStanding (last_such order_mark os)
+orders_not [] is = is
+orders_not (o ∷ os) is = neither (orders_not os) (mark_else IsStanding (last_such order_mark os) (order_mark o) is)
+  where
+    order_not : (o : PlainOrder) → ¬ MarkIs IsStanding (order_mark o)
+    order_not (Go run) is = is
+    order_not (Hold run) is = is
+    order_not Quit is = is
+
+    neither : ¬ MarkIs IsStanding (last_such order_mark os) → ¬ (MarkIs IsStanding (last_such order_mark os) ⊎ ((last_such order_mark os ≡ None) × MarkIs IsStanding (order_mark o)))
+    neither not (inl is) = not is
+    neither not (inr is) = order_not o is.1
+
+abbrev pub ReportsStop : List EventBody → Type 0
+ReportsStop es = (r : StopReason) × (last_such stop_of_event es ≡ Some r)
+
+stop_else : (e : EventBody) (es : List EventBody) → ReportsStop es → ReportsStop (e ∷ es)
+stop_else e es is = (is.0, ap (λ o. or_else o (stop_of_event e)) is.1)
+
+stop_first : (o : Option StopReason) (r : StopReason) → (s : StopReason) × (or_else o (Some r) ≡ Some s)
+stop_first None r = (r, refl)
+stop_first (Some s) r = (s, refl)
+
+event_stops : (e : EventBody) (es : List EventBody) → MarkIs IsStanding (event_mark e) → ReportsStop (e ∷ es)
+event_stops event.Initialized es is = absurd is
+event_stops (event.Stopped r) es is = stop_first (last_such stop_of_event es) r
+event_stops (event.Output v) es is = absurd is
+event_stops (event.Exited code) es is = absurd is
+event_stops event.Terminated es is = absurd is
+
+events_stop : (es : List EventBody) → MarkIs IsStanding (last_such message_mark (map Event es)) → ReportsStop es
+events_stop [] is = absurd is
+events_stop (e ∷ es) is = either (events_stop es) (mark_else IsStanding (last_such message_mark (map Event es)) (event_mark e) is)
+  where
+    either : (MarkIs IsStanding (last_such message_mark (map Event es)) → ReportsStop es) → (MarkIs IsStanding (last_such message_mark (map Event es)) ⊎ ((last_such message_mark (map Event es) ≡ None) × MarkIs IsStanding (event_mark e))) → ReportsStop (e ∷ es)
+    either more (inl is) = stop_else e es (more is)
+    either more (inr is) = event_stops e es is.1
+
+messages_stop : (a : Option Outgoing) (es : List EventBody) → IsAnswer a → MarkIs IsStanding (last_such message_mark (with_answer a (map Event es))) → ReportsStop es
+messages_stop None es answer is = events_stop es is
+messages_stop (Some (Answer seq c result)) es answer is = either (mark_else IsStanding (last_such message_mark (map Event es)) (answer_mark c result) is)
+  where
+    either : (MarkIs IsStanding (last_such message_mark (map Event es)) ⊎ ((last_such message_mark (map Event es) ≡ None) × MarkIs IsStanding (answer_mark c result))) → ReportsStop es
+    either (inl is) = events_stop es is
+    either (inr is) = absurd (answer_not c result is.1)
+messages_stop (Some (Event e)) es answer is = absurd answer
+
+step_stops : (step : Step) → IsAnswer step.answer → MarkIs IsStanding (step_mark step) → ReportsStop step.effect.events
+step_stops step answer is = either (mark_else IsStanding (last_such order_mark step.effect.orders) (last_such message_mark (messages step)) is)
+  where
+    either : (MarkIs IsStanding (last_such order_mark step.effect.orders) ⊎ ((last_such order_mark step.effect.orders ≡ None) × MarkIs IsStanding (last_such message_mark (messages step)))) → ReportsStop step.effect.events
+    either (inl is) = absurd (orders_not step.effect.orders is)
+    either (inr is) = messages_stop step.answer step.effect.events answer is.1
+
+-- ---- along a history
+
+-- the program stands where it stopped last
+abbrev pub Stood : History → Type 0
+Stood past = IsStanding (situation past) → (m : ℕ) × StoppedLastAt past m × (m ≡ position past)
+
+-- no report is accepted where the program stands
+moves_nothing : (Q : PlainReport → Type 0) (past : History) (item : Item) → IsTaken Q past item → IsStanding (situation past) → end_of item ≡ None
+moves_nothing Q past (Content request) taken is = refl
+moves_nothing Q past (Loaded launch file) taken is = refl
+moves_nothing Q past (Accepted r) taken is = absurd (subst IsStanding taken.0.running is)
+moves_nothing Q past (Fault k) taken is = refl
+moves_nothing Q past InputEnd taken is = refl
+moves_nothing Q past ReadFailure taken is = refl
+moves_nothing Q past MemoryFailure taken is = refl
+
+stops_here : (past : History) (step : Step) (r : StopReason) → stop_in step ≡ Some r → Stood (past ++ step ∷ [])
+stops_here past step r is standing = (
+  position (past ++ step ∷ []),
+  record { early = past; step = step; later = []; past_is = refl; reason = r; stop_is = is; none_later = All-nil (λ (s : Step). stop_in s ≡ None); position_is = refl },
+  refl,
+)
+
+stands_on : (past : History) (step : Step) (m : ℕ) → stop_in step ≡ None → StoppedLastAt past m → StoppedLastAt (past ++ step ∷ []) m
+stands_on past step m none was = record {
+  early = was.early;
+  step = was.step;
+  later = was.later ++ step ∷ [];
+  past_is = ap (λ h. h ++ step ∷ []) was.past_is ∙ append_assoc was.early (was.step ∷ was.later) (step ∷ []);
+  reason = was.reason;
+  stop_is = was.stop_is;
+  none_later = All-append (λ (s : Step). stop_in s ≡ None) was.later (step ∷ []) was.none_later (All-cons (λ (s : Step). stop_in s ≡ None) step [] none (All-nil (λ (s : Step). stop_in s ≡ None)));
+  position_is = was.position_is;
+}
+
+stood_more : (Q : PlainReport → Type 0) (past : History) (step : Step) → IsTaken Q past step.item → Causes past step.item step → Stood past → Stood (past ++ step ∷ [])
+stood_more Q past step taken causes stood = by_stop (stop_in step) refl
+  where
+    onward : stop_in step ≡ None → (MarkIs IsStanding (step_mark step) ⊎ ((step_mark step ≡ None) × IsStanding (situation past)))
+        → (m : ℕ) × StoppedLastAt (past ++ step ∷ []) m × (m ≡ position (past ++ step ∷ []))
+    onward none (inl is) = absurd (let stops = step_stops step (answers_only past step.item step causes) is in let e = sym none ∙ stops.1 in cc)
+    onward none (inr is) =
+        let was = stood is.1 in (
+          was.0,
+          stands_on past step was.0 none was.1,
+          was.2 ∙ sym (position-snoc past step ∙ ap (λ o. unwrap_or o (position past)) (moves_nothing Q past step.item taken is.1)),
+        )
+
+    by_stop : (o : Option StopReason) → stop_in step ≡ o → Stood (past ++ step ∷ [])
+    by_stop (Some r) is = stops_here past step r is
+    by_stop None none = λ standing. onward none (mark_unwrap IsStanding (step_mark step) (situation past) (subst IsStanding (situation-snoc past step) standing))
+
+pub stood_kept : (Q : PlainReport → Type 0) → IsKept Q Stood
+stood_kept Q = record {
+  step = λ past item new taking taken after here.
+      subst Stood (sym after.new_is)
+      (stood_more Q past after.step (subst (IsTaken Q past) (sym after.item_is) taken) (subst (λ i. Causes past i after.step) (sym after.item_is) after.causes) here);
+}
+
+-- ---- questions
+
+inspects_of : (s : Situation) (past : History) (c : Command) (reply : Reply) → IsQuestion c → RepliesIn s past c reply → InspectsIn s past c reply
+inspects_of s past (command.StackTrace a) reply is replies = replies
+inspects_of s past (command.Scopes a) reply is replies = replies
+inspects_of s past (command.Variables a) reply is replies = replies
+inspects_of s past (command.Evaluate a) reply is replies = replies
+inspects_of s past _ reply is replies = absurd is
+
+inspects_here : (s : Situation) (past : History) (c : Command) (reply : Reply) → IsStanding s → InspectsIn s past c reply → Inspects past c reply
+inspects_here Stopped past c reply is inspects = inspects
+inspects_here Faulted past c reply is inspects = inspects
+inspects_here _ past c reply is inspects = absurd is
+
+-- a refusal is no body
+no_body : (reply : Reply) (why : Refusal) (b : Body) → reply ≡ refused why → ¬ (reply.result ≡ Ok b)
+no_body reply why b is body = let e = ap (λ (r : Reply). r.result) (sym is) ∙ body in absurd cc
+
+standing_of : (s : Situation) (past : History) (c : Command) (reply : Reply) (b : Body) → InspectsIn s past c reply → reply.result ≡ Ok b → IsStanding s
+standing_of Stopped past c reply b is body = tt
+standing_of Faulted past c reply b is body = tt
+standing_of Fresh past c reply b is body = absurd (no_body reply _ b is body)
+standing_of Ready past c reply b is body = absurd (no_body reply _ b is body)
+standing_of Configuring past c reply b is body = absurd (no_body reply _ b is body)
+standing_of Running past c reply b is body = absurd (no_body reply _ b is body)
+standing_of Ended past c reply b is body = absurd (no_body reply _ b is body)
+
+-- the program that is inspected, shown where it stopped last
+shown : (before : History) (request : Request) (step : Step) (reply : Reply) (l : Option Launched) → launched before ≡ l
+    → OfProgram l (λ l. RepliesAt (asked_of before l) (at l.program (position before)) request.body reply)
+    → Answers request.seq (name_of request.body) reply step → (m : ℕ) × StoppedLastAt before m × (m ≡ position before)
+    → (l : Launched) × (m : ℕ) × (launched before ≡ Some l) × StoppedLastAt before m × AnswersFrom l before m request step
+shown before request step reply None is inspects answers stood = absurd inspects
+shown before request step reply (Some l) is inspects answers stood = (
+  l,
+  stood.0,
+  is,
+  stood.1,
+  record { reply = reply; shown = subst (λ n. RepliesAt (asked_of before l) (at l.program n) request.body reply) (sym stood.2) inspects; answer_is = answers.answer_is },
+)
+
+pub questions_answered : QuestionsAreAnsweredThere
+questions_answered events past rest history before request step asks = (
+  λ standing. shown before request step causes.0 (launched before) refl (inspects_here (situation before) before request.body causes.0 standing inspects) causes.2 (was.held standing),
+  λ b answer. standing_of (situation before) before request.body causes.0 b inspects (let e = sym causes.2.answer_is ∙ answer in cc),
+)
+  where
+    each : EachTaken (λ r. Unit {0}) Stood past
+    each = along (λ r. Unit {0}) (EachTaken (λ r. Unit {0}) Stood) (each_kept (λ r. Unit {0}) Stood (stood_kept (λ r. Unit {0}))) (each_first (λ r. Unit {0}) Stood (λ is. absurd is)) events past rest (any_reports events) history
+
+    was : WasTaken (λ r. Unit {0}) Stood before step
+    was = each.each before step asks.after asks.past_is
+
+    causes : (reply : Reply) × RepliesIn (situation before) before request.body reply × Answers request.seq (name_of request.body) reply step
+    causes = subst (λ i. Causes before i step) asks.item_is was.causes
+
+    inspects : InspectsIn (situation before) before request.body causes.0
+    inspects = inspects_of (situation before) before request.body causes.0 asks.question causes.1

@@ -1,0 +1,54 @@
+use Rattle.std.proofs.Common.{[]}
+use Rattle.dap_history.specs.Events.{only_bytes}
+use Rattle.dap_history.proofs.Contents.{contents_of_stream}
+use Rattle.dap_history.proofs.Answered.{each_answered}
+use Rattle.dap_history.proofs.Last.{disconnect_last}
+use Rattle.dap_history.proofs.Numbered.{numbers_count}
+use Rattle.dap_history.proofs.StopOrder.{stops_follow}
+use Rattle.dap_history.proofs.Progress.{numbers_written}
+use Rattle.dap_history.proofs.Stopping.{each_stop_right}
+use Rattle.dap_history.proofs.Standing.{questions_answered}
+use Rattle.dap_history.proofs.OneReply.{one_after}
+use Rattle.dap_history.proofs.Texts.{one_program}
+use Rattle.dap_history.proofs.OneHistory.{one_history}
+use Rattle.dap_history.proofs.laws.history_laws.Goals as goal
+
+pub returns-clause-one : goal.returns-clause-one
+returns-clause-one c = λ events past other rest left history there.
+    one_history (record {
+      one_frame = c.frame_laws.ensures.frames;
+      one_fault = c.frame_laws.ensures.faults;
+      not_both = c.frame_laws.ensures.both;
+      one_request = c.message_laws.ensures.reading;
+      one_after = one_after (record {
+        one_tree = c.text_laws.ensures.program;
+        one_fault = c.text_laws.ensures.one_fault;
+        not_both = c.text_laws.ensures.fault;
+        one_condition = c.editor_laws.ensures.one_condition;
+        one_expression = c.editor_laws.ensures.one_expression;
+      });
+    }) [] (only_bytes []) events past other rest left history there
+
+pub returns-clause-answered : goal.returns-clause-answered
+returns-clause-answered c = each_answered
+
+pub returns-clause-numbered : goal.returns-clause-numbered
+returns-clause-numbered c = numbers_count
+
+pub returns-clause-outputs : goal.returns-clause-outputs
+returns-clause-outputs c = numbers_written (one_program c.text_laws.ensures.program) c.meaning_laws.ensures.joins
+
+pub returns-clause-order : goal.returns-clause-order
+returns-clause-order c = stops_follow (one_program c.text_laws.ensures.program) c.meaning_laws.ensures.joins
+
+pub returns-clause-stops : goal.returns-clause-stops
+returns-clause-stops c = each_stop_right (one_program c.text_laws.ensures.program) c.meaning_laws.ensures.joins
+
+pub returns-clause-questions : goal.returns-clause-questions
+returns-clause-questions c = questions_answered
+
+pub returns-clause-last : goal.returns-clause-last
+returns-clause-last c = disconnect_last
+
+pub returns-clause-contents : goal.returns-clause-contents
+returns-clause-contents c = contents_of_stream c.frame_laws.ensures.join

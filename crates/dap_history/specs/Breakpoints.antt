@@ -1,0 +1,112 @@
+-- `setBreakpoints`.
+use Rattle.std.specs.Prelude.{◌≡◌, ℕ, ◌+◌, ◌-◌, Bool, true, false, List, [], ◌∷◌, map, slice_get, if◌then◌else◌, Option, None, Some, string_bytes}
+use Rattle.std.specs.Option.{option_map_or}
+use Rattle.std.specs.Str.{bytes_eq}
+use Rattle.dap_msg.specs.declared.requests.initialize.InitializeArguments.{InitializeArguments}
+use Rattle.dap_msg.specs.declared.requests.set_breakpoints.SetBreakpointsArguments.{SetBreakpointsArguments}
+use Rattle.dap_msg.specs.declared.requests.set_breakpoints.SourceBreakpoint.{SourceBreakpoint}
+use Rattle.dap_msg.specs.declared.outgoing.Body.TheVariants as body
+use Rattle.dap_msg.specs.declared.outgoing.Refusal.TheVariants as refusal
+use Rattle.dap_msg.specs.declared.outgoing.BreakpointAnswer.{BreakpointAnswer}
+use Rattle.dap_msg.specs.declared.outgoing.BreakpointAnswer.TheVariants as answer
+use Rattle.dap_msg.specs.declared.outgoing.BreakpointRefusal.TheVariants as why
+use Rattle.pl0_tree.specs.Tree.{Block}
+use Rattle.pl0_tree.specs.Steps.{steps}
+use Rattle.dbg_plan.specs.Breakpoints.{Breakpoint}
+use Rattle.dbg_plan.specs.Resolutions.{AreResolved}
+use Rattle.dap_history.specs.Plain.{PlainOrder, Hold}
+use Rattle.dbg_plan.specs.declared.resolving.SourceBreakpoint.{SourceBreakpoint as AskedLine}
+use Rattle.dbg_plan.specs.declared.resolving.Resolution.{Resolution}
+use Rattle.dbg_plan.specs.declared.resolving.Resolution.TheVariants.{At, NoStep, BadCondition, BadHitCondition}
+use Rattle.dap_history.specs.declared.situation.Situation.{Situation}
+use Rattle.dap_history.specs.declared.situation.Situation.TheVariants.{Fresh, Ready, Configuring, Running, Stopped, Faulted, Ended}
+use Rattle.dap_history.specs.History.{Launched, History, Effect}
+use Rattle.dap_history.specs.Readings.{situation, settings, launched, runs, position, is_held}
+use Rattle.dap_history.specs.Replies.{Reply, nothing, answered, refused, causing, OfProgram}
+
+-- ---- lines and columns, as the client counts them
+
+-- how much a number of the client's is less than the same one counted from 1
+abbrev pub offset : Bool → ℕ
+offset true = 0
+offset false = 1
+
+abbrev pub line_offset : History → ℕ
+line_offset past = offset (settings past).lines_start_at_1
+
+abbrev pub column_offset : History → ℕ
+column_offset past = offset (settings past).columns_start_at_1
+
+-- ---- what lines become
+
+-- a line asked for, counted from 1
+pub record IsAskedAs (less : ℕ) (b : SourceBreakpoint) (asked : AskedLine) : Type 0 where
+  pub line : asked.line ≡ b.line + less
+  pub condition : string_bytes asked.condition ≡ b.condition
+  pub hit : string_bytes asked.hit_condition ≡ b.hit_condition
+
+abbrev pub AreAskedAs : ℕ → List SourceBreakpoint → List AskedLine → Type 0
+AreAskedAs less [] [] = Unit {0}
+AreAskedAs less (b ∷ bs) (asked ∷ more) = IsAskedAs less b asked × AreAskedAs less bs more
+AreAskedAs less _ _ = ⊥
+
+-- Each line is answered from the program alone. The breakpoints are those that were answered with a step, in the order asked.
+pub record IsResolved (main : Block) (less : ℕ) (lines : List SourceBreakpoint) (answers : List Resolution) (breakpoints : List Breakpoint) : Type 0 where
+  pub asked : List AskedLine
+  pub as_asked : AreAskedAs less lines asked
+  pub resolved : AreResolved main asked answers breakpoints
+
+-- the line of step n, from 1
+abbrev pub step_line : Block → ℕ → ℕ
+step_line main n = option_map_or (λ s. s.place.line) (slice_get (steps main) n) 0
+
+abbrev pub answer_of : Block → ℕ → Resolution → BreakpointAnswer
+answer_of main less (At n) = answer.At (step_line main n - less)
+answer_of main less NoStep = answer.Unverified why.NoStep
+answer_of main less BadCondition = answer.Unverified why.BadCondition
+answer_of main less BadHitCondition = answer.Unverified why.BadHitCondition
+
+-- ---- the answer
+
+-- lines of another source than the launched one
+abbrev pub other_source : List SourceBreakpoint → Reply
+other_source lines = answered (body.Breakpoints (map (λ b. answer.Unverified why.OtherSource) lines))
+
+-- Hold of this run, where none was pushed
+abbrev pub hold_once : History → List PlainOrder
+hold_once past = if is_held past then [] else Hold (runs past) ∷ []
+
+-- A debuggee that the session holds gets the plan at once: before `configurationDone` it counts from position 0, later
+-- from the position after the one where the program stands. In a run it waits.
+abbrev pub effect_in : Situation → History → List Breakpoint → Effect
+effect_in Configuring past bs = record nothing { put_in = Some (record { breakpoints = bs; counted_from = 0 }) }
+effect_in Stopped past bs = record nothing { put_in = Some (record { breakpoints = bs; counted_from = position past + 1 }) }
+effect_in Faulted past bs = record nothing { put_in = Some (record { breakpoints = bs; counted_from = position past + 1 }) }
+effect_in Running past bs = record nothing { waits = Some bs; orders = hold_once past }
+effect_in Ended past bs = nothing
+effect_in Fresh past bs = nothing
+effect_in Ready past bs = nothing
+
+-- the lines are those of the launched source
+pub record Resolves (past : History) (l : Launched) (lines : List SourceBreakpoint) (reply : Reply) : Type 0 where
+  pub answers : List Resolution
+  pub breakpoints : List Breakpoint
+  pub resolved : IsResolved l.program (line_offset past) lines answers breakpoints
+  pub reply_is : reply ≡ causing (body.Breakpoints (map (answer_of l.program (line_offset past)) answers)) (effect_in (situation past) past breakpoints)
+
+-- the source is at this path
+abbrev pub is_at : Option (List ℕ) → List ℕ → Bool
+is_at path other = option_map_or (λ p. bytes_eq p other) path false
+
+abbrev pub SetsOf : Bool → History → Launched → List SourceBreakpoint → Reply → Type 0
+SetsOf true past l lines reply = Resolves past l lines reply
+SetsOf false past l lines reply = reply ≡ other_source lines
+
+abbrev pub Sets : History → SetBreakpointsArguments → Reply → Type 0
+Sets past arguments reply =
+    OfProgram (launched past) (λ l. SetsOf (is_at arguments.path l.path) past l arguments.breakpoints reply)
+
+abbrev pub SetsIn : Situation → History → SetBreakpointsArguments → Reply → Type 0
+SetsIn Fresh past arguments reply = reply ≡ refused refusal.WrongPhase
+SetsIn Ready past arguments reply = reply ≡ refused refusal.WrongPhase
+SetsIn _ past arguments reply = Sets past arguments reply

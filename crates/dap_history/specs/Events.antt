@@ -1,0 +1,124 @@
+-- Which items a list of events gives, one after another. Nothing after the closing is an item.
+use Rattle.std.specs.Prelude.{◌≡◌, ◌⊎◌, ◌++◌, ◌∷◌, [], ℕ, List, Option, None, Some, Result, Ok, Err}
+use Rattle.dap_frame.specs.declared.fault.FramingFault.{FramingFault}
+use Rattle.dap_frame.specs.Frame.{IsFrameInFront, IsOpen}
+use Rattle.dap_frame.specs.Header.{FaultAt}
+use Rattle.dap_msg.specs.declared.request.Request.{Request}
+use Rattle.dap_msg.specs.Request.{IsRequestOf}
+use Rattle.dap_history.specs.Plain.{PlainReport}
+use Rattle.dap_history.specs.Lawful.{IsLawful}
+use Rattle.dap_history.specs.declared.fault.LoadFault.{LoadFault}
+use Rattle.dap_history.specs.declared.fault.LoadFault.TheVariants as load_fault
+use Rattle.dap_history.specs.declared.launch.Launch.{Launch}
+use Rattle.dap_history.specs.History.{Item, Content, Loaded, Accepted, Fault, InputEnd, ReadFailure, MemoryFailure, History}
+use Rattle.dap_history.specs.Readings.{situation, ending_of}
+use Rattle.dap_history.specs.Launching.{wanted_in}
+use Rattle.dap_history.specs.Reports.{Accepts}
+use Rattle.dap_history.specs.Emission.{IsAfter}
+
+-- what comes to a session, as plain data
+pub data Incoming : Type 0 where
+  Piece : List ℕ → Incoming
+  End : Incoming
+  ReadFailed : Incoming
+  NoMemory : Incoming
+  File : Result (List ℕ) LoadFault → Incoming
+  Report : PlainReport → Incoming
+
+-- Each report is what the meaning of its program gives; a report's type keeps that.
+abbrev pub AreLawful : List Incoming → Type 0
+AreLawful [] = Unit {0}
+AreLawful (Report r ∷ events) = IsLawful r × AreLawful events
+AreLawful (e ∷ events) = AreLawful events
+
+-- What came and isn't taken yet: a launch that waits for its file, and bytes after it.
+pub record Rest : Type 0 where
+  pub launch : Option Launch
+  pub bytes : List ℕ
+
+abbrev pub only_bytes : List ℕ → Rest
+only_bytes bytes = record { launch = None; bytes = bytes }
+
+-- the session takes items
+abbrev pub IsTaking : History → Type 0
+IsTaking past = ending_of past ≡ None
+
+-- the content in front of the bytes, with the request that it is or none, and the bytes after it
+pub record IsInFront (bytes : List ℕ) (request : Option Request) (more : List ℕ) : Type 0 where
+  pub content : List ℕ
+  pub framed : IsFrameInFront bytes content more
+  pub read : IsRequestOf content request
+
+-- From past, with these bytes to read, contents that want no file are taken one after another, which leaves new and the
+-- bytes left.
+pub data Takes : History → List ℕ → History → List ℕ → Type 0 where
+  none : {past : History} {bytes : List ℕ} → Takes past bytes past bytes
+  one_more : {past mid new : History} {bytes more left : List ℕ} (request : Option Request) →
+      IsTaking past → IsInFront bytes request more → wanted_in (situation past) request ≡ None →
+      IsAfter past (Content request) mid → Takes mid more new left → Takes past bytes new left
+
+-- Where no further content is taken: the session is closed; or nothing whole stands in front; or a framing fault does; or
+-- a launch that waits for its file.
+pub data Rests (past : History) (bytes : List ℕ) : History → Rest → Type 0 where
+  closed : ¬ IsTaking past → Rests past bytes past (only_bytes bytes)
+  open_ended : IsTaking past → IsOpen bytes → Rests past bytes past (only_bytes bytes)
+  faulty : (k : FramingFault) (new : History) → IsTaking past → FaultAt bytes k → IsAfter past (Fault k) new →
+      Rests past bytes new (only_bytes bytes)
+  waits : (request : Option Request) (launch : Launch) (more : List ℕ) → IsTaking past → IsInFront bytes request more →
+      wanted_in (situation past) request ≡ Some launch → Rests past bytes past (record { launch = Some launch; bytes = more })
+
+-- the contents of the bytes are taken, all that can be
+pub record TakesAll (past : History) (bytes : List ℕ) (new : History) (rest : Rest) : Type 0 where
+  pub mid : History
+  pub left : List ℕ
+  pub taken : Takes past bytes mid left
+  pub rests : Rests mid left new rest
+
+-- an item is taken unless the session is closed
+abbrev pub MayTake : History → Item → History → Type 0
+MayTake past item new = ((¬ IsTaking past) × (new ≡ past)) ⊎ (IsTaking past × IsAfter past item new)
+
+-- bytes after a launch that waits wait with it
+abbrev pub LeadsByPiece : History → Option Launch → List ℕ → History → Rest → Type 0
+LeadsByPiece past None bytes new left = TakesAll past bytes new left
+LeadsByPiece past (Some launch) bytes new left = (new ≡ past) × (left ≡ record { launch = Some launch; bytes = bytes })
+
+-- the file of a launch; then the contents after it
+pub record Loads (past : History) (launch : Launch) (file : Option (List ℕ)) (bytes : List ℕ) (new : History) (left : Rest) : Type 0 where
+  pub taking : IsTaking past
+  pub mid : History
+  pub loaded : IsAfter past (Loaded launch file) mid
+  pub after : TakesAll mid bytes new left
+
+-- A file. One that wasn't wanted is passed over, also after the closing.
+abbrev pub LeadsByFile : History → Rest → Option Launch → Result (List ℕ) LoadFault → History → Rest → Type 0
+LeadsByFile past rest None file new left = (new ≡ past) × (left ≡ rest)
+LeadsByFile past rest (Some launch) (Ok file) new left =
+    ((¬ IsTaking past) × (new ≡ past) × (left ≡ rest)) ⊎ Loads past launch (Some file) rest.bytes new left
+LeadsByFile past rest (Some launch) (Err load_fault.CannotRead) new left =
+    ((¬ IsTaking past) × (new ≡ past) × (left ≡ rest)) ⊎ Loads past launch None rest.bytes new left
+LeadsByFile past rest (Some launch) (Err load_fault.NoMemory) new left = MayTake past MemoryFailure new × (left ≡ rest)
+
+-- A report. One that isn't accepted is passed over.
+abbrev pub LeadsByReport : History → PlainReport → History → Type 0
+LeadsByReport past r new =
+    ((¬ (IsTaking past × Accepts past r)) × (new ≡ past)) ⊎ (IsTaking past × Accepts past r × IsAfter past (Accepted r) new)
+
+-- An event leads from past, with a rest that isn't taken yet, to new and another rest.
+abbrev pub Leads : History → Rest → Incoming → History → Rest → Type 0
+Leads past rest (Piece piece) new left = LeadsByPiece past rest.launch (rest.bytes ++ piece) new left
+Leads past rest End new left = MayTake past InputEnd new × (left ≡ rest)
+Leads past rest ReadFailed new left = MayTake past ReadFailure new × (left ≡ rest)
+Leads past rest NoMemory new left = MayTake past MemoryFailure new × (left ≡ rest)
+Leads past rest (File file) new left = LeadsByFile past rest rest.launch file new left
+Leads past rest (Report r) new left = LeadsByReport past r new × (left ≡ rest)
+
+-- one event after another
+abbrev pub LeadsAll : History → Rest → List Incoming → History → Rest → Type 0
+LeadsAll past rest [] new left = (new ≡ past) × (left ≡ rest)
+LeadsAll past rest (e ∷ events) new left =
+    (mid : History) × (between : Rest) × Leads past rest e mid between × LeadsAll mid between events new left
+
+-- the history that a list of events gives, and what of them isn't taken yet
+abbrev pub IsHistoryOf : List Incoming → History → Rest → Type 0
+IsHistoryOf events past rest = LeadsAll [] (only_bytes []) events past rest

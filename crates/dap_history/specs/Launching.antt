@@ -1,0 +1,76 @@
+-- `initialize` and `launch`. Profile: a session is initialized once, and launches one program, whose text has no fault.
+use Rattle.std.specs.Prelude.{◌≡◌, ℕ, ◌⊎◌, List, [], ◌∷◌, Option, None, Some, Result, Ok, Err}
+use Rattle.dap_msg.specs.declared.requests.launch.LaunchArguments.{LaunchArguments}
+use Rattle.dap_msg.specs.declared.request.Request.{Request}
+use Rattle.dap_msg.specs.declared.command.Command.{Command}
+use Rattle.dap_msg.specs.declared.command.Command.TheVariants as command
+use Rattle.dap_msg.specs.declared.outgoing.Body.TheVariants as body
+use Rattle.dap_msg.specs.declared.outgoing.Refusal.{Refusal}
+use Rattle.dap_msg.specs.declared.outgoing.Refusal.TheVariants as refusal
+use Rattle.dap_msg.specs.declared.outgoing.EventBody.TheVariants as event
+use Rattle.pl0_tree.specs.Tree.{Block}
+use Rattle.pl0_tree.specs.declared.tree.Place.{Place}
+use Rattle.pl0_tree.specs.declared.fault.FaultKind.{FaultKind}
+use Rattle.pl0_tree.specs.declared.fault.FaultKind.TheVariants.{TooLong, NotAscii, BadCharacter, NumberTooLarge, NameTooLong, Expected, TooDeep, TooManyNames, Twice, Unknown, TooEarly, WrongKind}
+use Rattle.pl0_tree.specs.Faults.{IsFirstFault, IsTreeOf}
+use Rattle.dap_history.specs.declared.situation.Situation.{Situation}
+use Rattle.dap_history.specs.declared.situation.Situation.TheVariants.{Fresh, Ready}
+use Rattle.dap_history.specs.declared.launch.Launch.{Launch}
+use Rattle.dap_history.specs.History.{Launched, Effect}
+use Rattle.dap_history.specs.Replies.{Reply, nothing, answered, refused, causing}
+
+abbrev pub initialize_in : Situation → Reply
+initialize_in Fresh = answered body.Capabilities
+initialize_in _ = refused refusal.WrongPhase
+
+-- ---- launching
+
+-- the launch that a request wants to make: it waits for its file
+abbrev pub wanted_by : ℕ → Command → Option Launch
+wanted_by seq (command.Launch arguments) = Some (record { seq = seq; arguments = arguments })
+wanted_by seq _ = None
+
+-- In Ready a fitting `launch` wants a file. Elsewhere it is refused at once.
+abbrev pub wanted_in : Situation → Option Request → Option Launch
+wanted_in Ready (Some request) = wanted_by request.seq request.body
+wanted_in _ _ = None
+
+abbrev pub fault_number : FaultKind → ℕ
+fault_number TooLong = 1
+fault_number NotAscii = 2
+fault_number BadCharacter = 3
+fault_number NumberTooLarge = 4
+fault_number NameTooLong = 5
+fault_number Expected = 6
+fault_number TooDeep = 7
+fault_number TooManyNames = 8
+fault_number Twice = 9
+fault_number Unknown = 10
+fault_number TooEarly = 11
+fault_number WrongKind = 12
+
+abbrev pub syntax : FaultKind → Place → Refusal
+syntax kind place = refusal.Syntax (fault_number kind) place.line place.column
+
+-- what a launch of this program causes
+abbrev pub launches : LaunchArguments → List ℕ → Block → Effect
+launches arguments text program =
+    record nothing { events = event.Initialized ∷ []; launched = Some (record { path = arguments.program; stop_on_entry = arguments.stop_on_entry; text = text; program = program }) }
+
+-- the text has a fault, the first of which is reported
+pub record RefusesText (text : List ℕ) (reply : Reply) : Type 0 where
+  pub kind : FaultKind
+  pub place : Place
+  pub first : IsFirstFault text kind place
+  pub reply_is : reply ≡ refused (syntax kind place)
+
+-- the text reads as a program
+pub record LaunchesText (arguments : LaunchArguments) (text : List ℕ) (reply : Reply) : Type 0 where
+  pub program : Block
+  pub reads : ∥ IsTreeOf text program ∥₁
+  pub reply_is : reply ≡ causing body.None (launches arguments text program)
+
+-- A launch with its file's bytes, or none where the file can't be read.
+abbrev pub Launches : LaunchArguments → Option (List ℕ) → Reply → Type 0
+Launches arguments None reply = reply ≡ refused refusal.CannotRead
+Launches arguments (Some text) reply = RefusesText text reply ⊎ LaunchesText arguments text reply

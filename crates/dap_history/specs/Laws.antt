@@ -1,0 +1,136 @@
+-- Laws of what a session sends, said without the rules of the commands and reports. `Stops` has the one on stops.
+use Rattle.std.specs.Prelude.{◌≡◌, ◌++◌, ◌∷◌, [], ℕ, ◌+◌, ℤ, List, map, Option, None, Some, option_map, slice_get, Ok}
+use Rattle.std.specs.List.{filter_map}
+use Rattle.dap_frame.specs.Frame.{Frames, frame_of}
+use Rattle.dap_msg.specs.declared.request.Request.{Request}
+use Rattle.dap_msg.specs.Request.{IsRequestOf}
+use Rattle.dap_history.specs.declared.launch.Launch.{Launch}
+use Rattle.dap_msg.specs.Commands.{name_of}
+use Rattle.dap_msg.specs.declared.command.Command.TheVariants as command
+use Rattle.dap_msg.specs.declared.command.CommandName.{CommandName}
+use Rattle.dap_msg.specs.declared.command.CommandName.TheVariants as name
+use Rattle.dap_msg.specs.declared.command.Supported.TheVariants as supported
+use Rattle.dap_msg.specs.declared.outgoing.Outgoing.{Outgoing}
+use Rattle.dap_msg.specs.declared.outgoing.Outgoing.TheVariants.{Answer, Event}
+use Rattle.dap_msg.specs.declared.outgoing.Body.TheVariants as body
+use Rattle.dap_msg.specs.declared.outgoing.EventBody.TheVariants as event
+use Rattle.dap_msg.specs.declared.outgoing.StopReason.{StopReason}
+use Rattle.dap_msg.specs.Outgoing.{text_of}
+use Rattle.pl0_meaning.specs.Runs.{written}
+use Rattle.dap_history.specs.History.{Launched, Item, Content, Loaded, Accepted, Fault, InputEnd, ReadFailure, MemoryFailure, Step, History, messages, messages_of}
+use Rattle.dap_history.specs.Readings.{launched, position}
+use Rattle.dap_history.specs.Events.{Incoming, Piece, Rest, AreLawful, IsHistoryOf}
+use Rattle.dap_history.specs.Output.{frames_from}
+
+-- ---- One history
+
+-- A list of events has at most one history, and leaves one rest.
+abbrev pub HistoryIsOne : Type 0
+HistoryIsOne =
+    (events : List Incoming) (past other : History) (rest left : Rest) → IsHistoryOf events past rest → IsHistoryOf events other left
+    → (past ≡ other) × (rest ≡ left)
+
+-- ---- Contents of the stream
+
+-- the pieces that came, joined
+abbrev pub stream_of : List Incoming → List ℕ
+stream_of [] = []
+stream_of (Piece piece ∷ events) = piece ++ stream_of events
+stream_of (e ∷ events) = stream_of events
+
+-- the request that a launch was
+abbrev pub launch_request : Launch → Request
+launch_request launch = record { seq = launch.seq; body = command.Launch launch.arguments }
+
+-- what the item's content is read as, if it is one of a content
+abbrev pub read_as : Item → Option (Option Request)
+read_as (Content request) = Some request
+read_as (Loaded launch file) = Some (Some (launch_request launch))
+read_as _ = None
+
+abbrev pub waiting : Option Launch → List (Option Request)
+waiting None = []
+waiting (Some launch) = Some (launch_request launch) ∷ []
+
+-- what the contents taken so far are read as, and that of a launch that waits
+abbrev pub contents_read : History → Option Launch → List (Option Request)
+contents_read past launch = filter_map read_as (map (λ (step : Step). step.item) past) ++ waiting launch
+
+-- each content is read so
+abbrev pub AreRead : List (List ℕ) → List (Option Request) → Type 0
+AreRead [] [] = Unit {0}
+AreRead (content ∷ contents) (request ∷ requests) = IsRequestOf content request × AreRead contents requests
+AreRead _ _ = ⊥
+
+-- However the stream was cut into pieces, the contents taken are, in order, those of its frames.
+abbrev pub ContentsAreOfTheStream : Type 0
+ContentsAreOfTheStream =
+    (events : List Incoming) (past : History) (rest : Rest) → IsHistoryOf events past rest
+    → (contents : List (List ℕ)) × Frames (stream_of events) contents rest.bytes × AreRead contents (contents_read past rest.launch)
+
+-- ---- Answered once
+
+-- the seq and the command that an answer names, and those of a request
+abbrev pub answered : Outgoing → Option (ℕ × CommandName)
+answered (Answer seq command result) = Some (seq, command)
+answered (Event e) = None
+
+abbrev pub asked : Item → Option (ℕ × CommandName)
+asked (Content None) = None
+asked (Content (Some request)) = Some (request.seq, name_of request.body)
+asked (Loaded launch file) = Some (launch.seq, name.Supported supported.Launch)
+asked (Accepted r) = None
+asked (Fault k) = None
+asked InputEnd = None
+asked ReadFailure = None
+asked MemoryFailure = None
+
+-- The answers are, in order, one for each well-formed request among the items, under its own seq and command.
+abbrev pub EachIsAnsweredOnce : Type 0
+EachIsAnsweredOnce =
+    (events : List Incoming) (past : History) (rest : Rest) → IsHistoryOf events past rest
+    → filter_map answered (messages_of past) ≡ filter_map asked (map (λ (step : Step). step.item) past)
+
+-- ---- Numbering
+
+-- The message numbered n is the nth: its frame is the nth.
+abbrev pub SeqCountFromOne : Type 0
+SeqCountFromOne =
+    (messages : List Outgoing) (n : ℕ)
+    → slice_get (frames_from 1 messages) n ≡ option_map (λ message. frame_of (text_of message (n + 1))) (slice_get messages n)
+
+-- ---- Last message
+
+-- A `disconnect` that is taken is the last item, and its answer under its seq is the last message.
+abbrev pub DisconnectIsLast : Type 0
+DisconnectIsLast =
+    (events : List Incoming) (past : History) (rest : Rest) → IsHistoryOf events past rest
+    → (before : History) (step : Step) (after : History) (seq : ℕ) → past ≡ before ++ step ∷ after
+    → step.item ≡ Content (Some (record { seq = seq; body = command.Disconnect }))
+    → (after ≡ []) × (messages_of past ≡ messages_of before ++ Answer seq (name.Supported supported.Disconnect) (Ok body.None) ∷ [])
+
+-- ---- Output order
+
+abbrev pub output : Outgoing → Option ℤ
+output (Event (event.Output v)) = Some v
+output _ = None
+
+-- the numbers that messages tell
+abbrev pub numbers : List Outgoing → List ℤ
+numbers messages = filter_map output messages
+
+-- The numbers reported are, in order, those that the program wrote up to its position; there are none before it is launched.
+abbrev pub NumbersAreWritten : Type 0
+NumbersAreWritten =
+    (events : List Incoming) (past : History) (rest : Rest) → AreLawful events → IsHistoryOf events past rest
+    → ((l : Launched) → launched past ≡ Some l → numbers (messages_of past) ≡ written l.program 0 (position past))
+    × (launched past ≡ None → numbers (messages_of past) ≡ [])
+
+-- Before a stop stand just the numbers of the steps up to where the program stands then.
+abbrev pub StopsFollowNumbers : Type 0
+StopsFollowNumbers =
+    (events : List Incoming) (past : History) (rest : Rest) → AreLawful events → IsHistoryOf events past rest
+    → (front : History) (step : Step) (more : History) → past ≡ front ++ step ∷ more
+    → (l : Launched) → launched (front ++ step ∷ []) ≡ Some l
+    → (before : List Outgoing) (reason : StopReason) (after : List Outgoing) → messages step ≡ before ++ Event (event.Stopped reason) ∷ after
+    → numbers (messages_of front ++ before) ≡ written l.program 0 (position (front ++ step ∷ []))

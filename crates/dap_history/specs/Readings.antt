@@ -1,0 +1,175 @@
+-- What a session goes by: each a question for the last such step, message or order of its history.
+use Rattle.std.specs.Prelude.{ℕ, ◌+◌, Bool, true, false, List, [], ◌∷◌, map, length, unwrap_or, Option, None, Some, option_map, Result, Ok, Err}
+use Rattle.std.specs.List.{filter_map}
+use Rattle.dap_frame.specs.declared.fault.FramingFault.{FramingFault}
+use Rattle.dap_msg.specs.declared.request.Request.{Request}
+use Rattle.dap_msg.specs.declared.requests.initialize.InitializeArguments.{InitializeArguments}
+use Rattle.dap_msg.specs.declared.command.Command.{Command}
+use Rattle.dap_msg.specs.declared.command.Command.TheVariants as command
+use Rattle.dap_msg.specs.declared.command.CommandName.{CommandName}
+use Rattle.dap_msg.specs.declared.command.CommandName.TheVariants as name
+use Rattle.dap_msg.specs.declared.command.Supported.{Supported}
+use Rattle.dap_msg.specs.declared.command.Supported.TheVariants as supported
+use Rattle.dap_msg.specs.declared.outgoing.Outgoing.{Outgoing}
+use Rattle.dap_msg.specs.declared.outgoing.Outgoing.TheVariants.{Answer, Event}
+use Rattle.dap_msg.specs.declared.outgoing.Body.{Body}
+use Rattle.dap_msg.specs.declared.outgoing.Refusal.{Refusal}
+use Rattle.dap_msg.specs.declared.outgoing.EventBody.{EventBody}
+use Rattle.dap_msg.specs.declared.outgoing.EventBody.TheVariants as event
+use Rattle.dap_msg.specs.declared.outgoing.StopReason.{StopReason}
+use Rattle.dap_msg.specs.declared.outgoing.StopReason.TheVariants as reason
+use Rattle.dbg_plan.specs.Breakpoints.{Breakpoint}
+use Rattle.dap_history.specs.Plain.{PlainReport, SliceOutcome, Heading, PlainOrder, Go, Hold, Quit}
+use Rattle.dap_history.specs.Plans.{Plan, no_plan}
+use Rattle.dap_history.specs.Plain as slice
+use Rattle.dap_history.specs.Last.{or_else, last_such}
+use Rattle.dap_history.specs.History.{Launched, Item, Content, Loaded, Accepted, Fault, InputEnd, ReadFailure, MemoryFailure, Step, History, messages, orders_of}
+use Rattle.dap_history.specs.declared.situation.Situation.{Situation}
+use Rattle.dap_history.specs.declared.situation.Situation.TheVariants.{Fresh, Ready, Configuring, Running, Stopped, Faulted, Ended}
+use Rattle.dap_history.specs.declared.ending.Ending.{Ending}
+use Rattle.dap_history.specs.declared.ending.Ending.TheVariants as ending
+use Rattle.dap_history.specs.declared.ending.Closed.TheVariants.{Disconnected, InputEnded, ReadFailed}
+use Rattle.dap_history.specs.declared.fault.SessionFault.TheVariants.{Frame, NoMemory}
+
+-- ---- the situation
+
+-- where a successful answer leads
+abbrev pub command_mark : CommandName → Option Situation
+command_mark (name.Supported supported.Initialize) = Some Ready
+command_mark (name.Supported supported.Launch) = Some Configuring
+command_mark _ = None
+
+abbrev pub answer_mark : CommandName → Result Body Refusal → Option Situation
+answer_mark command (Ok body) = command_mark command
+answer_mark command (Err refusal) = None
+
+-- where a stop leads
+abbrev pub stop_mark : StopReason → Situation
+stop_mark (reason.Exception fault) = Faulted
+stop_mark _ = Stopped
+
+abbrev pub event_mark : EventBody → Option Situation
+event_mark (event.Stopped r) = Some (stop_mark r)
+event_mark (event.Exited code) = Some Ended
+event_mark event.Initialized = None
+event_mark (event.Output v) = None
+event_mark event.Terminated = None
+
+abbrev pub message_mark : Outgoing → Option Situation
+message_mark (Answer seq command result) = answer_mark command result
+message_mark (Event e) = event_mark e
+
+abbrev pub order_mark : PlainOrder → Option Situation
+order_mark (Go run) = Some Running
+order_mark (Hold run) = None
+order_mark Quit = None
+
+-- the last mark of a step, its orders being after its messages
+abbrev pub step_mark : Step → Option Situation
+step_mark step = or_else (last_such order_mark step.effect.orders) (last_such message_mark (messages step))
+
+abbrev pub situation : History → Situation
+situation past = unwrap_or (last_such step_mark past) Fresh
+
+-- ---- the launched program
+
+-- how the client counts lines and columns: as the `initialize` says that was answered with success
+abbrev pub initialize_arguments : Command → Option InitializeArguments
+initialize_arguments (command.Initialize arguments) = Some arguments
+initialize_arguments _ = None
+
+abbrev pub settings_by : Item → Option Outgoing → Option InitializeArguments
+settings_by (Content (Some request)) (Some (Answer seq command (Ok body))) = initialize_arguments request.body
+settings_by _ _ = None
+
+abbrev pub from_one : InitializeArguments
+from_one = record { lines_start_at_1 = true; columns_start_at_1 = true }
+
+abbrev pub settings : History → InitializeArguments
+settings past = unwrap_or (last_such (λ step. settings_by step.item step.answer) past) from_one
+
+abbrev pub launched : History → Option Launched
+launched past = last_such (λ step. step.effect.launched) past
+
+-- ---- runs
+
+abbrev pub go : PlainOrder → Option Heading
+go (Go run) = Some run
+go (Hold run) = None
+go Quit = None
+
+-- the run that was ordered last
+abbrev pub last_run : History → Option Heading
+last_run past = last_such go (orders_of past)
+
+-- how many were ordered, which is the number of the last
+abbrev pub runs : History → ℕ
+runs past = length (filter_map go (orders_of past))
+
+abbrev pub end_of : Item → Option ℕ
+end_of (Accepted r) = Some r.end
+end_of _ = None
+
+-- where the program stands: at the end of the last accepted report
+abbrev pub position : History → ℕ
+position past = unwrap_or (last_such (λ step. end_of step.item) past) 0
+
+-- the plan in force: the last that was put in
+abbrev pub plan : History → Plan
+plan past = unwrap_or (last_such (λ step. step.effect.put_in) past) no_plan
+
+-- ---- what waits in a run until the runner gives the debuggee back; with a Go nothing waits
+
+abbrev pub waits_by : Step → Option (Option (List Breakpoint))
+waits_by step = or_else (option_map (λ run. None) (last_such go step.effect.orders)) (option_map Some step.effect.waits)
+
+-- the breakpoints that wait
+abbrev pub waiting_plan : History → Option (List Breakpoint)
+waiting_plan past = unwrap_or (last_such waits_by past) None
+
+abbrev pub is_pause : Option Outgoing → Option Bool
+is_pause (Some (Answer seq (name.Supported supported.Pause) (Ok body))) = Some true
+is_pause _ = None
+
+abbrev pub pauses_by : Step → Option Bool
+pauses_by step = or_else (option_map (λ run. false) (last_such go step.effect.orders)) (is_pause step.answer)
+
+-- a pause waits
+abbrev pub waiting_pause : History → Bool
+waiting_pause past = unwrap_or (last_such pauses_by past) false
+
+abbrev pub hold_mark : PlainOrder → Option Bool
+hold_mark (Go run) = Some false
+hold_mark (Hold run) = Some true
+hold_mark Quit = None
+
+-- the last run was ordered to hold
+abbrev pub is_held : History → Bool
+is_held past = unwrap_or (last_such hold_mark (orders_of past)) false
+
+-- ---- the ending
+
+-- how a command closes the session, if it does
+abbrev pub closing_command : Command → Option Ending
+closing_command command.Disconnect = Some (ending.Closed Disconnected)
+closing_command _ = None
+
+-- how a report does
+abbrev pub closing_report : SliceOutcome → Option Ending
+closing_report slice.NoMemory = Some (ending.Fault NoMemory)
+closing_report _ = None
+
+-- how an item closes the session, if it does
+abbrev pub closing : Item → Option Ending
+closing (Content None) = None
+closing (Content (Some request)) = closing_command request.body
+closing (Loaded launch file) = None
+closing (Accepted r) = closing_report r.outcome
+closing (Fault k) = Some (ending.Fault (Frame k))
+closing InputEnd = Some (ending.Closed InputEnded)
+closing ReadFailure = Some (ending.Closed ReadFailed)
+closing MemoryFailure = Some (ending.Fault NoMemory)
+
+-- how the session ended, if it did
+abbrev pub ending_of : History → Option Ending
+ending_of past = last_such (λ step. closing step.item) past

@@ -1,0 +1,74 @@
+-- What a command is answered with, and what it causes after the answer.
+use Rattle.std.specs.Prelude.{ℕ, nat_eq, if◌then◌else◌, List, [], ◌∷◌, Option, None, Some, Result, Ok, Err}
+use Rattle.dap_msg.specs.declared.outgoing.Body.{Body}
+use Rattle.dap_msg.specs.declared.outgoing.Refusal.{Refusal}
+use Rattle.dap_msg.specs.declared.outgoing.Refusal.TheVariants as refusal
+use Rattle.dap_msg.specs.declared.outgoing.EventBody.{EventBody}
+use Rattle.dap_msg.specs.declared.outgoing.EventBody.TheVariants as event
+use Rattle.dap_msg.specs.declared.outgoing.StopReason.{StopReason}
+use Rattle.dap_msg.specs.declared.outgoing.StopReason.TheVariants as stop
+use Rattle.dap_msg.specs.declared.outgoing.Exception.{Exception}
+use Rattle.dap_msg.specs.declared.outgoing.Exception.TheVariants as exception
+use Rattle.pl0_meaning.specs.declared.RunFault.{RunFault}
+use Rattle.pl0_meaning.specs.declared.RunFault.TheVariants as run_fault
+use Rattle.dbg_plan.specs.declared.mode.Reason.{Reason}
+use Rattle.dbg_plan.specs.declared.mode.Reason.TheVariants as reason
+use Rattle.dap_history.specs.Plain.{PlainOrder}
+use Rattle.dap_history.specs.History.{Launched, Effect}
+
+pub record Reply : Type 0 where
+  pub result : Result Body Refusal
+  pub effect : Effect
+
+abbrev pub nothing : Effect
+nothing = record { events = []; orders = []; launched = None; put_in = None; waits = None }
+
+abbrev pub reporting : List EventBody → Effect
+reporting events = record nothing { events = events }
+
+abbrev pub ordering : List PlainOrder → Effect
+ordering orders = record nothing { orders = orders }
+
+-- an answer alone
+abbrev pub answered : Body → Reply
+answered body = record { result = Ok body; effect = nothing }
+
+-- a refusal causes nothing
+abbrev pub refused : Refusal → Reply
+refused why = record { result = Err why; effect = nothing }
+
+-- an answer, and what it causes
+abbrev pub causing : Body → Effect → Reply
+causing body effect = record { result = Ok body; effect = effect }
+
+-- the launched program is as said; there is one, since the situation asks for one
+abbrev pub OfProgram : Option Launched → (Launched → Type 0) → Type 0
+OfProgram None says = ⊥
+OfProgram (Some l) says = says l
+
+-- ---- stops
+
+abbrev pub stop_of : Reason → StopReason
+stop_of reason.Breakpoint = stop.Breakpoint
+stop_of reason.Entry = stop.Entry
+stop_of reason.Step = stop.Step
+
+abbrev pub exception_of : RunFault → Exception
+exception_of run_fault.Overflow = exception.Overflow
+exception_of run_fault.DivideByZero = exception.DivideByZero
+exception_of run_fault.Depth = exception.Depth
+exception_of run_fault.StepLimit = exception.StepLimit
+
+-- the program stands
+abbrev pub stops : StopReason → List EventBody
+stops r = event.Stopped r ∷ []
+
+-- the program is over
+abbrev pub ends : ℕ → List EventBody
+ends code = event.Exited code ∷ event.Terminated ∷ []
+
+-- ---- the thread
+
+-- there is one thread, numbered 1
+abbrev pub on_thread : ℕ → Reply → Reply
+on_thread thread reply = if nat_eq thread 1 then reply else refused refusal.UnknownThread

@@ -1,0 +1,85 @@
+-- What starts a run, resumes one and interrupts it: `configurationDone`, `continue`, `next`, `stepIn`, `stepOut`, `pause`.
+use Rattle.std.specs.Prelude.{◌≡◌, ℕ, ◌+◌, Bool, true, false, List, [], ◌∷◌, if◌then◌else◌, Option, None, Some}
+use Rattle.dap_msg.specs.declared.outgoing.Body.{Body}
+use Rattle.dap_msg.specs.declared.outgoing.Body.TheVariants as body
+use Rattle.dap_msg.specs.declared.outgoing.Refusal.TheVariants as refusal
+use Rattle.dbg_plan.specs.declared.mode.Mode.{Mode}
+use Rattle.dbg_plan.specs.declared.mode.Mode.TheVariants as mode
+use Rattle.dbg_plan.specs.declared.mode.Reason.{Reason}
+use Rattle.dbg_plan.specs.Due.{depth_at, due}
+use Rattle.dap_history.specs.Plans.{Plan}
+use Rattle.dap_history.specs.Plain.{PlainOrder, Go}
+use Rattle.dap_history.specs.declared.situation.Situation.{Situation}
+use Rattle.dap_history.specs.declared.situation.Situation.TheVariants.{Fresh, Ready, Configuring, Running, Stopped, Faulted, Ended}
+use Rattle.dap_history.specs.History.{Launched, History, Effect}
+use Rattle.dap_history.specs.Readings.{situation, launched, runs, position, plan}
+use Rattle.dap_history.specs.Breakpoints.{hold_once}
+use Rattle.dap_history.specs.Replies.{Reply, reporting, ordering, answered, refused, causing, OfProgram, stop_of, stops, ends, on_thread}
+
+-- the order of the next run, which begins at this position under this plan and in this mode
+abbrev pub goes : History → Launched → ℕ → Plan → Mode → List PlainOrder
+goes past l begins p m =
+    Go (record { run = runs past + 1; text = l.text; plan = p.breakpoints; counted_from = p.counted_from; mode = m; start = begins }) ∷ []
+
+-- the same, where the session holds the debuggee
+abbrev pub resumes : History → Launched → Mode → List PlainOrder
+resumes past l m = goes past l (position past) (plan past) m
+
+-- ---- `configurationDone`
+
+abbrev pub entry_mode : Launched → Mode
+entry_mode l = if l.stop_on_entry then mode.Entry else mode.Continue
+
+-- position 0 is due, or the first run begins there
+abbrev pub enters : History → Launched → Option Reason → Effect
+enters past l (Some r) = reporting (stops (stop_of r))
+enters past l None = ordering (resumes past l mode.Continue)
+
+abbrev pub Configures : History → Reply → Type 0
+Configures past reply = OfProgram (launched past) (λ l. reply
+    ≡ causing body.None (enters past l (due l.program (plan past).breakpoints (plan past).counted_from (entry_mode l) 0)))
+
+abbrev pub ConfiguresIn : Situation → History → Reply → Type 0
+ConfiguresIn Configuring past reply = Configures past reply
+ConfiguresIn _ past reply = reply ≡ refused refusal.WrongPhase
+
+-- ---- `continue`, `next`, `stepIn`, `stepOut`
+
+-- how the program is to go on
+pub data Pace : Type 0 where
+  ToStop : Pace
+  ToNext : Pace
+  ToStep : Pace
+  ToReturn : Pace
+
+-- the mode, by the depth where the program stands
+abbrev pub mode_of : Pace → ℕ → Mode
+mode_of ToStop depth = mode.Continue
+mode_of ToNext depth = mode.Over depth
+mode_of ToStep depth = mode.In
+mode_of ToReturn depth = mode.Out depth
+
+-- `continue` alone is answered with a body
+abbrev pub body_of : Pace → Body
+body_of ToStop = body.Continued
+body_of _ = body.None
+
+abbrev pub Resumes : History → Pace → ℕ → Reply → Type 0
+Resumes past pace thread reply = OfProgram (launched past) (λ l. reply
+    ≡ on_thread thread (causing (body_of pace) (ordering (resumes past l (mode_of pace (depth_at l.program (position past)))))))
+
+-- Profile: after a fault the program is over, with the code 1.
+abbrev pub ResumesIn : Situation → History → Pace → ℕ → Reply → Type 0
+ResumesIn Running past pace thread reply = reply ≡ refused refusal.NotStopped
+ResumesIn Stopped past pace thread reply = Resumes past pace thread reply
+ResumesIn Faulted past pace thread reply = reply ≡ on_thread thread (causing (body_of pace) (reporting (ends 1)))
+ResumesIn _ past pace thread reply = reply ≡ refused refusal.WrongPhase
+
+-- ---- `pause`
+
+-- in a run the pause waits
+abbrev pub pause_in : Situation → History → ℕ → Reply
+pause_in Running past thread = on_thread thread (causing body.None (ordering (hold_once past)))
+pause_in Stopped past thread = on_thread thread (answered body.None)
+pause_in Faulted past thread = on_thread thread (answered body.None)
+pause_in _ past thread = refused refusal.WrongPhase

@@ -1,0 +1,128 @@
+-- The law of stops: each is where it has to be, and what is asked there is answered from there.
+use Rattle.std.specs.Prelude.{◌≡◌, ◌++◌, ◌∷◌, [], ℕ, ◌<◌, ◌≤◌, List, if◌then◌else◌, Option, None, Some, Ok, All}
+use Rattle.dap_msg.specs.Commands.{name_of}
+use Rattle.dap_msg.specs.declared.request.Request.{Request}
+use Rattle.dap_msg.specs.declared.command.Command.{Command}
+use Rattle.dap_msg.specs.declared.command.Command.TheVariants as command
+use Rattle.dap_msg.specs.declared.outgoing.Outgoing.TheVariants.{Answer}
+use Rattle.dap_msg.specs.declared.outgoing.Body.{Body}
+use Rattle.dap_msg.specs.declared.outgoing.EventBody.{EventBody}
+use Rattle.dap_msg.specs.declared.outgoing.EventBody.TheVariants as event
+use Rattle.dap_msg.specs.declared.outgoing.StopReason.{StopReason}
+use Rattle.dap_msg.specs.declared.outgoing.StopReason.TheVariants as stop
+use Rattle.pl0_meaning.specs.declared.RunFault.{RunFault}
+use Rattle.pl0_meaning.specs.Runs.{at, outcome, Faults}
+use Rattle.dbg_plan.specs.declared.mode.Mode.{Mode}
+use Rattle.dbg_plan.specs.declared.mode.Mode.TheVariants as mode
+use Rattle.dbg_plan.specs.declared.mode.Reason.{Reason}
+use Rattle.dbg_plan.specs.Due.{due}
+use Rattle.dap_history.specs.Plain.{Heading}
+use Rattle.dap_history.specs.declared.situation.Situation.{Situation}
+use Rattle.dap_history.specs.declared.situation.Situation.TheVariants.{Stopped, Faulted}
+use Rattle.dap_history.specs.Last.{last_such}
+use Rattle.dap_history.specs.History.{Launched, Content, Step, History}
+use Rattle.dap_history.specs.Readings.{situation, launched, last_run, position, plan}
+use Rattle.dap_history.specs.Replies.{Reply, stop_of, exception_of}
+use Rattle.dap_history.specs.Inspection.{RepliesAt, asked_of}
+use Rattle.dap_history.specs.Events.{Incoming, Rest, AreLawful, IsHistoryOf}
+
+abbrev pub stop_of_event : EventBody → Option StopReason
+stop_of_event (event.Stopped reason) = Some reason
+stop_of_event _ = None
+
+-- the stop that a step reports, if it reports one
+abbrev pub stop_in : Step → Option StopReason
+stop_in step = last_such stop_of_event step.effect.events
+
+-- In this history, after what came before, the program stopped at position m.
+pub record StopsAt (past before : History) (reason : StopReason) (m : ℕ) : Type 0 where
+  pub step : Step
+  pub after : History
+  pub past_is : past ≡ before ++ step ∷ after
+  pub stop_is : stop_in step ≡ Some reason
+  pub position_is : m ≡ position (before ++ step ∷ [])
+
+-- why a position is due in a run of the program, if it is
+abbrev pub due_in : Launched → Heading → ℕ → Option Reason
+due_in l run m = due l.program run.plan run.counted_from run.mode m
+
+-- no position that the run came to, up to, but not including, m, is due; the one where it began isn't asked
+abbrev pub NoneDueBefore : Launched → Heading → ℕ → Type 0
+NoneDueBefore l run m = (k : ℕ) → run.start < k → k < m → due_in l run k ≡ None
+
+-- the same, up to and including m
+abbrev pub NoneDueUpTo : Launched → Heading → ℕ → Type 0
+NoneDueUpTo l run m = (k : ℕ) → run.start < k → k ≤ m → due_in l run k ≡ None
+
+-- A run stopped at m for this reason: at the least position above its beginning that is due; where it was held; or before
+-- the step that faults.
+abbrev pub IsRunsStop : Launched → Heading → StopReason → ℕ → Type 0
+IsRunsStop l run stop.Pause m = (run.start ≤ m) × NoneDueUpTo l run m
+IsRunsStop l run (stop.Exception x) m =
+    (fault : RunFault) × (x ≡ exception_of fault) × (outcome l.program m ≡ Faults fault) × (run.start ≤ m) × NoneDueUpTo l run m
+IsRunsStop l run reason m =
+    (r : Reason) × (reason ≡ stop_of r) × (due_in l run m ≡ Some r) × (run.start < m) × NoneDueBefore l run m
+
+-- the mode in which position 0 is considered
+abbrev pub first_mode : Launched → Mode
+first_mode l = if l.stop_on_entry then mode.Entry else mode.Continue
+
+-- A stop after these steps: of the last run, or, before any, at position 0.
+abbrev pub IsRightStop : Launched → History → Option Heading → StopReason → ℕ → Type 0
+IsRightStop l before (Some run) reason m = IsRunsStop l run reason m
+IsRightStop l before None reason m =
+    (m ≡ 0) × ((r : Reason) × (reason ≡ stop_of r) × (due l.program (plan before).breakpoints (plan before).counted_from (first_mode l) 0 ≡ Some r))
+
+abbrev pub EachStopIsRight : Type 0
+EachStopIsRight =
+    (events : List Incoming) (past : History) (rest : Rest) → AreLawful events → IsHistoryOf events past rest
+    → (before : History) (reason : StopReason) (m : ℕ) → StopsAt past before reason m
+    → (l : Launched) × (launched before ≡ Some l) × IsRightStop l before (last_run before) reason m
+
+-- ---- what is asked at a stop
+
+-- the program stands: of runs that began, stops and ends, the last was a stop
+abbrev pub IsStanding : Situation → Type 0
+IsStanding Stopped = Unit {0}
+IsStanding Faulted = Unit {0}
+IsStanding _ = ⊥
+
+-- the program stopped last at position m
+pub record StoppedLastAt (past : History) (m : ℕ) : Type 0 where
+  pub early : History
+  pub step : Step
+  pub later : History
+  pub past_is : past ≡ early ++ step ∷ later
+  pub reason : StopReason
+  pub stop_is : stop_in step ≡ Some reason
+  pub none_later : All (λ (s : Step). stop_in s ≡ None) later
+  pub position_is : m ≡ position (early ++ step ∷ [])
+
+abbrev pub IsQuestion : Command → Type 0
+IsQuestion (command.StackTrace asked) = Unit {0}
+IsQuestion (command.Scopes asked) = Unit {0}
+IsQuestion (command.Variables asked) = Unit {0}
+IsQuestion (command.Evaluate asked) = Unit {0}
+IsQuestion _ = ⊥
+
+-- after these steps the question was taken
+pub record Asks (past before : History) (request : Request) (step : Step) : Type 0 where
+  pub after : History
+  pub past_is : past ≡ before ++ step ∷ after
+  pub item_is : step.item ≡ Content (Some request)
+  pub question : IsQuestion request.body
+
+-- the step answers the question by what the program shows at position m
+pub record AnswersFrom (l : Launched) (before : History) (m : ℕ) (request : Request) (step : Step) : Type 0 where
+  pub reply : Reply
+  pub shown : RepliesAt (asked_of before l) (at l.program m) request.body reply
+  pub answer_is : step.answer ≡ Some (Answer request.seq (name_of request.body) reply.result)
+
+-- Where the program stands, frames, scopes, variables and values are those of the launched program at its last stop.
+-- Elsewhere no question is answered with a body.
+abbrev pub QuestionsAreAnsweredThere : Type 0
+QuestionsAreAnsweredThere =
+    (events : List Incoming) (past : History) (rest : Rest) → IsHistoryOf events past rest
+    → (before : History) (request : Request) (step : Step) → Asks past before request step
+    → (IsStanding (situation before) → (l : Launched) × (m : ℕ) × (launched before ≡ Some l) × StoppedLastAt before m × AnswersFrom l before m request step)
+    × ((b : Body) → step.answer ≡ Some (Answer request.seq (name_of request.body) (Ok b)) → IsStanding (situation before))

@@ -1,0 +1,26 @@
+ghost use Rattle.dap_history.specs.Laws.{HistoryIsOne, ContentsAreOfTheStream, EachIsAnsweredOnce, SeqCountFromOne, DisconnectIsLast, NumbersAreWritten, StopsFollowNumbers};
+ghost use Rattle.dap_history.specs.Stops.{EachStopIsRight, QuestionsAreAnsweredThere};
+
+use dap_frame::frame_laws;
+use dap_msg::message_laws;
+use pl0_meaning::meaning_laws;
+use pl0_syntax::{editor_laws, text_laws};
+
+/// What holds of all that a session sends, whatever events come. It does nothing: its contract is the laws.
+pub fn history_laws()
+    ensures one { HistoryIsOne }
+    ensures contents { ContentsAreOfTheStream }
+    ensures answered { EachIsAnsweredOnce }
+    ensures numbered { SeqCountFromOne }
+    ensures outputs { NumbersAreWritten }
+    ensures order { StopsFollowNumbers }
+    ensures stops { EachStopIsRight }
+    ensures questions { QuestionsAreAnsweredThere }
+    ensures last { DisconnectIsLast }
+{
+    frame_laws();
+    message_laws();
+    text_laws();
+    editor_laws();
+    meaning_laws();
+}
