@@ -6,7 +6,7 @@ ghost use Rattle.pl0_tree.specs.Steps.{steps};
 ghost use Rattle.adapter.specs.Listing.{listing_text, lines_from, step_line, kind_name, instruction_line, instruction_text, operation_number, begun_by, begun_text};
 
 use pl0_code::{Instruction, Operation, Unit};
-use pl0_tree::{Step, StepKind, StepNo};
+use pl0_tree::{Step, StepKind, StepNumber};
 use std::alloc::{AllocError, Global};
 
 /// The listing of a program: a line for each step, with its number, line, column and kind; an empty line; and a line for
@@ -18,7 +18,7 @@ pub fn listing(alloc: Global, unit: &Unit) -> Result<String, AllocError>
     let mut text = String::new(alloc);
     write_steps(&mut text, unit.steps.as_slice())?;
     text.push_str("\n")?;
-    write_code(&mut text, unit.code.as_slice(), unit.lines.as_slice())?;
+    write_code(&mut text, unit.code.as_slice(), unit.begun_steps.as_slice())?;
     Ok(text)
 }
 
@@ -32,7 +32,7 @@ fn write_steps(text: &mut String, steps: &[Step]) -> Result<(), AllocError>
     Ok(())
 }
 
-fn write_step(text: &mut String, number: StepNo, step: Step) -> Result<(), AllocError>
+fn write_step(text: &mut String, number: StepNumber, step: Step) -> Result<(), AllocError>
     ensures { OnOk result (string_bytes text.new ≡ string_bytes text.old ++ step_line number step.kind step.place) }
 {
     let kind = name_of_kind(step.kind);
@@ -58,7 +58,7 @@ fn name_of_kind(kind: StepKind) -> &'static str
 fn write_code(
     text: &mut String,
     code: &[Instruction],
-    begun: &[Option<StepNo>],
+    begun: &[Option<StepNumber>],
 ) -> Result<(), AllocError>
     ensures { OnOk result (string_bytes text.new ≡ string_bytes text.old
         ++ lines_from (λ n i. instruction_line n i (begun_by (slice_get begun.now n))) 0 code.now) }
@@ -70,7 +70,7 @@ fn write_code(
 }
 
 /// The step that an instruction begins.
-fn step_begun(begun: &[Option<StepNo>], number: usize) -> Option<StepNo>
+fn step_begun(begun: &[Option<StepNumber>], number: usize) -> Option<StepNumber>
     ensures { result ≡ begun_by (slice_get begun.now number) }
 {
     match begun.get(number) {
@@ -83,7 +83,7 @@ fn write_instruction(
     text: &mut String,
     number: usize,
     instruction: Instruction,
-    begins: Option<StepNo>,
+    begins: Option<StepNumber>,
 ) -> Result<(), AllocError>
     ensures { OnOk result (string_bytes text.new ≡ string_bytes text.old ++ instruction_line number instruction begins) }
 {
@@ -118,7 +118,7 @@ fn number_of_operation(operation: Operation) -> u8
     operation as u8
 }
 
-fn write_begun(text: &mut String, begins: Option<StepNo>) -> Result<(), AllocError>
+fn write_begun(text: &mut String, begins: Option<StepNumber>) -> Result<(), AllocError>
     ensures { OnOk result (string_bytes text.new ≡ string_bytes text.old ++ begun_text begins) }
 {
     match begins {

@@ -33,7 +33,7 @@ fn agrees_on_frame(machine: &Machine, plain: &Plain, at: usize) -> bool {
         return false;
     }
     let view = machine.frame(at);
-    let next = step_of(machine, view.place).map(|step| NextStep {
+    let next = step_of(machine, view.next_step).map(|step| NextStep {
         kind: step.kind,
         place: step.place,
     });

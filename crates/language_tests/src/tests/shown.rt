@@ -2,7 +2,7 @@
 
 use crate::tests::compiled::{machine_of, number, step_of, tree_of};
 use pl0_code::compile;
-use pl0_lexer::cut;
+use pl0_parser::tokenize;
 use pl0_machine::{Machine, StepOutcome};
 use pl0_syntax::{Place, Step, SyntaxFault, Tree, block_name, blocks, parse, steps};
 use pl0_tree::Token;
@@ -125,7 +125,7 @@ fn write_code(rt: &impl Abort, out: &mut String, code: &[Instruction], begins: &
 fn show_code(rt: &impl Abort, alloc: Global, text: &str) -> String {
     let mut out = String::new(alloc);
     let unit = compile(alloc, tree_of(rt, alloc, text)).expect(rt, "memory");
-    write_code(rt, &mut out, &unit.code, &unit.lines);
+    write_code(rt, &mut out, &unit.code, &unit.begun_steps);
     out
 }
 
@@ -144,7 +144,7 @@ fn write_run(rt: &impl Abort, out: &mut String, machine: &mut Machine) {
         if depth == 0 {
             return;
         }
-        let step = machine.place();
+        let step = machine.next_step();
         write!(out, "{step}/{depth} ").expect(rt, "memory");
         let outcome = machine.step();
         write_outcome(rt, out, outcome);
@@ -184,7 +184,7 @@ fn next_place(machine: &Machine) -> Option<Place> {
     if machine.depth() == 0 {
         return None;
     }
-    Some(step_of(machine, machine.place())?.place)
+    Some(step_of(machine, machine.next_step())?.place)
 }
 
 fn write_end(rt: &impl Abort, out: &mut String, machine: &mut Machine) {

@@ -2,7 +2,7 @@
 
 use crate::tests::shown::View;
 use crate::tests::table::assert_rows;
-use pl0_lexer::cut;
+use pl0_parser::tokenize;
 
 const TOKENS: &str = r#"
 no text |  | 1:1
