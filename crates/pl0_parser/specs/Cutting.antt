@@ -17,7 +17,7 @@ StaysOnLine (suc k) (b ∷ bytes) = (b ≢ 10) × StaysOnLine k bytes
 abbrev pub along : Place → ℕ → Place
 along p k = record { line = p.line; column = p.column + k }
 
--- At any place the first token of the bytes is the symbol, and the others are those of the bytes behind it.
+-- At any place the first token of the bytes is the symbol, and the others are those of the bytes after it.
 pub record IsFront (bytes : List ℕ) (s : Seen) (size : ℕ) : Type 0 where
   pub some : 0 < size
   pub within : size ≤ length bytes
