@@ -4,7 +4,12 @@ PROGRAM = crates/pl0dap/out/pl0dap
 SPEED = crates/speed/out/speed
 SOURCES = crates.txt $(shell find crates -name out -prune -o -type f \( -name '*.rt' -o -name '*.antt' \) -print)
 
-.PHONY: build demo rows refusals misuse check plants gate-times install bench
+.PHONY: try build demo rows refusals misuse check plants gate-times install bench
+
+# A stored debug session in readable form within a minute or two, from a fresh clone on.
+try:
+	@echo "rt try proves nothing: this run is not proved. 'make check' proves the program."
+	python3 demo/session.py demo/hello.session env -C crates/pl0dap rt try
 
 build: $(PROGRAM)
 
@@ -20,13 +25,13 @@ $(SPEED): $(SOURCES)
 
 # A stored debug session, its frames printed in readable form.
 demo: $(PROGRAM)
-	python3 demo/session.py $(PROGRAM) demo/hello.session
+	python3 demo/session.py demo/hello.session $(PROGRAM)
 
 # Worked inputs, whole, a byte at a time and cut at many places, with what must come out; and that the examples are those
 # whose listings the gate compares.
 rows: $(PROGRAM)
 	python3 demo/rows.py $(PROGRAM)
-	diff -r examples crates/check_examples/data
+	diff -r -x fault.pl0 -x procedures.pl0 examples crates/check_runs/data
 
 # The merge gate: proves everything from nothing, and runs everything.
 check:

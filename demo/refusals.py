@@ -88,14 +88,20 @@ def contents(*names: str) -> bytes:
         return file.read()
 
 
+def listing(name: str) -> bytes:
+    """The listing of a file, of those that the stored run prints one after another, each after a line with its name."""
+    _, rest = contents("check_runs", "stdout").split(b"%s.pl0:\n" % name.encode(), 1)
+    return b"".join(itertools.takewhile(lambda line: not line.endswith(b":\n"), rest.splitlines(keepends=True)))
+
+
 def runs(program: str, speed: str) -> dict[str, Run]:
-    nested = os.path.join(CRATES, "check_listing", "data", "nested.pl0")
+    procedures = os.path.join(CRATES, "check_runs", "data", "procedures.pl0")
     under = f"under {LINES} breakpoints\n"
     return {
         "a session": Run(
             [program], contents("pl0dap", "stdout"), ADAPTER_ENDS, source=os.path.join(CRATES, "pl0dap", "stdin")
         ),
-        "a listing": Run([program, "--check", nested], contents("check_listing", "stdout"), ADAPTER_ENDS),
+        "a listing": Run([program, "--check", procedures], listing("procedures"), ADAPTER_ENDS),
         "a machine": Run([speed, "machine", RECURSION], f"Done after {STEPS} steps\n".encode(), {"allocation": MACHINE_ENDS}),
         "a run in slices": Run(
             [speed, "slices", RECURSION, "1", str(LINES), CONDITION],
