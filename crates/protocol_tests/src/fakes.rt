@@ -2,8 +2,8 @@
 ghost use Rattle.std.specs.Prelude.{◌≡◌, ◌+◌, None, IfOk};
 ghost use Rattle.dap_session.specs.Events.{incoming_of};
 
-use dap_session::{Event, Inbox, LoadFault, Loader, Order, OrderFault, Orders, Out};
 use adapter::{Gate, IoFault, Sink, Source};
+use dap_session::{Event, Inbox, LoadFault, Loader, Order, OrderFault, Orders, Out};
 use std::alloc::{AllocError, Global};
 use std::cell::Cell;
 use std::process::Abort;
@@ -163,7 +163,24 @@ pub struct Input<'a, R: Abort> {
     pub failures: u64,
 }
 
-impl<R: Abort> Input<'_, R> {
+impl<'a, R: Abort> Input<'a, R> {
+    pub fn new(
+        rt: &'a R,
+        bytes: &'a [u8],
+        streams: Streams,
+        written: &'a Cell<usize>,
+    ) -> Input<'a, R> {
+        Input {
+            rt,
+            bytes,
+            streams,
+            written,
+            at: 0,
+            is_interrupted: false,
+            failures: 0,
+        }
+    }
+
     fn fails(&self) -> bool {
         self.at >= self.streams.read_fails_at
             || (self.at >= self.streams.held_at
@@ -214,6 +231,24 @@ pub struct Output<'a, R: Abort> {
     pub written: &'a Cell<usize>,
     pub is_interrupted: bool,
     pub failures: u64,
+}
+
+impl<'a, R: Abort> Output<'a, R> {
+    pub fn new(
+        rt: &'a R,
+        alloc: Global,
+        streams: Streams,
+        written: &'a Cell<usize>,
+    ) -> Output<'a, R> {
+        Output {
+            rt,
+            bytes: Vec::new(alloc),
+            streams,
+            written,
+            is_interrupted: false,
+            failures: 0,
+        }
+    }
 }
 
 impl<R: Abort> Sink for Output<'_, R> {
@@ -287,6 +322,15 @@ impl Loader for OneFile<'_> {
 pub struct Unreadable {
     pub alloc: Global,
     pub asked: Vec<String>,
+}
+
+impl Unreadable {
+    pub fn new(alloc: Global) -> Unreadable {
+        Unreadable {
+            alloc,
+            asked: Vec::new(alloc),
+        }
+    }
 }
 
 impl Loader for Unreadable {

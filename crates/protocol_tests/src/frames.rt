@@ -114,7 +114,7 @@ fn decodes_headers_up_to_the_limit(rt: HostRuntime) -> Result<(), Fail> {
     Ok(())
 }
 
-/// A content of 1,048,576 bytes is given, and not refused for want of memory.
+/// A content of 1,048,576 bytes is given, and not refused as out of memory.
 #[test]
 fn decodes_the_largest_content(rt: HostRuntime) -> Result<(), Fail> {
     let alloc = rt.alloc();

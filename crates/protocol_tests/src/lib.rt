@@ -3,7 +3,7 @@
 //!
 //! `frames`, `requests` and `messages` try one layer each. `rows` has the worked rows, as transcripts; `driving` runs them
 //! through a session over ports in memory, and `serving` through the adapter over streams in memory, both of which stand in
-//! `fakes`. `listings` and `command_line` try what the program does beside serving.
+//! `fakes`. `listings`, `loading`, `command_line` and `running` try what else the program does.
 #![tactic(auto)]
 
 #[cfg(test)]
@@ -17,11 +17,15 @@ mod frames;
 #[cfg(test)]
 mod listings;
 #[cfg(test)]
+mod loading;
+#[cfg(test)]
 mod messages;
 #[cfg(test)]
 mod requests;
 #[cfg(test)]
 mod rows;
+#[cfg(test)]
+mod running;
 #[cfg(test)]
 mod serving;
 #[cfg(test)]

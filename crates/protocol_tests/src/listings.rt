@@ -1,17 +1,17 @@
 //! Judging a text: its listing byte for byte, its first fault, and each way in which neither can be told.
 
 use crate::fakes::{OneFile, Output, Streams, Unreadable};
-use dap_session::Loader;
 use adapter::{check, end_of_check};
+use dap_session::Loader;
 use std::alloc::Global;
 use std::cell::Cell;
 use std::process::Abort;
 use std::sync::Wait;
 use std::test::Fail;
 
-const LAWFUL: &[u8] = b"var x;\n\nbegin x := 1;\n! x end.\n";
+pub const LAWFUL: &[u8] = b"var x;\n\nbegin x := 1;\n! x end.\n";
 
-const LISTING: &[u8] = b"0 3 7 assign
+pub const LISTING: &[u8] = b"0 3 7 assign
 1 4 1 write
 2 4 8 return
 
@@ -32,19 +32,13 @@ fn is_judged<R: Abort + Wait, L: Loader>(
     streams: Streams,
     expected: (&[u8], u8, &str),
 ) -> Result<bool, Fail> {
-    let mut output = Output {
-        rt,
-        bytes: Vec::new(alloc),
-        streams,
-        written: &Cell::new(0),
-        is_interrupted: false,
-        failures: 0,
-    };
+    let written = Cell::new(0);
+    let mut output = Output::new(rt, alloc, streams, &written);
     let reason = end_of_check(&check(rt, alloc, "p.pl0", loader, &mut output));
     let line = format!(in alloc; "{reason}")?;
-    let (written, status, last_line) = expected;
+    let (listing, status, last_line) = expected;
     Ok(
-        output.bytes.as_slice() == written
+        output.bytes.as_slice() == listing
             && reason.status() == status
             && line.as_str() == last_line,
     )
@@ -79,10 +73,7 @@ fn names_the_first_fault(rt: HostRuntime) -> Result<(), Fail> {
 #[test]
 fn says_that_a_file_cannot_be_read(rt: HostRuntime) -> Result<(), Fail> {
     let alloc = rt.alloc();
-    let none = &mut Unreadable {
-        alloc,
-        asked: Vec::new(alloc),
-    };
+    let none = &mut Unreadable::new(alloc);
     let expected: (&[u8], u8, &str) = (b"", 1, "pl0dap: cannot read");
     assert!(rt; is_judged(&rt, alloc, none, Streams::WELL, expected)?);
     Ok(())

@@ -106,7 +106,7 @@ fn frames(alloc: Global, count: usize) -> Result<Vec<StackFrame>, Fail> {
     Ok(frames)
 }
 
-/// One frame, and 1,024 of them: an answer as large isn't refused for want of memory.
+/// One frame, and 1,024 of them: an answer as large isn't refused as out of memory.
 #[test]
 fn writes_frames(rt: HostRuntime) -> Result<(), Fail> {
     let alloc = rt.alloc();

@@ -483,7 +483,7 @@ fn reads_values_up_to_127_deep(rt: HostRuntime) -> Result<(), Fail> {
     Ok(())
 }
 
-/// A content of 1,048,576 bytes is read, and not refused for want of memory.
+/// A content of 1,048,576 bytes is read, and not refused as out of memory.
 #[test]
 fn reads_the_largest_content(rt: HostRuntime) -> Result<(), Fail> {
     let alloc = rt.alloc();

@@ -21,23 +21,8 @@ struct Outcome {
 /// Serves an input of these bytes.
 fn run<R: Abort + Wait>(rt: &R, alloc: Global, bytes: &[u8], streams: Streams) -> Outcome {
     let written = Cell::new(0);
-    let mut input = Input {
-        rt,
-        bytes,
-        streams,
-        written: &written,
-        at: 0,
-        is_interrupted: false,
-        failures: 0,
-    };
-    let mut output = Output {
-        rt,
-        bytes: Vec::new(alloc),
-        streams,
-        written: &written,
-        is_interrupted: false,
-        failures: 0,
-    };
+    let mut input = Input::new(rt, bytes, streams, &written);
+    let mut output = Output::new(rt, alloc, streams, &written);
     let files = &mut OneFile::new(alloc, b"");
     let end = serve(rt, alloc, &mut input, &mut output, files, &mut OpenGate);
     Outcome {
@@ -155,7 +140,7 @@ fn serves_headers_up_to_the_limit(rt: HostRuntime) -> Result<(), Fail> {
     Ok(())
 }
 
-/// A content of 1,048,576 bytes is decoded and answered, and not refused for want of memory.
+/// A content of 1,048,576 bytes is decoded and answered, and not refused as out of memory.
 #[test]
 fn serves_the_largest_content(rt: HostRuntime) -> Result<(), Fail> {
     let alloc = rt.alloc();
@@ -265,8 +250,8 @@ fn serves_streams_of_std(rt: HostRuntime) -> Result<(), Fail> {
     let result = serve(
         &rt,
         alloc,
-        &mut Reading::new(input.as_slice()),
-        &mut Writing::new(&mut output),
+        &mut Reading::new(&rt, input.as_slice()),
+        &mut Writing::new(&rt, &mut output),
         &mut OneFile::new(alloc, b""),
         &mut OpenGate,
     );

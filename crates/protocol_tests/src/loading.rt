@@ -1,0 +1,61 @@
+//! The beginning of a file, read from a source that is interrupted at each second read.
+
+use crate::fakes::{Input, Streams};
+use crate::text::repeated;
+use adapter::read_beginning;
+use dap_session::LoadFault;
+use std::cell::Cell;
+use std::test::Fail;
+
+/// The lengths of files, and how many bytes of them are given.
+const LENGTHS: [(usize, usize); 5] = [
+    (0, 0),
+    (1, 1),
+    (65_536, 65_536),
+    (65_537, 65_537),
+    (65_538, 65_537),
+];
+
+#[test]
+fn gives_the_first_bytes(rt: HostRuntime) -> Result<(), Fail> {
+    let alloc = rt.alloc();
+    let text = repeated(alloc, "", "x", 65_538, "")?;
+    let written = Cell::new(0);
+    for (length, given) in LENGTHS.as_slice() {
+        for read_step in [1000, usize::MAX] {
+            let bytes = text.as_bytes().get(..*length).unwrap_or_default();
+            let streams = Streams {
+                read_step,
+                ..Streams::WELL
+            };
+            let mut source = Input::new(&rt, bytes, streams, &written);
+            let read = read_beginning(&rt, alloc, &mut source)?;
+            assert!(rt;
+                text.as_bytes().starts_with(read.as_slice()),
+                "{length} by {read_step}"
+            );
+            assert_eq!(rt; read.len(), *given, "{length} by {read_step}");
+        }
+    }
+    Ok(())
+}
+
+/// A read fails at each of some bytes: nothing is given, and that is no end of the file.
+#[test]
+fn gives_nothing_where_a_read_fails(rt: HostRuntime) {
+    let alloc = rt.alloc();
+    let written = Cell::new(0);
+    for read_fails_at in 0..7usize {
+        let streams = Streams {
+            read_step: 2,
+            read_fails_at,
+            ..Streams::WELL
+        };
+        let mut source = Input::new(&rt, b"var x; .", streams, &written);
+        let read = read_beginning(&rt, alloc, &mut source);
+        assert!(rt;
+            matches!(read, Err(LoadFault::CannotRead)),
+            "at {read_fails_at}"
+        );
+    }
+}

@@ -1,0 +1,193 @@
+//! The program from its arguments to its end, over streams in memory: what it writes, what it says of its end, its status.
+
+use crate::fakes::{Input, OneFile, Output, Streams, Unreadable};
+use crate::listings::{LAWFUL, LISTING};
+use crate::rows::{HELLO, INITIALIZE};
+use crate::transcript::{ANSWERED, frames, input};
+use adapter::arguments::HELP;
+use adapter::execute;
+use dap_session::Loader;
+use std::alloc::Global;
+use std::cell::Cell;
+use std::process::Abort;
+use std::sync::Wait;
+use std::test::Fail;
+
+/// What a run must come to.
+#[derive(Clone, Copy)]
+struct Expected<'a> {
+    output: &'a [u8],
+    errors: &'a str,
+    status: u8,
+}
+
+/// Whether the program comes to this, with so much room for what it says of its end.
+fn comes_to<R: Abort + Wait + Eprint + AllocGlobal, L: Loader>(
+    rt: &R,
+    arguments: &[&str],
+    loader: &mut L,
+    bytes: &[u8],
+    streams: Streams,
+    expected: Expected,
+) -> bool {
+    let written = Cell::new(0);
+    let mut input = Input::new(rt, bytes, Streams::WELL, &written);
+    let mut output = Output::new(rt, rt.alloc(), streams, &written);
+    let mut errors = Output::new(rt, rt.alloc(), Streams::WELL, &written);
+    let reason = execute(rt, arguments, loader, &mut input, &mut output, &mut errors);
+    output.bytes.as_slice() == expected.output
+        && errors.bytes.as_slice() == expected.errors.as_bytes()
+        && reason.status() == expected.status
+}
+
+const CHECK: [&str; 3] = ["pl0dap", "--check", "p.pl0"];
+
+/// What is said of an argument that isn't understood, as `clap` words it.
+const NOT_UNDERSTOOD: &str = "error: unexpected argument '--chec' found
+
+  tip: a similar argument exists: '--check'
+
+Usage: pl0dap [--check FILE]
+
+For more information, try '--help'.
+";
+
+#[test]
+fn serves_with_no_arguments(rt: HostRuntime) -> Result<(), Fail> {
+    let alloc = rt.alloc();
+    let files = &mut Unreadable::new(alloc);
+    let sent = input(alloc, HELLO, "")?;
+    let answered = frames(alloc, HELLO, ANSWERED)?;
+    let expected = Expected {
+        output: answered.as_slice(),
+        errors: "",
+        status: 0,
+    };
+    assert!(rt;
+        comes_to(
+            &rt,
+            &["pl0dap"],
+            files,
+            sent.as_slice(),
+            Streams::WELL,
+            expected
+        )
+    );
+    Ok(())
+}
+
+#[test]
+fn says_why_serving_failed(rt: HostRuntime) -> Result<(), Fail> {
+    let alloc = rt.alloc();
+    let files = &mut Unreadable::new(alloc);
+    let sent = input(alloc, INITIALIZE, "A b: c\r\n")?;
+    let answered = frames(alloc, INITIALIZE, ANSWERED)?;
+    let expected = Expected {
+        output: answered.as_slice(),
+        errors: "pl0dap: frame 2\n",
+        status: 2,
+    };
+    assert!(rt;
+        comes_to(
+            &rt,
+            &["pl0dap"],
+            files,
+            sent.as_slice(),
+            Streams::WELL,
+            expected
+        )
+    );
+    let full = Streams {
+        room: 0,
+        ..Streams::WELL
+    };
+    let expected = Expected {
+        output: b"",
+        errors: "pl0dap: write failed\n",
+        status: 1,
+    };
+    assert!(rt; comes_to(&rt, &["pl0dap"], files, sent.as_slice(), full, expected));
+    Ok(())
+}
+
+#[test]
+fn prints_the_listing_of_a_file(rt: HostRuntime) {
+    let files = &mut OneFile::new(rt.alloc(), LAWFUL);
+    let expected = Expected {
+        output: LISTING,
+        errors: "",
+        status: 0,
+    };
+    assert!(rt; comes_to(&rt, &CHECK, files, b"", Streams::WELL, expected));
+}
+
+#[test]
+fn says_why_there_is_no_listing(rt: HostRuntime) {
+    let files = &mut OneFile::new(rt.alloc(), b"x := 1.");
+    let expected = Expected {
+        output: b"",
+        errors: "pl0dap: syntax 10 1 1\n",
+        status: 3,
+    };
+    assert!(rt; comes_to(&rt, &CHECK, files, b"", Streams::WELL, expected));
+    let none = &mut Unreadable::new(rt.alloc());
+    let expected = Expected {
+        output: b"",
+        errors: "pl0dap: cannot read\n",
+        status: 1,
+    };
+    assert!(rt; comes_to(&rt, &CHECK, none, b"", Streams::WELL, expected));
+}
+
+#[test]
+fn prints_help(rt: HostRuntime) {
+    let files = &mut Unreadable::new(rt.alloc());
+    let expected = Expected {
+        output: HELP.as_bytes(),
+        errors: "",
+        status: 0,
+    };
+    assert!(rt;
+        comes_to(
+            &rt,
+            &["pl0dap", "--help"],
+            files,
+            b"",
+            Streams::WELL,
+            expected
+        )
+    );
+    for status in ["\n  0  ", "\n  1  ", "\n  2  ", "\n  3  ", "\n  4  "] {
+        assert!(rt; HELP.contains(status), "{status:?}");
+    }
+}
+
+#[test]
+fn says_what_it_does_not_understand(rt: HostRuntime) {
+    let files = &mut Unreadable::new(rt.alloc());
+    let expected = Expected {
+        output: b"",
+        errors: NOT_UNDERSTOOD,
+        status: 4,
+    };
+    let arguments = ["pl0dap", "--chec", "a"];
+    assert!(rt; comes_to(&rt, &arguments, files, b"", Streams::WELL, expected));
+}
+
+/// An end that can't be said is the same end.
+#[test]
+fn ends_so_where_errors_cannot_be_written(rt: HostRuntime) {
+    let alloc = rt.alloc();
+    let written = Cell::new(0);
+    let full = Streams {
+        room: 0,
+        ..Streams::WELL
+    };
+    let mut output = Output::new(&rt, alloc, Streams::WELL, &written);
+    let mut errors = Output::new(&rt, alloc, full, &written);
+    let mut input = Input::new(&rt, b"", Streams::WELL, &written);
+    let files = &mut Unreadable::new(alloc);
+    let reason = execute(&rt, &CHECK, files, &mut input, &mut output, &mut errors);
+    assert_eq!(rt; reason.status(), 1);
+    assert!(rt; output.bytes.is_empty() && errors.bytes.is_empty());
+}
