@@ -94,7 +94,7 @@ pub fn count_position(machine: &Machine, plan: &Option<Arc<Plan>>, counts: &mut 
             if !plan.has_breakpoint(machine.address()) {
                 return false;
             }
-            count_arrivals(machine, plan.entry(machine.place()), counts)
+            count_arrivals(machine, plan.breakpoints_at(machine.place()), counts)
         }
     }
 }

@@ -19,6 +19,7 @@ mod order;
 mod plan;
 mod resolving;
 mod rule;
+mod same;
 mod table;
 
 pub use breakpoint::{BREAKPOINT_LIMIT, BoundCondition, Breakpoint, Rule};
@@ -26,7 +27,7 @@ pub use debuggee::{Advance, Debuggee};
 pub use evaluation::EvalFault;
 pub use located::{LocatedCondition, LocatedExpression};
 pub use mode::{Mode, Reason};
-pub use plan::Plan;
+pub use plan::{Plan, same_plan};
 pub use resolving::{Resolution, SourceBreakpoint, resolve};
 
 #[cfg(test)]
