@@ -42,7 +42,7 @@ impl Plan {
     ghost use Rattle.dbg_plan.specs.Breakpoints.{plain_breakpoints};
     ghost use Rattle.dbg_plan.specs.Plans.{those_of, watched_lines, IsNumbered};
 
-    /// The plan of these breakpoints, for a program of so many steps, beside whose code stand these lines.
+    /// The plan of these breakpoints, for a program of `steps` steps, beside whose instructions stand `lines`.
     pub(crate) fn new(
         alloc: Global,
         steps: usize,
