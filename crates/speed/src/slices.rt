@@ -3,7 +3,7 @@
 ghost use Rattle.std.specs.Prelude.{◌≡◌, ◌≤◌, ◌<◌, length, IfOk};
 
 use anyhow::{Context, Result, anyhow};
-use dbg_plan::{SourceBreakpoint, Debuggee, Mode, resolve};
+use dbg_plan::{Debuggee, Mode, SourceBreakpoint, resolve};
 use dbg_runner::{Considered, Report, next_report};
 use pl0_machine::Machine;
 use pl0_unit::Unit;
