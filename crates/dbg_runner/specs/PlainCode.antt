@@ -1,14 +1,14 @@
 -- Codes of orders and reports as data, by which a proof tells them apart.
 use Rattle.std.proofs.Common.{◌≡◌, ◌⊎◌, inl, inr, ℕ, Option, Some, None, refl}
 use Rattle.std.specs.Coded.{Coded, code_by, codes, coded_ℕ, coded_option, coded⊎}
-use Rattle.dbg_plan.specs.contracts.breakpoint.Breakpoint as breakpoint
+use Rattle.dbg_plan.specs.Breakpoints.{breakpoint_code}
 use Rattle.dbg_runner.specs.Plain.{Heading, PlainReport, PlainOrder, Go, Hold, Quit}
 
 pub heading_code : Coded Heading
-heading_code = Prim.hlevel (codes, breakpoint.the_row.coded)
+heading_code = Prim.hlevel (codes, breakpoint_code)
 
 pub report_code : Coded PlainReport
-report_code = Prim.hlevel (codes, breakpoint.the_row.coded)
+report_code = Prim.hlevel (codes, breakpoint_code)
 
 parts : PlainOrder → Heading ⊎ Option ℕ
 parts (Go h) = inl h

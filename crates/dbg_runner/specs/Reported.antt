@@ -2,7 +2,7 @@
 use Rattle.std.specs.Prelude.{ℕ, ◌+◌, List, Option, Some, None, ℤ}
 use Rattle.pl0_unit.specs.declared.unit.Unit.{Unit as Compiled}
 use Rattle.pl0_machine.specs.Machine.{program_of}
-use Rattle.dbg_plan.specs.declared.breakpoint.Breakpoint.{Breakpoint}
+use Rattle.dbg_plan.specs.Breakpoints.{Breakpoint}
 use Rattle.dbg_plan.specs.declared.mode.Mode.{Mode}
 use Rattle.dbg_plan.specs.Debugged.{Debugged}
 use Rattle.dbg_runner.specs.declared.outcome.SliceOutcome.{SliceOutcome}
@@ -35,11 +35,11 @@ IsKept r = IsLawfulFor (program_of r.unit) (plain_report r)
 
 -- what fixes the first report of a run of d
 abbrev pub heading : ℕ → Debugged → Mode → Heading
-heading run d mode = record { run = run; text = text_of d.unit; plan = d.breakpoints; counted_from = d.first; mode = mode; start = d.position }
+heading run d mode = record { run = run; text = text_of d.unit; plan = d.breakpoints; counted_from = d.counted_from; mode = mode; start = d.position }
 
 -- the debuggee where the report ends, which was considered there
 abbrev pub stopped : Reported → Debugged
-stopped r = record { unit = r.unit; position = r.end; breakpoints = r.plan; first = r.counted_from; next = r.end + 1 }
+stopped r = record { unit = r.unit; position = r.end; breakpoints = r.plan; counted_from = r.counted_from; next = r.end + 1 }
 
 -- the debuggee that the report carries
 abbrev pub carried : Reported → SliceOutcome → Option Debugged

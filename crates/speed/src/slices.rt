@@ -3,7 +3,7 @@
 ghost use Rattle.std.specs.Prelude.{◌≡◌, ◌≤◌, ◌<◌, length, IfOk};
 
 use anyhow::{Context, Result, anyhow};
-use dbg_plan::{Asked, Debuggee, Mode, resolve};
+use dbg_plan::{Debuggee, Mode, SourceBreakpoint, resolve};
 use dbg_runner::{Considered, Report, next_report};
 use pl0_machine::Machine;
 use pl0_unit::Unit;
@@ -24,7 +24,7 @@ pub fn run(alloc: Global, unit: Unit, lines: &[String]) -> Result<String> {
 }
 
 // The lines asked for: 256 at most, each with the same condition.
-fn asked_for(alloc: Global, lines: &[String]) -> Result<Vec<Asked>>
+fn asked_for(alloc: Global, lines: &[String]) -> Result<Vec<SourceBreakpoint>>
     ensures { IfOk result (λ asked. length asked.items ≤ 256) }
 {
     let mut asked = Vec::new(alloc);
@@ -38,17 +38,17 @@ fn asked_for(alloc: Global, lines: &[String]) -> Result<Vec<Asked>>
             Some(text) => text.clone()?,
             None => String::new(alloc),
         };
-        asked.push(Asked {
+        asked.push(SourceBreakpoint {
             line: first.saturating_add(index),
             condition,
-            hit: String::new(alloc),
+            hit_condition: String::new(alloc),
         })?;
     }
     Ok(asked)
 }
 
 /// A program at its first position, under breakpoints.
-pub fn begun(alloc: Global, unit: Unit, asked: &[Asked]) -> Result<Considered>
+pub fn begun(alloc: Global, unit: Unit, asked: &[SourceBreakpoint]) -> Result<Considered>
     requires { length asked.now ≤ 256 }
 {
     let (plan, _) = resolve(alloc, &unit, asked).context("no plan")?;
