@@ -37,7 +37,7 @@ rows: $(PROGRAM)
 check:
 	rt ci
 
-# Planted bugs that the gate leaves out for want of time: those of all crates, or of CRATE.
+# Planted bugs that the gate leaves out to save time: those of all crates, or of CRATE.
 plants:
 	python3 tools/plants.py $(CRATE)
 
@@ -55,6 +55,7 @@ refusals: $(PROGRAM) $(SPEED)
 
 install: $(PROGRAM)
 	install -D $(PROGRAM) $(DESTDIR)$(PREFIX)/bin/pl0dap
+	install -D -m 644 docs/pl0dap.1 $(DESTDIR)$(PREFIX)/share/man/man1/pl0dap.1
 
 bench: $(PROGRAM) $(SPEED)
 	python3 bench/throughput.py $(PROGRAM)
