@@ -68,7 +68,7 @@ wanted_ready Faulted request launch is = absurd cc
 wanted_ready Ended request launch is = absurd cc
 
 -- no item is taken after one that closes
-closes_for_good : (past : History) (item : Item) (new : History) (by : Ending) → closing item ≡ Some by → IsAfter past item new → ¬ IsTaking new
+pub closes_for_good : (past : History) (item : Item) (new : History) (by : Ending) → closing item ≡ Some by → IsAfter past item new → ¬ IsTaking new
 closes_for_good past item new by is after taking =
     let e = sym taking ∙ ap ending_of after.new_is ∙ ending_of-snoc past after.step
     ∙ ap (λ i. or_else (closing i) (ending_of past)) after.item_is ∙ ap (λ o. or_else o (ending_of past)) is in

@@ -24,7 +24,7 @@ use Rattle.dap_history.specs.Laws.{stream_of, launch_request, read_as, waiting, 
 
 -- ---- frames, and what is read
 
-front_more : (bytes content rest more : List ℕ) → IsFrameInFront bytes content rest → IsFrameInFront (bytes ++ more) content (rest ++ more)
+pub front_more : (bytes content rest more : List ℕ) → IsFrameInFront bytes content rest → IsFrameInFront (bytes ++ more) content (rest ++ more)
 front_more bytes content rest more is = record {
   header = is.header;
   lawful = is.lawful;
