@@ -1,8 +1,7 @@
 # The kit's command `rt` proves, builds and runs: `rt doc` prints its first page.
 PREFIX ?= /usr/local
 PROGRAM = crates/pl0dap/out/pl0dap
-SPEED = crates/pl0_speed/out/pl0_speed
-SLICES = crates/dbg_speed/out/dbg_speed
+SPEED = crates/speed/out/speed
 SOURCES = crates.txt $(shell find crates -name out -prune -o -type f \( -name '*.rt' -o -name '*.antt' \) -print)
 
 .PHONY: build demo rows refusals misuse check install bench
@@ -14,14 +13,9 @@ $(PROGRAM): $(SOURCES)
 	cd crates/pl0dap && rt run < /dev/null
 	touch $@
 
-# Steps a program's machine and does nothing else.
+# Runs a program by the bare machine, in slices or by the runner, and does nothing else.
 $(SPEED): $(SOURCES)
-	cd crates/pl0_speed && rt run -- data/count.pl0
-	touch $@
-
-# Runs a program in slices under a plan and does nothing else.
-$(SLICES): $(SOURCES)
-	cd crates/dbg_speed && rt run -- data/count.pl0
+	cd crates/speed && rt run -- work data/count.pl0
 	touch $@
 
 # A stored debug session, its frames printed in readable form.
@@ -42,15 +36,15 @@ check:
 misuse:
 	python3 misuse/check.py
 
-# Each growth, read and write of the program refused in turn, and each growth of the programs that step a text.
-refusals: $(PROGRAM) $(SPEED) $(SLICES)
-	python3 demo/refusals.py $(PROGRAM) $(SPEED) $(SLICES)
+# Each allocation, read and write of the program refused in turn, and each allocation of the runs that step a text.
+refusals: $(PROGRAM) $(SPEED)
+	python3 demo/refusals.py $(PROGRAM) $(SPEED)
 
 install: $(PROGRAM)
 	install -D $(PROGRAM) $(DESTDIR)$(PREFIX)/bin/pl0dap
 
-bench: $(PROGRAM) $(SPEED) $(SLICES)
+bench: $(PROGRAM) $(SPEED)
 	python3 bench/throughput.py $(PROGRAM)
 	python3 bench/machine.py $(PROGRAM) $(SPEED)
-	python3 bench/slices.py $(SPEED) $(SLICES)
+	python3 bench/slices.py $(SPEED)
 	python3 bench/checking.py $(PROGRAM)

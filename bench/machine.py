@@ -3,8 +3,8 @@
 
 usage: machine.py PROGRAM SPEED
 
-PROGRAM is pl0dap, whose `--check` gives the code to the C interpreter; SPEED is pl0_speed, which steps the machine. Both
-run each of bench/programs to its end, in turn, so that whatever else the computer does slows both. The figure to hold is
+PROGRAM is pl0dap, whose `--check` gives the code to the C interpreter; SPEED is the program `speed`, which steps the machine.
+Both run each of bench/programs to its end, in turn, so that whatever else the computer does slows both. The figure to hold is
 0.8 of the C interpreter's steps per second.
 """
 import os
@@ -53,7 +53,7 @@ def main() -> int:
             listing = os.path.join(room, f"{name}.listing")
             with open(listing, "w") as sink:
                 subprocess.run([program, "--check", text], stdout=sink, check=True)
-            row(name, [speed, text], [interpreter, listing])
+            row(name, [speed, "machine", text], [interpreter, listing])
     return 0
 
 

@@ -1,12 +1,13 @@
 #!/usr/bin/env python3
-"""Times a debugged run, in slices, beside the bare machine's.
+"""Times a debugged run beside the bare machine's.
 
-usage: slices.py SPEED SLICES
+usage: slices.py SPEED
 
-SPEED is pl0_speed, which steps the machine alone; SLICES is dbg_speed, which runs a debuggee in slices: without
-breakpoints, with one in the loop whose condition is false, and with 256 at lines that are never reached. All run the same
-text, in turn, so that whatever else the computer does slows each. The figures to hold: without breakpoints at least 0.8
-of the machine's steps a second; with 256 elsewhere the same within 5 per cent; with a false condition at least a quarter.
+SPEED is the program `speed`. It steps the machine alone; it hands a debuggee to the runner, over ports in memory; and it
+runs a debuggee in slices: without breakpoints, with one in the loop whose condition is false, and with 256 at lines that
+are never reached. All run the same text, in turn, so that whatever else the computer does slows each. The figures to hold:
+the runner at least 0.9 of the machine's steps a second, and slices without breakpoints too; with 256 elsewhere the same
+within 5 per cent; with a false condition at least a quarter.
 """
 import os
 import re
@@ -40,17 +41,18 @@ def rate(words: list[str]) -> float:
 
 
 def main() -> int:
-    speed, slices = (os.path.abspath(word) for word in sys.argv[1:3])
+    speed = os.path.abspath(sys.argv[1])
     with tempfile.TemporaryDirectory() as room:
         path = os.path.join(room, "loop.pl0")
         with open(path, "w") as sink:
             sink.write(text())
         body = ELSEWHERE + 6
         commands = {
-            "machine alone": [speed, path],
-            "slices, no breakpoints": [slices, path],
-            "256 breakpoints elsewhere": [slices, path, "4", str(ELSEWHERE)],
-            "a false condition in the loop": [slices, path, str(body), "1", "x < 0"],
+            "machine alone": [speed, "machine", path],
+            "runner, ports in memory": [speed, "work", path],
+            "slices, no breakpoints": [speed, "slices", path],
+            "256 breakpoints elsewhere": [speed, "slices", path, "4", str(ELSEWHERE)],
+            "a false condition in the loop": [speed, "slices", path, str(body), "1", "x < 0"],
         }
         best = dict.fromkeys(commands, 0.0)
         for _ in range(RUNS):

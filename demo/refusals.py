@@ -1,10 +1,10 @@
 #!/usr/bin/env python3
-"""Runs the programs again and again, with another growth, read or write refused each time, and judges how they end.
+"""Runs the programs again and again, with another allocation, read or write refused each time, and judges how they end.
 
-usage: refusals.py PROGRAM SPEED SLICES
+usage: refusals.py PROGRAM SPEED
 
-PROGRAM is pl0dap; SPEED is pl0_speed, which steps a text's machine; SLICES is dbg_speed, which runs a text in slices under
-a plan. Each growth is refused in turn, up to the first run that asks for none more, and then each read and each write of
+PROGRAM is pl0dap; SPEED is the program `speed`, which runs a text by the machine alone, in slices under a plan, and by the
+runner. Each allocation is refused in turn, up to the first run that asks for none more, and then each read and each write of
 PROGRAM. What is written may differ from the whole answer only by what is missing at its end, and the program must say why;
 but a run in slices may also end by the report that there was no memory for one, and must for each slice. It needs clang.
 """
@@ -27,10 +27,10 @@ SLICE = 256
 LINES = 20
 
 # How a run of pl0dap may end in which something of a kind was refused: the status, and what stands on standard error. A
-# growth that the program can do without changes nothing. Fault 2 of the session is want of memory; at fault 6 it was the
+# allocation that the program can do without changes nothing. Fault 2 of the session is out of memory; at fault 6 it was the
 # port for frames that found no room for one more.
 ADAPTER_ENDS = {
-    "growth": [(0, ""), (3, "pl0dap: no memory"), (3, "pl0dap: refused 2"), (3, "pl0dap: refused 6")],
+    "allocation": [(0, ""), (3, "pl0dap: no memory"), (3, "pl0dap: refused 2"), (3, "pl0dap: refused 6")],
     "read": [(1, "pl0dap: read failed"), (1, "pl0dap: cannot read")],
     "write": [(1, "pl0dap: write failed")],
 }
@@ -44,18 +44,21 @@ def wants_memory(thing: str, why: str) -> tuple[int, str]:
 
 MACHINE_ENDS = [
     (0, ""),
-    wants_memory("no words", "out of memory"),
+    wants_memory("no arguments", "out of memory"),
     wants_memory("no text", "out of memory"),
     (1, "Error: no tree: NoMemory"),
     (1, "Error: no code: NoMemory"),
     wants_memory("no share of the code", "memory allocation failed"),
     wants_memory("no machine", "memory allocation failed"),
+    wants_memory("no line", "memory allocation failed"),
 ]
-SLICES_ENDS = MACHINE_ENDS + [
-    wants_memory("no lines", "memory allocation failed"),
+WORK_ENDS = MACHINE_ENDS + [
     wants_memory("no plan", "memory allocation failed"),
     wants_memory("no share of the plan", "memory allocation failed"),
+    wants_memory("no room for the debuggee", "memory allocation failed"),
+    wants_memory("no room for an order", "memory allocation failed"),
 ]
+SLICES_ENDS = WORK_ENDS + [wants_memory("no lines", "memory allocation failed")]
 
 
 @dataclasses.dataclass
@@ -85,7 +88,7 @@ def contents(*names: str) -> bytes:
         return file.read()
 
 
-def runs(program: str, speed: str, slices: str) -> dict[str, Run]:
+def runs(program: str, speed: str) -> dict[str, Run]:
     nested = os.path.join(CRATES, "check_listing", "data", "nested.pl0")
     under = f"under {LINES} breakpoints\n"
     return {
@@ -93,12 +96,18 @@ def runs(program: str, speed: str, slices: str) -> dict[str, Run]:
             [program], contents("pl0dap", "stdout"), ADAPTER_ENDS, source=os.path.join(CRATES, "pl0dap", "stdin")
         ),
         "a listing": Run([program, "--check", nested], contents("check_listing", "stdout"), ADAPTER_ENDS),
-        "a machine": Run([speed, RECURSION], f"Done after {STEPS} steps\n".encode(), {"growth": MACHINE_ENDS}),
+        "a machine": Run([speed, "machine", RECURSION], f"Done after {STEPS} steps\n".encode(), {"allocation": MACHINE_ENDS}),
         "a run in slices": Run(
-            [slices, RECURSION, "1", str(LINES), CONDITION],
+            [speed, "slices", RECURSION, "1", str(LINES), CONDITION],
             f"Due(Breakpoint) after {STOP} steps {under}".encode(),
-            {"growth": SLICES_ENDS},
+            {"allocation": SLICES_ENDS},
             reports=[f"NoMemory after {steps} steps {under}".encode() for steps in range(0, STOP, SLICE)],
+        ),
+        "a run by the runner": Run(
+            [speed, "work", RECURSION],
+            f"Done after {STEPS} steps\n".encode(),
+            {"allocation": WORK_ENDS},
+            reports=[f"NoMemory after {steps} steps\n".encode() for steps in range(0, STEPS, SLICE)],
         ),
     }
 
@@ -143,7 +152,7 @@ def main() -> int:
     with tempfile.TemporaryDirectory() as folder:
         library = os.path.join(folder, "refuse.so")
         subprocess.run(["clang", "-shared", "-fPIC", "-o", library, os.path.join(HERE, "refuse.c")], check=True)
-        for name, run in runs(*map(os.path.abspath, sys.argv[1:4])).items():
+        for name, run in runs(*map(os.path.abspath, sys.argv[1:3])).items():
             outcome = play(run)
             if outcome != (run.whole, 0, "", False):
                 print(f"{name}, nothing refused: {outcome}")

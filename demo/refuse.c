@@ -1,4 +1,4 @@
-// Stands between a program and the C library (LD_PRELOAD) and refuses one call, once. REFUSES names the kind: growth
+// Stands between a program and the C library (LD_PRELOAD) and refuses one call, once. REFUSES names the kind: allocation
 // (malloc and realloc find no memory), read or write (an input or output error). REFUSED is the call's number from 1, and
 // TOLD the descriptor on which a byte is written when it is refused.
 #define _GNU_SOURCE
@@ -20,11 +20,11 @@ static int is_refused(const char *kind) {
 }
 
 void *malloc(size_t size) {
-    return is_refused("growth") ? NULL : __libc_malloc(size);
+    return is_refused("allocation") ? NULL : __libc_malloc(size);
 }
 
 void *realloc(void *old, size_t size) {
-    return is_refused("growth") ? NULL : __libc_realloc(old, size);
+    return is_refused("allocation") ? NULL : __libc_realloc(old, size);
 }
 
 static ssize_t failed(void) {

@@ -1,0 +1,56 @@
+// The three ports of the runner, each by itself.
+
+use crate::order::Order;
+use crate::report::Report;
+
+/// Where the runner's orders come from.
+pub trait OrdersIn {
+    ghost use Rattle.std.specs.Prelude.{◌≡◌, ◌∷◌, ◌++◌, [], List, option_map};
+    ghost use Rattle.std.specs.Option.{option_to_list};
+    ghost use Rattle.dbg_runner.specs.Plain.{PlainOrder};
+    ghost use Rattle.dbg_runner.specs.Orders.{plain_order};
+
+    /// The orders that were taken, the oldest first.
+    ghost taken: { Self → List PlainOrder };
+
+    /// Waits for the next order, and takes it.
+    fn next(&mut self) -> Order
+        ensures { taken self.new ≡ taken self.old ++ plain_order result ∷ [] };
+
+    /// Takes the next order, if one is there.
+    fn poll(&mut self) -> Option<Order>
+        ensures { taken self.new ≡ taken self.old ++ option_to_list (option_map plain_order result) };
+}
+
+/// Where the runner's reports go.
+pub trait Reports {
+    ghost use Rattle.std.specs.Prelude.{◌≡◌, ◌∷◌, ◌++◌, [], List, OnOk, OnErr, IfErr};
+    ghost use Rattle.dbg_runner.specs.Plain.{PlainReport};
+    ghost use Rattle.dbg_runner.specs.Reported.{plain_report};
+
+    /// The reports that were sent, the oldest first.
+    ghost sent: { Self → List PlainReport };
+
+    /// The reports that were handed back, the oldest first.
+    ghost handed_back: { Self → List PlainReport };
+
+    /// Sends a report, or hands it back.
+    fn send(&mut self, report: Report) -> Result<(), Report>
+        ensures sends { OnOk result (sent self.new ≡ sent self.old ++ plain_report report ∷ []) }
+        ensures keeps_refused { OnOk result (handed_back self.new ≡ handed_back self.old) }
+        ensures refuses { OnErr result (handed_back self.new ≡ handed_back self.old ++ plain_report report ∷ []) }
+        ensures keeps_sent { OnErr result (sent self.new ≡ sent self.old) }
+        ensures back { IfErr result (λ back. back ≡ report) };
+}
+
+/// What the runner's slices wait for.
+pub trait Gate {
+    ghost use Rattle.std.specs.Prelude.{◌≡◌, ◌∷◌, ◌++◌, [], List, ℕ};
+
+    /// The slices that passed, each by the number of its run and its own, the oldest first.
+    ghost passed: { Self → List (ℕ × ℕ) };
+
+    /// Returns when the slice with this number, from 1, of this run may begin.
+    fn pass(&mut self, run: u64, slice: u64)
+        ensures { passed self.new ≡ passed self.old ++ (run, slice) ∷ [] };
+}

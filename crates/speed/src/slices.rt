@@ -1,0 +1,77 @@
+// Slices, under a plan.
+
+ghost use Rattle.std.specs.Prelude.{◌≡◌, ◌≤◌, ◌<◌, length, IfOk};
+
+use anyhow::{Context, Result, anyhow};
+use dbg_plan::{SourceBreakpoint, Debuggee, Mode, resolve};
+use dbg_runner::{Considered, Report, next_report};
+use pl0_machine::Machine;
+use pl0_unit::Unit;
+use std::alloc::Global;
+use std::sync::Arc;
+
+/// Runs a program in slices under breakpoints, to a stop or to its end: how and where that is, and how many were asked for.
+pub fn run(alloc: Global, unit: Unit, lines: &[String]) -> Result<String> {
+    let asked = asked_for(alloc, lines).context("no lines")?;
+    let debuggee = begun(alloc, unit, asked.as_slice())?;
+    let last = slices(alloc, debuggee).context("no end")?;
+    let (outcome, steps) = (last.outcome(), last.end());
+    format!(in alloc;
+        "{outcome:?} after {steps} steps under {} breakpoints",
+        asked.len()
+    )
+    .context("no line")
+}
+
+// The lines asked for: 256 at most, each with the same condition.
+fn asked_for(alloc: Global, lines: &[String]) -> Result<Vec<SourceBreakpoint>>
+    ensures { IfOk result (λ asked. length asked.items ≤ 256) }
+{
+    let mut asked = Vec::new(alloc);
+    let [first, count, condition @ ..] = lines else {
+        return Ok(asked);
+    };
+    let first: u32 = first.parse()?;
+    let count: u32 = count.parse()?;
+    for index in 0..count.min(256) {
+        let condition = match condition.first() {
+            Some(text) => text.clone()?,
+            None => String::new(alloc),
+        };
+        asked.push(SourceBreakpoint {
+            line: first.saturating_add(index),
+            condition,
+            hit_condition: String::new(alloc),
+        })?;
+    }
+    Ok(asked)
+}
+
+/// A program at its first position, under breakpoints.
+pub fn begun(alloc: Global, unit: Unit, asked: &[SourceBreakpoint]) -> Result<Considered>
+    requires { length asked.now ≤ 256 }
+{
+    let (plan, _) = resolve(alloc, &unit, asked).context("no plan")?;
+    let unit = Arc::new(alloc, unit).context("no share of the code")?;
+    let machine = Machine::new(alloc, unit).context("no machine")?;
+    let mut debuggee = Debuggee::new(machine);
+    debuggee.set_plan(Arc::new(alloc, plan).context("no share of the plan")?);
+    if debuggee.machine().depth() == 0 {
+        return Err(anyhow!("no step"));
+    }
+    let _ = debuggee.consider(Mode::Continue);
+    let debuggee = Box::new(alloc, debuggee).context("no room for the debuggee")?;
+    Ok(Considered::new(debuggee))
+}
+
+// Runs to the end, or to a stop: the last report.
+fn slices(alloc: Global, mut debuggee: Considered) -> Option<Report> {
+    for _ in 0..u64::MAX {
+        let (report, on) = next_report(alloc, 1, debuggee.into_debuggee(), Mode::Continue);
+        match on {
+            None => return Some(report),
+            Some(next) => debuggee = Considered::new(next),
+        }
+    }
+    None
+}
