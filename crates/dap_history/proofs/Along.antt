@@ -1,8 +1,8 @@
 -- What holds along a history: what holds at first and is kept by each item that is taken.
 use Rattle.std.proofs.Common.{◌≡◌, inl, inr, ℕ, List, [], ◌∷◌, ◌++◌, Option, None, Some, Result, Ok, Err, refl, sym, ◌∙◌, ap, subst}
 use Rattle.dap_msg.specs.declared.request.Request.{Request}
-use Rattle.dap_history.specs.Plain.{PlainReport}
-use Rattle.dap_history.specs.Lawful.{IsLawful}
+use Rattle.dbg_runner.specs.Plain.{PlainReport}
+use Rattle.dbg_runner.specs.Lawful.{IsLawful}
 use Rattle.dap_history.specs.declared.launch.Launch.{Launch}
 use Rattle.dap_history.specs.declared.fault.LoadFault.{LoadFault}
 use Rattle.dap_history.specs.declared.fault.LoadFault.TheVariants as load_fault
