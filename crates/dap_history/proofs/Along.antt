@@ -1,8 +1,8 @@
 -- What holds along a history: what holds at first and is kept by each item that is taken.
 use Rattle.std.proofs.Common.{◌≡◌, inl, inr, ℕ, List, [], ◌∷◌, ◌++◌, Option, None, Some, Result, Ok, Err, refl, sym, ◌∙◌, ap, subst}
 use Rattle.dap_msg.specs.declared.request.Request.{Request}
-use Rattle.dap_history.specs.Plain.{PlainReport}
-use Rattle.dap_history.specs.Lawful.{IsLawful}
+use Rattle.dbg_runner.specs.Plain.{PlainReport}
+use Rattle.dbg_runner.specs.Lawful.{IsLawful}
 use Rattle.dap_history.specs.declared.launch.Launch.{Launch}
 use Rattle.dap_history.specs.declared.fault.LoadFault.{LoadFault}
 use Rattle.dap_history.specs.declared.fault.LoadFault.TheVariants as load_fault
@@ -68,7 +68,7 @@ wanted_ready Faulted request launch is = absurd cc
 wanted_ready Ended request launch is = absurd cc
 
 -- no item is taken after one that closes
-closes_for_good : (past : History) (item : Item) (new : History) (by : Ending) → closing item ≡ Some by → IsAfter past item new → ¬ IsTaking new
+pub closes_for_good : (past : History) (item : Item) (new : History) (by : Ending) → closing item ≡ Some by → IsAfter past item new → ¬ IsTaking new
 closes_for_good past item new by is after taking =
     let e = sym taking ∙ ap ending_of after.new_is ∙ ending_of-snoc past after.step
     ∙ ap (λ i. or_else (closing i) (ending_of past)) after.item_is ∙ ap (λ o. or_else o (ending_of past)) is in

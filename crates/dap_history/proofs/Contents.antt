@@ -9,7 +9,7 @@ use Rattle.dap_frame.specs.Laws.{FramesJoin}
 use Rattle.dap_msg.specs.declared.request.Request.{Request}
 use Rattle.dap_msg.specs.declared.command.Command.{Command}
 use Rattle.dap_msg.specs.declared.command.Command.TheVariants as command
-use Rattle.dap_history.specs.Plain.{PlainReport}
+use Rattle.dbg_runner.specs.Plain.{PlainReport}
 use Rattle.dap_history.specs.declared.launch.Launch.{Launch}
 use Rattle.dap_history.specs.declared.fault.LoadFault.{LoadFault}
 use Rattle.dap_history.specs.declared.fault.LoadFault.TheVariants as load_fault
@@ -24,7 +24,7 @@ use Rattle.dap_history.specs.Laws.{stream_of, launch_request, read_as, waiting, 
 
 -- ---- frames, and what is read
 
-front_more : (bytes content rest more : List ℕ) → IsFrameInFront bytes content rest → IsFrameInFront (bytes ++ more) content (rest ++ more)
+pub front_more : (bytes content rest more : List ℕ) → IsFrameInFront bytes content rest → IsFrameInFront (bytes ++ more) content (rest ++ more)
 front_more bytes content rest more is = record {
   header = is.header;
   lawful = is.lawful;

@@ -1,6 +1,6 @@
 -- Each step of a history was caused by its item, after the steps before it.
 use Rattle.std.proofs.Common.{◌≡◌, ◌⊎◌, inl, inr, ℕ, List, [], ◌∷◌, ◌++◌, refl, sym, ◌∙◌, ap, subst}
-use Rattle.dap_history.specs.Plain.{PlainReport}
+use Rattle.dbg_runner.specs.Plain.{PlainReport}
 use Rattle.dap_history.specs.History.{Item, Step, History}
 use Rattle.dap_history.specs.Emission.{Causes, IsAfter}
 use Rattle.dap_history.specs.Events.{IsTaking}

@@ -18,7 +18,7 @@ use Rattle.dap_msg.specs.declared.outgoing.StopReason.TheVariants as reason
 use Rattle.dap_history.specs.declared.situation.Situation.{Situation}
 use Rattle.dap_history.specs.declared.situation.Situation.TheVariants.{Fresh, Ready, Configuring, Running, Stopped, Faulted, Ended}
 use Rattle.dap_history.specs.Last.{or_else, last_such}
-use Rattle.dap_history.specs.Plain.{PlainOrder, Go, Hold, Quit}
+use Rattle.dbg_runner.specs.Plain.{PlainOrder, Go, Hold, Quit}
 use Rattle.dap_history.specs.History.{Step, History, with_answer, messages}
 use Rattle.dap_history.specs.Readings.{command_mark, answer_mark, stop_mark, event_mark, message_mark, order_mark, step_mark, situation}
 use Rattle.dap_history.specs.Replies.{Reply}

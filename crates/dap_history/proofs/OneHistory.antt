@@ -6,7 +6,7 @@ use Rattle.dap_frame.specs.Laws.{FramesAreUnique, FaultsAreUnique, NeverBoth}
 use Rattle.dap_msg.specs.Laws.{OneReading}
 use Rattle.dap_msg.specs.declared.request.Request.{Request}
 use Rattle.dap_msg.specs.Request.{IsRequestOf}
-use Rattle.dap_history.specs.Plain.{PlainReport}
+use Rattle.dbg_runner.specs.Plain.{PlainReport}
 use Rattle.dap_history.specs.declared.launch.Launch.{Launch}
 use Rattle.dap_history.specs.declared.fault.LoadFault.{LoadFault}
 use Rattle.dap_history.specs.declared.fault.LoadFault.TheVariants as load_fault

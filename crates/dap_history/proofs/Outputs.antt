@@ -16,9 +16,10 @@ use Rattle.pl0_tree.specs.Tree.{Block}
 use Rattle.pl0_tree.specs.Faults.{IsTreeOf}
 use Rattle.pl0_meaning.specs.Runs.{written}
 use Rattle.pl0_meaning.specs.Laws.{WrittenJoins}
-use Rattle.dap_history.specs.Plain.{PlainReport, SliceOutcome, Heading, PlainOrder}
-use Rattle.dap_history.specs.Lawful.{IsLawful}
-use Rattle.dap_history.specs.Plain as slice
+use Rattle.dbg_runner.specs.declared.outcome.SliceOutcome.{SliceOutcome}
+use Rattle.dbg_runner.specs.Plain.{PlainReport, Heading, PlainOrder}
+use Rattle.dbg_runner.specs.Lawful.{IsLawful}
+use Rattle.dbg_runner.specs.declared.outcome.SliceOutcome.TheVariants as slice
 use Rattle.dap_history.specs.Last.{or_else, last_such}
 use Rattle.dap_history.specs.History.{Launched, Item, Content, Loaded, Accepted, Fault, InputEnd, ReadFailure, MemoryFailure, Step, History, Effect, with_answer, messages, messages_of}
 use Rattle.dap_history.specs.Readings.{go, launched, last_run, position, end_of, waiting_pause}

@@ -21,10 +21,11 @@ use Rattle.pl0_tree.specs.Tree.{Block}
 use Rattle.pl0_meaning.specs.Laws.{WrittenJoins}
 use Rattle.dbg_plan.specs.Breakpoints.{Breakpoint}
 use Rattle.dbg_plan.specs.Due.{due}
-use Rattle.dap_history.specs.Plain.{PlainReport, SliceOutcome, Heading, PlainOrder, Go, Hold, Quit}
-use Rattle.dap_history.specs.Lawful.{IsLawful, EndsBy, due_in as due_of}
+use Rattle.dbg_runner.specs.declared.outcome.SliceOutcome.{SliceOutcome}
+use Rattle.dbg_runner.specs.Plain.{PlainReport, Heading, PlainOrder, Go, Hold, Quit}
+use Rattle.dbg_runner.specs.Lawful.{IsLawful, EndsBy, due_in as due_of}
 use Rattle.dbg_plan.specs.declared.mode.Mode.{Mode}
-use Rattle.dap_history.specs.Plain as slice
+use Rattle.dbg_runner.specs.declared.outcome.SliceOutcome.TheVariants as slice
 use Rattle.dap_history.specs.declared.situation.Situation.{Situation}
 use Rattle.dap_history.specs.declared.situation.Situation.TheVariants.{Fresh, Ready, Configuring, Running, Stopped, Faulted, Ended}
 use Rattle.dap_history.specs.Last.{or_else, last_such}

@@ -11,9 +11,9 @@ use Rattle.dap_msg.specs.declared.outgoing.Outgoing.TheVariants.{Answer, Event}
 use Rattle.pl0_tree.specs.Faults.{IsTreeOf}
 use Rattle.pl0_meaning.specs.Runs.{written, written_from}
 use Rattle.pl0_meaning.specs.Laws.{WrittenJoins}
-use Rattle.dap_history.specs.Plain.{PlainReport, Heading, Quit}
-use Rattle.dap_history.specs.Lawful.{IsLawful, EndsBy}
-use Rattle.dap_history.specs.Plain as slice
+use Rattle.dbg_runner.specs.Plain.{PlainReport, Heading, Quit}
+use Rattle.dbg_runner.specs.Lawful.{IsLawful, EndsBy}
+use Rattle.dbg_runner.specs.declared.outcome.SliceOutcome.TheVariants as slice
 use Rattle.dap_history.specs.declared.launch.Launch.{Launch}
 use Rattle.dap_history.specs.declared.situation.Situation.{Situation}
 use Rattle.dap_history.specs.declared.situation.Situation.TheVariants.{Fresh, Ready, Configuring, Running, Stopped, Faulted, Ended}

@@ -8,7 +8,7 @@ use Rattle.dap_history.specs.Last.{or_else, last_such}
 use Rattle.dap_msg.specs.declared.requests.initialize.InitializeArguments.{InitializeArguments}
 use Rattle.dbg_plan.specs.Breakpoints.{Breakpoint}
 use Rattle.dap_history.specs.Plans.{Plan, no_plan}
-use Rattle.dap_history.specs.Plain.{Heading}
+use Rattle.dbg_runner.specs.Plain.{Heading}
 use Rattle.dap_history.specs.declared.situation.Situation.{Situation}
 use Rattle.dap_history.specs.declared.situation.Situation.TheVariants.{Fresh}
 use Rattle.dap_history.specs.History.{Launched, Step, History, messages, messages_of, orders_of, next_seq}

@@ -13,7 +13,7 @@ use Rattle.dap_msg.specs.declared.outgoing.Refusal.TheVariants as refusal
 use Rattle.dap_msg.specs.declared.requests.set_breakpoints.SetBreakpointsArguments.{SetBreakpointsArguments}
 use Rattle.dbg_plan.specs.Breakpoints.{Breakpoint}
 use Rattle.dbg_plan.specs.Due.{due, depth_at}
-use Rattle.dap_history.specs.Plain.{Heading, PlainOrder, Go, Hold}
+use Rattle.dbg_runner.specs.Plain.{Heading, PlainOrder, Go, Hold}
 use Rattle.dbg_plan.specs.declared.mode.Reason.{Reason}
 use Rattle.dbg_plan.specs.declared.mode.Reason.TheVariants as reason
 use Rattle.pl0_meaning.specs.Values.{Configuration, Frame}

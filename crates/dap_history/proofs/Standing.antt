@@ -19,7 +19,7 @@ use Rattle.dap_msg.specs.declared.outgoing.EventBody.TheVariants as event
 use Rattle.dap_msg.specs.declared.outgoing.StopReason.{StopReason}
 use Rattle.dap_msg.specs.declared.outgoing.StopReason.TheVariants as stop
 use Rattle.pl0_meaning.specs.Runs.{at}
-use Rattle.dap_history.specs.Plain.{PlainReport, PlainOrder, Go, Hold, Quit}
+use Rattle.dbg_runner.specs.Plain.{PlainReport, PlainOrder, Go, Hold, Quit}
 use Rattle.dap_history.specs.declared.situation.Situation.{Situation}
 use Rattle.dap_history.specs.declared.situation.Situation.TheVariants.{Fresh, Ready, Configuring, Running, Stopped, Faulted, Ended}
 use Rattle.dap_history.specs.Last.{or_else, last_such}

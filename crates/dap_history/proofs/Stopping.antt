@@ -9,9 +9,10 @@ use Rattle.pl0_meaning.specs.Runs.{outcome}
 use Rattle.pl0_meaning.specs.Laws.{WrittenJoins}
 use Rattle.dbg_plan.specs.declared.mode.Reason.{Reason}
 use Rattle.dbg_plan.specs.declared.mode.Reason.TheVariants as reason
-use Rattle.dap_history.specs.Plain.{PlainReport, SliceOutcome, Heading}
-use Rattle.dap_history.specs.Lawful.{IsLawful, EndsBy}
-use Rattle.dap_history.specs.Plain as slice
+use Rattle.dbg_runner.specs.declared.outcome.SliceOutcome.{SliceOutcome}
+use Rattle.dbg_runner.specs.Plain.{PlainReport, Heading}
+use Rattle.dbg_runner.specs.Lawful.{IsLawful, EndsBy}
+use Rattle.dbg_runner.specs.declared.outcome.SliceOutcome.TheVariants as slice
 use Rattle.dap_history.specs.declared.launch.Launch.{Launch}
 use Rattle.dap_history.specs.declared.situation.Situation.{Situation}
 use Rattle.dap_history.specs.declared.situation.Situation.TheVariants.{Ready, Configuring, Running}

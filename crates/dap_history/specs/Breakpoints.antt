@@ -14,7 +14,7 @@ use Rattle.pl0_tree.specs.Tree.{Block}
 use Rattle.pl0_tree.specs.Steps.{steps}
 use Rattle.dbg_plan.specs.Breakpoints.{Breakpoint}
 use Rattle.dbg_plan.specs.Resolutions.{AreResolved}
-use Rattle.dap_history.specs.Plain.{PlainOrder, Hold}
+use Rattle.dbg_runner.specs.Plain.{PlainOrder, Hold}
 use Rattle.dbg_plan.specs.declared.resolving.SourceBreakpoint.{SourceBreakpoint as AskedLine}
 use Rattle.dbg_plan.specs.declared.resolving.Resolution.{Resolution}
 use Rattle.dbg_plan.specs.declared.resolving.Resolution.TheVariants.{At, NoStep, BadCondition, BadHitCondition}

@@ -12,7 +12,7 @@ use Rattle.dap_msg.specs.declared.outgoing.Body.TheVariants as body
 use Rattle.dap_msg.specs.declared.outgoing.Refusal.TheVariants as refusal
 use Rattle.dap_history.specs.declared.situation.Situation.{Situation}
 use Rattle.dap_history.specs.declared.situation.Situation.TheVariants.{Fresh}
-use Rattle.dap_history.specs.Plain.{Quit}
+use Rattle.dbg_runner.specs.Plain.{Quit}
 use Rattle.dap_history.specs.History.{Item, Content, Loaded, Accepted, Fault, InputEnd, ReadFailure, MemoryFailure, Step, History, Effect}
 use Rattle.dap_history.specs.Readings.{situation}
 use Rattle.dap_history.specs.Replies.{Reply, nothing, ordering, answered, refused, causing}

@@ -5,8 +5,8 @@ use Rattle.dap_frame.specs.Frame.{IsFrameInFront, IsOpen}
 use Rattle.dap_frame.specs.Header.{FaultAt}
 use Rattle.dap_msg.specs.declared.request.Request.{Request}
 use Rattle.dap_msg.specs.Request.{IsRequestOf}
-use Rattle.dap_history.specs.Plain.{PlainReport}
-use Rattle.dap_history.specs.Lawful.{IsLawful}
+use Rattle.dbg_runner.specs.Plain.{PlainReport}
+use Rattle.dbg_runner.specs.Lawful.{IsLawful}
 use Rattle.dap_history.specs.declared.fault.LoadFault.{LoadFault}
 use Rattle.dap_history.specs.declared.fault.LoadFault.TheVariants as load_fault
 use Rattle.dap_history.specs.declared.launch.Launch.{Launch}

@@ -8,7 +8,7 @@ use Rattle.dap_msg.specs.declared.outgoing.Outgoing.TheVariants.{Event}
 use Rattle.dap_msg.specs.declared.outgoing.EventBody.{EventBody}
 use Rattle.pl0_tree.specs.Tree.{Block}
 use Rattle.dbg_plan.specs.Breakpoints.{Breakpoint}
-use Rattle.dap_history.specs.Plain.{PlainReport, PlainOrder}
+use Rattle.dbg_runner.specs.Plain.{PlainReport, PlainOrder}
 use Rattle.dap_history.specs.Plans.{Plan}
 
 -- A program that is launched: its path, its text, and what the text reads as.

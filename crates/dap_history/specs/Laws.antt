@@ -68,6 +68,12 @@ ContentsAreOfTheStream =
     (events : List Incoming) (past : History) (rest : Rest) → IsHistoryOf events past rest
     → (contents : List (List ℕ)) × Frames (stream_of events) contents rest.bytes × AreRead contents (contents_read past rest.launch)
 
+-- Two pieces give what they give as one: how the stream was cut changes no message and no order.
+abbrev pub CutsChangeNothing : Type 0
+CutsChangeNothing =
+    (a b : List ℕ) (before after : List Incoming) (past : History) (rest : Rest)
+    → IsHistoryOf (before ++ (Piece a ∷ Piece b ∷ after)) past rest → IsHistoryOf (before ++ (Piece (a ++ b) ∷ after)) past rest
+
 -- ---- Answered once
 
 -- the seq and the command that an answer names, and those of a request

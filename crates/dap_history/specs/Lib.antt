@@ -1,6 +1,4 @@
 pub mod Last
-pub mod Plain
-pub mod Lawful
 pub mod Plans
 pub mod History
 pub mod Readings

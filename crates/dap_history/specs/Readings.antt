@@ -19,9 +19,10 @@ use Rattle.dap_msg.specs.declared.outgoing.EventBody.TheVariants as event
 use Rattle.dap_msg.specs.declared.outgoing.StopReason.{StopReason}
 use Rattle.dap_msg.specs.declared.outgoing.StopReason.TheVariants as reason
 use Rattle.dbg_plan.specs.Breakpoints.{Breakpoint}
-use Rattle.dap_history.specs.Plain.{PlainReport, SliceOutcome, Heading, PlainOrder, Go, Hold, Quit}
+use Rattle.dbg_runner.specs.declared.outcome.SliceOutcome.{SliceOutcome}
+use Rattle.dbg_runner.specs.Plain.{PlainReport, Heading, PlainOrder, Go, Hold, Quit}
 use Rattle.dap_history.specs.Plans.{Plan, no_plan}
-use Rattle.dap_history.specs.Plain as slice
+use Rattle.dbg_runner.specs.declared.outcome.SliceOutcome.TheVariants as slice
 use Rattle.dap_history.specs.Last.{or_else, last_such}
 use Rattle.dap_history.specs.History.{Launched, Item, Content, Loaded, Accepted, Fault, InputEnd, ReadFailure, MemoryFailure, Step, History, messages, orders_of}
 use Rattle.dap_history.specs.declared.situation.Situation.{Situation}

@@ -13,7 +13,7 @@ use Rattle.pl0_meaning.specs.declared.RunFault.{RunFault}
 use Rattle.pl0_meaning.specs.declared.RunFault.TheVariants as run_fault
 use Rattle.dbg_plan.specs.declared.mode.Reason.{Reason}
 use Rattle.dbg_plan.specs.declared.mode.Reason.TheVariants as reason
-use Rattle.dap_history.specs.Plain.{PlainOrder}
+use Rattle.dbg_runner.specs.Plain.{PlainOrder}
 use Rattle.dap_history.specs.History.{Launched, Effect}
 
 pub record Reply : Type 0 where

@@ -4,9 +4,10 @@ use Rattle.dap_msg.specs.declared.outgoing.EventBody.{EventBody}
 use Rattle.dap_msg.specs.declared.outgoing.EventBody.TheVariants as event
 use Rattle.dap_msg.specs.declared.outgoing.StopReason.TheVariants as stop
 use Rattle.dbg_plan.specs.Breakpoints.{Breakpoint}
-use Rattle.dap_history.specs.Plain.{PlainReport, SliceOutcome, Heading, Go, heading_of}
+use Rattle.dbg_runner.specs.declared.outcome.SliceOutcome.{SliceOutcome}
+use Rattle.dbg_runner.specs.Plain.{PlainReport, Heading, Go, heading_of}
 use Rattle.dap_history.specs.Plans.{Plan}
-use Rattle.dap_history.specs.Plain as slice
+use Rattle.dbg_runner.specs.declared.outcome.SliceOutcome.TheVariants as slice
 use Rattle.dap_history.specs.declared.situation.Situation.TheVariants.{Running}
 use Rattle.dap_history.specs.History.{History, Effect}
 use Rattle.dap_history.specs.Readings.{situation, last_run, runs, position, plan, waiting_plan, waiting_pause}

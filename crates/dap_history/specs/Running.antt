@@ -8,7 +8,7 @@ use Rattle.dbg_plan.specs.declared.mode.Mode.TheVariants as mode
 use Rattle.dbg_plan.specs.declared.mode.Reason.{Reason}
 use Rattle.dbg_plan.specs.Due.{depth_at, due}
 use Rattle.dap_history.specs.Plans.{Plan}
-use Rattle.dap_history.specs.Plain.{PlainOrder, Go}
+use Rattle.dbg_runner.specs.Plain.{PlainOrder, Go}
 use Rattle.dap_history.specs.declared.situation.Situation.{Situation}
 use Rattle.dap_history.specs.declared.situation.Situation.TheVariants.{Fresh, Ready, Configuring, Running, Stopped, Faulted, Ended}
 use Rattle.dap_history.specs.History.{Launched, History, Effect}

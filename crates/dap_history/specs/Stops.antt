@@ -16,7 +16,7 @@ use Rattle.dbg_plan.specs.declared.mode.Mode.{Mode}
 use Rattle.dbg_plan.specs.declared.mode.Mode.TheVariants as mode
 use Rattle.dbg_plan.specs.declared.mode.Reason.{Reason}
 use Rattle.dbg_plan.specs.Due.{due}
-use Rattle.dap_history.specs.Plain.{Heading}
+use Rattle.dbg_runner.specs.Plain.{Heading}
 use Rattle.dap_history.specs.declared.situation.Situation.{Situation}
 use Rattle.dap_history.specs.declared.situation.Situation.TheVariants.{Stopped, Faulted}
 use Rattle.dap_history.specs.Last.{last_such}

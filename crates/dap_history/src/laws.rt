@@ -1,4 +1,4 @@
-ghost use Rattle.dap_history.specs.Laws.{HistoryIsOne, ContentsAreOfTheStream, EachIsAnsweredOnce, SeqCountFromOne, DisconnectIsLast, NumbersAreWritten, StopsFollowNumbers};
+ghost use Rattle.dap_history.specs.Laws.{HistoryIsOne, ContentsAreOfTheStream, CutsChangeNothing, EachIsAnsweredOnce, SeqCountFromOne, DisconnectIsLast, NumbersAreWritten, StopsFollowNumbers};
 ghost use Rattle.dap_history.specs.Stops.{EachStopIsRight, QuestionsAreAnsweredThere};
 
 use dap_frame::frame_laws;
@@ -10,6 +10,7 @@ use pl0_syntax::{editor_laws, text_laws};
 pub fn history_laws()
     ensures one { HistoryIsOne }
     ensures contents { ContentsAreOfTheStream }
+    ensures cuts { CutsChangeNothing }
     ensures answered { EachIsAnsweredOnce }
     ensures numbered { SeqCountFromOne }
     ensures outputs { NumbersAreWritten }

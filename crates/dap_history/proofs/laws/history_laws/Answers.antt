@@ -1,6 +1,7 @@
 use Rattle.std.proofs.Common.{[]}
 use Rattle.dap_history.specs.Events.{only_bytes}
 use Rattle.dap_history.proofs.Contents.{contents_of_stream}
+use Rattle.dap_history.proofs.Cuts.{cuts_change_nothing}
 use Rattle.dap_history.proofs.Answered.{each_answered}
 use Rattle.dap_history.proofs.Last.{disconnect_last}
 use Rattle.dap_history.proofs.Numbered.{numbers_count}
@@ -52,3 +53,6 @@ returns-clause-last c = disconnect_last
 
 pub returns-clause-contents : goal.returns-clause-contents
 returns-clause-contents c = contents_of_stream c.frame_laws.ensures.join
+
+pub returns-clause-cuts : goal.returns-clause-cuts
+returns-clause-cuts c = cuts_change_nothing
