@@ -4,7 +4,7 @@ use Rattle.std.specs.List.{concat}
 use Rattle.std.specs.Io.KnownBytes.{Consumes, Appends}
 use Rattle.std.proofs.lemmas.List.Folds.{concat-append}
 use Rattle.std.proofs.lemmas.Grind.{flat_map-append}
-use Rattle.dap_frame.specs.declared.fault.FrameFault.{FrameFault}
+use Rattle.dap_frame.specs.declared.fault.FramingFault.{FramingFault}
 use Rattle.dap_frame.specs.Frame.{frame_of}
 use Rattle.dap_msg.specs.Outgoing.{text_of}
 use Rattle.dap_msg.specs.declared.outgoing.Outgoing.{Outgoing}
@@ -149,7 +149,7 @@ ends_well tells session next event start now later p q s taking comes step empty
       tells = tells s.events event s.past s.stands.rest s.stands.history (sym s.stands.knows.ending_is ∙ taking) t.0 t.1.rest t.1.history by ends;
     }
 
-pub ends_at_fault : EventTellsTheEnding → (session : State) (event : Incoming) (k : FrameFault) (start now later : Streams) (p q : Ports) → ServedSoFar session start now → session.ending ≡ None
+pub ends_at_fault : EventTellsTheEnding → (session : State) (event : Incoming) (k : FramingFault) (start now later : Streams) (p q : Ports) → ServedSoFar session start now → session.ending ≡ None
     → ComesFrom event now.left later.left now.read_failures later.read_failures
     → ((events : List Incoming) (past : History) → StandsFor session events past → EndsAt k events past event p q)
     → p.frames ≡ [] → Appends now.written later.written (concat q.frames)
@@ -175,7 +175,7 @@ ended_by_disconnect event.End start later e = absurd (let t = e.tells in cc)
 ended_by_disconnect event.ReadFailed start later e = absurd (let t = e.tells in cc)
 ended_by_disconnect event.NoMemory start later e = absurd (let t = e.tells in cc)
 
-not_piece : (by : Closed) → by ≢ closed.Disconnected → (ending.Closed by ≡ ending.Closed closed.Disconnected) ⊎ ((k : FrameFault) × (ending.Closed by ≡ ending.Fault (Frame k))) → ⊥
+not_piece : (by : Closed) → by ≢ closed.Disconnected → (ending.Closed by ≡ ending.Closed closed.Disconnected) ⊎ ((k : FramingFault) × (ending.Closed by ≡ ending.Fault (Frame k))) → ⊥
 not_piece by other (inl is) = other cc
 not_piece by other (inr is) = let e = is.1 in absurd cc
 
@@ -194,7 +194,7 @@ ended_by_a_read session event.ReadFailed start now later s comes e =
     let before = s.reads_count in let grew = comes.1 in (omega (arith, before, grew), e.whole)
 ended_by_a_read session event.NoMemory start now later s comes e = absurd (let t = e.tells in cc)
 
-ended_by_a_frame : (event : Incoming) (k : FrameFault) (start later : Streams) → Ended event (ending.Fault (Frame k)) start later → IsFailed (fault.Session (Frame k)) start later
+ended_by_a_frame : (event : Incoming) (k : FramingFault) (start later : Streams) → Ended event (ending.Fault (Frame k)) start later → IsFailed (fault.Session (Frame k)) start later
 ended_by_a_frame (event.Piece piece) k start later e = (piece, e.whole)
 ended_by_a_frame event.End k start later e = absurd (let t = e.tells in cc)
 ended_by_a_frame event.ReadFailed k start later e = absurd (let t = e.tells in cc)
@@ -298,7 +298,7 @@ pub gives_up : EventTellsTheEnding → FaultLeavesABeginning → (session : Stat
     → ServedSoFar session start now → session.ending ≡ None
     → ComesFrom event now.left later.left now.read_failures later.read_failures
     → TakesNot session f event p q
-    → ((k : FrameFault) → f ≡ Frame k → (events : List Incoming) (past : History) → StandsFor session events past → EndsAt k events past event p q)
+    → ((k : FramingFault) → f ≡ Frame k → (events : List Incoming) (past : History) → StandsFor session events past → EndsAt k events past event p q)
     → p.frames ≡ [] → Appends now.written later.written (concat q.frames)
     → q.orders_full ≡ p.orders_full → q.runner_gone ≡ p.runner_gone
     → IsFailed (fault.Session f) start later

@@ -1,7 +1,7 @@
 -- How the program ends: its exit status and the last line on standard error.
 use Rattle.std.specs.Prelude.{ℕ, List, [], ◌++◌, codes, decimal, Result, Ok, Err}
-use Rattle.dap_frame.specs.declared.fault.FrameFault.{FrameFault}
-use Rattle.dap_frame.specs.declared.fault.FrameFault.TheVariants as frame
+use Rattle.dap_frame.specs.declared.fault.FramingFault.{FramingFault}
+use Rattle.dap_frame.specs.declared.fault.FramingFault.TheVariants as frame
 use Rattle.dap_session.specs.declared.fault.SessionFault.{SessionFault}
 use Rattle.dap_session.specs.declared.fault.SessionFault.TheVariants as session
 use Rattle.adapter.specs.declared.serving.Served.{Served}
@@ -17,7 +17,7 @@ use Rattle.adapter.specs.declared.exit_reason.ExitReason.{ExitReason}
 use Rattle.adapter.specs.declared.exit_reason.ExitReason.TheVariants.{Success, ReadFailed, WriteFailed, Framing, Refused, CannotRead, Syntax, NoMemory, NotUnderstood}
 
 -- framing faults by their numbers; out of memory is a refusal of the session
-abbrev pub reason_of_framing : FrameFault → ExitReason
+abbrev pub reason_of_framing : FramingFault → ExitReason
 reason_of_framing frame.HeaderTooLong = Framing 1
 reason_of_framing frame.BadField = Framing 2
 reason_of_framing frame.NoLength = Framing 3
@@ -28,7 +28,7 @@ reason_of_framing frame.NoMemory = Refused 2
 
 -- the session's other faults by their numbers
 abbrev pub reason_of_session : SessionFault → ExitReason
-reason_of_session (session.Frame fault) = reason_of_framing fault
+reason_of_session (session.Framing fault) = reason_of_framing fault
 reason_of_session session.NoMemory = Refused 2
 reason_of_session session.SeqExhausted = Refused 3
 reason_of_session session.OrdersFull = Refused 4

@@ -6,7 +6,7 @@ ghost use Rattle.adapter.specs.ExitReasons.{reason_of_serve, reason_of_session, 
 use crate::arguments::ArgumentsFault;
 use crate::checking::CheckFault;
 use crate::serving::{ServeFault, Served};
-use dap_frame::FrameFault;
+use dap_frame::FramingFault;
 use dap_session::SessionFault;
 use pl0_tree::{FaultKind, Place};
 use std::fmt;
@@ -138,7 +138,7 @@ fn end_of_session(fault: SessionFault) -> ExitReason
     ensures { result ≡ reason_of_session fault }
 {
     match fault {
-        SessionFault::Frame(fault) => end_of_framing(fault),
+        SessionFault::Framing(fault) => end_of_framing(fault),
         SessionFault::NoMemory => ExitReason::Refused(2),
         SessionFault::SeqExhausted => ExitReason::Refused(3),
         SessionFault::OrdersFull => ExitReason::Refused(4),
@@ -147,16 +147,16 @@ fn end_of_session(fault: SessionFault) -> ExitReason
     }
 }
 
-fn end_of_framing(fault: FrameFault) -> ExitReason
+fn end_of_framing(fault: FramingFault) -> ExitReason
     ensures { result ≡ reason_of_framing fault }
 {
     match fault {
-        FrameFault::HeaderTooLong => ExitReason::Framing(1),
-        FrameFault::BadField => ExitReason::Framing(2),
-        FrameFault::NoLength => ExitReason::Framing(3),
-        FrameFault::TwoLengths => ExitReason::Framing(4),
-        FrameFault::BadLength => ExitReason::Framing(5),
-        FrameFault::TooLarge => ExitReason::Framing(6),
-        FrameFault::NoMemory => ExitReason::Refused(2),
+        FramingFault::HeaderTooLong => ExitReason::Framing(1),
+        FramingFault::BadField => ExitReason::Framing(2),
+        FramingFault::NoLength => ExitReason::Framing(3),
+        FramingFault::TwoLengths => ExitReason::Framing(4),
+        FramingFault::BadLength => ExitReason::Framing(5),
+        FramingFault::TooLarge => ExitReason::Framing(6),
+        FramingFault::NoMemory => ExitReason::Refused(2),
     }
 }
