@@ -9,7 +9,7 @@ use Rattle.dap_frame.specs.Frame.{frame_of}
 use Rattle.dap_msg.specs.Outgoing.{text_of}
 use Rattle.dap_msg.specs.declared.outgoing.Outgoing.{Outgoing}
 use Rattle.dap_session.specs.declared.fault.SessionFault.{SessionFault}
-use Rattle.dap_session.specs.declared.fault.SessionFault.TheVariants.{Frame, NoMemory, SeqExhausted, OrdersFull, RunnerGone, WriterGone}
+use Rattle.dap_session.specs.declared.fault.SessionFault.TheVariants.{Framing, NoMemory, SeqExhausted, OrdersFull, RunnerGone, WriterGone}
 use Rattle.dap_session.specs.declared.ending.Closed.{Closed}
 use Rattle.dap_session.specs.declared.ending.Closed.TheVariants as closed
 use Rattle.dap_session.specs.declared.ending.Ending.{Ending}
@@ -153,7 +153,7 @@ pub ends_at_fault : EventTellsTheEnding → (session : State) (event : Incoming)
     → ComesFrom event now.left later.left now.read_failures later.read_failures
     → ((events : List Incoming) (past : History) → StandsFor session events past → EndsAt k events past event p q)
     → p.frames ≡ [] → Appends now.written later.written (concat q.frames)
-    → Ended event (ending.Fault (Frame k)) start later
+    → Ended event (ending.Fault (Framing k)) start later
 ends_at_fault tells session event k start now later p q s taking comes step empty wrote =
     let t = step s.events s.past s.stands in
     record {
@@ -166,7 +166,7 @@ ends_at_fault tells session event k start now later p q s taking comes step empt
         ending_is = t.ending_is;
         written = written_more s.past t.new p q start.written now.written later.written t.sends empty s.written wrote;
       };
-      tells = tells s.events event s.past s.stands.rest s.stands.history (sym s.stands.knows.ending_is ∙ taking) t.new t.left t.history (ending.Fault (Frame k)) t.ending_is;
+      tells = tells s.events event s.past s.stands.rest s.stands.history (sym s.stands.knows.ending_is ∙ taking) t.new t.left t.history (ending.Fault (Framing k)) t.ending_is;
     }
 
 pub ended_by_disconnect : (event : Incoming) (start later : Streams) → Ended event (ending.Closed closed.Disconnected) start later → IsServed served.Disconnected start later
@@ -175,7 +175,7 @@ ended_by_disconnect event.End start later e = absurd (let t = e.tells in cc)
 ended_by_disconnect event.ReadFailed start later e = absurd (let t = e.tells in cc)
 ended_by_disconnect event.NoMemory start later e = absurd (let t = e.tells in cc)
 
-not_piece : (by : Closed) → by ≢ closed.Disconnected → (ending.Closed by ≡ ending.Closed closed.Disconnected) ⊎ ((k : FramingFault) × (ending.Closed by ≡ ending.Fault (Frame k))) → ⊥
+not_piece : (by : Closed) → by ≢ closed.Disconnected → (ending.Closed by ≡ ending.Closed closed.Disconnected) ⊎ ((k : FramingFault) × (ending.Closed by ≡ ending.Fault (Framing k))) → ⊥
 not_piece by other (inl is) = other cc
 not_piece by other (inr is) = let e = is.1 in absurd cc
 
@@ -194,7 +194,7 @@ ended_by_a_read session event.ReadFailed start now later s comes e =
     let before = s.reads_count in let grew = comes.1 in (omega (arith, before, grew), e.whole)
 ended_by_a_read session event.NoMemory start now later s comes e = absurd (let t = e.tells in cc)
 
-ended_by_a_frame : (event : Incoming) (k : FramingFault) (start later : Streams) → Ended event (ending.Fault (Frame k)) start later → IsFailed (fault.Session (Frame k)) start later
+ended_by_a_frame : (event : Incoming) (k : FramingFault) (start later : Streams) → Ended event (ending.Fault (Framing k)) start later → IsFailed (fault.Session (Framing k)) start later
 ended_by_a_frame (event.Piece piece) k start later e = (piece, e.whole)
 ended_by_a_frame event.End k start later e = absurd (let t = e.tells in cc)
 ended_by_a_frame event.ReadFailed k start later e = absurd (let t = e.tells in cc)
@@ -298,11 +298,11 @@ pub gives_up : EventTellsTheEnding → FaultLeavesABeginning → (session : Stat
     → ServedSoFar session start now → session.ending ≡ None
     → ComesFrom event now.left later.left now.read_failures later.read_failures
     → TakesNot session f event p q
-    → ((k : FramingFault) → f ≡ Frame k → (events : List Incoming) (past : History) → StandsFor session events past → EndsAt k events past event p q)
+    → ((k : FramingFault) → f ≡ Framing k → (events : List Incoming) (past : History) → StandsFor session events past → EndsAt k events past event p q)
     → p.frames ≡ [] → Appends now.written later.written (concat q.frames)
     → q.orders_full ≡ p.orders_full → q.runner_gone ≡ p.runner_gone
     → IsFailed (fault.Session f) start later
-gives_up tells leaves session event start now later p q (Frame k) s taking comes fails frame empty wrote full gone =
+gives_up tells leaves session event start now later p q (Framing k) s taking comes fails frame empty wrote full gone =
     ended_by_a_frame event k start later (ends_at_fault tells session event k start now later p q s taking comes (frame k refl) empty wrote)
 gives_up tells leaves session event start now later p q NoMemory s taking comes fails frame empty wrote full gone =
     begun 0 session event start now later p q s empty comes

@@ -2,7 +2,7 @@
 use Rattle.std.specs.Prelude.{◌≡◌, ◌<◌, ◌≤◌, ◌^◌, ◌++◌, ◌∷◌, [], ℕ, List, Option, flat_map, length, Some}
 use Rattle.std.specs.List.{concat}
 use Rattle.std.specs.Io.KnownBytes.{Consumes, Appends, IsAtEnd}
-use Rattle.dap_session.specs.declared.fault.SessionFault.TheVariants.{Frame, NoMemory, SeqExhausted, OrdersFull, RunnerGone, WriterGone}
+use Rattle.dap_session.specs.declared.fault.SessionFault.TheVariants.{Framing, NoMemory, SeqExhausted, OrdersFull, RunnerGone, WriterGone}
 use Rattle.dap_session.specs.declared.ending.Closed.TheVariants as closed
 use Rattle.dap_session.specs.declared.ending.Ending.{Ending}
 use Rattle.dap_session.specs.declared.ending.Ending.TheVariants as ending
@@ -68,7 +68,7 @@ IsServed served.InputEnded old later = IsAtEnd later.left × IsWhole End (ending
 abbrev pub IsFailed : ServeFault → Streams → Streams → Type 0
 IsFailed fault.WriteFailed old later = (old.write_failures < later.write_failures) × IsBegun 0 old later
 IsFailed fault.ReadFailed old later = (old.read_failures < later.read_failures) × IsWhole ReadFailed (ending.Closed closed.ReadFailed) old later
-IsFailed (fault.Session (Frame k)) old later = (piece : List ℕ) × IsWhole (Piece piece) (ending.Fault (Frame k)) old later
+IsFailed (fault.Session (Framing k)) old later = (piece : List ℕ) × IsWhole (Piece piece) (ending.Fault (Framing k)) old later
 IsFailed (fault.Session NoMemory) old later = IsBegun 0 old later
 IsFailed (fault.Session SeqExhausted) old later = IsBegun (2 ^ 53) old later
 IsFailed (fault.Session OrdersFull) old later = ⊥
