@@ -77,7 +77,7 @@ pub record Executes (arguments : List Text) (reason : ExitReason) (loads later_l
 
 -- The system gave no arguments, or none that are text, or there was no memory for them.
 pub record GetsNoArguments (reason : ExitReason) (old later : Streams) (errors later_errors : Output) : Type 0 where
-  pub reason_is : reason ≡ NoMemory
+  pub reason_is : (reason ≡ NoMemory) ⊎ (reason ≡ NotUnderstood)
   pub kept : later ≡ old
   pub reports : Reports reason errors later_errors
 

@@ -1,7 +1,7 @@
 //! The program from its arguments to its end.
 
-ghost use Rattle.std.specs.Prelude.{◌≡◌, ◌++◌, ℕ, List, map, decimal};
-ghost use Rattle.adapter.specs.declared.exit_reason.ExitReason.TheVariants.{NoMemory, Syntax};
+ghost use Rattle.std.specs.Prelude.{◌≡◌, ◌⊎◌, ◌++◌, ℕ, List, map, decimal};
+ghost use Rattle.adapter.specs.declared.exit_reason.ExitReason.TheVariants.{NoMemory, NotUnderstood, Syntax};
 ghost use Rattle.adapter.specs.ExitReasons.{last_line};
 ghost use Rattle.adapter.specs.Listing.{line_feed};
 ghost use Rattle.adapter.specs.Running.{Performs, Reports, Executes, Runs, EndsHelping, IsUsage};
@@ -21,6 +21,7 @@ use log::sink::Console;
 use log::{Level, Logged, error};
 use pl0_tree::Place;
 use std::alloc::{AllocError, Global};
+use std::io::ErrorKind;
 use std::rt::{Env, Files};
 use std::sync::Wait;
 use std::{env, io};
@@ -49,11 +50,12 @@ pub fn run<R: Wait + Env + Files + Eprint + AllocGlobal, I: Source, O: Sink, E: 
         (output_at (E.written errors.new) (E.failures errors.new)) }
 {
     let mut files = FileLoader::new(rt, rt.alloc());
-    let Ok(given) = given_arguments(rt) else {
-        return refuse_arguments(rt, errors);
+    let given = match given_arguments(rt) {
+        Ok(given) => given,
+        Err(error) => return refuse_arguments(rt, end_of_reading(&error), errors),
     };
     let Ok(arguments) = texts(rt.alloc(), given.as_slice()) else {
-        return refuse_arguments(rt, errors);
+        return refuse_arguments(rt, ExitReason::NoMemory, errors);
     };
     execute(rt, arguments.as_slice(), &mut files, input, output, errors)
 }
@@ -70,15 +72,29 @@ fn texts(alloc: Global, arguments: &[String]) -> Result<Vec<&str>, AllocError> {
         .collect(alloc)
 }
 
-/// Ends where there was no memory for the arguments.
-fn refuse_arguments<R: Wait + Eprint + AllocGlobal, E: Sink>(rt: &R, errors: &mut E) -> ExitReason
-    ensures reason { result ≡ NoMemory }
+/// Why the arguments can't be had: there was no memory for them, or one of them is no text.
+fn end_of_reading(error: &io::Error) -> ExitReason
+    ensures { (result ≡ NoMemory) ⊎ (result ≡ NotUnderstood) }
+{
+    match error.kind() {
+        ErrorKind::OutOfMemory => ExitReason::NoMemory,
+        _ => ExitReason::NotUnderstood,
+    }
+}
+
+/// Ends where the system gave no arguments.
+fn refuse_arguments<R: Wait + Eprint + AllocGlobal, E: Sink>(
+    rt: &R,
+    reason: ExitReason,
+    errors: &mut E,
+) -> ExitReason
+    ensures reason { result ≡ reason }
     ensures reports { Reports result
         (output_at (E.written errors.old) (E.failures errors.old))
         (output_at (E.written errors.new) (E.failures errors.new)) }
 {
-    report(rt, &[], ExitReason::NoMemory, errors);
-    ExitReason::NoMemory
+    report(rt, &[], reason, errors);
+    reason
 }
 
 /// Does what the arguments ask for, of which the first is the program's name, and reports the end on `errors`: nothing at
