@@ -1,5 +1,5 @@
 -- Reports and orders as data, without addresses. All that is said of runs is said of these.
-use Rattle.std.specs.Prelude.{◌≡◌, ◌⊎◌, ℕ, List, ℤ, refl}
+use Rattle.std.specs.Prelude.{ℕ, List, ℤ}
 use Rattle.dbg_plan.specs.Breakpoints.{Breakpoint}
 use Rattle.dbg_plan.specs.declared.mode.Mode.{Mode}
 use Rattle.dbg_runner.specs.declared.outcome.SliceOutcome.{SliceOutcome}

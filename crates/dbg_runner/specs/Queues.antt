@@ -1,5 +1,5 @@
 -- What an act did at each of three ports.
-use Rattle.std.specs.Prelude.{ℕ, List, [], ◌∷◌, Option}
+use Rattle.std.specs.Prelude.{ℕ, List, [], ◌∷◌}
 use Rattle.std.specs.Option.{option_to_list}
 use Rattle.dbg_runner.specs.Plain.{PlainOrder, PlainReport}
 use Rattle.dbg_runner.specs.Runner.{Act, Waited, Looked, Passed, Sent, HandedBack}
