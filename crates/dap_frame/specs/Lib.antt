@@ -1,5 +1,7 @@
+-- What the public contracts say.
 pub mod Header
 pub mod Frame
 pub mod Stream
-pub mod Progress
 pub mod Laws
+-- What the code between them says.
+pub mod Progress
