@@ -5,7 +5,12 @@ SPEED = crates/pl0_speed/out/pl0_speed
 SLICES = crates/dbg_speed/out/dbg_speed
 SOURCES = crates.txt $(shell find crates -name out -prune -o -type f \( -name '*.rt' -o -name '*.antt' \) -print)
 
-.PHONY: build demo rows refusals misuse check plants gate-times install bench
+.PHONY: try build demo rows refusals misuse check plants gate-times install bench
+
+# A stored debug session in readable form within a minute or two, from a fresh clone on.
+try:
+	@echo "rt try proves nothing: this run is not proved. 'make check' proves the program."
+	python3 demo/session.py demo/hello.session env -C crates/pl0dap rt try
 
 build: $(PROGRAM)
 
@@ -26,13 +31,13 @@ $(SLICES): $(SOURCES)
 
 # A stored debug session, its frames printed in readable form.
 demo: $(PROGRAM)
-	python3 demo/session.py $(PROGRAM) demo/hello.session
+	python3 demo/session.py demo/hello.session $(PROGRAM)
 
 # Worked inputs, whole, a byte at a time and cut at many places, with what must come out; and that the examples are those
 # whose listings the gate compares.
 rows: $(PROGRAM)
 	python3 demo/rows.py $(PROGRAM)
-	diff -r examples crates/check_examples/data
+	diff -r -x fault.pl0 -x procedures.pl0 examples crates/check_runs/data
 
 # The merge gate: proves everything from nothing, and runs everything.
 check:

@@ -27,7 +27,7 @@ SLICE = 256
 LINES = 20
 
 # How a run of pl0dap may end in which something of a kind was refused: the status, and what stands on standard error. A
-# growth that the program can do without changes nothing. Fault 2 of the session is want of memory; at fault 6 it was the
+# growth that the program can do without changes nothing. Fault 2 of the session is out of memory; at fault 6 it was the
 # port for frames that found no room for one more.
 ADAPTER_ENDS = {
     "growth": [(0, ""), (3, "pl0dap: no memory"), (3, "pl0dap: refused 2"), (3, "pl0dap: refused 6")],
@@ -85,14 +85,20 @@ def contents(*names: str) -> bytes:
         return file.read()
 
 
+def listing(name: str) -> bytes:
+    """The listing of a file, of those that the stored run prints one after another, each after a line with its name."""
+    _, rest = contents("check_runs", "stdout").split(b"%s.pl0:\n" % name.encode(), 1)
+    return b"".join(itertools.takewhile(lambda line: not line.endswith(b":\n"), rest.splitlines(keepends=True)))
+
+
 def runs(program: str, speed: str, slices: str) -> dict[str, Run]:
-    nested = os.path.join(CRATES, "check_listing", "data", "nested.pl0")
+    procedures = os.path.join(CRATES, "check_runs", "data", "procedures.pl0")
     under = f"under {LINES} breakpoints\n"
     return {
         "a session": Run(
             [program], contents("pl0dap", "stdout"), ADAPTER_ENDS, source=os.path.join(CRATES, "pl0dap", "stdin")
         ),
-        "a listing": Run([program, "--check", nested], contents("check_listing", "stdout"), ADAPTER_ENDS),
+        "a listing": Run([program, "--check", procedures], listing("procedures"), ADAPTER_ENDS),
         "a machine": Run([speed, RECURSION], f"Done after {STEPS} steps\n".encode(), {"growth": MACHINE_ENDS}),
         "a run in slices": Run(
             [slices, RECURSION, "1", str(LINES), CONDITION],

@@ -1,7 +1,7 @@
 #!/usr/bin/env python3
 """Plays a stored session to the adapter, and prints what goes in and what comes out.
 
-usage: session.py PROGRAM SESSION
+usage: session.py SESSION PROGRAM [ARGUMENT..]
 
 Each line of SESSION is a content to send; a line that begins with # is a remark, and an empty line is passed over.
 """
@@ -23,13 +23,13 @@ def contents(stream: bytes):
 
 
 def main() -> int:
-    program, session = sys.argv[1:]
+    session, *command = sys.argv[1:]
     with open(session, encoding="utf-8") as file:
         lines = [line.rstrip("\n") for line in file]
     sent = [line for line in lines if line and not line.startswith("#")]
     for line in lines:
         print(f"  -> {line}" if line in sent else line)
-    run = subprocess.run([program], input=b"".join(frame(line.encode()) for line in sent), stdout=subprocess.PIPE)
+    run = subprocess.run(command, input=b"".join(frame(line.encode()) for line in sent), stdout=subprocess.PIPE)
     for content in contents(run.stdout):
         print(f"  <- {content}")
     print(f"exit status {run.returncode}")
