@@ -1,4 +1,4 @@
-//! Judging a text: its listing byte for byte, its first fault, and each way in which neither can be told.
+//! Judging a text: its listing byte for byte, its first fault, and each way in which there is neither.
 
 use crate::fakes::{OneFile, Output, Streams, Unreadable};
 use adapter::{check, end_of_check};

@@ -136,8 +136,8 @@ const SET_BREAKPOINTS: [Row; 12] = [
     ),
     (
         "setBreakpoints",
-        r#"{"source":{"path":"p.pl0"},"breakpoints":[{"line":0,"condition":"x > 2","hitCondition":"%2"},{"line":2147483647,"condition":""}]}"#,
-        r#"SetBreakpoints(SetBreakpointsArguments { path: Some(Text { text: "p.pl0" }), breakpoints: Items { items: [SourceBreakpoint { line: 0, condition: Text { text: "x > 2" }, hit_condition: Text { text: "%2" } }, SourceBreakpoint { line: 2147483647, condition: Text { text: "" }, hit_condition: Text { text: "" } }] } })"#,
+        r#"{"source":{"path":"p.pl0"},"breakpoints":[{"line":2},{"line":0,"condition":"x > 2","hitCondition":"%2"},{"line":2147483647,"condition":""}]}"#,
+        r#"SetBreakpoints(SetBreakpointsArguments { path: Some(Text { text: "p.pl0" }), breakpoints: Items { items: [SourceBreakpoint { line: 2, condition: Text { text: "" }, hit_condition: Text { text: "" } }, SourceBreakpoint { line: 0, condition: Text { text: "x > 2" }, hit_condition: Text { text: "%2" } }, SourceBreakpoint { line: 2147483647, condition: Text { text: "" }, hit_condition: Text { text: "" } }] } })"#,
     ),
     ("setBreakpoints", "{}", "BadArguments(SetBreakpoints)"),
     (
@@ -352,7 +352,7 @@ fn reads_arguments(rt: HostRuntime) -> Result<(), Fail> {
     Ok(())
 }
 
-/// Arguments with a part that may stand so many times, and no more.
+/// Arguments with a part that may stand at most so often.
 struct Limit {
     command: &'static str,
     first: &'static str,
@@ -399,7 +399,7 @@ const LIMITS: [Limit; 5] = [
     },
 ];
 
-/// Whether the arguments fit with their part so many times.
+/// Whether the arguments fit with their part so often.
 fn fits(alloc: Global, limit: &Limit, times: usize) -> Result<bool, Fail> {
     let command = limit.command;
     let head = format!(in alloc;

@@ -5,6 +5,7 @@ use dap_frame::FramingFault;
 use dap_session::{Closed, SessionFault};
 use std::test::Fail;
 
+/// A session: what is sent and answered, and how it ends.
 #[derive(Clone, Copy)]
 pub struct Row {
     pub name: &'static str,
