@@ -3,7 +3,6 @@ pub mod Along
 pub mod Answered
 pub mod Numbered
 pub mod Last
-pub mod Quiet
 pub mod Silent
 pub mod Outputs
 pub mod Early

@@ -11,6 +11,8 @@ pub mod Inspection
 pub mod Reports
 pub mod Emission
 pub mod Events
+pub mod Interleaving
 pub mod Output
 pub mod Laws
 pub mod Stops
+pub mod ReadingLaws

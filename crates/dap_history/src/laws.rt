@@ -1,4 +1,5 @@
 ghost use Rattle.dap_history.specs.Laws.{HistoryIsOne, ContentsAreOfTheStream, CutsChangeNothing, EachIsAnsweredOnce, SeqCountFromOne, DisconnectIsLast, NumbersAreWritten, StopsFollowNumbers};
+ghost use Rattle.dap_history.specs.ReadingLaws.{ReadingsGoOn};
 ghost use Rattle.dap_history.specs.Stops.{EachStopIsRight, QuestionsAreAnsweredThere};
 
 use dap_frame::frame_laws;
@@ -25,3 +26,8 @@ pub fn history_laws()
     editor_laws();
     meaning_laws();
 }
+
+/// How each reading of a history goes on with one more step.
+pub fn reading_laws()
+    ensures { ReadingsGoOn }
+{}

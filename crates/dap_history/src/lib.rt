@@ -14,5 +14,5 @@ mod situation;
 pub use ending::{Closed, Ending};
 pub use fault::{LoadFault, SessionFault};
 pub use launch::Launch;
-pub use laws::history_laws;
+pub use laws::{history_laws, reading_laws};
 pub use situation::Situation;
