@@ -21,3 +21,4 @@ pub mod OneReply
 
 pub mod Contents
 pub mod Cuts
+pub mod Rows
