@@ -22,3 +22,4 @@ pub mod OneReply
 pub mod Contents
 pub mod Cuts
 pub mod Rows
+pub mod ShownQ
