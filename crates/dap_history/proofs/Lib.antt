@@ -23,3 +23,4 @@ pub mod Contents
 pub mod Cuts
 pub mod Rows
 pub mod ShownQ
+pub mod Starts

@@ -127,7 +127,7 @@ module _ (one : OneProgram) (joins : WrittenJoins) where
       let none : r.start - r.start ≡ 0 = omega arith in
       lawful.lawful.numbers ∙ ap (written lawful.program r.start) ends.0 ∙ ap (written_from lawful.program r.start) none
 
-  report_text : (past : History) (r : PlainReport) (l : Launched) → Accepts past r → ProgressOf past (Some l) → r.text ≡ l.text
+  pub report_text : (past : History) (r : PlainReport) (l : Launched) → Accepts past r → ProgressOf past (Some l) → r.text ≡ l.text
   report_text past r l accepts progress = ap (λ (h : Heading). h.text) accepts.expected ∙ progress.1 accepts.run accepts.run_is
 
   pub report_program : (past : History) (r : PlainReport) (lawful : IsLawful r) (l : Launched) → Accepts past r → ProgressOf past (Some l) → lawful.program ≡ l.program

@@ -121,14 +121,14 @@ module _ (one : OneProgram) (joins : WrittenJoins) where
     running = running_more past step taken causes ran;
   }
 
-  ran_kept : IsKept IsLawful (Ran one joins)
+  pub ran_kept : IsKept IsLawful (Ran one joins)
   ran_kept = record {
     step = λ past item new taken_ taken after here.
         subst (Ran one joins) (sym after.new_is)
         (ran_more past after.step (subst (IsTaken IsLawful past) (sym after.item_is) taken) (subst (λ i. Causes past i after.step) (sym after.item_is) after.causes) here);
   }
 
-  ran_first : Ran one joins []
+  pub ran_first : Ran one joins []
   ran_first = record { so_far = progress_first one joins; configuring = λ is. absurd is; running = λ is. absurd is }
 
   -- ---- the stop of a step

@@ -1,6 +1,6 @@
 ghost use Rattle.dap_history.specs.Laws.{HistoryIsOne, ContentsAreOfTheStream, CutsChangeNothing, EachIsAnsweredOnce, SeqCountFromOne, DisconnectIsLast, NumbersAreWritten, StopsFollowNumbers};
 ghost use Rattle.dap_history.specs.ReadingLaws.{ReadingsGoOn};
-ghost use Rattle.dap_history.specs.Stops.{EachStopIsRight, QuestionsAreAnsweredThere};
+ghost use Rattle.dap_history.specs.Stops.{EachRunStartsThere, EachStopIsRight, QuestionsAreAnsweredThere};
 
 use dap_frame::frame_laws;
 use dap_msg::message_laws;
@@ -16,6 +16,7 @@ pub fn history_laws()
     ensures numbered { SeqCountFromOne }
     ensures outputs { NumbersAreWritten }
     ensures order { StopsFollowNumbers }
+    ensures runs { EachRunStartsThere }
     ensures stops { EachStopIsRight }
     ensures questions { QuestionsAreAnsweredThere }
     ensures last { DisconnectIsLast }
