@@ -17,8 +17,6 @@ pub mod OneHistory
 pub mod BlockCode
 pub mod Texts
 pub mod OneReply
-
-
 pub mod Contents
 pub mod Cuts
 pub mod Rows

@@ -1,14 +1,13 @@
 -- A session that is paused, and one whose breakpoints change, while the program runs: what each item causes, computed from
 -- the definitions, for any program whose first slice is followed by a Held report.
-use Rattle.std.proofs.Common.{◌≡◌, ℕ, List, [], ◌∷◌, ◌++◌, Option, None, Some, Ok, refl}
-use Rattle.std.specs.Prelude.{true, false}
+use Rattle.std.proofs.Common.{◌≡◌, ℕ, List, [], ◌∷◌, ◌++◌, None, Some, Ok, refl}
+use Rattle.std.specs.Prelude.{false}
 use Rattle.dap_msg.specs.declared.command.Command.{Command}
 use Rattle.dap_msg.specs.declared.command.Command.TheVariants as command
 use Rattle.dap_msg.specs.Commands.{name_of}
 use Rattle.dap_msg.specs.declared.command.CommandName.TheVariants as name
 use Rattle.dap_msg.specs.declared.command.Supported.TheVariants as supported
-use Rattle.dap_msg.specs.declared.outgoing.Outgoing.{Outgoing}
-use Rattle.dap_msg.specs.declared.outgoing.Outgoing.TheVariants.{Answer, Event}
+use Rattle.dap_msg.specs.declared.outgoing.Outgoing.TheVariants.{Answer}
 use Rattle.dap_msg.specs.declared.outgoing.Body.TheVariants as body
 use Rattle.dap_msg.specs.declared.outgoing.EventBody.TheVariants as event
 use Rattle.dap_msg.specs.declared.outgoing.StopReason.TheVariants as stop
@@ -19,13 +18,12 @@ use Rattle.dbg_plan.specs.declared.mode.Mode.TheVariants as mode
 use Rattle.dbg_runner.specs.Plain.{PlainReport, Go, Hold}
 use Rattle.dbg_runner.specs.declared.outcome.SliceOutcome.{SliceOutcome}
 use Rattle.dbg_runner.specs.declared.outcome.SliceOutcome.TheVariants as slice
-use Rattle.dap_history.specs.declared.situation.Situation.TheVariants.{Ready, Configuring, Running, Stopped, Ended}
-use Rattle.dap_history.specs.History.{Item, Content, Loaded, Accepted, Step, History, Effect, messages_of, orders_of}
-use Rattle.dap_history.specs.Readings.{from_one, situation, launched, last_run, runs, position, plan, waiting_plan, waiting_pause, is_held}
+use Rattle.dap_history.specs.declared.situation.Situation.TheVariants.{Configuring, Running}
+use Rattle.dap_history.specs.History.{Content, Loaded, Accepted, Step, History, Effect}
+use Rattle.dap_history.specs.Readings.{from_one, situation, runs, position, plan, waiting_plan, waiting_pause, is_held}
 use Rattle.dap_history.specs.Replies.{Reply, nothing, answered}
 use Rattle.dap_history.specs.Launching.{launches}
 use Rattle.dap_history.specs.Breakpoints.{effect_in}
-use Rattle.dap_history.specs.Running.{enters, pause_in}
 use Rattle.dap_history.specs.Reports.{Accepts, report_effect}
 use Rattle.dap_history.specs.Emission.{RepliesIn}
 

@@ -5,7 +5,7 @@ use Rattle.pl0_tree.specs.declared.tree.Place.{Place}
 use Rattle.pl0_tree.specs.declared.tree.Operator.TheVariants.{Add, Subtract}
 use Rattle.pl0_tree.specs.declared.tree.Relation.TheVariants.{Greater}
 use Rattle.pl0_tree.specs.Tree.{Name, Variable, Number, Binary, Compare, Empty, Then, Assign, Call, Write, If, Block, ABlock, NoMore, AProcedure}
-use Rattle.pl0_meaning.specs.Values.{Configuration, value}
+use Rattle.pl0_meaning.specs.Values.{Configuration}
 use Rattle.pl0_meaning.specs.Runs.{at}
 use Rattle.dap_msg.specs.declared.outgoing.StackFrame.{StackFrame}
 use Rattle.dap_msg.specs.declared.outgoing.Scope.{Scope}

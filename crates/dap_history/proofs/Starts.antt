@@ -1,15 +1,14 @@
 -- Each run is of the launched text, and starts where the program stands.
-use Rattle.std.proofs.Common.{◌≡◌, ℕ, List, [], ◌∷◌, ◌++◌, Option, None, Some, refl, sym, ◌∙◌, ap, subst}
+use Rattle.std.proofs.Common.{◌≡◌, ℕ, List, Option, None, Some, refl, sym, ◌∙◌, ap}
 use Rattle.std.specs.Prelude.{unwrap_or}
 use Rattle.pl0_meaning.specs.Laws.{WrittenJoins}
 use Rattle.dbg_runner.specs.Plain.{PlainReport, Heading}
 use Rattle.dbg_runner.specs.Lawful.{IsLawful}
-use Rattle.dap_history.specs.declared.launch.Launch.{Launch}
 use Rattle.dap_history.specs.Last.{last_such}
 use Rattle.dap_history.specs.History.{Launched, Item, Content, Loaded, Accepted, Fault, InputEnd, ReadFailure, MemoryFailure, Step, History, Effect}
 use Rattle.dap_history.specs.Readings.{go, situation, position, launched, end_of}
 use Rattle.dap_history.specs.Reports.{Accepts, report_effect}
-use Rattle.dap_history.specs.Emission.{Causes, HasEffect}
+use Rattle.dap_history.specs.Emission.{Causes}
 use Rattle.dap_history.specs.Stops.{run_in, EachRunStartsThere}
 use Rattle.dap_history.proofs.Readings.{position-snoc}
 use Rattle.dap_history.proofs.Along.{IsTaken, lawful_reports, along}
