@@ -27,7 +27,7 @@ use Rattle.dbg_plan.specs.declared.resolving.SourceBreakpoint.{SourceBreakpoint 
 use Rattle.dbg_plan.specs.declared.resolving.Resolution.{Resolution}
 use Rattle.dbg_plan.specs.declared.resolving.Resolution.TheVariants.{At, NoStep, BadCondition, BadHitCondition}
 use Rattle.dbg_plan.specs.Resolutions.{step_from, ReadsRule, ReadsConditionAt, IsBreakpointOf, IsResolvedTo, AreResolved}
-use Rattle.dbg_plan.specs.Values.{told}
+use Rattle.dbg_plan.specs.Values.{told as evaluated}
 use Rattle.dbg_plan.specs.Breakpoints.{Breakpoint, TextCondition}
 use Rattle.dap_history.specs.declared.situation.Situation.{Situation}
 use Rattle.dap_history.specs.declared.situation.Situation.TheVariants.{Fresh, Ready, Configuring, Running, Stopped, Faulted, Ended}
@@ -237,22 +237,22 @@ module _ (once : IsTextOnce) where
 
   -- ---- questions
 
-  told_once : (a b : Result ℤ EvalFault) → told a ≡ told b → a ≡ b
-  told_once (Ok v) (Ok w) is = let e : v ≡ w = cc in ap Ok e
-  told_once (Ok v) (Err Overflow) is = absurd cc
-  told_once (Ok v) (Err DivideByZero) is = absurd cc
-  told_once (Err Overflow) (Ok w) is = absurd cc
-  told_once (Err DivideByZero) (Ok w) is = absurd cc
-  told_once (Err Overflow) (Err Overflow) is = refl
-  told_once (Err Overflow) (Err DivideByZero) is = absurd cc
-  told_once (Err DivideByZero) (Err Overflow) is = absurd cc
-  told_once (Err DivideByZero) (Err DivideByZero) is = refl
+  evaluated_once : (a b : Result ℤ EvalFault) → evaluated a ≡ evaluated b → a ≡ b
+  evaluated_once (Ok v) (Ok w) is = let e : v ≡ w = cc in ap Ok e
+  evaluated_once (Ok v) (Err Overflow) is = absurd cc
+  evaluated_once (Ok v) (Err DivideByZero) is = absurd cc
+  evaluated_once (Err Overflow) (Ok w) is = absurd cc
+  evaluated_once (Err DivideByZero) (Ok w) is = absurd cc
+  evaluated_once (Err Overflow) (Err Overflow) is = refl
+  evaluated_once (Err Overflow) (Err DivideByZero) is = absurd cc
+  evaluated_once (Err DivideByZero) (Err Overflow) is = absurd cc
+  evaluated_once (Err DivideByZero) (Err DivideByZero) is = refl
 
   one_evaluates : (main : Block) (c : Configuration) (id : ℕ) (f : Option Frame) (text : List ℕ) (r s : Reply) → EvaluatesIn main c id f text r → EvaluatesIn main c id f text s → r ≡ s
   one_evaluates main c id None text r s a b = a ∙ sym b
   one_evaluates main c id (Some f) text r s (inl a) (inl b) =
       let read = once.one_expression main f.block text a.expression b.expression a.reads b.reads in
-      a.reply_is ∙ ap result_reply (told_once a.result b.result (sym a.result_is ∙ ap (value main c _) read ∙ b.result_is)) ∙ sym b.reply_is
+      a.reply_is ∙ ap result_reply (evaluated_once a.result b.result (sym a.result_is ∙ ap (value main c _) read ∙ b.result_is)) ∙ sym b.reply_is
   one_evaluates main c id (Some f) text r s (inl a) (inr b) = absurd (b.none a.expression a.reads)
   one_evaluates main c id (Some f) text r s (inr a) (inl b) = absurd (a.none b.expression b.reads)
   one_evaluates main c id (Some f) text r s (inr a) (inr b) = a.reply_is ∙ sym b.reply_is

@@ -9,7 +9,7 @@ use Rattle.pl0_tree.specs.Tree.{Block, Expression}
 use Rattle.pl0_tree.specs.Faults.{IsExpressionOf}
 use Rattle.pl0_meaning.specs.Values.{Frame, Configuration, value}
 use Rattle.pl0_meaning.specs.Runs.{at}
-use Rattle.dbg_plan.specs.Values.{told}
+use Rattle.dbg_plan.specs.Values.{told as evaluated}
 use Rattle.dbg_plan.specs.declared.evaluation.EvalFault.{EvalFault}
 use Rattle.dbg_plan.specs.declared.evaluation.EvalFault.TheVariants.{Overflow, DivideByZero}
 use Rattle.dap_history.specs.declared.situation.Situation.{Situation}
@@ -50,7 +50,7 @@ pub record HasResult (main : Block) (c : Configuration) (i : ℕ) (f : Frame) (t
   pub expression : Expression
   pub reads : IsExpressionOf main f.block text expression
   pub result : Result ℤ EvalFault
-  pub result_is : value main c i expression ≡ told result
+  pub result_is : value main c i expression ≡ evaluated result
   pub reply_is : reply ≡ result_reply result
 
 -- it doesn't read

@@ -1,3 +1,4 @@
+-- What one must believe: the definitions that the laws and the contracts of a session cite, in reading order.
 pub mod Last
 pub mod Plans
 pub mod History
