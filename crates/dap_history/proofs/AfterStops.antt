@@ -1,10 +1,10 @@
 -- No step reports a number after a stop; so before a stop stand just the numbers written up to it.
-use Rattle.std.proofs.Common.{◌≡◌, inl, inr, ℕ, List, [], ◌∷◌, ◌++◌, ℤ, Option, None, Some, refl, sym, ◌∙◌, ap, subst, append-nil}
-use Rattle.std.specs.Prelude.{map, Bool, true, false}
+use Rattle.std.proofs.Common.{◌≡◌, List, [], ◌∷◌, ◌++◌, ℤ, sym, ◌∙◌, ap, subst}
+use Rattle.std.specs.Prelude.{map}
 use Rattle.std.specs.List.{filter_map}
 use Rattle.std.proofs.lemmas.List.Elements.{filter_map-append}
 use Rattle.dap_msg.specs.declared.outgoing.Outgoing.{Outgoing}
-use Rattle.dap_msg.specs.declared.outgoing.Outgoing.TheVariants.{Answer, Event}
+use Rattle.dap_msg.specs.declared.outgoing.Outgoing.TheVariants.{Event}
 use Rattle.dap_msg.specs.declared.outgoing.EventBody.{EventBody}
 use Rattle.dap_msg.specs.declared.outgoing.EventBody.TheVariants as event
 use Rattle.dap_msg.specs.declared.outgoing.StopReason.{StopReason}

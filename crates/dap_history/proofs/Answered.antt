@@ -1,16 +1,15 @@
 -- Each request is answered once.
-use Rattle.std.proofs.Common.{◌≡◌, ℕ, List, [], ◌∷◌, ◌++◌, Option, None, Some, refl, sym, ◌∙◌, ap, subst, append-nil}
+use Rattle.std.proofs.Common.{◌≡◌, ℕ, List, [], ◌∷◌, ◌++◌, None, Some, refl, sym, ◌∙◌, ap, subst}
 use Rattle.std.specs.Prelude.{map}
 use Rattle.std.specs.List.{filter_map}
 use Rattle.std.proofs.lemmas.List.{map-append}
 use Rattle.std.proofs.lemmas.List.Elements.{filter_map-append}
 use Rattle.dap_msg.specs.declared.command.CommandName.{CommandName}
-use Rattle.dap_msg.specs.declared.outgoing.Outgoing.{Outgoing}
-use Rattle.dap_msg.specs.declared.outgoing.Outgoing.TheVariants.{Answer, Event}
+use Rattle.dap_msg.specs.declared.outgoing.Outgoing.TheVariants.{Event}
 use Rattle.dap_msg.specs.declared.outgoing.EventBody.{EventBody}
 use Rattle.dap_history.specs.History.{Item, Content, Loaded, Accepted, Fault, InputEnd, ReadFailure, MemoryFailure, Step, History, with_answer, messages, messages_of}
 use Rattle.dap_history.specs.Replies.{Reply}
-use Rattle.dap_history.specs.Emission.{Answers, HasEffect, Causes, IsAfter}
+use Rattle.dap_history.specs.Emission.{Answers, Causes}
 use Rattle.dap_history.specs.Laws.{answered, asked, EachIsAnsweredOnce}
 use Rattle.dap_history.proofs.Readings.{messages_of-snoc}
 use Rattle.dap_history.proofs.Along.{IsKept, any_reports, along}

@@ -1,9 +1,9 @@
 -- A code of blocks, by which a proof reports them apart: a block as a statement.
-use Rattle.std.proofs.Common.{◌≡◌, ℕ, List, [], ◌∷◌, refl, sym, ◌∙◌, ap}
+use Rattle.std.proofs.Common.{◌≡◌, List, [], ◌∷◌, refl, ◌∙◌, ap}
 use Rattle.std.specs.Prelude.{pos, ℤ}
 use Rattle.std.specs.Coded.{Coded, code_by}
 use Rattle.pl0_tree.specs.declared.tree.Place.{Place}
-use Rattle.pl0_tree.specs.Tree.{Name, Expression, Variable, Number, Condition, Odd, Statement, Empty, Then, Assign, Call, Write, If, While, Constant, Block, ABlock, Procedures, NoMore, AProcedure}
+use Rattle.pl0_tree.specs.Tree.{Name, Expression, Variable, Number, Condition, Odd, Statement, Empty, Then, Assign, Call, If, Constant, Block, ABlock, Procedures, NoMore, AProcedure}
 use Rattle.pl0_tree.specs.TreeCode.{statement_code}
 
 abbrev nowhere : Place

@@ -1,5 +1,5 @@
 -- The contents taken are those of the joined stream.
-use Rattle.std.proofs.Common.{◌≡◌, ◌⊎◌, inl, inr, ℕ, List, [], ◌∷◌, ◌++◌, Option, None, Some, Result, Ok, Err, refl, sym, ◌∙◌, ap, subst, append-nil}
+use Rattle.std.proofs.Common.{◌≡◌, inl, inr, ℕ, List, [], ◌∷◌, ◌++◌, Option, None, Some, Result, Ok, Err, refl, sym, ◌∙◌, ap, subst, append-nil}
 use Rattle.std.specs.Prelude.{map}
 use Rattle.std.specs.List.{filter_map}
 use Rattle.std.proofs.lemmas.List.{append_assoc, map-append}
@@ -14,12 +14,12 @@ use Rattle.dap_history.specs.declared.launch.Launch.{Launch}
 use Rattle.dap_history.specs.declared.fault.LoadFault.{LoadFault}
 use Rattle.dap_history.specs.declared.fault.LoadFault.TheVariants as load_fault
 use Rattle.dap_history.specs.declared.situation.Situation.{Situation}
-use Rattle.dap_history.specs.declared.situation.Situation.TheVariants.{Fresh, Ready, Configuring, Running, Stopped, Faulted, Ended}
+use Rattle.dap_history.specs.declared.situation.Situation.TheVariants.{Ready}
 use Rattle.dap_history.specs.History.{Item, Content, Loaded, Accepted, Fault, InputEnd, ReadFailure, MemoryFailure, Step, History}
 use Rattle.dap_history.specs.Readings.{situation}
 use Rattle.dap_history.specs.Launching.{wanted_by, wanted_in}
 use Rattle.dap_history.specs.Emission.{IsAfter}
-use Rattle.dap_history.specs.Events.{Incoming, Piece, End, ReadFailed, NoMemory, File, Report, Rest, only_bytes, IsTaking, IsInFront, Takes, none, one_more, Rests, closed, open_ended, faulty, waits, TakesAll, MayTake, LeadsByPiece, LeadsByFile, LeadsByReport, Loads, Leads, LeadsAll}
+use Rattle.dap_history.specs.Events.{Incoming, Piece, End, ReadFailed, NoMemory, File, Report, Rest, only_bytes, IsInFront, Takes, none, one_more, Rests, closed, open_ended, faulty, waits, TakesAll, MayTake, LeadsByPiece, LeadsByFile, LeadsByReport, Loads, LeadsAll}
 use Rattle.dap_history.specs.Laws.{stream_of, launch_request, read_as, waiting, contents_read, AreRead, ContentsAreOfTheStream}
 
 -- ---- frames, and what is read

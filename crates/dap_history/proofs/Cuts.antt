@@ -1,5 +1,5 @@
 -- How the stream was cut into pieces changes nothing.
-use Rattle.std.proofs.Common.{◌≡◌, inl, inr, ℕ, ◌+◌, ◌≤◌, List, [], ◌∷◌, ◌++◌, Option, None, Some, refl, sym, ◌∙◌, ap, subst, arith, length, take, length-append}
+use Rattle.std.proofs.Common.{◌≡◌, ℕ, List, [], ◌∷◌, ◌++◌, Option, None, Some, refl, sym, ◌∙◌, ap, subst, arith, length-append}
 use Rattle.std.proofs.lemmas.List.{append_assoc, take-append-le}
 use Rattle.dap_frame.specs.declared.fault.FramingFault.{FramingFault}
 use Rattle.dap_frame.specs.declared.fault.FramingFault.TheVariants.{HeaderTooLong, BadField, NoLength, TwoLengths, BadLength, TooLarge, NoMemory as NoRoom}
@@ -7,8 +7,7 @@ use Rattle.dap_frame.specs.Header.{HasFaultyLine, IsTooLong, FaultAt, lines_of, 
 use Rattle.dap_msg.specs.declared.request.Request.{Request}
 use Rattle.dap_history.specs.declared.launch.Launch.{Launch}
 use Rattle.dap_history.specs.History.{History, Fault}
-use Rattle.dap_history.specs.Emission.{IsAfter}
-use Rattle.dap_history.specs.Events.{Incoming, Piece, Rest, only_bytes, IsTaking, IsInFront, Takes, none, one_more, Rests, closed, open_ended, faulty, waits, TakesAll, LeadsByPiece, Leads, LeadsAll, IsHistoryOf}
+use Rattle.dap_history.specs.Events.{Incoming, Piece, Rest, only_bytes, IsTaking, IsInFront, Takes, none, one_more, Rests, closed, open_ended, faulty, waits, TakesAll, LeadsByPiece, Leads, LeadsAll}
 use Rattle.dap_history.specs.Laws.{CutsChangeNothing}
 use Rattle.dap_history.proofs.Along.{closes_for_good}
 use Rattle.dap_history.proofs.Contents.{front_more}

@@ -1,9 +1,8 @@
 -- Each step of a history was caused by its item, after the steps before it.
-use Rattle.std.proofs.Common.{◌≡◌, ◌⊎◌, inl, inr, ℕ, List, [], ◌∷◌, ◌++◌, refl, sym, ◌∙◌, ap, subst}
+use Rattle.std.proofs.Common.{◌≡◌, ◌⊎◌, inl, inr, [], ◌∷◌, ◌++◌, refl, sym, ◌∙◌, ap, subst}
 use Rattle.dbg_runner.specs.Plain.{PlainReport}
 use Rattle.dap_history.specs.History.{Item, Step, History}
 use Rattle.dap_history.specs.Emission.{Causes, IsAfter}
-use Rattle.dap_history.specs.Events.{IsTaking}
 use Rattle.dap_history.proofs.Along.{IsTaken, IsKept}
 
 abbrev head_of : (xs : History) (first : Step) → Step

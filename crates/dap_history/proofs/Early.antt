@@ -1,5 +1,5 @@
 -- In Fresh and Ready nothing is launched: only the first `initialize` leads to Ready.
-use Rattle.std.proofs.Common.{◌≡◌, ◌⊎◌, inl, inr, ℕ, List, [], ◌∷◌, Option, None, Some, Ok, Err, refl, sym, ◌∙◌, ap, subst}
+use Rattle.std.proofs.Common.{◌≡◌, ◌⊎◌, inl, inr, ℕ, List, [], ◌∷◌, Option, None, Some, Ok, Err, refl, subst}
 use Rattle.std.specs.Prelude.{map, unwrap_or, Result}
 use Rattle.dap_msg.specs.Commands.{name_of}
 use Rattle.dap_msg.specs.declared.command.Command.{Command}
@@ -9,18 +9,16 @@ use Rattle.dap_msg.specs.declared.command.CommandName.TheVariants as name
 use Rattle.dap_msg.specs.declared.command.Supported.TheVariants as supported
 use Rattle.dap_msg.specs.declared.outgoing.Body.{Body}
 use Rattle.dap_msg.specs.declared.outgoing.Refusal.{Refusal}
-use Rattle.dap_msg.specs.declared.outgoing.Outgoing.{Outgoing}
-use Rattle.dap_msg.specs.declared.outgoing.Outgoing.TheVariants.{Answer, Event}
+use Rattle.dap_msg.specs.declared.outgoing.Outgoing.TheVariants.{Event}
 use Rattle.dap_msg.specs.declared.outgoing.EventBody.{EventBody}
 use Rattle.dap_msg.specs.declared.outgoing.EventBody.TheVariants as event
-use Rattle.dap_msg.specs.declared.outgoing.StopReason.{StopReason}
 use Rattle.dap_msg.specs.declared.outgoing.StopReason.TheVariants as reason
 use Rattle.dap_history.specs.declared.situation.Situation.{Situation}
 use Rattle.dap_history.specs.declared.situation.Situation.TheVariants.{Fresh, Ready, Configuring, Running, Stopped, Faulted, Ended}
 use Rattle.dap_history.specs.Last.{or_else, last_such}
 use Rattle.dbg_runner.specs.Plain.{PlainOrder, Go, Hold, Quit}
-use Rattle.dap_history.specs.History.{Step, History, with_answer, messages}
-use Rattle.dap_history.specs.Readings.{command_mark, answer_mark, stop_mark, event_mark, message_mark, order_mark, step_mark, situation}
+use Rattle.dap_history.specs.History.{Step, History, with_answer}
+use Rattle.dap_history.specs.Readings.{command_mark, answer_mark, event_mark, message_mark, order_mark, step_mark}
 use Rattle.dap_history.specs.Replies.{Reply}
 use Rattle.dap_history.specs.Launching.{initialize_in}
 use Rattle.dap_history.specs.Emission.{RepliesIn, Answers}

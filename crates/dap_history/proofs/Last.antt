@@ -1,5 +1,5 @@
 -- A `disconnect` that is taken is the last item, and its answer the last message.
-use Rattle.std.proofs.Common.{◌≡◌, ◌⊎◌, inl, inr, ℕ, List, [], ◌∷◌, ◌++◌, Option, None, Some, Ok, refl, sym, ◌∙◌, ap, subst}
+use Rattle.std.proofs.Common.{◌≡◌, ◌⊎◌, inl, inr, ℕ, [], ◌∷◌, ◌++◌, Some, Ok, sym, ◌∙◌, ap, subst}
 use Rattle.std.specs.Prelude.{map}
 use Rattle.dap_msg.specs.declared.command.Command.TheVariants as command
 use Rattle.dap_msg.specs.declared.command.CommandName.TheVariants as name
@@ -8,15 +8,14 @@ use Rattle.dap_msg.specs.declared.outgoing.Outgoing.TheVariants.{Answer, Event}
 use Rattle.dap_msg.specs.declared.outgoing.Body.TheVariants as body
 use Rattle.dbg_runner.specs.Plain.{PlainReport}
 use Rattle.dap_history.specs.declared.ending.Ending.{Ending}
-use Rattle.dap_history.specs.Last.{or_else, last_such}
-use Rattle.dap_history.specs.History.{Item, Content, Step, History, with_answer, messages, messages_of}
+use Rattle.dap_history.specs.History.{Content, Step, History, with_answer, messages, messages_of}
 use Rattle.dap_history.specs.Readings.{closing, ending_of}
 use Rattle.dap_history.specs.Replies.{Reply}
-use Rattle.dap_history.specs.Emission.{Causes, IsAfter}
+use Rattle.dap_history.specs.Emission.{Causes}
 use Rattle.dap_history.specs.Events.{IsTaking}
 use Rattle.dap_history.specs.Laws.{DisconnectIsLast}
 use Rattle.dap_history.proofs.Readings.{last_such-append, messages_of-snoc}
-use Rattle.dap_history.proofs.Along.{IsTaken, IsKept, any_reports, along}
+use Rattle.dap_history.proofs.Along.{IsKept, any_reports, along}
 use Rattle.dap_history.proofs.Each.{splits, none_first, WasTaken, EachTaken, each_kept, each_first}
 use Rattle.dap_history.proofs.Passing.{none_left}
 

@@ -3,7 +3,6 @@ pub mod Along
 pub mod Answered
 pub mod Numbered
 pub mod Last
-pub mod Quiet
 pub mod Silent
 pub mod Outputs
 pub mod Early
@@ -18,7 +17,8 @@ pub mod OneHistory
 pub mod BlockCode
 pub mod Texts
 pub mod OneReply
-
-
 pub mod Contents
 pub mod Cuts
+pub mod Rows
+pub mod ShownQ
+pub mod Starts

@@ -1,7 +1,5 @@
 -- A list of events has one history, where an item has one effect.
 use Rattle.std.proofs.Common.{◌≡◌, ◌⊎◌, inl, inr, ℕ, List, [], ◌∷◌, ◌++◌, Option, None, Some, Result, Ok, Err, refl, sym, ◌∙◌, ap, subst}
-use Rattle.dap_frame.specs.declared.fault.FramingFault.{FramingFault}
-use Rattle.dap_frame.specs.Frame.{IsFrameInFront}
 use Rattle.dap_frame.specs.Laws.{FramesAreUnique, FaultsAreUnique, NeverBoth}
 use Rattle.dap_msg.specs.Laws.{OneReading}
 use Rattle.dap_msg.specs.declared.request.Request.{Request}
@@ -14,7 +12,7 @@ use Rattle.dap_history.specs.History.{Item, Content, Loaded, Accepted, Fault, In
 use Rattle.dap_history.specs.Readings.{situation}
 use Rattle.dap_history.specs.Launching.{wanted_in}
 use Rattle.dap_history.specs.Emission.{IsAfter}
-use Rattle.dap_history.specs.Events.{Incoming, Piece, End, ReadFailed, NoMemory, File, Report, Rest, only_bytes, IsTaking, IsInFront, Takes, none, one_more, Rests, closed, open_ended, faulty, waits, TakesAll, MayTake, LeadsByPiece, LeadsByFile, LeadsByReport, Loads, Leads, LeadsAll}
+use Rattle.dap_history.specs.Events.{Incoming, Piece, End, ReadFailed, NoMemory, File, Report, Rest, IsTaking, IsInFront, Takes, none, one_more, Rests, closed, open_ended, faulty, waits, TakesAll, MayTake, LeadsByPiece, LeadsByFile, LeadsByReport, Loads, Leads, LeadsAll}
 
 -- bytes have one frame or one fault in front, a content is one request or none, and an item leads to one history
 pub record IsReadOnce : Type 0 where

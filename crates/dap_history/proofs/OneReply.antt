@@ -1,27 +1,22 @@
 -- A command has one reply, a launch one, and so an item one step.
-use Rattle.std.proofs.Common.{◌≡◌, ◌≢◌, ◌⊎◌, inl, inr, ℕ, ◌+◌, ◌<◌, ◌≤◌, ◌^◌, zero, suc, Bool, true, false, ℤ, List, [], ◌∷◌, ◌++◌, get_or, Option, None, Some, Result, Ok, Err, refl, sym, ◌∙◌, ap, subst, arith}
+use Rattle.std.proofs.Common.{◌≡◌, inl, inr, ℕ, ◌<◌, ◌^◌, Bool, true, false, ℤ, List, [], ◌∷◌, ◌++◌, get_or, Option, None, Some, Result, Ok, Err, refl, sym, ◌∙◌, ap, subst, arith}
 use Rattle.std.specs.Prelude.{string_bytes, map}
 use Rattle.std.specs.Fmt.{decimal}
 use Rattle.std.proofs.Math.Logic.{∥∥₁_elim}
 use Rattle.std.proofs.lemmas.Fmt.{decimal_injective, first_decimal}
-use Rattle.dap_msg.specs.Commands.{name_of}
 use Rattle.dap_msg.specs.declared.command.Command.{Command}
 use Rattle.dap_msg.specs.declared.command.Command.TheVariants as command
 use Rattle.dap_msg.specs.declared.command.CommandName.{CommandName}
 use Rattle.dap_msg.specs.declared.outgoing.Body.TheVariants as body
-use Rattle.dap_msg.specs.declared.outgoing.Outgoing.{Outgoing}
 use Rattle.dap_msg.specs.declared.outgoing.Outgoing.TheVariants.{Answer}
 use Rattle.dap_msg.specs.declared.requests.launch.LaunchArguments.{LaunchArguments}
 use Rattle.dap_msg.specs.declared.requests.set_breakpoints.SetBreakpointsArguments.{SetBreakpointsArguments}
 use Rattle.dap_msg.specs.declared.requests.set_breakpoints.SourceBreakpoint.{SourceBreakpoint}
-use Rattle.pl0_tree.specs.declared.tree.Place.{Place}
-use Rattle.pl0_tree.specs.declared.fault.FaultKind.{FaultKind}
-use Rattle.pl0_tree.specs.Tree.{Block, Condition, Expression}
+use Rattle.pl0_tree.specs.Tree.{Block}
 use Rattle.pl0_tree.specs.Scope.{Path}
 use Rattle.pl0_tree.specs.Steps.{step_path}
 use Rattle.pl0_tree.specs.Faults.{IsTreeOf, IsFirstFault, IsConditionOf, IsExpressionOf}
 use Rattle.pl0_syntax.specs.Laws.{AtMostOne, OneFault, FaultExcludesTrees}
-use Rattle.pl0_meaning.specs.declared.RunFault.{RunFault}
 use Rattle.pl0_meaning.specs.Values.{Frame, Configuration, value}
 use Rattle.pl0_meaning.specs.Runs.{at}
 use Rattle.dbg_plan.specs.declared.breakpoint.Rule.{Rule}
@@ -32,19 +27,18 @@ use Rattle.dbg_plan.specs.declared.resolving.SourceBreakpoint.{SourceBreakpoint 
 use Rattle.dbg_plan.specs.declared.resolving.Resolution.{Resolution}
 use Rattle.dbg_plan.specs.declared.resolving.Resolution.TheVariants.{At, NoStep, BadCondition, BadHitCondition}
 use Rattle.dbg_plan.specs.Resolutions.{step_from, ReadsRule, ReadsConditionAt, IsBreakpointOf, IsResolvedTo, AreResolved}
-use Rattle.dbg_plan.specs.Values.{told}
+use Rattle.dbg_plan.specs.Values.{told as evaluated}
 use Rattle.dbg_plan.specs.Breakpoints.{Breakpoint, TextCondition}
 use Rattle.dap_history.specs.declared.situation.Situation.{Situation}
 use Rattle.dap_history.specs.declared.situation.Situation.TheVariants.{Fresh, Ready, Configuring, Running, Stopped, Faulted, Ended}
-use Rattle.dap_history.specs.declared.launch.Launch.{Launch}
 use Rattle.dap_history.specs.History.{Launched, Item, Content, Loaded, Accepted, Fault, InputEnd, ReadFailure, MemoryFailure, Step, History, Effect}
 use Rattle.dap_history.specs.Readings.{situation, launched, position}
 use Rattle.dap_history.specs.Replies.{Reply, refused, causing, OfProgram}
-use Rattle.dap_history.specs.Launching.{RefusesText, LaunchesText, Launches, launches, syntax}
-use Rattle.dap_history.specs.Breakpoints.{IsAskedAs, AreAskedAs, IsResolved, answer_of, effect_in, line_offset, Resolves, SetsOf, Sets, SetsIn, is_at}
+use Rattle.dap_history.specs.Launching.{Launches, launches, syntax}
+use Rattle.dap_history.specs.Breakpoints.{IsAskedAs, AreAskedAs, answer_of, effect_in, line_offset, Resolves, SetsOf, Sets, SetsIn, is_at}
 use Rattle.dap_history.specs.Running.{Pace, enters, ConfiguresIn, ResumesIn}
 use Rattle.dap_history.specs.Frames.{frame_by_id}
-use Rattle.dap_history.specs.Inspection.{Asked as Of, asked_of, result_reply, EvaluatesIn, HasResult, HasNoReading, RepliesFrom, RepliesAt, Inspects, InspectsIn}
+use Rattle.dap_history.specs.Inspection.{Asked as Of, asked_of, result_reply, EvaluatesIn, RepliesFrom, RepliesAt, Inspects, InspectsIn}
 use Rattle.dap_history.specs.Emission.{RepliesIn, Answers, HasEffect, Causes, IsAfter}
 use Rattle.dap_history.proofs.Texts.{one_program}
 use Rattle.dap_history.proofs.Silent.{due_first, resuming}
@@ -243,22 +237,22 @@ module _ (once : IsTextOnce) where
 
   -- ---- questions
 
-  told_once : (a b : Result ℤ EvalFault) → told a ≡ told b → a ≡ b
-  told_once (Ok v) (Ok w) is = let e : v ≡ w = cc in ap Ok e
-  told_once (Ok v) (Err Overflow) is = absurd cc
-  told_once (Ok v) (Err DivideByZero) is = absurd cc
-  told_once (Err Overflow) (Ok w) is = absurd cc
-  told_once (Err DivideByZero) (Ok w) is = absurd cc
-  told_once (Err Overflow) (Err Overflow) is = refl
-  told_once (Err Overflow) (Err DivideByZero) is = absurd cc
-  told_once (Err DivideByZero) (Err Overflow) is = absurd cc
-  told_once (Err DivideByZero) (Err DivideByZero) is = refl
+  evaluated_once : (a b : Result ℤ EvalFault) → evaluated a ≡ evaluated b → a ≡ b
+  evaluated_once (Ok v) (Ok w) is = let e : v ≡ w = cc in ap Ok e
+  evaluated_once (Ok v) (Err Overflow) is = absurd cc
+  evaluated_once (Ok v) (Err DivideByZero) is = absurd cc
+  evaluated_once (Err Overflow) (Ok w) is = absurd cc
+  evaluated_once (Err DivideByZero) (Ok w) is = absurd cc
+  evaluated_once (Err Overflow) (Err Overflow) is = refl
+  evaluated_once (Err Overflow) (Err DivideByZero) is = absurd cc
+  evaluated_once (Err DivideByZero) (Err Overflow) is = absurd cc
+  evaluated_once (Err DivideByZero) (Err DivideByZero) is = refl
 
   one_evaluates : (main : Block) (c : Configuration) (id : ℕ) (f : Option Frame) (text : List ℕ) (r s : Reply) → EvaluatesIn main c id f text r → EvaluatesIn main c id f text s → r ≡ s
   one_evaluates main c id None text r s a b = a ∙ sym b
   one_evaluates main c id (Some f) text r s (inl a) (inl b) =
       let read = once.one_expression main f.block text a.expression b.expression a.reads b.reads in
-      a.reply_is ∙ ap result_reply (told_once a.result b.result (sym a.result_is ∙ ap (value main c _) read ∙ b.result_is)) ∙ sym b.reply_is
+      a.reply_is ∙ ap result_reply (evaluated_once a.result b.result (sym a.result_is ∙ ap (value main c _) read ∙ b.result_is)) ∙ sym b.reply_is
   one_evaluates main c id (Some f) text r s (inl a) (inr b) = absurd (b.none a.expression a.reads)
   one_evaluates main c id (Some f) text r s (inr a) (inl b) = absurd (a.none b.expression b.reads)
   one_evaluates main c id (Some f) text r s (inr a) (inr b) = a.reply_is ∙ sym b.reply_is

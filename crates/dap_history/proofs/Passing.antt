@@ -1,7 +1,7 @@
 -- A run passes no position that is due, and none was ordered before `configurationDone`.
-use Rattle.std.proofs.Common.{◌≡◌, ◌⊎◌, inl, inr, ⊎_elim, ℕ, zero, ◌+◌, ◌<◌, ◌≤◌, List, [], ◌∷◌, ◌++◌, Option, None, Some, Ok, Err, refl, sym, ◌∙◌, ap, subst, arith}
+use Rattle.std.proofs.Common.{◌≡◌, ◌⊎◌, inl, inr, ⊎_elim, ℕ, ◌<◌, ◌≤◌, List, [], ◌∷◌, ◌++◌, Option, None, Some, Ok, Err, refl, sym, ◌∙◌, ap, subst, arith}
 use Rattle.std.specs.Prelude.{map, unwrap_or, Result}
-use Rattle.std.proofs.lemmas.Bool.{cases_lt, cases_eq}
+use Rattle.std.proofs.lemmas.Bool.{cases_lt}
 use Rattle.std.proofs.lemmas.List.{map-append}
 use Rattle.dap_msg.specs.Commands.{name_of}
 use Rattle.dap_msg.specs.declared.command.Command.{Command}
@@ -15,35 +15,32 @@ use Rattle.dap_msg.specs.declared.outgoing.Outgoing.{Outgoing}
 use Rattle.dap_msg.specs.declared.outgoing.Outgoing.TheVariants.{Answer, Event}
 use Rattle.dap_msg.specs.declared.outgoing.EventBody.{EventBody}
 use Rattle.dap_msg.specs.declared.outgoing.EventBody.TheVariants as event
-use Rattle.dap_msg.specs.declared.outgoing.StopReason.{StopReason}
 use Rattle.dap_msg.specs.declared.outgoing.StopReason.TheVariants as stop
 use Rattle.pl0_tree.specs.Tree.{Block}
 use Rattle.pl0_meaning.specs.Laws.{WrittenJoins}
-use Rattle.dbg_plan.specs.Breakpoints.{Breakpoint}
 use Rattle.dbg_plan.specs.Due.{due}
 use Rattle.dbg_runner.specs.declared.outcome.SliceOutcome.{SliceOutcome}
 use Rattle.dbg_runner.specs.Plain.{PlainReport, Heading, PlainOrder, Go, Hold, Quit}
 use Rattle.dbg_runner.specs.Lawful.{IsLawful, EndsBy, due_in as due_of}
-use Rattle.dbg_plan.specs.declared.mode.Mode.{Mode}
 use Rattle.dbg_runner.specs.declared.outcome.SliceOutcome.TheVariants as slice
 use Rattle.dap_history.specs.declared.situation.Situation.{Situation}
-use Rattle.dap_history.specs.declared.situation.Situation.TheVariants.{Fresh, Ready, Configuring, Running, Stopped, Faulted, Ended}
+use Rattle.dap_history.specs.declared.situation.Situation.TheVariants.{Configuring, Running, Stopped, Faulted, Ended}
 use Rattle.dap_history.specs.Last.{or_else, last_such}
 use Rattle.dap_history.specs.History.{Launched, Item, Content, Loaded, Accepted, Fault, InputEnd, ReadFailure, MemoryFailure, Step, History, Effect, with_answer, messages}
-use Rattle.dap_history.specs.Readings.{go, situation, position, launched, last_run, end_of, command_mark, answer_mark, event_mark, stop_mark, message_mark, order_mark, step_mark}
+use Rattle.dap_history.specs.Readings.{go, situation, position, launched, last_run, end_of, command_mark, answer_mark, event_mark, message_mark, order_mark, step_mark}
 use Rattle.dap_history.specs.declared.launch.Launch.{Launch}
 use Rattle.dap_history.specs.Launching.{Launches}
-use Rattle.dap_history.specs.Replies.{Reply, refused, stops, ends, stop_of}
+use Rattle.dap_history.specs.Replies.{Reply, stops, ends, stop_of}
 use Rattle.dap_history.specs.Reports.{Accepts, outputs, report_effect}
-use Rattle.dap_history.specs.Emission.{RepliesIn, Answers, HasEffect, Causes, IsAfter}
+use Rattle.dap_history.specs.Emission.{RepliesIn, HasEffect, Causes}
 use Rattle.dap_history.specs.Stops.{due_in, NoneDueUpTo, NoneDueBefore}
 use Rattle.dap_history.proofs.Texts.{OneProgram}
-use Rattle.dap_history.proofs.Readings.{situation-snoc, position-snoc, launched-snoc, last_run-snoc, last_such-append, or_else-none}
-use Rattle.dap_history.proofs.Along.{IsTaken, IsKept}
+use Rattle.dap_history.proofs.Readings.{last_such-append}
+use Rattle.dap_history.proofs.Along.{IsTaken}
 use Rattle.dap_history.proofs.Silent.{GoesBy, no_go, of_text, all_silent}
-use Rattle.dap_history.proofs.Outputs.{GoesAs, GoesOn, no_run, as_text, report_goes, report_launches}
-use Rattle.dap_history.proofs.Standing.{MarkIs, mark_else, mark_unwrap, IsAnswer, answers_only}
-use Rattle.dap_history.proofs.Progress.{Progress, progress_kept, progress_first, report_program}
+use Rattle.dap_history.proofs.Outputs.{GoesAs, no_run, as_text, report_goes, report_launches}
+use Rattle.dap_history.proofs.Standing.{MarkIs, mark_else, IsAnswer}
+use Rattle.dap_history.proofs.Progress.{Progress, report_program}
 
 -- ---- who leads to Configuring, and to Running
 

@@ -1,5 +1,5 @@
 -- The numbers reported are those that the program wrote, step by step.
-use Rattle.std.proofs.Common.{◌≡◌, ◌⊎◌, inl, inr, ℕ, ◌+◌, ◌-◌, ◌≤◌, zero, List, [], ◌∷◌, ◌++◌, ℤ, Option, None, Some, Ok, Err, refl, sym, ◌∙◌, ap, subst, append-nil, arith}
+use Rattle.std.proofs.Common.{◌≡◌, ◌⊎◌, inl, inr, ℕ, ◌-◌, ◌≤◌, List, [], ◌∷◌, ◌++◌, Option, None, Some, refl, sym, ◌∙◌, ap, subst, append-nil, arith}
 use Rattle.std.specs.Prelude.{map, unwrap_or}
 use Rattle.std.specs.List.{filter_map}
 use Rattle.std.proofs.lemmas.List.Elements.{filter_map-append}
@@ -7,7 +7,7 @@ use Rattle.dap_msg.specs.Commands.{name_of}
 use Rattle.dap_msg.specs.declared.outgoing.EventBody.TheVariants as event
 use Rattle.dap_msg.specs.declared.command.CommandName.TheVariants as name
 use Rattle.dap_msg.specs.declared.command.Supported.TheVariants as supported
-use Rattle.dap_msg.specs.declared.outgoing.Outgoing.TheVariants.{Answer, Event}
+use Rattle.dap_msg.specs.declared.outgoing.Outgoing.TheVariants.{Event}
 use Rattle.pl0_tree.specs.Faults.{IsTreeOf}
 use Rattle.pl0_meaning.specs.Runs.{written, written_from}
 use Rattle.pl0_meaning.specs.Laws.{WrittenJoins}
@@ -23,9 +23,8 @@ use Rattle.dap_history.specs.Readings.{go, launched, last_run, position, end_of,
 use Rattle.dap_history.specs.Replies.{Reply, nothing, ordering}
 use Rattle.dap_history.specs.Launching.{Launches, launches}
 use Rattle.dap_history.specs.Reports.{Accepts, report_effect}
-use Rattle.dap_history.specs.Emission.{Answers, HasEffect, Causes, IsAfter}
+use Rattle.dap_history.specs.Emission.{Answers, HasEffect, Causes}
 use Rattle.dap_history.proofs.Texts.{OneProgram}
-use Rattle.dap_history.specs.Events.{Incoming, Rest, IsTaking, AreLawful, IsHistoryOf}
 use Rattle.dap_history.specs.Laws.{output, numbers, NumbersAreWritten}
 use Rattle.dap_history.proofs.Readings.{messages_of-snoc, launched-snoc, position-snoc, last_run-snoc, situation-snoc}
 use Rattle.dap_history.proofs.Along.{IsTaken, IsKept, lawful_reports, along}
@@ -127,7 +126,7 @@ module _ (one : OneProgram) (joins : WrittenJoins) where
       let none : r.start - r.start ≡ 0 = omega arith in
       lawful.lawful.numbers ∙ ap (written lawful.program r.start) ends.0 ∙ ap (written_from lawful.program r.start) none
 
-  report_text : (past : History) (r : PlainReport) (l : Launched) → Accepts past r → ProgressOf past (Some l) → r.text ≡ l.text
+  pub report_text : (past : History) (r : PlainReport) (l : Launched) → Accepts past r → ProgressOf past (Some l) → r.text ≡ l.text
   report_text past r l accepts progress = ap (λ (h : Heading). h.text) accepts.expected ∙ progress.1 accepts.run accepts.run_is
 
   pub report_program : (past : History) (r : PlainReport) (lawful : IsLawful r) (l : Launched) → Accepts past r → ProgressOf past (Some l) → lawful.program ≡ l.program

@@ -1,17 +1,13 @@
 -- How the readings of a history go on with one more step.
-use Rattle.std.proofs.Common.{◌≡◌, ℕ, ◌+◌, List, [], ◌∷◌, ◌++◌, length, Option, None, Some, refl, sym, ◌∙◌, ap, append-nil, length-append, arith}
-use Rattle.std.specs.Prelude.{Bool, false, unwrap_or}
+use Rattle.std.proofs.Common.{◌≡◌, ◌+◌, List, [], ◌∷◌, ◌++◌, length, Option, None, Some, refl, sym, ◌∙◌, ap, append-nil, length-append, arith}
+use Rattle.std.specs.Prelude.{false, unwrap_or}
 use Rattle.std.specs.List.{filter_map}
 use Rattle.std.proofs.lemmas.List.Elements.{filter_map-append}
 use Rattle.std.proofs.lemmas.Grind.{flat_map-append}
 use Rattle.dap_history.specs.Last.{or_else, last_such}
-use Rattle.dap_msg.specs.declared.requests.initialize.InitializeArguments.{InitializeArguments}
-use Rattle.dbg_plan.specs.Breakpoints.{Breakpoint}
-use Rattle.dap_history.specs.Plans.{Plan, no_plan}
-use Rattle.dbg_runner.specs.Plain.{Heading}
-use Rattle.dap_history.specs.declared.situation.Situation.{Situation}
+use Rattle.dap_history.specs.Plans.{no_plan}
 use Rattle.dap_history.specs.declared.situation.Situation.TheVariants.{Fresh}
-use Rattle.dap_history.specs.History.{Launched, Step, History, messages, messages_of, orders_of, next_seq}
+use Rattle.dap_history.specs.History.{Step, History, messages, messages_of, orders_of, next_seq}
 use Rattle.dap_history.specs.Readings.{step_mark, situation, settings_by, from_one, settings, launched, go, last_run, runs, end_of, position, plan, waits_by, waiting_plan, pauses_by, waiting_pause, hold_mark, is_held, closing, ending_of}
 
 pub or_else-none : {A : Type 0} (x : Option A) → or_else x None ≡ x

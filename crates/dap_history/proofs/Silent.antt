@@ -1,21 +1,17 @@
 -- No reply reports a number or launches a program but that of a launch, and each Go of a reply is of the launched text.
-use Rattle.std.proofs.Common.{◌≡◌, ◌⊎◌, inl, inr, ℕ, List, [], ◌∷◌, ◌++◌, Bool, true, false, Option, None, Some, Ok, Err, refl, sym, ◌∙◌, ap, subst}
+use Rattle.std.proofs.Common.{◌≡◌, inl, inr, ℕ, List, [], ◌∷◌, Bool, true, false, Option, None, Some, Ok, Err, refl, sym, subst}
 use Rattle.std.specs.Prelude.{map, nat_eq, if◌then◌else◌, ℤ, Result}
 use Rattle.std.specs.List.{filter_map}
 use Rattle.dap_msg.specs.declared.command.Command.{Command}
 use Rattle.dap_msg.specs.declared.command.Command.TheVariants as command
-use Rattle.dap_msg.specs.declared.outgoing.Body.{Body}
 use Rattle.dap_msg.specs.declared.outgoing.Body.TheVariants as body
 use Rattle.dap_msg.specs.declared.outgoing.Outgoing.TheVariants.{Event}
-use Rattle.dap_msg.specs.declared.outgoing.EventBody.{EventBody}
-use Rattle.dap_msg.specs.declared.outgoing.Refusal.{Refusal}
 use Rattle.dap_msg.specs.declared.outgoing.Refusal.TheVariants as refusal
 use Rattle.dap_msg.specs.declared.requests.set_breakpoints.SetBreakpointsArguments.{SetBreakpointsArguments}
 use Rattle.dbg_plan.specs.Breakpoints.{Breakpoint}
 use Rattle.dbg_plan.specs.Due.{due, depth_at}
-use Rattle.dbg_runner.specs.Plain.{Heading, PlainOrder, Go, Hold}
+use Rattle.dbg_runner.specs.Plain.{Heading, Hold}
 use Rattle.dbg_plan.specs.declared.mode.Reason.{Reason}
-use Rattle.dbg_plan.specs.declared.mode.Reason.TheVariants as reason
 use Rattle.pl0_meaning.specs.Values.{Configuration, Frame}
 use Rattle.pl0_meaning.specs.Runs.{at}
 use Rattle.dbg_plan.specs.declared.evaluation.EvalFault.{EvalFault}
@@ -25,14 +21,14 @@ use Rattle.dap_history.specs.declared.situation.Situation.TheVariants.{Fresh, Re
 use Rattle.dap_history.specs.Last.{last_such}
 use Rattle.dap_history.specs.History.{Launched, History, Effect}
 use Rattle.dap_history.specs.Readings.{go, launched, runs, is_held, plan, situation, position}
-use Rattle.dap_history.specs.Replies.{Reply, nothing, answered, refused, causing, ordering, OfProgram, on_thread, stop_of}
+use Rattle.dap_history.specs.Replies.{Reply, nothing, refused, causing, ordering, OfProgram, on_thread, stop_of}
 use Rattle.dap_history.specs.Launching.{initialize_in}
-use Rattle.dap_history.specs.Breakpoints.{hold_once, effect_in, SetsOf, Sets, SetsIn, is_at}
-use Rattle.dap_history.specs.Running.{Pace, mode_of, body_of, resumes, entry_mode, enters, Configures, ConfiguresIn, Resumes, ResumesIn, pause_in}
+use Rattle.dap_history.specs.Breakpoints.{effect_in, SetsOf, Sets, SetsIn, is_at}
+use Rattle.dap_history.specs.Running.{Pace, mode_of, body_of, resumes, entry_mode, enters, ConfiguresIn, ResumesIn, pause_in}
 use Rattle.dap_history.specs.Frames.{frame_by_id}
-use Rattle.dap_history.specs.Inspection.{Asked, asked_of, scopes, variables, stack_trace, result_reply, EvaluatesIn, RepliesFrom, RepliesAt, Inspects, InspectsIn}
+use Rattle.dap_history.specs.Inspection.{Asked, asked_of, scopes, variables, result_reply, EvaluatesIn, RepliesFrom, RepliesAt, InspectsIn}
 use Rattle.dap_history.specs.Emission.{threads_in, RepliesIn}
-use Rattle.dap_history.specs.Laws.{output, numbers}
+use Rattle.dap_history.specs.Laws.{output}
 use Rattle.dap_history.specs.Stops.{stop_of_event}
 use Rattle.dap_msg.specs.declared.outgoing.StopReason.{StopReason}
 

@@ -1,6 +1,6 @@
 -- Where the program stands it is where it stopped last, and what is asked there is answered from there.
 use Rattle.std.proofs.Common.{◌≡◌, ◌⊎◌, inl, inr, ℕ, List, [], ◌∷◌, ◌++◌, Option, None, Some, Ok, Err, refl, sym, ◌∙◌, ap, subst}
-use Rattle.std.specs.Prelude.{map, unwrap_or, Result, All}
+use Rattle.std.specs.Prelude.{map, unwrap_or, Result}
 use Rattle.std.proofs.lemmas.List.{append_assoc}
 use Rattle.std.proofs.lemmas.List.Elements.{All-nil, All-cons, All-append}
 use Rattle.dap_msg.specs.Commands.{name_of}
@@ -17,7 +17,6 @@ use Rattle.dap_msg.specs.declared.outgoing.Outgoing.TheVariants.{Answer, Event}
 use Rattle.dap_msg.specs.declared.outgoing.EventBody.{EventBody}
 use Rattle.dap_msg.specs.declared.outgoing.EventBody.TheVariants as event
 use Rattle.dap_msg.specs.declared.outgoing.StopReason.{StopReason}
-use Rattle.dap_msg.specs.declared.outgoing.StopReason.TheVariants as stop
 use Rattle.pl0_meaning.specs.Runs.{at}
 use Rattle.dbg_runner.specs.Plain.{PlainReport, PlainOrder, Go, Hold, Quit}
 use Rattle.dap_history.specs.declared.situation.Situation.{Situation}
@@ -28,8 +27,7 @@ use Rattle.dap_history.specs.Readings.{situation, position, launched, end_of, co
 use Rattle.dap_history.specs.Replies.{Reply, OfProgram, refused}
 use Rattle.dap_history.specs.Inspection.{RepliesAt, asked_of, Inspects, InspectsIn}
 use Rattle.dap_history.specs.Emission.{RepliesIn, Answers, Causes}
-use Rattle.dap_history.specs.Events.{Incoming, Rest, IsHistoryOf}
-use Rattle.dap_history.specs.Stops.{stop_of_event, stop_in, IsStanding, StoppedLastAt, IsQuestion, Asks, AnswersFrom, QuestionsAreAnsweredThere}
+use Rattle.dap_history.specs.Stops.{stop_of_event, stop_in, IsStanding, StoppedLastAt, IsQuestion, AnswersFrom, QuestionsAreAnsweredThere}
 use Rattle.dap_history.proofs.Readings.{situation-snoc, position-snoc}
 use Rattle.dap_history.proofs.Along.{IsTaken, IsKept, any_reports, along}
 use Rattle.dap_history.proofs.Each.{WasTaken, EachTaken, each_kept, each_first}

@@ -1,10 +1,9 @@
 -- Each stop is where it has to be.
-use Rattle.std.proofs.Common.{◌≡◌, ◌⊎◌, inl, inr, ℕ, ◌+◌, ◌<◌, ◌≤◌, List, [], ◌∷◌, ◌++◌, Bool, true, false, ℤ, Option, None, Some, refl, sym, ◌∙◌, ap, subst, arith, le_refl}
+use Rattle.std.proofs.Common.{◌≡◌, ◌⊎◌, inl, inr, ℕ, ◌<◌, ◌≤◌, List, [], ◌∷◌, ◌++◌, Bool, true, false, ℤ, Option, None, Some, refl, sym, ◌∙◌, ap, subst, arith}
 use Rattle.std.specs.Prelude.{map, unwrap_or}
 use Rattle.dap_msg.specs.declared.outgoing.EventBody.TheVariants as event
 use Rattle.dap_msg.specs.declared.outgoing.StopReason.{StopReason}
 use Rattle.dap_msg.specs.declared.outgoing.StopReason.TheVariants as stop
-use Rattle.pl0_tree.specs.Tree.{Block}
 use Rattle.pl0_meaning.specs.Runs.{outcome}
 use Rattle.pl0_meaning.specs.Laws.{WrittenJoins}
 use Rattle.dbg_plan.specs.declared.mode.Reason.{Reason}
@@ -14,17 +13,16 @@ use Rattle.dbg_runner.specs.Plain.{PlainReport, Heading}
 use Rattle.dbg_runner.specs.Lawful.{IsLawful, EndsBy}
 use Rattle.dbg_runner.specs.declared.outcome.SliceOutcome.TheVariants as slice
 use Rattle.dap_history.specs.declared.launch.Launch.{Launch}
-use Rattle.dap_history.specs.declared.situation.Situation.{Situation}
-use Rattle.dap_history.specs.declared.situation.Situation.TheVariants.{Ready, Configuring, Running}
+use Rattle.dap_history.specs.declared.situation.Situation.TheVariants.{Ready}
 use Rattle.dap_history.specs.Last.{or_else, last_such}
 use Rattle.dap_history.specs.History.{Launched, Item, Content, Loaded, Accepted, Fault, InputEnd, ReadFailure, MemoryFailure, Step, History, Effect}
 use Rattle.dap_history.specs.Readings.{go, situation, position, launched, last_run, waiting_pause, end_of, order_mark, step_mark}
 use Rattle.dap_history.specs.Replies.{Reply, stops, ends, stop_of, exception_of}
 use Rattle.dap_history.specs.Launching.{Launches}
 use Rattle.dap_history.specs.Reports.{Accepts, outputs, held, report_effect}
-use Rattle.dap_history.specs.Emission.{Causes, HasEffect, IsAfter}
+use Rattle.dap_history.specs.Emission.{Causes}
 use Rattle.dap_history.proofs.Texts.{OneProgram}
-use Rattle.dap_history.specs.Stops.{stop_of_event, stop_in, StopsAt, NoneDueUpTo, NoneDueBefore, due_in, IsRunsStop, IsRightStop, EachStopIsRight}
+use Rattle.dap_history.specs.Stops.{stop_of_event, stop_in, NoneDueUpTo, NoneDueBefore, due_in, IsRunsStop, IsRightStop, EachStopIsRight}
 use Rattle.dap_history.proofs.Readings.{situation-snoc, position-snoc, launched-snoc, last_run-snoc, last_such-append}
 use Rattle.dap_history.proofs.Along.{IsTaken, IsKept, lawful_reports, along}
 use Rattle.dap_history.proofs.Each.{WasTaken, EachTaken, each_kept, each_first}
@@ -32,7 +30,7 @@ use Rattle.dap_history.proofs.Silent.{StopsBy, no_stop, at_first, all_silent}
 use Rattle.dap_history.proofs.Standing.{MarkIs, mark_unwrap, answers_only}
 use Rattle.dap_history.proofs.Progress.{Progress, progress_more, progress_first, report_program}
 use Rattle.dap_history.proofs.Early.{IsEarly}
-use Rattle.dap_history.proofs.Passing.{IsConfiguring, IsRunning, IsLoaded, BeginsAt, none_begins, begins_at, item_begins, launches_not, loaded_there, loaded_orders, runs_not, none_left, no_mark_no_go, mark_of, undue_end, NotDueAtEnd, Ran, same_due, begun_there, begun_before, none_before, none_up_to}
+use Rattle.dap_history.proofs.Passing.{IsConfiguring, IsRunning, IsLoaded, BeginsAt, begins_at, item_begins, launches_not, loaded_there, loaded_orders, runs_not, none_left, no_mark_no_go, mark_of, undue_end, Ran, same_due, begun_there, begun_before, none_before, none_up_to}
 
 module _ (one : OneProgram) (joins : WrittenJoins) where
   -- ---- what is kept
@@ -121,14 +119,14 @@ module _ (one : OneProgram) (joins : WrittenJoins) where
     running = running_more past step taken causes ran;
   }
 
-  ran_kept : IsKept IsLawful (Ran one joins)
+  pub ran_kept : IsKept IsLawful (Ran one joins)
   ran_kept = record {
     step = λ past item new taken_ taken after here.
         subst (Ran one joins) (sym after.new_is)
         (ran_more past after.step (subst (IsTaken IsLawful past) (sym after.item_is) taken) (subst (λ i. Causes past i after.step) (sym after.item_is) after.causes) here);
   }
 
-  ran_first : Ran one joins []
+  pub ran_first : Ran one joins []
   ran_first = record { so_far = progress_first one joins; configuring = λ is. absurd is; running = λ is. absurd is }
 
   -- ---- the stop of a step

@@ -1,6 +1,5 @@
 -- Questions about the program where it stands: `stackTrace`, `scopes`, `variables`, `evaluate`.
 use Rattle.std.specs.Prelude.{◌≡◌, ℕ, ◌-◌, ◌⊎◌, ℤ, List, length, Option, None, Some, Result, Ok, Err}
-use Rattle.dap_msg.specs.declared.requests.evaluate.EvaluateArguments.{EvaluateArguments}
 use Rattle.dap_msg.specs.declared.requests.stack_trace.StackTraceArguments.{StackTraceArguments}
 use Rattle.dap_msg.specs.declared.command.Command.{Command}
 use Rattle.dap_msg.specs.declared.command.Command.TheVariants as command
@@ -10,11 +9,11 @@ use Rattle.pl0_tree.specs.Tree.{Block, Expression}
 use Rattle.pl0_tree.specs.Faults.{IsExpressionOf}
 use Rattle.pl0_meaning.specs.Values.{Frame, Configuration, value}
 use Rattle.pl0_meaning.specs.Runs.{at}
-use Rattle.dbg_plan.specs.Values.{told}
+use Rattle.dbg_plan.specs.Values.{told as evaluated}
 use Rattle.dbg_plan.specs.declared.evaluation.EvalFault.{EvalFault}
 use Rattle.dbg_plan.specs.declared.evaluation.EvalFault.TheVariants.{Overflow, DivideByZero}
 use Rattle.dap_history.specs.declared.situation.Situation.{Situation}
-use Rattle.dap_history.specs.declared.situation.Situation.TheVariants.{Fresh, Ready, Configuring, Running, Stopped, Faulted, Ended}
+use Rattle.dap_history.specs.declared.situation.Situation.TheVariants.{Running, Stopped, Faulted}
 use Rattle.dap_history.specs.History.{Launched, History}
 use Rattle.dap_history.specs.Readings.{launched, position}
 use Rattle.dap_history.specs.Breakpoints.{line_offset, column_offset}
@@ -51,7 +50,7 @@ pub record HasResult (main : Block) (c : Configuration) (i : ℕ) (f : Frame) (t
   pub expression : Expression
   pub reads : IsExpressionOf main f.block text expression
   pub result : Result ℤ EvalFault
-  pub result_is : value main c i expression ≡ told result
+  pub result_is : value main c i expression ≡ evaluated result
   pub reply_is : reply ≡ result_reply result
 
 -- it doesn't read

@@ -1,5 +1,5 @@
 -- `initialize` and `launch`. Profile: a session is initialized once, and launches one program, whose text has no fault.
-use Rattle.std.specs.Prelude.{◌≡◌, ℕ, ◌⊎◌, List, [], ◌∷◌, Option, None, Some, Result, Ok, Err}
+use Rattle.std.specs.Prelude.{◌≡◌, ℕ, ◌⊎◌, List, [], ◌∷◌, Option, None, Some}
 use Rattle.dap_msg.specs.declared.requests.launch.LaunchArguments.{LaunchArguments}
 use Rattle.dap_msg.specs.declared.request.Request.{Request}
 use Rattle.dap_msg.specs.declared.command.Command.{Command}
@@ -16,7 +16,7 @@ use Rattle.pl0_tree.specs.Faults.{IsFirstFault, IsTreeOf}
 use Rattle.dap_history.specs.declared.situation.Situation.{Situation}
 use Rattle.dap_history.specs.declared.situation.Situation.TheVariants.{Fresh, Ready}
 use Rattle.dap_history.specs.declared.launch.Launch.{Launch}
-use Rattle.dap_history.specs.History.{Launched, Effect}
+use Rattle.dap_history.specs.History.{Effect}
 use Rattle.dap_history.specs.Replies.{Reply, nothing, answered, refused, causing}
 
 abbrev pub initialize_in : Situation → Reply

@@ -1,3 +1,4 @@
+-- What one must believe: the definitions that the laws and the contracts of a session cite, in reading order.
 pub mod Last
 pub mod Plans
 pub mod History
@@ -11,6 +12,8 @@ pub mod Inspection
 pub mod Reports
 pub mod Emission
 pub mod Events
+pub mod Interleaving
 pub mod Output
 pub mod Laws
 pub mod Stops
+pub mod ReadingLaws

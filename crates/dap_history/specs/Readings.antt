@@ -1,14 +1,11 @@
 -- What a session goes by: each a question for the last such step, message or order of its history.
-use Rattle.std.specs.Prelude.{ℕ, ◌+◌, Bool, true, false, List, [], ◌∷◌, map, length, unwrap_or, Option, None, Some, option_map, Result, Ok, Err}
+use Rattle.std.specs.Prelude.{ℕ, Bool, true, false, List, length, unwrap_or, Option, None, Some, option_map, Result, Ok, Err}
 use Rattle.std.specs.List.{filter_map}
-use Rattle.dap_frame.specs.declared.fault.FramingFault.{FramingFault}
-use Rattle.dap_msg.specs.declared.request.Request.{Request}
 use Rattle.dap_msg.specs.declared.requests.initialize.InitializeArguments.{InitializeArguments}
 use Rattle.dap_msg.specs.declared.command.Command.{Command}
 use Rattle.dap_msg.specs.declared.command.Command.TheVariants as command
 use Rattle.dap_msg.specs.declared.command.CommandName.{CommandName}
 use Rattle.dap_msg.specs.declared.command.CommandName.TheVariants as name
-use Rattle.dap_msg.specs.declared.command.Supported.{Supported}
 use Rattle.dap_msg.specs.declared.command.Supported.TheVariants as supported
 use Rattle.dap_msg.specs.declared.outgoing.Outgoing.{Outgoing}
 use Rattle.dap_msg.specs.declared.outgoing.Outgoing.TheVariants.{Answer, Event}
@@ -20,7 +17,7 @@ use Rattle.dap_msg.specs.declared.outgoing.StopReason.{StopReason}
 use Rattle.dap_msg.specs.declared.outgoing.StopReason.TheVariants as reason
 use Rattle.dbg_plan.specs.Breakpoints.{Breakpoint}
 use Rattle.dbg_runner.specs.declared.outcome.SliceOutcome.{SliceOutcome}
-use Rattle.dbg_runner.specs.Plain.{PlainReport, Heading, PlainOrder, Go, Hold, Quit}
+use Rattle.dbg_runner.specs.Plain.{Heading, PlainOrder, Go, Hold, Quit}
 use Rattle.dap_history.specs.Plans.{Plan, no_plan}
 use Rattle.dbg_runner.specs.declared.outcome.SliceOutcome.TheVariants as slice
 use Rattle.dap_history.specs.Last.{or_else, last_such}

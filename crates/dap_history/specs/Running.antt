@@ -1,5 +1,5 @@
 -- What starts a run, resumes one and interrupts it: `configurationDone`, `continue`, `next`, `stepIn`, `stepOut`, `pause`.
-use Rattle.std.specs.Prelude.{◌≡◌, ℕ, ◌+◌, Bool, true, false, List, [], ◌∷◌, if◌then◌else◌, Option, None, Some}
+use Rattle.std.specs.Prelude.{◌≡◌, ℕ, ◌+◌, List, [], ◌∷◌, if◌then◌else◌, Option, None, Some}
 use Rattle.dap_msg.specs.declared.outgoing.Body.{Body}
 use Rattle.dap_msg.specs.declared.outgoing.Body.TheVariants as body
 use Rattle.dap_msg.specs.declared.outgoing.Refusal.TheVariants as refusal
@@ -10,9 +10,9 @@ use Rattle.dbg_plan.specs.Due.{depth_at, due}
 use Rattle.dap_history.specs.Plans.{Plan}
 use Rattle.dbg_runner.specs.Plain.{PlainOrder, Go}
 use Rattle.dap_history.specs.declared.situation.Situation.{Situation}
-use Rattle.dap_history.specs.declared.situation.Situation.TheVariants.{Fresh, Ready, Configuring, Running, Stopped, Faulted, Ended}
+use Rattle.dap_history.specs.declared.situation.Situation.TheVariants.{Configuring, Running, Stopped, Faulted}
 use Rattle.dap_history.specs.History.{Launched, History, Effect}
-use Rattle.dap_history.specs.Readings.{situation, launched, runs, position, plan}
+use Rattle.dap_history.specs.Readings.{launched, runs, position, plan}
 use Rattle.dap_history.specs.Breakpoints.{hold_once}
 use Rattle.dap_history.specs.Replies.{Reply, reporting, ordering, answered, refused, causing, OfProgram, stop_of, stops, ends, on_thread}
 

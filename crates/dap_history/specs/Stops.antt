@@ -21,7 +21,7 @@ use Rattle.dap_history.specs.declared.situation.Situation.{Situation}
 use Rattle.dap_history.specs.declared.situation.Situation.TheVariants.{Stopped, Faulted}
 use Rattle.dap_history.specs.Last.{last_such}
 use Rattle.dap_history.specs.History.{Launched, Content, Step, History}
-use Rattle.dap_history.specs.Readings.{situation, launched, last_run, position, plan}
+use Rattle.dap_history.specs.Readings.{go, situation, launched, last_run, position, plan}
 use Rattle.dap_history.specs.Replies.{Reply, stop_of, exception_of}
 use Rattle.dap_history.specs.Inspection.{RepliesAt, asked_of}
 use Rattle.dap_history.specs.Events.{Incoming, Rest, AreLawful, IsHistoryOf}
@@ -78,6 +78,17 @@ EachStopIsRight =
     (events : List Incoming) (past : History) (rest : Rest) → AreLawful events → IsHistoryOf events past rest
     → (before : History) (reason : StopReason) (m : ℕ) → StopsAt past before reason m
     → (l : Launched) × (launched before ≡ Some l) × IsRightStop l before (last_run before) reason m
+
+-- the run that a step orders, if it orders one
+abbrev pub run_in : Step → Option Heading
+run_in step = last_such go step.effect.orders
+
+-- Each run is of the launched text, and starts where the program stands.
+abbrev pub EachRunStartsThere : Type 0
+EachRunStartsThere =
+    (events : List Incoming) (past : History) (rest : Rest) → AreLawful events → IsHistoryOf events past rest
+    → (before : History) (step : Step) (after : History) (run : Heading) → past ≡ before ++ step ∷ after → run_in step ≡ Some run
+    → (l : Launched) × (launched before ≡ Some l) × (run.text ≡ l.text) × (run.start ≡ position (before ++ step ∷ []))
 
 -- ---- what is asked at a stop
 

@@ -1,5 +1,6 @@
 ghost use Rattle.dap_history.specs.Laws.{HistoryIsOne, ContentsAreOfTheStream, CutsChangeNothing, EachIsAnsweredOnce, SeqCountFromOne, DisconnectIsLast, NumbersAreWritten, StopsFollowNumbers};
-ghost use Rattle.dap_history.specs.Stops.{EachStopIsRight, QuestionsAreAnsweredThere};
+ghost use Rattle.dap_history.specs.ReadingLaws.{ReadingsGoOn};
+ghost use Rattle.dap_history.specs.Stops.{EachRunStartsThere, EachStopIsRight, QuestionsAreAnsweredThere};
 
 use dap_frame::frame_laws;
 use dap_msg::message_laws;
@@ -15,6 +16,7 @@ pub fn history_laws()
     ensures numbered { SeqCountFromOne }
     ensures outputs { NumbersAreWritten }
     ensures order { StopsFollowNumbers }
+    ensures runs { EachRunStartsThere }
     ensures stops { EachStopIsRight }
     ensures questions { QuestionsAreAnsweredThere }
     ensures last { DisconnectIsLast }
@@ -25,3 +27,8 @@ pub fn history_laws()
     editor_laws();
     meaning_laws();
 }
+
+/// How each reading of a history goes on with one more step.
+pub fn reading_laws()
+    ensures { ReadingsGoOn }
+{}

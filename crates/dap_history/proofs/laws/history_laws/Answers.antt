@@ -2,6 +2,7 @@ use Rattle.std.proofs.Common.{[]}
 use Rattle.dap_history.specs.Events.{only_bytes}
 use Rattle.dap_history.proofs.Contents.{contents_of_stream}
 use Rattle.dap_history.proofs.Cuts.{cuts_change_nothing}
+use Rattle.dap_history.proofs.Starts.{each_run_starts}
 use Rattle.dap_history.proofs.Answered.{each_answered}
 use Rattle.dap_history.proofs.Last.{disconnect_last}
 use Rattle.dap_history.proofs.Numbered.{numbers_count}
@@ -56,3 +57,6 @@ returns-clause-contents c = contents_of_stream c.frame_laws.ensures.join
 
 pub returns-clause-cuts : goal.returns-clause-cuts
 returns-clause-cuts c = cuts_change_nothing
+
+pub returns-clause-runs : goal.returns-clause-runs
+returns-clause-runs c = each_run_starts (one_program c.text_laws.ensures.program) c.meaning_laws.ensures.joins

@@ -1,0 +1,112 @@
+-- A session that is paused, and one whose breakpoints change, while the program runs: what each item causes, computed from
+-- the definitions, for any program whose first slice is followed by a Held report.
+use Rattle.std.proofs.Common.{◌≡◌, ℕ, List, [], ◌∷◌, ◌++◌, None, Some, Ok, refl}
+use Rattle.std.specs.Prelude.{false}
+use Rattle.dap_msg.specs.declared.command.Command.{Command}
+use Rattle.dap_msg.specs.declared.command.Command.TheVariants as command
+use Rattle.dap_msg.specs.Commands.{name_of}
+use Rattle.dap_msg.specs.declared.command.CommandName.TheVariants as name
+use Rattle.dap_msg.specs.declared.command.Supported.TheVariants as supported
+use Rattle.dap_msg.specs.declared.outgoing.Outgoing.TheVariants.{Answer}
+use Rattle.dap_msg.specs.declared.outgoing.Body.TheVariants as body
+use Rattle.dap_msg.specs.declared.outgoing.EventBody.TheVariants as event
+use Rattle.dap_msg.specs.declared.outgoing.StopReason.TheVariants as stop
+use Rattle.dap_msg.specs.declared.requests.launch.LaunchArguments.{LaunchArguments}
+use Rattle.pl0_tree.specs.Tree.{Block}
+use Rattle.dbg_plan.specs.Breakpoints.{Breakpoint}
+use Rattle.dbg_plan.specs.declared.mode.Mode.TheVariants as mode
+use Rattle.dbg_runner.specs.Plain.{PlainReport, Go, Hold}
+use Rattle.dbg_runner.specs.declared.outcome.SliceOutcome.{SliceOutcome}
+use Rattle.dbg_runner.specs.declared.outcome.SliceOutcome.TheVariants as slice
+use Rattle.dap_history.specs.declared.situation.Situation.TheVariants.{Configuring, Running}
+use Rattle.dap_history.specs.History.{Content, Loaded, Accepted, Step, History, Effect}
+use Rattle.dap_history.specs.Readings.{from_one, situation, runs, position, plan, waiting_plan, waiting_pause, is_held}
+use Rattle.dap_history.specs.Replies.{Reply, nothing, answered}
+use Rattle.dap_history.specs.Launching.{launches}
+use Rattle.dap_history.specs.Breakpoints.{effect_in}
+use Rattle.dap_history.specs.Reports.{Accepts, report_effect}
+use Rattle.dap_history.specs.Emission.{RepliesIn}
+
+abbrev taken : ℕ → Command → Reply → Step
+taken seq asked reply =
+    record { item = Content (Some (record { seq = seq; body = asked })); answer = Some (Answer seq (name_of asked) reply.result); effect = reply.effect }
+
+abbrev reported : PlainReport → Effect → Step
+reported r effect = record { item = Accepted r; answer = None; effect = effect }
+
+module _ (text : List ℕ) (program : Block) (path : List ℕ) (bs : List Breakpoint) where
+  abbrev arguments : LaunchArguments
+  arguments = record { program = path; stop_on_entry = false }
+
+  -- initialize, launch, configurationDone, where position 0 isn't due
+  abbrev begun : History
+  begun =
+      taken 1 (command.Initialize from_one) (answered body.Capabilities)
+      ∷ record { item = Loaded (record { seq = 2; arguments = arguments }) (Some text); answer = Some (Answer 2 (name.Supported supported.Launch) (Ok body.None)); effect = launches arguments text program }
+      ∷ []
+
+  configuring : situation begun ≡ Configuring
+  configuring = refl
+
+  -- without breakpoints position 0 isn't due, and Go 1 is ordered
+  configures : (reply : Reply) → RepliesIn (situation begun) begun command.ConfigurationDone reply
+      → reply ≡ record { result = Ok body.None; effect = record nothing { orders = Go (record { run = 1; text = text; plan = []; counted_from = 0; mode = mode.Continue; start = 0 }) ∷ [] } }
+  configures reply is = is
+
+  abbrev running : History
+  running =
+      begun ++ taken 3 command.ConfigurationDone (record { result = Ok body.None; effect = record nothing { orders = Go (record { run = 1; text = text; plan = []; counted_from = 0; mode = mode.Continue; start = 0 }) ∷ [] } }) ∷ []
+
+  is_running : (situation running ≡ Running) × (runs running ≡ 1) × (position running ≡ 0) × (is_held running ≡ false) × (waiting_pause running ≡ false) × (waiting_plan running ≡ None)
+  is_running = (refl, refl, refl, refl, refl, refl)
+
+  -- a report of run 1 that goes on from 0 to 256, or is held at 256
+  abbrev report : ℕ → ℕ → SliceOutcome → PlainReport
+  report from to outcome =
+      record { run = 1; text = text; plan = []; counted_from = 0; mode = mode.Continue; start = from; end = to; numbers = []; outcome = outcome }
+
+  -- a report of this run is accepted
+  accepted : Accepts running (report 0 256 slice.More)
+  accepted = record { running = refl; run = _; run_is = refl; expected = refl }
+
+  abbrev further : History
+  further = running ++ reported (report 0 256 slice.More) (report_effect running (report 0 256 slice.More) slice.More) ∷ []
+
+  -- the next one is expected at 256
+  further_on : (position further ≡ 256) × (situation further ≡ Running) × (is_held further ≡ false)
+  further_on = (refl, refl, refl)
+
+  -- ---- a pause
+
+  pauses : (reply : Reply) → RepliesIn (situation further) further (command.Pause (record { thread_id = 1 })) reply
+      → reply ≡ record { result = Ok body.None; effect = record nothing { orders = Hold 1 ∷ [] } }
+  pauses reply is = is
+
+  abbrev paused : History
+  paused = further ++ taken 4 (command.Pause (record { thread_id = 1 })) (record { result = Ok body.None; effect = record nothing { orders = Hold 1 ∷ [] } }) ∷ []
+
+  -- a second pause holds no more
+  pauses_again : (reply : Reply) → RepliesIn (situation paused) paused (command.Pause (record { thread_id = 1 })) reply → reply ≡ answered body.None
+  pauses_again reply is = is
+
+  stops_paused : report_effect paused (report 256 256 slice.Held) slice.Held ≡ record nothing { events = event.Stopped stop.Pause ∷ [] }
+  stops_paused = refl
+
+  -- ---- breakpoints
+
+  waits : effect_in (situation further) further bs ≡ record nothing { waits = Some bs; orders = Hold 1 ∷ [] }
+  waits = refl
+
+  abbrev asked : History
+  asked = further ++ record { item = Content None; answer = None; effect = effect_in Running further bs } ∷ []
+
+  -- the run is held and goes on as run 2, whose breakpoints count from 257
+  goes_on_held : report_effect asked (report 256 256 slice.Held) slice.Held
+      ≡ record nothing { put_in = Some (record { breakpoints = bs; counted_from = 257 }); orders = Go (record { run = 2; text = text; plan = bs; counted_from = 257; mode = mode.Continue; start = 256 }) ∷ [] }
+  goes_on_held = refl
+
+  abbrev again : History
+  again = asked ++ reported (report 256 256 slice.Held) (report_effect asked (report 256 256 slice.Held) slice.Held) ∷ []
+
+  is_again : (situation again ≡ Running) × (runs again ≡ 2) × (position again ≡ 256) × (plan again ≡ record { breakpoints = bs; counted_from = 257 }) × (waiting_plan again ≡ None) × (is_held again ≡ false)
+  is_again = (refl, refl, refl, refl, refl, refl)

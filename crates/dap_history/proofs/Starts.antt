@@ -1,0 +1,78 @@
+-- Each run is of the launched text, and starts where the program stands.
+use Rattle.std.proofs.Common.{◌≡◌, ℕ, List, Option, None, Some, refl, sym, ◌∙◌, ap}
+use Rattle.std.specs.Prelude.{unwrap_or}
+use Rattle.pl0_meaning.specs.Laws.{WrittenJoins}
+use Rattle.dbg_runner.specs.Plain.{PlainReport, Heading}
+use Rattle.dbg_runner.specs.Lawful.{IsLawful}
+use Rattle.dap_history.specs.Last.{last_such}
+use Rattle.dap_history.specs.History.{Launched, Item, Content, Loaded, Accepted, Fault, InputEnd, ReadFailure, MemoryFailure, Step, History, Effect}
+use Rattle.dap_history.specs.Readings.{go, situation, position, launched, end_of}
+use Rattle.dap_history.specs.Reports.{Accepts, report_effect}
+use Rattle.dap_history.specs.Emission.{Causes}
+use Rattle.dap_history.specs.Stops.{run_in, EachRunStartsThere}
+use Rattle.dap_history.proofs.Readings.{position-snoc}
+use Rattle.dap_history.proofs.Along.{IsTaken, lawful_reports, along}
+use Rattle.dap_history.proofs.Each.{WasTaken, EachTaken, each_kept, each_first}
+use Rattle.dap_history.proofs.Silent.{GoesBy, no_go, of_text, all_silent}
+use Rattle.dap_history.proofs.Outputs.{GoesAs, no_run, as_text, report_goes}
+use Rattle.dap_history.proofs.Progress.{report_text}
+use Rattle.dap_history.proofs.Passing.{BeginsAt, none_begins, begins_at, item_begins, loaded_orders, Ran}
+use Rattle.dap_history.proofs.Stopping.{ran_kept, ran_first}
+use Rattle.dap_history.proofs.Texts.{OneProgram}
+
+-- the run is of the launched text
+abbrev OfLaunched : History → Heading → Type 0
+OfLaunched past run = (l : Launched) × (launched past ≡ Some l) × (run.text ≡ l.text)
+
+by_reply : (past : History) (o : Option Heading) → GoesBy past o → (run : Heading) → o ≡ Some run → OfLaunched past run
+by_reply past None no_go run is = absurd cc
+by_reply past (Some other) (of_text run' l launch text begins) run is =
+    let same : other ≡ run = cc in (l, launch, ap (λ (h : Heading). h.text) (sym same) ∙ text)
+
+as_report : (text : List ℕ) (end : ℕ) (o : Option Heading) → GoesAs text end o → (run : Heading) → o ≡ Some run → run.text ≡ text
+as_report text end None no_run run is = absurd cc
+as_report text end (Some other) (as_text run' is_text begins) run is =
+    let same : other ≡ run = cc in ap (λ (h : Heading). h.text) (sym same) ∙ is_text
+
+starts_at : (here : ℕ) (o : Option Heading) → BeginsAt here o → (run : Heading) → o ≡ Some run → run.start ≡ here
+starts_at here None none_begins run is = absurd cc
+starts_at here (Some other) (begins_at run' begins) run is =
+    let same : other ≡ run = cc in ap (λ (h : Heading). h.start) (sym same) ∙ begins
+
+run_of_effect : (step : Step) (effect : Effect) → step.effect ≡ effect → run_in step ≡ last_such go effect.orders
+run_of_effect step effect is = ap (λ (e : Effect). last_such go e.orders) is
+
+module _ (one : OneProgram) (joins : WrittenJoins) where
+  of_report : (past : History) (r : PlainReport) → Accepts past r → Ran one joins past → (run : Heading) → run.text ≡ r.text → (l : Option Launched) → launched past ≡ l → OfLaunched past run
+  of_report past r accepts ran run text None is = absurd (let e = sym (ran.so_far.progress None is).1 ∙ accepts.run_is in cc)
+  of_report past r accepts ran run text (Some l) is = (l, is, text ∙ report_text one joins past r l accepts (ran.so_far.progress (Some l) is))
+
+  of_launched : (past : History) (item : Item) (step : Step) → IsTaken IsLawful past item → Causes past item step → Ran one joins past → (run : Heading) → run_in step ≡ Some run → OfLaunched past run
+  of_launched past (Content None) step taken is ran run run_is = let e = sym (run_of_effect step _ is.effect_is) ∙ run_is in absurd cc
+  of_launched past (Content (Some request)) step taken is ran run run_is =
+      by_reply past (last_such go is.0.effect.orders) (all_silent (situation past) past request.body is.0 is.1).goes run (sym (run_of_effect step _ is.2.effect_is) ∙ run_is)
+  of_launched past (Loaded launch file) step taken is ran run run_is =
+      let e = sym (loaded_orders launch file is.0 is.1) ∙ sym (run_of_effect step _ is.2.effect_is) ∙ run_is in absurd cc
+  of_launched past (Accepted r) step taken is ran run run_is =
+      of_report past r taken.0 ran run
+      (as_report r.text r.end (last_such go (report_effect past r r.outcome).orders) (report_goes past r r.outcome) run (sym (run_of_effect step _ is.effect_is) ∙ run_is))
+      (launched past) refl
+  of_launched past (Fault k) step taken is ran run run_is = let e = sym (run_of_effect step _ is.effect_is) ∙ run_is in absurd cc
+  of_launched past InputEnd step taken is ran run run_is = let e = sym (run_of_effect step _ is.effect_is) ∙ run_is in absurd cc
+  of_launched past ReadFailure step taken is ran run run_is = let e = sym (run_of_effect step _ is.effect_is) ∙ run_is in absurd cc
+  of_launched past MemoryFailure step taken is ran run run_is = let e = sym (run_of_effect step _ is.effect_is) ∙ run_is in absurd cc
+
+  pub each_run_starts : EachRunStartsThere
+  each_run_starts events past rest lawful history before step after run past_is run_is =
+      let there = of_launched before step.item step was.taken was.causes was.held run run_is in (
+        there.0,
+        there.1,
+        there.2,
+        starts_at (unwrap_or (end_of step.item) (position before)) (run_in step) (item_begins before step.item step was.causes) run run_is ∙ sym (position-snoc before step),
+      )
+    where
+      each : EachTaken IsLawful (Ran one joins) past
+      each = along IsLawful (EachTaken IsLawful (Ran one joins)) (each_kept IsLawful (Ran one joins) (ran_kept one joins)) (each_first IsLawful (Ran one joins) (ran_first one joins)) events past rest (lawful_reports events lawful) history
+
+      was : WasTaken IsLawful (Ran one joins) before step
+      was = each.each before step after past_is

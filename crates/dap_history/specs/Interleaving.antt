@@ -1,0 +1,54 @@
+-- Which lists of events arise from what an inbox and a loader give.
+use Rattle.std.specs.Prelude.{◌≡◌, ◌⊎◌, ◌++◌, ◌∷◌, [], ℕ, List, Some, None, Result, Err}
+use Rattle.dap_history.specs.declared.launch.Launch.{Launch}
+use Rattle.dap_history.specs.declared.fault.LoadFault.{LoadFault}
+use Rattle.dap_history.specs.declared.fault.LoadFault.TheVariants.{NoMemory}
+use Rattle.dap_history.specs.History.{History}
+use Rattle.dap_history.specs.Events.{Incoming, File, Rest, IsTaking, IsHistoryOf}
+
+-- A path that a loader was asked for, and what it answered: the file's bytes, or why there are none.
+pub record Load : Type 0 where
+  pub path : List ℕ
+  pub answer : Result (List ℕ) LoadFault
+
+-- after these events a launch waits for the file at this path
+pub record Awaits (events : List Incoming) (path : List ℕ) : Type 0 where
+  pub past : History
+  pub rest : Rest
+  pub history : IsHistoryOf events past rest
+  pub taking : IsTaking past
+  pub launch : Launch
+  pub waits : rest.launch ≡ Some launch
+  pub path_is : path ≡ launch.arguments.program
+
+-- none waits
+pub record AwaitsNone (events : List Incoming) : Type 0 where
+  pub past : History
+  pub rest : Rest
+  pub history : IsHistoryOf events past rest
+  pub waits : (¬ IsTaking past) ⊎ (rest.launch ≡ None)
+
+-- the event is the file that the loader gave for the launch that waits after these events
+abbrev pub IsLoad : List Incoming → Incoming → Load → Type 0
+IsLoad before (File file) load = (load.answer ≡ file) × Awaits before load.path
+IsLoad before _ load = ⊥
+
+-- After the events so far, each further one is the file that the loader gave next, directly after the event that wanted
+-- it, or, where none is wanted, what the inbox gave next.
+abbrev pub Interleaves : List Incoming → List Incoming → List Incoming → List Load → Type 0
+Interleaves before [] given loads = (given ≡ []) × (loads ≡ [])
+Interleaves before (e ∷ events) given loads =
+    ((load : Load) × (more : List Load) × (loads ≡ load ∷ more) × IsLoad before e load × Interleaves (before ++ e ∷ []) events given more)
+    ⊎ ((more : List Incoming) × (given ≡ e ∷ more) × AwaitsNone before × Interleaves (before ++ e ∷ []) events more loads)
+
+-- A last answer of the loader that it had no memory may be missing among those that it stored: there was no memory for that
+-- either. A launch waited for it.
+pub record LastLoadFails (events given : List Incoming) (loads : List Load) : Type 0 where
+  pub before : List Incoming
+  pub path : List ℕ
+  pub events_are : events ≡ before ++ File (Err NoMemory) ∷ []
+  pub awaited : Awaits before path
+  pub interleaves : Interleaves [] before given loads
+
+abbrev pub InterleavesUpTo : List Incoming → List Incoming → List Load → Type 0
+InterleavesUpTo events given loads = Interleaves [] events given loads ⊎ LastLoadFails events given loads
