@@ -1,5 +1,5 @@
 -- No `INT` makes more cells than a program declares variables, and three.
-use Rattle.std.proofs.Common.{◌≡◌, ℕ, zero, suc, ◌+◌, ◌≤◌, List, [], ◌∷◌, ◌++◌, ap, subst, sym, arith, length, map, Option, Some, None}
+use Rattle.std.proofs.Common.{◌≡◌, ℕ, zero, suc, ◌+◌, ◌≤◌, List, [], ◌∷◌, ◌++◌, subst, arith, length, map, Option, Some, None}
 use Rattle.std.specs.Prelude.{slice_get}
 use Rattle.pl0_tree.specs.Tree.{Block, ABlock, Procedures, NoMore, AProcedure as AndProcedure, Statement, Empty, Assign, Call, Write, Then, If, While, Expression, Variable as Named, Number, Negate, Binary, Condition, Odd, Compare}
 use Rattle.pl0_tree.specs.Scope.{Path}
@@ -9,7 +9,7 @@ use Rattle.pl0_unit.specs.declared.instruction.Instruction.TheVariants.{Enter}
 use Rattle.pl0_names.specs.declared.scopes.Found.{Found}
 use Rattle.pl0_code.specs.declared.scope.Declared.{Declared}
 use Rattle.pl0_code.specs.declared.scope.Declared.TheVariants.{Constant, Variable, Procedure as AnEntry}
-use Rattle.pl0_code.specs.Lines.{Row, row}
+use Rattle.pl0_code.specs.Lines.{Row}
 use Rattle.pl0_code.specs.Rows.{Resolver, read_of, read_declared, store_of, store_declared, call_of, call_declared, expression_rows, condition_rows, statement_rows, step_count}
 use Rattle.pl0_code.specs.Sizes.{block_length, procedures_length}
 use Rattle.pl0_code.specs.Chains.{resolver}
@@ -89,7 +89,7 @@ module _ (k : ℕ) (main : Block) where
         let at = n + length (procedures_steps ps 0 q) in (
           tt,
           both k (procedures_rows main q 0 ps (from + 1) n) _ (procedures_narrow q 0 ps (from + 1) n (omega (arith, few)))
-          (omega (arith, few), both k (statement_rows (resolver main q) s (from + 1 + procedures_length ps + 1) at) _ (statement_narrow k (resolver main q) s (from + 1 + procedures_length ps + 1) at) (tt, tt)),
+              (omega (arith, few), both k (statement_rows (resolver main q) s (from + 1 + procedures_length ps + 1) at) _ (statement_narrow k (resolver main q) s (from + 1 + procedures_length ps + 1) at) (tt, tt)),
         )
 
     procedures_narrow : (q : Path) (i : ℕ) (ps : Procedures) (from n : ℕ) → 3 + variables_count ps ≤ k → AllNarrow k (procedures_rows main q i ps from n)

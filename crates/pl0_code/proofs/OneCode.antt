@@ -1,5 +1,5 @@
 -- A program has one code: two listings that are code of it agree at each address.
-use Rattle.std.proofs.Common.{◌≡◌, ℕ, zero, suc, ◌+◌, ◌<◌, ◌≤◌, ◌⊎◌, inl, inr, List, [], ◌∷◌, length, map, Option, Some, None, refl, sym, ap, subst, ◌∙◌, arith, ℤ}
+use Rattle.std.proofs.Common.{◌≡◌, ℕ, zero, suc, ◌+◌, ◌<◌, ◌≤◌, ◌⊎◌, inl, inr, List, [], ◌∷◌, length, map, Option, Some, None, refl, sym, ap, subst, ◌∙◌, arith}
 use Rattle.std.specs.Prelude.{slice_get, option_map, option_and_then}
 use Rattle.std.proofs.lemmas.Option.{slice_get-map}
 use Rattle.pl0_tree.specs.declared.tree.Place.{Place}
@@ -8,7 +8,6 @@ use Rattle.pl0_tree.specs.Scope.{Path, block_at, procedure_at, IsBefore, Meaning
 use Rattle.pl0_tree.specs.Steps.{StepAt, steps}
 use Rattle.pl0_tree.specs.Ascending.{Ascend}
 use Rattle.pl0_meaning.specs.Homes.{IsDeclaredBy, home_is}
-use Rattle.pl0_meaning.specs.Values.{constant_of}
 use Rattle.pl0_unit.specs.declared.instruction.Instruction.{Instruction}
 use Rattle.pl0_unit.specs.declared.instruction.Instruction.TheVariants.{Literal, Operate, Load, Store, Call as CallTo, Enter, Jump, JumpIfZero}
 use Rattle.pl0_unit.specs.declared.instruction.Operation.TheVariants as operation

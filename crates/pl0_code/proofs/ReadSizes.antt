@@ -1,5 +1,5 @@
 -- The code of a program has no more instructions than the program has tokens, and one.
-use Rattle.std.proofs.Common.{ℕ, ◌+◌, ◌≤◌, List, [], ◌∷◌, length, arith}
+use Rattle.std.proofs.Common.{ℕ, ◌+◌, ◌≤◌, List, ◌∷◌, length, arith}
 use Rattle.pl0_tree.specs.Tree.{Name, Constant, Block, ABlock, Procedures, NoMore, AProcedure, Statement, Expression, Negate, Binary, Condition}
 use Rattle.pl0_tree.specs.Tokens.{Token}
 use Rattle.pl0_tree.specs.Reading.{ReadsExpression, unsigned, positive, negative, ReadsMoreTerms, no_term, one_term, ReadsTerm, factors, ReadsMoreFactors, no_factor, one_factor, ReadsFactor, name, number, nested, ReadsCondition, odd, comparison, ReadsStatement, empty, assignment, call, write, sequence, choice, loop, ReadsStatements, last_statement, one_statement, ReadsConstants, last_constant, one_constant, ReadsConstantPart, no_constants, constants, ReadsVariables, last_variable, one_variable, ReadsVariablePart, no_variables, variables, ReadsBlock, block, ReadsProcedures, no_procedure, one_procedure, ReadsProgram, program}

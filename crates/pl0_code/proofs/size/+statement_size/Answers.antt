@@ -1,4 +1,4 @@
-use Rattle.std.proofs.Common.{rules, ◌≡◌, ◌<◌, ◌^◌, ap, sym, arith, length, drop}
+use Rattle.std.proofs.Common.{rules, ap, arith}
 use Rattle.pl0_tree.specs.Plain.{plain_statement, joined}
 use Rattle.pl0_code.specs.Sizes.{statement_length}
 use borrow.Author.Rules.{get_or_read}
