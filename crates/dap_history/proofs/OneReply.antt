@@ -27,7 +27,7 @@ use Rattle.dbg_plan.specs.declared.resolving.SourceBreakpoint.{SourceBreakpoint 
 use Rattle.dbg_plan.specs.declared.resolving.Resolution.{Resolution}
 use Rattle.dbg_plan.specs.declared.resolving.Resolution.TheVariants.{At, NoStep, BadCondition, BadHitCondition}
 use Rattle.dbg_plan.specs.Resolutions.{step_from, ReadsRule, ReadsConditionAt, IsBreakpointOf, IsResolvedTo, AreResolved}
-use Rattle.dbg_plan.specs.Values.{told as evaluated}
+use Rattle.dbg_plan.specs.Values.{answered as evaluated}
 use Rattle.dbg_plan.specs.Breakpoints.{Breakpoint, TextCondition}
 use Rattle.dap_history.specs.declared.situation.Situation.{Situation}
 use Rattle.dap_history.specs.declared.situation.Situation.TheVariants.{Fresh, Ready, Configuring, Running, Stopped, Faulted, Ended}

@@ -9,7 +9,7 @@ use Rattle.pl0_tree.specs.Tree.{Block, Expression}
 use Rattle.pl0_tree.specs.Faults.{IsExpressionOf}
 use Rattle.pl0_meaning.specs.Values.{Frame, Configuration, value}
 use Rattle.pl0_meaning.specs.Runs.{at}
-use Rattle.dbg_plan.specs.Values.{told as evaluated}
+use Rattle.dbg_plan.specs.Values.{answered as evaluated}
 use Rattle.dbg_plan.specs.declared.evaluation.EvalFault.{EvalFault}
 use Rattle.dbg_plan.specs.declared.evaluation.EvalFault.TheVariants.{Overflow, DivideByZero}
 use Rattle.dap_history.specs.declared.situation.Situation.{Situation}
