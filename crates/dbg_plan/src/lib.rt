@@ -31,5 +31,3 @@ pub use mode::{Mode, Reason};
 pub use plan::{Plan, same_plan};
 pub use resolving::{Resolution, SourceBreakpoint, resolve};
 
-#[cfg(test)]
-mod tests;
