@@ -5,6 +5,7 @@ pub mod Here
 pub mod Fresh
 pub mod Further
 pub mod Stepping
+pub mod Sameness
 pub mod HitNumbers
 pub mod Parts
 pub mod Lines

@@ -58,11 +58,11 @@ one_more main asked i line answers all bs new answer lt is old more all_is =
     let now : Resolved main asked (i + 1) (answers ++ answer ∷ []) (bs ++ more.mine) = record {
       few = omega (arith, length-append bs more.mine);
       answered = subst (λ l. AreResolved main l (answers ++ answer ∷ []) (plain_breakpoints (bs ++ more.mine))) (sym (take_more asked i line lt ∙ ap (λ x. take i asked ++ x ∷ []) (sym is)))
-          (subst (λ l. AreResolved main (take i asked ++ line ∷ []) (answers ++ answer ∷ []) l) (sym (map-append plain_breakpoint bs more.mine)) (more_answered main (take i asked) answers (plain_breakpoints bs) (plain_breakpoints more.mine) line answer old.answered more.answered));
+          (subst (λ l. AreResolved main (take i asked ++ line ∷ []) (answers ++ answer ∷ []) l) (sym (map-append plain_breakpoint bs more.mine)) (more_answered main (take i asked) answers (plain_breakpoints bs) (plain_breakpoints more.mine) line answer old.answered more.resolved));
       numbered = more_numbered 0 (length bs) bs more.mine (omega arith) old.numbered more.numbered;
       placed = more_placed main bs more.mine old.placed more.placed;
     } in
-    subst (λ l. Resolved main asked (i + 1) l new) (sym all_is) (subst (λ l. Resolved main asked (i + 1) (answers ++ answer ∷ []) l) (sym more.behind) now)
+    subst (λ l. Resolved main asked (i + 1) l new) (sym all_is) (subst (λ l. Resolved main asked (i + 1) (answers ++ answer ∷ []) l) (sym more.after) now)
 
 pub plan_is : (u : Compiled) (n : ℕ) (bs : List Breakpoint) (lines : List (Option ℕ)) (plan : Listed) → plan ≡ record { steps = n; breakpoints = bs; watched = watched_lines bs lines } → lines ≡ u.lines.items → n ≡ length (steps (program_of u)) → AreAtSteps (program_of u) bs → IsPlanOf u plan
 plan_is u n bs lines plan is beside all placed =
@@ -92,7 +92,7 @@ breakpoints_are main asked i answers bs plan old le same =
 
 refused : (main : Block) (asked : SourceBreakpoint) (old : List Breakpoint) (answer : Resolution) → IsResolvedTo main asked answer [] → ResolvesLine main asked old old answer
 refused main asked old answer is =
-    record { mine = []; few = omega arith; behind = sym (append-nil old); answered = is; numbered = tt; placed = tt }
+    record { mine = []; few = omega arith; after = sym (append-nil old); resolved = is; numbered = tt; placed = tt }
 
 pub bad_condition : (main : Block) (asked : SourceBreakpoint) (old : List Breakpoint) (n : ℕ) (text : List ℕ) (fault : SyntaxFault) (kind : FaultKind) (place : Place) → step_from main asked.line ≡ Some n → text ≡ string_bytes asked.condition →
     FaultIs (λ kind place. ¬ HasConditionAt main n text) fault → fault ≡ InText kind place → ResolvesLine main asked old old BadCondition

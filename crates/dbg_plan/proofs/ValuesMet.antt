@@ -26,7 +26,7 @@ use Rattle.dbg_plan.specs.Bound.{IsConditionBound}
 use Rattle.dbg_plan.specs.Breakpoints.{text_condition, plain_breakpoint}
 use Rattle.dbg_plan.specs.Due.{true_or_faulty}
 use Rattle.dbg_plan.specs.Counting.{holds_in, holds_now}
-use Rattle.dbg_plan.specs.Values.{told}
+use Rattle.dbg_plan.specs.Values.{answered}
 use Rattle.dbg_plan.specs.Reads.{bound_truth, CanRead, CanTest}
 use Rattle.dbg_plan.proofs.ValuesBound.{condition_reads}
 
@@ -108,12 +108,12 @@ pub is_tested : (main : Block) (c : Configuration) (n top : ℕ) (guard : BoundC
 is_tested main c n top guard linked next is at =
     ∥∥₁_elim linked (×_prop (CanTest-prop c top guard.located) (Coded-set coded_truth _ _)) (λ l. tested main c n top guard l next is at)
 
-unless_faulty : (r : Result Bool EvalFault) → result_unwrap_or r true ≡ true_or_faulty (told r)
+unless_faulty : (r : Result Bool EvalFault) → result_unwrap_or r true ≡ true_or_faulty (answered r)
 unless_faulty (Ok b) = refl
 unless_faulty (Err fault) = refl
 
 -- what is told of the condition is whether it holds
-pub holds_told : (m : Standing) (b : Breakpoint) (guard : BoundCondition) (top : ℕ) (r : Result Bool EvalFault) (result : Bool) → configuration m ≡ Some (frames m) → b.condition ≡ Some guard → IsTested (program m) (frames m) top guard → bound_truth (frames m) top guard.located ≡ told r → result ≡ result_unwrap_or r true → result ≡ holds_now m b
+pub holds_told : (m : Standing) (b : Breakpoint) (guard : BoundCondition) (top : ℕ) (r : Result Bool EvalFault) (result : Bool) → configuration m ≡ Some (frames m) → b.condition ≡ Some guard → IsTested (program m) (frames m) top guard → bound_truth (frames m) top guard.located ≡ answered r → result ≡ result_unwrap_or r true → result ≡ holds_now m b
 holds_told m b guard top r result there is t value e =
     e ∙ unless_faulty r
     ∙ ap true_or_faulty (sym value ∙ t.1)

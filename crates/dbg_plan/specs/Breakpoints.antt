@@ -40,7 +40,7 @@ abbrev condition_of : Statement → Condition
 condition_of (If p c s) = c
 condition_of _ = Odd (Number (pos 0))
 
-abbrev condition_code : Coded Condition
+abbrev pub condition_code : Coded Condition
 condition_code = code_by Statement statement_code (λ c. If nowhere c Empty) condition_of (λ c. refl)
 
 abbrev rule_parts : Rule → ℕ ⊎ ℕ

@@ -3,7 +3,7 @@ use Rattle.std.specs.Prelude.{◌≡◌, ℕ, ◌+◌, ◌≤◌, Bool, true, fa
 use Rattle.std.specs.Arc.{arc_value}
 use Rattle.pl0_machine.specs.Machine.{Standing, program}
 use Rattle.dbg_plan.specs.declared.debuggee.Debuggee.TheInside.{Inside}
-use Rattle.dbg_plan.specs.Plans.{Listed, IsNumbered, breakpoints_of, listed_of}
+use Rattle.dbg_plan.specs.Plans.{breakpoint_limit, Listed, IsNumbered, breakpoints_of, listed_of}
 use Rattle.dbg_plan.specs.Counting.{AreCounts, MayBePlanOf, IsInOrder}
 use Rattle.dbg_plan.specs.Debugged.{Debugged, IsRunning}
 
@@ -29,7 +29,7 @@ StandsBy m false = Unit {0}
 pub record IsCounting (d : Inside) : Type 0 where
   pub numbered : IsNumbered (listed_of (plan_of d))
   pub fits : MayBePlanOf d.machine.unit (plan_of d)
-  pub room : length d.counts ≡ 256
+  pub room : length d.counts ≡ breakpoint_limit
   pub counts : AreCounts (program d.machine) (listed_of (plan_of d)) d.counted_from (next_of d) d.counts
   pub begun : d.counted_from ≤ next_of d
   pub stands : StandsBy d.machine d.considered

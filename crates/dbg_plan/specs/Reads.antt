@@ -12,7 +12,7 @@ use Rattle.dbg_plan.specs.declared.located.LocatedExpression.TheVariants.{Number
 use Rattle.dbg_plan.specs.declared.located.LocatedCondition.{LocatedCondition}
 use Rattle.dbg_plan.specs.declared.located.LocatedCondition.TheVariants.{Odd, Compare}
 
--- variable k of the frame to which so many links lead from frame i
+-- variable k of the frame to which this many links lead from frame i
 abbrev pub number_up : Configuration → ℕ → ℕ → ℕ → Option ℤ
 number_up c zero k i = number_of (frame_at c i) k
 number_up c (suc level) k i = option_and_then (number_up c level k) (parent_of i (frame_at c i))
@@ -43,7 +43,7 @@ CanTest c i (Compare relation first second) = CanRead c i first × CanRead c i s
 
 -- ---- names by their text
 
--- what a declaration of a block means for the frames of a block so many levels further in; a procedure counts as 0
+-- what a declaration of a block means for the frames of a block this many levels further in; a procedure counts as 0
 abbrev pub located : Block → ℕ → Meaning → Located
 located b level (AConstant k) = at.Number (or_zero (constant_of (Some b) k))
 located b level (AVariable k) = at.Variable level k

@@ -1,4 +1,4 @@
--- What an editor asks for, and what it is answered.
+-- What an editor asks for, and what that is resolved to.
 use Rattle.std.specs.Prelude.{◌≡◌, ◌≢◌, ℕ, ◌<◌, ◌^◌, nat_le, List, [], ◌∷◌, ◌++◌, string_bytes, Option, Some, None}
 use Rattle.std.specs.List.{position}
 use Rattle.std.specs.Fmt.{decimal}
@@ -12,7 +12,7 @@ use Rattle.dbg_plan.specs.declared.resolving.SourceBreakpoint.{SourceBreakpoint}
 use Rattle.dbg_plan.specs.declared.resolving.Resolution.{Resolution}
 use Rattle.dbg_plan.specs.declared.resolving.Resolution.TheVariants.{At, NoStep, BadCondition, BadHitCondition}
 
--- The step of a line: the first, in source order, at this line or behind it.
+-- The step of a line: the first, in source order, at this line or after it.
 abbrev pub step_from : Block → ℕ → Option ℕ
 step_from main line = position (λ s. nat_le line s.place.line) (steps main)
 
@@ -54,7 +54,7 @@ pub record IsBreakpointOf (main : Block) (asked : SourceBreakpoint) (n : ℕ) (b
   pub condition : ReadsConditionAt main n (string_bytes asked.condition) b.condition
   pub rule : ReadsRule (string_bytes asked.hit_condition) b.rule
 
--- The answer to a line, and the breakpoints that it gives, one or none. Of several refusals the first is told.
+-- What a line is resolved to, and the breakpoints that it gives, one or none. Of several refusals the first is answered.
 abbrev pub IsResolvedTo : Block → SourceBreakpoint → Resolution → List Breakpoint → Type 0
 IsResolvedTo main asked (At n) bs =
     (step_from main asked.line ≡ Some n) × ((b : Breakpoint) × (bs ≡ b ∷ []) × IsBreakpointOf main asked n b)
@@ -64,7 +64,7 @@ IsResolvedTo main asked BadCondition bs =
 IsResolvedTo main asked BadHitCondition bs =
     (bs ≡ []) × (¬ HasRule (string_bytes asked.hit_condition)) × ((n : ℕ) × (step_from main asked.line ≡ Some n) × HasConditionAt main n (string_bytes asked.condition))
 
--- Each line is answered, in order, and the breakpoints are those that the answers give, in order.
+-- Each line is resolved, in order, and the breakpoints are those that the lines give, in order.
 abbrev pub AreResolved : Block → List SourceBreakpoint → List Resolution → List Breakpoint → Type 0
 AreResolved main [] [] bs = bs ≡ []
 AreResolved main [] (a ∷ answers) bs = ⊥

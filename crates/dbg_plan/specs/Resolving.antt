@@ -14,11 +14,11 @@ pub record IsBoundConditionOf (main : Block) (n : ℕ) (text : List ℕ) (condit
   pub reads : ReadsConditionAt main n text (option_map text_condition condition)
   pub bound : IsBoundAt main n condition
 
--- a line is answered, and its breakpoint, if it has one, stands behind the old ones, which its number counts
+-- a line is resolved, and its breakpoint, if it has one, stands after the old ones, which its number counts
 pub record ResolvesLine (main : Block) (asked : SourceBreakpoint) (old new : List Breakpoint) (answer : Resolution) : Type 0 where
   pub mine : List Breakpoint
   pub few : length mine ≤ 1
-  pub behind : new ≡ old ++ mine
-  pub answered : IsResolvedTo main asked answer (plain_breakpoints mine)
+  pub after : new ≡ old ++ mine
+  pub resolved : IsResolvedTo main asked answer (plain_breakpoints mine)
   pub numbered : AreNumbered (length old) mine
   pub placed : AreAtSteps main mine

@@ -1,4 +1,4 @@
--- What an evaluation is told as.
+-- What an evaluation answers, in the terms of the meaning.
 use Rattle.std.specs.Prelude.{Result, Ok, Err}
 use Rattle.pl0_meaning.specs.declared.RunFault.{RunFault}
 use Rattle.pl0_meaning.specs.declared.RunFault.TheVariants as run_fault
@@ -9,6 +9,6 @@ abbrev pub fault_of : EvalFault → RunFault
 fault_of Overflow = run_fault.Overflow
 fault_of DivideByZero = run_fault.DivideByZero
 
-abbrev pub told : {A : Type 0} → Result A EvalFault → Result A RunFault
-told (Ok result) = Ok result
-told (Err fault) = Err (fault_of fault)
+abbrev pub answered : {A : Type 0} → Result A EvalFault → Result A RunFault
+answered (Ok result) = Ok result
+answered (Err fault) = Err (fault_of fault)

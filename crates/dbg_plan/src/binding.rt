@@ -47,7 +47,7 @@ fn has_procedure(procedures: &[Procedure], text: &str) -> bool
         .any(|procedure| procedure.name.text.as_str() == text)
 }
 
-// What a block declares a name as, for the frames of a block so many levels further in. A procedure counts as 0.
+// What a block declares a name as, for the frames of a block `level` levels further in. A procedure counts as 0.
 fn declared_in(block: &Block, level: usize, text: &str) -> Option<Located>
     ensures { result ≡ option_map (λ d. located (plain_block block.now) level d.meaning) (first_declaration text.now (plain_block block.now)) }
 {
@@ -128,8 +128,8 @@ fn bind_expression(
     }
 }
 
-/// A condition with its names looked up for the block of a number, of a program with this table of blocks. It fails for want
-/// of memory alone.
+/// A condition with its names looked up for the block of a number, of a program with this table of blocks. It fails only where
+/// memory runs out.
 pub fn bind_condition(
     alloc: Global,
     main: &Block,

@@ -3,7 +3,7 @@
 ghost use Rattle.std.specs.Prelude.{◌≡◌, ◌<◌, ◌≤◌, ℕ, length, All, option_map, if◌then◌else◌, Some};
 ghost use Rattle.std.specs.Arc.{arc_value};
 ghost use Rattle.pl0_machine.specs.Machine.{program, frames, top_of, IsNext};
-ghost use Rattle.dbg_plan.specs.Plans.{listed_of};
+ghost use Rattle.dbg_plan.specs.Plans.{breakpoint_limit, listed_of};
 ghost use Rattle.dbg_plan.specs.declared.mode.Reason.TheVariants as reason;
 ghost use Rattle.dbg_plan.specs.Due.{reason_of, depth_at};
 ghost use Rattle.dbg_plan.specs.Debugged.{IsRunning};
@@ -82,8 +82,8 @@ pub fn count_position(machine: &Machine, plan: &Option<Arc<Plan>>, counts: &mut 
     requires running { IsRunning machine.now }
     requires fits { MayBePlanOf machine.now.unit (option_map arc_value plan.now) }
     requires in_order { IsInOrder machine.now.unit }
-    requires room { length counts.old ≡ 256 }
-    // Whatever position the counts begin at, they go on, and tell what is due.
+    requires room { length counts.old ≡ breakpoint_limit }
+    // Whatever position the counts begin at, they go on, and say what is due.
     ensures { (first : ℕ) → first ≤ machine.now.position
         → AreCounts (program machine.now) (listed_of (option_map arc_value plan.now)) first machine.now.position counts.old
         → CountsOn (program machine.now) (listed_of (option_map arc_value plan.now)) machine.now.position first counts.old result counts.new }
@@ -94,7 +94,7 @@ pub fn count_position(machine: &Machine, plan: &Option<Arc<Plan>>, counts: &mut 
             if !plan.has_breakpoint(machine.address()) {
                 return false;
             }
-            count_arrivals(machine, plan.entry(machine.place()), counts)
+            count_arrivals(machine, plan.breakpoints_at(machine.place()), counts)
         }
     }
 }

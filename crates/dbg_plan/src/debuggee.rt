@@ -79,7 +79,7 @@ impl Debuggee {
     ghost use Rattle.dbg_plan.specs.Plans.{IsPlanOf};
     ghost use Rattle.dbg_plan.specs.Debugged.{machine_of, program_of, IsConsidered, IsNext, due_now};
     ghost use Rattle.dbg_plan.specs.Advances.{Advanced};
-    ghost use Rattle.dbg_plan.specs.Values.{told};
+    ghost use Rattle.dbg_plan.specs.Values.{answered};
 
     /// A machine under the empty plan. Its position is the next to be considered.
     pub fn new(machine: Machine) -> Debuggee
@@ -164,7 +164,8 @@ impl Debuggee {
     }
 
     /// Takes the machine's next step, and considers the position that it leads to, if the program goes on there: what
-    /// `step` does, and then `consider`. The number that the step writes goes behind `numbers`, where there is room.
+    /// `step` does, and then `consider`. The number that the step writes is appended to `numbers`,
+    /// which has room for it.
     #[inline(always)]
     pub fn advance(&mut self, mode: Mode, numbers: &mut Vec<i64>) -> Advance
         requires considered { IsConsidered self.old }
@@ -196,7 +197,7 @@ impl Debuggee {
     /// The first fault of the evaluation, the left operand first.
     pub fn evaluate(&self, frame: usize, expression: &Expression) -> Result<i64, EvalFault>
         requires { frame < depth_of (machine_of self.now) }
-        ensures { value (program_of self.now) (frames (machine_of self.now)) frame (plain_expression expression.now) ≡ told result }
+        ensures { value (program_of self.now) (frames (machine_of self.now)) frame (plain_expression expression.now) ≡ answered result }
     {
         evaluate(&self.machine, frame, expression)
     }

@@ -5,7 +5,7 @@ ghost use Rattle.pl0_tree.specs.Plain.{plain_expression};
 ghost use Rattle.pl0_meaning.specs.Values.{value, name_number, or_zero, operation, comparison, checked, is_odd};
 ghost use Rattle.pl0_machine.specs.Machine.{program, frames, depth_of};
 ghost use Rattle.dbg_plan.specs.Debugged.{IsRunning};
-ghost use Rattle.dbg_plan.specs.Values.{told};
+ghost use Rattle.dbg_plan.specs.Values.{answered};
 ghost use Rattle.dbg_plan.specs.Reads.{number_up, bound_value, bound_truth, CanRead, CanTest};
 ghost use Rattle.dbg_plan.specs.Counting.{holds_now, IsMetHere};
 
@@ -27,7 +27,7 @@ pub enum EvalFault {
 // An operation on two numbers. A quotient goes toward zero.
 #[inline]
 fn combine(operator: Operator, x: i64, y: i64) -> Result<i64, EvalFault>
-    ensures { operation operator x y ≡ told result }
+    ensures { operation operator x y ≡ answered result }
 {
     match operator {
         Operator::Add => x.checked_add(y).ok_or(EvalFault::Overflow),
@@ -46,7 +46,7 @@ fn combine(operator: Operator, x: i64, y: i64) -> Result<i64, EvalFault>
 // The negative of a number.
 #[inline]
 fn negated(x: i64) -> Result<i64, EvalFault>
-    ensures { checked (neg_ℤ x) ≡ told result }
+    ensures { checked (neg_ℤ x) ≡ answered result }
 {
     x.checked_neg().ok_or(EvalFault::Overflow)
 }
@@ -72,7 +72,7 @@ fn odd(x: i64) -> bool
     x % 2 != 0
 }
 
-// The number of a variable in the frame to which so many links lead.
+// The number of a variable in the frame to which `level` links lead.
 #[inline]
 fn variable(machine: &Machine, frame: usize, level: usize, index: usize) -> i64
     requires { IsSome (number_up (frames machine.now) level index frame) }
@@ -95,7 +95,7 @@ fn value_of(
     expression: &LocatedExpression,
 ) -> Result<i64, EvalFault>
     requires { CanRead (frames machine.now) frame expression.now }
-    ensures { bound_value (frames machine.now) frame expression.now ≡ told result }
+    ensures { bound_value (frames machine.now) frame expression.now ≡ answered result }
 {
     match expression {
         LocatedExpression::Number(number) => Ok(*number),
@@ -119,7 +119,7 @@ fn truth_of(
     condition: &LocatedCondition,
 ) -> Result<bool, EvalFault>
     requires { CanTest (frames machine.now) frame condition.now }
-    ensures { bound_truth (frames machine.now) frame condition.now ≡ told result }
+    ensures { bound_truth (frames machine.now) frame condition.now ≡ answered result }
 {
     match condition {
         LocatedCondition::Odd(expression) => Ok(odd(value_of(machine, frame, expression)?)),
@@ -169,7 +169,7 @@ fn name_value(machine: &Machine, frame: usize, text: &str) -> i64
 /// The first fault, the left operand first.
 pub fn evaluate(machine: &Machine, frame: usize, expression: &Expression) -> Result<i64, EvalFault>
     requires { frame < depth_of machine.now }
-    ensures { value (program machine.now) (frames machine.now) frame (plain_expression expression.now) ≡ told result }
+    ensures { value (program machine.now) (frames machine.now) frame (plain_expression expression.now) ≡ answered result }
 {
     match expression {
         Expression::Name(name) => Ok(name_value(machine, frame, name.text.as_str())),

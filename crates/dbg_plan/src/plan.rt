@@ -1,12 +1,16 @@
 // A plan: the breakpoints of a program, by their steps.
 
-ghost use Rattle.std.specs.Prelude.{◌≡◌, ◌+◌, ◌<◌, ◌^◌, IsTrue, [], All, length, slice_get, Some, IfOk};
+ghost use Rattle.std.specs.Prelude.{◌≡◌, ◌+◌, ◌<◌, ◌^◌, [], All, Decides, option_map, length, slice_get, Some, IfOk};
+ghost use Rattle.std.specs.Arc.{arc_value};
+ghost use Rattle.dbg_plan.specs.Plans.{breakpoints_of};
 
 use crate::breakpoint::Breakpoint;
+use crate::same::same_breakpoints;
 use crate::table::{starts_of, watched_of};
 use pl0_tree::StepNo;
 use std::alloc::{AllocError, Global};
 use std::marker::Model;
+use std::sync::Arc;
 
 /// The breakpoints of a program. Those of step s stand in `ordered` from `starts[s]` up to `starts[s + 1]`.
 #[derive(Drop)]
@@ -34,9 +38,11 @@ impl Model for Plan {
 }
 
 impl Plan {
+    ghost use Rattle.std.specs.Prelude.{Decides};
+    ghost use Rattle.dbg_plan.specs.Breakpoints.{plain_breakpoints};
     ghost use Rattle.dbg_plan.specs.Plans.{those_of, watched_lines, IsNumbered};
 
-    /// The plan of these breakpoints, for a program of so many steps, beside whose code stand these lines.
+    /// The plan of these breakpoints, for a program of `steps` steps, beside whose instructions stand `lines`.
     pub(crate) fn new(
         alloc: Global,
         steps: usize,
@@ -61,10 +67,17 @@ impl Plan {
 
     /// Whether it has no breakpoint.
     pub fn is_empty(&self) -> bool
-        ensures empty { IsTrue result → self.now.breakpoints ≡ [] }
+        ensures empty { Decides result (self.now.breakpoints ≡ []) }
         ensures numbered { IsNumbered self.now.breakpoints }
     {
         self.ordered.is_empty()
+    }
+
+    /// Whether the other plan has the same breakpoints in the same order: steps, texts of conditions and rules.
+    pub fn same(&self, other: &Plan) -> bool
+        ensures { Decides result (plain_breakpoints self.now.breakpoints ≡ plain_breakpoints other.now.breakpoints) }
+    {
+        same_breakpoints(&self.ordered, &other.ordered)
     }
 
     /// Whether the step that begins at an address of the code has a breakpoint.
@@ -78,11 +91,22 @@ impl Plan {
     }
 
     /// The breakpoints of a step, in the order asked.
-    pub fn entry(&self, step: StepNo) -> &[Breakpoint]
+    pub fn breakpoints_at(&self, step: StepNo) -> &[Breakpoint]
         requires { step < self.now.steps }
-        ensures entry { result.now ≡ those_of step self.now.breakpoints }
+        ensures breakpoints { result.now ≡ those_of step self.now.breakpoints }
         ensures numbered { IsNumbered self.now.breakpoints }
     {
         &self.ordered[self.starts[step]..self.starts[step + 1]]
+    }
+}
+
+/// Whether two plans have the same breakpoints in the same order. No plan is the empty one.
+pub fn same_plan(left: &Option<Arc<Plan>>, right: &Option<Arc<Plan>>) -> bool
+    ensures { Decides result (breakpoints_of (option_map arc_value left.now) ≡ breakpoints_of (option_map arc_value right.now)) }
+{
+    match (left, right) {
+        (None, None) => true,
+        (Some(left), Some(right)) => left.same(right),
+        (Some(plan), None) | (None, Some(plan)) => plan.is_empty(),
     }
 }

@@ -21,7 +21,8 @@ use pl0_tree::{Condition, StepNo, SyntaxFault};
 use pl0_unit::Unit;
 use std::alloc::{AllocError, Global};
 
-/// A line, with the texts of a condition and of a hit rule. An empty text is an absent one.
+/// A breakpoint as an editor asks for it: a line, with the texts of a condition and of a hit condition. An empty text is an
+/// absent one.
 #[derive(Drop)]
 pub struct SourceBreakpoint {
     pub line: u32,
@@ -29,7 +30,7 @@ pub struct SourceBreakpoint {
     pub hit_condition: String,
 }
 
-/// What a line is answered: its step, or why it has no breakpoint.
+/// What a source breakpoint is resolved to: the step of its line, or why it has no breakpoint.
 #[derive(Clone, Copy, Debug, PartialEq, Eq)]
 pub enum Resolution {
     At(StepNo),
@@ -38,7 +39,7 @@ pub enum Resolution {
     BadHitCondition,
 }
 
-// The first step at a line or behind it.
+// The first step at a line or after it.
 fn first_step(unit: &Unit, line: u32) -> Option<StepNo>
     ensures { result ≡ step_from (program_of unit.now) line }
 {
@@ -103,7 +104,7 @@ fn read_condition(
     }
 }
 
-// The answer to a line. Its breakpoint, if it has one, goes behind those before it, whose number is its own.
+// Resolves a line. Its breakpoint, if it has one, is appended, and its number is how many there were.
 fn resolve_line(
     alloc: Global,
     unit: &Unit,
@@ -135,27 +136,27 @@ fn resolve_line(
     Ok(Resolution::At(step))
 }
 
-/// The plan that is asked for, and an answer for each line.
+/// The plan of these source breakpoints, and what each of them is resolved to, in order.
 ///
 /// # Errors
 ///
-/// There is no memory.
+/// Memory ran out.
 pub fn resolve(
     alloc: Global,
     unit: &Unit,
     asked: &[SourceBreakpoint],
 ) -> Result<(Plan, Vec<Resolution>), AllocError>
     requires { length asked.now ≤ breakpoint_limit }
-    ensures answers { IfOk result (λ r. AreResolved (program_of unit.now) asked.now r.1.items (plain_breakpoints r.0.breakpoints)) }
+    ensures resolutions { IfOk result (λ r. AreResolved (program_of unit.now) asked.now r.1.items (plain_breakpoints r.0.breakpoints)) }
     ensures plan { IfOk result (λ r. IsPlanOf unit.now r.0) }
     ensures breakpoints { IfOk result (λ r. AreBreakpointsOf (program_of unit.now) (plain_breakpoints r.0.breakpoints)) }
 {
-    let mut answers = Vec::with_capacity(alloc, asked.len())?;
+    let mut resolutions = Vec::with_capacity(alloc, asked.len())?;
     let mut breakpoints = Vec::new(alloc);
     for line in asked {
-        let answer = resolve_line(alloc, unit, line, &mut breakpoints)?;
-        answers.push(answer)?;
+        let resolution = resolve_line(alloc, unit, line, &mut breakpoints)?;
+        resolutions.push(resolution)?;
     }
     let plan = Plan::new(alloc, unit.steps.len(), &unit.lines, breakpoints)?;
-    Ok((plan, answers))
+    Ok((plan, resolutions))
 }

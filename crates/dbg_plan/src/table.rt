@@ -43,7 +43,7 @@ pub fn starts_of(
     Ok(starts)
 }
 
-// Whether a step has a breakpoint, if there is a step. One behind the last start has none.
+// Whether a step has a breakpoint, if there is a step. One after the last start has none.
 fn is_started(starts: &[usize], step: Option<StepNo>) -> bool
     requires { 0 < length starts.now }
     ensures { result ≡ has_part starts.now step }

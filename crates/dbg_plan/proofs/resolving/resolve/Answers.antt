@@ -8,8 +8,8 @@ use Rattle.dbg_plan.proofs.resolving.resolve.Goals as goal
 
 pub loop-line-preserved : goal.loop-line-preserved
 loop-line-preserved c =
-    one_more (program_of c.args.unit.now) c.args.asked.now c.loop-line.line-index c.line-item.result c.loop-line.answers.items _ c.loop-line.breakpoints.items _ c.in_ok-answer.answer
-    c.loop-line-test.true c.line-item.is c.loop-line.invariant c.in_ok-answer.ensures c.in_ok-push.ensures.items
+    one_more (program_of c.args.unit.now) c.args.asked.now c.loop-line.line-index c.line-item.result c.loop-line.resolutions.items _ c.loop-line.breakpoints.items _ c.in_ok-resolution.resolution
+    c.loop-line-test.true c.line-item.is c.loop-line.invariant c.in_ok-resolution.ensures c.in_ok-push.ensures.items
 
 pub new-requires-clause-within : goal.new-requires-clause-within
 new-requires-clause-within c =
@@ -21,4 +21,4 @@ returns-clause-plan c =
 
 pub returns-clause-breakpoints : goal.returns-clause-breakpoints
 returns-clause-breakpoints c =
-    breakpoints_are (program_of c.args.unit.now) c.args.asked.now c.loop-line.line-index c.loop-line.answers.items c.loop-line.breakpoints.items c.in_ok-plan.plan c.loop-line.invariant (omega (arith, c.requires)) (ap (λ (p : Listed). p.breakpoints) c.in_ok-plan.ensures)
+    breakpoints_are (program_of c.args.unit.now) c.args.asked.now c.loop-line.line-index c.loop-line.resolutions.items c.loop-line.breakpoints.items c.in_ok-plan.plan c.loop-line.invariant (omega (arith, c.requires)) (ap (λ (p : Listed). p.breakpoints) c.in_ok-plan.ensures)

@@ -24,6 +24,8 @@ invariant_of-result c =
       numbered = subst (λ l. IsNumbered l) (sym is) c.requires.numbered;
       parts = λ s lt. let below : s < c.args.steps = omega arith in
           part_is bs ordered c.deref.result.now c.in_ok-starts.starts.items s c.deref.ensures.value is (stays_in_order bs ordered stable s) (c.in_ok-starts.ensures.parts s below);
+      sorted = IsNonDecreasingBy-from_sort_by_key (λ (b : Breakpoint). b.step) ordered c.in_ok-sort_by_key.ensures.sorted (λ a r q k. search rules);
+      whole = λ s. stays_in_order bs ordered stable s ∙ ap (λ l. those_of s l) (sym is);
     }
 
 pub watched_of-requires : goal.watched_of-requires

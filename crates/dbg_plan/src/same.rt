@@ -1,0 +1,53 @@
+// Whether breakpoints are the same, whoever made them.
+
+ghost use Rattle.std.specs.Prelude.{◌≡◌, Decides, map, option_map};
+ghost use Rattle.dbg_plan.specs.Breakpoints.{text_condition};
+ghost use Rattle.dbg_plan.specs.Table.{numbered_of};
+
+use crate::breakpoint::{BoundCondition, Breakpoint, Rule};
+
+fn same_rule(left: Option<Rule>, right: Option<Rule>) -> bool
+    ensures { Decides result (left ≡ right) }
+{
+    match (left, right) {
+        (None, None) => true,
+        (Some(Rule::From(j)), Some(Rule::From(k))) => j == k,
+        (Some(Rule::Every(j)), Some(Rule::Every(k))) => j == k,
+        _ => false,
+    }
+}
+
+// A text reads as one condition, so that the texts tell.
+fn same_condition(left: &Option<BoundCondition>, right: &Option<BoundCondition>) -> bool
+    ensures { Decides result (option_map text_condition left.now ≡ option_map text_condition right.now) }
+{
+    match (left, right) {
+        (None, None) => true,
+        (Some(left), Some(right)) => left.text.as_str() == right.text.as_str(),
+        _ => false,
+    }
+}
+
+fn same_breakpoint(left: &Breakpoint, right: &Breakpoint) -> bool
+    ensures { Decides result (numbered_of left.now ≡ numbered_of right.now) }
+{
+    left.number == right.number
+        && left.step == right.step
+        && same_rule(left.rule, right.rule)
+        && same_condition(&left.condition, &right.condition)
+}
+
+/// Whether these are the same breakpoints with the same numbers, in the same order.
+pub fn same_breakpoints(left: &[Breakpoint], right: &[Breakpoint]) -> bool
+    ensures { Decides result (map numbered_of left.now ≡ map numbered_of right.now) }
+{
+    if left.len() != right.len() {
+        return false;
+    }
+    for index in 0..left.len() {
+        if !same_breakpoint(&left[index], &right[index]) {
+            return false;
+        }
+    }
+    true
+}
