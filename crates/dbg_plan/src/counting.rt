@@ -107,6 +107,10 @@ pub fn reason_here(machine: &Machine, hit: bool, mode: Mode) -> Option<Reason>
     if hit {
         return Some(Reason::Breakpoint);
     }
+    // Asked first: a branch that is foreseen costs less than a jump by a table.
+    if let Mode::Continue = mode {
+        return None;
+    }
     let depth = machine.depth();
     match mode {
         Mode::Entry => Some(Reason::Entry),
