@@ -3,12 +3,16 @@
 mod beside;
 mod code;
 mod compiled;
+mod desk;
+mod due;
 mod editor;
 mod faults;
 mod memory;
 mod plain;
+mod plans;
 mod programs;
 mod random;
+mod runner;
 mod runs;
 mod shown;
 mod steps;

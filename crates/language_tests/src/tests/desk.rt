@@ -1,0 +1,92 @@
+//! Ports over memory: a script of orders, a tray with room for some reports, and a gate that is open.
+
+use dbg_plan::Mode;
+use dbg_runner::{Considered, Gate, History, Order, OrdersIn, Report, Reports};
+use std::process::Abort;
+
+/// Orders that come while a run goes on: the first look finds a Hold of another run, and a later one that of run 1.
+#[derive(Drop)]
+pub struct Script {
+    /// What run 1 begins with, until it was taken; then comes Quit.
+    pub debuggee: Option<Considered>,
+    /// Looks so far.
+    pub looks: u64,
+    /// The look that finds a Hold of run 1.
+    pub held_at: u64,
+    pub taken: History<Order>,
+}
+
+impl OrdersIn for Script {
+    ghost taken = { λ script. script.taken.entries };
+
+    fn next(&mut self) -> Order {
+        let order = match self.debuggee.take() {
+            Some(debuggee) => Order::Go {
+                run: 1,
+                debuggee,
+                mode: Mode::Continue,
+            },
+            None => Order::Quit,
+        };
+        self.taken = self.taken.and(&order);
+        order
+    }
+
+    fn poll(&mut self) -> Option<Order> {
+        self.looks = self.looks.saturating_add(1);
+        let order = if self.looks == self.held_at {
+            Order::Hold { run: 1 }
+        } else if self.looks == 1 {
+            Order::Hold { run: 7 }
+        } else {
+            return None;
+        };
+        self.taken = self.taken.and(&order);
+        Some(order)
+    }
+}
+
+/// Room for some reports.
+#[derive(Drop)]
+pub struct Tray<'a, R: Abort> {
+    pub rt: &'a R,
+    pub reports: Vec<Report>,
+    pub room: usize,
+    pub sent: History<Report>,
+    pub handed_back: History<Report>,
+}
+
+impl<R: Abort> Reports for Tray<'_, R> {
+    ghost sent = { λ tray. tray.sent.entries };
+
+    ghost handed_back = { λ tray. tray.handed_back.entries };
+
+    fn send(&mut self, report: Report) -> Result<(), Report> {
+        if self.reports.len() >= self.room {
+            self.handed_back = self.handed_back.and(&report);
+            return Err(report);
+        }
+        self.sent = self.sent.and(&report);
+        if self.reports.push(report).is_err() {
+            panic!(self.rt; "memory");
+        }
+        Ok(())
+    }
+}
+
+/// A gate that is open, and the slices that passed it.
+#[derive(Drop)]
+pub struct Open<'a, R: Abort> {
+    pub rt: &'a R,
+    pub slices: Vec<(u64, u64)>,
+    pub passed: History<(u64, u64)>,
+}
+
+impl<R: Abort> Gate for Open<'_, R> {
+    ghost passed = { λ gate. gate.passed.entries };
+
+    fn pass(&mut self, run: u64, slice: u64) {
+        self.passed = self.passed.and(&(run, slice));
+        self.slices.push((run, slice)).expect(self.rt, "memory");
+    }
+}
