@@ -6,7 +6,7 @@ ghost use Rattle.dbg_plan.specs.Debugged.{IsConsidered, IsNext};
 use crate::interpreter::Plain;
 use crate::tests::compiled::{machine_of, step_of, tree_of};
 use crate::tests::random::{Random, program};
-use dbg_plan::{Answer, Asked, Debuggee, Mode, Reason, Rule, resolve};
+use dbg_plan::{Resolution, SourceBreakpoint, Debuggee, Mode, Reason, Rule, resolve};
 use pl0_machine::{Machine, StepOutcome};
 use pl0_syntax::{Condition, Place, Statement, Tree};
 use pl0_unit::Unit;
@@ -150,11 +150,11 @@ fn hit_text(rt: &impl Abort, alloc: Global, rule: Option<Rule>) -> String {
     }
 }
 
-fn breakpoint_of(rt: &impl Abort, alloc: Global, wish: Wish) -> Asked {
-    Asked {
+fn breakpoint_of(rt: &impl Abort, alloc: Global, wish: Wish) -> SourceBreakpoint {
+    SourceBreakpoint {
         line: wish.line,
         condition: String::from_str(alloc, wish.condition).expect(rt, "memory"),
-        hit: hit_text(rt, alloc, wish.rule),
+        hit_condition: hit_text(rt, alloc, wish.rule),
     }
 }
 
@@ -164,9 +164,9 @@ fn watch(
     alloc: Global,
     machine: &Machine,
     wish: Wish,
-    answer: Answer,
+    answer: Resolution,
 ) -> Option<Watched> {
-    let Answer::At(step) = answer else {
+    let Resolution::At(step) = answer else {
         return None;
     };
     Some(Watched {
@@ -178,7 +178,7 @@ fn watch(
 }
 
 /// Puts a plan in: how its lines are answered.
-fn put_in(rt: &impl Abort, alloc: Global, debuggee: &mut Debuggee, wishes: &[Wish]) -> Vec<Answer>
+fn put_in(rt: &impl Abort, alloc: Global, debuggee: &mut Debuggee, wishes: &[Wish]) -> Vec<Resolution>
     ensures unit { debuggee.new.unit ≡ debuggee.old.unit }
     ensures position { debuggee.new.position ≡ debuggee.old.position }
     ensures next { debuggee.new.next ≡ debuggee.old.next }
@@ -203,7 +203,7 @@ fn all_watched(
     alloc: Global,
     machine: &Machine,
     wishes: &[Wish],
-    answers: &[Answer],
+    answers: &[Resolution],
 ) -> Vec<Watched> {
     let mut all = Vec::new(alloc);
     for (wish, answer) in wishes.iter().zip(answers) {

@@ -4,7 +4,7 @@ ghost use Rattle.dbg_plan.specs.Plans.{IsPlanOf};
 
 use crate::tests::compiled::tree_of;
 use crate::tests::table::text_of;
-use dbg_plan::{Answer, Asked, Plan, resolve};
+use dbg_plan::{Resolution, SourceBreakpoint, Plan, resolve};
 use pl0_code::compile;
 use pl0_unit::Unit;
 use std::alloc::Global;
@@ -22,22 +22,22 @@ pub fn unit_of(rt: &impl Abort, alloc: Global, text: &str) -> Unit {
 }
 
 /// What asks for breakpoints at these lines.
-pub fn breakpoints_at(rt: &impl Abort, alloc: Global, lines: &[Line]) -> Vec<Asked> {
+pub fn breakpoints_at(rt: &impl Abort, alloc: Global, lines: &[Line]) -> Vec<SourceBreakpoint> {
     let mut all = Vec::new(alloc);
     for (line, condition, hit) in lines {
         let condition = String::from_str(alloc, condition).expect(rt, "memory");
         let hit = String::from_str(alloc, hit).expect(rt, "memory");
-        all.push(Asked {
+        all.push(SourceBreakpoint {
             line: *line,
             condition,
-            hit,
+            hit_condition: hit,
         })
         .expect(rt, "memory");
     }
     all
 }
 
-fn ask(rt: &impl Abort, alloc: Global, unit: &Unit, lines: &[Line]) -> (Plan, Vec<Answer>)
+fn ask(rt: &impl Abort, alloc: Global, unit: &Unit, lines: &[Line]) -> (Plan, Vec<Resolution>)
     ensures { IsPlanOf unit.now result.0 }
 {
     let asked = breakpoints_at(rt, alloc, lines);
@@ -46,7 +46,7 @@ fn ask(rt: &impl Abort, alloc: Global, unit: &Unit, lines: &[Line]) -> (Plan, Ve
 }
 
 /// The lines are answered so.
-fn assert_answers(rt: &impl Abort, alloc: Global, unit: &Unit, lines: &[Line], wanted: &[Answer]) {
+fn assert_answers(rt: &impl Abort, alloc: Global, unit: &Unit, lines: &[Line], wanted: &[Resolution]) {
     let (_, answers) = ask(rt, alloc, unit, lines);
     assert_eq!(rt; answers.as_slice(), wanted);
 }
@@ -55,29 +55,29 @@ const LINES: [Line; 3] = [(2, "", ""), (4, "", ""), (5, "", "")];
 
 #[test]
 fn answers_lines(rt: HostRuntime) {
-    let wanted = [Answer::At(0), Answer::At(1), Answer::NoStep];
+    let wanted = [Resolution::At(0), Resolution::At(1), Resolution::NoStep];
     let unit = unit_of(&rt, rt.alloc(), TWO_STEPS);
     assert_answers(&rt, rt.alloc(), &unit, LINES.as_slice(), wanted.as_slice());
 }
 
 /// Of the loop a line with a condition and a hit condition, and the answer.
-const TEXTS: [(u32, &str, &str, Answer); 16] = [
-    (3, "x > 2", "%2", Answer::At(1)),
-    (3, "1 / 0 = 1", "3", Answer::At(1)),
-    (3, "", "2147483647", Answer::At(1)),
-    (3, "x >", "", Answer::BadCondition),
-    (3, "y > 2", "", Answer::BadCondition),
-    (3, "x", "03", Answer::BadCondition),
-    (4, "x", "03", Answer::NoStep),
-    (3, "", "03", Answer::BadHit),
-    (3, "", "0", Answer::BadHit),
-    (3, "", "%0", Answer::BadHit),
-    (3, "", "%", Answer::BadHit),
-    (3, "", "% 2", Answer::BadHit),
-    (3, "", "+2", Answer::BadHit),
-    (3, "", "%+2", Answer::BadHit),
-    (3, "", "2147483648", Answer::BadHit),
-    (3, "", "99999999999999999999", Answer::BadHit),
+const TEXTS: [(u32, &str, &str, Resolution); 16] = [
+    (3, "x > 2", "%2", Resolution::At(1)),
+    (3, "1 / 0 = 1", "3", Resolution::At(1)),
+    (3, "", "2147483647", Resolution::At(1)),
+    (3, "x >", "", Resolution::BadCondition),
+    (3, "y > 2", "", Resolution::BadCondition),
+    (3, "x", "03", Resolution::BadCondition),
+    (4, "x", "03", Resolution::NoStep),
+    (3, "", "03", Resolution::BadHitCondition),
+    (3, "", "0", Resolution::BadHitCondition),
+    (3, "", "%0", Resolution::BadHitCondition),
+    (3, "", "%", Resolution::BadHitCondition),
+    (3, "", "% 2", Resolution::BadHitCondition),
+    (3, "", "+2", Resolution::BadHitCondition),
+    (3, "", "%+2", Resolution::BadHitCondition),
+    (3, "", "2147483648", Resolution::BadHitCondition),
+    (3, "", "99999999999999999999", Resolution::BadHitCondition),
 ];
 
 #[test]
@@ -100,7 +100,7 @@ fn assert_entry(rt: &impl Abort, unit: &Unit, plan: &Plan, step: usize, wanted: 
     requires { IsPlanOf unit.now plan.now }
 {
     assert!(rt; step < unit.steps.len());
-    let entry = plan.entry(step);
+    let entry = plan.breakpoints_at(step);
     assert_eq!(rt; entry.len(), wanted.len(), "step {step}");
     for (breakpoint, number) in entry.iter().zip(wanted) {
         assert_eq!(rt; breakpoint.number, *number, "step {step}");
@@ -130,7 +130,7 @@ fn assert_most(rt: &impl Abort, alloc: Global, text: &str) {
         alloc,
         &unit,
         lines.as_slice(),
-        [Answer::At(0); 256].as_slice(),
+        [Resolution::At(0); 256].as_slice(),
     );
 }
 

@@ -6,7 +6,7 @@ use crate::tests::compiled::machine_of;
 use crate::tests::desk::{Open, Script, Tray};
 use crate::tests::plans::{Line, breakpoints_at};
 use crate::tests::programs::RECURSIVE;
-use dbg_plan::{Asked, Debuggee, Mode, Reason, resolve};
+use dbg_plan::{SourceBreakpoint, Debuggee, Mode, Reason, resolve};
 use dbg_runner::{
     Considered, History, Joined, Outputs, Report, SliceOutcome, next_report, slice, work,
 };
@@ -26,7 +26,7 @@ fn begun(
     rt: &impl Abort,
     alloc: Global,
     machine: Machine,
-    lines: &[Asked],
+    lines: &[SourceBreakpoint],
     mode: Mode,
 ) -> (Considered, Option<Reason>) {
     assert!(rt; lines.len() <= 256);
@@ -262,10 +262,10 @@ fn assert_counts(rt: &impl Abort, alloc: Global, sign: &str, from: u32, at_start
         let hit = format!(in alloc; "{sign}{number}").expect(rt, "memory");
         let condition = String::new(alloc);
         lines
-            .push(Asked {
+            .push(SourceBreakpoint {
                 line: 1,
                 condition,
-                hit,
+                hit_condition: hit,
             })
             .expect(rt, "memory");
     }

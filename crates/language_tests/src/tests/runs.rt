@@ -47,9 +47,9 @@ const FRAMES: [Row; 4] = [
 ];
 
 fn assert_frame(rt: &impl Abort, machine: &Machine, frame: usize, row: &Row) {
-    let (block, place, parent, first) = *row;
+    let (block, next_step, parent, first) = *row;
     assert!(rt; frame < machine.depth());
-    let view = FrameView { block, place };
+    let view = FrameView { block, next_step };
     assert_eq!(rt; machine.frame(frame), view, "frame {frame}");
     assert_eq!(rt; machine.static_parent(frame), parent, "frame {frame}");
     assert_eq!(rt; number(machine, frame, 0), first, "frame {frame}");

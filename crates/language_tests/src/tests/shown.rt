@@ -53,7 +53,7 @@ fn write_tokens(rt: &impl Abort, out: &mut String, tokens: &[Token]) {
 
 fn show_tokens(rt: &impl Abort, alloc: Global, text: &str) -> String {
     let mut out = String::new(alloc);
-    let (tokens, end) = cut(alloc, text.as_bytes()).expect(rt, "tokens");
+    let (tokens, end) = tokenize(alloc, text.as_bytes()).expect(rt, "tokens");
     write_tokens(rt, &mut out, &tokens);
     let Place { line, column } = end;
     write!(out, "{line}:{column}").expect(rt, "memory");

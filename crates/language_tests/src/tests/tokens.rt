@@ -30,6 +30,6 @@ fn tokens_of_texts(rt: HostRuntime) {
 #[test]
 fn tokens_of_the_longest_text(rt: HostRuntime) {
     let text = vec![in rt.alloc(); b'.'; 65536].expect(&rt, "memory");
-    let (tokens, end) = cut(rt.alloc(), &text).expect(&rt, "tokens");
+    let (tokens, end) = tokenize(rt.alloc(), &text).expect(&rt, "tokens");
     assert_eq!(rt; (tokens.len(), end.line, end.column), (65536, 1, 65537));
 }
