@@ -63,6 +63,6 @@ returns-in-Err-clause-err g c =
     gives_up c.session_laws.ensures.ending c.session_laws.ensures.fault c.loop.session _ _ now later _ _ c.in-Err.fault
     c.loop.invariant.1 c.loop.invariant.0 c.next_event-event.ensures
     (c.in-Err.ensures.err c.loop.invariant.0)
-    (λ k is. c.in-Err.ensures.frame k (ap Err is) c.loop.invariant.0)
+    (λ k is. c.in-Err.ensures.framing k (ap Err is) c.loop.invariant.0)
     (ap (λ fs. map (λ frame. frame.items) fs) c.loop.invariant.2)
     (rw c.as_slice.ensures.value at c.if-not-write_frames.ensures.written) refl refl
