@@ -13,7 +13,7 @@ use std::alloc::{AllocError, Global};
 /// each instruction, with its number, name, level and address, and ` @n` where it begins step n.
 pub fn listing(alloc: Global, unit: &Unit) -> Result<String, AllocError>
     ensures { IfOk result (λ text. string_bytes text
-        ≡ listing_text (steps (plain_block unit.now.tree.program)) unit.now.code.items unit.now.lines.items) }
+        ≡ listing_text (steps (plain_block unit.now.tree.program)) unit.now.code.items unit.now.begun_steps.items) }
 {
     let mut text = String::new(alloc);
     write_steps(&mut text, unit.steps.as_slice())?;
