@@ -30,4 +30,3 @@ pub use located::{LocatedCondition, LocatedExpression};
 pub use mode::{Mode, Reason};
 pub use plan::{Plan, same_plan};
 pub use resolving::{Resolution, SourceBreakpoint, resolve};
-

@@ -6,7 +6,7 @@ ghost use Rattle.dbg_plan.specs.Debugged.{IsConsidered, IsNext};
 use crate::interpreter::Plain;
 use crate::tests::compiled::{machine_of, step_of, tree_of};
 use crate::tests::random::{Random, program};
-use dbg_plan::{Resolution, SourceBreakpoint, Debuggee, Mode, Reason, Rule, resolve};
+use dbg_plan::{Debuggee, Mode, Reason, Resolution, Rule, SourceBreakpoint, resolve};
 use pl0_machine::{Machine, StepOutcome};
 use pl0_syntax::{Condition, Place, Statement, Tree};
 use pl0_unit::Unit;
@@ -178,7 +178,12 @@ fn watch(
 }
 
 /// Puts a plan in: how its lines are answered.
-fn put_in(rt: &impl Abort, alloc: Global, debuggee: &mut Debuggee, wishes: &[Wish]) -> Vec<Resolution>
+fn put_in(
+    rt: &impl Abort,
+    alloc: Global,
+    debuggee: &mut Debuggee,
+    wishes: &[Wish],
+) -> Vec<Resolution>
     ensures unit { debuggee.new.unit ≡ debuggee.old.unit }
     ensures position { debuggee.new.position ≡ debuggee.old.position }
     ensures next { debuggee.new.next ≡ debuggee.old.next }

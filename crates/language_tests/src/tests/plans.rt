@@ -4,7 +4,7 @@ ghost use Rattle.dbg_plan.specs.Plans.{IsPlanOf};
 
 use crate::tests::compiled::tree_of;
 use crate::tests::table::text_of;
-use dbg_plan::{Resolution, SourceBreakpoint, Plan, resolve};
+use dbg_plan::{Plan, Resolution, SourceBreakpoint, resolve};
 use pl0_code::compile;
 use pl0_unit::Unit;
 use std::alloc::Global;
@@ -46,7 +46,13 @@ fn ask(rt: &impl Abort, alloc: Global, unit: &Unit, lines: &[Line]) -> (Plan, Ve
 }
 
 /// The lines are answered so.
-fn assert_answers(rt: &impl Abort, alloc: Global, unit: &Unit, lines: &[Line], wanted: &[Resolution]) {
+fn assert_answers(
+    rt: &impl Abort,
+    alloc: Global,
+    unit: &Unit,
+    lines: &[Line],
+    wanted: &[Resolution],
+) {
     let (_, answers) = ask(rt, alloc, unit, lines);
     assert_eq!(rt; answers.as_slice(), wanted);
 }

@@ -6,7 +6,7 @@ use crate::tests::compiled::machine_of;
 use crate::tests::desk::{Open, Script, Tray};
 use crate::tests::plans::{Line, breakpoints_at};
 use crate::tests::programs::RECURSIVE;
-use dbg_plan::{SourceBreakpoint, Debuggee, Mode, Reason, resolve};
+use dbg_plan::{Debuggee, Mode, Reason, SourceBreakpoint, resolve};
 use dbg_runner::{
     Considered, History, Joined, Outputs, Report, SliceOutcome, next_report, slice, work,
 };

@@ -2,8 +2,8 @@
 
 use crate::tests::compiled::{machine_of, number, step_of, tree_of};
 use pl0_code::compile;
-use pl0_parser::tokenize;
 use pl0_machine::{Machine, StepOutcome};
+use pl0_parser::tokenize;
 use pl0_syntax::{Place, Step, SyntaxFault, Tree, block_name, blocks, parse, steps};
 use pl0_tree::Token;
 use pl0_unit::Instruction;
