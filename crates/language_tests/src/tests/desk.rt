@@ -17,7 +17,10 @@ pub struct Script {
 }
 
 impl OrdersIn for Script {
-    ghost taken = { λ script. script.taken.entries };
+    ghost use Rattle.std.specs.Prelude.{map};
+    ghost use Rattle.dbg_runner.specs.Orders.{plain_order};
+
+    ghost taken = { λ script. map plain_order script.taken.entries };
 
     fn next(&mut self) -> Order {
         let order = match self.debuggee.take() {
@@ -57,9 +60,12 @@ pub struct Tray<'a, R: Abort> {
 }
 
 impl<R: Abort> Reports for Tray<'_, R> {
-    ghost sent = { λ tray. tray.sent.entries };
+    ghost use Rattle.std.specs.Prelude.{map};
+    ghost use Rattle.dbg_runner.specs.Reported.{plain_report};
 
-    ghost handed_back = { λ tray. tray.handed_back.entries };
+    ghost sent = { λ tray. map plain_report tray.sent.entries };
+
+    ghost handed_back = { λ tray. map plain_report tray.handed_back.entries };
 
     fn send(&mut self, report: Report) -> Result<(), Report> {
         if self.reports.len() >= self.room {

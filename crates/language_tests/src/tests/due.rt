@@ -142,7 +142,7 @@ fn condition_of(rt: &impl Abort, alloc: Global, text: &str) -> Option<Condition>
     }
 }
 
-fn hit_text(rt: &impl Abort, alloc: Global, rule: Option<Rule>) -> String {
+fn hit_condition(rt: &impl Abort, alloc: Global, rule: Option<Rule>) -> String {
     match rule {
         None => String::new(alloc),
         Some(Rule::From(number)) => format!(in alloc; "{number}").expect(rt, "memory"),
@@ -154,7 +154,7 @@ fn breakpoint_of(rt: &impl Abort, alloc: Global, wish: Wish) -> SourceBreakpoint
     SourceBreakpoint {
         line: wish.line,
         condition: String::from_str(alloc, wish.condition).expect(rt, "memory"),
-        hit_condition: hit_text(rt, alloc, wish.rule),
+        hit_condition: hit_condition(rt, alloc, wish.rule),
     }
 }
 

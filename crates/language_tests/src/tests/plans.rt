@@ -26,11 +26,11 @@ pub fn breakpoints_at(rt: &impl Abort, alloc: Global, lines: &[Line]) -> Vec<Sou
     let mut all = Vec::new(alloc);
     for (line, condition, hit) in lines {
         let condition = String::from_str(alloc, condition).expect(rt, "memory");
-        let hit = String::from_str(alloc, hit).expect(rt, "memory");
+        let hit_condition = String::from_str(alloc, hit).expect(rt, "memory");
         all.push(SourceBreakpoint {
             line: *line,
             condition,
-            hit_condition: hit,
+            hit_condition,
         })
         .expect(rt, "memory");
     }

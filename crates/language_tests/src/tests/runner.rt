@@ -1,7 +1,5 @@
 //! Whole runs of programs from their texts: where slices end, what they write, and what a runner makes of orders.
 
-ghost use Rattle.std.specs.Prelude.{◌≡◌, []};
-
 use crate::tests::compiled::machine_of;
 use crate::tests::desk::{Open, Script, Tray};
 use crate::tests::plans::{Line, breakpoints_at};
@@ -259,13 +257,13 @@ fn steps_by_mode(rt: HostRuntime) {
 fn assert_counts(rt: &impl Abort, alloc: Global, sign: &str, from: u32, at_start: Option<Reason>) {
     let mut lines = Vec::new(alloc);
     for number in from..from.saturating_add(256) {
-        let hit = format!(in alloc; "{sign}{number}").expect(rt, "memory");
+        let hit_condition = format!(in alloc; "{sign}{number}").expect(rt, "memory");
         let condition = String::new(alloc);
         lines
             .push(SourceBreakpoint {
                 line: 1,
                 condition,
-                hit_condition: hit,
+                hit_condition,
             })
             .expect(rt, "memory");
     }
@@ -290,17 +288,23 @@ fn counts_many_breakpoints_at_one_line(rt: HostRuntime) {
     assert_counts(&rt, rt.alloc(), "%", 2, None);
 }
 
-/// What a runner makes of the orders of a script: where its reports end and how, and which slices pass the gate.
+/// What a runner makes of orders to run a program that never ends and to hold it at a look: where its reports end and how,
+/// and which slices pass the gate.
 fn assert_worked<R: Abort + Wait>(
     rt: &R,
     alloc: Global,
-    orders: Script,
+    held_at: u64,
     room: usize,
     ends: &[(u64, SliceOutcome)],
     passed: &[(u64, u64)],
-)
-    requires { orders.taken.entries ≡ [] }
-{
+) {
+    let (debuggee, _) = begin(rt, alloc, FOREVER, [].as_slice(), Mode::Continue);
+    let orders = Script {
+        debuggee: Some(debuggee),
+        looks: 0,
+        held_at,
+        taken: History::new(),
+    };
     let reports = Tray {
         rt,
         reports: Vec::new(alloc),
@@ -327,19 +331,6 @@ fn assert_reports(rt: &impl Abort, reports: &[Report], ends: &[(u64, SliceOutcom
     }
 }
 
-/// Orders to run a program that never ends, and to hold it at a look.
-fn script(rt: &impl Abort, alloc: Global, held_at: u64) -> Script
-    ensures { result.taken.entries ≡ [] }
-{
-    let (debuggee, _) = begin(rt, alloc, FOREVER, [].as_slice(), Mode::Continue);
-    Script {
-        debuggee: Some(debuggee),
-        looks: 0,
-        held_at,
-        taken: History::new(),
-    }
-}
-
 /// A Hold is seen after a report, and one of another run does nothing. A runner that never looks fills the reports.
 #[test]
 fn looks_for_orders_after_reports(rt: HostRuntime) {
@@ -349,30 +340,14 @@ fn looks_for_orders_after_reports(rt: HostRuntime) {
         (512, SliceOutcome::Held),
     ];
     let passed = [(1u64, 1u64), (1, 2)];
-    let orders = script(&rt, rt.alloc(), 2);
-    assert_worked(
-        &rt,
-        rt.alloc(),
-        orders,
-        10,
-        ends.as_slice(),
-        passed.as_slice(),
-    );
+    assert_worked(&rt, rt.alloc(), 2, 10, ends.as_slice(), passed.as_slice());
 }
 
 #[test]
 fn ends_where_a_report_is_handed_back(rt: HostRuntime) {
     let ends = [(256u64, SliceOutcome::More)];
     let passed = [(1u64, 1u64), (1, 2)];
-    let orders = script(&rt, rt.alloc(), 5);
-    assert_worked(
-        &rt,
-        rt.alloc(),
-        orders,
-        1,
-        ends.as_slice(),
-        passed.as_slice(),
-    );
+    assert_worked(&rt, rt.alloc(), 5, 1, ends.as_slice(), passed.as_slice());
 }
 
 /// Where memory for the outputs is refused, the report says so and has the debuggee, which runs on as if nothing had been.
