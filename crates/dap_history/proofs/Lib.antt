@@ -14,7 +14,6 @@ pub mod Standing
 pub mod Passing
 pub mod Stopping
 pub mod OneHistory
-pub mod BlockCode
 pub mod Texts
 pub mod OneReply
 pub mod Contents

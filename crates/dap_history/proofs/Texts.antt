@@ -5,7 +5,7 @@ use Rattle.std.proofs.Math.Logic.{∥∥₁_elim}
 use Rattle.pl0_tree.specs.Tree.{Block}
 use Rattle.pl0_tree.specs.Faults.{IsTreeOf}
 use Rattle.pl0_syntax.specs.Laws.{AtMostOne}
-use Rattle.dap_history.proofs.BlockCode.{block_code}
+use Rattle.pl0_tree.specs.BlockCode.{block_code}
 
 abbrev pub OneProgram : Type 0
 OneProgram = (text : List ℕ) (a b : Block) → ∥ IsTreeOf text a ∥₁ → ∥ IsTreeOf text b ∥₁ → a ≡ b

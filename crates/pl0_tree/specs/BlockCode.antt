@@ -1,4 +1,4 @@
--- A code of blocks, by which a proof reports them apart: a block as a statement.
+-- A code of blocks, by which a proof tells them apart: a block as a statement.
 use Rattle.std.proofs.Common.{◌≡◌, List, [], ◌∷◌, refl, ◌∙◌, ap}
 use Rattle.std.specs.Prelude.{pos, ℤ}
 use Rattle.std.specs.Coded.{Coded, code_by}
