@@ -1,0 +1,197 @@
+// The run that the runner has.
+
+ghost use Rattle.std.specs.Prelude.{◌≡◌, option_map, IfOk};
+ghost use Rattle.std.specs.Arc.{arc_value};
+ghost use Rattle.dbg_plan.specs.Breakpoints.{plain_breakpoints};
+ghost use Rattle.dbg_plan.specs.Counting.{MayBePlanOf};
+ghost use Rattle.dbg_plan.specs.Debugged.{IsConsidered};
+ghost use Rattle.dbg_plan.specs.Plans.{Listed, breakpoints_of};
+ghost use Rattle.dap_phase.specs.Runs.{with_waiting};
+
+use dbg_plan::{Debuggee, Mode, Plan, same_plan};
+use dbg_runner::{Considered, Order, Report};
+use pl0_code::code_laws;
+use pl0_unit::Unit;
+use std::alloc::AllocError;
+use std::marker::Model;
+use std::sync::Arc;
+
+/// The run that the runner has, and what waits until it gives the debuggee back.
+#[derive(Drop)]
+pub struct Run {
+    unit: Arc<Unit>,
+    mode: Mode,
+    // Where its next report starts.
+    position: u64,
+    plan: Option<Arc<Plan>>,
+    counted_from: u64,
+    waiting_plan: Option<Arc<Plan>>,
+    waiting_pause: bool,
+    held: bool,
+}
+
+impl Model for Run {
+    ghost use Rattle.dap_phase.specs.Runs.{Ordered};
+    ghost use Rattle.pl0_unit.specs.contracts.unit.Unit as compiled;
+    ghost use Rattle.dbg_plan.specs.Breakpoints.{breakpoint_code};
+    ghost use Rattle.std.specs.Coded.{codes};
+
+    ghost Value = { Ordered };
+
+    ghost coded = { Prim.hlevel (codes, compiled.the_row.coded, breakpoint_code) };
+
+    ghost use Rattle.dap_phase.specs.RunFields.{ordered_of, IsFitting};
+
+    ghost view = { ordered_of };
+
+    ghost invariant = { IsFitting };
+}
+
+// A share of a plan, if there is one.
+fn shared_plan(plan: &Option<Arc<Plan>>) -> Result<Option<Arc<Plan>>, AllocError>
+    ensures { IfOk result (λ share. breakpoints_of (option_map arc_value share) ≡ breakpoints_of (option_map arc_value plan.now)) }
+{
+    match plan {
+        None => Ok(None),
+        Some(plan) => Ok(Some(Arc::try_clone(plan)?)),
+    }
+}
+
+impl Run {
+    ghost use Rattle.std.specs.Prelude.{◌≡◌, [], ◌∷◌, true, Some, option_map, IfOk, Decides, if◌then◌else◌};
+    ghost use Rattle.std.specs.Option.{option_to_list};
+    ghost use Rattle.dbg_plan.specs.Plans.{IsPlanOf};
+    ghost use Rattle.dbg_plan.specs.Breakpoints.{plain_breakpoints};
+    ghost use Rattle.dbg_plan.specs.Debugged.{IsConsidered};
+    ghost use Rattle.dbg_runner.specs.Plain.{Go, Hold, heading_of};
+    ghost use Rattle.dbg_runner.specs.Orders.{plain_order};
+    ghost use Rattle.dbg_runner.specs.Reported.{heading, plain_report, text_of};
+    ghost use Rattle.dap_phase.specs.Runs.{begun, heading_in, with_waiting};
+
+    /// The run of this number, with its order to the runner. Nothing waits.
+    ///
+    /// # Errors
+    ///
+    /// An allocation failed; the debuggee is gone then.
+    pub fn begin(number: u64, debuggee: Considered, mode: Mode) -> Result<(Run, Order), AllocError>
+        ensures run { IfOk result (λ r. r.0 ≡ begun debuggee mode) }
+        ensures order { IfOk result (λ r. plain_order r.1 ≡ Go (heading number debuggee mode)) }
+    {
+        let of = debuggee.debuggee();
+        let run = Run {
+            unit: Arc::try_clone(of.machine().unit())?,
+            mode,
+            position: of.machine().position(),
+            plan: shared_plan(of.plan())?,
+            counted_from: of.counted_from(),
+            waiting_plan: None,
+            waiting_pause: false,
+            held: false,
+        };
+        let order = Order::Go {
+            run: number,
+            debuggee,
+            mode,
+        };
+        Ok((run, order))
+    }
+
+    /// The program.
+    pub fn unit(&self) -> &Arc<Unit>
+        ensures { result.now.value ≡ self.now.unit }
+    {
+        &self.unit
+    }
+
+    /// The program, when the run is over.
+    pub fn into_unit(self) -> Arc<Unit>
+        ensures { result.value ≡ self.unit }
+    {
+        self.unit
+    }
+
+    /// Its mode.
+    pub fn mode(&self) -> Mode
+        ensures { result ≡ self.now.mode }
+    {
+        self.mode
+    }
+
+    /// Whether a pause waits.
+    pub fn waits_to_pause(&self) -> bool
+        ensures { result ≡ self.now.waiting_pause }
+    {
+        self.waiting_pause
+    }
+
+    /// Whether a report goes on with this run, whose number is given. What costs nothing is compared first.
+    pub fn expects(&self, number: u64, report: &Report) -> bool
+        ensures { Decides result (heading_of (plain_report report.now) ≡ heading_in number self.now) }
+    {
+        report.run() == number
+            && report.start() == self.position
+            && report.mode() == self.mode
+            && report.counted_from() == self.counted_from
+            && self.unit.has_same_text(report.unit())
+            && same_plan(&self.plan, report.plan())
+    }
+
+    /// A plan waits, in place of one that waits already.
+    pub fn wait_for(&mut self, plan: Arc<Plan>)
+        requires { IsPlanOf self.old.unit plan.value }
+        ensures { self.new ≡ record self.old { waiting_plan = Some (plain_breakpoints plan.value.breakpoints) } }
+    {
+        self.waiting_plan = Some(plan);
+    }
+
+    /// A pause waits.
+    pub fn wait_to_pause(&mut self)
+        ensures { self.new ≡ record self.old { waiting_pause = true } }
+    {
+        self.waiting_pause = true;
+    }
+
+    /// The order to give the debuggee of this run back, where none was given.
+    pub fn hold(&mut self, number: u64) -> Option<Order>
+        ensures order { option_to_list (option_map plain_order result) ≡ (if self.old.held then [] else Hold number ∷ []) }
+        ensures held { self.new ≡ record self.old { held = true } }
+    {
+        if self.held {
+            return None;
+        }
+        self.held = true;
+        Some(Order::Hold { run: number })
+    }
+
+    /// The next report starts here.
+    pub fn go_on_from(&mut self, position: u64)
+        ensures { self.new ≡ record self.old { position = position } }
+    {
+        self.position = position;
+    }
+
+    /// The debuggee that the runner gave back, with the plan that waited put in.
+    pub fn take_back(self, debuggee: Box<Debuggee>) -> Considered
+        requires considered { IsConsidered debuggee.value }
+        requires text { text_of debuggee.value.unit ≡ text_of self.unit }
+        ensures { result ≡ with_waiting self.waiting_plan debuggee.value }
+    {
+        code_laws();
+        with_plan(debuggee, self.waiting_plan)
+    }
+}
+
+// A debuggee with a plan put in, if there is one.
+fn with_plan(mut debuggee: Box<Debuggee>, plan: Option<Arc<Plan>>) -> Considered
+    requires considered { IsConsidered debuggee.value }
+    requires fits { MayBePlanOf debuggee.value.unit (option_map arc_value plan) }
+    ensures { result ≡ with_waiting (option_map (λ (p : Listed). plain_breakpoints p.breakpoints) (option_map arc_value plan)) debuggee.value }
+{
+    match plan {
+        None => Considered::new(debuggee),
+        Some(plan) => {
+            debuggee.set_plan(plan);
+            Considered::new(debuggee)
+        }
+    }
+}

@@ -1,0 +1,77 @@
+// A debuggee before its first position is considered.
+
+ghost use Rattle.std.specs.Prelude.{◌≡◌};
+
+use dbg_plan::{Debuggee, Mode, Plan, Reason};
+use dbg_runner::Considered;
+use pl0_machine::Machine;
+use pl0_unit::Unit;
+use std::alloc::{AllocError, Global};
+use std::marker::Model;
+use std::sync::Arc;
+
+/// A debuggee that runs and stands at a position that is yet to be considered.
+#[derive(Drop)]
+pub struct Unstarted {
+    debuggee: Box<Debuggee>,
+}
+
+impl Model for Unstarted {
+    ghost use Rattle.dbg_plan.specs.Debugged.{Debugged, IsNext};
+    ghost use Rattle.pl0_unit.specs.contracts.unit.Unit as compiled;
+    ghost use Rattle.dbg_plan.specs.Breakpoints.{breakpoint_code};
+    ghost use Rattle.std.specs.Coded.{codes};
+
+    ghost Value = { Debugged };
+
+    ghost coded = { Prim.hlevel (codes, compiled.the_row.coded, breakpoint_code) };
+
+    ghost view = { λ u. u.debuggee.value };
+
+    ghost invariant = { λ u. IsNext u.debuggee.value };
+}
+
+impl Unstarted {
+    ghost use Rattle.std.specs.Prelude.{◌≡◌, ◌+◌, [], IfOk};
+    ghost use Rattle.dbg_plan.specs.Plans.{IsPlanOf};
+    ghost use Rattle.dbg_plan.specs.Breakpoints.{plain_breakpoints};
+    ghost use Rattle.dbg_plan.specs.Debugged.{due_now};
+
+    /// A program before its first step, under the empty plan.
+    ///
+    /// # Errors
+    ///
+    /// An allocation failed.
+    pub fn new(alloc: Global, unit: Arc<Unit>) -> Result<Unstarted, AllocError>
+        ensures { IfOk result (λ d. d ≡ record { unit = unit.value; position = 0; breakpoints = []; counted_from = 0; next = 0 }) }
+    {
+        let machine = Machine::new(alloc, unit)?;
+        let debuggee = Box::new(alloc, Debuggee::new(machine))?;
+        Ok(Unstarted { debuggee })
+    }
+
+    /// The program.
+    pub fn unit(&self) -> &Arc<Unit>
+        ensures { result.now.value ≡ self.now.unit }
+    {
+        self.debuggee.machine().unit()
+    }
+
+    /// Puts a plan in, which counts from the position where the program stands.
+    pub fn set_plan(&mut self, plan: Arc<Plan>)
+        requires { IsPlanOf self.old.unit plan.value }
+        ensures { self.new ≡ record self.old { breakpoints = plain_breakpoints plan.value.breakpoints; counted_from = self.old.next } }
+    {
+        self.debuggee.set_plan(plan);
+    }
+
+    /// Considers the position where the program stands: why it is due, if it is.
+    pub fn consider(self, mode: Mode) -> (Option<Reason>, Considered)
+        ensures due { result.0 ≡ due_now self mode }
+        ensures considered { result.1 ≡ record self { next = self.next + 1 } }
+    {
+        let mut debuggee = self.debuggee;
+        let reason = debuggee.consider(mode);
+        (reason, Considered::new(debuggee))
+    }
+}
