@@ -1,0 +1,26 @@
+-- Frames by their ids.
+use Rattle.std.proofs.Common.{◌≡◌, ℕ, zero, suc, ◌<◌, ◌≤◌, [], ◌∷◌, length, None, Some, refl, ap, ◌∙◌, arith, inl, inr}
+use Rattle.std.proofs.lemmas.Bool.{cases_eq}
+use Rattle.pl0_meaning.specs.Values.{Frame, Configuration, frame_at}
+use Rattle.pl0_meaning.specs.Linking.{frame_at-top, frame_at-below}
+use Rattle.dap_history.specs.Frames.{frame_by_id}
+use Rattle.dap_inspection.specs.Alive.{IsAlive}
+
+none_above : (c : Configuration) (i : ℕ) → length c ≤ i → frame_at c i ≡ None
+none_above [] i le = refl
+none_above (f ∷ below) i le = frame_at-below f below i (omega arith) ∙ none_above below i (omega arith)
+
+pub none_alive : (c : Configuration) (id : ℕ) → length c < id → frame_by_id c id ≡ None
+none_alive c zero lt = refl
+none_alive c (suc i) lt = none_above c i (omega arith)
+
+pub there : (c : Configuration) (i : ℕ) → i < length c → (f : Frame) × (frame_at c i ≡ Some f)
+there [] i lt = absurd (omega arith)
+there (f ∷ below) i lt = elim (cases_eq (length below) i) [
+  | inl same ↦ (f, frame_at-top f below i same)
+  | inr other ↦ let r = there below i (omega arith) in (r.0, frame_at-below f below i other ∙ r.1)
+]
+
+-- the frame with an id is the one of the number below
+pub by_id : (c : Configuration) (id i : ℕ) → IsAlive c id i → frame_by_id c id ≡ frame_at c i
+by_id c id i alive = ap (frame_by_id c) (let e : id ≡ suc i = omega (arith, alive.is) in e)

@@ -1,0 +1,78 @@
+-- The frames asked for, one by one.
+use Rattle.std.proofs.Common.{◌≡◌, ℕ, zero, suc, ◌+◌, ◌-◌, ◌<◌, min, List, [], ◌∷◌, ◌++◌, length, get_or, take, drop, Option, Some, None}
+use Rattle.std.proofs.Common.{refl, ap, sym, ◌∙◌, arith, ⊎_elim}
+use Rattle.std.proofs.lemmas.Bool.{cases_eq}
+use Rattle.std.proofs.lemmas.List.{take_more, take_all, take_min, get_or-drop, length-drop}
+use Rattle.pl0_tree.specs.Tree.{Block}
+use Rattle.pl0_meaning.specs.Values.{Frame, Configuration, frame_at}
+use Rattle.pl0_meaning.specs.Linking.{frame_at-top, frame_at-below, frame_within}
+use Rattle.dap_msg.specs.declared.outgoing.StackFrame.{StackFrame}
+use Rattle.dap_history.specs.Frames.{Counting, shown_frame, shown_frames, at_most}
+use Rattle.dap_inspection.specs.Showing.{IsShownAs, asked_of}
+
+same_frame : (a b : Frame) → ◌≡◌ {A = Option Frame} (Some a) (Some b) → a ≡ b
+same_frame a b e = cc
+
+-- frame i stands at this index from the top
+shown_at : (main : Block) (counting : Counting) (c : Configuration) (i : ℕ) (f : Frame) (d : StackFrame) → frame_at c i ≡ Some f →
+    get_or (shown_frames main counting c) (length c - suc i) d ≡ shown_frame main counting f (i + 1)
+shown_at main counting [] i f d at = cc
+shown_at main counting (g ∷ below) i f d at =
+    ⊎_elim
+    (λ same.
+    let is : g ≡ f = same_frame g f (sym (frame_at-top g below i same) ∙ at) in
+    let first : length (g ∷ below) - suc i ≡ 0 = omega (arith, same) in
+    ap (λ n. get_or (shown_frames main counting (g ∷ below)) n d) first
+    ∙ ap (λ n. shown_frame main counting g (n + 1)) same
+    ∙ ap (λ h. shown_frame main counting h (i + 1)) is)
+    (λ other.
+    let at' = sym (frame_at-below g below i other) ∙ at in
+    let inside = frame_within below i f at' in
+    let later : length (g ∷ below) - suc i ≡ suc (length below - suc i) = omega (arith, inside) in
+    ap (λ n. get_or (shown_frames main counting (g ∷ below)) n d) later ∙ shown_at main counting below i f d at')
+    (cases_eq (length below) i)
+
+-- those that are left after the first `start`
+abbrev pub rest_of : Block → Counting → Configuration → ℕ → List StackFrame
+rest_of main counting c start = drop start (shown_frames main counting c)
+
+rest_length : (main : Block) (counting : Counting) (c : Configuration) (start : ℕ) → length (rest_of main counting c start) ≡ length c - start
+rest_length main counting c start = length-drop start (shown_frames main counting c) ∙ ap (λ n. n - start) (all c)
+  where
+    all : (c : Configuration) → length (shown_frames main counting c) ≡ length c
+    all [] = refl
+    all (f ∷ below) = ap suc (all below)
+
+-- one more of them
+pub one_more : (main : Block) (counting : Counting) (c : Configuration) (start left index : ℕ) (shown : List StackFrame) (s : StackFrame) →
+    left ≡ length c - start → index < left → IsShownAs main counting (frame_at c (left - index - 1)) (left - index) s →
+    shown ≡ take index (rest_of main counting c start) → shown ++ s ∷ [] ≡ take (index + 1) (rest_of main counting c start)
+one_more main counting c start left index shown s lefts lt is before =
+    let rest = rest_of main counting c start in
+    let there : index < length rest = omega (arith, rest_length main counting c start, lefts, lt) in
+    ap (λ xs. xs ++ s ∷ []) before
+    ∙ sym (ap (λ x. take index rest ++ x ∷ []) (next (frame_at c (left - index - 1)) refl is))
+    ∙ sym (take_more rest index s there)
+  where
+    next : (o : Option Frame) → frame_at c (left - index - 1) ≡ o → IsShownAs main counting o (left - index) s →
+        get_or (rest_of main counting c start) index s ≡ s
+    next None at is = absurd is
+    next (Some f) at is =
+        let all = shown_frames main counting c in
+        let i = left - index - 1 in
+        let place : start + index ≡ length c - suc i = omega (arith, lefts, lt) in
+        let id : i + 1 ≡ left - index = omega (arith, lt) in
+        get_or-drop start all index s
+        ∙ ap (λ n. get_or all n s) place
+        ∙ shown_at main counting c i f s at
+        ∙ ap (λ n. shown_frame main counting f n) id
+        ∙ sym is
+
+-- as many as are asked for
+pub all_asked : (main : Block) (counting : Counting) (c : Configuration) (start levels left : ℕ) → left ≡ length c - start →
+    take (asked_of levels left) (rest_of main counting c start) ≡ at_most levels (rest_of main counting c start)
+all_asked main counting c start levels left lefts = asked levels (rest_of main counting c start) (lefts ∙ sym (rest_length main counting c start))
+  where
+    asked : (levels : ℕ) (xs : List StackFrame) → left ≡ length xs → take (asked_of levels left) xs ≡ at_most levels xs
+    asked zero xs e = take_all left xs (omega (arith, e))
+    asked (suc n) xs e = ap (λ k. take (min (suc n) k) xs) e ∙ take_min (suc n) xs

@@ -1,0 +1,45 @@
+-- What is shown of one frame.
+use Rattle.std.proofs.Common.{◌≡◌, ℕ, ◌-◌, ◌<◌, List, length, get_or, slice_get, Option, Some, None, ap, sym, ◌∙◌}
+use Rattle.std.specs.Prelude.{option_map}
+use Rattle.std.proofs.lemmas.Option.{slice_get-get_or}
+use Rattle.pl0_tree.specs.declared.tree.Place.{Place}
+use Rattle.pl0_tree.specs.declared.step.Step.{Step}
+use Rattle.pl0_tree.specs.Scope.{Path}
+use Rattle.pl0_tree.specs.Steps.{StepAt, blocks}
+use Rattle.pl0_unit.specs.declared.unit.Unit.{Unit as Compiled}
+use Rattle.pl0_meaning.specs.Values.{Frame}
+use Rattle.pl0_machine.specs.Machine.{program_of, Shows}
+use Rattle.pl0_machine.specs.declared.outcome.FrameView.{FrameView}
+use Rattle.dap_msg.specs.declared.outgoing.StackFrame.{StackFrame}
+use Rattle.dap_history.specs.Frames.{Counting, frame_name, frame_place, line_of, column_of}
+use Rattle.dap_inspection.specs.Showing.{IsShownAs}
+use Rattle.dap_inspection.proofs.UnitTables.{step_within, step_place}
+
+pub shown_within : (u : Compiled) (o : Option Frame) (view : FrameView) → Shows (program_of u) o view → view.next_step < length u.steps.items
+shown_within u None view shows = absurd shows
+shown_within u (Some f) view shows = step_within u view.next_step shows.1.within
+
+-- where the frame's next step stands
+place_is : (u : Compiled) (f : Frame) (view : FrameView) (s : Step) → Shows (program_of u) (Some f) view → s ≡ get_or u.steps.items view.next_step s →
+    frame_place (program_of u) f ≡ Some s.place
+place_is u f view s shows at =
+    let within = shown_within u (Some f) view shows in
+    let there : slice_get u.steps.items view.next_step ≡ Some s =
+    slice_get-get_or u.steps.items view.next_step s within ∙ ap (λ t. Some t) (sym at) in
+    ap (λ o. option_map (λ (t : StepAt). t.place) o) (sym shows.1.next)
+    ∙ sym (step_place u view.next_step)
+    ∙ ap (λ o. option_map (λ (t : Step). t.place) o) there
+
+abbrev framed : Counting → ℕ → List ℕ → Option Place → StackFrame
+framed counting id name place = record { id = id; name = name; line = line_of counting place; column = column_of counting place }
+
+pub shown_as : (u : Compiled) (counting : Counting) (o : Option Frame) (view : FrameView) (id line column : ℕ) (name : List ℕ) (s : Step) →
+    Shows (program_of u) o view → ((q : Path) → slice_get (blocks (program_of u)) view.block ≡ Some q → name ≡ frame_name (program_of u) q) →
+    s ≡ get_or u.steps.items view.next_step s → line ≡ s.place.line - counting.lines → column ≡ s.place.column - counting.columns →
+    IsShownAs (program_of u) counting o id (record { id = id; name = name; line = line; column = column })
+shown_as u counting None view id line column name s shows names at lines columns = absurd shows
+shown_as u counting (Some f) view id line column name s shows names at lines columns =
+    ap (λ n. record { id = id; name = name; line = n; column = column }) lines
+    ∙ ap (λ n. record { id = id; name = name; line = s.place.line - counting.lines; column = n }) columns
+    ∙ ap (λ n. framed counting id n (Some s.place)) (names f.block shows.0)
+    ∙ ap (λ p. framed counting id (frame_name (program_of u) f.block) p) (sym (place_is u f view s shows at))

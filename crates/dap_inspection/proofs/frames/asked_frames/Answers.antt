@@ -1,0 +1,27 @@
+use Rattle.std.proofs.Common.{◌≡◌, ◌-◌, length, take, rules, arith, ap, ◌∙◌}
+use Rattle.pl0_machine.specs.Machine.{program, frames}
+use Rattle.dap_inspection.specs.Showing.{counting_of, asked_of}
+use Rattle.dap_inspection.proofs.AskedFrames.{rest_of, one_more, all_asked}
+use Rattle.dap_inspection.proofs.frames.asked_frames.Goals as goal
+use Rattle.dap_inspection.proofs.frames.asked_frames.Goals.{After-saturating_sub-left}
+
+left_is : (c : After-saturating_sub-left) → c.saturating_sub-left.result ≡ length (frames c.args.machine.now) - c.args.asked.start_frame
+left_is c = omega (arith, c.depth.ensures.depth, c.saturating_sub-left.ensures)
+
+pub loop-index-preserved : goal.loop-index-preserved
+loop-index-preserved c =
+    let m = c.args.machine.now in
+    let left = left_is (goal.at.loop-index-preserved c).After-saturating_sub-left in
+    rw c.in_ok-push.ensures.items
+    (one_more (program m) (counting_of c.args.settings) (frames m) c.args.asked.start_frame _ c.loop-index.index _ _ left (search rules) c.in_ok-stack_frame.ensures c.loop-index.invariant)
+
+pub returns : goal.returns
+returns c =
+    let m = c.args.machine.now in
+    let counting = counting_of c.args.settings in
+    let start = c.args.asked.start_frame in
+    let count : c.loop-index.index ≡ asked_of c.args.asked.levels c.saturating_sub-left.result =
+    omega (arith, c.count_asked-count.ensures, c.loop-index.auto.index-end, c.loop-index-test.false) in
+    c.loop-index.invariant
+    ∙ ap (λ n. take n (rest_of (program m) counting (frames m) start)) count
+    ∙ all_asked (program m) counting (frames m) start c.args.asked.levels _ (left_is (goal.at.returns c).After-saturating_sub-left)

@@ -1,0 +1,18 @@
+-- A question that is asked of a debuggee.
+use Rattle.std.specs.Prelude.{List, ℕ, Result}
+use Rattle.dap_msg.specs.declared.outgoing.Body.{Body}
+use Rattle.dap_msg.specs.declared.outgoing.Refusal.{Refusal}
+use Rattle.dap_msg.specs.declared.requests.initialize.InitializeArguments.{InitializeArguments}
+use Rattle.dbg_plan.specs.Debugged.{Debugged, program_of}
+use Rattle.dap_history.specs.Breakpoints.{offset}
+use Rattle.dap_history.specs.Inspection.{Asked}
+use Rattle.dap_history.specs.Replies.{Reply, nothing}
+
+-- what is asked of the debuggee's program, which has this path, by a client that counts so
+abbrev pub question_of : Debugged → List ℕ → InitializeArguments → Asked
+question_of d path settings =
+    record { program = program_of d; path = path; counting = record { lines = offset settings.lines_start_at_1; columns = offset settings.columns_start_at_1 } }
+
+-- a question is answered or refused, and nothing else comes of it
+abbrev pub replied : Result Body Refusal → Reply
+replied result = record { result = result; effect = nothing }

@@ -1,0 +1,28 @@
+-- What a client is shown of one frame.
+use Rattle.std.specs.Prelude.{◌≡◌, ℕ, zero, suc, min, Option, Some, None}
+use Rattle.dap_msg.specs.declared.outgoing.StackFrame.{StackFrame}
+use Rattle.dap_msg.specs.declared.outgoing.Scope.{Scope}
+use Rattle.dap_msg.specs.declared.requests.initialize.InitializeArguments.{InitializeArguments}
+use Rattle.pl0_tree.specs.Tree.{Block}
+use Rattle.pl0_meaning.specs.Values.{Frame}
+use Rattle.dap_history.specs.Breakpoints.{offset}
+use Rattle.dap_history.specs.Frames.{Counting, shown_frame, frame_name}
+
+-- how a client with these settings counts
+abbrev pub counting_of : InitializeArguments → Counting
+counting_of settings = record { lines = offset settings.lines_start_at_1; columns = offset settings.columns_start_at_1 }
+
+-- how many are asked for where so many are left: at most `levels`, all where that is 0
+abbrev pub asked_of : ℕ → ℕ → ℕ
+asked_of zero left = left
+asked_of (suc n) left = min (suc n) left
+
+-- what is shown of the frame with an id
+abbrev pub IsShownAs : Block → Counting → Option Frame → ℕ → StackFrame → Type 0
+IsShownAs main counting None id shown = ⊥
+IsShownAs main counting (Some f) id shown = shown ≡ shown_frame main counting f id
+
+-- its own scope
+abbrev pub IsScopeOf : Block → Option Frame → ℕ → Scope → Type 0
+IsScopeOf main None id scope = ⊥
+IsScopeOf main (Some f) id scope = scope ≡ record { name = frame_name main f.block; reference = id }

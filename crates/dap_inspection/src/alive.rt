@@ -1,0 +1,17 @@
+// Frames alive, by their ids.
+
+ghost use Rattle.pl0_machine.specs.Machine.{frames};
+ghost use Rattle.dap_inspection.specs.Alive.{NamesFrame};
+
+use pl0_machine::Machine;
+
+/// The number of the frame with an id, from 0, the main block's; none where no frame alive has it.
+pub(crate) fn frame_with_id(machine: &Machine, id: u64) -> Option<usize>
+    ensures { NamesFrame (frames machine.now) id result }
+{
+    let depth = machine.depth() as u64;
+    if id == 0 || id > depth {
+        return None;
+    }
+    Some((id - 1) as usize)
+}

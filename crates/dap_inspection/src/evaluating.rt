@@ -1,0 +1,82 @@
+// `evaluate`.
+
+ghost use Rattle.std.specs.Prelude.{◌≡◌, ◌<◌, IfOk};
+ghost use Rattle.pl0_machine.specs.Machine.{program, frames, frame_of, depth_of};
+ghost use Rattle.dbg_plan.specs.Debugged.{machine_of, program_of, IsConsidered};
+ghost use Rattle.dap_history.specs.Inspection.{Asked, RepliesFrom, result_reply};
+ghost use Rattle.dap_msg.specs.declared.command.Command.TheVariants as command;
+ghost use Rattle.dap_inspection.specs.Questions.{replied};
+ghost use Rattle.dap_inspection.specs.Evaluating.{IsReadIn};
+
+use crate::alive::frame_with_id;
+use dap_msg::{Body, EvaluateArguments, Refusal};
+use dbg_plan::{Debuggee, EvalFault};
+use pl0_machine::Machine;
+use pl0_meaning::configuration_laws;
+use pl0_syntax::{Expression, SyntaxFault, editor_laws, numbering_laws, parse_expression};
+use pl0_unit::Unit;
+use std::alloc::{AllocError, Global};
+
+// The expression that a text is in the scope of a frame; none where it is no expression there.
+fn read_in(
+    alloc: Global,
+    machine: &Machine,
+    frame: usize,
+    text: &str,
+) -> Result<Option<Expression>, AllocError>
+    requires { frame < depth_of machine.now }
+    ensures { IfOk result (IsReadIn (program machine.now) (frame_of machine.now frame) text.now) }
+{
+    editor_laws();
+    numbering_laws();
+    configuration_laws();
+    let unit: &Unit = machine.unit();
+    let step = machine.frame(frame).next_step;
+    match parse_expression(
+        alloc,
+        text.as_bytes(),
+        &unit.tree.program,
+        &unit.steps,
+        &unit.nestings,
+        step,
+    ) {
+        Ok(expression) => Ok(Some(expression)),
+        Err(SyntaxFault::NoMemory) => Err(AllocError),
+        Err(SyntaxFault::InText { .. }) => Ok(None),
+    }
+}
+
+// The reply that gives the result of an evaluation.
+fn reply_of(evaluated: Result<i64, EvalFault>) -> Result<Body, Refusal>
+    ensures { replied result ≡ result_reply evaluated }
+{
+    match evaluated {
+        Ok(value) => Ok(Body::Value(value)),
+        Err(EvalFault::Overflow) => Err(Refusal::Overflow),
+        Err(EvalFault::DivideByZero) => Err(Refusal::DivideByZero),
+    }
+}
+
+/// The value of an expression, read in a frame's scope.
+///
+/// # Errors
+///
+/// An allocation failed.
+pub fn evaluate(
+    alloc: Global,
+    debuggee: &Debuggee,
+    asked: &EvaluateArguments,
+) -> Result<Result<Body, Refusal>, AllocError>
+    requires { IsConsidered debuggee.now }
+    ensures { (of : Asked) → of.program ≡ program_of debuggee.now → IfOk result (λ r. RepliesFrom of (frames (machine_of debuggee.now)) (command.Evaluate asked.now) (replied r)) }
+{
+    let machine = debuggee.machine();
+    let Some(frame) = frame_with_id(machine, asked.frame_id) else {
+        return Ok(Err(Refusal::UnknownFrame));
+    };
+    let read = read_in(alloc, machine, frame, asked.expression.as_str())?;
+    let Some(expression) = read else {
+        return Ok(Err(Refusal::BadExpression));
+    };
+    Ok(reply_of(debuggee.evaluate(frame, &expression)))
+}

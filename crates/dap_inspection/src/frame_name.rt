@@ -1,0 +1,28 @@
+// The name of a frame.
+
+ghost use Rattle.std.specs.Prelude.{◌≡◌, IfOk, IsSome, Some, slice_get};
+ghost use Rattle.pl0_tree.specs.Scope.{Path};
+ghost use Rattle.pl0_tree.specs.Steps.{blocks};
+ghost use Rattle.pl0_machine.specs.Machine.{program_of};
+ghost use Rattle.dap_history.specs.Frames.{frame_name};
+
+use dap_msg::Text;
+use pl0_syntax::block_name;
+use pl0_unit::Unit;
+use std::alloc::{AllocError, Global};
+
+/// The name of a block's frames: the procedure's, or `main`.
+///
+/// # Errors
+///
+/// An allocation failed.
+pub(crate) fn frame_name(alloc: Global, unit: &Unit, block: u32) -> Result<Text, AllocError>
+    requires { IsSome (slice_get (blocks (program_of unit.now)) block) }
+    ensures { IfOk result (λ name. (q : Path) → slice_get (blocks (program_of unit.now)) block ≡ Some q → name ≡ frame_name (program_of unit.now) q) }
+{
+    let name = match block_name(&unit.tree.program, &unit.nestings, block) {
+        Some(name) => String::from_str(alloc, name.text.as_str())?,
+        None => String::from_str(alloc, "main")?,
+    };
+    Ok(Text::new(name))
+}

@@ -1,0 +1,109 @@
+// `stackTrace`.
+
+ghost use Rattle.std.specs.Prelude.{◌≡◌, ◌-◌, ◌<◌, ◌≤◌, IfOk};
+ghost use Rattle.pl0_machine.specs.Machine.{program, frames, frame_of, depth_of};
+ghost use Rattle.dbg_plan.specs.Debugged.{machine_of, IsConsidered};
+ghost use Rattle.dap_history.specs.Breakpoints.{offset};
+ghost use Rattle.dap_history.specs.Frames.{frames_asked};
+ghost use Rattle.dap_history.specs.Inspection.{RepliesFrom};
+ghost use Rattle.dap_msg.specs.declared.command.Command.TheVariants as command;
+ghost use Rattle.dap_inspection.specs.Questions.{question_of, replied};
+ghost use Rattle.dap_inspection.specs.Showing.{counting_of, asked_of, IsShownAs};
+
+use crate::frame_name::frame_name;
+use dap_msg::{Body, InitializeArguments, Items, Refusal, StackFrame, StackTraceArguments, Text};
+use dbg_plan::Debuggee;
+use pl0_machine::Machine;
+use pl0_unit::Unit;
+use std::alloc::{AllocError, Global};
+
+// A line or a column, from 1, as the client counts.
+fn counted(number: u32, from_1: bool) -> u64
+    ensures { result ≡ number - offset from_1 }
+{
+    if from_1 {
+        u64::from(number)
+    } else {
+        u64::from(number).saturating_sub(1)
+    }
+}
+
+// How many of the frames that are left are asked for.
+fn count_asked(levels: u64, left: usize) -> usize
+    ensures { result ≡ asked_of levels left }
+{
+    if levels == 0 {
+        return left;
+    }
+    (levels as usize).min(left)
+}
+
+// The frame with this id.
+fn stack_frame(
+    alloc: Global,
+    machine: &Machine,
+    settings: InitializeArguments,
+    id: usize,
+) -> Result<StackFrame, AllocError>
+    requires positive { 0 < id }
+    requires alive { id ≤ depth_of machine.now }
+    ensures { IfOk result (λ shown. IsShownAs (program machine.now) (counting_of settings) (frame_of machine.now (id - 1)) id shown) }
+{
+    let unit: &Unit = machine.unit();
+    let view = machine.frame(id - 1);
+    let name = frame_name(alloc, unit, view.block)?;
+    let place = unit.steps[view.next_step].place;
+    Ok(StackFrame {
+        id: id as u64,
+        name,
+        line: counted(place.line, settings.lines_start_at_1),
+        column: counted(place.column, settings.columns_start_at_1),
+    })
+}
+
+// The frames asked for, from the top down.
+fn asked_frames(
+    alloc: Global,
+    machine: &Machine,
+    settings: InitializeArguments,
+    asked: StackTraceArguments,
+) -> Result<Vec<StackFrame>, AllocError>
+    ensures { IfOk result (λ shown. shown.items ≡ frames_asked (program machine.now) (counting_of settings) asked (frames machine.now)) }
+{
+    let left = machine.depth().saturating_sub(asked.start_frame as usize);
+    let count = count_asked(asked.levels, left);
+    let mut shown = Vec::with_capacity(alloc, count)?;
+    for index in 0..count {
+        shown.push(stack_frame(alloc, machine, settings, left - index)?)?;
+    }
+    Ok(shown)
+}
+
+/// The frames asked for, from the top down.
+///
+/// # Errors
+///
+/// An allocation failed.
+pub fn stack_trace(
+    alloc: Global,
+    debuggee: &Debuggee,
+    path: &Text,
+    settings: InitializeArguments,
+    asked: StackTraceArguments,
+) -> Result<Result<Body, Refusal>, AllocError>
+    requires { IsConsidered debuggee.now }
+    ensures { IfOk result (λ r. RepliesFrom (question_of debuggee.now path.now settings) (frames (machine_of debuggee.now)) (command.StackTrace asked) (replied r)) }
+{
+    if asked.thread_id != 1 {
+        return Ok(Err(Refusal::UnknownThread));
+    }
+    let machine = debuggee.machine();
+    let path = Text::new(String::from_str(alloc, path.as_str())?);
+    let frames = Items::new(asked_frames(alloc, machine, settings, asked)?);
+    let total = machine.depth() as u64;
+    Ok(Ok(Body::StackTrace {
+        path,
+        frames,
+        total,
+    }))
+}

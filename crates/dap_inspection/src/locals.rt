@@ -1,0 +1,74 @@
+// `variables`.
+
+ghost use Rattle.std.specs.Prelude.{◌≡◌, ◌<◌, IfOk, length, map};
+ghost use Rattle.pl0_tree.specs.Plain.{plain_name};
+ghost use Rattle.pl0_machine.specs.Machine.{program, frames, frame_of, depth_of, variables_of};
+ghost use Rattle.dbg_plan.specs.Debugged.{machine_of, program_of, IsConsidered};
+ghost use Rattle.dap_history.specs.Frames.{named};
+ghost use Rattle.dap_history.specs.Inspection.{Asked, RepliesFrom};
+ghost use Rattle.dap_msg.specs.declared.command.Command.TheVariants as command;
+ghost use Rattle.dap_inspection.specs.Questions.{replied};
+ghost use Rattle.dap_inspection.specs.Locals.{names_in, numbers_of};
+
+use crate::alive::frame_with_id;
+use dap_msg::{Body, Items, Refusal, Text, Variable, VariablesArguments};
+use dbg_plan::Debuggee;
+use pl0_machine::Machine;
+use pl0_syntax::{Name, block};
+use pl0_unit::Unit;
+use std::alloc::{AllocError, Global};
+
+// The names of the variables of a frame, in the order of declaration.
+fn declared_names(machine: &Machine, frame: usize) -> &[Name]
+    requires { frame < depth_of machine.now }
+    ensures names { map plain_name result.now ≡ names_in (program machine.now) (frame_of machine.now frame) }
+    ensures count { length result.now ≡ variables_of (frame_of machine.now frame) }
+{
+    let depth = machine.depth();
+    prove!(frame < depth);
+    let unit: &Unit = machine.unit();
+    let number = machine.frame(frame).block;
+    let declaring = block(&unit.tree.program, &unit.nestings, number);
+    &declaring.variables
+}
+
+// The variables of a frame, which have these names.
+fn valued(
+    alloc: Global,
+    machine: &Machine,
+    frame: usize,
+    names: &[Name],
+) -> Result<Vec<Variable>, AllocError>
+    requires { length names.now ≡ variables_of (frame_of machine.now frame) }
+    ensures { IfOk result (λ list. list.items ≡ named (map plain_name names.now) (numbers_of (frame_of machine.now frame))) }
+{
+    let mut list = Vec::with_capacity(alloc, names.len())?;
+    for (index, name) in names.iter().enumerate() {
+        let name = Text::new(String::from_str(alloc, name.text.as_str())?);
+        let value = machine.value(frame, index);
+        list.push(Variable { name, value })?;
+    }
+    Ok(list)
+}
+
+/// The variables of a frame, in the order of declaration.
+///
+/// # Errors
+///
+/// An allocation failed.
+pub fn variables(
+    alloc: Global,
+    debuggee: &Debuggee,
+    asked: VariablesArguments,
+) -> Result<Result<Body, Refusal>, AllocError>
+    requires { IsConsidered debuggee.now }
+    ensures { (of : Asked) → of.program ≡ program_of debuggee.now → IfOk result (λ r. RepliesFrom of (frames (machine_of debuggee.now)) (command.Variables asked) (replied r)) }
+{
+    let machine = debuggee.machine();
+    let Some(frame) = frame_with_id(machine, asked.variables_reference) else {
+        return Ok(Err(Refusal::UnknownReference));
+    };
+    let names = declared_names(machine, frame);
+    let list = valued(alloc, machine, frame, names)?;
+    Ok(Ok(Body::Variables(Items::new(list))))
+}

@@ -1,0 +1,68 @@
+// `scopes`.
+
+ghost use Rattle.std.specs.Prelude.{◌≡◌, ◌-◌, ◌<◌, ◌≤◌, IfOk};
+ghost use Rattle.pl0_machine.specs.Machine.{program, frames, frame_of, depth_of};
+ghost use Rattle.dbg_plan.specs.Debugged.{machine_of, program_of, IsConsidered};
+ghost use Rattle.dap_history.specs.Frames.{scopes_from};
+ghost use Rattle.dap_history.specs.Inspection.{Asked, RepliesFrom};
+ghost use Rattle.dap_msg.specs.declared.command.Command.TheVariants as command;
+ghost use Rattle.dap_inspection.specs.Questions.{replied};
+ghost use Rattle.dap_inspection.specs.Showing.{IsScopeOf};
+
+use crate::frame_name::frame_name;
+use dap_msg::{Body, Items, Refusal, Scope, ScopesArguments};
+use dbg_plan::Debuggee;
+use pl0_machine::Machine;
+use std::alloc::{AllocError, Global};
+
+// The scope of the frame with this id.
+fn scope(alloc: Global, machine: &Machine, id: usize) -> Result<Scope, AllocError>
+    requires positive { 0 < id }
+    requires alive { id ≤ depth_of machine.now }
+    ensures { IfOk result (λ scope. IsScopeOf (program machine.now) (frame_of machine.now (id - 1)) id scope) }
+{
+    let view = machine.frame(id - 1);
+    let name = frame_name(alloc, machine.unit(), view.block)?;
+    Ok(Scope {
+        name,
+        reference: id as u64,
+    })
+}
+
+// The scopes of a frame, from 0, the innermost first.
+fn scope_chain(alloc: Global, machine: &Machine, frame: usize) -> Result<Vec<Scope>, AllocError>
+    requires { frame < depth_of machine.now }
+    ensures { IfOk result (λ scopes. scopes.items ≡ scopes_from (program machine.now) (frames machine.now) frame) }
+{
+    let depth = machine.depth();
+    prove!(frame < depth);
+    let mut scopes = Vec::new(alloc);
+    let mut next = Some(frame);
+    while let Some(frame) = next {
+        scopes.push(scope(alloc, machine, frame + 1)?)?;
+        next = machine.static_parent(frame);
+    }
+    Ok(scopes)
+}
+
+/// The scopes of a frame, the innermost first.
+///
+/// # Errors
+///
+/// An allocation failed.
+pub fn scopes(
+    alloc: Global,
+    debuggee: &Debuggee,
+    asked: ScopesArguments,
+) -> Result<Result<Body, Refusal>, AllocError>
+    requires { IsConsidered debuggee.now }
+    ensures { (of : Asked) → of.program ≡ program_of debuggee.now → IfOk result (λ r. RepliesFrom of (frames (machine_of debuggee.now)) (command.Scopes asked) (replied r)) }
+{
+    let machine = debuggee.machine();
+    let id = asked.frame_id as usize;
+    if id == 0 || machine.depth() < id {
+        return Ok(Err(Refusal::UnknownFrame));
+    }
+    let scopes = scope_chain(alloc, machine, id - 1)?;
+    Ok(Ok(Body::Scopes(Items::new(scopes))))
+}
