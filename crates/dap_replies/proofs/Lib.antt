@@ -1,0 +1,11 @@
+pub mod Stays
+pub mod Unmoved
+pub mod Situations
+pub mod Asked
+pub mod Launched
+pub mod Begun
+pub mod ReportSteps
+pub mod Refused
+pub mod Resumed
+pub mod Lines
+pub mod SetBreakpoints

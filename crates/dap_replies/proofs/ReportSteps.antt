@@ -1,0 +1,218 @@
+-- Where a report leads: the phase afterwards stands for the history with the report's step.
+use Rattle.std.proofs.Common.{◌≡◌, ℕ, ◌+◌, ℤ, List, [], ◌∷◌, ◌++◌, map, Option, None, Some, refl, sym, subst, ◌∙◌, ap}
+use Rattle.std.specs.Prelude.{unwrap_or}
+use Rattle.std.proofs.lemmas.List.{append-nil}
+use Rattle.std.specs.Coded.{Coded-set}
+use Rattle.std.proofs.Math.Logic.{∥∥₁_elim}
+use Rattle.pl0_tree.specs.Tokens.{tokens_of}
+use Rattle.pl0_tree.specs.Reading.{ReadsProgram}
+use Rattle.pl0_tree.specs.Unique.{program_once}
+use Rattle.pl0_tree.specs.BlockCode.{block_code}
+use Rattle.pl0_unit.specs.declared.unit.Unit.{Unit as Compiled}
+use Rattle.pl0_machine.specs.Machine.{program_of}
+use Rattle.dap_msg.specs.declared.outgoing.Outgoing.TheVariants.{Event}
+use Rattle.dap_msg.specs.declared.outgoing.EventBody.{EventBody}
+use Rattle.dap_msg.specs.declared.outgoing.EventBody.TheVariants as event
+use Rattle.dap_msg.specs.declared.outgoing.StopReason.{StopReason}
+use Rattle.dap_msg.specs.declared.outgoing.StopReason.TheVariants as stop
+use Rattle.dbg_plan.specs.Breakpoints.{Breakpoint}
+use Rattle.dbg_plan.specs.Debugged.{Debugged}
+use Rattle.dbg_plan.specs.declared.mode.Mode.{Mode}
+use Rattle.dbg_runner.specs.Plain.{Heading, PlainReport, Go}
+use Rattle.dbg_runner.specs.Reported.{Reported, text_of, plain_report, heading, stopped}
+use Rattle.dap_history.specs.Last.{or_else, last_such}
+use Rattle.dap_history.specs.Plans.{Plan}
+use Rattle.dap_history.specs.History.{Item, Accepted, Step, History}
+use Rattle.dap_history.specs.ReadingLaws.{ReadingsGoOn}
+use Rattle.dap_history.specs.Readings.{stop_mark, message_mark, situation, end_of, position, plan, waiting_plan, runs}
+use Rattle.dap_history.specs.Replies.{reporting, stops, ends}
+use Rattle.dap_history.specs.Reports.{outputs, put_in_at, stands, goes_on}
+use Rattle.dap_history.specs.declared.situation.Situation.TheVariants.{Ended}
+use Rattle.dap_phase.specs.declared.phase.Phase.TheVariants as phase
+use Rattle.dap_phase.specs.declared.phase.Target.{Target}
+use Rattle.dap_phase.specs.Runs.{Ordered, begun, heading_in, with_waiting}
+use Rattle.dap_phase.specs.Phases.{IsTarget, IsDebuggee, IsRun, IsPhase}
+use Rattle.dap_replies.specs.Replied.{report_step}
+use Rattle.dap_replies.specs.Reporting.{GoesOnWith, standing}
+use Rattle.dap_replies.proofs.Stays.{situation_stays, last_run_stays, runs_stay, plan_stays, waiting_plan_stays, waiting_pause_stays, held_stays, target_stays}
+use Rattle.dap_replies.proofs.Begun.{with_next_run, run_begins}
+
+-- ---- numbers mark no situation
+
+or_nothing : {A : Type 0} (o : Option A) → or_else o None ≡ o
+or_nothing None = refl
+or_nothing (Some x) = refl
+
+mark_of : (vs : List ℤ) (events : List EventBody)
+    → last_such message_mark (map Event (map event.Output vs ++ events)) ≡ last_such message_mark (map Event events)
+mark_of [] events = refl
+mark_of (v ∷ vs) events = or_nothing (last_such message_mark (map Event (map event.Output vs ++ events))) ∙ mark_of vs events
+
+no_mark : (r : PlainReport) → last_such message_mark (map Event (outputs r)) ≡ None
+no_mark r = ap (λ es. last_such message_mark (map Event es)) (sym (append-nil (outputs r))) ∙ mark_of r.numbers []
+
+-- ---- the run goes on
+
+pub report_goes_on : ReadingsGoOn → (t : Target) (run : Ordered) (r : PlainReport) (past : History)
+    → IsPhase (phase.Running t run) past
+    → IsPhase (phase.Running t (record run { position = r.end })) (past ++ report_step r (reporting (outputs r)) ∷ [])
+report_goes_on laws t run r past is = record {
+  situation_is = situation_stays laws past step (no_mark r) ∙ is.situation_is;
+  keeps = (
+    target_stays laws past step refl refl refl t run.unit is.keeps.0,
+    record {
+      first = was.first;
+      ordered = last_run_stays laws past step refl ∙ was.ordered;
+      goes_on =
+          ap (λ n. record was.first { start = n }) (laws.position_is past step)
+          ∙ ap (λ (h : Heading). record h { start = r.end }) was.goes_on
+          ∙ ap (λ n. heading_in n (record run { position = r.end })) (sym (runs_stay laws past step refl));
+      breakpoints_are = was.breakpoints_are ∙ ap (λ (p : Plan). p.breakpoints) (sym (plan_stays laws past step refl));
+      counted_from_is = was.counted_from_is ∙ ap (λ (p : Plan). p.counted_from) (sym (plan_stays laws past step refl));
+      waiting_plan_is = was.waiting_plan_is ∙ sym (waiting_plan_stays laws past step refl refl);
+      waiting_pause_is = was.waiting_pause_is ∙ sym (waiting_pause_stays laws past step refl refl);
+      held_is = was.held_is ∙ sym (held_stays laws past step refl);
+    },
+  );
+}
+  where
+    step : Step
+    step = report_step r (reporting (outputs r))
+
+    was : IsRun run past
+    was = is.keeps.1
+
+-- ---- the program is over
+
+pub report_ends : ReadingsGoOn → (t : Target) (u : Compiled) (r : PlainReport) (past : History) → IsTarget t u past
+    → (situation (past ++ report_step r (reporting (outputs r ++ ends 0)) ∷ []) ≡ Ended)
+    × IsTarget t u (past ++ report_step r (reporting (outputs r ++ ends 0)) ∷ [])
+report_ends laws t u r past is = (
+  laws.situation_is past step ∙ ap (λ mark. unwrap_or mark (situation past)) (mark_of r.numbers (ends 0)),
+  target_stays laws past step refl refl refl t u is,
+)
+  where
+    step : Step
+    step = report_step r (reporting (outputs r ++ ends 0))
+
+-- ---- the debuggee comes back
+
+one_program : (u v : Compiled) → text_of u ≡ text_of v → program_of u ≡ program_of v
+one_program u v same =
+    let alike = Coded-set block_code (program_of u) (program_of v) in
+    ∥∥₁_elim u.tree.lawful alike (λ x. ∥∥₁_elim v.tree.lawful alike (λ y.
+    program_once (subst (λ t. ReadsProgram (tokens_of t) (program_of u)) same x.reads) y.reads))
+
+-- a unit of the program's text will do as well
+same_target : (t : Target) (u v : Compiled) (past : History) → text_of u ≡ text_of v → IsTarget t u past → IsTarget t v past
+same_target t u v past same is = record {
+  launched_is =
+      is.launched_is
+      ∙ ap (λ text. Some (record { path = t.path; stop_on_entry = t.stop_on_entry; text = text; program = program_of u })) same
+      ∙ ap (λ program. Some (record { path = t.path; stop_on_entry = t.stop_on_entry; text = text_of v; program = program }))
+      (one_program u v same);
+  settings_are = is.settings_are;
+  runs_are = is.runs_are;
+}
+
+-- the debuggee under the plan that is in force then
+pub record Stands (d : Debugged) (r : Reported) (now : Plan) : Type 0 where
+  pub unit_is : d.unit ≡ r.unit
+  pub position_is : d.position ≡ r.end
+  pub breakpoints_are : d.breakpoints ≡ now.breakpoints
+  pub counted_from_is : d.counted_from ≡ now.counted_from
+
+put_in_stands : (waits : Option (List Breakpoint)) (r : Reported) (now : Plan)
+    → r.plan ≡ now.breakpoints → r.counted_from ≡ now.counted_from
+    → Stands (with_waiting waits (stopped r)) r (unwrap_or (put_in_at r.end waits) now)
+put_in_stands None r now plan_is counted_is =
+    record { unit_is = refl; position_is = refl; breakpoints_are = plan_is; counted_from_is = counted_is }
+put_in_stands (Some bs) r now plan_is counted_is =
+    record { unit_is = refl; position_is = refl; breakpoints_are = refl; counted_from_is = refl }
+
+-- the debuggee that came back, with what waited put in
+abbrev pub back : Ordered → Reported → Debugged
+back run r = with_waiting run.waiting_plan (stopped r)
+
+-- the plan in force when what waits is put in where the report ends
+abbrev pub plan_then : History → Reported → Plan
+plan_then past r = unwrap_or (put_in_at r.end (waiting_plan past)) (plan past)
+
+pub back_stands : (t : Target) (run : Ordered) (r : Reported) (past : History) → GoesOnWith r t run → IsRun run past
+    → Stands (back run r) r (plan_then past r)
+back_stands t run r past goes is =
+    subst (λ waits. Stands (back run r) r (unwrap_or (put_in_at r.end waits) (plan past))) is.waiting_plan_is
+    (put_in_stands run.waiting_plan r (plan past) (ap (λ (h : Heading). h.plan) goes ∙ is.breakpoints_are)
+    (ap (λ (h : Heading). h.counted_from) goes ∙ is.counted_from_is))
+
+pub back_target : (t : Target) (run : Ordered) (r : Reported) (past : History) → GoesOnWith r t run
+    → IsPhase (phase.Running t run) past → IsTarget t (back run r).unit past
+back_target t run r past goes is =
+    subst (λ u. IsTarget t u past) (sym (back_stands t run r past goes is.keeps.1).unit_is)
+    (same_target t run.unit r.unit past (sym (ap (λ (h : Heading). h.text) goes)) is.keeps.0)
+
+pub back_debuggee : ReadingsGoOn → (d : Debugged) (r : Reported) (past : History) (step : Step)
+    → Stands d r (plan_then past r) → step.item ≡ Accepted (plain_report r)
+    → step.effect.put_in ≡ put_in_at r.end (waiting_plan past) → IsDebuggee d (past ++ step ∷ [])
+back_debuggee laws d r past step stood item_is put_in_is = record {
+  position_is =
+      stood.position_is
+      ∙ sym (laws.position_is past step ∙ ap (λ (i : Item). unwrap_or (end_of i) (position past)) item_is);
+  breakpoints_are = stood.breakpoints_are ∙ ap (λ (p : Plan). p.breakpoints) (sym plan_is);
+  counted_from_is = stood.counted_from_is ∙ ap (λ (p : Plan). p.counted_from) (sym plan_is);
+}
+  where
+    plan_is : plan (past ++ step ∷ []) ≡ plan_then past r
+    plan_is = laws.plan_is past step ∙ ap (λ o. unwrap_or o (plan past)) put_in_is
+
+-- ---- the program stands
+
+stands_so : (t : Target) (d : Debugged) (reason : StopReason) (past : History) → situation past ≡ stop_mark reason
+    → IsTarget t d.unit past → IsDebuggee d past → IsPhase (standing t d reason) past
+stands_so t d (stop.Exception fault) past there target_is debuggee_is = record { situation_is = there; keeps = (target_is, debuggee_is) }
+stands_so t d _ past there target_is debuggee_is = record { situation_is = there; keeps = (target_is, debuggee_is) }
+
+pub report_stands : ReadingsGoOn → (t : Target) (run : Ordered) (r : Reported) (reason : StopReason) (past : History)
+    → GoesOnWith r t run → IsPhase (phase.Running t run) past
+    → IsPhase (standing t (back run r) reason)
+    (past ++ report_step (plain_report r) (stands past (plain_report r) (stops reason)) ∷ [])
+report_stands laws t run r reason past goes is =
+    stands_so t (back run r) reason (past ++ step ∷ [])
+    (laws.situation_is past step ∙ ap (λ mark. unwrap_or mark (situation past)) (mark_of r.numbers (stops reason)))
+    (target_stays laws past step refl refl refl t (back run r).unit (back_target t run r past goes is))
+    (back_debuggee laws (back run r) r past step (back_stands t run r past goes is.keeps.1) refl refl)
+  where
+    step : Step
+    step = report_step (plain_report r) (stands past (plain_report r) (stops reason))
+
+-- ---- the program goes on as another run
+
+-- the run that is ordered then
+abbrev pub next_run : History → Reported → Heading
+next_run past r =
+    let now = plan_then past r in
+    record { run = runs past + 1; text = text_of r.unit; plan = now.breakpoints; counted_from = now.counted_from; mode = r.mode; start = r.end }
+
+same_heading : (n : ℕ) (d : Debugged) (m : Mode) (h : Heading)
+    → n ≡ h.run → text_of d.unit ≡ h.text → d.breakpoints ≡ h.plan → d.counted_from ≡ h.counted_from → m ≡ h.mode → d.position ≡ h.start → heading n d m ≡ h
+same_heading n d m h run_is text_is plan_is counted_is mode_is start_is =
+    rw (run_is, text_is, plan_is, counted_is, mode_is, start_is)
+
+pub back_heading : (t : Target) (run : Ordered) (r : Reported) (past : History) → GoesOnWith r t run
+    → IsPhase (phase.Running t run) past → heading (t.runs + 1) (back run r) run.mode ≡ next_run past r
+back_heading t run r past goes is =
+    let so = back_stands t run r past goes is.keeps.1 in
+    same_heading (t.runs + 1) (back run r) run.mode (next_run past r) (ap (λ n. n + 1) is.keeps.0.runs_are)
+    (ap text_of so.unit_is) so.breakpoints_are so.counted_from_is (sym (ap (λ (h : Heading). h.mode) goes)) so.position_is
+
+pub report_begins_again : ReadingsGoOn → (t : Target) (run : Ordered) (r : Reported) (past : History)
+    → GoesOnWith r t run → IsPhase (phase.Running t run) past
+    → IsPhase (phase.Running (with_next_run t) (begun (back run r) run.mode))
+    (past ++ report_step (plain_report r) (goes_on past (plain_report r)) ∷ [])
+report_begins_again laws t run r past goes is =
+    run_begins laws t (back run r) run.mode past step (back_target t run r past goes is)
+    (back_debuggee laws (back run r) r past step (back_stands t run r past goes is.keeps.1) refl refl)
+    (record { orders_are = ap (λ h. Go h ∷ []) (sym (back_heading t run r past goes is)); launches_nothing = refl; sets_nothing = refl })
+  where
+    step : Step
+    step = report_step (plain_report r) (goes_on past (plain_report r))

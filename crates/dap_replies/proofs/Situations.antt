@@ -1,0 +1,26 @@
+-- What is replied in the situation of a phase.
+use Rattle.std.proofs.Common.{◌≡◌, refl, sym, subst}
+use Rattle.dap_msg.specs.declared.command.Command.{Command}
+use Rattle.dap_msg.specs.declared.requests.initialize.InitializeArguments.{InitializeArguments}
+use Rattle.dap_msg.specs.declared.command.Command.TheVariants as command
+use Rattle.dap_msg.specs.declared.outgoing.Body.TheVariants as body
+use Rattle.dap_msg.specs.declared.outgoing.Refusal.TheVariants as refusal
+use Rattle.dap_history.specs.History.{History}
+use Rattle.dap_history.specs.Readings.{situation}
+use Rattle.dap_history.specs.Replies.{Reply, answered, refused}
+use Rattle.dap_history.specs.Emission.{RepliesIn}
+use Rattle.dap_phase.specs.declared.phase.Phase.{Phase}
+use Rattle.dap_phase.specs.declared.phase.Phase.TheVariants as phase
+use Rattle.dap_phase.specs.Phases.{IsPhase, situation_of}
+
+-- the situation of the history is that of the phase
+pub replies_there : (p : Phase) (past : History) → IsPhase p past → (command : Command) (reply : Reply) → RepliesIn (situation_of p) past command reply → RepliesIn (situation past) past command reply
+replies_there p past is command reply = subst (λ s. RepliesIn s past command reply) (sym is.situation_is)
+
+pub initialized_once : (p : Phase) → (p ≡ phase.Fresh → ⊥) → (past : History) (asked : InitializeArguments) → RepliesIn (situation_of p) past (command.Initialize asked) (refused refusal.WrongPhase)
+initialized_once phase.Fresh begun past asked = absurd (begun refl)
+initialized_once _ begun past asked = refl
+
+pub threads_begun : (p : Phase) → (p ≡ phase.Fresh → ⊥) → (past : History) → RepliesIn (situation_of p) past command.Threads (answered body.Threads)
+threads_begun phase.Fresh begun past = absurd (begun refl)
+threads_begun _ begun past = refl

@@ -1,0 +1,15 @@
+use Rattle.std.proofs.Common.{All, ap, arith, length, subst, sym}
+use Rattle.pl0_machine.specs.Machine.{program_of}
+use Rattle.dbg_plan.specs.Breakpoints.{plain_breakpoints}
+use Rattle.dap_replies.specs.Lines.{IsAtStep}
+use Rattle.dap_replies.proofs.Lines.{asked_length, at_steps}
+use Rattle.dap_replies.proofs.breakpoints.resolved.Goals as goal
+
+pub resolve-requires : goal.resolve-requires
+resolve-requires c =
+    omega (arith, c.requires, ap length c.as_slice.ensures, ap length c.deref.ensures.value, asked_length c.line_offset-less.result c.as_slice.result.now c.in_ok-lines.lines.items c.in_ok-lines.ensures)
+
+pub line_answers-requires : goal.line_answers-requires
+line_answers-requires c =
+    subst (λ l. All (IsAtStep (program_of c.args.unit.now)) l) (sym c.deref-2.ensures.value)
+    (at_steps (program_of c.args.unit.now) _ c.in_ok-plan.resolutions.items (plain_breakpoints c.in_ok-plan.plan.breakpoints) c.in_ok-plan.ensures.resolutions)

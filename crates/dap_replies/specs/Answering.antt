@@ -1,0 +1,36 @@
+-- Answers after which the phase stays as it is.
+use Rattle.std.specs.Prelude.{[], None, Result}
+use Rattle.dap_msg.specs.declared.command.Command.{Command}
+use Rattle.dap_msg.specs.declared.command.Command.TheVariants as command
+use Rattle.dap_msg.specs.declared.outgoing.Body.{Body}
+use Rattle.dap_msg.specs.declared.outgoing.Refusal.{Refusal}
+use Rattle.dap_history.specs.History.{History}
+use Rattle.dap_history.specs.Replies.{nothing, refused}
+use Rattle.dap_history.specs.Emission.{RepliesIn}
+use Rattle.dap_phase.specs.declared.phase.Phase.{Phase}
+use Rattle.dap_phase.specs.Phases.{IsPhase, situation_of}
+use Rattle.dap_replies.specs.declared.effect.Reply.{Reply as Given}
+use Rattle.dap_replies.specs.Replied.{HasReplied}
+
+-- an answer to the command changes no reading, even with success
+abbrev pub LeadsNowhere : Command → Type 0
+LeadsNowhere (command.Initialize asked) = ⊥
+LeadsNowhere (command.Launch asked) = ⊥
+LeadsNowhere (command.Pause asked) = ⊥
+LeadsNowhere (command.BadArguments k) = ⊥
+LeadsNowhere _ = Unit {0}
+
+-- the reply with this result that nothing follows
+abbrev pub unmoved : Phase → Result Body Refusal → Given
+unmoved phase result = record { result = result; effect = record { events = []; order = None; phase = phase } }
+
+-- It refuses whatever command is to be refused so.
+abbrev pub Refuses : Refusal → Phase → Given → Type 0
+Refuses why phase given =
+    (command : Command) (past : History) → IsPhase phase past → RepliesIn (situation_of phase) past command (refused why) → HasReplied command past given
+
+-- It answers whatever command is to be answered so, and nothing comes of it.
+abbrev pub Answers : Result Body Refusal → Phase → Given → Type 0
+Answers result phase given =
+    (command : Command) → LeadsNowhere command → (past : History) → IsPhase phase past
+    → RepliesIn (situation_of phase) past command (record { result = result; effect = nothing }) → HasReplied command past given

@@ -1,0 +1,79 @@
+-- What handlers promise: the answer, the events and the order are those of the definitions, and the phase afterwards stands for
+-- the history with the item's step.
+use Rattle.std.specs.Prelude.{◌≡◌, ◌++◌, ◌∷◌, [], ℕ, List, Option, None, Some, Result, option_map}
+use Rattle.std.specs.Option.{option_to_list}
+use Rattle.dap_msg.specs.Commands.{name_of}
+use Rattle.dap_msg.specs.declared.request.Request.{Request}
+use Rattle.dap_msg.specs.declared.command.Command.{Command}
+use Rattle.dap_msg.specs.declared.command.CommandName.TheVariants as name
+use Rattle.dap_msg.specs.declared.command.Supported.TheVariants as supported
+use Rattle.dap_msg.specs.declared.outgoing.Outgoing.{Outgoing}
+use Rattle.dap_msg.specs.declared.outgoing.Outgoing.TheVariants.{Answer}
+use Rattle.dap_msg.specs.declared.outgoing.Body.{Body}
+use Rattle.dap_msg.specs.declared.outgoing.Refusal.{Refusal}
+use Rattle.dbg_runner.specs.Plain.{PlainReport}
+use Rattle.dbg_runner.specs.Orders.{plain_order}
+use Rattle.dbg_runner.specs.Reported.{Reported, plain_report}
+use Rattle.dap_history.specs.declared.launch.Launch.{Launch}
+use Rattle.dap_history.specs.History.{Item, Content, Loaded, Accepted, Step, History, Effect}
+use Rattle.dap_history.specs.Readings.{situation}
+use Rattle.dap_history.specs.Replies.{Reply}
+use Rattle.dap_history.specs.Launching.{Launches}
+use Rattle.dap_history.specs.Reports.{report_effect}
+use Rattle.dap_history.specs.Emission.{RepliesIn}
+use Rattle.dap_phase.specs.declared.phase.Phase.{Phase}
+use Rattle.dap_phase.specs.Phases.{IsPhase}
+use Rattle.dap_replies.specs.declared.effect.Effect.{Effect as Done}
+use Rattle.dap_replies.specs.declared.effect.Reply.{Reply as Given}
+
+-- ---- the step of an item
+
+abbrev pub step_of : Item → Option Outgoing → Effect → Step
+step_of item answer effect = record { item = item; answer = answer; effect = effect }
+
+-- the step of a request that is replied so
+abbrev pub request_step : Request → Reply → Step
+request_step request reply = step_of (Content (Some request)) (Some (Answer request.seq (name_of request.body) reply.result)) reply.effect
+
+-- the step of a launch with its file
+abbrev pub launch_step : Launch → Option (List ℕ) → Reply → Step
+launch_step launch file reply = step_of (Loaded launch file) (Some (Answer launch.seq (name.Supported supported.Launch) reply.result)) reply.effect
+
+-- the step of a report that is accepted
+abbrev pub report_step : PlainReport → Effect → Step
+report_step r effect = step_of (Accepted r) None effect
+
+-- ---- what was done
+
+-- the events and the order are those of the effect
+pub record Does (done : Done) (effect : Effect) : Type 0 where
+  pub events_are : done.events ≡ effect.events
+  pub orders_are : option_to_list (option_map plain_order done.order) ≡ effect.orders
+
+-- the reply is the one that is given
+pub record Gives (given : Given) (reply : Reply) : Type 0 where
+  pub result_is : given.result ≡ reply.result
+  pub effect_is : Does given.effect reply.effect
+
+-- the command is replied to so, whatever its request's seq is
+pub record HasReplied (command : Command) (past : History) (given : Given) : Type 0 where
+  pub reply : Reply
+  pub replies : RepliesIn (situation past) past command reply
+  pub gives : Gives given reply
+  pub phase_is : (seq : ℕ) → IsPhase given.effect.phase (past ++ request_step (record { seq = seq; body = command }) reply ∷ [])
+
+-- a handler's contract: so it is for each history that the phase stood for
+abbrev pub Replies : Command → Phase → Given → Type 0
+Replies command phase given = (past : History) → IsPhase phase past → HasReplied command past given
+
+-- the launch is replied to so
+pub record HasLaunched (launch : Launch) (file : Option (List ℕ)) (past : History) (given : Given) : Type 0 where
+  pub reply : Reply
+  pub launches : Launches launch.arguments file reply
+  pub gives : Gives given reply
+  pub phase_is : IsPhase given.effect.phase (past ++ launch_step launch file reply ∷ [])
+
+-- the report is followed by this
+pub record HasReported (r : PlainReport) (past : History) (done : Done) : Type 0 where
+  pub does : Does done (report_effect past r r.outcome)
+  pub phase_is : IsPhase done.phase (past ++ report_step r (report_effect past r r.outcome) ∷ [])

@@ -1,0 +1,26 @@
+// `disconnect`.
+
+ghost use Rattle.dap_msg.specs.declared.command.Command.TheVariants as command;
+ghost use Rattle.dap_replies.specs.Replied.{Replies};
+
+use crate::effect::{Effect, Reply};
+use dap_history::reading_laws;
+use dap_msg::{Body, Items};
+use dap_phase::Phase;
+use dbg_runner::Order;
+use std::alloc::Global;
+
+/// Ends the session: the runner is to quit.
+pub(crate) fn disconnect(alloc: Global, phase: Phase) -> Reply
+    ensures { Replies command.Disconnect phase result }
+{
+    reading_laws();
+    Reply {
+        result: Ok(Body::None),
+        effect: Effect {
+            events: Items::new(Vec::new(alloc)),
+            order: Some(Order::Quit),
+            phase,
+        },
+    }
+}

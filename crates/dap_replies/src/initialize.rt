@@ -1,0 +1,37 @@
+// `initialize`.
+
+ghost use Rattle.dap_msg.specs.declared.command.Command.TheVariants as command;
+ghost use Rattle.dap_phase.specs.declared.phase.Phase.TheVariants as phase_is;
+ghost use Rattle.dap_replies.specs.Replied.{Replies};
+
+use crate::effect::{Effect, Reply};
+use crate::refusing::refuse;
+use dap_history::reading_laws;
+use dap_msg::{Body, InitializeArguments, Items, Refusal};
+use dap_phase::Phase;
+use std::alloc::Global;
+
+/// Begins the session, once.
+pub(crate) fn initialize(alloc: Global, phase: Phase, asked: InitializeArguments) -> Reply
+    ensures { Replies (command.Initialize asked) phase result }
+{
+    match phase {
+        Phase::Fresh => begin(alloc, asked),
+        later => refuse(alloc, later, Refusal::WrongPhase),
+    }
+}
+
+// The session begins.
+fn begin(alloc: Global, asked: InitializeArguments) -> Reply
+    ensures { Replies (command.Initialize asked) phase_is.Fresh result }
+{
+    reading_laws();
+    Reply {
+        result: Ok(Body::Capabilities),
+        effect: Effect {
+            events: Items::new(Vec::new(alloc)),
+            order: None,
+            phase: Phase::Ready(asked),
+        },
+    }
+}

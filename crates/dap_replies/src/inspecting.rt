@@ -1,0 +1,77 @@
+// Questions about the program where it stands: `stackTrace`, `scopes`, `variables`, `evaluate`.
+
+ghost use Rattle.std.specs.Prelude.{IfOk};
+ghost use Rattle.pl0_machine.specs.Machine.{frames};
+ghost use Rattle.dbg_plan.specs.Debugged.{machine_of, IsConsidered};
+ghost use Rattle.dap_history.specs.History.{History};
+ghost use Rattle.dap_history.specs.Inspection.{RepliesFrom};
+ghost use Rattle.dap_history.specs.Emission.{RepliesIn};
+ghost use Rattle.dap_inspection.specs.Questions.{question_of, replied};
+ghost use Rattle.dap_phase.specs.Phases.{IsPhase, situation_of};
+ghost use Rattle.dap_replies.specs.Questions.{IsQuestion};
+ghost use Rattle.dap_replies.specs.Replied.{Replies};
+
+use crate::effect::Reply;
+use crate::refusing::conclude;
+use dap_inspection::{evaluate, scopes, stack_trace, variables};
+use dap_msg::{Body, Command, Refusal};
+use dap_phase::{Phase, Target};
+use dbg_plan::Debuggee;
+use std::alloc::{AllocError, Global};
+
+/// Replies to a question.
+///
+/// # Errors
+///
+/// An allocation failed; the phase is gone then.
+pub(crate) fn inspect(alloc: Global, phase: Phase, command: &Command) -> Result<Reply, AllocError>
+    requires { IsQuestion command.now }
+    ensures { IfOk result (Replies command.now phase) }
+{
+    let result = result_in(alloc, &phase, command)?;
+    Ok(conclude(alloc, phase, result))
+}
+
+// The result of a question, by the phase.
+fn result_in(
+    alloc: Global,
+    phase: &Phase,
+    command: &Command,
+) -> Result<Result<Body, Refusal>, AllocError>
+    requires { IsQuestion command.now }
+    ensures { IfOk result (λ r. (past : History) → IsPhase phase.now past → RepliesIn (situation_of phase.now) past command.now (replied r)) }
+{
+    match phase {
+        Phase::Fresh
+        | Phase::Ready(_)
+        | Phase::Launching(_, _)
+        | Phase::Configuring(_, _)
+        | Phase::Ended(_, _) => Ok(Err(Refusal::WrongPhase)),
+        Phase::Running(_, _) => Ok(Err(Refusal::NotStopped)),
+        Phase::Stopped(target, debuggee) | Phase::Faulted(target, debuggee) => {
+            ask(alloc, target, debuggee.debuggee(), command)
+        }
+    }
+}
+
+// The result of a question about a debuggee that stands.
+fn ask(
+    alloc: Global,
+    target: &Target,
+    debuggee: &Debuggee,
+    command: &Command,
+) -> Result<Result<Body, Refusal>, AllocError>
+    requires considered { IsConsidered debuggee.now }
+    requires question { IsQuestion command.now }
+    ensures { IfOk result (λ r. RepliesFrom (question_of debuggee.now target.now.path target.now.settings) (frames (machine_of debuggee.now)) command.now (replied r)) }
+{
+    match command {
+        Command::StackTrace(asked) => {
+            stack_trace(alloc, debuggee, &target.path, target.settings, *asked)
+        }
+        Command::Scopes(asked) => scopes(alloc, debuggee, *asked),
+        Command::Variables(asked) => variables(alloc, debuggee, *asked),
+        Command::Evaluate(asked) => evaluate(alloc, debuggee, asked),
+        _ => unreachable!(),
+    }
+}

@@ -1,0 +1,27 @@
+//! What a session does at a request, at the file of a launch and at a report, by its phase.
+//!
+//! The one contract is that of [`reply`]: the answer, the events after it and the order are those that the definitions of
+//! `dap_history` give for any history that the phase stands for, and the phase afterwards stands for the history with that step
+//! (`specs/Replied`). [`launch`] says the same of the file of a launch, and [`report`] of a report that is accepted. Each
+//! command has a file of its own.
+#![tactic(auto)]
+
+mod breakpoints;
+mod disconnect;
+mod effect;
+mod initialize;
+mod inspecting;
+mod launching;
+mod laws;
+mod pausing;
+mod refusing;
+mod replying;
+mod reporting;
+mod running;
+mod threads;
+
+pub use effect::{Effect, Reply};
+pub use launching::launch;
+pub use laws::phase_laws;
+pub use replying::reply;
+pub use reporting::report;

@@ -1,0 +1,86 @@
+// What interrupts a run: `pause`.
+
+ghost use Rattle.std.specs.Prelude.{◌≡◌, [], Ok, None};
+ghost use Rattle.dap_msg.specs.declared.command.Command.TheVariants as command_is;
+ghost use Rattle.dap_msg.specs.declared.outgoing.Body.TheVariants as body_is;
+ghost use Rattle.dap_phase.specs.declared.phase.Phase.TheVariants as phase_is;
+ghost use Rattle.dap_replies.specs.Going.{Stands, WaitsToPause};
+ghost use Rattle.dap_replies.specs.Replied.{Replies};
+
+use crate::effect::{Effect, Reply};
+use crate::running::refuse;
+use dap_history::reading_laws;
+use dap_msg::{Body, Items, Refusal, ThreadArguments};
+use dap_phase::{Phase, Run, Target};
+use std::alloc::Global;
+
+// An answer alone: the program stands already.
+fn stay(alloc: Global, phase: Phase) -> Reply
+    ensures { result ≡ record { result = Ok body_is.None; effect = record { events = []; order = None; phase = phase } } }
+{
+    Reply {
+        result: Ok(Body::None),
+        effect: Effect {
+            events: Items::new(Vec::new(alloc)),
+            order: None,
+            phase,
+        },
+    }
+}
+
+// A pause waits until the runner gives the debuggee back, which it is asked to once.
+fn wait(alloc: Global, target: Target, mut run: Run) -> Reply
+    ensures { WaitsToPause target run result }
+{
+    run.wait_to_pause();
+    let order = run.hold(target.runs);
+    Reply {
+        result: Ok(Body::None),
+        effect: Effect {
+            events: Items::new(Vec::new(alloc)),
+            order,
+            phase: Phase::Running(target, run),
+        },
+    }
+}
+
+// Interrupts the run.
+fn interrupt(alloc: Global, target: Target, run: Run, asked: ThreadArguments) -> Reply
+    ensures { Replies (command_is.Pause asked) (phase_is.Running target run) result }
+{
+    reading_laws();
+    if asked.thread_id != 1 {
+        let phase = Phase::Running(target, run);
+        return refuse(alloc, phase, Refusal::UnknownThread);
+    }
+    wait(alloc, target, run)
+}
+
+// Replies where the program stands.
+fn remain(alloc: Global, phase: Phase, asked: ThreadArguments) -> Reply
+    requires { Stands phase }
+    ensures { Replies (command_is.Pause asked) phase result }
+{
+    reading_laws();
+    if asked.thread_id != 1 {
+        return refuse(alloc, phase, Refusal::UnknownThread);
+    }
+    stay(alloc, phase)
+}
+
+/// Replies to `pause`.
+pub(crate) fn pause(alloc: Global, phase: Phase, asked: ThreadArguments) -> Reply
+    ensures { Replies (command_is.Pause asked) phase result }
+{
+    reading_laws();
+    match phase {
+        Phase::Running(target, run) => interrupt(alloc, target, run, asked),
+        Phase::Stopped(target, debuggee) => {
+            remain(alloc, Phase::Stopped(target, debuggee), asked)
+        }
+        Phase::Faulted(target, debuggee) => {
+            remain(alloc, Phase::Faulted(target, debuggee), asked)
+        }
+        phase => refuse(alloc, phase, Refusal::WrongPhase),
+    }
+}

@@ -1,0 +1,48 @@
+// Answers after which the phase stays as it is.
+
+ghost use Rattle.std.specs.Prelude.{◌≡◌, Ok, Err};
+ghost use Rattle.dap_replies.specs.Answering.{unmoved, Refuses, Answers};
+
+use crate::effect::{Effect, Reply};
+use dap_history::reading_laws;
+use dap_msg::{Body, Items, Refusal};
+use dap_phase::Phase;
+use std::alloc::Global;
+
+/// Refuses a command.
+pub(crate) fn refuse(alloc: Global, phase: Phase, why: Refusal) -> Reply
+    ensures is { result ≡ unmoved phase (Err why) }
+    ensures refuses { Refuses why phase result }
+{
+    reading_laws();
+    unmoved(alloc, phase, Err(why))
+}
+
+/// Answers a command with success.
+pub(crate) fn answer(alloc: Global, phase: Phase, body: Body) -> Reply
+    ensures { Answers (Ok body) phase result }
+{
+    conclude(alloc, phase, Ok(body))
+}
+
+/// Answers a command with a result.
+pub(crate) fn conclude(alloc: Global, phase: Phase, given: Result<Body, Refusal>) -> Reply
+    ensures { Answers given phase result }
+{
+    reading_laws();
+    unmoved(alloc, phase, given)
+}
+
+// A reply that nothing follows.
+fn unmoved(alloc: Global, phase: Phase, given: Result<Body, Refusal>) -> Reply
+    ensures { result ≡ unmoved phase given }
+{
+    Reply {
+        result: given,
+        effect: Effect {
+            events: Items::new(Vec::new(alloc)),
+            order: None,
+            phase,
+        },
+    }
+}

@@ -1,0 +1,50 @@
+// Replies to requests.
+
+ghost use Rattle.std.specs.Prelude.{IfOk};
+ghost use Rattle.dap_msg.specs.Laws.{IsWithin};
+ghost use Rattle.dap_phase.specs.Phases.{WantsNoFile};
+ghost use Rattle.dap_replies.specs.Replied.{Replies};
+
+use crate::breakpoints::set_breakpoints;
+use crate::disconnect::disconnect;
+use crate::effect::Reply;
+use crate::initialize::initialize;
+use crate::inspecting::inspect;
+use crate::pausing::pause;
+use crate::refusing::refuse;
+use crate::running::{Pace, configuration_done, resume};
+use crate::threads::threads;
+use dap_msg::{Command, Refusal};
+use dap_phase::Phase;
+use std::alloc::{AllocError, Global};
+
+/// Replies to a command that wants no file.
+///
+/// # Errors
+///
+/// An allocation failed; the phase is gone then.
+pub fn reply(alloc: Global, phase: Phase, command: &Command) -> Result<Reply, AllocError>
+    requires fits { IsWithin command.now }
+    requires no_file { WantsNoFile phase command.now }
+    ensures { IfOk result (Replies command.now phase) }
+{
+    match command {
+        Command::Initialize(asked) => Ok(initialize(alloc, phase, *asked)),
+        Command::Launch(_) => Ok(refuse(alloc, phase, Refusal::WrongPhase)),
+        Command::SetBreakpoints(asked) => set_breakpoints(alloc, phase, asked),
+        Command::ConfigurationDone => configuration_done(alloc, phase),
+        Command::Threads => Ok(threads(alloc, phase)),
+        Command::Continue(asked) => resume(alloc, phase, Pace::ToStop, *asked),
+        Command::Next(asked) => resume(alloc, phase, Pace::ToNext, *asked),
+        Command::StepIn(asked) => resume(alloc, phase, Pace::ToStep, *asked),
+        Command::StepOut(asked) => resume(alloc, phase, Pace::ToReturn, *asked),
+        Command::Pause(asked) => Ok(pause(alloc, phase, *asked)),
+        Command::StackTrace(_)
+        | Command::Scopes(_)
+        | Command::Variables(_)
+        | Command::Evaluate(_) => inspect(alloc, phase, command),
+        Command::Disconnect => Ok(disconnect(alloc, phase)),
+        Command::Unsupported(_) => Ok(refuse(alloc, phase, Refusal::Unsupported)),
+        Command::BadArguments(_) => Ok(refuse(alloc, phase, Refusal::BadArguments)),
+    }
+}

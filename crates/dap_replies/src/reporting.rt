@@ -1,0 +1,201 @@
+// Reports of the runner.
+
+ghost use Rattle.std.specs.Prelude.{◌≡◌, ◌++◌, Some, map, IfOk};
+ghost use Rattle.dbg_runner.specs.Plain.{heading_of};
+ghost use Rattle.dbg_runner.specs.Reported.{carried, plain_report, stopped, text_of};
+ghost use Rattle.dap_history.specs.History.{History};
+ghost use Rattle.dap_history.specs.Replies.{ends, exception_of, reporting, stop_of, stops};
+ghost use Rattle.dap_history.specs.Readings.{waiting_pause};
+ghost use Rattle.dap_history.specs.Reports.{goes_on, held, outputs, stands};
+ghost use Rattle.dap_msg.specs.declared.outgoing.EventBody.TheVariants as event;
+ghost use Rattle.dap_phase.specs.Runs.{heading_in, with_waiting};
+ghost use Rattle.dap_phase.specs.Phases.{IsPhase};
+ghost use Rattle.dap_phase.specs.declared.phase.Phase.TheVariants as phase_is;
+ghost use Rattle.dap_replies.specs.Replied.{HasReported};
+ghost use Rattle.dap_replies.specs.Reporting.{GoesOnWith, Leads, standing};
+
+use crate::effect::Effect;
+use dap_history::reading_laws;
+use dap_msg::{EventBody, Exception, Items, StopReason};
+use dap_phase::{Phase, Run, Target};
+use dbg_plan::Reason;
+use dbg_runner::{Considered, Report, SliceOutcome};
+use pl0_meaning::RunFault;
+use std::alloc::{AllocError, Global};
+
+/// What follows a report that goes on with the run.
+///
+/// # Errors
+///
+/// An allocation failed, here or in the runner.
+pub fn report(alloc: Global, target: Target, run: Run, report: Report) -> Result<Effect, AllocError>
+    requires { heading_of (plain_report report) ≡ heading_in target.runs run }
+    ensures { IfOk result (λ done. (past : History) → IsPhase (phase_is.Running target run) past →
+        HasReported (plain_report report) past done) }
+{
+    match report.outcome() {
+        SliceOutcome::More => go_on(alloc, target, run, &report),
+        SliceOutcome::Due(reason) => stand(alloc, target, run, report, stop_reason(reason)),
+        SliceOutcome::Held => come_back(alloc, target, run, report),
+        SliceOutcome::Done => end(alloc, target, run, &report),
+        SliceOutcome::Fault(fault) => {
+            let reason = StopReason::Exception(exception(fault));
+            stand(alloc, target, run, report, reason)
+        }
+        SliceOutcome::NoMemory => Err(AllocError),
+    }
+}
+
+// The run goes on.
+fn go_on(alloc: Global, target: Target, mut run: Run, report: &Report) -> Result<Effect, AllocError>
+    ensures { IfOk result (Leads target run report.now (λ past. reporting (outputs (plain_report report.now)))) }
+{
+    reading_laws();
+    let events = events(alloc, report.numbers(), &[])?;
+    run.go_on_from(report.end());
+    Ok(Effect {
+        events,
+        order: None,
+        phase: Phase::Running(target, run),
+    })
+}
+
+// The program stands where the report ends, for this reason.
+fn stand(
+    alloc: Global,
+    target: Target,
+    run: Run,
+    report: Report,
+    reason: StopReason,
+) -> Result<Effect, AllocError>
+    requires goes_on { GoesOnWith report target run }
+    requires carries { carried report report.outcome ≡ Some (stopped report) }
+    ensures { IfOk result (Leads target run report (λ past. stands past (plain_report report) (stops reason))) }
+{
+    reading_laws();
+    let events = events(alloc, report.numbers(), &[EventBody::Stopped(reason)])?;
+    let debuggee = take_back(run, report);
+    Ok(Effect {
+        events,
+        order: None,
+        phase: standing(target, debuggee, reason),
+    })
+}
+
+// The phase in which the program stands for this reason.
+fn standing(target: Target, debuggee: Considered, reason: StopReason) -> Phase
+    ensures { result ≡ standing target debuggee reason }
+{
+    match reason {
+        StopReason::Exception(_) => Phase::Faulted(target, debuggee),
+        StopReason::Breakpoint | StopReason::Step | StopReason::Entry | StopReason::Pause => {
+            Phase::Stopped(target, debuggee)
+        }
+    }
+}
+
+// The runner was asked for the debuggee: the program stands if a pause waits, and goes on otherwise.
+fn come_back(alloc: Global, target: Target, run: Run, report: Report) -> Result<Effect, AllocError>
+    requires goes_on { GoesOnWith report target run }
+    requires carries { carried report report.outcome ≡ Some (stopped report) }
+    ensures { IfOk result (Leads target run report (λ past. held past (plain_report report) (waiting_pause past))) }
+{
+    if run.waits_to_pause() {
+        stand(alloc, target, run, report, StopReason::Pause)
+    } else {
+        begin_again(alloc, target, run, report)
+    }
+}
+
+// The program goes on where it was held, as another run.
+fn begin_again(
+    alloc: Global,
+    target: Target,
+    run: Run,
+    report: Report,
+) -> Result<Effect, AllocError>
+    requires goes_on { GoesOnWith report target run }
+    requires carries { carried report report.outcome ≡ Some (stopped report) }
+    ensures { IfOk result (Leads target run report (λ past. goes_on past (plain_report report))) }
+{
+    reading_laws();
+    let number = target.runs.checked_add(1).ok_or(AllocError)?;
+    let events = events(alloc, report.numbers(), &[])?;
+    let mode = run.mode();
+    let debuggee = take_back(run, report);
+    let (run, order) = Run::begin(number, debuggee, mode)?;
+    let target = Target {
+        runs: number,
+        ..target
+    };
+    Ok(Effect {
+        events,
+        order: Some(order),
+        phase: Phase::Running(target, run),
+    })
+}
+
+// The program is over.
+fn end(alloc: Global, target: Target, run: Run, report: &Report) -> Result<Effect, AllocError>
+    ensures { IfOk result (Leads target run report.now (λ past. reporting (outputs (plain_report report.now) ++ ends 0))) }
+{
+    reading_laws();
+    let last = [EventBody::Exited(0), EventBody::Terminated];
+    let events = events(alloc, report.numbers(), &last)?;
+    Ok(Effect {
+        events,
+        order: None,
+        phase: Phase::Ended(target, run.into_unit()),
+    })
+}
+
+// The numbers as events, and then these events.
+fn events(
+    alloc: Global,
+    numbers: &[i64],
+    last: &[EventBody],
+) -> Result<Items<EventBody>, AllocError>
+    ensures { IfOk result (λ events. events ≡ map event.Output numbers.now ++ last.now) }
+{
+    let mut events = Vec::with_capacity(alloc, numbers.len() + last.len())?;
+    for number in numbers {
+        events.push(EventBody::Output(*number))?;
+    }
+    events.extend_from_slice(last)?;
+    Ok(Items::new(events))
+}
+
+// The reason of a stop, for the client.
+fn stop_reason(reason: Reason) -> StopReason
+    ensures { result ≡ stop_of reason }
+{
+    match reason {
+        Reason::Breakpoint => StopReason::Breakpoint,
+        Reason::Entry => StopReason::Entry,
+        Reason::Step => StopReason::Step,
+    }
+}
+
+// The fault of a step, for the client.
+fn exception(fault: RunFault) -> Exception
+    ensures { result ≡ exception_of fault }
+{
+    match fault {
+        RunFault::Overflow => Exception::Overflow,
+        RunFault::DivideByZero => Exception::DivideByZero,
+        RunFault::Depth => Exception::Depth,
+        RunFault::StepLimit => Exception::StepLimit,
+    }
+}
+
+// The debuggee that the report carries, with the plan that waited put in.
+fn take_back(run: Run, report: Report) -> Considered
+    requires carries { carried report report.outcome ≡ Some (stopped report) }
+    requires text { text_of report.unit ≡ text_of run.unit }
+    ensures { result ≡ with_waiting run.waiting_plan (stopped report) }
+{
+    match report.into_debuggee() {
+        Some(debuggee) => run.take_back(debuggee),
+        None => unreachable!(),
+    }
+}

@@ -1,0 +1,249 @@
+// What starts a run and resumes one: `configurationDone`, `continue`, `next`, `stepIn` and `stepOut`.
+
+ghost use Rattle.std.specs.Prelude.{◌≡◌, [], if◌then◌else◌, IfOk, Err, None};
+ghost use Rattle.dap_msg.specs.declared.command.Command.TheVariants as command_is;
+ghost use Rattle.dbg_plan.specs.declared.mode.Mode.TheVariants as mode_is;
+ghost use Rattle.dap_history.specs.Replies.{stop_of};
+ghost use Rattle.dap_phase.specs.declared.phase.Phase.TheVariants as phase_is;
+ghost use Rattle.dap_replies.specs.Going.{HasGone, HasStopped, HasEnded};
+ghost use Rattle.dap_replies.specs.Paces.{resumption};
+ghost use Rattle.dap_replies.specs.Replied.{Replies};
+
+use crate::effect::{Effect, Reply};
+use dap_history::reading_laws;
+use dap_msg::{Body, EventBody, Items, Refusal, StopReason, ThreadArguments};
+use dap_phase::{Phase, Run, Target, Unstarted};
+use dbg_plan::{Mode, Reason};
+use dbg_runner::Considered;
+use std::alloc::{AllocError, Global};
+use std::sync::Arc;
+
+/// How the program is to go on.
+#[derive(Clone, Copy)]
+pub(crate) enum Pace {
+    /// To a breakpoint: `continue`.
+    ToStop,
+    /// To the next step that is no deeper: `next`.
+    ToNext,
+    /// To the next step: `stepIn`.
+    ToStep,
+    /// Until the procedure has returned: `stepOut`.
+    ToReturn,
+}
+
+impl Pace {
+    ghost use Rattle.std.specs.Prelude.{◌≡◌};
+    ghost use Rattle.dap_history.specs.Running.{body_of, mode_of};
+    ghost use Rattle.dap_replies.specs.Paces.{pace_of};
+
+    // The mode of a run that begins where this many frames are alive.
+    fn mode(self, depth: usize) -> Mode
+        ensures { result ≡ mode_of (pace_of self) depth }
+    {
+        match self {
+            Pace::ToStop => Mode::Continue,
+            Pace::ToNext => Mode::Over(depth),
+            Pace::ToStep => Mode::In,
+            Pace::ToReturn => Mode::Out(depth),
+        }
+    }
+
+    // The body of the answer.
+    fn body(self) -> Body
+        ensures { result ≡ body_of (pace_of self) }
+    {
+        match self {
+            Pace::ToStop => Body::Continued,
+            Pace::ToNext => Body::None,
+            Pace::ToStep => Body::None,
+            Pace::ToReturn => Body::None,
+        }
+    }
+}
+
+// A refusal, after which all is as before.
+pub(crate) fn refuse(alloc: Global, phase: Phase, why: Refusal) -> Reply
+    ensures { result ≡ record { result = Err why; effect = record { events = []; order = None; phase = phase } } }
+{
+    Reply {
+        result: Err(why),
+        effect: Effect {
+            events: Items::new(Vec::new(alloc)),
+            order: None,
+            phase,
+        },
+    }
+}
+
+// An answer, and the next run of the debuggee.
+fn go(
+    alloc: Global,
+    target: Target,
+    debuggee: Considered,
+    mode: Mode,
+    body: Body,
+) -> Result<Reply, AllocError>
+    ensures { IfOk result (HasGone target debuggee mode body) }
+{
+    let number = target.runs.checked_add(1).ok_or(AllocError)?;
+    let (run, order) = Run::begin(number, debuggee, mode)?;
+    let target = Target {
+        runs: number,
+        ..target
+    };
+    Ok(Reply {
+        result: Ok(body),
+        effect: Effect {
+            events: Items::new(Vec::new(alloc)),
+            order: Some(order),
+            phase: Phase::Running(target, run),
+        },
+    })
+}
+
+// Why the program stops at a position that is due.
+fn stop_reason(reason: Reason) -> StopReason
+    ensures { result ≡ stop_of reason }
+{
+    match reason {
+        Reason::Breakpoint => StopReason::Breakpoint,
+        Reason::Entry => StopReason::Entry,
+        Reason::Step => StopReason::Step,
+    }
+}
+
+// An answer, and the stop where the program stands.
+fn stop(
+    alloc: Global,
+    target: Target,
+    debuggee: Considered,
+    reason: Reason,
+) -> Result<Reply, AllocError>
+    ensures { IfOk result (HasStopped target debuggee reason) }
+{
+    let events = vec![in alloc; EventBody::Stopped(stop_reason(reason))]?;
+    Ok(Reply {
+        result: Ok(Body::None),
+        effect: Effect {
+            events: Items::new(events),
+            order: None,
+            phase: Phase::Stopped(target, debuggee),
+        },
+    })
+}
+
+// The mode in which position 0 is considered.
+fn first_mode(target: &Target) -> Mode
+    ensures { result ≡ (if target.now.stop_on_entry then mode_is.Entry else mode_is.Continue) }
+{
+    if target.stop_on_entry {
+        Mode::Entry
+    } else {
+        Mode::Continue
+    }
+}
+
+// Considers position 0: the program stops there, or its first run begins.
+fn enter(alloc: Global, target: Target, unstarted: Unstarted) -> Result<Reply, AllocError>
+    ensures { IfOk result (Replies command_is.ConfigurationDone (phase_is.Configuring target unstarted)) }
+{
+    reading_laws();
+    let (reason, debuggee) = unstarted.consider(first_mode(&target));
+    match reason {
+        Some(reason) => stop(alloc, target, debuggee, reason),
+        None => go(alloc, target, debuggee, Mode::Continue, Body::None),
+    }
+}
+
+/// Replies to `configurationDone`.
+///
+/// # Errors
+///
+/// An allocation failed, or no run number is left.
+pub(crate) fn configuration_done(alloc: Global, phase: Phase) -> Result<Reply, AllocError>
+    ensures { IfOk result (Replies command_is.ConfigurationDone phase) }
+{
+    reading_laws();
+    match phase {
+        Phase::Configuring(target, unstarted) => enter(alloc, target, unstarted),
+        phase => Ok(refuse(alloc, phase, Refusal::WrongPhase)),
+    }
+}
+
+// An answer, and the end of the program, which faulted.
+fn end(alloc: Global, target: Target, debuggee: Considered, body: Body) -> Result<Reply, AllocError>
+    ensures { IfOk result (HasEnded target debuggee.unit body) }
+{
+    let unit = Arc::try_clone(debuggee.debuggee().machine().unit())?;
+    let events = vec![in alloc; EventBody::Exited(1), EventBody::Terminated]?;
+    Ok(Reply {
+        result: Ok(body),
+        effect: Effect {
+            events: Items::new(events),
+            order: None,
+            phase: Phase::Ended(target, unit),
+        },
+    })
+}
+
+// Goes on from a stop.
+fn go_on(
+    alloc: Global,
+    target: Target,
+    debuggee: Considered,
+    pace: Pace,
+    asked: ThreadArguments,
+) -> Result<Reply, AllocError>
+    ensures { IfOk result (Replies (resumption pace asked) (phase_is.Stopped target debuggee)) }
+{
+    reading_laws();
+    if asked.thread_id != 1 {
+        let phase = Phase::Stopped(target, debuggee);
+        return Ok(refuse(alloc, phase, Refusal::UnknownThread));
+    }
+    let mode = pace.mode(debuggee.debuggee().machine().depth());
+    go(alloc, target, debuggee, mode, pace.body())
+}
+
+// Ends the program from a fault, whatever was asked for.
+fn end_faulted(
+    alloc: Global,
+    target: Target,
+    debuggee: Considered,
+    pace: Pace,
+    asked: ThreadArguments,
+) -> Result<Reply, AllocError>
+    ensures { IfOk result (Replies (resumption pace asked) (phase_is.Faulted target debuggee)) }
+{
+    reading_laws();
+    if asked.thread_id != 1 {
+        let phase = Phase::Faulted(target, debuggee);
+        return Ok(refuse(alloc, phase, Refusal::UnknownThread));
+    }
+    end(alloc, target, debuggee, pace.body())
+}
+
+/// Replies to `continue`, `next`, `stepIn` and `stepOut`.
+///
+/// # Errors
+///
+/// An allocation failed, or no run number is left.
+pub(crate) fn resume(
+    alloc: Global,
+    phase: Phase,
+    pace: Pace,
+    asked: ThreadArguments,
+) -> Result<Reply, AllocError>
+    ensures { IfOk result (Replies (resumption pace asked) phase) }
+{
+    reading_laws();
+    match phase {
+        Phase::Running(target, run) => {
+            let phase = Phase::Running(target, run);
+            Ok(refuse(alloc, phase, Refusal::NotStopped))
+        }
+        Phase::Stopped(target, debuggee) => go_on(alloc, target, debuggee, pace, asked),
+        Phase::Faulted(target, debuggee) => end_faulted(alloc, target, debuggee, pace, asked),
+        phase => Ok(refuse(alloc, phase, Refusal::WrongPhase)),
+    }
+}
