@@ -1,5 +1,6 @@
 pub mod Known
 pub mod Transferring
-pub mod Turns
+pub mod Exchanged
+pub mod Carried
 pub mod ListingLines
 mod ArgumentKinds

@@ -6,8 +6,9 @@ use Rattle.pl0_tree.specs.declared.step.Step.{Step}
 use Rattle.pl0_tree.specs.Faults.{IsTreeOf, IsFirstFault}
 use Rattle.pl0_unit.specs.declared.instruction.Instruction.{Instruction}
 use Rattle.pl0_unit.specs.Code.{IsUnitOf}
-use Rattle.dap_session.specs.declared.ports.LoadFault.TheVariants as load
-use Rattle.dap_session.specs.Ports.{Load, load_of}
+use Rattle.dap_history.specs.declared.fault.LoadFault.TheVariants as load
+use Rattle.dap_history.specs.Interleaving.{Load}
+use Rattle.dap_session.specs.Ports.{load_of}
 use Rattle.adapter.specs.Listing.{listing_text}
 use Rattle.adapter.specs.Transfer.{Output, WritesAll, FailsIn}
 use Rattle.adapter.specs.declared.checking.CheckFault.{CheckFault}

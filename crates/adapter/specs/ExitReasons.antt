@@ -2,8 +2,8 @@
 use Rattle.std.specs.Prelude.{ℕ, List, [], ◌++◌, codes, decimal, Result, Ok, Err}
 use Rattle.dap_frame.specs.declared.fault.FramingFault.{FramingFault}
 use Rattle.dap_frame.specs.declared.fault.FramingFault.TheVariants as frame
-use Rattle.dap_session.specs.declared.fault.SessionFault.{SessionFault}
-use Rattle.dap_session.specs.declared.fault.SessionFault.TheVariants as session
+use Rattle.dap_history.specs.declared.fault.SessionFault.{SessionFault}
+use Rattle.dap_history.specs.declared.fault.SessionFault.TheVariants as session
 use Rattle.adapter.specs.declared.serving.Served.{Served}
 use Rattle.adapter.specs.declared.serving.ServeFault.{ServeFault}
 use Rattle.adapter.specs.declared.serving.ServeFault.TheVariants as serve
@@ -28,7 +28,7 @@ reason_of_framing frame.NoMemory = Refused 2
 
 -- the session's other faults by their numbers
 abbrev pub reason_of_session : SessionFault → ExitReason
-reason_of_session (session.Framing fault) = reason_of_framing fault
+reason_of_session (session.Frame fault) = reason_of_framing fault
 reason_of_session session.NoMemory = Refused 2
 reason_of_session session.SeqExhausted = Refused 3
 reason_of_session session.OrdersFull = Refused 4

@@ -2,7 +2,7 @@
 use Rattle.std.specs.Prelude.{◌≡◌, ◌⊎◌, ℕ, List, [], ◌∷◌, ◌++◌, Some, None, Result, Ok, Err}
 use Rattle.clap.specs.Words.{Text}
 use Rattle.clap.specs.declared.error.kind.ErrorKind.TheVariants.{DisplayHelp}
-use Rattle.dap_session.specs.Ports.{Load}
+use Rattle.dap_history.specs.Interleaving.{Load}
 use Rattle.adapter.specs.declared.arguments.ArgumentsFault.TheVariants as fault
 use Rattle.adapter.specs.declared.arguments.TheConstants.{HELP, USAGE}
 use Rattle.adapter.specs.declared.checking.CheckFault.{CheckFault}
@@ -14,26 +14,18 @@ use Rattle.adapter.specs.Arguments.{Reads, IsParsed, refusals}
 use Rattle.adapter.specs.Checking.{IsChecked}
 use Rattle.adapter.specs.ExitReasons.{reason_of_serve, reason_of_check, last_line}
 use Rattle.adapter.specs.Listing.{line_feed}
-use Rattle.adapter.specs.Serving.{Streams, IsServed, IsFailed}
-use Rattle.adapter.specs.Transfer.{Output, output, WritesAll, FailsIn, Says}
-
--- how serving went, well or not
-abbrev pub HasServed : Result Served ServeFault → Streams → Streams → Type 0
-HasServed (Ok how) old later = IsServed how old later
-HasServed (Err why) old later = IsFailed why old later
+use Rattle.adapter.specs.Serving.{Streams, output_of, IsServed}
+use Rattle.adapter.specs.Transfer.{Output, WritesAll, FailsIn, Says}
 
 -- A client was served, and the reason says how that went.
-pub record EndsServing (reason : ExitReason) (old later : Streams) : Type 0 where
+pub record EndsServing (reason : ExitReason) (loads later_loads : List Load) (old later : Streams) : Type 0 where
   pub outcome : Result Served ServeFault
-  pub served : HasServed outcome old later
+  pub served : IsServed outcome loads later_loads old later
   pub reason_is : reason ≡ reason_of_serve outcome
 
 -- nothing was read
 abbrev pub KeepsInput : Streams → Streams → Type 0
 KeepsInput old later = (later.left ≡ old.left) × (later.read_failures ≡ old.read_failures)
-
-abbrev pub output_of : Streams → Output
-output_of streams = output streams.written streams.write_failures
 
 -- The file at the path was judged, and the reason says how that went.
 pub record EndsChecking (path : Text) (reason : ExitReason) (loads later_loads : List Load) (old later : Streams) : Type 0 where
@@ -55,7 +47,7 @@ EndsIdle arguments reason =
 -- The arguments ask for one of these, and it was done.
 abbrev pub Performs : List Text → ExitReason → List Load → List Load → Streams → Streams → Type 0
 Performs arguments reason loads later_loads old later =
-    (Reads arguments None × EndsServing reason old later × (later_loads ≡ loads))
+    (Reads arguments None × EndsServing reason loads later_loads old later)
     ⊎ (((path : Text) × Reads arguments (Some path) × EndsChecking path reason loads later_loads old later)
     ⊎ (((refusals arguments ≡ DisplayHelp ∷ []) × EndsHelping reason (output_of old) (output_of later) × KeepsInput old later × (later_loads ≡ loads))
     ⊎ ((later ≡ old) × EndsIdle arguments reason × (later_loads ≡ loads))))

@@ -1,33 +1,18 @@
 -- What a whole run over an input and an output reads and writes.
-use Rattle.std.specs.Prelude.{◌≡◌, ◌<◌, ◌≤◌, ◌^◌, ◌++◌, ◌∷◌, [], ℕ, List, Option, flat_map, length, Some}
-use Rattle.std.specs.List.{concat}
-use Rattle.std.specs.Io.KnownBytes.{Consumes, Appends, IsAtEnd}
-use Rattle.dap_session.specs.declared.fault.SessionFault.TheVariants.{Framing, NoMemory, SeqExhausted, OrdersFull, RunnerGone, WriterGone}
-use Rattle.dap_session.specs.declared.ending.Closed.TheVariants as closed
-use Rattle.dap_session.specs.declared.ending.Ending.{Ending}
-use Rattle.dap_session.specs.declared.ending.Ending.TheVariants as ending
-use Rattle.dap_session.specs.Events.{Incoming, Piece, End, ReadFailed, NoMemory as Memory, IsHistoryOf}
-use Rattle.dap_session.specs.History.{History, messages_of, ending_of}
-use Rattle.dap_session.specs.Output.{Begins, frames_from}
+use Rattle.std.specs.Prelude.{◌≡◌, ◌++◌, [], ℕ, List, Option, Result, Ok, Err}
+use Rattle.dap_history.specs.declared.fault.SessionFault.{SessionFault}
+use Rattle.dap_history.specs.declared.fault.SessionFault.TheVariants.{Frame, NoMemory, SeqExhausted, OrdersFull, RunnerGone, WriterGone}
+use Rattle.dap_history.specs.declared.ending.Closed.{Closed}
+use Rattle.dap_history.specs.declared.ending.Closed.TheVariants as closed
+use Rattle.dap_history.specs.Events.{Incoming, AreLawful}
+use Rattle.dap_history.specs.Interleaving.{Load}
+use Rattle.dap_session.specs.Ports.{Ports}
+use Rattle.dap_session.specs.Serving.{Drives}
 use Rattle.adapter.specs.declared.serving.Served.{Served}
 use Rattle.adapter.specs.declared.serving.Served.TheVariants as served
 use Rattle.adapter.specs.declared.serving.ServeFault.{ServeFault}
 use Rattle.adapter.specs.declared.serving.ServeFault.TheVariants as fault
-
--- the bytes that an event brings
-abbrev pub bytes_of : Incoming → List ℕ
-bytes_of (Piece bytes) = bytes
-bytes_of End = []
-bytes_of ReadFailed = []
-bytes_of Memory = []
-
--- the pieces of events, joined
-abbrev pub joined : List Incoming → List ℕ
-joined events = flat_map bytes_of events
-
--- the frames of a history's messages, joined
-abbrev pub text_sent : History → List ℕ
-text_sent past = concat (frames_from 1 (messages_of past))
+use Rattle.adapter.specs.Transfer.{Supply, supply, AreRead, Output, output, ArePut}
 
 -- The input's bytes left and the output's bytes written, where they are known, and how often reading and writing failed.
 pub record Streams : Type 0 where
@@ -40,37 +25,44 @@ abbrev pub streams : Option (List ℕ) → ℕ → Option (List ℕ) → ℕ →
 streams left read_failures written write_failures =
     record { left = left; written = written; read_failures = read_failures; write_failures = write_failures }
 
--- What was read are the pieces of these events, and all was written that the events give, of which the last ended it so.
-pub record IsWhole (last : Incoming) (by : Ending) (old later : Streams) : Type 0 where
-  pub before : List Incoming
-  pub past : History
-  pub rest : List ℕ
-  pub read : Consumes old.left later.left (joined (before ++ last ∷ []))
-  pub history : IsHistoryOf (before ++ last ∷ []) past rest
-  pub ending_is : ending_of past ≡ Some by
-  pub written : Appends old.written later.written (text_sent past)
+abbrev pub input_of : Streams → Supply
+input_of s = supply s.left s.read_failures
 
--- What was read are the pieces of some events, and a beginning was written of what the events give: so many messages at least.
--- The events have a history, and only one (`session_laws`), so `begins` speaks of just that one.
-pub record IsBegun (least : ℕ) (old later : Streams) : Type 0 where
+abbrev pub output_of : Streams → Output
+output_of s = output s.written s.write_failures
+
+abbrev pub nothing_sent : Ports
+nothing_sent = record { frames = []; orders = []; refused = []; runner_gone = 0; orders_full = 0 }
+
+-- A session was driven to its end. What its inbox gave is what the input had, with the reports of the runs between; what the
+-- loader gave is what its launches wanted; the frames that it put were written. No order was refused.
+pub record IsDriven (result : Result Closed SessionFault) (loads later_loads : List Load) (old later : Streams) : Type 0 where
   pub events : List Incoming
-  pub read : Consumes old.left later.left (joined events)
-  pub part : List ℕ
-  pub written : Appends old.written later.written part
-  pub begins : (past : History) (rest : List ℕ) → IsHistoryOf events past rest → Begins part (text_sent past) × (least ≤ length (messages_of past))
+  pub given : List Incoming
+  pub loaded : List Load
+  pub sent : Ports
+  pub lawful : AreLawful events
+  pub drives : Drives result events given loaded nothing_sent sent
+  pub loads_are : later_loads ≡ loads ++ loaded
+  pub read : ∥ AreRead given (input_of old) (input_of later) ∥₁
+  pub written : ∥ ArePut sent.frames sent.refused (output_of old) (output_of later) ∥₁
+  pub never_full : sent.orders_full ≡ 0
+  pub never_gone : sent.runner_gone ≡ 0
 
--- A run that went well: a piece held the first `disconnect`, or the whole input was read and its end told.
-abbrev pub IsServed : Served → Streams → Streams → Type 0
-IsServed served.Disconnected old later = (piece : List ℕ) × IsWhole (Piece piece) (ending.Closed closed.Disconnected) old later
-IsServed served.InputEnded old later = IsAtEnd later.left × IsWhole End (ending.Closed closed.InputEnded) old later
+-- how serving went, by how the session ended; a writer that is gone is an output that failed
+abbrev pub outcome_of : Result Closed SessionFault → Result Served ServeFault
+outcome_of (Ok closed.Disconnected) = Ok served.Disconnected
+outcome_of (Ok closed.InputEnded) = Ok served.InputEnded
+outcome_of (Ok closed.ReadFailed) = Err fault.ReadFailed
+outcome_of (Err WriterGone) = Err fault.WriteFailed
+outcome_of (Err (Frame k)) = Err (fault.Session (Frame k))
+outcome_of (Err NoMemory) = Err (fault.Session NoMemory)
+outcome_of (Err SeqExhausted) = Err (fault.Session SeqExhausted)
+outcome_of (Err OrdersFull) = Err (fault.Session OrdersFull)
+outcome_of (Err RunnerGone) = Err (fault.Session RunnerGone)
 
--- A run that failed. The orders of such a run go nowhere and are never refused.
-abbrev pub IsFailed : ServeFault → Streams → Streams → Type 0
-IsFailed fault.WriteFailed old later = (old.write_failures < later.write_failures) × IsBegun 0 old later
-IsFailed fault.ReadFailed old later = (old.read_failures < later.read_failures) × IsWhole ReadFailed (ending.Closed closed.ReadFailed) old later
-IsFailed (fault.Session (Framing k)) old later = (piece : List ℕ) × IsWhole (Piece piece) (ending.Fault (Framing k)) old later
-IsFailed (fault.Session NoMemory) old later = IsBegun 0 old later
-IsFailed (fault.Session SeqExhausted) old later = IsBegun (2 ^ 53) old later
-IsFailed (fault.Session OrdersFull) old later = ⊥
-IsFailed (fault.Session RunnerGone) old later = ⊥
-IsFailed (fault.Session WriterGone) old later = IsBegun 0 old later
+-- serving went so
+pub record IsServed (outcome : Result Served ServeFault) (loads later_loads : List Load) (old later : Streams) : Type 0 where
+  pub result : Result Closed SessionFault
+  pub outcome_is : outcome ≡ outcome_of result
+  pub driven : IsDriven result loads later_loads old later

@@ -138,7 +138,7 @@ fn end_of_session(fault: SessionFault) -> ExitReason
     ensures { result ≡ reason_of_session fault }
 {
     match fault {
-        SessionFault::Framing(fault) => end_of_framing(fault),
+        SessionFault::Frame(fault) => end_of_framing(fault),
         SessionFault::NoMemory => ExitReason::Refused(2),
         SessionFault::SeqExhausted => ExitReason::Refused(3),
         SessionFault::OrdersFull => ExitReason::Refused(4),

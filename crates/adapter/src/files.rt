@@ -79,7 +79,7 @@ impl<R: Files + Wait> Loader for FileLoader<'_, R> {
 
 ghost use Rattle.std.specs.Prelude.{◌<◌, ◌≤◌, length, Err, IfOk, OnOk};
 ghost use Rattle.adapter.specs.Transfer.{BeginsWith};
-ghost use Rattle.dap_session.specs.declared.ports.LoadFault.TheVariants.{CannotRead, NoMemory};
+ghost use Rattle.dap_history.specs.declared.fault.LoadFault.TheVariants.{CannotRead, NoMemory};
 
 /// The first bytes of a file, `MOST` of them where it has more.
 fn read_file<R: Files + Wait>(rt: &R, alloc: Global, path: &str) -> Result<Vec<u8>, LoadFault>

@@ -2,10 +2,10 @@
 //!
 //! The one contract is that of [`execute`]: what the arguments ask for was done over these ports, the reason names how
 //! that ended, and standard error has it in a last line. It cites three others. [`parse_arguments`](arguments::parse_arguments)
-//! says what the arguments ask for; [`serve`], that the bytes read are the pieces of a list of events, and the bytes
-//! written the frames of the messages that these events give; and [`check`], that the listing of a file's text was
-//! written, which `specs/Listing` defines. The hard lemmas are in `proofs/Turns`: what is written after each piece joins
-//! to what the whole input gives.
+//! says what the arguments ask for; [`serve`], that a session was driven by what the input had and by the reports of its
+//! runs, and that the frames which it put were written; and [`check`], that the listing of a file's text was written, which
+//! `specs/Listing` defines. The hard lemmas are in `proofs/Exchanged`: what is read and written, one event and one frame
+//! after another, joins to the whole.
 #![tactic(auto)]
 
 pub mod arguments;
@@ -13,9 +13,11 @@ mod checking;
 mod counting;
 mod exit_reason;
 mod files;
+mod frames;
+mod inbox;
 mod listing;
-mod memory;
 mod program;
+mod running;
 mod serving;
 mod streams;
 mod transfer;
@@ -24,5 +26,5 @@ pub use checking::{CheckFault, check};
 pub use exit_reason::{ExitReason, end_of_arguments, end_of_check, end_of_serve};
 pub use files::{FileLoader, read_beginning};
 pub use program::{execute, run};
-pub use serving::{Gate, ServeFault, Served, serve};
+pub use serving::{ServeFault, Served, serve};
 pub use streams::{IoFault, Reading, Sink, Source, Writing};

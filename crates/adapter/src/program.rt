@@ -12,10 +12,11 @@ use crate::arguments::{ArgumentsFault, HELP, Invocation, USAGE, objection, parse
 use crate::checking::check;
 use crate::exit_reason::{ExitReason, end_of_arguments, end_of_check, end_of_serve};
 use crate::files::FileLoader;
-use crate::serving::{Gate, serve};
+use crate::serving::serve;
 use crate::streams::{Sink, Source};
 use crate::transfer::{say, write_all};
 use dap_session::Loader;
+use dbg_runner::{Gate, History};
 use itoa::Buffer;
 use log::sink::Console;
 use log::{Level, Logged, error};
@@ -28,34 +29,44 @@ use std::{env, io};
 
 /// Lets every slice pass at once.
 #[derive(Drop)]
-struct OpenGate;
+struct OpenGate {
+    passed: History<(u64, u64)>,
+}
 
 impl Gate for OpenGate {
-    fn pass(&mut self, _run: u64, _slice: u64) {}
+    ghost passed = { λ gate. gate.passed.entries };
+
+    fn pass(&mut self, run: u64, slice: u64) {
+        self.passed = self.passed.and(&(run, slice));
+    }
 }
 
 /// Does what the arguments of this process ask for, as [`execute`] does, with the files of the system. What is left to a
 /// `main` is to end with the reason's status.
-pub fn run<R: Wait + Env + Files + Eprint + AllocGlobal, I: Source, O: Sink, E: Sink>(
+pub fn run<R: Wait + Env + Files + Eprint + AllocGlobal, I: Source + Drop, O: Sink + Drop, E: Sink>(
     rt: &R,
-    input: &mut I,
-    output: &mut O,
+    input: I,
+    output: O,
     errors: &mut E,
-) -> ExitReason
+) -> (ExitReason, I, O)
     // It does so for some arguments and some files: what the system gives, no contract can say.
-    ensures { Runs result
-        (streams (I.left input.old) (I.failures input.old) (O.written output.old) (O.failures output.old))
-        (streams (I.left input.new) (I.failures input.new) (O.written output.new) (O.failures output.new))
+    ensures { Runs result.0
+        (streams (I.left input) (I.failures input) (O.written output) (O.failures output))
+        (streams (I.left result.1) (I.failures result.1) (O.written result.2) (O.failures result.2))
         (output_at (E.written errors.old) (E.failures errors.old))
         (output_at (E.written errors.new) (E.failures errors.new)) }
 {
     let mut files = FileLoader::new(rt, rt.alloc());
     let given = match given_arguments(rt) {
         Ok(given) => given,
-        Err(error) => return refuse_arguments(rt, end_of_reading(&error), errors),
+        Err(error) => {
+            let reason = refuse_arguments(rt, end_of_reading(&error), errors);
+            return (reason, input, output);
+        }
     };
     let Ok(arguments) = texts(rt.alloc(), given.as_slice()) else {
-        return refuse_arguments(rt, ExitReason::NoMemory, errors);
+        let reason = refuse_arguments(rt, ExitReason::NoMemory, errors);
+        return (reason, input, output);
     };
     execute(rt, arguments.as_slice(), &mut files, input, output, errors)
 }
@@ -99,48 +110,60 @@ fn refuse_arguments<R: Wait + Eprint + AllocGlobal, E: Sink>(
 
 /// Does what the arguments ask for, of which the first is the program's name, and reports the end on `errors`: nothing at
 /// status 0, the usage at status 4, and else the last line. Where `errors` fails, nothing else changes.
-pub fn execute<R: Wait + Eprint + AllocGlobal, L: Loader, I: Source, O: Sink, E: Sink>(
+pub fn execute<
+    R: Wait + Eprint + AllocGlobal,
+    L: Loader,
+    I: Source + Drop,
+    O: Sink + Drop,
+    E: Sink,
+>(
     rt: &R,
     arguments: &[&str],
     loader: &mut L,
-    input: &mut I,
-    output: &mut O,
+    input: I,
+    output: O,
     errors: &mut E,
-) -> ExitReason
-    ensures { Executes (map (λ argument. argument.now) arguments.entry.now) result (L.loaded loader.old) (L.loaded loader.new)
-        (streams (I.left input.old) (I.failures input.old) (O.written output.old) (O.failures output.old))
-        (streams (I.left input.new) (I.failures input.new) (O.written output.new) (O.failures output.new))
+) -> (ExitReason, I, O)
+    ensures { Executes (map (λ argument. argument.now) arguments.entry.now) result.0 (L.loaded loader.old) (L.loaded loader.new)
+        (streams (I.left input) (I.failures input) (O.written output) (O.failures output))
+        (streams (I.left result.1) (I.failures result.1) (O.written result.2) (O.failures result.2))
         (output_at (E.written errors.old) (E.failures errors.old))
         (output_at (E.written errors.new) (E.failures errors.new)) }
 {
-    let reason = perform(rt, arguments, loader, input, output);
+    let (reason, input, output) = perform(rt, arguments, loader, input, output);
     report(rt, arguments, reason, errors);
-    reason
+    (reason, input, output)
 }
 
 /// Does what the arguments ask for.
-fn perform<R: Wait + AllocGlobal, L: Loader, I: Source, O: Sink>(
+fn perform<R: Wait + AllocGlobal, L: Loader, I: Source + Drop, O: Sink + Drop>(
     rt: &R,
     arguments: &[&str],
     loader: &mut L,
-    input: &mut I,
-    output: &mut O,
-) -> ExitReason
-    ensures { Performs (map (λ argument. argument.now) arguments.entry.now) result (L.loaded loader.old) (L.loaded loader.new)
-        (streams (I.left input.old) (I.failures input.old) (O.written output.old) (O.failures output.old))
-        (streams (I.left input.new) (I.failures input.new) (O.written output.new) (O.failures output.new)) }
+    input: I,
+    mut output: O,
+) -> (ExitReason, I, O)
+    ensures { Performs (map (λ argument. argument.now) arguments.entry.now) result.0 (L.loaded loader.old) (L.loaded loader.new)
+        (streams (I.left input) (I.failures input) (O.written output) (O.failures output))
+        (streams (I.left result.1) (I.failures result.1) (O.written result.2) (O.failures result.2)) }
 {
     match parse_arguments(rt.alloc(), arguments) {
         Ok(Invocation::Serve) => {
-            let outcome = serve(rt, rt.alloc(), input, output, loader, &mut OpenGate);
-            end_of_serve(&outcome)
+            let gate = OpenGate {
+                passed: History::new(),
+            };
+            let (outcome, input, output) = serve(rt, rt.alloc(), input, output, loader, gate);
+            (end_of_serve(&outcome), input, output)
         }
         Ok(Invocation::Check(file)) => {
-            let outcome = check(rt, rt.alloc(), file, loader, output);
-            end_of_check(&outcome)
+            let outcome = check(rt, rt.alloc(), file, loader, &mut output);
+            (end_of_check(&outcome), input, output)
         }
-        Err(ArgumentsFault::Help) => show_help(rt, output),
-        Err(fault) => end_of_arguments(fault),
+        Err(ArgumentsFault::Help) => {
+            let reason = show_help(rt, &mut output);
+            (reason, input, output)
+        }
+        Err(fault) => (end_of_arguments(fault), input, output),
     }
 }
 

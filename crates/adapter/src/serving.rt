@@ -1,11 +1,14 @@
-ghost use Rattle.std.specs.Prelude.{◌≡◌, IfOk, IfErr};
-ghost use Rattle.adapter.specs.Serving.{streams, IsServed, IsFailed};
+ghost use Rattle.std.specs.Prelude.{◌≡◌};
+ghost use Rattle.adapter.specs.Serving.{streams, outcome_of, IsServed};
 
-use crate::memory::{DroppedOrders, FramesPut};
+use crate::frames::FramesHere;
+use crate::inbox::Client;
+use crate::running::OrdersHere;
 use crate::streams::{Sink, Source};
-use crate::transfer::{ROOM, next_event, write_frames};
-use dap_session::{Closed, Loader, Session, SessionFault, Want, session_laws};
+use dap_session::{Closed, Loader, SessionFault, drive};
+use dbg_runner::Gate;
 use std::alloc::Global;
+use std::cell::Cell;
 use std::sync::Wait;
 
 /// How serving went well.
@@ -15,7 +18,7 @@ pub enum Served {
     InputEnded,
 }
 
-/// Why serving failed. Of several reasons the first named here is given.
+/// Why serving failed.
 #[derive(Clone, Copy, Debug, PartialEq, Eq)]
 pub enum ServeFault {
     WriteFailed,
@@ -23,60 +26,42 @@ pub enum ServeFault {
     ReadFailed,
 }
 
-/// What each slice of a run passes.
-pub trait Gate {
-    /// Passes slice `slice` of run `run`; both count from 1. It may wait.
-    fn pass(&mut self, run: u64, slice: u64);
-}
-
-/// Serves an input and an output, in the thread that calls it. The loader is asked for nothing, nor is the gate passed.
+/// Serves an input and an output, in the thread that calls it, and hands both back. While a program runs, its slices go
+/// before what the client sends. The loader is asked for the program of each launch, and each slice passes the gate.
 ///
 /// # Errors
 ///
-/// After a failed write, or a session fault that is no framing fault, a beginning was written of what the input gives;
-/// after a failed read or a framing fault all of it.
-pub fn serve<R: Wait, I: Source, O: Sink, L: Loader, G: Gate>(
+/// After a failed write, or a session fault that is no framing fault, a beginning was written of what the client's messages
+/// and the runs give; after a failed read or a framing fault all of it.
+pub fn serve<R: Wait, I: Source + Drop, O: Sink + Drop, L: Loader, G: Gate + Drop>(
     rt: &R,
     alloc: Global,
-    input: &mut I,
-    output: &mut O,
+    input: I,
+    output: O,
     loader: &mut L,
-    gate: &mut G,
-) -> Result<Served, ServeFault>
-    ensures ok { IfOk result (λ served. IsServed served
-        (streams (I.left input.old) (I.failures input.old) (O.written output.old) (O.failures output.old))
-        (streams (I.left input.new) (I.failures input.new) (O.written output.new) (O.failures output.new))) }
-    ensures err { IfErr result (λ fault. IsFailed fault
-        (streams (I.left input.old) (I.failures input.old) (O.written output.old) (O.failures output.old))
-        (streams (I.left input.new) (I.failures input.new) (O.written output.new) (O.failures output.new))) }
-    ensures loader { L.loaded loader.new ≡ L.loaded loader.old }
+    gate: G,
+) -> (Result<Served, ServeFault>, I, O)
+    ensures { IsServed result.0 (L.loaded loader.old) (L.loaded loader.new)
+        (streams (I.left input) (I.failures input) (O.written output) (O.failures output))
+        (streams (I.left result.1) (I.failures result.1) (O.written result.2) (O.failures result.2)) }
 {
-    session_laws();
-    let mut session = Session::new(alloc);
-    let mut out = FramesPut {
-        rt,
-        frames: Vec::new(alloc),
-        refusals: 0,
-    };
-    let mut orders = DroppedOrders { rt, quits: 0 };
-    let mut room = [0; ROOM];
-    for _ in rt.forever() {
-        let event = next_event(rt, alloc, input, &mut room);
-        let taken = session.take(event, &mut out, &mut orders);
-        if !write_frames(rt, output, out.frames.as_slice()) {
-            return Err(ServeFault::WriteFailed);
-        }
-        out.frames.clear();
-        match taken {
-            Ok(Want::Event) => {}
-            Ok(Want::Closed) => match session.closed() {
-                Some(Closed::Disconnected) => return Ok(Served::Disconnected),
-                Some(Closed::InputEnded) => return Ok(Served::InputEnded),
-                Some(Closed::ReadFailed) => return Err(ServeFault::ReadFailed),
-                None => unreachable!(),
-            },
-            Err(fault) => return Err(ServeFault::Session(fault)),
-        }
+    let running = Cell::new(None);
+    let mut client = Client::new(rt, alloc, input, &running, gate);
+    let mut frames = FramesHere::new(rt, output);
+    let mut orders = OrdersHere::new(&running);
+    let closed = drive(rt, alloc, &mut client, loader, &mut frames, &mut orders);
+    (outcome(closed), client.into_input(), frames.into_output())
+}
+
+/// How serving went, by how the session ended.
+fn outcome(closed: Result<Closed, SessionFault>) -> Result<Served, ServeFault>
+    ensures { result ≡ outcome_of closed }
+{
+    match closed {
+        Ok(Closed::Disconnected) => Ok(Served::Disconnected),
+        Ok(Closed::InputEnded) => Ok(Served::InputEnded),
+        Ok(Closed::ReadFailed) => Err(ServeFault::ReadFailed),
+        Err(SessionFault::WriterGone) => Err(ServeFault::WriteFailed),
+        Err(fault) => Err(ServeFault::Session(fault)),
     }
-    unreachable!()
 }

@@ -2,8 +2,8 @@
 ghost use Rattle.std.specs.Prelude.{◌≡◌, ◌<◌, map, MatchBool};
 ghost use Rattle.std.specs.List.{concat};
 ghost use Rattle.std.specs.Io.KnownBytes.{Appends};
-ghost use Rattle.dap_session.specs.Events.{incoming_of};
-ghost use Rattle.adapter.specs.Transfer.{ComesFrom, AppendsPart, Says, output as output_at};
+ghost use Rattle.dap_session.specs.Incoming.{incoming_of};
+ghost use Rattle.adapter.specs.Transfer.{IsRead, AppendsPart, Says, supply, output as output_at};
 
 use crate::streams::{IoFault, Sink, Source};
 use dap_session::Event;
@@ -21,7 +21,7 @@ pub fn next_event<I: Source>(
     input: &mut I,
     room: &mut [u8; ROOM],
 ) -> Event
-    ensures { ComesFrom (incoming_of result) (I.left input.old) (I.left input.new) (I.failures input.old) (I.failures input.new) }
+    ensures { IsRead (incoming_of result) (supply (I.left input.old) (I.failures input.old)) (supply (I.left input.new) (I.failures input.new)) }
 {
     // Before the read: what was read can't be given back.
     let Ok(mut piece) = Vec::with_capacity(alloc, ROOM) else {
@@ -39,21 +39,6 @@ pub fn next_event<I: Source>(
         }
     }
     unreachable!()
-}
-
-/// Writes frames one after another, and says whether all were; where not, the output failed after a beginning.
-pub fn write_frames<O: Sink>(rt: &impl Wait, output: &mut O, frames: &[Vec<u8>]) -> bool
-    ensures written { MatchBool result
-        (Appends (O.written output.old) (O.written output.new) (concat (map (λ frame. frame.items) frames.now)))
-        (AppendsPart (O.written output.old) (O.written output.new) (concat (map (λ frame. frame.items) frames.now))) }
-    ensures count { MatchBool result (O.failures output.new ≡ O.failures output.old) (O.failures output.old < O.failures output.new) }
-{
-    for frame in frames {
-        if !write_all(rt, output, frame.as_slice()) {
-            return false;
-        }
-    }
-    true
 }
 
 /// Writes texts one after another. Where the output fails, a beginning of them was written, and the others are dropped.

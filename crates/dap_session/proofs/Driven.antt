@@ -1,107 +1,339 @@
 -- A session that is driven.
-use Rattle.std.proofs.Common.{◌≡◌, List, [], ◌∷◌, ◌++◌, Option, None, Some, refl, sym, ◌∙◌, ap, append_assoc, append-nil}
+use Rattle.std.proofs.Common.{◌≡◌, ◌⊎◌, inl, inr, ℕ, List, [], ◌∷◌, ◌++◌, Option, None, Some, option_map, Result, Ok, Err, refl, sym, ◌∙◌, ap, subst, append_assoc, append-nil}
+use Rattle.std.specs.Prelude.{string_bytes}
 use Rattle.dap_frame.specs.declared.fault.FramingFault.{FramingFault}
-use Rattle.dap_session.specs.declared.ending.Ending.{Ending}
-use Rattle.dap_session.specs.declared.ending.Ending.TheVariants as ending
-use Rattle.dap_session.specs.Events.{Incoming}
-use Rattle.dap_session.specs.declared.fault.SessionFault.{SessionFault}
-use Rattle.dap_session.specs.History.{History}
-use Rattle.dap_session.specs.Ports.{Ports}
-use Rattle.dap_session.specs.Output.{Sends, TriesQuit, frames_from}
-use Rattle.dap_session.specs.State.{State, StandsFor, EndsAt, FailsAt, Wants}
-use Rattle.dap_session.specs.declared.ending.Want.TheVariants as want
-use Rattle.dap_session.specs.Served.{Serves, ServesUntilFault, StopsShort}
-use Rattle.dap_session.proofs.Taking.{sends_stay, sends_both}
+use Rattle.dap_history.specs.declared.ending.Closed.{Closed}
+use Rattle.dap_history.specs.declared.ending.Ending.{Ending}
+use Rattle.dap_history.specs.declared.ending.Ending.TheVariants as ending
+use Rattle.dap_history.specs.declared.fault.LoadFault.{LoadFault}
+use Rattle.dap_history.specs.declared.fault.LoadFault.TheVariants.{CannotRead, NoMemory}
+use Rattle.dap_history.specs.declared.fault.SessionFault.{SessionFault}
+use Rattle.dap_history.specs.declared.fault.SessionFault.TheVariants as faults
+use Rattle.dap_history.specs.declared.launch.Launch.{Launch}
+use Rattle.dap_history.specs.History.{History, messages_of, orders_of}
+use Rattle.dap_history.specs.Readings.{ending_of}
+use Rattle.dap_history.specs.Events.{Incoming, Piece, End, ReadFailed, File, Report, Rest, IsTaking, AreLawful, IsHistoryOf}
+use Rattle.dap_history.specs.Events.{NoMemory as NoMemoryCame}
+use Rattle.dap_history.specs.Output.{frames_from}
+use Rattle.dap_history.specs.Interleaving.{Load, Awaits, AwaitsNone, IsLoad, Interleaves, LastLoadFails, InterleavesUpTo}
+use Rattle.dap_phase.specs.declared.phase.Phase.{Phase}
+use Rattle.dap_phase.specs.Phases.{launch_of}
+use Rattle.dap_session.specs.declared.want.Want.{Want}
+use Rattle.dap_session.specs.declared.want.Want.TheVariants as want_is
+use Rattle.dap_session.specs.Ports.{Ports, Ordered, Written, load_of, ports}
+use Rattle.dap_session.specs.Sending.{Sends, RefusesNothing, TriesQuit}
+use Rattle.dap_session.specs.State.{State, StandsFor, Wants, WantsHere, IsOpenEnded}
+use Rattle.dap_session.specs.Taking.{FailsAt, EndsAt, GoesWell, LacksMemory, Comes}
+use Rattle.dap_session.specs.Serving.{Serves, ServesUntilFault, StopsShort, Drives, Driven}
+use Rattle.dap_session.specs.Coming.{Sources, sources, stored, ComesFrom}
+use Rattle.dap_session.proofs.Joining.{sends_both, refuses_both, sends_nothing}
 
-pub record Driven (session : State) (given_old given_new : List Incoming) (old later : Ports) : Type 0 where
-  pub events : List Incoming
-  pub past : History
-  pub given_are : given_new ≡ given_old ++ events
-  pub stands : StandsFor session events past
-  pub sent : Sends [] past old later
+-- ---- interleavings, one after another
 
-pub driven_begins : (session : State) (given : List Incoming) (old : Ports) → StandsFor session [] [] → Driven session given given old old
-driven_begins session given old stands =
-    record { events = []; past = []; given_are = sym (append-nil given); stands = stands; sent = sends_stay [] old old refl refl }
-
-pub driven_more : (session next : State) (given_old given_mid given_new : List Incoming) (event : Incoming) (old mid later : Ports)
-    → Driven session given_old given_mid old mid → given_new ≡ given_mid ++ event ∷ []
-    → ((events : List Incoming) (past : History) → StandsFor session events past → (new : History) × StandsFor next (events ++ event ∷ []) new × Sends past new mid later)
-    → Driven next given_old given_new old later
-driven_more session next given_old given_mid given_new event old mid later d one step =
-    let s = step d.events d.past d.stands in
-    record {
-      events = d.events ++ event ∷ [];
-      past = s.0;
-      given_are = one ∙ ap (λ l. l ++ event ∷ []) d.given_are ∙ append_assoc given_old d.events (event ∷ []);
-      stands = s.1;
-      sent = sends_both [] d.past s.0 old mid later d.sent s.2;
-    }
-
-pub driven_serves : (session : State) (ending : Ending) (given_old given_new : List Incoming) (old later : Ports)
-    → Driven session given_old given_new old later → session.ending ≡ Some ending
-    → (events : List Incoming) × (given_new ≡ given_old ++ events) × Serves events ending old later
-driven_serves session ending given_old given_new old later d is = (
-  d.events,
-  d.given_are,
-  record {
-    past = d.past;
-    rest = d.stands.rest;
-    history = d.stands.history;
-    ending_is = sym d.stands.knows.ending_is ∙ is;
-    frames_are = d.sent.frames_are ∙ ap (λ ms. old.frames ++ frames_from 1 ms) (sym d.sent.adds.messages_are);
-    orders_are = d.sent.orders_are ∙ ap (λ os. old.orders ++ os) (sym d.sent.adds.orders_are);
-  },
-)
-
-pub driven_stops : (session : State) (fault : SessionFault) (given_old given_mid given_new : List Incoming) (event : Incoming) (old mid stopped later : Ports)
-    → Driven session given_old given_mid old mid → given_new ≡ given_mid ++ event ∷ []
-    → ((events : List Incoming) (past : History) (stands : StandsFor session events past) → FailsAt fault past stands.rest event mid stopped)
-    → TriesQuit stopped later
-    → (events : List Incoming) × (given_new ≡ given_old ++ events) × StopsShort events fault old later
-driven_stops session fault given_old given_mid given_new event old mid stopped later d one step quit = (
-  d.events ++ event ∷ [],
-  one ∙ ap (λ l. l ++ event ∷ []) d.given_are ∙ append_assoc given_old d.events (event ∷ []),
-  record {
-    before = d.events;
-    last = event;
-    events_are = refl;
-    past = d.past;
-    rest = d.stands.rest;
-    history = d.stands.history;
-    mid = mid;
-    sent = d.sent;
-    stopped = stopped;
-    fails = step d.events d.past d.stands;
-    quit = quit;
-  },
-)
-
-pub driven_breaks : (session : State) (k : FramingFault) (given_old given_mid given_new : List Incoming) (event : Incoming) (old mid stopped later : Ports)
-    → Driven session given_old given_mid old mid → given_new ≡ given_mid ++ event ∷ []
-    → ((events : List Incoming) (past : History) → StandsFor session events past → EndsAt k events past event mid stopped)
-    → TriesQuit stopped later
-    → (events : List Incoming) × (given_new ≡ given_old ++ events) × ServesUntilFault events k old later
-driven_breaks session k given_old given_mid given_new event old mid stopped later d one step quit =
-    let b = step d.events d.past d.stands in
-    let sent = sends_both [] d.past b.new old mid stopped d.sent b.sends in (
-      d.events ++ event ∷ [],
-      one ∙ ap (λ l. l ++ event ∷ []) d.given_are ∙ append_assoc given_old d.events (event ∷ []),
-      record {
-        mid = stopped;
-        serves = record {
-          past = b.new;
-          rest = b.left;
-          history = b.history;
-          ending_is = b.ending_is;
-          frames_are = sent.frames_are ∙ ap (λ ms. old.frames ++ frames_from 1 ms) (sym sent.adds.messages_are);
-          orders_are = sent.orders_are ∙ ap (λ os. old.orders ++ os) (sym sent.adds.orders_are);
-        };
-        quit = quit;
-      },
+interleaves_both : (before xs ys : List Incoming) (given more : List Incoming) (loads rest : List Load)
+    → Interleaves before xs given loads → Interleaves (before ++ xs) ys more rest → Interleaves before (xs ++ ys) (given ++ more) (loads ++ rest)
+interleaves_both before [] ys given more loads rest first next =
+    subst (λ l. Interleaves before ys (given ++ more) (l ++ rest)) (sym first.1)
+    (subst (λ g. Interleaves before ys (g ++ more) rest) (sym first.0)
+    (subst (λ b. Interleaves b ys more rest) (append-nil before) next))
+interleaves_both before (e ∷ xs) ys given more loads rest (inl first) next =
+    inl (
+      first.0,
+      first.1 ++ rest,
+      ap (λ l. l ++ rest) first.2,
+      first.3,
+      interleaves_both (before ++ e ∷ []) xs ys given more first.1 rest first.4
+          (subst (λ b. Interleaves b ys more rest) (sym (append_assoc before (e ∷ []) xs)) next),
+    )
+interleaves_both before (e ∷ xs) ys given more loads rest (inr first) next =
+    inr (
+      first.0 ++ more,
+      ap (λ g. g ++ more) first.1,
+      first.2,
+      interleaves_both (before ++ e ∷ []) xs ys first.0 more loads rest first.3
+          (subst (λ b. Interleaves b ys more rest) (sym (append_assoc before (e ∷ []) xs)) next),
     )
 
-pub wants_event : (e : Option Ending) → Wants want.Event e → e ≡ None
-wants_event None w = refl
-wants_event (Some (ending.Closed by)) w = absurd cc
-wants_event (Some (ending.Fault fault)) w = absurd w
+lawful_both : (xs ys : List Incoming) → AreLawful xs → AreLawful ys → AreLawful (xs ++ ys)
+lawful_both [] ys first next = next
+lawful_both (Report r ∷ xs) ys first next = (first.0, lawful_both xs ys first.1 next)
+lawful_both (Piece p ∷ xs) ys first next = lawful_both xs ys first next
+lawful_both (End ∷ xs) ys first next = lawful_both xs ys first next
+lawful_both (ReadFailed ∷ xs) ys first next = lawful_both xs ys first next
+lawful_both (NoMemoryCame ∷ xs) ys first next = lawful_both xs ys first next
+lawful_both (File f ∷ xs) ys first next = lawful_both xs ys first next
+
+-- ---- a session on its way
+
+-- the path of the launch that waits
+abbrev pub path_of : Phase → Option (List ℕ)
+path_of phase = option_map (λ launch. launch.arguments.program) (launch_of phase)
+
+-- These events were taken, and all that they give was sent.
+pub record Way (session : State) (wanted : Option (List ℕ)) (begin now : Sources) (old later : Ports) : Type 0 where
+  pub events : List Incoming
+  pub past : History
+  pub given : List Incoming
+  pub loads : List Load
+  pub given_are : now.given ≡ begin.given ++ given
+  pub loads_are : now.loaded ≡ begin.loaded ++ loads
+  pub lawful : AreLawful events
+  pub interleaves : Interleaves [] events given loads
+  pub stands : StandsFor session events past
+  pub sent : Sends [] past old later
+  pub sure : RefusesNothing old later
+  pub open_ended : session.ending ≡ None
+  pub wanted_is : wanted ≡ path_of session.phase
+
+pub way_begins : (session : State) (begin : Sources) (old : Ports) → StandsFor session [] [] → session.ending ≡ None → None ≡ path_of session.phase
+    → Way session None begin begin old old
+way_begins session begin old stands open_ none = record {
+  events = [];
+  past = [];
+  given = [];
+  loads = [];
+  given_are = sym (append-nil begin.given);
+  loads_are = sym (append-nil begin.loaded);
+  lawful = tt;
+  interleaves = (refl, refl);
+  stands = stands;
+  sent = sends_nothing [] old;
+  sure = record { writer = refl; runner = refl; full = refl };
+  open_ended = open_;
+  wanted_is = none;
+}
+
+-- ---- the next event
+
+-- what the next event adds to what was given and loaded
+record Adds (events : List Incoming) (event : Incoming) (now next : Sources) : Type 0 where
+  given : List Incoming
+  loads : List Load
+  given_are : next.given ≡ now.given ++ given
+  loads_are : next.loaded ≡ now.loaded ++ loads
+  one : Interleaves events (event ∷ []) given loads
+
+-- or it says that there was no memory for the file that is wanted
+record AddsNothing (events : List Incoming) (event : Incoming) (now next : Sources) : Type 0 where
+  path : List ℕ
+  event_is : event ≡ File (Err NoMemory)
+  given_are : next.given ≡ now.given
+  loads_are : next.loaded ≡ now.loaded
+  awaited : Awaits events path
+
+awaits : (session : State) (events : List Incoming) (past : History) (launch : Launch) (path : List ℕ) → StandsFor session events past → session.ending ≡ None
+    → launch_of session.phase ≡ Some launch → path ≡ launch.arguments.program → Awaits events path
+awaits session events past launch path stands open_ is same =
+    let taking : IsTaking past = sym stands.ending_is ∙ open_ in record {
+      past = past;
+      rest = stands.rest;
+      history = stands.history;
+      taking = taking;
+      launch = launch;
+      waits = sym (stands.goes_on taking).launch_is ∙ is;
+      path_is = same;
+    }
+
+awaits_none : (session : State) (events : List Incoming) (past : History) → StandsFor session events past → session.ending ≡ None
+    → launch_of session.phase ≡ None → AwaitsNone events
+awaits_none session events past stands open_ is =
+    let taking : IsTaking past = sym stands.ending_is ∙ open_ in record {
+      past = past;
+      rest = stands.rest;
+      history = stands.history;
+      waits = inr (sym (stands.goes_on taking).launch_is ∙ is);
+    }
+
+adds_file : (events : List Incoming) (path : List ℕ) (answer : Result (List ℕ) LoadFault) (now next : Sources) → Awaits events path
+    → next.given ≡ now.given → next.loaded ≡ now.loaded ++ stored path answer
+    → Adds events (File answer) now next ⊎ AddsNothing events (File answer) now next
+adds_file events path (Ok file) now next awaited given loaded =
+    inl (record { given = []; loads = load_of path (Ok file) ∷ []; given_are = given ∙ sym (append-nil now.given); loads_are = loaded; one = inl (load_of path (Ok file), [], refl, (refl, awaited), (refl, refl)) })
+adds_file events path (Err CannotRead) now next awaited given loaded =
+    inl (record { given = []; loads = load_of path (Err CannotRead) ∷ []; given_are = given ∙ sym (append-nil now.given); loads_are = loaded; one = inl (load_of path (Err CannotRead), [], refl, (refl, awaited), (refl, refl)) })
+adds_file events path (Err NoMemory) now next awaited given loaded =
+    inr (record { path = path; event_is = refl; given_are = given; loads_are = loaded ∙ append-nil now.loaded; awaited = awaited })
+
+adds_event : (session : State) (events : List Incoming) (past : History) (wanted : Option (List ℕ)) (launch : Option Launch) (event : Incoming) (now next : Sources)
+    → StandsFor session events past → session.ending ≡ None → launch_of session.phase ≡ launch → wanted ≡ option_map (λ l. l.arguments.program) launch
+    → ComesFrom wanted event now next
+    → Adds events event now next ⊎ AddsNothing events event now next
+adds_event session events past None None event now next stands open_ is same from =
+    inl (record { given = event ∷ []; loads = []; given_are = from.0; loads_are = from.1 ∙ sym (append-nil now.loaded); one = inr ([], refl, awaits_none session events past stands open_ is, (refl, refl)) })
+adds_event session events past None (Some launch) event now next stands open_ is same from = absurd cc
+adds_event session events past (Some path) None event now next stands open_ is same from = absurd cc
+adds_event session events past (Some path) (Some launch) (File answer) now next stands open_ is same from =
+    adds_file events path answer now next (awaits session events past launch path stands open_ is cc) from.0 from.1
+adds_event session events past (Some path) (Some launch) (Piece p) now next stands open_ is same from = absurd from
+adds_event session events past (Some path) (Some launch) End now next stands open_ is same from = absurd from
+adds_event session events past (Some path) (Some launch) ReadFailed now next stands open_ is same from = absurd from
+adds_event session events past (Some path) (Some launch) NoMemoryCame now next stands open_ is same from = absurd from
+adds_event session events past (Some path) (Some launch) (Report r) now next stands open_ is same from = absurd from
+
+-- ---- an event is taken
+
+-- what the result wants
+abbrev wanted_by : Want → Option (List ℕ)
+wanted_by want_is.Event = None
+wanted_by (want_is.File path) = Some (string_bytes path)
+wanted_by want_is.Closed = None
+
+wants_here : (want : Want) (launch : Option Launch) → WantsHere want launch → wanted_by want ≡ option_map (λ l. l.arguments.program) launch
+wants_here want None is = ap wanted_by is
+wants_here want (Some launch) is = ap wanted_by is.1 ∙ ap Some is.2
+
+goes_on : (want : Want) (session : State) (e : Option Ending) → session.ending ≡ e → Wants want session e → (want ≡ want_is.Closed → ⊥)
+    → (session.ending ≡ None) × (wanted_by want ≡ path_of session.phase)
+goes_on want session None is wants not = (is, wants_here want (launch_of session.phase) wants)
+goes_on want session (Some (ending.Closed by)) is wants not = absurd (not wants)
+goes_on want session (Some (ending.Fault fault)) is wants not = absurd wants
+
+-- what comes of the event, whatever the session stands for
+pub record Next (session : State) (result : Result Want SessionFault) (event : Incoming) (after : State) (mid later : Ports) : Type 0 where
+  pub comes : (events : List Incoming) (past : History) (stands : StandsFor session events past) → Comes result events past stands.rest event after mid later
+  pub no_memory : LacksMemory event (launch_of session.phase) → result ≡ Err faults.NoMemory
+
+-- the event that comes says that there is no memory only where a launch waits
+lacking : (session : State) (wanted : Option (List ℕ)) (launch : Option Launch) (event : Incoming) (now next : Sources) → wanted ≡ option_map (λ l. l.arguments.program) launch
+    → ComesFrom wanted event now next → event ≡ File (Err NoMemory) → next.given ≡ now.given → LacksMemory event launch
+lacking session None launch event now next same from is given = absurd (impossible now.given (sym given ∙ from.0))
+  where
+    impossible : (l : List Incoming) → l ≡ l ++ event ∷ [] → ⊥
+    impossible [] e = absurd cc
+    impossible (x ∷ l) e = impossible l cc
+lacking session (Some path) None event now next same from is given = absurd cc
+lacking session (Some path) (Some launch) event now next same from is given = subst (λ e. LacksMemory e (Some launch)) (sym is) tt
+
+-- the way goes on where the event went well
+pub way_goes_on : (session after : State) (wanted : Option (List ℕ)) (want : Want) (event : Incoming) (begin now next : Sources) (old mid later : Ports)
+    → Way session wanted begin now old mid → ComesFrom wanted event now next → AreLawful (event ∷ []) → Next session (Ok want) event after mid later
+    → (want ≡ want_is.Closed → ⊥)
+    → Way after (wanted_by want) begin next old later
+way_goes_on session after wanted want event begin now next old mid later way from law step not =
+    elim (adds_event session way.events way.past wanted (launch_of session.phase) event now next way.stands way.open_ended refl way.wanted_is from) [
+      | inl adds ↦
+          let well = step.comes way.events way.past way.stands in
+          let on = goes_on want after after.ending refl well.wants not in record {
+            events = way.events ++ event ∷ [];
+            past = well.new;
+            given = way.given ++ adds.given;
+            loads = way.loads ++ adds.loads;
+            given_are = adds.given_are ∙ ap (λ l. l ++ adds.given) way.given_are ∙ append_assoc begin.given way.given adds.given;
+            loads_are = adds.loads_are ∙ ap (λ l. l ++ adds.loads) way.loads_are ∙ append_assoc begin.loaded way.loads adds.loads;
+            lawful = lawful_both way.events (event ∷ []) way.lawful law;
+            interleaves = interleaves_both [] way.events (event ∷ []) way.given adds.given way.loads adds.loads way.interleaves adds.one;
+            stands = well.stands;
+            sent = sends_both [] way.past well.new old mid later way.sent well.sends;
+            sure = refuses_both old mid later way.sure well.refuses_nothing;
+            open_ended = on.0;
+            wanted_is = on.1;
+          }
+      | inr none ↦
+          absurd (let e : Ok want ≡ Err faults.NoMemory = step.no_memory (lacking session wanted (launch_of session.phase) event now next way.wanted_is from none.event_is none.given_are) in cc)
+    ]
+
+-- ---- the end
+
+serves : (events : List Incoming) (past : History) (rest : Rest) (by : Ending) (old later : Ports) → IsHistoryOf events past rest → ending_of past ≡ Some by → Sends [] past old later → RefusesNothing old later → Serves events by old later
+serves events past rest by old later history is sent sure = record {
+  past = past;
+  rest = rest;
+  history = history;
+  ending_is = is;
+  frames_are = sent.frames_are ∙ ap (λ ms. old.frames ++ frames_from 1 ms) (sym sent.adds.messages_are);
+  orders_are = sent.orders_are ∙ ap (λ os. old.orders ++ os) (sym sent.adds.orders_are);
+  refuses_nothing = sure;
+}
+
+-- the result is as the way and its last event lead to
+ends : (events : List Incoming) (past : History) (rest : Rest) (event : Incoming) (after : State) (old mid later last : Ports) (given : List Incoming) (loads : List Load) (fault : SessionFault)
+    → IsHistoryOf events past rest → Sends [] past old mid → RefusesNothing old mid → TriesQuit later last
+    → Comes (Err fault) events past rest event after mid later
+    → Interleaves [] (events ++ event ∷ []) given loads ⊎ ((fault ≡ faults.NoMemory) × InterleavesUpTo (events ++ event ∷ []) given loads)
+    → Drives (Err fault) (events ++ event ∷ []) given loads old last
+ends events past rest event after old mid later last given loads (faults.Frame k) history sent sure quit comes (inl all) =
+    (all, record { mid = later; serves = serves (events ++ event ∷ []) comes.new comes.rest (ending.Fault (faults.Frame k)) old later comes.history comes.ending_is (sends_both [] past comes.new old mid later sent comes.sends) (refuses_both old mid later sure comes.refuses_nothing); quit = quit })
+ends events past rest event after old mid later last given loads faults.NoMemory history sent sure quit comes (inl all) =
+    (inl all, record { before = events; last = event; events_are = refl; past = past; rest = rest; history = history; mid = mid; sent = sent; refuses_nothing = sure; stopped = later; fails = comes; quit = quit })
+ends events past rest event after old mid later last given loads faults.SeqExhausted history sent sure quit comes (inl all) =
+    (all, record { before = events; last = event; events_are = refl; past = past; rest = rest; history = history; mid = mid; sent = sent; refuses_nothing = sure; stopped = later; fails = comes; quit = quit })
+ends events past rest event after old mid later last given loads faults.OrdersFull history sent sure quit comes (inl all) =
+    (all, record { before = events; last = event; events_are = refl; past = past; rest = rest; history = history; mid = mid; sent = sent; refuses_nothing = sure; stopped = later; fails = comes; quit = quit })
+ends events past rest event after old mid later last given loads faults.RunnerGone history sent sure quit comes (inl all) =
+    (all, record { before = events; last = event; events_are = refl; past = past; rest = rest; history = history; mid = mid; sent = sent; refuses_nothing = sure; stopped = later; fails = comes; quit = quit })
+ends events past rest event after old mid later last given loads faults.WriterGone history sent sure quit comes (inl all) =
+    (all, record { before = events; last = event; events_are = refl; past = past; rest = rest; history = history; mid = mid; sent = sent; refuses_nothing = sure; stopped = later; fails = comes; quit = quit })
+ends events past rest event after old mid later last given loads (faults.Frame k) history sent sure quit comes (inr up) = absurd (let e = up.0 in cc)
+ends events past rest event after old mid later last given loads faults.NoMemory history sent sure quit comes (inr up) =
+    (up.1, record { before = events; last = event; events_are = refl; past = past; rest = rest; history = history; mid = mid; sent = sent; refuses_nothing = sure; stopped = later; fails = comes; quit = quit })
+ends events past rest event after old mid later last given loads faults.SeqExhausted history sent sure quit comes (inr up) = absurd (let e = up.0 in cc)
+ends events past rest event after old mid later last given loads faults.OrdersFull history sent sure quit comes (inr up) = absurd (let e = up.0 in cc)
+ends events past rest event after old mid later last given loads faults.RunnerGone history sent sure quit comes (inr up) = absurd (let e = up.0 in cc)
+ends events past rest event after old mid later last given loads faults.WriterGone history sent sure quit comes (inr up) = absurd (let e = up.0 in cc)
+
+-- the session was closed
+pub way_closes : (session after : State) (wanted : Option (List ℕ)) (want : Want) (event : Incoming) (begin now next : Sources) (old mid later : Ports) (by : Closed)
+    → Way session wanted begin now old mid → ComesFrom wanted event now next → AreLawful (event ∷ []) → Next session (Ok want) event after mid later
+    → after.ending ≡ Some (ending.Closed by)
+    → Driven (Ok by) begin.given next.given begin.loaded next.loaded old later
+way_closes session after wanted want event begin now next old mid later by way from law step is =
+    elim (adds_event session way.events way.past wanted (launch_of session.phase) event now next way.stands way.open_ended refl way.wanted_is from) [
+      | inl adds ↦
+          let well = step.comes way.events way.past way.stands in record {
+            events = way.events ++ event ∷ [];
+            given = way.given ++ adds.given;
+            loads = way.loads ++ adds.loads;
+            given_are = adds.given_are ∙ ap (λ l. l ++ adds.given) way.given_are ∙ append_assoc begin.given way.given adds.given;
+            loads_are = adds.loads_are ∙ ap (λ l. l ++ adds.loads) way.loads_are ∙ append_assoc begin.loaded way.loads adds.loads;
+            lawful = lawful_both way.events (event ∷ []) way.lawful law;
+            drives = (
+              interleaves_both [] way.events (event ∷ []) way.given adds.given way.loads adds.loads way.interleaves adds.one,
+              serves (way.events ++ event ∷ []) well.new well.stands.rest (ending.Closed by) old later well.stands.history (sym well.stands.ending_is ∙ is) (sends_both [] way.past well.new old mid later way.sent well.sends) (refuses_both old mid later way.sure well.refuses_nothing),
+            );
+          }
+      | inr none ↦
+          absurd (let e : Ok want ≡ Err faults.NoMemory = step.no_memory (lacking session wanted (launch_of session.phase) event now next way.wanted_is from none.event_is none.given_are) in cc)
+    ]
+
+-- it gave up
+pub way_fails : (session after : State) (wanted : Option (List ℕ)) (fault : SessionFault) (event : Incoming) (begin now next : Sources) (old mid later last : Ports)
+    → Way session wanted begin now old mid → ComesFrom wanted event now next → AreLawful (event ∷ []) → Next session (Err fault) event after mid later
+    → TriesQuit later last
+    → Driven (Err fault) begin.given next.given begin.loaded next.loaded old last
+way_fails session after wanted fault event begin now next old mid later last way from law step quit =
+    elim (adds_event session way.events way.past wanted (launch_of session.phase) event now next way.stands way.open_ended refl way.wanted_is from) [
+      | inl adds ↦ record {
+        events = way.events ++ event ∷ [];
+        given = way.given ++ adds.given;
+        loads = way.loads ++ adds.loads;
+        given_are = adds.given_are ∙ ap (λ l. l ++ adds.given) way.given_are ∙ append_assoc begin.given way.given adds.given;
+        loads_are = adds.loads_are ∙ ap (λ l. l ++ adds.loads) way.loads_are ∙ append_assoc begin.loaded way.loads adds.loads;
+        lawful = lawful_both way.events (event ∷ []) way.lawful law;
+        drives = ends way.events way.past way.stands.rest event after old mid later last (way.given ++ adds.given) (way.loads ++ adds.loads) fault way.stands.history way.sent way.sure quit
+            (step.comes way.events way.past way.stands)
+            (inl (interleaves_both [] way.events (event ∷ []) way.given adds.given way.loads adds.loads way.interleaves adds.one));
+      }
+      | inr none ↦
+          let e : Err fault ≡ Err faults.NoMemory = step.no_memory (lacking session wanted (launch_of session.phase) event now next way.wanted_is from none.event_is none.given_are) in
+          let same : fault ≡ faults.NoMemory = cc in record {
+            events = way.events ++ event ∷ [];
+            given = way.given;
+            loads = way.loads;
+            given_are = none.given_are ∙ way.given_are;
+            loads_are = none.loads_are ∙ way.loads_are;
+            lawful = lawful_both way.events (event ∷ []) way.lawful law;
+            drives = ends way.events way.past way.stands.rest event after old mid later last way.given way.loads fault way.stands.history way.sent way.sure quit
+                (step.comes way.events way.past way.stands)
+                (inr (same, inr (record { before = way.events; path = none.path; events_are = ap (λ x. way.events ++ x ∷ []) none.event_is; awaited = none.awaited; interleaves = way.interleaves })));
+          }
+    ]
+
+-- a session that says it is closed was closed by something
+pub not_open_ended : (session : State) (e : Option Ending) (want : Want) → session.ending ≡ e → want ≡ want_is.Closed → Wants want session e → IsOpenEnded e → ⊥
+not_open_ended session None want is closed wants open_ = never want (launch_of session.phase) closed wants
+  where
+    never : (want : Want) (launch : Option Launch) → want ≡ want_is.Closed → WantsHere want launch → ⊥
+    never want None closed wants = cc
+    never want (Some launch) closed wants = let e = wants.1 in cc
+not_open_ended session (Some (ending.Closed by)) want is closed wants open_ = open_
+not_open_ended session (Some (ending.Fault fault)) want is closed wants open_ = wants

@@ -1,138 +1,158 @@
 -- One event more for a session that stands for some.
-use Rattle.std.proofs.Common.{◌≡◌, inl, inr, ℕ, ◌+◌, List, [], ◌∷◌, ◌++◌, None, Some, refl, sym, ◌∙◌, ap, subst, append-nil, add-zero}
-use Rattle.std.specs.Prelude.{unwrap_or, length}
-use Rattle.dap_session.specs.Last.{or_else, last_such}
-use Rattle.dap_session.specs.declared.ending.Closed.{Closed}
-use Rattle.dap_session.specs.declared.ending.Ending.TheVariants as ending
-use Rattle.dap_session.specs.declared.ports.Order.TheVariants.{Quit}
-use Rattle.dap_session.specs.Events as event
-use Rattle.dap_session.specs.History.{Item, History, messages_of, orders_of, mark_of, situation, next_seq, emits, closing, ending_of, quit_at, after}
-use Rattle.dap_session.specs.Events.{Incoming, IsTaking, Leads, LeadsAll}
+use Rattle.std.proofs.Common.{◌≡◌, ◌⊎◌, inl, inr, ℕ, List, [], ◌∷◌, ◌++◌, Option, None, Some, Result, Ok, Err, refl, sym, ◌∙◌, ap, subst}
+use Rattle.std.specs.Prelude.{IfOk, IfErr, String, string_bytes}
+use Rattle.std.specs.declared.alloc.Global.{Global}
+use Rattle.dap_msg.specs.declared.requests.initialize.InitializeArguments.{InitializeArguments}
+use Rattle.dap_history.specs.declared.fault.LoadFault.{LoadFault}
+use Rattle.dap_history.specs.declared.fault.LoadFault.TheVariants as load_fault
+use Rattle.dap_history.specs.declared.fault.SessionFault.{SessionFault}
+use Rattle.dap_history.specs.declared.fault.SessionFault.TheVariants.{Frame, NoMemory, SeqExhausted, OrdersFull, RunnerGone, WriterGone}
+use Rattle.dap_history.specs.declared.ending.Ending.{Ending}
+use Rattle.dap_history.specs.declared.launch.Launch.{Launch}
+use Rattle.dap_history.specs.History.{Item, MemoryFailure, Fault, History}
+use Rattle.dap_history.specs.Readings.{closing, ending_of}
+use Rattle.dap_history.specs.ReadingLaws.{ReadingsGoOn}
+use Rattle.dap_history.specs.Emission.{IsAfter}
+use Rattle.dap_history.specs.Events as event
+use Rattle.dap_history.specs.Events.{Incoming, Rest, only_bytes, IsTaking, Takes, none, Rests, closed, open_ended, faulty, waits, TakesAll, Loads, LeadsByPiece, LeadsByFile, Leads, LeadsAll}
+use Rattle.dap_phase.specs.declared.phase.Phase.TheVariants as phase
+use Rattle.dap_phase.specs.Phases.{launch_of}
+use Rattle.dap_session.specs.declared.want.Want.{Want}
+use Rattle.dap_session.specs.declared.want.Want.TheVariants as want_is
 use Rattle.dap_session.specs.Ports.{Ports}
-use Rattle.dap_session.specs.Output.{Sends}
-use Rattle.dap_session.specs.State.{State, Knows, StandsFor, Runs, KeepsOpen, FailsAt, EndsAt}
-use Rattle.dap_frame.specs.declared.fault.FramingFault.{FramingFault}
-use Rattle.dap_session.specs.declared.fault.SessionFault.TheVariants.{Framing}
-use Rattle.dap_session.proofs.Readings.{messages_of-after, orders_of-after, ending_of-after, situation-after, next_seq-after}
-use Rattle.dap_session.proofs.Taking.{sends_stay}
+use Rattle.dap_session.specs.State.{State, StandsFor, WantsHere, Wants}
+use Rattle.dap_session.specs.Taking.{TowardByPiece, LoadsToward, file_of, Toward, FailsAt, Comes}
+use Rattle.dap_session.specs.Handling.{Arrives, StopsOnTheWay, Handles}
+use Rattle.dap_session.proofs.Items.{ending_after}
 
-pub leads_more : (past : History) (rest : List ℕ) (events : List Incoming) (mid : History) (between : List ℕ) (event : Incoming) (new : History) (left : List ℕ)
+-- one event after others
+pub leads_one_more : (past : History) (rest : Rest) (events : List Incoming) (mid : History) (between : Rest) (event : Incoming) (new : History) (left : Rest)
     → LeadsAll past rest events mid between → Leads mid between event new left → LeadsAll past rest (events ++ event ∷ []) new left
-leads_more past rest [] mid between event new left all one =
-    (new, left, subst (λ h. Leads h rest event new left) all.0 (subst (λ b. Leads mid b event new left) all.1 one), (refl, refl))
-leads_more past rest (e ∷ events) mid between event new left all one =
-    (all.0, all.1, all.2, leads_more all.0 all.1 events mid between event new left all.3 one)
+leads_one_more past rest [] mid between event new left all leads =
+    (new, left, subst (λ h. Leads h rest event new left) all.0 (subst (λ b. Leads mid b event new left) all.1 leads), (refl, refl))
+leads_one_more past rest (e ∷ events) mid between event new left all leads =
+    (all.0, all.1, all.2, leads_one_more all.0 all.1 events mid between event new left all.3 leads)
 
--- what standing for one event more and having sent for it says
-abbrev pub GoesOn : State → List Incoming → History → Incoming → Ports → Ports → Type 0
-GoesOn session events past event old later = (new : History) × StandsFor session (events ++ event ∷ []) new × Sends past new old later
+-- ---- where a session goes on after an event, only items that it takes were taken
 
-pub goes_on_piece : (old new : State) (events : List Incoming) (past : History) (piece : List ℕ) (p q : Ports) → StandsFor old events past → old.ending ≡ None
-    → ((h : History) → Knows old h → Runs h (old.stream.rest ++ piece) new p q)
-    → GoesOn new events past (event.Piece piece) p q
-goes_on_piece old new events past piece p q stands taking runs =
-    let r = runs past stands.knows in
-    let same = ap (λ s. s.rest) (stands.stream_is (sym stands.knows.ending_is ∙ taking)) in (
-      r.new,
-      record {
-        rest = r.left;
-        history = leads_more [] [] events past stands.rest (event.Piece piece) r.new r.left stands.history (subst (λ b. Leads past b (event.Piece piece) r.new r.left) same r.taken);
-        knows = r.knows;
-        stream_is = r.stream_is;
-      },
-      r.sends,
-    )
+-- after an item that ends a session it takes nothing
+ended : ReadingsGoOn → (past : History) (item : Item) (ending : Ending) (new : History) → IsTaking past → closing item ≡ Some ending → IsAfter past item new → ¬ IsTaking new
+ended laws past item ending new taking closes after still =
+    let e : Some ending ≡ None =
+    sym closes ∙ sym (ap closing after.item_is) ∙ sym (ending_after laws past after.step taking) ∙ ap ending_of (sym after.new_is) ∙ still in
+    absurd cc
 
--- the fields after a closing
-pub record IsClosedBy (old new : State) (closed : Closed) : Type 0 where
-  pub situation_is : new.situation ≡ old.situation
-  pub ending_is : new.ending ≡ Some (ending.Closed closed)
-  pub seq_is : new.next_seq ≡ old.next_seq
+toward_by_rests : ReadingsGoOn → (past : History) (bytes : List ℕ) (mid : History) (left : List ℕ) (new : History) (rest : Rest) → Takes past bytes mid left → Rests mid left new rest → IsTaking new → (more : List ℕ) × Takes past bytes new more
+toward_by_rests laws past bytes mid left new rest taken (closed not) still = (left, taken)
+toward_by_rests laws past bytes mid left new rest taken (open_ended taking open_) still = (left, taken)
+toward_by_rests laws past bytes mid left new rest taken (waits request launch more taking front wanted) still = (left, taken)
+toward_by_rests laws past bytes mid left new rest taken (faulty k after_fault taking is after) still = absurd (ended laws mid (Fault k) _ new taking refl after still)
 
-knows_closed : (past : History) (item : Item) (closed : Closed) (old new : State) → emits past item ≡ [] → closing item ≡ Some (ending.Closed closed) → Knows old past → IsClosedBy old new closed → Knows new (after past item)
-knows_closed past item closed old new none closes knows is =
+toward_by_all : ReadingsGoOn → (past : History) (bytes : List ℕ) (new : History) (rest : Rest) → TakesAll past bytes new rest → IsTaking new → (more : List ℕ) × Takes past bytes new more
+toward_by_all laws past bytes new rest all still = toward_by_rests laws past bytes all.mid all.left new rest all.taken all.rests still
+
+toward_by_piece : ReadingsGoOn → (past : History) (launch : Option Launch) (bytes : List ℕ) (new : History) (left : Rest) → LeadsByPiece past launch bytes new left → IsTaking new → TowardByPiece past launch bytes new
+toward_by_piece laws past None bytes new left leads still = toward_by_all laws past bytes new left leads still
+toward_by_piece laws past (Some launch) bytes new left leads still = leads.0
+
+toward_by_loads : ReadingsGoOn → (past : History) (rest : Rest) (launch : Launch) (answer : Result (List ℕ) LoadFault) (file : Option (List ℕ)) (new : History) (left : Rest) → rest.launch ≡ Some launch → file_of answer ≡ Some file
+    → Loads past launch file rest.bytes new left → IsTaking new → LoadsToward past rest answer new
+toward_by_loads laws past rest launch answer file new left is file_is loads still =
+    let taken = toward_by_all laws loads.mid rest.bytes new left loads.after still in
+    record { launch = launch; waits = is; file = file; file_is = file_is; mid = loads.mid; loaded = loads.loaded; left = taken.0; taken = taken.1 }
+
+toward_by_file : ReadingsGoOn → (past : History) (rest : Rest) (launch : Option Launch) (answer : Result (List ℕ) LoadFault) (new : History) (left : Rest) → rest.launch ≡ launch → IsTaking past → LeadsByFile past rest launch answer new left → IsTaking new
+    → (new ≡ past) ⊎ LoadsToward past rest answer new
+toward_by_file laws past rest None answer new left is taking leads still = inl leads.0
+toward_by_file laws past rest (Some launch) (Ok file) new left is taking (inl not) still = inl not.1
+toward_by_file laws past rest (Some launch) (Ok file) new left is taking (inr loads) still = inr (toward_by_loads laws past rest launch (Ok file) (Some file) new left is refl loads still)
+toward_by_file laws past rest (Some launch) (Err load_fault.CannotRead) new left is taking (inl not) still = inl not.1
+toward_by_file laws past rest (Some launch) (Err load_fault.CannotRead) new left is taking (inr loads) still =
+    inr (toward_by_loads laws past rest launch (Err load_fault.CannotRead) None new left is refl loads still)
+toward_by_file laws past rest (Some launch) (Err load_fault.NoMemory) new left is taking leads still =
+    elim leads.0 [ inl not ↦ inl not.1 | inr after ↦ absurd (ended laws past MemoryFailure _ new taking refl after.1 still) ]
+
+leads_toward : ReadingsGoOn → (past : History) (rest : Rest) (e : Incoming) (new : History) (left : Rest) → IsTaking past → Leads past rest e new left → IsTaking new → Toward past rest e new
+leads_toward laws past rest (event.Piece piece) new left taking leads still = toward_by_piece laws past rest.launch (rest.bytes ++ piece) new left leads still
+leads_toward laws past rest event.End new left taking leads still = elim leads.0 [ inl not ↦ inl not.1 | inr after ↦ inr after.1 ]
+leads_toward laws past rest event.ReadFailed new left taking leads still = elim leads.0 [ inl not ↦ inl not.1 | inr after ↦ inr after.1 ]
+leads_toward laws past rest event.NoMemory new left taking leads still =
+    elim leads.0 [ inl not ↦ not.1 | inr after ↦ absurd (ended laws past MemoryFailure _ new taking refl after.1 still) ]
+leads_toward laws past rest (event.File answer) new left taking leads still = toward_by_file laws past rest rest.launch answer new left refl taking leads still
+leads_toward laws past rest (event.Report r) new left taking leads still = elim leads.0 [ inl not ↦ inl not.1 | inr is ↦ inr (is.1, is.2) ]
+
+-- ---- what comes of the event
+
+fails_at : (fault : SessionFault) (past : History) (rest : Rest) (e : Incoming) (old later : Ports) → StopsOnTheWay (Toward past rest e) past fault old later → FailsAt fault past rest e old later
+fails_at fault past rest e old later stops =
     record {
-      situation_is = is.situation_is ∙ knows.situation_is ∙ sym (situation-after past item ∙ ap (λ ms. unwrap_or (last_such mark_of ms) (situation past)) none);
-      ending_is = is.ending_is ∙ sym (ending_of-after past item ∙ ap (λ e. or_else e (ending_of past)) closes);
-      seq_is = is.seq_is ∙ knows.seq_is ∙ sym (next_seq-after past item ∙ ap (λ ms. next_seq past + length ms) none ∙ add-zero (next_seq past));
+      mid = stops.mid;
+      toward = stops.way;
+      between = stops.between;
+      sent = stops.sent;
+      refuses_nothing = stops.refuses_nothing;
+      next = stops.next;
+      next_is = stops.next_is;
+      breaks = stops.breaks;
     }
 
-sends_closing : (past : History) (item : Item) (closed : Closed) (p q : Ports) → emits past item ≡ [] → closing item ≡ Some (ending.Closed closed) → q.frames ≡ p.frames → q.orders ≡ p.orders ++ Quit ∷ [] → Sends past (after past item) p q
-sends_closing past item closed p q none closes frames orders =
+-- a fault that is none of framing
+comes_of_stop : (fault : SessionFault) (events : List Incoming) (past : History) (rest : Rest) (e : Incoming) (session : State) (old later : Ports) → StopsOnTheWay (Toward past rest e) past fault old later
+    → Comes (Err fault) events past rest e session old later
+comes_of_stop (Frame k) events past rest e session old later stops = absurd stops.breaks
+comes_of_stop NoMemory events past rest e session old later stops = fails_at NoMemory past rest e old later stops
+comes_of_stop SeqExhausted events past rest e session old later stops = fails_at SeqExhausted past rest e old later stops
+comes_of_stop OrdersFull events past rest e session old later stops = fails_at OrdersFull past rest e old later stops
+comes_of_stop RunnerGone events past rest e session old later stops = fails_at RunnerGone past rest e old later stops
+comes_of_stop WriterGone events past rest e session old later stops = fails_at WriterGone past rest e old later stops
+
+-- the session gave up
+pub comes_of_fault : (fault : SessionFault) (events : List Incoming) (past : History) (e : Incoming) (start session last : State) (old later : Ports) (stands : StandsFor start events past) → Handles (Err fault) past stands.rest e session old later
+    → Comes (Err fault) events past stands.rest e last old later
+comes_of_fault fault events past e start session last old later stands (inl stops) = comes_of_stop fault events past stands.rest e last old later stops
+comes_of_fault fault events past e start session last old later stands (inr ends) =
+    rw ends.1 (record {
+      new = ends.2.new;
+      rest = ends.2.rest;
+      history = leads_one_more [] (only_bytes []) events past stands.rest e ends.2.new ends.2.rest stands.history ends.2.way;
+      ending_is = ends.2.ending_is;
+      sends = ends.2.sends;
+      refuses_nothing = ends.2.refuses_nothing;
+    })
+
+-- The session came through the event. It asks for something next, or there was no memory to ask.
+pub comes_of_want : ReadingsGoOn → (result : Result Want SessionFault) (events : List Incoming) (past : History) (e : Incoming) (start session : State) (old later : Ports) (stands : StandsFor start events past) → IsTaking past
+    → Arrives (Leads past stands.rest e) past session old later
+    → IfOk result (λ want. Wants want session session.ending) → IfErr result (λ fault. (fault ≡ NoMemory) × (session.ending ≡ None))
+    → Comes result events past stands.rest e session old later
+comes_of_want laws (Ok want) events past e start session old later stands taking came wants lost =
     record {
-      messages = [];
-      orders = Quit ∷ [];
-      adds = record {
-        messages_are = messages_of-after past item ∙ ap (λ l. messages_of past ++ l) none;
-        orders_are = orders_of-after past item ∙ ap (λ e. orders_of past ++ quit_at e) closes;
+      new = came.new;
+      stands = record {
+        rest = came.rest;
+        history = leads_one_more [] (only_bytes []) events past stands.rest e came.new came.rest stands.history came.way;
+        ending_is = came.ending_is;
+        goes_on = came.goes_on;
       };
-      frames_are = frames ∙ sym (append-nil p.frames);
-      orders_are = orders;
+      sends = came.sends;
+      refuses_nothing = came.refuses_nothing;
+      wants = wants;
     }
+comes_of_want laws (Err fault) events past e start session old later stands taking came wants lost =
+    rw lost.0 (record {
+      mid = came.new;
+      toward = leads_toward laws past stands.rest e came.new came.rest taking came.way (sym came.ending_is ∙ lost.1);
+      between = later;
+      sent = came.sends;
+      refuses_nothing = came.refuses_nothing;
+      next = came.new;
+      next_is = inl refl;
+      breaks = refl;
+    })
 
-pub goes_on_closing : (old new : State) (events : List Incoming) (past : History) (event : Incoming) (item : Item) (closed : Closed) (p q : Ports)
-    → StandsFor old events past → old.ending ≡ None
-    → ((rest : List ℕ) → IsTaking past → Leads past rest event (after past item) rest)
-    → emits past item ≡ [] → closing item ≡ Some (ending.Closed closed)
-    → IsClosedBy old new closed → q.frames ≡ p.frames → q.orders ≡ p.orders ++ Quit ∷ []
-    → GoesOn new events past event p q
-goes_on_closing old new events past event item closed p q stands taking leads none closes is frames orders =
-    let taken : IsTaking past = sym stands.knows.ending_is ∙ taking in
-    let known = knows_closed past item closed old new none closes stands.knows is in (
-      after past item,
-      record {
-        rest = stands.rest;
-        history = leads_more [] [] events past stands.rest event (after past item) stands.rest stands.history (leads stands.rest taken);
-        knows = known;
-        stream_is = λ t. absurd (let e : Some (ending.Closed closed) ≡ None = sym is.ending_is ∙ known.ending_is ∙ t in cc);
-      },
-      sends_closing past item closed p q none closes frames orders,
-    )
-
--- a closed session stands for whatever comes after
-leads_nowhere : (past : History) (rest : List ℕ) (event : Incoming) → ¬ IsTaking past → (left : List ℕ) × Leads past rest event past left
-leads_nowhere past rest (event.Piece piece) closed =
-    (rest ++ piece, record { contents = []; mid = past; taken = (refl, refl); rests = inl (closed, refl) })
-leads_nowhere past rest event.End closed = (rest, (inl (closed, refl), refl))
-leads_nowhere past rest event.ReadFailed closed = (rest, (inl (closed, refl), refl))
-leads_nowhere past rest event.NoMemory closed = (rest, (inl (closed, refl), refl))
-
-pub stays_closed : (session : State) (events : List Incoming) (past : History) (event : Incoming) (p : Ports) → StandsFor session events past → ¬ (session.ending ≡ None)
-    → GoesOn session events past event p p
-stays_closed session events past event p stands closed =
-    let shut : ¬ IsTaking past = λ t. closed (stands.knows.ending_is ∙ t) in
-    let one = leads_nowhere past stands.rest event shut in (
-      past,
-      record {
-        rest = one.0;
-        history = leads_more [] [] events past stands.rest event past one.0 stands.history one.1;
-        knows = stands.knows;
-        stream_is = λ t. absurd (shut t);
-      },
-      sends_stay past p p refl refl,
-    )
-
--- ---- a framing fault
-
-not_frame : (k : FramingFault) (old later : Ports) → KeepsOpen (Framing k) old later → ⊥
-not_frame k old later is = elim is.cause [ inl full ↦ absurd (let e = full.0 in cc) | inr gone ↦ absurd (let e = gone.0 in cc) ]
-
--- at a framing fault the last event leads on, and all was sent
-leads_to_fault : (past : History) (rest : List ℕ) (event : Incoming) (k : FramingFault) (old later : Ports) → FailsAt (Framing k) past rest event old later
-    → (new : History) × (left : List ℕ) × Leads past rest event new left × (ending_of new ≡ Some (ending.Fault (Framing k))) × Sends past new old later
-leads_to_fault past rest (event.Piece piece) k old later b = (b.new, b.left, b.taken, b.ending_is, b.sends)
-leads_to_fault past rest event.End k old later b = absurd (not_frame k old later b)
-leads_to_fault past rest event.ReadFailed k old later b = absurd (not_frame k old later b)
-leads_to_fault past rest event.NoMemory k old later b = absurd (let e = b.0 in cc)
-
-pub ends_at_fault : (session : State) (k : FramingFault) (events : List Incoming) (past : History) (event : Incoming) (p q : Ports) (stands : StandsFor session events past)
-    → FailsAt (Framing k) past stands.rest event p q → EndsAt k events past event p q
-ends_at_fault session k events past event p q stands fails =
-    let b = leads_to_fault past stands.rest event k p q fails in
-    record {
-      new = b.0;
-      left = b.1;
-      history = leads_more [] [] events past stands.rest event b.0 b.1 stands.history b.2;
-      ending_is = b.3;
-      sends = b.4;
-    }
+-- a launch waits for the file at the path
+pub wants_file : (session : State) (path : String Global) (settings : InitializeArguments) (launch : Launch) → session.ending ≡ None → session.phase ≡ phase.Launching settings launch → string_bytes path ≡ launch.arguments.program
+    → Wants (want_is.File path) session session.ending
+wants_file session path settings launch open_ launching spelled =
+    subst (λ ending. Wants (want_is.File path) session ending) (sym open_)
+    (subst (λ p. WantsHere (want_is.File path) (launch_of p)) (sym launching) (path, refl, spelled))

@@ -1,11 +1,22 @@
--- What the public contracts say.
-pub mod Events
-pub mod History
-pub mod Last
-pub mod Output
+-- What public contracts cite.
+-- what an event is as data
+pub mod Incoming
+-- what a port has done so far
 pub mod Ports
+-- what of a history was sent
+pub mod Sending
+-- what a session keeps
 pub mod State
-pub mod Served
-pub mod Laws
--- What the code between them says.
-pub mod Answers
+-- what comes of one event
+pub mod Taking
+-- what comes of all
+pub mod Serving
+-- What only inner contracts cite.
+-- what comes of one step
+pub mod Steps
+-- what the functions leave that take an event
+pub mod Handling
+-- what comes of the parts of a step's sending
+pub mod Building
+-- where the next event comes from
+pub mod Coming

@@ -1,23 +1,19 @@
 -- What a port has done so far.
 use Rattle.std.specs.Prelude.{ℕ, List, Result}
-use Rattle.dap_session.specs.declared.ports.LoadFault.{LoadFault}
-use Rattle.dap_session.specs.declared.ports.Order.{Order}
+use Rattle.dap_history.specs.declared.fault.LoadFault.{LoadFault}
+use Rattle.dap_history.specs.Interleaving.{Load}
+use Rattle.dbg_runner.specs.Plain.{PlainOrder}
 
--- The frames put, the oldest first, and how often one was refused.
+-- The frames put, and those that were refused, the oldest first.
 pub record Written : Type 0 where
   pub frames : List (List ℕ)
-  pub refusals : ℕ
+  pub refused : List (List ℕ)
 
 -- The orders pushed, the oldest first, and how often one was refused: because there was no room, and because nobody takes any.
 pub record Ordered : Type 0 where
-  pub orders : List Order
+  pub orders : List PlainOrder
   pub fulls : ℕ
   pub refusals : ℕ
-
--- A path that a loader was asked for, and what it answered: the file's bytes, or why there are none.
-pub record Load : Type 0 where
-  pub path : List ℕ
-  pub answer : Result (List ℕ) LoadFault
 
 abbrev pub load_of : List ℕ → Result (List ℕ) LoadFault → Load
 load_of path answer = record { path = path; answer = answer }
@@ -25,10 +21,10 @@ load_of path answer = record { path = path; answer = answer }
 -- both ports of a session
 pub record Ports : Type 0 where
   pub frames : List (List ℕ)
-  pub orders : List Order
-  pub writer_gone : ℕ
+  pub orders : List PlainOrder
+  pub refused : List (List ℕ)
   pub runner_gone : ℕ
   pub orders_full : ℕ
 
 abbrev pub ports : Written → Ordered → Ports
-ports out orders = record { frames = out.frames; orders = orders.orders; writer_gone = out.refusals; runner_gone = orders.refusals; orders_full = orders.fulls }
+ports out orders = record { frames = out.frames; orders = orders.orders; refused = out.refused; runner_gone = orders.refusals; orders_full = orders.fulls }

@@ -1,20 +1,24 @@
-ghost use Rattle.std.specs.Prelude.{◌≡◌, ◌++◌, List, Err, IfOk, IfErr};
-ghost use Rattle.dap_frame.specs.declared.fault.FramingFault.{FramingFault};
-ghost use Rattle.dap_session.specs.Events.{Incoming};
-ghost use Rattle.dap_session.specs.declared.fault.SessionFault.TheVariants.{Framing};
-ghost use Rattle.dap_session.specs.declared.ending.Ending.TheVariants as ending;
-ghost use Rattle.dap_session.specs.Output.{HasTriedQuit};
-ghost use Rattle.dap_session.specs.Ports.{ports};
-ghost use Rattle.dap_session.specs.Served.{Serves, ServesUntilFault, StopsShort};
+// The loop over events.
 
-use crate::ending::{Closed, Want};
-use crate::fault::SessionFault;
-use crate::ports::{Inbox, Loader, Order, OrderFault, Orders, Out};
+ghost use Rattle.std.specs.Prelude.{◌≡◌, ◌++◌, ◌∷◌, [], option_map, string_bytes};
+ghost use Rattle.dap_history.specs.Events.{AreLawful};
+ghost use Rattle.dap_session.specs.Coming.{Sources, ComesFrom, sources};
+ghost use Rattle.dap_session.specs.Incoming.{incoming_of};
+ghost use Rattle.dap_session.specs.Ports.{ports};
+ghost use Rattle.dap_session.specs.Sending.{HasTriedQuit};
+ghost use Rattle.dap_session.specs.Serving.{Driven};
+ghost use Rattle.dap_session.specs.State.{StandsFor};
+
+use crate::ports::{Event, Inbox, Loader, OrderFault, Orders, Out};
 use crate::session::Session;
+use crate::want::Want;
+use dap_history::{Closed, SessionFault};
+use dbg_runner::Order;
 use std::alloc::Global;
 use std::sync::Wait;
 
-/// Takes events until the session is closed or gives up, and returns what closed it. The loader is asked for nothing.
+/// Takes events until the session is closed or gives up, and returns what closed it. The loader is asked for a file where
+/// one is wanted, at once.
 ///
 /// # Errors
 ///
@@ -28,32 +32,38 @@ pub fn drive<I: Inbox, L: Loader, O: Out, D: Orders>(
     out: &mut O,
     orders: &mut D,
 ) -> Result<Closed, SessionFault>
-    // All that the events give was sent, the frames of their messages and their orders, and the result is what
-    // closed the session.
-    ensures ok { IfOk result (λ closed. (events : List Incoming)
-        × (I.given inbox.new ≡ I.given inbox.old ++ events)
-        × Serves events (ending.Closed closed)
-        (ports (O.seen out.old) (D.seen orders.old))
-        (ports (O.seen out.new) (D.seen orders.new))) }
-    // So it was where a framing fault ended it.
-    ensures framing { (fault : FramingFault) → result ≡ Err (Framing fault) → (events : List Incoming)
-        × (I.given inbox.new ≡ I.given inbox.old ++ events)
-        × ServesUntilFault events fault
+    ensures driven { Driven result (I.given inbox.old) (I.given inbox.new) (L.loaded loader.old) (L.loaded loader.new)
         (ports (O.seen out.old) (D.seen orders.old))
         (ports (O.seen out.new) (D.seen orders.new)) }
-    // After any other fault a beginning of it was.
-    ensures err { IfErr result (λ fault. (events : List Incoming)
-        × (I.given inbox.new ≡ I.given inbox.old ++ events)
-        × StopsShort events fault
-        (ports (O.seen out.old) (D.seen orders.old))
-        (ports (O.seen out.new) (D.seen orders.new))) }
-    ensures loader { L.loaded loader.new ≡ L.loaded loader.old }
+    ensures inbox { I.origin inbox.new ≡ I.origin inbox.old }
+    ensures out { O.origin out.new ≡ O.origin out.old }
 {
     let mut session = Session::new(alloc);
+    take_all(rt, &mut session, inbox, loader, out, orders)
+}
+
+/// Takes events with a session that has taken none.
+fn take_all<I: Inbox, L: Loader, O: Out, D: Orders>(
+    rt: &impl Wait,
+    session: &mut Session,
+    inbox: &mut I,
+    loader: &mut L,
+    out: &mut O,
+    orders: &mut D,
+) -> Result<Closed, SessionFault>
+    requires { StandsFor session.old [] [] }
+    ensures driven { Driven result (I.given inbox.old) (I.given inbox.new) (L.loaded loader.old) (L.loaded loader.new)
+        (ports (O.seen out.old) (D.seen orders.old))
+        (ports (O.seen out.new) (D.seen orders.new)) }
+    ensures inbox { I.origin inbox.new ≡ I.origin inbox.old }
+    ensures out { O.origin out.new ≡ O.origin out.old }
+{
+    let mut wanted = None;
     for _ in rt.forever() {
-        let event = inbox.next();
+        let event = next_event(&wanted, inbox, loader);
         match session.take(event, out, orders) {
-            Ok(Want::Event) => {}
+            Ok(Want::Event) => wanted = None,
+            Ok(Want::File(path)) => wanted = Some(path),
             Ok(Want::Closed) => match session.closed() {
                 Some(closed) => return Ok(closed),
                 None => unreachable!(),
@@ -65,6 +75,34 @@ pub fn drive<I: Inbox, L: Loader, O: Out, D: Orders>(
         }
     }
     unreachable!()
+}
+
+/// The file at a path that is wanted, or the next event.
+fn next_event<I: Inbox, L: Loader>(wanted: &Option<String>, inbox: &mut I, loader: &mut L) -> Event
+    ensures from { ComesFrom (option_map (λ path. string_bytes path) wanted.now) (incoming_of result)
+        (sources (I.given inbox.old) (L.loaded loader.old))
+        (sources (I.given inbox.new) (L.loaded loader.new)) }
+    ensures lawful { AreLawful (incoming_of result ∷ []) }
+    ensures origin { I.origin inbox.new ≡ I.origin inbox.old }
+{
+    match wanted {
+        Some(path) => Event::File(loader.load(path.as_str())),
+        None => lawful(inbox.next()),
+    }
+}
+
+/// The event itself. A report in it is lawful, as each report.
+fn lawful(event: Event) -> Event
+    ensures same { result ≡ event }
+    ensures lawful { AreLawful (incoming_of result ∷ []) }
+{
+    match event {
+        Event::Report(report) => {
+            report.outcome();
+            Event::Report(report)
+        }
+        event => event,
+    }
 }
 
 /// Pushes the order to quit. That it was refused is not reported.

@@ -1,28 +1,22 @@
 //! A session of the Debug Adapter Protocol: events in, frames and orders out.
 //!
-//! The one contract is that of [`drive`]: for every list of events, what is put is the frames of the messages that
-//! the events give, numbered from 1, what is pushed is the orders that they cause, and the answer names what closed the
-//! session. [`Session::take`] says the same of one event. What the events give is defined in `specs/`: items
-//! (`Events`), what each causes (`History`), and laws of all that is sent (`Laws`), which [`session_laws`] proves.
+//! The one contract is that of [`drive`]: for every interleaving of what an inbox and a loader give, what is put is the frames of
+//! the messages that these events give, numbered from 1, what is pushed is the orders that they cause, and the result names
+//! what closed the session. [`Session::take`] says the same of one event. What events give, and the laws of all that is sent,
+//! stand in `dap_history`; what a session does at one item in `dap_replies`.
 //!
-//! No history is stored: a session's fields are readings of the list of items so far, and a contract speaks of every
-//! list that the session stands for. The hard lemma is `way_goes_on` in `proofs/Way.antt`: one content more, taken in
-//! the middle of a piece, keeps the readings true and the frames in step with the messages. The loop over the contents
-//! needs it, since a `disconnect` in mid-piece leaves the rest of the stream unread.
+//! No history is stored: a session's fields are readings of the steps so far (`specs/State`), and a contract speaks of every
+//! list of events that the session stands for.
 #![tactic(auto)]
 
 mod driving;
-mod ending;
-mod fault;
-mod laws;
 mod ports;
 mod session;
-mod situation;
+mod want;
 
+pub use dap_history::{Closed, Ending, LoadFault, SessionFault};
+pub use dbg_runner::{Order, Report};
 pub use driving::drive;
-pub use ending::{Closed, Ending, Want};
-pub use fault::SessionFault;
-pub use laws::session_laws;
-pub use ports::{Event, Inbox, LoadFault, Loader, Order, OrderFault, Orders, Out};
+pub use ports::{Event, Inbox, Loader, OrderFault, Orders, Out};
 pub use session::Session;
-pub use situation::Situation;
+pub use want::Want;

@@ -1,16 +1,20 @@
-ghost use Rattle.std.specs.Prelude.{◌≡◌, ◌≢◌, ◌++◌, ◌∷◌, [], List, Some, None, Err, IfOk, IfErr, OnOk, MatchOption};
+// A session.
 
-mod answers;
+ghost use Rattle.std.specs.Prelude.{◌≡◌, Some, None, IfErr, MatchOption};
+
 mod closing;
 mod contents;
+mod files;
+mod reports;
 mod requests;
+mod sending;
 
-use crate::ending::{Closed, Ending, Want};
-use crate::fault::SessionFault;
 use crate::ports::{Event, Orders, Out};
-use crate::situation::Situation;
+use crate::want::Want;
 use dap_frame::Decoder;
-use std::alloc::Global;
+use dap_history::{Closed, Ending, SessionFault, reading_laws};
+use dap_phase::Phase;
+use std::alloc::{AllocError, Global};
 use std::marker::Model;
 
 /// A session, which takes events and sends frames and orders.
@@ -18,30 +22,37 @@ use std::marker::Model;
 pub struct Session {
     alloc: Global,
     decoder: Decoder,
-    situation: Situation,
+    phase: Phase,
     ending: Option<Ending>,
     next_seq: u64,
 }
 
 impl Model for Session {
     ghost use Rattle.dap_session.specs.State.{State};
+    ghost use Rattle.pl0_unit.specs.contracts.unit.Unit as compiled;
+    ghost use Rattle.dbg_plan.specs.Breakpoints.{breakpoint_code};
+    ghost use Rattle.std.specs.Coded.{codes};
 
     ghost Value = { State };
 
-    ghost view = { λ session. record { stream = session.decoder; situation = session.situation; ending = session.ending; next_seq = session.next_seq } };
+    ghost coded = { Prim.hlevel (codes, compiled.the_row.coded, breakpoint_code) };
+
+    ghost view = { λ session. record { stream = session.decoder; phase = session.phase; ending = session.ending; next_seq = session.next_seq } };
 }
 
 impl Session {
-    ghost use Rattle.dap_session.specs.declared.ports.Event.TheVariants as event_is;
-    ghost use Rattle.dap_session.specs.declared.fault.SessionFault.{SessionFault};
-    ghost use Rattle.dap_session.specs.declared.fault.SessionFault.TheVariants.{Framing, NoMemory};
-    ghost use Rattle.dap_frame.specs.declared.fault.FramingFault.{FramingFault};
-    ghost use Rattle.dap_session.specs.declared.ending.Ending.TheVariants as ending;
-    ghost use Rattle.dap_session.specs.History.{History};
-    ghost use Rattle.dap_session.specs.Events.{Incoming, incoming_of};
+    ghost use Rattle.std.specs.Prelude.{◌≡◌, ◌≢◌, [], List, Some, None, Err, IfOk, IfErr, OnOk};
+    ghost use Rattle.dap_history.specs.declared.fault.SessionFault.TheVariants.{NoMemory};
+    ghost use Rattle.dap_history.specs.declared.ending.Ending.{Ending as AnEnding};
+    ghost use Rattle.dap_history.specs.declared.ending.Ending.TheVariants as ending;
+    ghost use Rattle.dap_history.specs.History.{History};
+    ghost use Rattle.dap_history.specs.Events.{Incoming, Rest, IsTaking};
+    ghost use Rattle.dap_phase.specs.Phases.{launch_of};
+    ghost use Rattle.dap_session.specs.Incoming.{incoming_of};
     ghost use Rattle.dap_session.specs.Ports.{ports};
-    ghost use Rattle.dap_session.specs.Output.{Sends, RefusesNothing};
-    ghost use Rattle.dap_session.specs.State.{StandsFor, EndsAt, FailsAt, IsWell, IsOpenEnded, Wants};
+    ghost use Rattle.dap_session.specs.State.{StandsFor, GoesOn, IsOpenEnded, Wants, answer_of};
+    ghost use Rattle.dap_session.specs.Taking.{LacksMemory, Comes};
+    ghost use Rattle.dap_session.specs.Handling.{Handles, IsWell};
 
     /// A session that has taken nothing. It takes no memory.
     pub fn new(alloc: Global) -> Session
@@ -50,7 +61,7 @@ impl Session {
         Session {
             alloc,
             decoder: Decoder::new(alloc),
-            situation: Situation::Fresh,
+            phase: Phase::Fresh,
             ending: None,
             next_seq: 1,
         }
@@ -78,54 +89,49 @@ impl Session {
         out: &mut O,
         orders: &mut D,
     ) -> Result<Want, SessionFault>
-        // Whatever events the session stands for, it stands for these and this one, and has sent what this one adds.
-        ensures ok { OnOk result ((events : List Incoming) (past : History) → StandsFor self.old events past →
-            (new : History) × StandsFor self.new (events ++ incoming_of event ∷ []) new
-            × Sends past new
-            (ports (O.seen out.old) (D.seen orders.old))
-            (ports (O.seen out.new) (D.seen orders.new))) }
-        ensures sure { OnOk result (RefusesNothing
-            (ports (O.seen out.old) (D.seen orders.old))
-            (ports (O.seen out.new) (D.seen orders.new))) }
-        ensures want { IfOk result (λ want. Wants want self.new.ending) }
-
-        // So it is at a framing fault, with which the items end.
-        ensures framing { (fault : FramingFault) → result ≡ Err (Framing fault) → self.old.ending ≡ None →
-            (events : List Incoming) (past : History) → StandsFor self.old events past →
-            EndsAt fault events past (incoming_of event)
+        // Whatever events the session stands for, this comes of one more.
+        ensures comes { self.old.ending ≡ None → (events : List Incoming) (past : History) (stands : StandsFor self.old events past) →
+            Comes result events past stands.rest (incoming_of event) self.new
             (ports (O.seen out.old) (D.seen orders.old))
             (ports (O.seen out.new) (D.seen orders.new)) }
-        // A fault comes where it may, and what was sent is a beginning of what the event adds.
-        ensures err { IfErr result (λ fault. self.old.ending ≡ None →
-            (events : List Incoming) (past : History) (stands : StandsFor self.old events past) →
-            FailsAt fault past stands.rest (incoming_of event)
-            (ports (O.seen out.old) (D.seen orders.old))
-            (ports (O.seen out.new) (D.seen orders.new))) }
         ensures failed { IfErr result (λ fault. self.new.ending ≡ Some (ending.Fault fault)) }
-        ensures no_memory { event ≡ event_is.NoMemory → self.old.ending ≡ None → result ≡ Err NoMemory }
-
-        // A fault stays for good.
-        ensures again { (fault : SessionFault) → self.old.ending ≡ Some (ending.Fault fault) → result ≡ Err fault }
-        // Once the session is closed or gave up, nothing is sent.
-        ensures quiet { self.old.ending ≢ None →
-            ((O.seen out.new).frames ≡ (O.seen out.old).frames) × ((D.seen orders.new).orders ≡ (D.seen orders.old).orders) }
+        ensures no_memory { self.old.ending ≡ None → LacksMemory (incoming_of event) (launch_of self.old.phase) → result ≡ Err NoMemory }
+        // Once it is closed or gave up, it answers so for good, and nothing changes.
+        ensures answer { (over : AnEnding) → self.old.ending ≡ Some over → result ≡ answer_of over }
+        ensures quiet { self.old.ending ≢ None → ports (O.seen out.new) (D.seen orders.new) ≡ ports (O.seen out.old) (D.seen orders.old) }
+        ensures same { self.old.ending ≢ None → self.new ≡ self.old }
+        ensures out { O.origin out.new ≡ O.origin out.old }
     {
         match self.ending {
             Some(Ending::Fault(fault)) => return Err(fault),
             Some(Ending::Closed(_)) => return Ok(Want::Closed),
             None => {}
         }
-        match self.take_event(event, out, orders) {
-            Ok(()) => Ok(if self.ending.is_some() {
-                Want::Closed
-            } else {
-                Want::Event
-            }),
-            Err(fault) => {
-                self.ending = Some(Ending::Fault(fault));
-                Err(fault)
-            }
+        let result = self.go_on(event, out, orders);
+        if let Err(fault) = result {
+            self.ending = Some(Ending::Fault(fault));
         }
+        result
+    }
+
+    /// Takes an event while the session has not ended, and returns what the session asks for next.
+    fn go_on<O: Out, D: Orders>(
+        &mut self,
+        event: Event,
+        out: &mut O,
+        orders: &mut D,
+    ) -> Result<Want, SessionFault>
+        requires { self.old.ending ≡ None }
+        ensures comes { (events : List Incoming) (past : History) (stands : StandsFor self.old events past) →
+            Comes result events past stands.rest (incoming_of event) self.new
+            (ports (O.seen out.old) (D.seen orders.old))
+            (ports (O.seen out.new) (D.seen orders.new)) }
+        ensures no_memory { LacksMemory (incoming_of event) (launch_of self.old.phase) → result ≡ Err NoMemory }
+        ensures out { O.origin out.new ≡ O.origin out.old }
+    {
+        reading_laws();
+        self.take_event(event, out, orders)?;
+        self.want()
     }
 
     /// Takes an event while the session has not ended.
@@ -136,26 +142,40 @@ impl Session {
         orders: &mut D,
     ) -> Result<(), SessionFault>
         requires { self.old.ending ≡ None }
-        ensures ok { OnOk result ((events : List Incoming) (past : History) → StandsFor self.old events past →
-            (new : History) × StandsFor self.new (events ++ incoming_of event ∷ []) new
-            × Sends past new
+        ensures comes { (past : History) (rest : Rest) → IsTaking past → GoesOn self.old past rest →
+            Handles result past rest (incoming_of event) self.new
             (ports (O.seen out.old) (D.seen orders.old))
-            (ports (O.seen out.new) (D.seen orders.new))) }
-        ensures sure { OnOk result (RefusesNothing
-            (ports (O.seen out.old) (D.seen orders.old))
-            (ports (O.seen out.new) (D.seen orders.new))) }
-        ensures err { IfErr result (λ fault. (events : List Incoming) (past : History) (stands : StandsFor self.old events past) →
-            FailsAt fault past stands.rest (incoming_of event)
-            (ports (O.seen out.old) (D.seen orders.old))
-            (ports (O.seen out.new) (D.seen orders.new))) }
-        ensures no_memory { event ≡ event_is.NoMemory → result ≡ Err NoMemory }
+            (ports (O.seen out.new) (D.seen orders.new)) }
+        ensures no_memory { LacksMemory (incoming_of event) (launch_of self.old.phase) → result ≡ Err NoMemory }
         ensures well { OnOk result (IsWell self.new.ending) }
+        ensures out { O.origin out.new ≡ O.origin out.old }
     {
+        reading_laws();
         match event {
             Event::Piece(piece) => self.take_piece(piece.as_slice(), out, orders),
             Event::End => self.close(Closed::InputEnded, orders),
             Event::ReadFailed => self.close(Closed::ReadFailed, orders),
             Event::NoMemory => Err(SessionFault::NoMemory),
+            Event::File(file) => self.take_file(file, out, orders),
+            Event::Report(report) => self.take_report(report, out, orders),
+        }
+    }
+
+    /// What the session asks for next.
+    fn want(&self) -> Result<Want, SessionFault>
+        requires { IsWell self.now.ending }
+        ensures ok { IfOk result (λ want. Wants want self.now self.now.ending) }
+        ensures err { IfErr result (λ fault. (fault ≡ NoMemory) × (self.now.ending ≡ None)) }
+    {
+        if self.ending.is_some() {
+            return Ok(Want::Closed);
+        }
+        let Phase::Launching(_, launch) = &self.phase else {
+            return Ok(Want::Event);
+        };
+        match String::from_str(self.alloc, launch.arguments.program.as_str()) {
+            Ok(path) => Ok(Want::File(path)),
+            Err(AllocError) => Err(SessionFault::NoMemory),
         }
     }
 }

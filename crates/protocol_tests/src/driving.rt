@@ -4,7 +4,9 @@ use crate::fakes::{FramesPut, OneFile, OrdersPushed, Script};
 use crate::rows::{FAULTS, HELLO, INITIALIZE, ROWS, Row, fault_row};
 use crate::transcript::{ANSWERED, frames, input};
 use dap_session::{Closed, Event, SessionFault, drive};
+use dbg_runner::History;
 use std::alloc::{AllocError, Global};
+use std::collections::VecDeque;
 use std::process::Abort;
 use std::sync::Wait;
 use std::test::Fail;
@@ -42,12 +44,12 @@ const AMPLE: Ports = Ports {
 };
 
 /// The pieces of an input, and what comes after them.
-fn events(alloc: Global, input: &[u8], ports: Ports) -> Result<Vec<Event>, AllocError> {
-    let mut events = Vec::new(alloc);
+fn events(alloc: Global, input: &[u8], ports: Ports) -> Result<VecDeque<Event>, AllocError> {
+    let mut events = VecDeque::new(alloc);
     for piece in input.chunks(ports.piece.max(1)) {
-        events.push(Event::Piece(piece.to_vec(alloc)?))?;
+        events.push_back(Event::Piece(piece.to_vec(alloc)?))?;
     }
-    events.push(match ports.last {
+    events.push_back(match ports.last {
         Last::End => Event::End,
         Last::ReadFailed => Event::ReadFailed,
         Last::NoMemory => Event::NoMemory,
@@ -65,13 +67,12 @@ fn run<R: Abort + Wait>(
     let mut script = Script {
         rt,
         events: events(alloc, input, ports)?,
-        taken: 0,
+        given: History::new(),
     };
     let mut out = FramesPut {
-        rt,
         frames: Vec::new(alloc),
         room: ports.frames,
-        refusals: 0,
+        refused: History::new(),
     };
     let mut orders = OrdersPushed {
         rt,

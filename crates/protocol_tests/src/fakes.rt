@@ -1,11 +1,12 @@
 //! Ports and streams over memory. Their clauses claim no byte that comes or goes: the tests compare them.
-ghost use Rattle.std.specs.Prelude.{◌≡◌, ◌+◌, None, IfOk};
-ghost use Rattle.dap_session.specs.Events.{incoming_of};
+ghost use Rattle.std.specs.Prelude.{◌≡◌, ◌+◌, ℕ, None};
 
-use adapter::{Gate, IoFault, Sink, Source};
+use adapter::{IoFault, Sink, Source};
 use dap_session::{Event, Inbox, LoadFault, Loader, Order, OrderFault, Orders, Out};
-use std::alloc::{AllocError, Global};
+use dbg_runner::{Gate, History};
+use std::alloc::Global;
 use std::cell::Cell;
+use std::collections::VecDeque;
 use std::process::Abort;
 
 /// One more; a count that would pass 2^64 - 1 ends the test.
@@ -15,68 +16,57 @@ fn next_count(rt: &impl Abort, count: u64) -> u64
     count.checked_add(1).expect(rt, "a count")
 }
 
-/// An inbox of these events, asked for no more than them. An event that can't be copied becomes `NoMemory`.
+/// An inbox of these events, asked for no more than them.
 #[derive(Drop)]
 pub struct Script<'a, R: Abort> {
     pub rt: &'a R,
-    pub events: Vec<Event>,
-    pub taken: usize,
+    pub events: VecDeque<Event>,
+    pub given: History<Event>,
 }
 
 impl<R: Abort> Inbox for Script<'_, R> {
-    ghost use Rattle.std.specs.Prelude.{map, take};
+    ghost use Rattle.std.specs.Prelude.{map};
+    ghost use Rattle.dap_session.specs.Incoming.{incoming_of};
 
-    ghost given = { λ s. map incoming_of (take s.taken s.events.items) };
+    ghost given = { λ s. map incoming_of s.given.entries };
+
+    ghost Origin = { ℕ };
+
+    ghost origin = { λ _. 0 };
 
     fn next(&mut self) -> Event {
-        let at = self.taken;
-        assert!(self.rt; at < self.events.len(), "the script has ended");
-        let event = match copy(*self.events.allocator(), &self.events[at]) {
-            Ok(event) => event,
-            Err(_) => {
-                self.events[at] = Event::NoMemory;
-                Event::NoMemory
-            }
-        };
-        self.taken = at + 1;
+        let event = self.events.pop_front().expect(self.rt, "an event");
+        self.given = self.given.and(&event);
         event
     }
 }
 
-fn copy(alloc: Global, event: &Event) -> Result<Event, AllocError>
-    ensures { IfOk result (λ copy. incoming_of copy ≡ incoming_of event.now) }
-{
-    Ok(match event {
-        Event::Piece(piece) => Event::Piece(Vec::from_slice(alloc, piece.as_slice())?),
-        Event::End => Event::End,
-        Event::ReadFailed => Event::ReadFailed,
-        Event::NoMemory => Event::NoMemory,
-    })
-}
-
 /// Frames, with room for some.
 #[derive(Drop)]
-pub struct FramesPut<'a, R: Abort> {
-    pub rt: &'a R,
+pub struct FramesPut {
     pub frames: Vec<Vec<u8>>,
     pub room: usize,
-    pub refusals: u64,
+    pub refused: History<Vec<u8>>,
 }
 
-impl<R: Abort> Out for FramesPut<'_, R> {
+impl Out for FramesPut {
     ghost use Rattle.std.specs.Prelude.{map};
 
-    ghost seen = { λ s. record { frames = map (λ f. f.items) s.frames.items; refusals = s.refusals } };
+    ghost seen = { λ s. record { frames = map (λ f. f.items) s.frames.items; refused = map (λ f. f.items) s.refused.entries } };
+
+    ghost Origin = { ℕ };
+
+    ghost origin = { λ _. 0 };
 
     fn put(&mut self, frame: Vec<u8>) -> Result<(), Vec<u8>> {
         if self.frames.len() >= self.room {
-            self.refusals = next_count(self.rt, self.refusals);
+            self.refused = self.refused.and(&frame);
             return Err(frame);
         }
         match self.frames.push(frame) {
             Ok(()) => Ok(()),
             Err(failed) => {
-                self.refusals = next_count(self.rt, self.refusals);
+                self.refused = self.refused.and(&failed.value);
                 Err(failed.value)
             }
         }
@@ -94,9 +84,10 @@ pub struct OrdersPushed<'a, R: Abort> {
 }
 
 impl<R: Abort> Orders for OrdersPushed<'_, R> {
-    ghost use Rattle.std.specs.Prelude.{◌≤◌, vec_len};
+    ghost use Rattle.std.specs.Prelude.{◌≤◌, map, vec_len};
+    ghost use Rattle.dbg_runner.specs.Orders.{plain_order};
 
-    ghost seen = { λ s. record { orders = s.orders.items; fulls = s.fulls; refusals = s.refusals } };
+    ghost seen = { λ s. record { orders = map plain_order s.orders.items; fulls = s.fulls; refusals = s.refusals } };
 
     ghost is_full = { λ s. s.room ≤ vec_len s.orders };
 
@@ -336,7 +327,7 @@ impl Unreadable {
 impl Loader for Unreadable {
     ghost use Rattle.std.specs.Prelude.{map, string_bytes, Err};
     ghost use Rattle.dap_session.specs.Ports.{load_of};
-    ghost use Rattle.dap_session.specs.declared.ports.LoadFault.TheVariants.{CannotRead};
+    ghost use Rattle.dap_history.specs.declared.fault.LoadFault.TheVariants.{CannotRead};
 
     ghost loaded = { λ s. map (λ path. load_of (string_bytes path) (Err CannotRead)) s.asked.items };
 
@@ -353,8 +344,22 @@ impl Loader for Unreadable {
 
 /// A gate that lets everything pass.
 #[derive(Drop)]
-pub struct OpenGate;
+pub struct OpenGate {
+    passed: History<(u64, u64)>,
+}
+
+impl OpenGate {
+    pub fn new() -> OpenGate {
+        OpenGate {
+            passed: History::new(),
+        }
+    }
+}
 
 impl Gate for OpenGate {
-    fn pass(&mut self, _run: u64, _slice: u64) {}
+    ghost passed = { λ gate. gate.passed.entries };
+
+    fn pass(&mut self, run: u64, slice: u64) {
+        self.passed = self.passed.and(&(run, slice));
+    }
 }

@@ -192,7 +192,7 @@ pub const fn fault_row(
         name: "a fault",
         transcript,
         tail,
-        end: Err(SessionFault::Framing(fault)),
+        end: Err(SessionFault::Frame(fault)),
         status: 2,
         last_line,
     }

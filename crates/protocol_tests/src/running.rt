@@ -31,10 +31,10 @@ fn comes_to<R: Abort + Wait + Eprint + AllocGlobal, L: Loader>(
     expected: Expected,
 ) -> bool {
     let written = Cell::new(0);
-    let mut input = Input::new(rt, bytes, Streams::WELL, &written);
-    let mut output = Output::new(rt, rt.alloc(), streams, &written);
+    let input = Input::new(rt, bytes, Streams::WELL, &written);
+    let output = Output::new(rt, rt.alloc(), streams, &written);
     let mut errors = Output::new(rt, rt.alloc(), Streams::WELL, &written);
-    let reason = execute(rt, arguments, loader, &mut input, &mut output, &mut errors);
+    let (reason, _, output) = execute(rt, arguments, loader, input, output, &mut errors);
     output.bytes.as_slice() == expected.output
         && errors.bytes.as_slice() == expected.errors.as_bytes()
         && reason.status() == expected.status
@@ -183,11 +183,11 @@ fn ends_so_where_errors_cannot_be_written(rt: HostRuntime) {
         room: 0,
         ..Streams::WELL
     };
-    let mut output = Output::new(&rt, alloc, Streams::WELL, &written);
+    let output = Output::new(&rt, alloc, Streams::WELL, &written);
     let mut errors = Output::new(&rt, alloc, full, &written);
-    let mut input = Input::new(&rt, b"", Streams::WELL, &written);
+    let input = Input::new(&rt, b"", Streams::WELL, &written);
     let files = &mut Unreadable::new(alloc);
-    let reason = execute(&rt, &CHECK, files, &mut input, &mut output, &mut errors);
+    let (reason, _, output) = execute(&rt, &CHECK, files, input, output, &mut errors);
     assert_eq!(rt; reason.status(), 1);
     assert!(rt; output.bytes.is_empty() && errors.bytes.is_empty());
 }

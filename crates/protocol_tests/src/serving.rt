@@ -21,10 +21,10 @@ struct Outcome {
 /// Serves an input of these bytes.
 fn run<R: Abort + Wait>(rt: &R, alloc: Global, bytes: &[u8], streams: Streams) -> Outcome {
     let written = Cell::new(0);
-    let mut input = Input::new(rt, bytes, streams, &written);
-    let mut output = Output::new(rt, alloc, streams, &written);
+    let input = Input::new(rt, bytes, streams, &written);
+    let output = Output::new(rt, alloc, streams, &written);
     let files = &mut OneFile::new(alloc, b"");
-    let end = serve(rt, alloc, &mut input, &mut output, files, &mut OpenGate);
+    let (end, _, output) = serve(rt, alloc, input, output, files, OpenGate::new());
     Outcome {
         end,
         output: output.bytes,
@@ -247,13 +247,13 @@ fn serves_streams_of_std(rt: HostRuntime) -> Result<(), Fail> {
     let input = frames(alloc, HELLO, SENT)?;
     let expected = frames(alloc, HELLO, ANSWERED)?;
     let mut output = Vec::new(alloc);
-    let result = serve(
+    let (result, _, _) = serve(
         &rt,
         alloc,
-        &mut Reading::new(&rt, input.as_slice()),
-        &mut Writing::new(&rt, &mut output),
+        Reading::new(&rt, input.as_slice()),
+        Writing::new(&rt, &mut output),
         &mut OneFile::new(alloc, b""),
-        &mut OpenGate,
+        OpenGate::new(),
     );
     assert_eq!(rt; result, Ok(Served::Disconnected));
     assert_eq!(rt; output.as_slice(), expected.as_slice());

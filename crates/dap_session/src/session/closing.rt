@@ -1,16 +1,16 @@
-//! How a session closes.
-ghost use Rattle.std.specs.Prelude.{◌≡◌, ◌++◌, ◌∷◌, [], Some, OnOk, OnErr, IfErr};
-ghost use Rattle.dap_session.specs.declared.ports.Order.TheVariants.{Quit};
-ghost use Rattle.dap_session.specs.Ports.{ports};
-ghost use Rattle.dap_session.specs.Output.{IsNotPushed};
+// How a session closes where its input does.
+
+ghost use Rattle.dap_session.specs.Handling.{PushesQuit};
 
 use super::Session;
-use crate::ending::{Closed, Ending};
-use crate::fault::SessionFault;
-use crate::ports::{Order, OrderFault, Orders};
+use crate::ports::{OrderFault, Orders};
+use dap_history::{Closed, Ending, SessionFault};
+use dbg_runner::Order;
 
 impl Session {
-    ghost use Rattle.dap_session.specs.declared.ending.Ending.TheVariants as ending;
+    ghost use Rattle.std.specs.Prelude.{◌≡◌, Some, OnOk};
+    ghost use Rattle.dap_history.specs.declared.ending.Ending.TheVariants as ending;
+    ghost use Rattle.dap_session.specs.Handling.{PushesQuit};
 
     /// Closes the session where its input does.
     pub(super) fn close<D: Orders>(
@@ -18,14 +18,8 @@ impl Session {
         closed: Closed,
         orders: &mut D,
     ) -> Result<(), SessionFault>
+        ensures quits { PushesQuit result (D.seen orders.old) (D.seen orders.new) }
         ensures ending { OnOk result (self.new.ending ≡ Some (ending.Closed closed)) }
-        ensures situation { self.new.situation ≡ self.old.situation }
-        ensures seq { self.new.next_seq ≡ self.old.next_seq }
-        ensures pushed { OnOk result ((D.seen orders.new).orders ≡ (D.seen orders.old).orders ++ Quit ∷ []) }
-        ensures ok_gone { OnOk result ((D.seen orders.new).refusals ≡ (D.seen orders.old).refusals) }
-        ensures ok_full { OnOk result ((D.seen orders.new).fulls ≡ (D.seen orders.old).fulls) }
-        ensures err { OnErr result ((D.seen orders.new).orders ≡ (D.seen orders.old).orders) }
-        ensures cause { IfErr result (λ fault. IsNotPushed fault (D.seen orders.old) (D.seen orders.new)) }
     {
         quit(orders)?;
         self.ending = Some(Ending::Closed(closed));
@@ -34,12 +28,8 @@ impl Session {
 }
 
 /// Pushes the order to quit.
-pub(super) fn quit<D: Orders>(orders: &mut D) -> Result<(), SessionFault>
-    ensures pushed { OnOk result ((D.seen orders.new).orders ≡ (D.seen orders.old).orders ++ Quit ∷ []) }
-    ensures ok_gone { OnOk result ((D.seen orders.new).refusals ≡ (D.seen orders.old).refusals) }
-    ensures ok_full { OnOk result ((D.seen orders.new).fulls ≡ (D.seen orders.old).fulls) }
-    ensures err { OnErr result ((D.seen orders.new).orders ≡ (D.seen orders.old).orders) }
-    ensures cause { IfErr result (λ fault. IsNotPushed fault (D.seen orders.old) (D.seen orders.new)) }
+fn quit<D: Orders>(orders: &mut D) -> Result<(), SessionFault>
+    ensures { PushesQuit result (D.seen orders.old) (D.seen orders.new) }
 {
     match orders.push(Order::Quit) {
         Ok(()) => Ok(()),

@@ -1,25 +1,29 @@
-//! What a session takes of its input: a piece, the contents in it, the request that a content is.
-ghost use Rattle.std.specs.Prelude.{◌≡◌, ◌++◌, ◌∷◌, [], ◌⊎◌, Option, Some, None, IfOk, IfErr, OnOk, MatchOption};
+// Pieces of the input, and the contents in them.
+
+ghost use Rattle.std.specs.Prelude.{◌≡◌, ◌⊎◌, IfOk, IfErr, OnOk, MatchOption, None};
 ghost use Rattle.dap_frame.specs.Frame.{IsFrameInFront, IsOpen};
 ghost use Rattle.dap_frame.specs.Header.{FaultAt};
 ghost use Rattle.dap_frame.specs.declared.fault.FramingFault.{FramingFault};
-ghost use Rattle.dap_session.specs.declared.fault.SessionFault.TheVariants as faults;
-ghost use Rattle.dap_session.specs.Output.{RefusesNothing};
-ghost use Rattle.dap_session.specs.Ports.{ports};
+ghost use Rattle.dap_history.specs.declared.fault.SessionFault.TheVariants.{Frame, NoMemory};
 
 use super::Session;
-use crate::fault::SessionFault;
 use crate::ports::{Orders, Out};
 use dap_frame::{Decoder, FramingFault};
-use dap_msg::read;
+use dap_history::{SessionFault, reading_laws};
+use dap_msg::{message_laws, read};
+use dap_phase::Phase;
+use dap_replies::phase_laws;
 
 impl Session {
-    ghost use Rattle.dap_msg.specs.Request.{IsRequestOf};
+    ghost use Rattle.std.specs.Prelude.{◌≡◌, Option, None, OnOk, is_some};
     ghost use Rattle.dap_msg.specs.declared.request.Request.{Request};
-    ghost use Rattle.dap_session.specs.History.{History, Content, after};
-    ghost use Rattle.dap_session.specs.Events.{MayTake};
-    ghost use Rattle.dap_session.specs.Output.{Sends, SendsPart, HasCause};
-    ghost use Rattle.dap_session.specs.State.{Knows, Runs, Fails, IsWell};
+    ghost use Rattle.dap_msg.specs.Request.{IsRequestOf};
+    ghost use Rattle.dap_history.specs.History.{History};
+    ghost use Rattle.dap_history.specs.Events.{Rest, IsTaking, Piece};
+    ghost use Rattle.dap_phase.specs.Phases.{launch_of};
+    ghost use Rattle.dap_session.specs.Ports.{ports};
+    ghost use Rattle.dap_session.specs.State.{GoesOn};
+    ghost use Rattle.dap_session.specs.Handling.{IsAt, IsWell, HandlesContent, HandlesContents, Handles};
 
     /// Takes a piece of the input.
     pub(super) fn take_piece<O: Out, D: Orders>(
@@ -29,47 +33,45 @@ impl Session {
         orders: &mut D,
     ) -> Result<(), SessionFault>
         requires { self.old.ending ≡ None }
-        ensures ok { OnOk result ((past : History) → Knows self.old past →
-            Runs past (self.old.stream.rest ++ piece.now) self.new
+        ensures comes { (past : History) (rest : Rest) → IsTaking past → GoesOn self.old past rest →
+            Handles result past rest (Piece piece.now) self.new
             (ports (O.seen out.old) (D.seen orders.old))
-            (ports (O.seen out.new) (D.seen orders.new))) }
-        ensures sure { OnOk result (RefusesNothing
-            (ports (O.seen out.old) (D.seen orders.old))
-            (ports (O.seen out.new) (D.seen orders.new))) }
-        ensures err { IfErr result (λ fault. (past : History) → Knows self.old past →
-            Fails fault past (self.old.stream.rest ++ piece.now)
-            (ports (O.seen out.old) (D.seen orders.old))
-            (ports (O.seen out.new) (D.seen orders.new))) }
+            (ports (O.seen out.new) (D.seen orders.new)) }
         ensures well { OnOk result (IsWell self.new.ending) }
+        ensures out { O.origin out.new ≡ O.origin out.old }
     {
-        if self.decoder.feed(piece).is_err() {
+        let Ok(()) = self.decoder.feed(piece) else {
             return Err(SessionFault::NoMemory);
+        };
+        if self.waits() {
+            return Ok(());
         }
         self.take_contents(out, orders)
     }
 
+    /// Whether a launch waits for its file.
+    fn waits(&self) -> bool
+        ensures { result ≡ is_some (launch_of self.now.phase) }
+    {
+        matches!(self.phase, Phase::Launching(..))
+    }
+
     /// Takes the contents that are whole, as far as the session takes any.
-    fn take_contents<O: Out, D: Orders>(
+    pub(super) fn take_contents<O: Out, D: Orders>(
         &mut self,
         out: &mut O,
         orders: &mut D,
     ) -> Result<(), SessionFault>
         requires taking { self.old.ending ≡ None }
-        requires sound { self.old.stream.fault ≡ None }
-        ensures ok { OnOk result ((past : History) → Knows self.old past →
-            Runs past self.old.stream.rest self.new
+        ensures comes { (past : History) → self.old.stream.fault ≡ None → launch_of self.old.phase ≡ None → IsAt self.old past →
+            HandlesContents result past self.old.stream.rest self.new
             (ports (O.seen out.old) (D.seen orders.old))
-            (ports (O.seen out.new) (D.seen orders.new))) }
-        ensures sure { OnOk result (RefusesNothing
-            (ports (O.seen out.old) (D.seen orders.old))
-            (ports (O.seen out.new) (D.seen orders.new))) }
-        ensures err { IfErr result (λ fault. (past : History) → Knows self.old past →
-            Fails fault past self.old.stream.rest
-            (ports (O.seen out.old) (D.seen orders.old))
-            (ports (O.seen out.new) (D.seen orders.new))) }
+            (ports (O.seen out.new) (D.seen orders.new)) }
         ensures well { OnOk result (IsWell self.new.ending) }
+        ensures out { O.origin out.new ≡ O.origin out.old }
     {
-        while self.ending.is_none() {
+        reading_laws();
+        while self.ending.is_none() && !self.waits() {
             let Some(content) = next_content(&mut self.decoder)? else {
                 return Ok(());
             };
@@ -85,31 +87,25 @@ impl Session {
         out: &mut O,
         orders: &mut D,
     ) -> Result<(), SessionFault>
-        requires { self.old.ending ≡ None }
-        ensures ok { OnOk result ((past : History) → Knows self.old past →
+        requires taking { self.old.ending ≡ None }
+        requires free { launch_of self.old.phase ≡ None }
+        ensures comes { (past : History) → IsAt self.old past →
             (request : Option Request) × IsRequestOf content.now request
-            × Knows self.new (after past (Content request))
-            × Sends past (after past (Content request))
+            × HandlesContent result past request self.new
             (ports (O.seen out.old) (D.seen orders.old))
-            (ports (O.seen out.new) (D.seen orders.new))) }
-        ensures sure { OnOk result (RefusesNothing
-            (ports (O.seen out.old) (D.seen orders.old))
-            (ports (O.seen out.new) (D.seen orders.new))) }
-        ensures err { IfErr result (λ fault. (past : History) → Knows self.old past →
-            (new : History) × MayTake past content.now new
-            × SendsPart past new
-            (ports (O.seen out.old) (D.seen orders.old))
-            (ports (O.seen out.new) (D.seen orders.new))
-            × HasCause fault
-            (ports (O.seen out.old) (D.seen orders.old))
-            (ports (O.seen out.new) (D.seen orders.new))
-            new) }
+            (ports (O.seen out.new) (D.seen orders.new)) }
         ensures stream { self.new.stream ≡ self.old.stream }
         ensures well { OnOk result (IsWell self.new.ending) }
+        ensures out { O.origin out.new ≡ O.origin out.old }
     {
+        message_laws();
         match read(self.alloc, content) {
             Ok(Some(request)) => self.take_request(request, out, orders),
-            Ok(None) => Ok(()),
+            Ok(None) => {
+                reading_laws();
+                phase_laws();
+                Ok(())
+            }
             Err(_) => Err(SessionFault::NoMemory),
         }
     }
@@ -117,16 +113,15 @@ impl Session {
 
 /// The next content of a stream.
 fn next_content(decoder: &mut Decoder) -> Result<Option<Vec<u8>>, SessionFault>
-    requires { decoder.old.fault ≡ None }
     ensures content { IfOk result (λ next. MatchOption next
         (IsOpen decoder.old.rest × (decoder.new ≡ decoder.old))
         (λ content. IsFrameInFront decoder.old.rest content.items decoder.new.rest × (decoder.new.fault ≡ None))) }
-    ensures fault { IfErr result (λ fault. (fault ≡ faults.NoMemory)
-        ⊎ ((k : FramingFault) × (fault ≡ faults.Framing k) × FaultAt decoder.old.rest k)) }
+    ensures fault { IfErr result (λ fault. decoder.old.fault ≡ None → (fault ≡ NoMemory)
+        ⊎ ((k : FramingFault) × (fault ≡ Frame k) × FaultAt decoder.old.rest k)) }
 {
     match decoder.next_content() {
         Ok(next) => Ok(next),
         Err(FramingFault::NoMemory) => Err(SessionFault::NoMemory),
-        Err(fault) => Err(SessionFault::Framing(fault)),
+        Err(fault) => Err(SessionFault::Frame(fault)),
     }
 }

@@ -1,68 +1,36 @@
-use Rattle.std.proofs.Common.{Ok, Err, refl, ap, ◌∙◌}
-use Rattle.std.specs.Prelude.{map}
-use Rattle.dap_session.specs.declared.ending.Closed.TheVariants as closed
-use Rattle.dap_session.specs.declared.ending.Ending.TheVariants as ending
+use Rattle.std.proofs.Common.{refl, map, ap, ◌∙◌, []}
+use Rattle.dbg_runner.specs.Orders.{plain_order}
+use Rattle.dap_session.specs.Incoming.{incoming_of}
+use Rattle.dap_session.specs.Ports.{ports}
+use Rattle.adapter.specs.Transfer.{supply, output}
 use Rattle.adapter.specs.Serving.{streams}
-use Rattle.adapter.proofs.Turns.{served_more, wants_on, ends_well, ended_by_disconnect, ended_by_the_end, ended_by_a_read, write_fails, gives_up}
+use Rattle.adapter.proofs.Exchanged.{plain}
+use Rattle.adapter.proofs.Carried.{carried}
 use Rattle.adapter.proofs.serving.serve.Goals as goal
 
-pub returns-then-not-write_frames-clause-err : goal.returns-then-not-write_frames-clause-err
-returns-then-not-write_frames-clause-err g c =
-    let now = streams (g.I.Source.left c.loop.input) (g.I.Source.failures c.loop.input) (g.O.Sink.written c.loop.output) (g.O.Sink.failures c.loop.output) in
-    let later = streams (g.I.Source.left c.next_event-event.new.input) (g.I.Source.failures c.next_event-event.new.input) (g.O.Sink.written c.write_frames.new.output) (g.O.Sink.failures c.write_frames.new.output) in
-    write_fails c.session_laws.ensures.one c.session_laws.ensures.fault c.loop.session c.take-taken.new.self _ _ now later _ _ c.take-taken.result
-    c.loop.invariant.1 c.loop.invariant.0 c.next_event-event.ensures c.take-taken.ensures.ok c.take-taken.ensures.err
-    (ap (λ fs. map (λ frame. frame.items) fs) c.loop.invariant.2)
-    (rw c.as_slice.ensures.value at c.if-not-write_frames.ensures.written) c.if-not-write_frames.ensures.count
-
-pub loop-preserved : goal.loop-preserved
-loop-preserved g c =
-    let now = streams (g.I.Source.left c.loop.input) (g.I.Source.failures c.loop.input) (g.O.Sink.written c.loop.output) (g.O.Sink.failures c.loop.output) in
-    let later = streams (g.I.Source.left c.next_event-event.new.input) (g.I.Source.failures c.next_event-event.new.input) (g.O.Sink.written c.write_frames.new.output) (g.O.Sink.failures c.write_frames.new.output) in (
-      wants_on c.take-taken.result _ c.take-taken.ensures.want (c.in-Ok-Event.is ∙ ap Ok (rw c.in-Ok-Event.is at c.in-Ok-Event.field-0-is)),
-      served_more c.loop.session c.take-taken.new.self _ _ now later _ _ c.loop.invariant.1 c.next_event-event.ensures
-          (rw c.in-Ok-Event.is at c.take-taken.ensures.ok) (ap (λ fs. map (λ frame. frame.items) fs) c.loop.invariant.2)
-          (rw c.as_slice.ensures.value at c.if-not-write_frames.ensures.written) c.if-not-write_frames.ensures.count,
-      c.clear.ensures.items,
-    )
-
-pub returns-in-Some-Disconnected-clause-ok : goal.returns-in-Some-Disconnected-clause-ok
-returns-in-Some-Disconnected-clause-ok g c =
-    let now = streams (g.I.Source.left c.loop.input) (g.I.Source.failures c.loop.input) (g.O.Sink.written c.loop.output) (g.O.Sink.failures c.loop.output) in
-    let later = streams (g.I.Source.left c.next_event-event.new.input) (g.I.Source.failures c.next_event-event.new.input) (g.O.Sink.written c.write_frames.new.output) (g.O.Sink.failures c.write_frames.new.output) in
-    let ended = ends_well c.session_laws.ensures.ending c.loop.session c.take-taken.new.self _ _ now later _ _ c.loop.invariant.1 c.loop.invariant.0 c.next_event-event.ensures
-    (rw c.in-Ok-Closed.is at c.take-taken.ensures.ok) (ap (λ fs. map (λ frame. frame.items) fs) c.loop.invariant.2)
-    (rw c.as_slice.ensures.value at c.if-not-write_frames.ensures.written) (ending.Closed closed.Disconnected)
-    (rw c.in-Some-Disconnected.field-0-is at c.in-Some-Disconnected.ensures) in
-    ended_by_disconnect _ _ later ended
-
-pub returns-in-Some-InputEnded-clause-ok : goal.returns-in-Some-InputEnded-clause-ok
-returns-in-Some-InputEnded-clause-ok g c =
-    let now = streams (g.I.Source.left c.loop.input) (g.I.Source.failures c.loop.input) (g.O.Sink.written c.loop.output) (g.O.Sink.failures c.loop.output) in
-    let later = streams (g.I.Source.left c.next_event-event.new.input) (g.I.Source.failures c.next_event-event.new.input) (g.O.Sink.written c.write_frames.new.output) (g.O.Sink.failures c.write_frames.new.output) in
-    let ended = ends_well c.session_laws.ensures.ending c.loop.session c.take-taken.new.self _ _ now later _ _ c.loop.invariant.1 c.loop.invariant.0 c.next_event-event.ensures
-    (rw c.in-Ok-Closed.is at c.take-taken.ensures.ok) (ap (λ fs. map (λ frame. frame.items) fs) c.loop.invariant.2)
-    (rw c.as_slice.ensures.value at c.if-not-write_frames.ensures.written) (ending.Closed closed.InputEnded)
-    (rw c.in-Some-InputEnded.field-0-is at c.in-Some-InputEnded.ensures) in
-    ended_by_the_end _ _ now later c.next_event-event.ensures ended
-
-pub returns-in-Some-ReadFailed-clause-err : goal.returns-in-Some-ReadFailed-clause-err
-returns-in-Some-ReadFailed-clause-err g c =
-    let now = streams (g.I.Source.left c.loop.input) (g.I.Source.failures c.loop.input) (g.O.Sink.written c.loop.output) (g.O.Sink.failures c.loop.output) in
-    let later = streams (g.I.Source.left c.next_event-event.new.input) (g.I.Source.failures c.next_event-event.new.input) (g.O.Sink.written c.write_frames.new.output) (g.O.Sink.failures c.write_frames.new.output) in
-    let ended = ends_well c.session_laws.ensures.ending c.loop.session c.take-taken.new.self _ _ now later _ _ c.loop.invariant.1 c.loop.invariant.0 c.next_event-event.ensures
-    (rw c.in-Ok-Closed.is at c.take-taken.ensures.ok) (ap (λ fs. map (λ frame. frame.items) fs) c.loop.invariant.2)
-    (rw c.as_slice.ensures.value at c.if-not-write_frames.ensures.written) (ending.Closed closed.ReadFailed)
-    (rw c.in-Some-ReadFailed.field-0-is at c.in-Some-ReadFailed.ensures) in
-    ended_by_a_read c.loop.session _ _ now later c.loop.invariant.1 c.next_event-event.ensures ended
-
-pub returns-in-Err-clause-err : goal.returns-in-Err-clause-err
-returns-in-Err-clause-err g c =
-    let now = streams (g.I.Source.left c.loop.input) (g.I.Source.failures c.loop.input) (g.O.Sink.written c.loop.output) (g.O.Sink.failures c.loop.output) in
-    let later = streams (g.I.Source.left c.next_event-event.new.input) (g.I.Source.failures c.next_event-event.new.input) (g.O.Sink.written c.write_frames.new.output) (g.O.Sink.failures c.write_frames.new.output) in
-    gives_up c.session_laws.ensures.ending c.session_laws.ensures.fault c.loop.session _ _ now later _ _ c.in-Err.fault
-    c.loop.invariant.1 c.loop.invariant.0 c.next_event-event.ensures
-    (c.in-Err.ensures.err c.loop.invariant.0)
-    (λ k is. c.in-Err.ensures.framing k (ap Err is) c.loop.invariant.0)
-    (ap (λ fs. map (λ frame. frame.items) fs) c.loop.invariant.2)
-    (rw c.as_slice.ensures.value at c.if-not-write_frames.ensures.written) refl refl
+pub returns : goal.returns
+returns g c =
+    record {
+      result = c.drive-closed.result;
+      outcome_is = c.outcome.ensures;
+      driven = carried c.drive-closed.result (g.L.Loader.loaded c.args.loader.now) (g.L.Loader.loaded c.drive-closed.new.loader)
+          (streams (g.I.Source.left c.args.input) (g.I.Source.failures c.args.input) (g.O.Sink.written c.args.output) (g.O.Sink.failures c.args.output))
+          (streams (g.I.Source.left c.into_input.result) (g.I.Source.failures c.into_input.result) (g.O.Sink.written c.into_output.result) (g.O.Sink.failures c.into_output.result))
+          (map incoming_of c.new-client.result.events.entries)
+          (map incoming_of c.drive-closed.new.inbox.events.entries)
+          (record { frames = plain c.new-frames.result.frames.entries; orders = map plain_order c.new-orders.result.orders.entries; refused = plain c.new-frames.result.refused.entries; runner_gone = 0; orders_full = 0 })
+          (record { frames = plain c.drive-closed.new.out.frames.entries; orders = map plain_order c.drive-closed.new.orders.orders.entries; refused = plain c.drive-closed.new.out.refused.entries; runner_gone = 0; orders_full = 0 })
+          c.drive-closed.ensures.driven
+          (ap (map incoming_of) c.new-client.ensures.given)
+          (ap (λ fs. record { frames = plain fs; orders = map plain_order c.new-orders.result.orders.entries; refused = plain c.new-frames.result.refused.entries; runner_gone = 0; orders_full = 0 }) c.new-frames.ensures.frames
+          ∙ ap (λ fs. record { frames = []; orders = map plain_order c.new-orders.result.orders.entries; refused = plain fs; runner_gone = 0; orders_full = 0 }) c.new-frames.ensures.refused
+          ∙ ap (λ os. record { frames = []; orders = map plain_order os; refused = []; runner_gone = 0; orders_full = 0 }) c.new-orders.ensures)
+          _
+          (c.drive-closed.ensures.inbox ∙ ap (λ v. supply (g.I.Source.left v) (g.I.Source.failures v)) c.new-client.ensures.start)
+          c.into_input.ensures
+          _
+          (c.drive-closed.ensures.out ∙ ap (λ v. output (g.O.Sink.written v) (g.O.Sink.failures v)) c.new-frames.ensures.start)
+          c.into_output.ensures
+          refl
+          refl;
+    }

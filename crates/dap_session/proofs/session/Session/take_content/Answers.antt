@@ -1,9 +1,23 @@
-use Rattle.std.proofs.Common.{None, inl, refl}
-use Rattle.dap_session.proofs.Taking.{knows_skip, sends_nothing, sends_stay, sends_is_part}
+use Rattle.std.proofs.Common.{None, Ok, inl, refl, sym, ◌∙◌}
+use Rattle.dap_session.proofs.Items.{skips}
+use Rattle.dap_session.proofs.Requests.{content_of_item, no_request_wanted}
+use Rattle.dap_history.specs.Readings.{situation}
+use Rattle.dap_history.specs.Events.{IsTaking}
 use Rattle.dap_session.proofs.session.Session.take_content.Goals as goal
 
-pub returns-in-Ok-None-clause-ok : goal.returns-in-Ok-None-clause-ok
-returns-in-Ok-None-clause-ok g c = λ past knows. (None, rw c.in-Ok-None.field-0-is at c.in-Ok-None.ensures.ok, knows_skip past _ knows, sends_nothing past _ _ _ refl refl refl refl)
+pub returns-in-Ok-None-clause-comes : goal.returns-in-Ok-None-clause-comes
+returns-in-Ok-None-clause-comes g c = λ past at.
+    let taking : IsTaking past = sym at.ending_is ∙ c.requires.taking in (
+      None,
+      rw c.in-Ok-None.field-0-is at c.in-Ok-None.ensures.ok,
+      content_of_item (Ok tt) past None c.args.self.now _ _ (no_request_wanted (situation past))
+          (skips c.reading_laws.ensures c.phase_laws.ensures past c.args.self.now _ taking c.requires.taking c.requires.free (at.knows taking)),
+    )
 
-pub returns-in-Err-clause-err : goal.returns-in-Err-clause-err
-returns-in-Err-clause-err g c = λ past knows. (past, inl refl, sends_is_part past past _ _ (sends_stay past _ _ refl refl), tt)
+pub returns-in-Err-clause-comes : goal.returns-in-Err-clause-comes
+returns-in-Err-clause-comes g c = λ past at.
+    let read = c.message_laws.ensures.each c.args.content.now in (
+      read.0,
+      read.1,
+      record { next = past; next_is = inl refl; breaks = refl },
+    )

@@ -1,0 +1,72 @@
+-- Frames that were added one after another.
+use Rattle.std.proofs.Common.{◌≡◌, ℕ, ◌+◌, ◌<◌, List, [], ◌∷◌, ◌++◌, length, map, take, get_or, refl, sym, ◌∙◌, ap, arith, subst, append_assoc, append-nil, length-append, Vec, Global}
+use Rattle.std.proofs.lemmas.List.{map_more, map-append}
+use Rattle.dap_frame.specs.Frame.{frame_of}
+use Rattle.dap_msg.specs.declared.outgoing.Outgoing.{Outgoing}
+use Rattle.dap_msg.specs.declared.outgoing.Outgoing.TheVariants.{Event}
+use Rattle.dap_msg.specs.declared.outgoing.EventBody.{EventBody}
+use Rattle.dap_msg.specs.Outgoing.{text_of}
+use Rattle.dbg_runner.specs.Plain.{PlainOrder}
+use Rattle.dap_history.specs.declared.fault.SessionFault.{SessionFault}
+use Rattle.dap_history.specs.declared.fault.SessionFault.TheVariants.{Frame, NoMemory, SeqExhausted, OrdersFull, RunnerGone, WriterGone}
+use Rattle.dap_history.specs.History.{Step, History, messages}
+use Rattle.dap_history.specs.Output.{frames_from}
+use Rattle.dap_history.specs.ReadingLaws.{ReadingsGoOn}
+use Rattle.dap_session.specs.Building.{plain_frames, Built, AddsFrames, IsNotPushed}
+use Rattle.dap_session.specs.Ports.{Written, Ordered, ports}
+use Rattle.dap_session.specs.Sending.{Begins, Adds, PushesSome, BreaksOff}
+
+pub frames_from-append : (n : ℕ) (xs ys : List Outgoing) → frames_from n (xs ++ ys) ≡ frames_from n xs ++ frames_from (n + length xs) ys
+frames_from-append n [] ys = ap (λ k. frames_from k ys) (omega arith)
+frames_from-append n (x ∷ xs) ys =
+    ap (λ l. frame_of (text_of x n) ∷ l) (frames_from-append (n + 1) xs ys ∙ ap (λ k. frames_from (n + 1) xs ++ frames_from k ys) (omega arith))
+
+pub adds_both : (xs ys : List Outgoing) (a b c : Built) → AddsFrames xs a b → AddsFrames ys b c → AddsFrames (xs ++ ys) a c
+adds_both xs ys a b c first then_ =
+    record {
+      frames_are =
+          then_.frames_are ∙ ap (λ l. l ++ frames_from b.next_seq ys) first.frames_are
+          ∙ append_assoc a.frames (frames_from a.next_seq xs) (frames_from b.next_seq ys)
+          ∙ ap (λ n. a.frames ++ (frames_from a.next_seq xs ++ frames_from n ys)) first.seq_is
+          ∙ ap (λ l. a.frames ++ l) (sym (frames_from-append a.next_seq xs ys));
+      seq_is = let l = length-append xs ys in let f = first.seq_is in let t = then_.seq_is in omega (arith, l, f, t);
+    }
+
+-- one more of some events
+pub adds_event : (events : List EventBody) (i : ℕ) (event : EventBody) (a b c : Built) → i < length events
+    → AddsFrames (map Event (take i events)) a b → AddsFrames (Event (get_or events i event) ∷ []) b c → AddsFrames (map Event (take (i + 1) events)) a c
+adds_event events i event a b c lt first then_ =
+    subst (λ ms. AddsFrames ms a c) (sym (map_more Event events i event lt))
+    (adds_both (map Event (take i events)) (Event (get_or events i event) ∷ []) a b c first then_)
+
+-- frames that were put before one that was refused
+pub begins_all : (put : List (Vec ℕ Global)) (frame : Vec ℕ Global) (rest all : List (Vec ℕ Global)) → put ++ frame ∷ rest ≡ all → Begins (plain_frames put ++ frame.items ∷ []) (plain_frames all)
+begins_all put frame rest all is =
+    (plain_frames rest, append_assoc (plain_frames put) (frame.items ∷ []) (plain_frames rest) ∙ sym (map-append (λ frame. frame.items) put (frame ∷ rest)) ∙ ap plain_frames is)
+
+pub adds_step : ReadingsGoOn → (past : History) (step : Step) → Adds past (past ++ step ∷ []) (messages step) step.effect.orders
+adds_step readings past step = record { messages_are = readings.messages_are past step; orders_are = readings.orders_are past step }
+
+-- an order that was refused, seen from its step
+pub pushes_none : (past new : History) (ms : List Outgoing) (os : List PlainOrder) (out : Written) (old later : Ordered)
+    → Adds past new ms os → later.orders ≡ old.orders → PushesSome past new (ports out old) (ports out later)
+pushes_none past new ms os out old later adds same =
+    record {
+      messages = ms;
+      orders = os;
+      adds = adds;
+      frames_are = refl;
+      refused_are = refl;
+      pushed = [];
+      orders_are = same ∙ sym (append-nil old.orders);
+      begins = (os, refl);
+    }
+
+pub breaks_at_push : (fault : SessionFault) (past new : History) (ms : List Outgoing) (os : List PlainOrder) (out : Written) (old later : Ordered)
+    → Adds past new ms os → IsNotPushed fault old later → BreaksOff fault past new (ports out old) (ports out later)
+breaks_at_push (Frame k) past new ms os out old later adds refused = absurd refused
+breaks_at_push NoMemory past new ms os out old later adds refused = absurd refused
+breaks_at_push SeqExhausted past new ms os out old later adds refused = absurd refused
+breaks_at_push OrdersFull past new ms os out old later adds refused = (pushes_none past new ms os out old later adds refused.0, refused.1)
+breaks_at_push RunnerGone past new ms os out old later adds refused = (pushes_none past new ms os out old later adds refused.0, refused.1)
+breaks_at_push WriterGone past new ms os out old later adds refused = absurd refused

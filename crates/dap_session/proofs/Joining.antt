@@ -1,0 +1,52 @@
+-- Sending, one part after another.
+use Rattle.std.proofs.Common.{◌≡◌, ℕ, ◌+◌, List, [], ◌∷◌, ◌++◌, length, refl, sym, ◌∙◌, ap, arith, append_assoc, append-nil, length-append, add-zero}
+use Rattle.dap_msg.specs.declared.outgoing.Outgoing.{Outgoing}
+use Rattle.dap_msg.specs.Outgoing.{text_of}
+use Rattle.dap_frame.specs.Frame.{frame_of}
+use Rattle.dbg_runner.specs.Plain.{PlainOrder}
+use Rattle.dap_history.specs.History.{History, messages_of, orders_of, next_seq}
+use Rattle.dap_history.specs.Output.{frames_from}
+use Rattle.dap_session.specs.Ports.{Ports}
+use Rattle.dap_session.specs.Sending.{Adds, Sends, RefusesNothing}
+
+pub frames_from-append : (n : ℕ) (xs ys : List Outgoing) → frames_from n (xs ++ ys) ≡ frames_from n xs ++ frames_from (n + length xs) ys
+frames_from-append n [] ys = ap (λ k. frames_from k ys) (omega arith)
+frames_from-append n (x ∷ xs) ys =
+    ap (λ l. frame_of (text_of x n) ∷ l) (frames_from-append (n + 1) xs ys ∙ ap (λ k. frames_from (n + 1) xs ++ frames_from k ys) (omega arith))
+
+pub adds_both : (a b c : History) (m n : List Outgoing) (o r : List PlainOrder) → Adds a b m o → Adds b c n r → Adds a c (m ++ n) (o ++ r)
+adds_both a b c m n o r first next =
+    record {
+      messages_are = next.messages_are ∙ ap (λ l. l ++ n) first.messages_are ∙ append_assoc (messages_of a) m n;
+      orders_are = next.orders_are ∙ ap (λ l. l ++ r) first.orders_are ∙ append_assoc (orders_of a) o r;
+    }
+
+pub next_seq_along : (a b : History) (m : List Outgoing) (o : List PlainOrder) → Adds a b m o → next_seq b ≡ next_seq a + length m
+next_seq_along a b m o adds =
+    let e = ap length adds.messages_are in let l = length-append (messages_of a) m in omega (arith, e, l)
+
+pub sends_both : (a b c : History) (p q r : Ports) → Sends a b p q → Sends b c q r → Sends a c p r
+sends_both a b c p q r first next =
+    record {
+      messages = first.messages ++ next.messages;
+      orders = first.orders ++ next.orders;
+      adds = adds_both a b c first.messages next.messages first.orders next.orders first.adds next.adds;
+      frames_are =
+          next.frames_are ∙ ap (λ l. l ++ frames_from (next_seq b) next.messages) first.frames_are
+          ∙ append_assoc p.frames (frames_from (next_seq a) first.messages) (frames_from (next_seq b) next.messages)
+          ∙ ap (λ n. p.frames ++ (frames_from (next_seq a) first.messages ++ frames_from n next.messages)) (next_seq_along a b first.messages first.orders first.adds)
+          ∙ ap (λ l. p.frames ++ l) (sym (frames_from-append (next_seq a) first.messages next.messages));
+      orders_are = next.orders_are ∙ ap (λ l. l ++ next.orders) first.orders_are ∙ append_assoc p.orders first.orders next.orders;
+    }
+
+pub sends_nothing : (past : History) (old : Ports) → Sends past past old old
+sends_nothing past old = record {
+  messages = [];
+  orders = [];
+  adds = record { messages_are = sym (append-nil (messages_of past)); orders_are = sym (append-nil (orders_of past)) };
+  frames_are = sym (append-nil old.frames);
+  orders_are = sym (append-nil old.orders);
+}
+
+pub refuses_both : (p q r : Ports) → RefusesNothing p q → RefusesNothing q r → RefusesNothing p r
+refuses_both p q r first next = record { writer = next.writer ∙ first.writer; runner = next.runner ∙ first.runner; full = next.full ∙ first.full }

@@ -1,0 +1,96 @@
+-- A report that a session takes.
+use Rattle.std.proofs.Common.{◌≡◌, inl, inr, None, Some, Result, Ok, Err, refl, sym, ◌∙◌, ap, subst}
+use Rattle.dbg_runner.specs.declared.outcome.SliceOutcome.{SliceOutcome}
+use Rattle.dbg_runner.specs.declared.outcome.SliceOutcome.TheVariants as slice
+use Rattle.dbg_runner.specs.Plain.{PlainReport, Heading, heading_of}
+use Rattle.dap_history.specs.declared.fault.SessionFault.{SessionFault}
+use Rattle.dap_history.specs.History.{Accepted, History}
+use Rattle.dap_history.specs.Readings.{closing_report, last_run, position}
+use Rattle.dap_history.specs.Reports.{Accepts}
+use Rattle.dap_history.specs.Events.{Rest, Report, IsTaking, Leads}
+use Rattle.dap_phase.specs.declared.phase.Phase.{Phase}
+use Rattle.dap_phase.specs.declared.phase.Phase.TheVariants as phase
+use Rattle.dap_phase.specs.declared.phase.Target.{Target}
+use Rattle.dap_phase.specs.Runs.{Ordered, heading_in}
+use Rattle.dap_phase.specs.Phases.{launch_of, IsPhase}
+use Rattle.dap_session.specs.Ports.{Ports}
+use Rattle.dap_session.specs.State.{State, GoesOn}
+use Rattle.dap_session.specs.Taking.{Toward}
+use Rattle.dap_session.specs.Handling.{HandlesItem, Handles, Expects}
+use Rattle.dap_session.proofs.Going.{stops_at_item, arrives_at_once}
+
+-- only a report of a failed allocation ends the session
+pub ends_nothing : (outcome : SliceOutcome) → ¬ (outcome ≡ slice.NoMemory) → closing_report outcome ≡ None
+ends_nothing slice.NoMemory other = absurd (other refl)
+ends_nothing _ other = refl
+
+-- ---- a report that is passed over
+
+passed : (past : History) (rest : Rest) (r : PlainReport) (session : State) (old : Ports) → ¬ Accepts past r → session.ending ≡ None → IsTaking past → GoesOn session past rest
+    → Handles (Ok tt) past rest (Report r) session old old
+passed past rest r session old not open_ taking on =
+    arrives_at_once (Leads past rest (Report r)) past rest session old (inl ((λ both. not both.1), refl), refl) open_ taking on
+
+-- what the next report begins with, by the history
+heading_is : (past : History) (t : Target) (run : Ordered) → IsPhase (phase.Running t run) past → (first : Heading) → last_run past ≡ Some first → record first { start = position past } ≡ heading_in t.runs run
+heading_is past t run is first ordered =
+    let known = is.keeps in
+    let e : Some first ≡ Some known.1.first = sym ordered ∙ known.1.ordered in
+    let same : first ≡ known.1.first = cc in
+    ap (λ (h : Heading). record h { start = position past }) same ∙ known.1.goes_on ∙ ap (λ n. heading_in n run) (sym known.0.runs_are)
+
+-- what the history accepts, the phase expects
+expects : (p : Phase) (past : History) (r : PlainReport) → IsPhase p past → Accepts past r → Expects p r
+expects (phase.Running t run) past r is accepts = accepts.expected ∙ heading_is past t run is accepts.run accepts.run_is
+expects phase.Fresh past r is accepts = let e = sym accepts.running ∙ is.situation_is in absurd cc
+expects (phase.Ready settings) past r is accepts = let e = sym accepts.running ∙ is.situation_is in absurd cc
+expects (phase.Launching settings launch) past r is accepts = let e = sym accepts.running ∙ is.situation_is in absurd cc
+expects (phase.Configuring t d) past r is accepts = let e = sym accepts.running ∙ is.situation_is in absurd cc
+expects (phase.Stopped t d) past r is accepts = let e = sym accepts.running ∙ is.situation_is in absurd cc
+expects (phase.Faulted t d) past r is accepts = let e = sym accepts.running ∙ is.situation_is in absurd cc
+expects (phase.Ended t u) past r is accepts = let e = sym accepts.running ∙ is.situation_is in absurd cc
+
+pub report_passed : (past : History) (rest : Rest) (r : PlainReport) (session last : State) (old : Ports) → last ≡ session → ¬ Expects session.phase r → session.ending ≡ None → IsTaking past → GoesOn session past rest
+    → Handles (Ok tt) past rest (Report r) last old old
+report_passed past rest r session last old same other open_ taking on =
+    subst (λ s. Handles (Ok tt) past rest (Report r) s old old) (sym same)
+    (passed past rest r session old (λ accepts. other (expects session.phase past r on.knows.phase_is accepts)) open_ taking on)
+
+-- ---- a report that is accepted
+
+pub accepts_report : (past : History) (t : Target) (run : Ordered) (r : PlainReport) → IsPhase (phase.Running t run) past → heading_of r ≡ heading_in t.runs run → Accepts past r
+accepts_report past t run r is expected =
+    record {
+      running = is.situation_is;
+      run = is.keeps.1.first;
+      run_is = is.keeps.1.ordered;
+      expected = expected ∙ sym (heading_is past t run is is.keeps.1.first is.keeps.1.ordered);
+    }
+
+-- the session that had the run
+pub record HadRun (session : State) (t : Target) (run : Ordered) (r : PlainReport) : Type 0 where
+  pub phase_was : session.phase ≡ phase.Running t run
+  pub expected : heading_of r ≡ heading_in t.runs run
+
+pub report_taken : (result : Result (Unit {0}) SessionFault) (past : History) (rest : Rest) (t : Target) (run : Ordered) (r : PlainReport) (session last : State) (old later : Ports) → HadRun session t run r → last.stream ≡ session.stream → IsTaking past → GoesOn session past rest
+    → HandlesItem result past (Accepted r) last old later → Handles result past rest (Report r) last old later
+report_taken (Ok u) past rest t run r session last old later had same taking on item =
+    let is = subst (λ p. IsPhase p past) had.phase_was on.knows.phase_is in
+    let accepts = accepts_report past t run r is had.expected in
+    record {
+      new = item.new;
+      rest = rest;
+      way = (inr (taking, accepts, item.after), refl);
+      ending_is = item.is_at.ending_is;
+      goes_on = λ still. record {
+        knows = item.is_at.knows still;
+        launch_is = item.free ∙ sym (ap launch_of had.phase_was) ∙ on.launch_is;
+        stream_is = same ∙ on.stream_is;
+      };
+      sends = item.sends;
+      refuses_nothing = item.refuses_nothing;
+    }
+report_taken (Err fault) past rest t run r session last old later had same taking on item =
+    let is = subst (λ p. IsPhase p past) had.phase_was on.knows.phase_is in
+    let accepts = accepts_report past t run r is had.expected in
+    inl (stops_at_item (Toward past rest (Report r)) fault past (Accepted r) old later (inl refl) (λ new after. inr (accepts, after)) item)

@@ -1,0 +1,147 @@
+-- What the functions leave that take an event: from the history that the session stood for, how far it came.
+use Rattle.std.specs.Prelude.{◌≡◌, ◌⊎◌, ◌++◌, ◌∷◌, [], ◌<◌, ℕ, List, Vec, Option, None, Some, Result, Ok, Err}
+use Rattle.std.specs.declared.alloc.Global.{Global}
+use Rattle.dap_frame.specs.declared.fault.FramingFault.{FramingFault}
+use Rattle.dap_msg.specs.declared.request.Request.{Request}
+use Rattle.dbg_runner.specs.Plain.{PlainReport, Quit, heading_of}
+use Rattle.dap_history.specs.declared.fault.SessionFault.{SessionFault}
+use Rattle.dap_history.specs.declared.fault.SessionFault.TheVariants.{Frame, OrdersFull, RunnerGone}
+use Rattle.dap_history.specs.declared.fault.LoadFault.{LoadFault}
+use Rattle.dap_history.specs.declared.ending.Ending.{Ending}
+use Rattle.dap_history.specs.declared.ending.Ending.TheVariants as ending
+use Rattle.dap_history.specs.declared.launch.Launch.{Launch}
+use Rattle.dap_history.specs.History.{Item, Content, History}
+use Rattle.dap_history.specs.Readings.{situation, ending_of}
+use Rattle.dap_history.specs.Launching.{wanted_in}
+use Rattle.dap_history.specs.Emission.{IsAfter}
+use Rattle.dap_history.specs.Events.{Incoming, Rest, IsTaking, TakesAll, Leads}
+use Rattle.dap_phase.specs.declared.phase.Phase.{Phase}
+use Rattle.dap_phase.specs.declared.phase.Phase.TheVariants as phase
+use Rattle.dap_phase.specs.Runs.{heading_in}
+use Rattle.dap_phase.specs.Phases.{launch_of}
+use Rattle.dap_session.specs.Ports.{Ordered, Ports}
+use Rattle.dap_session.specs.Sending.{Sends, RefusesNothing, BreaksOff}
+use Rattle.dap_session.specs.State.{State, Knows, GoesOn}
+use Rattle.dap_session.specs.Taking.{TowardByPiece, Toward}
+
+-- The session is at this history: it ended as that did, or its fields are the readings.
+pub record IsAt (session : State) (past : History) : Type 0 where
+  pub ending_is : session.ending ≡ ending_of past
+  pub knows : IsTaking past → Knows session past
+
+-- no fault ended it
+abbrev pub IsWell : Option Ending → Type 0
+IsWell None = Unit {0}
+IsWell (Some (ending.Closed by)) = Unit {0}
+IsWell (Some (ending.Fault fault)) = ⊥
+
+-- ---- one item
+
+-- The item was taken, and all was sent that it causes.
+pub record TakesItem (past : History) (item : Item) (session : State) (old later : Ports) : Type 0 where
+  pub new : History
+  pub after : IsAfter past item new
+  pub is_at : IsAt session new
+  pub free : launch_of session.phase ≡ None
+  pub sends : Sends past new old later
+  pub refuses_nothing : RefusesNothing old later
+
+-- The session gave up at the item.
+pub record FailsAtItem (fault : SessionFault) (past : History) (item : Item) (old later : Ports) : Type 0 where
+  pub next : History
+  pub next_is : (next ≡ past) ⊎ IsAfter past item next
+  pub breaks : BreaksOff fault past next old later
+
+abbrev pub HandlesItem : Result (Unit {0}) SessionFault → History → Item → State → Ports → Ports → Type 0
+HandlesItem (Ok u) past item session old later = TakesItem past item session old later
+HandlesItem (Err fault) past item session old later = FailsAtItem fault past item old later
+
+-- ---- one content
+
+-- The content leads to new, or it is a launch, which waits for its file.
+abbrev pub LeadsByContent : History → Option Request → Option Launch → History → Type 0
+LeadsByContent past request None new = (wanted_in (situation past) request ≡ None) × IsAfter past (Content request) new
+LeadsByContent past request (Some launch) new = (wanted_in (situation past) request ≡ Some launch) × (new ≡ past)
+
+-- The content was taken, and all was sent that it gives.
+pub record TakesContent (past : History) (request : Option Request) (session : State) (old later : Ports) : Type 0 where
+  pub new : History
+  pub is_at : IsAt session new
+  pub leads : LeadsByContent past request (launch_of session.phase) new
+  pub sends : Sends past new old later
+  pub refuses_nothing : RefusesNothing old later
+
+-- The session gave up at the content.
+pub record FailsAtContent (fault : SessionFault) (past : History) (request : Option Request) (old later : Ports) : Type 0 where
+  pub next : History
+  pub next_is : (next ≡ past) ⊎ LeadsByContent past request None next
+  pub breaks : BreaksOff fault past next old later
+
+abbrev pub HandlesContent : Result (Unit {0}) SessionFault → History → Option Request → State → Ports → Ports → Type 0
+HandlesContent (Ok u) past request session old later = TakesContent past request session old later
+HandlesContent (Err fault) past request session old later = FailsAtContent fault past request old later
+
+-- ---- one after another
+
+-- The session came all the way that something leads, and all was sent that this adds.
+pub record Arrives (leads : History → Rest → Type 0) (past : History) (session : State) (old later : Ports) : Type 0 where
+  pub new : History
+  pub rest : Rest
+  pub way : leads new rest
+  pub ending_is : session.ending ≡ ending_of new
+  pub goes_on : IsTaking new → GoesOn session new rest
+  pub sends : Sends past new old later
+  pub refuses_nothing : RefusesNothing old later
+
+-- So it did, and a framing fault ended it there.
+pub record ArrivesAtFault (leads : History → Rest → Type 0) (past : History) (fault : FramingFault) (old later : Ports) : Type 0 where
+  pub new : History
+  pub rest : Rest
+  pub way : leads new rest
+  pub ending_is : ending_of new ≡ Some (ending.Fault (Frame fault))
+  pub sends : Sends past new old later
+  pub refuses_nothing : RefusesNothing old later
+
+-- It gave up on the way.
+pub record StopsOnTheWay (toward : History → Type 0) (past : History) (fault : SessionFault) (old later : Ports) : Type 0 where
+  pub mid : History
+  pub way : toward mid
+  pub between : Ports
+  pub sent : Sends past mid old between
+  pub refuses_nothing : RefusesNothing old between
+  pub next : History
+  pub next_is : (next ≡ mid) ⊎ (toward next × ((item : Item) × IsAfter mid item next))
+  pub breaks : BreaksOff fault mid next between later
+
+abbrev pub Goes : Result (Unit {0}) SessionFault → (History → Rest → Type 0) → (History → Type 0) → History → State → Ports → Ports → Type 0
+Goes (Ok u) leads toward past session old later = Arrives leads past session old later
+Goes (Err fault) leads toward past session old later =
+    StopsOnTheWay toward past fault old later
+    ⊎ ((k : FramingFault) × (fault ≡ Frame k) × ArrivesAtFault leads past k old later)
+
+-- what comes of contents
+abbrev pub HandlesContents : Result (Unit {0}) SessionFault → History → List ℕ → State → Ports → Ports → Type 0
+HandlesContents result past bytes session old later = Goes result (TakesAll past bytes) (TowardByPiece past None bytes) past session old later
+
+-- what comes of an event
+abbrev pub Handles : Result (Unit {0}) SessionFault → History → Rest → Incoming → State → Ports → Ports → Type 0
+Handles result past rest event session old later = Goes result (Leads past rest event) (Toward past rest event) past session old later
+
+-- the report goes on with the run
+abbrev pub Expects : Phase → PlainReport → Type 0
+Expects (phase.Running t run) r = heading_of r ≡ heading_in t.runs run
+Expects _ r = ⊥
+
+-- what a file is as data
+abbrev pub plain_file : Result (Vec ℕ Global) LoadFault → Result (List ℕ) LoadFault
+plain_file (Ok file) = Ok file.items
+plain_file (Err fault) = Err fault
+
+-- ---- closing
+
+-- A Quit was pushed, or the port refused it.
+abbrev pub PushesQuit : Result (Unit {0}) SessionFault → Ordered → Ordered → Type 0
+PushesQuit (Ok u) old later = (later.orders ≡ old.orders ++ Quit ∷ []) × (later.fulls ≡ old.fulls) × (later.refusals ≡ old.refusals)
+PushesQuit (Err OrdersFull) old later = (later.orders ≡ old.orders) × (old.fulls < later.fulls)
+PushesQuit (Err RunnerGone) old later = (later.orders ≡ old.orders) × (old.refusals < later.refusals)
+PushesQuit (Err _) old later = ⊥

@@ -1,0 +1,80 @@
+-- What of a history was sent.
+use Rattle.std.specs.Prelude.{◌≡◌, ◌<◌, ◌^◌, ◌⊎◌, ℕ, List, [], ◌∷◌, ◌++◌}
+use Rattle.dap_msg.specs.declared.outgoing.Outgoing.{Outgoing}
+use Rattle.dbg_runner.specs.Plain.{PlainOrder, Quit}
+use Rattle.dap_history.specs.declared.fault.SessionFault.{SessionFault}
+use Rattle.dap_history.specs.declared.fault.SessionFault.TheVariants.{Frame, NoMemory, SeqExhausted, OrdersFull, RunnerGone, WriterGone}
+use Rattle.dap_history.specs.History.{History, messages_of, orders_of, next_seq}
+use Rattle.dap_history.specs.Output.{frames_from}
+use Rattle.dap_session.specs.Ports.{Ordered, Ports}
+
+-- From one history to a longer one these messages and orders were added.
+pub record Adds (past new : History) (messages : List Outgoing) (orders : List PlainOrder) : Type 0 where
+  pub messages_are : messages_of new ≡ messages_of past ++ messages
+  pub orders_are : orders_of new ≡ orders_of past ++ orders
+
+-- The ports gained just what the history did: the frames of the messages, numbered on, and the orders.
+pub record Sends (past new : History) (old later : Ports) : Type 0 where
+  pub messages : List Outgoing
+  pub orders : List PlainOrder
+  pub adds : Adds past new messages orders
+  pub frames_are : later.frames ≡ old.frames ++ frames_from (next_seq past) messages
+  pub orders_are : later.orders ≡ old.orders ++ orders
+
+-- The ports refused nothing.
+pub record RefusesNothing (old later : Ports) : Type 0 where
+  pub writer : later.refused ≡ old.refused
+  pub runner : later.runner_gone ≡ old.runner_gone
+  pub full : later.orders_full ≡ old.orders_full
+
+-- ---- where a session gives up
+
+-- xs is a beginning of ys
+abbrev pub Begins : {A : Type 0} → List A → List A → Type 0
+Begins {A} xs ys = (more : List A) × (xs ++ more ≡ ys)
+
+-- The ports gained a beginning of the orders that the history did, and no frame.
+pub record PushesSome (past new : History) (old later : Ports) : Type 0 where
+  pub messages : List Outgoing
+  pub orders : List PlainOrder
+  pub adds : Adds past new messages orders
+  pub frames_are : later.frames ≡ old.frames
+  pub refused_are : later.refused ≡ old.refused
+  pub pushed : List PlainOrder
+  pub orders_are : later.orders ≡ old.orders ++ pushed
+  pub begins : Begins pushed orders
+
+-- They gained all its orders, and the frames before one that was refused.
+pub record PutsSome (past new : History) (old later : Ports) : Type 0 where
+  pub messages : List Outgoing
+  pub orders : List PlainOrder
+  pub adds : Adds past new messages orders
+  pub orders_are : later.orders ≡ old.orders ++ orders
+  pub put : List (List ℕ)
+  pub frames_are : later.frames ≡ old.frames ++ put
+  pub frame : List ℕ
+  pub refused_are : later.refused ≡ old.refused ++ frame ∷ []
+  pub begins : Begins (put ++ frame ∷ []) (frames_from (next_seq past) messages)
+
+-- What was sent of one more step, which leads from past to new, by the fault that broke it off, which has its cause: a port
+-- refused just now, or a message would have no seq. Orders go before frames, and frames are built before either.
+abbrev pub BreaksOff : SessionFault → History → History → Ports → Ports → Type 0
+BreaksOff (Frame k) past new old later = ⊥
+BreaksOff NoMemory past new old later = later ≡ old
+BreaksOff SeqExhausted past new old later = (later ≡ old) × (2 ^ 53 < next_seq new)
+BreaksOff OrdersFull past new old later = PushesSome past new old later × (old.orders_full < later.orders_full)
+BreaksOff RunnerGone past new old later = PushesSome past new old later × (old.runner_gone < later.runner_gone)
+BreaksOff WriterGone past new old later = PutsSome past new old later
+
+-- One Quit was pushed, or the port refused it.
+abbrev pub HasTriedQuit : Ordered → Ordered → Type 0
+HasTriedQuit old later =
+    (later.orders ≡ old.orders ++ Quit ∷ [])
+    ⊎ ((later.orders ≡ old.orders) × ((old.fulls < later.fulls) ⊎ (old.refusals < later.refusals)))
+
+-- So it was, and nothing else was sent.
+pub record TriesQuit (old later : Ports) : Type 0 where
+  pub frames_are : later.frames ≡ old.frames
+  pub refused_are : later.refused ≡ old.refused
+  pub quit : (later.orders ≡ old.orders ++ Quit ∷ [])
+      ⊎ ((later.orders ≡ old.orders) × ((old.orders_full < later.orders_full) ⊎ (old.runner_gone < later.runner_gone)))

@@ -1,0 +1,69 @@
+-- What a whole run of a session sends.
+use Rattle.std.specs.Prelude.{◌≡◌, ◌++◌, ◌∷◌, [], List, Some, Result, Ok, Err}
+use Rattle.dap_frame.specs.declared.fault.FramingFault.{FramingFault}
+use Rattle.dap_history.specs.declared.fault.SessionFault.{SessionFault}
+use Rattle.dap_history.specs.declared.fault.SessionFault.TheVariants.{Frame, NoMemory, SeqExhausted, OrdersFull, RunnerGone, WriterGone}
+use Rattle.dap_history.specs.declared.ending.Closed.{Closed}
+use Rattle.dap_history.specs.declared.ending.Ending.{Ending}
+use Rattle.dap_history.specs.declared.ending.Ending.TheVariants as ending
+use Rattle.dap_history.specs.History.{History, messages_of, orders_of}
+use Rattle.dap_history.specs.Readings.{ending_of}
+use Rattle.dap_history.specs.Events.{Incoming, Rest, AreLawful, IsHistoryOf}
+use Rattle.dap_history.specs.Output.{frames_from}
+use Rattle.dap_history.specs.Interleaving.{Load, Interleaves, InterleavesUpTo}
+use Rattle.dap_session.specs.Ports.{Ports}
+use Rattle.dap_session.specs.Sending.{Sends, RefusesNothing, TriesQuit}
+use Rattle.dap_session.specs.Taking.{FailsAt}
+
+-- The events were taken until the session ended so, and all was sent that they give: the frames of the messages with
+-- seq 1, 2, 3 and on, and the orders.
+pub record Serves (events : List Incoming) (ending : Ending) (old later : Ports) : Type 0 where
+  pub past : History
+  pub rest : Rest
+  pub history : IsHistoryOf events past rest
+  pub ending_is : ending_of past ≡ Some ending
+  pub frames_are : later.frames ≡ old.frames ++ frames_from 1 (messages_of past)
+  pub orders_are : later.orders ≡ old.orders ++ orders_of past
+  pub refuses_nothing : RefusesNothing old later
+
+-- A framing fault ended the session. All was sent that the events give, and then a Quit was tried.
+pub record ServesUntilFault (events : List Incoming) (fault : FramingFault) (old later : Ports) : Type 0 where
+  pub mid : Ports
+  pub serves : Serves events (ending.Fault (Frame fault)) old mid
+  pub quit : TriesQuit mid later
+
+-- The session gave up at the last event. What the others give was sent, and a beginning of what that one adds, and then
+-- a Quit was tried.
+pub record StopsShort (events : List Incoming) (fault : SessionFault) (old later : Ports) : Type 0 where
+  pub before : List Incoming
+  pub last : Incoming
+  pub events_are : events ≡ before ++ last ∷ []
+  pub past : History
+  pub rest : Rest
+  pub history : IsHistoryOf before past rest
+  pub mid : Ports
+  pub sent : Sends [] past old mid
+  pub refuses_nothing : RefusesNothing old mid
+  pub stopped : Ports
+  pub fails : FailsAt fault past rest last mid stopped
+  pub quit : TriesQuit stopped later
+
+-- What comes of the events that an inbox and a loader gave, by the answer. The reports among them are lawful.
+abbrev pub Drives : Result Closed SessionFault → List Incoming → List Incoming → List Load → Ports → Ports → Type 0
+Drives (Ok by) events given loads old later = Interleaves [] events given loads × Serves events (ending.Closed by) old later
+Drives (Err (Frame fault)) events given loads old later = Interleaves [] events given loads × ServesUntilFault events fault old later
+Drives (Err NoMemory) events given loads old later = InterleavesUpTo events given loads × StopsShort events NoMemory old later
+Drives (Err SeqExhausted) events given loads old later = Interleaves [] events given loads × StopsShort events SeqExhausted old later
+Drives (Err OrdersFull) events given loads old later = Interleaves [] events given loads × StopsShort events OrdersFull old later
+Drives (Err RunnerGone) events given loads old later = Interleaves [] events given loads × StopsShort events RunnerGone old later
+Drives (Err WriterGone) events given loads old later = Interleaves [] events given loads × StopsShort events WriterGone old later
+
+-- an inbox and a loader gave these events and answers, and this came of them
+pub record Driven (result : Result Closed SessionFault) (given_before given_after : List Incoming) (loaded_before loaded_after : List Load) (old later : Ports) : Type 0 where
+  pub events : List Incoming
+  pub given : List Incoming
+  pub loads : List Load
+  pub given_are : given_after ≡ given_before ++ given
+  pub loads_are : loaded_after ≡ loaded_before ++ loads
+  pub lawful : AreLawful events
+  pub drives : Drives result events given loads old later

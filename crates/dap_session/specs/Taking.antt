@@ -1,0 +1,97 @@
+-- What comes of one event that a session takes.
+use Rattle.std.specs.Prelude.{◌≡◌, ◌⊎◌, ◌++◌, ◌∷◌, [], ℕ, List, Option, Some, None, Result, Ok, Err}
+use Rattle.dap_frame.specs.declared.fault.FramingFault.{FramingFault}
+use Rattle.dap_history.specs.declared.fault.SessionFault.{SessionFault}
+use Rattle.dap_history.specs.declared.fault.SessionFault.TheVariants.{Frame, NoMemory, SeqExhausted, OrdersFull, RunnerGone, WriterGone}
+use Rattle.dap_history.specs.declared.fault.LoadFault.{LoadFault}
+use Rattle.dap_history.specs.declared.fault.LoadFault.TheVariants as load_fault
+use Rattle.dap_history.specs.declared.ending.Ending.TheVariants.{Fault}
+use Rattle.dap_history.specs.declared.launch.Launch.{Launch}
+use Rattle.dap_history.specs.History.{Item, Loaded, Accepted, InputEnd, ReadFailure, History}
+use Rattle.dap_history.specs.Readings.{ending_of}
+use Rattle.dap_history.specs.Reports.{Accepts}
+use Rattle.dap_history.specs.Emission.{IsAfter}
+use Rattle.dap_history.specs.Events.{Incoming, Piece, End, ReadFailed, File, Report, Rest, Takes, IsHistoryOf}
+use Rattle.dap_history.specs.Events.{NoMemory as NoMemoryCame}
+use Rattle.dap_session.specs.declared.want.Want.{Want}
+use Rattle.dap_session.specs.Ports.{Ports}
+use Rattle.dap_session.specs.Sending.{Sends, RefusesNothing, BreaksOff}
+use Rattle.dap_session.specs.State.{State, StandsFor, Wants}
+
+-- ---- how far an event was taken
+
+abbrev pub TowardByPiece : History → Option Launch → List ℕ → History → Type 0
+TowardByPiece past None bytes new = (left : List ℕ) × Takes past bytes new left
+TowardByPiece past (Some launch) bytes new = new ≡ past
+
+-- what a launch is made with: the file's bytes, or none where it can't be read; nothing where there was no memory
+abbrev pub file_of : Result (List ℕ) LoadFault → Option (Option (List ℕ))
+file_of (Ok file) = Some (Some file)
+file_of (Err load_fault.CannotRead) = Some None
+file_of (Err load_fault.NoMemory) = None
+
+-- the launch was made with its file, and some contents after it were taken
+pub record LoadsToward (past : History) (rest : Rest) (answer : Result (List ℕ) LoadFault) (new : History) : Type 0 where
+  pub launch : Launch
+  pub waits : rest.launch ≡ Some launch
+  pub file : Option (List ℕ)
+  pub file_is : file_of answer ≡ Some file
+  pub mid : History
+  pub loaded : IsAfter past (Loaded launch file) mid
+  pub left : List ℕ
+  pub taken : Takes mid rest.bytes new left
+
+-- From past, items of the event were taken one after another, which led to new; perhaps not all of them.
+abbrev pub Toward : History → Rest → Incoming → History → Type 0
+Toward past rest (Piece piece) new = TowardByPiece past rest.launch (rest.bytes ++ piece) new
+Toward past rest End new = (new ≡ past) ⊎ IsAfter past InputEnd new
+Toward past rest ReadFailed new = (new ≡ past) ⊎ IsAfter past ReadFailure new
+Toward past rest NoMemoryCame new = new ≡ past
+Toward past rest (File answer) new = (new ≡ past) ⊎ LoadsToward past rest answer new
+Toward past rest (Report r) new = (new ≡ past) ⊎ (Accepts past r × IsAfter past (Accepted r) new)
+
+-- There was no memory: for a piece, or for the file that a launch waits for.
+abbrev pub LacksMemory : Incoming → Option Launch → Type 0
+LacksMemory NoMemoryCame launch = Unit {0}
+LacksMemory (File (Err load_fault.NoMemory)) (Some launch) = Unit {0}
+LacksMemory _ _ = ⊥
+
+-- ---- what comes of it
+
+-- The session gave up at the event. Whole steps of it were sent, and of one step more what the fault let through.
+pub record FailsAt (fault : SessionFault) (past : History) (rest : Rest) (event : Incoming) (old later : Ports) : Type 0 where
+  pub mid : History
+  pub toward : Toward past rest event mid
+  pub between : Ports
+  pub sent : Sends past mid old between
+  pub refuses_nothing : RefusesNothing old between
+  pub next : History
+  pub next_is : (next ≡ mid) ⊎ (Toward past rest event next × ((item : Item) × IsAfter mid item next))
+  pub breaks : BreaksOff fault mid next between later
+
+-- A framing fault ended the session at the event, and all was sent that the event gives.
+pub record EndsAt (fault : FramingFault) (events : List Incoming) (past : History) (event : Incoming) (old later : Ports) : Type 0 where
+  pub new : History
+  pub rest : Rest
+  pub history : IsHistoryOf (events ++ event ∷ []) new rest
+  pub ending_is : ending_of new ≡ Some (Fault (Frame fault))
+  pub sends : Sends past new old later
+  pub refuses_nothing : RefusesNothing old later
+
+-- The session stands for the events and this one, and sent what this one adds.
+pub record GoesWell (events : List Incoming) (past : History) (event : Incoming) (want : Want) (session : State) (old later : Ports) : Type 0 where
+  pub new : History
+  pub stands : StandsFor session (events ++ event ∷ []) new
+  pub sends : Sends past new old later
+  pub refuses_nothing : RefusesNothing old later
+  pub wants : Wants want session session.ending
+
+-- What comes of an event, by the answer.
+abbrev pub Comes : Result Want SessionFault → List Incoming → History → Rest → Incoming → State → Ports → Ports → Type 0
+Comes (Ok want) events past rest event session old later = GoesWell events past event want session old later
+Comes (Err (Frame fault)) events past rest event session old later = EndsAt fault events past event old later
+Comes (Err NoMemory) events past rest event session old later = FailsAt NoMemory past rest event old later
+Comes (Err SeqExhausted) events past rest event session old later = FailsAt SeqExhausted past rest event old later
+Comes (Err OrdersFull) events past rest event session old later = FailsAt OrdersFull past rest event old later
+Comes (Err RunnerGone) events past rest event session old later = FailsAt RunnerGone past rest event old later
+Comes (Err WriterGone) events past rest event session old later = FailsAt WriterGone past rest event old later

@@ -1,0 +1,93 @@
+// Reports of the runner.
+
+use super::Session;
+use super::requests::free;
+use crate::ports::{Orders, Out};
+use dap_history::{SessionFault, reading_laws};
+use dap_phase::{Phase, Run, Target};
+use dbg_runner::{Report, SliceOutcome};
+use std::mem;
+
+impl Session {
+    ghost use Rattle.std.specs.Prelude.{◌≡◌, None, IfSome, IfNone, OnOk};
+    ghost use Rattle.dbg_runner.specs.Plain.{heading_of};
+    ghost use Rattle.dbg_runner.specs.Reported.{plain_report};
+    ghost use Rattle.dap_history.specs.History.{Accepted, History, next_seq};
+    ghost use Rattle.dap_history.specs.Events.{Rest, IsTaking, Report as Reports};
+    ghost use Rattle.dap_phase.specs.Runs.{heading_in};
+    ghost use Rattle.dap_phase.specs.Phases.{IsPhase};
+    ghost use Rattle.dap_phase.specs.declared.phase.Phase.TheVariants as phase_is;
+    ghost use Rattle.dap_session.specs.Ports.{ports};
+    ghost use Rattle.dap_session.specs.State.{GoesOn};
+    ghost use Rattle.dap_session.specs.Handling.{IsWell, HandlesItem, Handles, Expects};
+
+    /// Takes a report. One that doesn't go on with the run is passed over.
+    pub(super) fn take_report<O: Out, D: Orders>(
+        &mut self,
+        report: Report,
+        out: &mut O,
+        orders: &mut D,
+    ) -> Result<(), SessionFault>
+        requires { self.old.ending ≡ None }
+        ensures comes { (past : History) (rest : Rest) → IsTaking past → GoesOn self.old past rest →
+            Handles result past rest (Reports (plain_report report)) self.new
+            (ports (O.seen out.old) (D.seen orders.old))
+            (ports (O.seen out.new) (D.seen orders.new)) }
+        ensures well { OnOk result (IsWell self.new.ending) }
+        ensures out { O.origin out.new ≡ O.origin out.old }
+    {
+        let Some((target, run)) = self.take_run(&report) else {
+            return Ok(());
+        };
+        self.accept(target, run, report, out, orders)
+    }
+
+    /// Takes the run out of the phase that the report goes on with, if there is one.
+    fn take_run(&mut self, report: &Report) -> Option<(Target, Run)>
+        ensures found { IfSome result (λ taken. (self.old.phase ≡ phase_is.Running taken.0 taken.1)
+            × (heading_of (plain_report report.now) ≡ heading_in taken.0.runs taken.1)) }
+        ensures none { IfNone result (¬ Expects self.old.phase (plain_report report.now)) }
+        ensures same { IfNone result (self.new ≡ self.old) }
+        ensures rest { self.new ≡ record self.old { phase = self.new.phase } }
+    {
+        match mem::replace(&mut self.phase, Phase::Fresh) {
+            Phase::Running(target, run) => {
+                if run.expects(target.runs, report) {
+                    return Some((target, run));
+                }
+                self.phase = Phase::Running(target, run);
+            }
+            phase => self.phase = phase,
+        }
+        None
+    }
+
+    /// Accepts a report, which goes on with the run.
+    fn accept<O: Out, D: Orders>(
+        &mut self,
+        target: Target,
+        run: Run,
+        report: Report,
+        out: &mut O,
+        orders: &mut D,
+    ) -> Result<(), SessionFault>
+        requires taking { self.old.ending ≡ None }
+        requires expected { heading_of (plain_report report) ≡ heading_in target.runs run }
+        ensures comes { (past : History) → IsTaking past → IsPhase (phase_is.Running target run) past → self.old.next_seq ≡ next_seq past →
+            HandlesItem result past (Accepted (plain_report report)) self.new
+            (ports (O.seen out.old) (D.seen orders.old))
+            (ports (O.seen out.new) (D.seen orders.new)) }
+        ensures stream { self.new.stream ≡ self.old.stream }
+        ensures ending { self.new.ending ≡ None }
+        ensures out { O.origin out.new ≡ O.origin out.old }
+    {
+        reading_laws();
+        if let SliceOutcome::NoMemory = report.outcome() {
+            return Err(SessionFault::NoMemory);
+        }
+        let Ok(effect) = dap_replies::report(self.alloc, target, run, report) else {
+            return Err(SessionFault::NoMemory);
+        };
+        self.send(None, free(effect), out, orders)
+    }
+}

@@ -1,0 +1,193 @@
+// How what an item leads to is sent: all frames are built first, then the order is pushed, then the frames are put.
+
+ghost use Rattle.std.specs.Prelude.{◌≡◌, ◌++◌, ◌∷◌, [], ◌⊎◌, ◌+◌, ◌≤◌, ◌<◌, ◌^◌, map, length, option_map, IfOk, IfErr, OnOk};
+ghost use Rattle.std.specs.Option.{option_to_list};
+ghost use Rattle.dap_frame.specs.Frame.{frame_of};
+ghost use Rattle.dap_msg.specs.Outgoing.{text_of};
+ghost use Rattle.dap_msg.specs.declared.outgoing.Outgoing.TheVariants.{Event};
+ghost use Rattle.dbg_runner.specs.Orders.{plain_order};
+ghost use Rattle.dap_history.specs.declared.fault.SessionFault.TheVariants.{NoMemory, SeqExhausted};
+ghost use Rattle.dap_history.specs.History.{with_answer};
+ghost use Rattle.dap_history.specs.Output.{frames_from};
+ghost use Rattle.dap_session.specs.Building.{plain_frames, Built, AddsFrames, IsNotBuilt, IsNotPushed, IsNotPut};
+
+use super::Session;
+use crate::ports::{OrderFault, Orders, Out};
+use dap_frame::encode;
+use dap_history::{SessionFault, reading_laws};
+use dap_msg::{EventBody, Items, Outgoing, write};
+use dap_replies::Effect;
+use dbg_runner::Order;
+use std::alloc::Global;
+use std::marker::Model;
+
+/// The first seq that no message may have.
+const SEQ_END: u64 = 1 << 53;
+
+/// The frames of messages.
+#[derive(Drop)]
+struct Frames {
+    /// Holds one content after another, so that contents share its memory.
+    content: Vec<u8>,
+    frames: Vec<Vec<u8>>,
+    /// The seq of the next message.
+    next_seq: u64,
+}
+
+impl Session {
+    ghost use Rattle.std.specs.Prelude.{◌≡◌, OnOk};
+    ghost use Rattle.dap_history.specs.History.{Step, History, next_seq};
+    ghost use Rattle.dap_session.specs.Ports.{ports};
+    ghost use Rattle.dap_session.specs.Steps.{IsStepOf, IsSent};
+
+    /// Sends an answer, if there is one, and what follows it, and goes on in the phase after it.
+    pub(super) fn send<O: Out, D: Orders>(
+        &mut self,
+        answer: Option<Outgoing>,
+        effect: Effect,
+        out: &mut O,
+        orders: &mut D,
+    ) -> Result<(), SessionFault>
+        ensures sent { (past : History) (step : Step) → self.old.next_seq ≡ next_seq past → IsStepOf answer effect step →
+            IsSent result past step self.new
+            (ports (O.seen out.old) (D.seen orders.old))
+            (ports (O.seen out.new) (D.seen orders.new)) }
+        ensures phase { OnOk result (self.new.phase ≡ effect.phase) }
+        ensures stream { self.new.stream ≡ self.old.stream }
+        ensures ending { self.new.ending ≡ self.old.ending }
+        ensures out { O.origin out.new ≡ O.origin out.old }
+    {
+        reading_laws();
+        let Effect {
+            events,
+            order,
+            phase,
+        } = effect;
+        let Frames {
+            frames,
+            next_seq,
+            ..
+        } = Frames::of(self.alloc, self.next_seq, answer, events)?;
+        push(order, orders)?;
+        put(frames, out)?;
+        self.next_seq = next_seq;
+        self.phase = phase;
+        Ok(())
+    }
+}
+
+impl Model for Frames {
+    ghost Value = { Built };
+
+    ghost view = { λ all. record { frames = plain_frames all.frames.items; next_seq = all.next_seq } };
+}
+
+impl Frames {
+    /// The frames of an answer, if there is one, and of events, with seqs from `seq` on.
+    fn of(
+        alloc: Global,
+        seq: u64,
+        answer: Option<Outgoing>,
+        events: Items<EventBody>,
+    ) -> Result<Frames, SessionFault>
+        ensures frames { IfOk result (λ all. all.frames ≡ frames_from seq (with_answer answer (map Event events))) }
+        ensures seq { IfOk result (λ all. all.next_seq ≡ seq + length (with_answer answer (map Event events))) }
+        ensures err { IfErr result (λ fault. IsNotBuilt fault seq (with_answer answer (map Event events))) }
+    {
+        let mut all = Frames {
+            content: Vec::new(alloc),
+            frames: Vec::new(alloc),
+            next_seq: seq,
+        };
+        all.add_answer(answer)?;
+        all.add_events(events.as_slice())?;
+        Ok(all)
+    }
+
+    /// Adds the frame of an answer, if there is one.
+    fn add_answer(&mut self, answer: Option<Outgoing>) -> Result<(), SessionFault>
+        ensures ok { OnOk result (AddsFrames (option_to_list answer) self.old self.new) }
+        ensures err { IfErr result (λ fault. IsNotBuilt fault self.old.next_seq (option_to_list answer)) }
+    {
+        match answer {
+            Some(answer) => self.add(&answer),
+            None => Ok(()),
+        }
+    }
+
+    /// Adds the frames of events.
+    fn add_events(&mut self, events: &[EventBody]) -> Result<(), SessionFault>
+        ensures ok { OnOk result (AddsFrames (map Event events.now) self.old self.new) }
+        ensures err { IfErr result (λ fault. IsNotBuilt fault self.old.next_seq (map Event events.now)) }
+    {
+        for event in events {
+            self.add(&Outgoing::Event(*event))?;
+        }
+        Ok(())
+    }
+
+    /// Adds the frame of a message.
+    fn add(&mut self, message: &Outgoing) -> Result<(), SessionFault>
+        ensures ok { OnOk result (AddsFrames (message.now ∷ []) self.old self.new) }
+        ensures err { IfErr result (λ fault. IsNotBuilt fault self.old.next_seq (message.now ∷ [])) }
+    {
+        let frame = frame(message, self.next_seq, &mut self.content)?;
+        if self.frames.push(frame).is_err() {
+            return Err(SessionFault::NoMemory);
+        }
+        self.next_seq += 1;
+        Ok(())
+    }
+}
+
+/// The frame of a message. Its content is written in `content`, over what that held.
+fn frame(message: &Outgoing, seq: u64, content: &mut Vec<u8>) -> Result<Vec<u8>, SessionFault>
+    ensures frame { IfOk result (λ frame. frame.items ≡ frame_of (text_of message.now seq)) }
+    ensures fits { OnOk result (seq < 2 ^ 53) }
+    ensures cause { IfErr result (λ fault. (fault ≡ NoMemory) ⊎ ((fault ≡ SeqExhausted) × (2 ^ 53 ≤ seq))) }
+{
+    if seq >= SEQ_END {
+        return Err(SessionFault::SeqExhausted);
+    }
+    content.clear();
+    if write(message, seq, content).is_err() {
+        return Err(SessionFault::NoMemory);
+    }
+    let mut frame = Vec::new(*content.allocator());
+    if encode(content.as_slice(), &mut frame).is_err() {
+        return Err(SessionFault::NoMemory);
+    }
+    Ok(frame)
+}
+
+/// Pushes an order, if there is one.
+fn push<D: Orders>(order: Option<Order>, orders: &mut D) -> Result<(), SessionFault>
+    ensures pushed { OnOk result ((D.seen orders.new).orders ≡ (D.seen orders.old).orders ++ option_to_list (option_map plain_order order)) }
+    ensures ok_gone { OnOk result ((D.seen orders.new).refusals ≡ (D.seen orders.old).refusals) }
+    ensures ok_full { OnOk result ((D.seen orders.new).fulls ≡ (D.seen orders.old).fulls) }
+    ensures err { IfErr result (λ fault. IsNotPushed fault (D.seen orders.old) (D.seen orders.new)) }
+{
+    let Some(order) = order else {
+        return Ok(());
+    };
+    match orders.push(order) {
+        Ok(()) => Ok(()),
+        Err(OrderFault::Full) => Err(SessionFault::OrdersFull),
+        Err(OrderFault::Gone) => Err(SessionFault::RunnerGone),
+    }
+}
+
+/// Puts frames, up to the first that is refused.
+fn put<O: Out>(frames: Vec<Vec<u8>>, out: &mut O) -> Result<(), SessionFault>
+    ensures ok { OnOk result ((O.seen out.new).frames ≡ (O.seen out.old).frames ++ plain_frames frames.items) }
+    ensures ok_refused { OnOk result ((O.seen out.new).refused ≡ (O.seen out.old).refused) }
+    ensures origin { O.origin out.new ≡ O.origin out.old }
+    ensures err { IfErr result (λ fault. IsNotPut fault (plain_frames frames.items) (O.seen out.old) (O.seen out.new)) }
+{
+    for frame in frames {
+        if out.put(frame).is_err() {
+            return Err(SessionFault::WriterGone);
+        }
+    }
+    Ok(())
+}

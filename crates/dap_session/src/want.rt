@@ -1,0 +1,10 @@
+/// What a session asks for next.
+#[derive(Debug, Drop)]
+pub enum Want {
+    /// The next event.
+    Event,
+    /// The file at this path, for a launch that waits for it.
+    File(String),
+    /// Nothing: the session is closed.
+    Closed,
+}
