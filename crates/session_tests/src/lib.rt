@@ -1,0 +1,21 @@
+//! Tests of whole sessions, from the bytes that a client sends to the bytes and orders that leave, over ports in memory. It is
+//! never installed.
+//!
+//! `rows` has the sessions, as transcripts. `transcript` says how to read one, `expected` which contents its lines stand for,
+//! `ports` what a session runs over, `runner` and `reports` where the reports of the program come from.
+#![tactic(auto)]
+
+#[cfg(test)]
+mod expected;
+#[cfg(test)]
+mod ports;
+#[cfg(test)]
+mod reports;
+#[cfg(test)]
+mod rows;
+#[cfg(test)]
+mod runner;
+#[cfg(test)]
+mod text;
+#[cfg(test)]
+mod transcript;

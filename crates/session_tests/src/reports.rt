@@ -1,0 +1,87 @@
+//! Reports that no run of the session gives.
+
+use dap_session::Report;
+use dbg_plan::{Debuggee, Mode, SourceBreakpoint, resolve};
+use dbg_runner::{Considered, next_report};
+use pl0_code::compile;
+use pl0_machine::Machine;
+use pl0_syntax::parse;
+use std::alloc::Global;
+use std::process::Abort;
+use std::sync::Arc;
+
+/// The report of `run 1, Continue, from 0, lines 3 5, of TEXT`. Of `-` there are no breakpoints, and no text means this one.
+pub fn described(rt: &impl Abort, alloc: Global, description: &str, program: &str) -> Report {
+    let (run, rest) = description.split_once(", ").expect(rt, "a run");
+    let (mode, rest) = rest.split_once(", from ").expect(rt, "a mode");
+    let (start, rest) = rest.split_once(", lines ").expect(rt, "a start");
+    let (lines, text) = rest.split_once(", of ").unwrap_or((rest, program));
+    let run = run.strip_prefix("run ").expect(rt, "a run");
+    let run = run.parse::<u64>().expect(rt, "a number");
+    let start = start.parse::<u64>().expect(rt, "a number");
+    let mode = mode_of(mode);
+    let debuggee = debuggee_at(rt, alloc, text, lines, start);
+    next_report(alloc, run, debuggee.into_debuggee(), mode).0
+}
+
+fn mode_of(name: &str) -> Mode {
+    match name {
+        "Entry" => Mode::Entry,
+        "In" => Mode::In,
+        "Over" => Mode::Over(1),
+        "Out" => Mode::Out(1),
+        _ => Mode::Continue,
+    }
+}
+
+fn asked(rt: &impl Abort, alloc: Global, lines: &str) -> Vec<SourceBreakpoint> {
+    let mut asked = Vec::new(alloc);
+    for line in lines.split(' ') {
+        if let Ok(line) = line.parse::<u32>() {
+            asked
+                .push(SourceBreakpoint {
+                    line,
+                    condition: String::new(alloc),
+                    hit_condition: String::new(alloc),
+                })
+                .expect(rt, "memory");
+        }
+    }
+    asked
+}
+
+/// A program under breakpoints that count from position 0, where this position was considered.
+fn debuggee_at(rt: &impl Abort, alloc: Global, text: &str, lines: &str, start: u64) -> Considered {
+    let tree = parse(alloc, text.as_bytes()).expect(rt, "a lawful text");
+    let unit = Arc::new(alloc, compile(alloc, tree).expect(rt, "memory")).expect(rt, "memory");
+    let machine = Machine::new(alloc, unit).expect(rt, "memory");
+    let mut debuggee = begun(rt, alloc, machine, &asked(rt, alloc, lines));
+    for _ in 0..start {
+        debuggee = stepped(rt, alloc, debuggee);
+    }
+    debuggee
+}
+
+/// A program under breakpoints, at position 0.
+fn begun(
+    rt: &impl Abort,
+    alloc: Global,
+    machine: Machine,
+    asked: &[SourceBreakpoint],
+) -> Considered {
+    assert!(rt; asked.len() <= 256);
+    let (plan, _) = resolve(alloc, machine.unit(), asked).expect(rt, "memory");
+    let plan = Arc::new(alloc, plan).expect(rt, "memory");
+    assert!(rt; machine.depth() > 0);
+    let mut debuggee = Debuggee::new(machine);
+    debuggee.set_plan(plan);
+    debuggee.consider(Mode::Continue);
+    Considered::new(Box::new(alloc, debuggee).expect(rt, "memory"))
+}
+
+/// The program a step later.
+fn stepped(rt: &impl Abort, alloc: Global, debuggee: Considered) -> Considered {
+    let (report, _) = next_report(alloc, 0, debuggee.into_debuggee(), Mode::In);
+    let debuggee = report.into_debuggee().map(Considered::new);
+    debuggee.expect(rt, "a step")
+}

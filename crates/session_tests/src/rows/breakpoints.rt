@@ -1,0 +1,214 @@
+//! Breakpoints, their conditions and their hit conditions.
+
+pub const SESSIONS: &str = r#"
+# lines are answered
+| var x;
+| 
+| begin x := 1;
+| ! x end.
+launched
+> setBreakpoints {"source":{"path":"p.pl0"},"breakpoints":[{"line":2},{"line":4},{"line":5}]}
+4: {"body":{"breakpoints":[{"line":3,"verified":true},{"line":4,"verified":true},{"message":"noStep","verified":false}]},"command":"setBreakpoints","request_seq":3,"seq":4,"success":true,"type":"response"}
+> setBreakpoints {"source":{"path":"q.pl0"},"breakpoints":[{"line":2},{"line":4},{"line":5}]}
+5: ok setBreakpoints/4 otherSource otherSource otherSource
+> setBreakpoints {"source":{},"breakpoints":[{"line":2}]}
+6: ok setBreakpoints/5 otherSource
+> setBreakpoints {"source":{"path":"p.pl0"},"breakpoints":[{"line":0},{"line":2147483647}]}
+7: ok setBreakpoints/6 3 noStep
+> setBreakpoints {"source":{"path":"p.pl0"}}
+8: ok setBreakpoints/7
+end
+! Quit
+= InputEnded
+
+# lines from 0 are answered
+| var x;
+| 
+| begin x := 1;
+| ! x end.
+> initialize {"linesStartAt1":false}
+1: ok initialize/1
+> launch {"program":"p.pl0"}
+2: ok launch/2
+3: initialized
+> setBreakpoints {"source":{"path":"p.pl0"},"breakpoints":[{"line":1},{"line":3},{"line":4},{"line":2147483647}]}
+4: ok setBreakpoints/3 2 3 noStep noStep
+end
+! Quit
+= InputEnded
+
+# a condition and a hit condition
+| var x;
+| while x < 6 do
+| x := x + 1.
+launched
+> setBreakpoints {"source":{"path":"p.pl0"},"breakpoints":[{"line":3,"condition":"x > 2","hitCondition":"%2"}]}
+4: ok setBreakpoints/3 3
+> configurationDone
+! Go 1
+5: ok configurationDone/4
+S 9
+6: stopped breakpoint
+> variables {"variablesReference":1}
+7: ok variables/5 x 4
+> continue {"threadId":1}
+! Go 2
+8: ok continue/6
+S 14
+9: exited 0
+10: terminated
+end
+! Quit
+= InputEnded
+
+# a condition that faults is met
+| var x;
+| while x < 6 do
+| x := x + 1.
+launched
+> setBreakpoints {"source":{"path":"p.pl0"},"breakpoints":[{"line":3,"condition":"1 / 0 = 1","hitCondition":"3"}]}
+4: ok setBreakpoints/3 3
+> configurationDone
+! Go 1
+5: ok configurationDone/4
+S 5
+6: stopped breakpoint
+> variables {"variablesReference":1}
+7: ok variables/5 x 2
+> continue {"threadId":1}
+! Go 2
+8: ok continue/6
+S 7
+9: stopped breakpoint
+> continue {"threadId":1}
+! Go 3
+10: ok continue/7
+S 9
+11: stopped breakpoint
+> continue {"threadId":1}
+! Go 4
+12: ok continue/8
+S 11
+13: stopped breakpoint
+> variables {"variablesReference":1}
+14: ok variables/9 x 5
+> continue {"threadId":1}
+! Go 5
+15: ok continue/10
+S 14
+16: exited 0
+17: terminated
+end
+! Quit
+= InputEnded
+
+# conditions that don't read
+| var x;
+| while x < 6 do
+| x := x + 1.
+launched
+> setBreakpoints {"source":{"path":"p.pl0"},"breakpoints":[{"line":3,"condition":"x >"},{"line":3,"hitCondition":"03"},{"line":4,"condition":"x >","hitCondition":"03"},{"line":3,"condition":"x >","hitCondition":"03"},{"line":3,"condition":"","hitCondition":""},{"line":3,"condition":" "}]}
+4: ok setBreakpoints/3 badCondition badHitCondition noStep badCondition 3 badCondition
+end
+! Quit
+= InputEnded
+
+# a new plan begins its counts anew
+| var x;
+| while x < 6 do
+| x := x + 1.
+launched
+> setBreakpoints {"source":{"path":"p.pl0"},"breakpoints":[{"line":3,"hitCondition":"2"}]}
+4: ok setBreakpoints/3 3
+> configurationDone
+! Go 1
+5: ok configurationDone/4
+S 3
+6: stopped breakpoint
+> setBreakpoints {"source":{"path":"p.pl0"},"breakpoints":[{"line":3,"hitCondition":"2"}]}
+7: ok setBreakpoints/5 3
+> setBreakpoints {"source":{"path":"q.pl0"},"breakpoints":[]}
+8: ok setBreakpoints/6
+> continue {"threadId":1}
+! Go 2
+9: ok continue/7
+S 7
+10: stopped breakpoint
+> setBreakpoints {"source":{"path":"p.pl0"}}
+11: ok setBreakpoints/8
+> continue {"threadId":1}
+! Go 3
+12: ok continue/9
+S 14
+13: exited 0
+14: terminated
+> setBreakpoints {"source":{"path":"p.pl0"},"breakpoints":[{"line":3},{"line":4},{"line":3,"condition":"y = 1"}]}
+15: ok setBreakpoints/10 3 noStep badCondition
+> setBreakpoints {"source":{"path":"q.pl0"},"breakpoints":[{"line":3}]}
+16: ok setBreakpoints/11 otherSource
+end
+! Quit
+= InputEnded
+
+# 256 breakpoints at one line
+| while 1 = 1 do.
+launched
+> setBreakpoints {"source":{"path":"p.pl0"},"breakpoints":[~255 {"line":1,"hitCondition":"%"},~{"line":1,"hitCondition":"256"}]}
+4: ok setBreakpoints/3 ~255 1 ~1
+> configurationDone
+5: ok configurationDone/4
+6: stopped breakpoint
+> continue {"threadId":1}
+! Go 1
+7: ok continue/5
+S 1
+8: stopped breakpoint
+end
+! Quit
+= InputEnded
+
+# 257 breakpoints are no arguments, and the plan before them stays
+| while 1 = 1 do.
+launched
+> setBreakpoints {"source":{"path":"p.pl0"},"breakpoints":[{"line":1,"hitCondition":"3"}]}
+4: ok setBreakpoints/3 1
+> setBreakpoints {"source":{"path":"p.pl0"},"breakpoints":[~256 {"line":1},~{"line":1}]}
+5: no setBreakpoints/4 badArguments
+> configurationDone
+! Go 1
+6: ok configurationDone/5
+S 2
+7: stopped breakpoint
+end
+! Quit
+= InputEnded
+
+# hits that a number divides
+| while 1 = 1 do.
+launched
+> setBreakpoints {"source":{"path":"p.pl0"},"breakpoints":[{"line":1,"hitCondition":"%2"},{"line":1,"hitCondition":"%3"}]}
+4: ok setBreakpoints/3 1 1
+> configurationDone
+! Go 1
+5: ok configurationDone/4
+S 1
+6: stopped breakpoint
+> continue {"threadId":1}
+! Go 2
+7: ok continue/5
+S 2
+8: stopped breakpoint
+> continue {"threadId":1}
+! Go 3
+9: ok continue/6
+S 3
+10: stopped breakpoint
+> continue {"threadId":1}
+! Go 4
+11: ok continue/7
+S 5
+12: stopped breakpoint
+end
+! Quit
+= InputEnded
+"#;

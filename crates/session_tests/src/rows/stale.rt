@@ -1,0 +1,219 @@
+//! Reports that don't go on with a run are passed over, and the next report of the run is accepted.
+
+pub const SESSIONS: &str = r#"
+# reports before a run and after it
+| begin ! 7; ! 1 / 0 end.
+R run 1, Continue, from 0, lines -
+> initialize
+1: ok initialize/1
+R run 1, Continue, from 0, lines -
+> launch {"program":"p.pl0"}
+2: ok launch/2
+3: initialized
+R run 1, Continue, from 0, lines -
+> configurationDone
+! Go 1
+4: ok configurationDone/3
+S 1
+5: output 7
+6: stopped exception divideByZero
+R run 1, Continue, from 0, lines -
+R run 1, Continue, from 1, lines -
+R run 2, Continue, from 1, lines -
+> variables {"variablesReference":1}
+7: ok variables/4
+> continue {"threadId":1}
+8: ok continue/5
+9: exited 1
+10: terminated
+R run 1, Continue, from 0, lines -
+R run 1, Continue, from 1, lines -
+end
+! Quit
+= InputEnded
+
+# reports at a stop
+| begin ! 7; ! 8 end.
+> initialize
+1: ok initialize/1
+> launch {"program":"p.pl0","stopOnEntry":true}
+2: ok launch/2
+3: initialized
+> configurationDone
+4: ok configurationDone/3
+5: stopped entry
+R run 0, Entry, from 0, lines -
+R run 0, Continue, from 0, lines -
+R run 1, Continue, from 0, lines -
+> next {"threadId":1}
+! Go 1
+6: ok next/4
+R run 1, In, from 0, lines -
+S 1
+7: output 7
+8: stopped step
+R run 1, Over, from 0, lines -
+R run 1, Over, from 1, lines -
+R run 2, Over, from 1, lines -
+> stepIn {"threadId":1}
+! Go 2
+9: ok stepIn/5
+R run 2, Over, from 1, lines -
+R run 1, In, from 1, lines -
+R run 2, In, from 0, lines -
+S 2
+10: output 8
+11: stopped step
+end
+! Quit
+= InputEnded
+
+# reports of another run, text, plan, mode and beginning
+| begin ! 7; ! 1 / 0 end.
+launched
+> configurationDone
+! Go 1
+4: ok configurationDone/3
+R run 0, Continue, from 0, lines -
+R run 2, Continue, from 0, lines -
+R run 1, Continue, from 0, lines -, of begin ! 7; ! 2 / 0 end.
+R run 1, Continue, from 0, lines 1
+R run 1, Entry, from 0, lines -
+R run 1, In, from 0, lines -
+R run 1, Over, from 0, lines -
+R run 1, Out, from 0, lines -
+R run 1, Continue, from 1, lines -
+S 1
+5: output 7
+6: stopped exception divideByZero
+end
+! Quit
+= InputEnded
+
+# a report that is equal to the next one is accepted for it
+| begin ! 7; ! 1 / 0 end.
+launched
+> configurationDone
+! Go 1
+4: ok configurationDone/3
+R run 1, Continue, from 0, lines -
+5: output 7
+6: stopped exception divideByZero
+S 1
+> continue {"threadId":1}
+7: ok continue/4
+8: exited 1
+9: terminated
+end
+! Quit
+= InputEnded
+
+# a second time, while the run goes on
+| begin ! 7; while 1 = 1 do end.
+launched
+> configurationDone
+! Go 1
+4: ok configurationDone/3
+S 256
+5: output 7
+R run 1, Continue, from 0, lines -
+S 512
+R run 1, Continue, from 256, lines -
+R run 1, Continue, from 0, lines -
+> pause {"threadId":1}
+! Hold 1
+6: ok pause/4
+S 512
+7: stopped pause
+end
+! Quit
+= InputEnded
+
+# a second time, after the end
+| ! 7.
+launched
+> configurationDone
+! Go 1
+4: ok configurationDone/3
+S 2
+5: output 7
+6: exited 0
+7: terminated
+R run 1, Continue, from 0, lines -
+end
+! Quit
+= InputEnded
+
+# of the same breakpoints, counted from another position
+| var x;
+| while x < 6 do
+| x := x + 1.
+> initialize
+1: ok initialize/1
+> launch {"program":"p.pl0","stopOnEntry":true}
+2: ok launch/2
+3: initialized
+> configurationDone
+4: ok configurationDone/3
+5: stopped entry
+> setBreakpoints {"source":{"path":"p.pl0"},"breakpoints":[{"line":3}]}
+6: ok setBreakpoints/4 3
+> continue {"threadId":1}
+! Go 1
+7: ok continue/5
+R run 1, Continue, from 0, lines 3
+R run 1, Continue, from 0, lines -
+S 1
+8: stopped breakpoint
+end
+! Quit
+= InputEnded
+
+# of other breakpoints
+| var x;
+| while x < 6 do
+| x := x + 1.
+launched
+> setBreakpoints {"source":{"path":"p.pl0"},"breakpoints":[{"line":3}]}
+4: ok setBreakpoints/3 3
+> configurationDone
+! Go 1
+5: ok configurationDone/4
+R run 1, Continue, from 0, lines -
+R run 1, Continue, from 0, lines 2
+R run 1, Continue, from 0, lines 3 3
+R run 1, Continue, from 0, lines 3 2
+S 1
+6: stopped breakpoint
+> continue {"threadId":1}
+! Go 2
+7: ok continue/5
+R run 1, Continue, from 1, lines 3
+R run 2, Continue, from 0, lines 3
+R run 2, Continue, from 1, lines 3
+8: stopped breakpoint
+S 3
+end
+! Quit
+= InputEnded
+
+# of the run before a hold
+| while 1 = 1 do.
+launched
+> configurationDone
+! Go 1
+4: ok configurationDone/3
+S 256
+> setBreakpoints {"source":{"path":"p.pl0"}}
+! Hold 1
+5: ok setBreakpoints/4
+S 256
+! Go 2
+R run 1, Continue, from 256, lines -
+R run 2, Continue, from 256, lines -
+R run 2, Continue, from 0, lines -
+S 512
+end
+! Quit
+= InputEnded
+"#;

@@ -1,0 +1,78 @@
+//! Texts with parts that are repeated, and bytes that no text has.
+
+use std::alloc::Global;
+use std::process::Abort;
+
+/// Appends a text, with one number in the place of each `%`, and another in that of each `&`.
+fn push_numbered(
+    rt: &impl Abort,
+    alloc: Global,
+    text: &mut String,
+    piece: &str,
+    up: u32,
+    down: u32,
+) {
+    for character in piece.chars() {
+        let number = match character {
+            '%' => format!(in alloc; "{up}"),
+            '&' => format!(in alloc; "{down}"),
+            other => format!(in alloc; "{other}"),
+        };
+        text.push_str(number.expect(rt, "memory").as_str())
+            .expect(rt, "memory");
+    }
+}
+
+/// The text, where `~256 PIECE~` stands for 256 times the piece, with 1 to 256 in the place of `%`, and 257 to 2 in that
+/// of `&`.
+pub fn expanded(rt: &impl Abort, alloc: Global, text: &str) -> String {
+    let mut whole = String::new(alloc);
+    let mut repeats = false;
+    for part in text.split('~') {
+        if repeats {
+            let (times, piece) = part.split_once(' ').expect(rt, "a piece that is repeated");
+            let times = times.parse::<u32>().expect(rt, "a number");
+            for up in 0..times {
+                let from = times.saturating_sub(up).saturating_add(1);
+                push_numbered(rt, alloc, &mut whole, piece, up.saturating_add(1), from);
+            }
+        } else {
+            whole.push_str(part).expect(rt, "memory");
+        }
+        repeats = !repeats;
+    }
+    whole
+}
+
+/// The bytes of a text, where `\r` and `\n` stand for CR and LF, `\f` for a byte that no UTF-8 has, and `\\` for `\`.
+pub fn unescaped(rt: &impl Abort, alloc: Global, text: &str) -> Vec<u8> {
+    let mut bytes = Vec::new(alloc);
+    let mut escaped = false;
+    for byte in text.as_bytes() {
+        if escaped {
+            bytes
+                .push(match byte {
+                    b'r' => b'\r',
+                    b'n' => b'\n',
+                    b'f' => 0xff,
+                    other => *other,
+                })
+                .expect(rt, "memory");
+            escaped = false;
+        } else if *byte == b'\\' {
+            escaped = true;
+        } else {
+            bytes.push(*byte).expect(rt, "memory");
+        }
+    }
+    bytes
+}
+
+/// A frame of this content.
+pub fn framed(rt: &impl Abort, alloc: Global, content: &[u8]) -> Vec<u8> {
+    let length = content.len();
+    let header = format!(in alloc; "Content-Length: {length}\r\n\r\n").expect(rt, "memory");
+    let mut frame = Vec::from_slice(alloc, header.as_bytes()).expect(rt, "memory");
+    frame.extend_from_slice(content).expect(rt, "memory");
+    frame
+}

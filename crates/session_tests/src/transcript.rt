@@ -1,0 +1,195 @@
+//! Transcripts of sessions.
+//!
+//! `# NAME` begins a session, and each line `| ..` after it is one of the program's text. Then come events, and after each what comes
+//! of it; a line `launched` stands for the first two requests and their answers. The events are:
+//!
+//! - `> COMMAND ARGUMENTS`, a request of the client, numbered from 1, or `+ ..`, one in the same piece as the line before;
+//! - `>> CONTENT`, a frame of any content, and `>>> BYTES` or `+> BYTES`, bytes that needn't be a frame (`text`);
+//! - `S 10`, the runner's next report, which ends at position 10, or `S`, one that ends anywhere;
+//! - `R ..`, a report that is handed in besides (`reports`);
+//! - `end`, `read failed` and `no memory`, after which nothing comes.
+//!
+//! What comes of an event are messages, as `4: ok configurationDone/3` (`expected`), and orders, as `! Go 1`. The last line, as
+//! `= InputEnded`, says how the session ended.
+
+use crate::expected::content;
+use crate::ports::{Client, Files, Noted, Pushed, Sent};
+use crate::text::{expanded, framed};
+use dap_session::{Closed, SessionFault, drive};
+use std::alloc::{AllocError, Global};
+use std::cell::Cell;
+use std::process::Abort;
+use std::sync::Wait;
+
+const LAUNCHED: &str = r#"> initialize
+1: ok initialize/1
+> launch {"program":"p.pl0"}
+2: ok launch/2
+3: initialized
+"#;
+
+/// The text of the program.
+fn program_of(rt: &impl Abort, alloc: Global, session: &str) -> String {
+    let mut program = String::new(alloc);
+    let mut is_first = true;
+    for line in session.lines() {
+        if let Some(line) = line.strip_prefix('|') {
+            if !is_first {
+                program.push_str("\n").expect(rt, "memory");
+            }
+            program
+                .push_str(line.strip_prefix(' ').unwrap_or(line))
+                .expect(rt, "memory");
+            is_first = false;
+        }
+    }
+    program
+}
+
+/// The lines after the program.
+fn transcript_of(rt: &impl Abort, alloc: Global, session: &str) -> String {
+    let mut transcript = String::new(alloc);
+    for line in session.lines() {
+        if line == "launched" {
+            transcript.push_str(LAUNCHED).expect(rt, "memory");
+        } else if !line.starts_with('|') {
+            transcript.push_str(line).expect(rt, "memory");
+            transcript.push_str("\n").expect(rt, "memory");
+        }
+    }
+    transcript
+}
+
+/// Whether a line of a transcript is an event.
+fn is_event(line: &str) -> bool {
+    matches!(line, "end" | "read failed" | "no memory")
+        || line.starts_with(|c: char| matches!(c, '>' | '+' | 'S' | 'R'))
+}
+
+/// The events of a transcript.
+fn events_of<'a>(rt: &impl Abort, alloc: Global, transcript: &'a str) -> Vec<&'a str> {
+    let mut events = Vec::new(alloc);
+    for line in transcript.lines() {
+        if is_event(line) {
+            events.push(line).expect(rt, "memory");
+        }
+    }
+    events
+}
+
+/// What came of a session, each message and order with the number of events that were given before it.
+#[derive(Drop)]
+struct Came {
+    messages: Noted<Vec<u8>>,
+    orders: Noted<String>,
+    end: Result<Closed, SessionFault>,
+    given: usize,
+}
+
+/// Runs a session with the client's bytes in pieces of this size at most.
+fn run<R: Abort + Wait>(
+    rt: &R,
+    alloc: Global,
+    program: &str,
+    events: &[&str],
+    piece: usize,
+) -> Came {
+    let (given, running) = (Cell::new(0), Cell::new(None));
+    let mut client = Client::new(rt, alloc, program, events, piece, &given, &running);
+    let mut files = Files::new(rt, alloc, program);
+    let mut sent = Sent::new(rt, alloc, &given);
+    let mut pushed = Pushed::new(rt, alloc, &given, &running);
+    let end = drive(rt, alloc, &mut client, &mut files, &mut sent, &mut pushed);
+    Came {
+        messages: sent.noted,
+        orders: pushed.noted,
+        end,
+        given: given.get(),
+    }
+}
+
+/// The last line of a transcript.
+fn end_line(alloc: Global, end: Result<Closed, SessionFault>) -> Result<String, AllocError> {
+    match end {
+        Ok(closed) => format!(in alloc; "= {closed:?}"),
+        Err(fault) => format!(in alloc; "= {fault:?}"),
+    }
+}
+
+/// How many lines of each kind were compared.
+#[derive(Clone, Copy)]
+struct Compared {
+    events: usize,
+    messages: usize,
+    orders: usize,
+    ends: usize,
+}
+
+fn assert_message(
+    rt: &impl Abort,
+    alloc: Global,
+    name: &str,
+    line: &str,
+    came: &Came,
+    at: Compared,
+) {
+    let content = content(rt, alloc, line);
+    let frame = framed(rt, alloc, content.as_bytes());
+    let frame = std::str::from_utf8(frame.as_slice());
+    let message = came.messages.get(at.messages);
+    let message = message.map(|noted| (noted.0, std::str::from_utf8(noted.1.as_slice())));
+    assert_eq!(rt; message, Some((at.events, frame)), "{name}: {line}");
+}
+
+/// What came is what a line says, after the event that it stands after.
+fn assert_line(
+    rt: &impl Abort,
+    alloc: Global,
+    name: &str,
+    line: &str,
+    came: &Came,
+    at: &mut Compared,
+) {
+    if is_event(line) {
+        at.events = at.events.saturating_add(1);
+    } else if line.starts_with('=') {
+        let end = end_line(alloc, came.end).expect(rt, "memory");
+        assert_eq!(rt; end.as_str(), line, "{name}");
+        at.ends = at.ends.saturating_add(1);
+    } else if let Some(order) = line.strip_prefix("! ") {
+        let pushed = came.orders.get(at.orders);
+        let pushed = pushed.map(|noted| (noted.0, noted.1.as_str()));
+        assert_eq!(rt; pushed, Some((at.events, order)), "{name}: {line}");
+        at.orders = at.orders.saturating_add(1);
+    } else {
+        assert_message(rt, alloc, name, line, came, *at);
+        at.messages = at.messages.saturating_add(1);
+    }
+}
+
+/// Runs a session with the client's bytes in pieces of this size at most. What comes of it is what its transcript says, and
+/// no more.
+pub fn assert_session<R: Abort + Wait>(rt: &R, alloc: Global, session: &str, piece: usize) {
+    let (name, rest) = session.split_once('\n').expect(rt, "a transcript");
+    let program = program_of(rt, alloc, rest);
+    let program = expanded(rt, alloc, program.as_str());
+    let transcript = transcript_of(rt, alloc, rest);
+    let transcript = expanded(rt, alloc, transcript.as_str());
+    let events = events_of(rt, alloc, transcript.as_str());
+    let came = run(rt, alloc, program.as_str(), events.as_slice(), piece);
+    let mut at = Compared {
+        events: 0,
+        messages: 0,
+        orders: 0,
+        ends: 0,
+    };
+    for line in transcript.lines() {
+        if !line.is_empty() {
+            assert_line(rt, alloc, name, line, &came, &mut at);
+        }
+    }
+    assert_eq!(rt; came.given, at.events, "{name}: events");
+    assert_eq!(rt; came.messages.len(), at.messages, "{name}: messages");
+    assert_eq!(rt; came.orders.len(), at.orders, "{name}: orders");
+    assert_eq!(rt; at.ends, 1, "{name}: ends");
+}
