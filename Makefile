@@ -4,9 +4,9 @@ PROGRAM = crates/pl0dap/out/pl0dap
 SPEED = crates/speed/out/speed
 SOURCES = crates.txt $(shell find crates -name out -prune -o -type f \( -name '*.rt' -o -name '*.antt' \) -print)
 
-.PHONY: try build demo rows refusals misuse check plants gate-times install bench
+.PHONY: try build demo rows sessions refusals misuse check plants gate-times install bench
 
-# A stored debug session in readable form within a minute or two, from a fresh clone on.
+# A stored session in readable form within a minute or two, from a fresh clone on. All of it is sent at once.
 try:
 	@echo "rt try proves nothing: this run is not proved. 'make check' proves the program."
 	python3 demo/session.py demo/hello.session env -C crates/pl0dap rt try
@@ -23,15 +23,19 @@ $(SPEED): $(SOURCES)
 	cd crates/speed && rt run -- work data/count.pl0
 	touch $@
 
-# A stored debug session, its frames printed in readable form.
+# A debug session on examples/factorial.pl0 in readable form: a breakpoint with a condition, a stop, questions, a step, the end.
 demo: $(PROGRAM)
-	python3 demo/session.py demo/hello.session $(PROGRAM)
+	python3 demo/session.py demo/factorial.session $(PROGRAM)
 
-# Worked inputs, whole, a byte at a time and cut at many places, with what must come out; and that the examples are those
-# whose listings the gate compares.
+# Worked inputs, whole, a byte at a time and cut at many places, with what must come out; that the session of docs/PROTOCOL.md is
+# the demo's; and that the examples are those whose listings the gate compares.
 rows: $(PROGRAM)
 	python3 demo/rows.py $(PROGRAM)
 	diff -r -x fault.pl0 -x procedures.pl0 examples crates/check_runs/data
+
+# Random sessions, each message compared with what a plain model of the adapter says.
+sessions: $(PROGRAM)
+	python3 demo/sessions.py $(PROGRAM) 500
 
 # The merge gate: proves everything from nothing, and runs everything.
 check:
@@ -59,6 +63,7 @@ install: $(PROGRAM)
 
 bench: $(PROGRAM) $(SPEED)
 	python3 bench/throughput.py $(PROGRAM)
+	python3 bench/session.py $(PROGRAM) $(SPEED)
 	python3 bench/machine.py $(PROGRAM) $(SPEED)
 	python3 bench/slices.py $(SPEED)
 	python3 bench/checking.py $(PROGRAM)

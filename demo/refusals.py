@@ -5,16 +5,22 @@ usage: refusals.py PROGRAM SPEED
 
 PROGRAM is pl0dap; SPEED is the program `speed`, which runs a text by the machine alone, in slices under a plan, and by the
 runner. Each allocation is refused in turn, up to the first run that asks for none more, and then each read and each write of
-PROGRAM. What is written may differ from the whole answer only by what is missing at its end, and the program must say why;
-but a run in slices may also end by the report that there was no memory for one, and must for each slice. It needs clang.
+PROGRAM. What is written may differ from the whole answer only by what is missing at its end, of a session by whole frames,
+and the program must say why. But a run in slices may also end by the report that there was no memory for one, and must for
+each slice; and where the file of a launch can't be read, the launch must be refused, and the session goes on. It needs
+clang.
 """
 import collections
 import dataclasses
+import io
 import itertools
 import os
 import subprocess
 import sys
 import tempfile
+
+import feeding
+import rows
 
 HERE = os.path.dirname(os.path.abspath(__file__))
 CRATES = os.path.join(HERE, "..", "crates")
@@ -26,15 +32,21 @@ STOP = 893
 SLICE = 256
 LINES = 20
 
-# How a run of pl0dap may end in which something of a kind was refused: the status, and what stands on standard error. A
-# allocation that the program can do without changes nothing. Fault 2 of the session is out of memory; at fault 6 it was the
-# port for frames that found no room for one more.
-ADAPTER_ENDS = {
-    "allocation": [(0, ""), (3, "pl0dap: no memory"), (3, "pl0dap: refused 2"), (3, "pl0dap: refused 6")],
-    "read": [(1, "pl0dap: read failed"), (1, "pl0dap: cannot read")],
-    "write": [(1, "pl0dap: write failed")],
-}
-
+# How a run of pl0dap may end in which something of a kind was refused: the status, and what stands on standard error. An
+# allocation that the program can do without changes nothing. Fault 2 of the session is out of memory.
+ALLOCATION_ENDS = [(0, ""), (3, "pl0dap: no memory"), (3, "pl0dap: refused 2")]
+WRITE_ENDS = [(1, "pl0dap: write failed")]
+SESSION_ENDS = {"allocation": ALLOCATION_ENDS, "read": [(1, "pl0dap: read failed")], "write": WRITE_ENDS}
+LISTING_ENDS = {"allocation": ALLOCATION_ENDS, "read": [(1, "pl0dap: cannot read")], "write": WRITE_ENDS}
+# What a session with a program that can't be read is called.
+UNREAD = "launch refused"
+# What the one without a stop writes then.
+NOT_LAUNCHED = (
+    rows.frame(rows.CAPABILITIES)
+    + rows.refused(2, "launch", 2, "cannotRead")
+    + rows.refused(3, "setBreakpoints", 3, "wrongPhase")
+    + rows.refused(4, "configurationDone", 4, "wrongPhase")
+)
 
 
 def wants_memory(thing: str, why: str) -> tuple[int, str]:
@@ -63,94 +75,153 @@ SLICES_ENDS = WORK_ENDS + [wants_memory("no lines", "memory allocation failed")]
 
 @dataclasses.dataclass
 class Run:
-    """A command, what it writes where nothing is refused, and how it may end where something of a kind is."""
+    """A command, the pieces that it writes where nothing is refused, and how it may end where something of a kind is."""
 
     words: list[str]
-    whole: bytes
+    pieces: list[bytes]
     ends: dict[str, list[tuple[int, str]]]
     source: str = os.devnull
-    # What it must write in place of the whole, each at some refusal.
-    reports: list[bytes] = dataclasses.field(default_factory=list)
+    # What it is asked over pipes, in place of the source.
+    exchanges: list[feeding.Exchange] | None = None
+    # What it must write in place of the whole at some refusal of a kind, with status 0, and what that is called.
+    instead: dict[str, dict[bytes, str]] = dataclasses.field(default_factory=dict)
+
+    def whole(self) -> bytes:
+        return b"".join(self.pieces)
+
+    def is_beginning(self, written: bytes) -> bool:
+        return written in itertools.accumulate(self.pieces, initial=b"")
 
     def end(self, kind: str, written: bytes, status: int, said: str) -> str | None:
         """How a run ended in which something of a kind was refused, in words; None where it may not end so."""
-        if (status, said) not in self.ends[kind]:
+        if (status, said) == (0, "") and written in self.instead.get(kind, {}):
+            return self.instead[kind][written]
+        if (status, said) not in self.ends[kind] or not self.is_beginning(written):
             return None
-        if status == 0 and written in self.reports:
-            return written.decode().strip()
-        if status == 0 and written != self.whole or not self.whole.startswith(written):
+        if status == 0 and written != self.whole():
             return None
         return said or "nothing missing"
 
 
-def contents(*names: str) -> bytes:
-    with open(os.path.join(CRATES, *names), "rb") as file:
-        return file.read()
-
-
 def listing(name: str) -> bytes:
     """The listing of a file, of those that the stored run prints one after another, each after a line with its name."""
-    _, rest = contents("check_runs", "stdout").split(b"%s.pl0:\n" % name.encode(), 1)
+    with open(os.path.join(CRATES, "check_runs", "stdout"), "rb") as file:
+        _, rest = file.read().split(b"%s.pl0:\n" % name.encode(), 1)
     return b"".join(itertools.takewhile(lambda line: not line.endswith(b":\n"), rest.splitlines(keepends=True)))
 
 
-def runs(program: str, speed: str) -> dict[str, Run]:
+def by_bytes(text: bytes) -> list[bytes]:
+    return [bytes([byte]) for byte in text]
+
+
+def no_memory(last: int, after: str) -> dict[str, dict[bytes, str]]:
+    """What a run in slices writes where there is no memory for one of them, up to the one with the last step."""
+    texts = [f"NoMemory after {steps} steps{after}" for steps in range(0, last, SLICE)]
+    return {"allocation": {f"{text}\n".encode(): text for text in texts}}
+
+
+def frames(stream) -> list[bytes]:
+    return list(iter(lambda: feeding.next_frame(stream), b""))
+
+
+def stored_session(program: str) -> Run:
+    with open(os.path.join(CRATES, "pl0dap", "stdout"), "rb") as file:
+        return Run([program], frames(file), SESSION_ENDS, source=os.path.join(CRATES, "pl0dap", "stdin"))
+
+
+def run_session(program: str, folder: str) -> Run:
+    """A debug session without a stop, so that all of it can be sent at once."""
+    source = os.path.join(folder, "session")
+    with open(source, "wb") as file:
+        file.write(rows.RUN)
+    unread = {"read": {NOT_LAUNCHED: UNREAD}}
+    return Run([program], frames(io.BytesIO(rows.RAN)), SESSION_ENDS, source=source, instead=unread)
+
+
+def fed_session(program: str, session: feeding.Session) -> Run:
+    unread = {"read": {b"".join(session.unread): UNREAD}}
+    return Run([program], session.frames(), SESSION_ENDS, exchanges=session.exchanges, instead=unread)
+
+
+def runs(program: str, speed: str, folder: str) -> dict[str, Run]:
     procedures = os.path.join(CRATES, "check_runs", "data", "procedures.pl0")
-    under = f"under {LINES} breakpoints\n"
+    under = f" under {LINES} breakpoints"
     return {
-        "a session": Run(
-            [program], contents("pl0dap", "stdout"), ADAPTER_ENDS, source=os.path.join(CRATES, "pl0dap", "stdin")
+        "a session": stored_session(program),
+        "a debug session without a stop": run_session(program, folder),
+        "a debug session with a stop": fed_session(program, feeding.FACTORIAL_SESSION),
+        "a debug session with a fault": fed_session(program, feeding.OVERFLOW_SESSION),
+        "a listing": Run([program, "--check", procedures], by_bytes(listing("procedures")), LISTING_ENDS),
+        "a machine": Run(
+            [speed, "machine", RECURSION], [f"Done after {STEPS} steps\n".encode()], {"allocation": MACHINE_ENDS}
         ),
-        "a listing": Run([program, "--check", procedures], listing("procedures"), ADAPTER_ENDS),
-        "a machine": Run([speed, "machine", RECURSION], f"Done after {STEPS} steps\n".encode(), {"allocation": MACHINE_ENDS}),
         "a run in slices": Run(
             [speed, "slices", RECURSION, "1", str(LINES), CONDITION],
-            f"Due(Breakpoint) after {STOP} steps {under}".encode(),
+            [f"Due(Breakpoint) after {STOP} steps{under}\n".encode()],
             {"allocation": SLICES_ENDS},
-            reports=[f"NoMemory after {steps} steps {under}".encode() for steps in range(0, STOP, SLICE)],
+            instead=no_memory(STOP, under),
         ),
         "a run by the runner": Run(
             [speed, "work", RECURSION],
-            f"Done after {STEPS} steps\n".encode(),
+            [f"Done after {STEPS} steps\n".encode()],
             {"allocation": WORK_ENDS},
-            reports=[f"NoMemory after {steps} steps\n".encode() for steps in range(0, STEPS, SLICE)],
+            instead=no_memory(STEPS, ""),
         ),
     }
 
 
-def play(run: Run, environment: dict[str, str] | None = None) -> tuple[bytes, int, str, bool]:
-    """What a run writes, its status, what it says on standard error beside its log, and whether a call was refused."""
+@dataclasses.dataclass
+class Outcome:
+    """What a run wrote, its status, what it said on standard error beside its log, and whether a call was refused."""
+
+    written: bytes
+    status: int
+    said: str
+    refused: bool = False
+
+
+def lines_said(errors: bytes) -> str:
+    return " ".join(line.strip() for line in errors.decode().splitlines() if line and not line.startswith("["))
+
+
+def perform(run: Run, **settings) -> Outcome:
+    if run.exchanges:
+        frames, status, errors = feeding.feed(run.words, run.exchanges, **settings)
+        return Outcome(b"".join(frames), status, lines_said(errors))
+    with open(run.source, "rb") as file:
+        done = subprocess.run(run.words, stdin=file, capture_output=True, cwd=rows.TOP, **settings)
+    return Outcome(done.stdout, done.returncode, lines_said(done.stderr))
+
+
+def play(run: Run, environment: dict[str, str] | None = None) -> Outcome:
+    """Runs it, and reads whether a call was refused."""
     told, tells = os.pipe()
     extra = {**environment, "TOLD": str(tells)} if environment else {}
-    with open(run.source, "rb") as file:
-        done = subprocess.run(
-            run.words, stdin=file, capture_output=True, pass_fds=[tells], env={**os.environ, **extra}
-        )
+    outcome = perform(run, pass_fds=[tells], env={**os.environ, **extra})
     os.close(tells)
     with os.fdopen(told, "rb") as pipe:
-        refused = pipe.read() != b""
-    lines = [line.strip() for line in done.stderr.decode().splitlines() if line and not line.startswith("[")]
-    return done.stdout, done.returncode, " ".join(lines), refused
+        outcome.refused = pipe.read() != b""
+    return outcome
 
 
 def is_judged(name: str, run: Run, kind: str, library: str) -> bool:
     """Refuses each call of a kind in turn, prints how the runs ended, and answers whether all ended as they may."""
     ends: collections.Counter[str] = collections.Counter()
-    good = True
+    wrong = 0
     for number in itertools.count(1):
-        *outcome, refused = play(run, {"LD_PRELOAD": library, "REFUSES": kind, "REFUSED": str(number)})
-        if not refused:
+        outcome = play(run, {"LD_PRELOAD": library, "REFUSES": kind, "REFUSED": str(number)})
+        if not outcome.refused:
             break
-        end = run.end(kind, *outcome)
+        end = run.end(kind, outcome.written, outcome.status, outcome.said)
         if end is None:
             print(f"{name}, {kind} {number}: {outcome}")
-            good = False
+            wrong += 1
         else:
             ends[end] += 1
-    unseen = [report for report in run.reports if report.decode().strip() not in ends]
+    unseen = [end for end in run.instead.get(kind, {}).values() if end not in ends]
     said = ", ".join(f"{count} times {end}" for end, count in ends.items())
-    print(f"{name}, each {kind} refused: {said}" + (f"; never {unseen}" if unseen else ""))
-    return good and not unseen
+    print(f"{name}, each {kind} of {number - 1} refused: {said}" + (f"; never {unseen}" if unseen else ""), flush=True)
+    return not wrong and not unseen
 
 
 def main() -> int:
@@ -158,9 +229,9 @@ def main() -> int:
     with tempfile.TemporaryDirectory() as folder:
         library = os.path.join(folder, "refuse.so")
         subprocess.run(["clang", "-shared", "-fPIC", "-o", library, os.path.join(HERE, "refuse.c")], check=True)
-        for name, run in runs(*map(os.path.abspath, sys.argv[1:3])).items():
+        for name, run in runs(*map(os.path.abspath, sys.argv[1:3]), folder).items():
             outcome = play(run)
-            if outcome != (run.whole, 0, "", False):
+            if outcome != Outcome(run.whole(), 0, ""):
                 print(f"{name}, nothing refused: {outcome}")
                 good = False
             for kind in run.ends:

@@ -3,12 +3,19 @@
 
 usage: rows.py PROGRAM
 
-Each input goes in whole and cut in two at a number of places, and one of at most 4,096 bytes a byte at a time. Prints a line for each input, and ends
-with status 1 where one differs.
+Each input goes in whole and cut in two at a number of places, and one of at most 4,096 bytes a byte at a time. Then the
+worked sessions are played, each request after the messages that are due before it. At last the messages of the session in
+docs/PROTOCOL.md are compared with those of demo/factorial.session as it is played. Prints a line for each input and each
+session, and ends with status 1 where one differs.
 """
+import os
 import subprocess
 import sys
 import tempfile
+
+from worked import differences
+
+TOP = os.path.join(os.path.dirname(os.path.abspath(__file__)), "..")
 
 INITIALIZE = b'{"seq":1,"type":"request","command":"initialize"}'
 DISCONNECT = b'{"seq":2,"type":"request","command":"disconnect"}'
@@ -43,6 +50,79 @@ def headed(header: bytes) -> bytes:
     return header + b"\r\n\r\n" + INITIALIZE
 
 
+def asked(seq: int, command: str, arguments: bytes) -> bytes:
+    return frame(b'{"seq":%d,"type":"request","command":"%s","arguments":%s}' % (seq, command.encode(), arguments))
+
+
+def granted(seq: int, command: str, request_seq: int, body: bytes | None = None) -> bytes:
+    before = b"" if body is None else b'"body":%s,' % body
+    return frame(
+        b'{%s"command":"%s","request_seq":%d,"seq":%d,"success":true,"type":"response"}'
+        % (before, command.encode(), request_seq, seq)
+    )
+
+
+def refused(seq: int, command: str, request_seq: int, why: str) -> bytes:
+    return frame(
+        b'{"body":{},"command":"%s","message":"%s","request_seq":%d,"seq":%d,"success":false,"type":"response"}'
+        % (command.encode(), why.encode(), request_seq, seq)
+    )
+
+
+def event(seq: int, name: str, body: bytes | None = None) -> bytes:
+    before = b"" if body is None else b'"body":%s,' % body
+    return frame(b'{%s"event":"%s","seq":%d,"type":"event"}' % (before, name.encode(), seq))
+
+
+# The input of a run ends with `configurationDone`: what comes after it is read when the run stops, unless one read has both.
+RUN = (
+    frame(INITIALIZE)
+    + asked(2, "launch", b'{"program":"examples/two.pl0"}')
+    + asked(3, "setBreakpoints", b'{"source":{"path":"examples/two.pl0"},"breakpoints":[{"line":1,"condition":"two = 3"},{"line":3}]}')
+    + request(4, "configurationDone")
+)
+RAN = (
+    frame(CAPABILITIES)
+    + granted(2, "launch", 2)
+    + event(3, "initialized")
+    + granted(4, "setBreakpoints", 3, b'{"breakpoints":[{"line":2,"verified":true},{"message":"noStep","verified":false}]}')
+    + granted(5, "configurationDone", 4)
+    + event(6, "output", b'{"category":"stdout","output":"4\\n"}')
+    + event(7, "exited", b'{"exitCode":0}')
+    + event(8, "terminated")
+)
+# A stop on entry comes before any run.
+ENTRY = (
+    request(1, "initialize")
+    + asked(2, "launch", b'{"program":"examples/gcd.pl0","stopOnEntry":true}')
+    + request(3, "configurationDone")
+    + asked(4, "stackTrace", b'{"threadId":1}')
+    + asked(5, "scopes", b'{"frameId":1}')
+    + asked(6, "variables", b'{"variablesReference":1}')
+    + asked(7, "evaluate", b'{"expression":"2 * (3 + 4)"}')
+    + asked(8, "evaluate", b'{"expression":"z"}')
+    + asked(9, "scopes", b'{"frameId":2}')
+    + asked(10, "pause", b'{"threadId":1}')
+    + request(11, "disconnect")
+)
+ENTERED = (
+    frame(CAPABILITIES)
+    + granted(2, "launch", 2)
+    + event(3, "initialized")
+    + granted(4, "configurationDone", 3)
+    + event(5, "stopped", b'{"allThreadsStopped":true,"reason":"entry","threadId":1}')
+    + granted(6, "stackTrace", 4, b'{"stackFrames":[{"column":3,"id":1,"line":3,"name":"main",'
+              b'"source":{"path":"examples/gcd.pl0"}}],"totalFrames":1}')
+    + granted(7, "scopes", 5, b'{"scopes":[{"expensive":false,"name":"main","variablesReference":1}]}')
+    + granted(8, "variables", 6, b'{"variables":[{"name":"a","value":"0","variablesReference":0},'
+              b'{"name":"b","value":"0","variablesReference":0},{"name":"rest","value":"0","variablesReference":0}]}')
+    + granted(9, "evaluate", 7, b'{"result":"14","variablesReference":0}')
+    + refused(10, "evaluate", 8, "badExpression")
+    + refused(11, "scopes", 9, "unknownFrame")
+    + granted(12, "pause", 10)
+    + disconnected(11, 13)
+)
+
 # name, input, output, status, last line on standard error
 ROWS = [
     ("hello", HELLO, ANSWERS, 0, ""),
@@ -58,6 +138,8 @@ ROWS = [
     ("no space", headed(b"Content-Length:49"), b"", 2, "pl0dap: frame 2"),
     ("skipped contents", frame(b'{"seq":1}') + frame(b"[") + frame(b"") + request(1, "initialize")
      + request(2, "threads") + request(3, "disconnect"), frame(CAPABILITIES) + THREADS + disconnected(3, 3), 0, ""),
+    ("a run", RUN, RAN, 0, ""),
+    ("a stop on entry", ENTRY, ENTERED, 0, ""),
     ("two disconnects", request(1, "disconnect") + request(2, "disconnect"), disconnected(1, 1), 0, ""),
 ]
 
@@ -65,7 +147,7 @@ ROWS = [
 def run(program: str, pieces: list[bytes]) -> tuple[bytes, int, str]:
     """What the program does on these pieces, each of which it gets by a write of its own."""
     with tempfile.TemporaryFile() as output, tempfile.TemporaryFile() as notes:
-        child = subprocess.Popen([program], stdin=subprocess.PIPE, stdout=output, stderr=notes, bufsize=0)
+        child = subprocess.Popen([program], stdin=subprocess.PIPE, stdout=output, stderr=notes, bufsize=0, cwd=TOP)
         try:
             for piece in pieces:
                 child.stdin.write(piece)
@@ -88,13 +170,28 @@ def cuts(whole: bytes):
         yield [whole[:at], whole[at:]]
 
 
+def is_on_the_page(program: str) -> bool:
+    """Whether the session of the page is the one that `make demo` plays."""
+    script = [os.path.join(TOP, "demo", name) for name in ("session.py", "factorial.session")]
+    played = subprocess.run([sys.executable, *script, program], cwd=TOP, stdout=subprocess.PIPE, text=True, timeout=60)
+    with open(os.path.join(TOP, "docs", "PROTOCOL.md"), encoding="utf-8") as file:
+        page = [line for line in file.read().splitlines() if line.startswith(("-> ", "<- "))]
+    return page == [line.strip() for line in played.stdout.splitlines() if line.startswith("  ")]
+
+
 def main() -> int:
-    program = sys.argv[1]
+    program = os.path.abspath(sys.argv[1])
     failed = 0
     for name, given, output, status, last in ROWS:
         wrong = [found for pieces in cuts(given) if (found := run(program, pieces)) != (output, status, last)]
         failed += bool(wrong)
         print(f"{name}: {'as it must be' if not wrong else f'differs: {wrong[0]}'}")
+    for name, found in differences(os.path.abspath(program)):
+        failed += found is not None
+        print(f"{name}: {'as it must be' if found is None else f'differs: {found}'}")
+    on_page = is_on_the_page(program)
+    failed += not on_page
+    print(f"the session of the page: {'as it must be' if on_page else 'differs from what was played'}")
     return 1 if failed else 0
 
 

@@ -3,8 +3,11 @@
 
 usage: session.py SESSION PROGRAM [ARGUMENT..]
 
-Each line of SESSION is a content to send; a line that begins with # is a remark, and an empty line is passed over.
+Each line of SESSION is a content to send; a line that begins with # is a remark, and an empty line is passed over. A line
+`wait NAME` waits for the response to the command NAME or the event NAME before more is sent. Without such a line all is sent at
+once.
 """
+import json
 import subprocess
 import sys
 
@@ -13,25 +16,39 @@ def frame(content: bytes) -> bytes:
     return b"Content-Length: %d\r\n\r\n%s" % (len(content), content)
 
 
-def contents(stream: bytes):
-    """The contents of the frames on a stream."""
-    while stream:
-        header, rest = stream.split(b"\r\n\r\n", 1)
-        length = int(header.removeprefix(b"Content-Length: "))
-        yield rest[:length].decode()
-        stream = rest[length:]
+def contents(stream):
+    """The contents of the frames on a stream, each as soon as it has come."""
+    while header := stream.readline():
+        stream.readline()
+        yield stream.read(int(header.removeprefix(b"Content-Length: "))).decode()
+
+
+def print_until(name: str | None, answers) -> None:
+    """Prints the answers up to the one of this name, or all that come."""
+    for content in answers:
+        print(f"  <- {content}", flush=True)
+        message = json.loads(content)
+        if name is not None and name == message.get("event", message.get("command")):
+            return
 
 
 def main() -> int:
     session, *command = sys.argv[1:]
     with open(session, encoding="utf-8") as file:
         lines = [line.rstrip("\n") for line in file]
-    sent = [line for line in lines if line and not line.startswith("#")]
-    for line in lines:
-        print(f"  -> {line}" if line in sent else line)
-    run = subprocess.run(command, input=b"".join(frame(line.encode()) for line in sent), stdout=subprocess.PIPE)
-    for content in contents(run.stdout):
-        print(f"  <- {content}")
+    with subprocess.Popen(command, stdin=subprocess.PIPE, stdout=subprocess.PIPE) as run:
+        answers = contents(run.stdout)
+        for line in lines:
+            if line.startswith("wait "):
+                run.stdin.flush()
+                print_until(line.removeprefix("wait "), answers)
+            elif not line or line.startswith("#"):
+                print(line, flush=True)
+            else:
+                print(f"  -> {line}", flush=True)
+                run.stdin.write(frame(line.encode()))
+        run.stdin.close()
+        print_until(None, answers)
     print(f"exit status {run.returncode}")
     return 0
 

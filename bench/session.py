@@ -1,0 +1,395 @@
+#!/usr/bin/env python3
+"""Times debug sessions: the start, the answers at a stop, a run under a breakpoint; and looks at the memory at a stop.
+
+usage: session.py PROGRAM [SPEED]
+
+One request is sent at a time, over pipes, and its answer waited for. Beside the program stands `answer.c`, which answers
+each frame with a constant: what the pipes and this script take. A time is from before the request is written, or the process
+is started, to after the answer was read. Instructions are what `valgrind --tool=callgrind` counts more where a session has
+more of a request. A run is timed up to the event `exited`; beside it stand a C interpreter of the same code, and the program
+`speed` where it is given. It needs clang, and valgrind for the instructions.
+"""
+import dataclasses
+import functools
+import itertools
+import json
+import os
+import re
+import shutil
+import statistics
+import string
+import subprocess
+import sys
+import tempfile
+import time
+
+HERE = os.path.dirname(os.path.abspath(__file__))
+STARTS = 200
+MANY = 200
+FEW = 20
+RUNS = 5
+DEPTH = 1024
+VARIABLES = 1024
+BREAKPOINTS = 256
+KIB = 1024
+LIMIT = 64 * KIB
+TURNS = 10_000_000
+STEPS = 2 * TURNS + 2
+FALSE = "x < 0"
+# How much is taken from a pipe at once, at most.
+PIECE = 1 << 20
+
+
+class Client:
+    """A process that frames are sent to."""
+
+    def __init__(self, words: list[str], folder: str) -> None:
+        pipe, null = subprocess.PIPE, subprocess.DEVNULL
+        self.process = subprocess.Popen(words, stdin=pipe, stdout=pipe, stderr=null, bufsize=0, cwd=folder)
+        self.seq = 0
+        self.came = bytearray()
+
+    def take(self) -> None:
+        piece = os.read(self.process.stdout.fileno(), PIECE)
+        if not piece:
+            sys.exit(f"{self.process.args} ended with status {self.process.wait()}")
+        self.came += piece
+
+    def receive(self) -> bytes:
+        """The next content."""
+        while (head := self.came.find(b"\r\n\r\n")) < 0:
+            self.take()
+        begin = head + 4
+        end = begin + int(self.came[len("Content-Length: "):head])
+        while len(self.came) < end:
+            self.take()
+        content = bytes(self.came[begin:end])
+        del self.came[:end]
+        return content
+
+    def framed(self, command: str, arguments: dict) -> bytes:
+        self.seq += 1
+        request = {"seq": self.seq, "type": "request", "command": command, "arguments": arguments}
+        content = json.dumps(request).encode()
+        return b"Content-Length: %d\r\n\r\n%s" % (len(content), content)
+
+    def send(self, frame: bytes) -> None:
+        while frame:
+            frame = frame[os.write(self.process.stdin.fileno(), frame):]
+
+    def ask(self, command: str, arguments: dict) -> bytes:
+        """The answer to a request, which must be granted, with each breakpoint."""
+        self.send(self.framed(command, arguments))
+        answer = self.receive()
+        if not json.loads(answer)["success"] or b'"verified":false' in answer:
+            sys.exit(f"{command}: {answer.decode()}")
+        return answer
+
+    def seconds(self, command: str, arguments: dict) -> float:
+        """The time of a round trip."""
+        frame = self.framed(command, arguments)
+        begin = time.perf_counter()
+        self.send(frame)
+        self.receive()
+        return time.perf_counter() - begin
+
+    def launch(self, path: str, on_entry: bool) -> None:
+        self.ask("initialize", {})
+        self.ask("launch", {"program": path, "stopOnEntry": on_entry})
+        self.receive()
+
+    def run_to(self, event: str) -> None:
+        """Lets the program run to this event, before which it sends none."""
+        self.ask("configurationDone", {})
+        content = self.receive()
+        if json.loads(content)["event"] != event:
+            sys.exit(f"not {event}: {content.decode()}")
+
+    def kibibytes(self, name: str) -> int:
+        with open(f"/proc/{self.process.pid}/status", encoding="ascii") as file:
+            return next(int(line.split()[1]) for line in file if line.startswith(name))
+
+    def end(self) -> None:
+        self.process.stdin.close()
+        self.process.stdout.close()
+        self.process.wait()
+
+
+@dataclasses.dataclass
+class Stop:
+    """A program, the file that has it, and the line of a breakpoint at which it stops; else it stops on entry."""
+
+    path: str
+    text: str
+    line: int | None = None
+
+    def reach(self, words: list[str], folder: str) -> Client:
+        with open(os.path.join(folder, self.path), "w", encoding="ascii") as file:
+            file.write(self.text)
+        client = Client(words, folder)
+        client.launch(self.path, self.line is None)
+        if self.line is not None:
+            client.ask("setBreakpoints", {"source": {"path": self.path}, "breakpoints": [{"line": self.line}]})
+        client.run_to("stopped")
+        return client
+
+
+@dataclasses.dataclass
+class Question:
+    name: str
+    stop: Stop
+    command: str
+    arguments: dict
+    count: int
+
+
+def deep() -> Stop:
+    """As many frames as may be: all calls come before the step at which it stops."""
+    calls = f"n := n + 1;\nif n < {DEPTH - 1} then call p;\n"
+    return Stop("deep.pl0", f"var n;\nprocedure p;\nbegin\n{calls}n := n\nend;\ncall p.\n", 6)
+
+
+def flat() -> Stop:
+    """The same program with one frame."""
+    return dataclasses.replace(deep(), line=None)
+
+
+def wide() -> Stop:
+    """As many variables as a block may have."""
+    names = ",".join(f"v{n}" for n in range(VARIABLES))
+    return Stop("wide.pl0", f"var {names};\nv0 := 1.\n")
+
+
+def filled(front: str, piece, back: str, size: int) -> str:
+    """The front, pieces numbered from 0 and the back, in so many bytes; the rest of these are spaces."""
+    text = front
+    number = 0
+    while len(text) + len(piece(number)) + len(back) <= size:
+        text += piece(number)
+        number += 1
+    return (text + back).ljust(size)
+
+
+def statements(size: int) -> str:
+    """A statement on each line."""
+    return filled("var x;\nbegin\n", lambda n: "x := x + 1;\n", "x := 0\nend.\n", size)
+
+
+def procedures(size: int) -> str:
+    """Procedures in a row, of four statements each: at most as many as a block may have names."""
+    body = "begin\nx := y;\ny := x;\nx := x + y;\ny := y - x\nend;\n"
+    return filled("var x;\n", lambda n: f"procedure p{n};\nvar y;\n{body}", "x := 0.\n", size)
+
+
+def names(size: int) -> str:
+    """Blocks in one another, of as many variables as fit, and a statement on each line of the innermost."""
+    digits = string.ascii_lowercase + string.digits
+    triples = ("".join(letters) for letters in itertools.product(string.ascii_lowercase, digits, digits))
+    spelled = (name for name in triples if name not in ("end", "odd", "var"))
+    body = "begin\n" + "x := x;\n" * BREAKPOINTS + "end"
+    front, back = "var x;", ".\n"
+    while (room := size - len(front + "procedure p;var aaa;" + body + ";" + back)) > 0:
+        # A name of the block is that of the procedure in it.
+        declared = itertools.islice(spelled, min(VARIABLES - 1, 1 + room // len(",aaa")))
+        front += f"procedure p;var {','.join(declared)};"
+        back = ";" + back
+    return (front + body + back).ljust(size)
+
+
+def conditions(shape, size: int) -> Question:
+    """As many breakpoints as a request may have, each with a condition, all over the text."""
+    text = shape(size)
+    path = f"{shape.__name__}{size // KIB}.pl0"
+    lines = text.count("\n")
+    asked = [{"line": 1 + n * lines // BREAKPOINTS, "condition": f"x > {n} * (x + 2)"} for n in range(BREAKPOINTS)]
+    name = f"`setBreakpoints`, {BREAKPOINTS} conditions, {size // KIB} KiB of {shape.__name__}"
+    return Question(name, Stop(path, text), "setBreakpoints", {"source": {"path": path}, "breakpoints": asked}, FEW)
+
+
+def questions() -> list[Question]:
+    some = {"threadId": 1, "levels": 20}
+    expression = {"expression": "n * (n - 1) + 2", "frameId": DEPTH}
+    return [
+        Question("`threads`", flat(), "threads", {}, MANY),
+        Question("`evaluate`, in the newest of 1,024 frames", deep(), "evaluate", expression, MANY),
+        Question("`scopes`, of the newest of 1,024 frames", deep(), "scopes", {"frameId": DEPTH}, MANY),
+        Question("`stackTrace`, 20 of 1,024 frames", deep(), "stackTrace", some, MANY),
+        Question("`stackTrace`, 1,024 frames", deep(), "stackTrace", {"threadId": 1}, FEW),
+        Question("`variables`, 1,024", wide(), "variables", {"variablesReference": 1}, FEW),
+        *(conditions(shape, size * KIB) for shape in (statements, procedures, names) for size in (16, 32, 64)),
+    ]
+
+
+def started(words: list[str], folder: str) -> float:
+    """The time from a start to the answer of `initialize`."""
+    begin = time.perf_counter()
+    client = Client(words, folder)
+    client.send(client.framed("initialize", {}))
+    client.receive()
+    taken = time.perf_counter() - begin
+    client.end()
+    return taken
+
+
+def show(name: str, times: list[float], more: str = "") -> None:
+    best, median = min(times), statistics.median(times)
+    print(f"{name:66} {len(times):5} {best * 1e6:10.0f} us {median * 1e6:10.0f} us {more}", flush=True)
+
+
+def show_starts(program: str, answer: str, folder: str) -> None:
+    times = {program: [], answer: []}
+    for _ in range(STARTS):
+        for words, taken in times.items():
+            taken.append(started([words], folder))
+    show("start to the answer of `initialize`", times[program])
+    show("the same of `answer.c`", times[answer])
+
+
+def instructions(program: str, question: Question, count: int, folder: str) -> int:
+    """The instructions of a session with so many of a question."""
+    log = os.path.join(folder, "log")
+    tool = ["valgrind", "--tool=callgrind", "--callgrind-out-file=/dev/null", f"--log-file={log}", program]
+    client = question.stop.reach(tool, folder)
+    for _ in range(count):
+        client.ask(question.command, question.arguments)
+    client.end()
+    with open(log, encoding="ascii") as file:
+        return int(re.search(r"Collected : (\d+)", file.read()).group(1))
+
+
+def instructions_each(program: str, question: Question, folder: str) -> str:
+    if not shutil.which("valgrind"):
+        return "-"
+    few, more = (instructions(program, question, count, folder) for count in (1, 3))
+    return f"{(more - few) // 2:,}"
+
+
+def show_questions(program: str, answer: str, folder: str) -> None:
+    for question in questions():
+        client = question.stop.reach([program], folder)
+        size = len(client.ask(question.command, question.arguments))
+        times = [client.seconds(question.command, question.arguments) for _ in range(question.count)]
+        client.end()
+        counted = instructions_each(program, question, folder)
+        show(question.name, times, f"{size:9,} {counted:>12}")
+    client = Client([answer], folder)
+    show("`threads`, by `answer.c`", [client.seconds("threads", {}) for _ in range(MANY)])
+    client.end()
+
+
+def memory(client: Client) -> str:
+    return ", ".join(f"{kind} {client.kibibytes(kind):,} KiB" for kind in ("VmRSS", "VmHWM"))
+
+
+def show_memory(program: str, folder: str) -> None:
+    for name, stop in (("1 frame", flat()), (f"{DEPTH:,} frames", deep())):
+        client = stop.reach([program], folder)
+        print(f"a stop with {name}: {memory(client)}")
+        client.ask("stackTrace", {"threadId": 1})
+        print(f"after `stackTrace` of it: {memory(client)}")
+        client.end()
+
+
+def loop() -> str:
+    """A loop, in front of which stands a procedure that is never called, with as many lines as there may be breakpoints."""
+    idle = "x := 0;\n" * BREAKPOINTS
+    return f"var x;\nprocedure idle;\nbegin\n{idle}end;\nwhile x < {TURNS} do\nx := x + 1.\n"
+
+
+@dataclasses.dataclass
+class Loop:
+    """A run of the loop under breakpoints, each a line and a condition, in a text of at least so many bytes."""
+
+    breakpoints: list[tuple[int, str]]
+    size: int = 0
+
+    def seconds(self, program: str, folder: str) -> float:
+        path = f"loop{self.size}.pl0"
+        with open(os.path.join(folder, path), "w", encoding="ascii") as file:
+            file.write(loop().ljust(self.size))
+        client = Client([program], folder)
+        client.launch(path, False)
+        asked = [{"line": line, "condition": condition} for line, condition in self.breakpoints]
+        client.ask("setBreakpoints", {"source": {"path": path}, "breakpoints": asked})
+        begin = time.perf_counter()
+        client.run_to("exited")
+        taken = time.perf_counter() - begin
+        client.end()
+        return taken
+
+
+def command_seconds(words: list[str], folder: str) -> float:
+    """The time of a command that says how many steps it took."""
+    begin = time.perf_counter()
+    said = subprocess.run(words, capture_output=True, text=True, check=True, cwd=folder).stdout
+    taken = time.perf_counter() - begin
+    if f"after {STEPS} steps" not in said:
+        sys.exit(f"{words}: {said}")
+    return taken
+
+
+def elsewhere(condition: str) -> list[tuple[int, str]]:
+    return [(4 + number, condition) for number in range(BREAKPOINTS)]
+
+
+def in_the_loop(condition: str) -> list[tuple[int, str]]:
+    return [(BREAKPOINTS + 6, condition)]
+
+
+def commands(program: str, speed: str | None, folder: str) -> dict[str, list[str]]:
+    """What the sessions are compared with."""
+    with open(os.path.join(folder, "loop"), "w", encoding="ascii") as file:
+        file.write(loop())
+    with open(os.path.join(folder, "listing"), "w", encoding="ascii") as file:
+        subprocess.run([program, "--check", "loop"], stdout=file, check=True, cwd=folder)
+    interpreter = os.path.join(folder, "interpreter")
+    subprocess.run(["clang", "-O2", "-o", interpreter, os.path.join(HERE, "interpreter.c")], check=True)
+    given = {"interpreter in C": [interpreter, "listing"]}
+    if speed:
+        given["`speed`, the machine alone"] = [speed, "machine", "loop"]
+        given["`speed`, slices, no breakpoint"] = [speed, "slices", "loop"]
+        given["`speed`, slices, a false condition"] = [speed, "slices", "loop", str(BREAKPOINTS + 6), "1", FALSE]
+    return given
+
+
+def show_runs(program: str, speed: str | None, folder: str) -> None:
+    longest = FALSE.ljust(KIB)
+    sessions = {
+        "no breakpoint": Loop([]),
+        "a false condition in the loop": Loop(in_the_loop(FALSE)),
+        "256 breakpoints elsewhere": Loop(elsewhere("")),
+        "256 elsewhere, conditions of 1,024 bytes": Loop(elsewhere(longest)),
+        "no breakpoint, a text of 64 KiB": Loop([], LIMIT),
+        "a false condition in the loop, a text of 64 KiB": Loop(in_the_loop(FALSE), LIMIT),
+    }
+    runs = {f"a session, {name}": functools.partial(run.seconds, program, folder) for name, run in sessions.items()}
+    runs |= {
+        name: functools.partial(command_seconds, words, folder)
+        for name, words in commands(program, speed, folder).items()
+    }
+    times = {name: [] for name in runs}
+    for _ in range(RUNS):
+        for name, run in runs.items():
+            times[name].append(run())
+    print(f"{f'{STEPS:,} steps, in million steps a second':66} {RUNS:5} {'best':>8} {'median':>8}")
+    for name, taken in times.items():
+        best, median = STEPS / min(taken) / 1e6, STEPS / statistics.median(taken) / 1e6
+        print(f"{name:66} {'':5} {best:8.1f} {median:8.1f}")
+
+
+def main() -> int:
+    program, *speed = map(os.path.abspath, sys.argv[1:])
+    print(f"load {os.getloadavg()[0]:.2f}, {os.cpu_count()} processors")
+    with tempfile.TemporaryDirectory() as folder:
+        answer = os.path.join(folder, "answer")
+        subprocess.run(["clang", "-O2", "-o", answer, os.path.join(HERE, "answer.c")], check=True)
+        print(f"{'':66} {'times':>5} {'best':>13} {'median':>13} {'bytes':>9} {'instructions':>12}")
+        show_starts(program, answer, folder)
+        show_questions(program, answer, folder)
+        show_runs(program, speed[0] if speed else None, folder)
+        show_memory(program, folder)
+    return 0
+
+
+if __name__ == "__main__":
+    sys.exit(main())
