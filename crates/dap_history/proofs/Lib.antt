@@ -21,3 +21,4 @@ pub mod Cuts
 pub mod Rows
 pub mod ShownQ
 pub mod Starts
+pub mod Closings

@@ -17,9 +17,12 @@ use Rattle.dap_msg.specs.declared.outgoing.EventBody.TheVariants as event
 use Rattle.dap_msg.specs.declared.outgoing.StopReason.{StopReason}
 use Rattle.dap_msg.specs.Outgoing.{text_of}
 use Rattle.pl0_meaning.specs.Runs.{written}
-use Rattle.dap_history.specs.History.{Launched, Item, Content, Loaded, Accepted, Fault, InputEnd, ReadFailure, MemoryFailure, Step, History, messages, messages_of}
-use Rattle.dap_history.specs.Readings.{launched, position}
-use Rattle.dap_history.specs.Events.{Incoming, Piece, Rest, AreLawful, IsHistoryOf}
+use Rattle.dap_history.specs.History.{Launched, Item, Content, Loaded, Accepted, Fault, InputEnd, ReadFailure, MemoryFailure, Step, History, messages, messages_of, orders_of}
+use Rattle.dap_history.specs.Readings.{launched, position, ending_of}
+use Rattle.dap_history.specs.declared.ending.Ending.TheVariants as ending
+use Rattle.dap_history.specs.declared.ending.Closed.TheVariants as closed
+use Rattle.dbg_runner.specs.Plain.{PlainOrder, Quit}
+use Rattle.dap_history.specs.Events.{Incoming, Piece, End, ReadFailed, Rest, AreLawful, IsHistoryOf}
 use Rattle.dap_history.specs.Output.{frames_from}
 
 -- ---- One history
@@ -114,6 +117,24 @@ DisconnectIsLast =
     → (before : History) (step : Step) (after : History) (seq : ℕ) → past ≡ before ++ step ∷ after
     → step.item ≡ Content (Some (record { seq = seq; body = command.Disconnect }))
     → (after ≡ []) × (messages_of past ≡ messages_of before ++ Answer seq (name.Supported supported.Disconnect) (Ok body.None) ∷ [])
+
+-- ---- Closing
+
+abbrev pub IsAmong : Incoming → List Incoming → Type 0
+IsAmong event events = (front : List Incoming) × (back : List Incoming) × (events ≡ front ++ event ∷ back)
+
+-- A session that the input's end or a failed read closed has taken that event.
+abbrev pub ClosedByItsEvent : Type 0
+ClosedByItsEvent =
+    (events : List Incoming) (past : History) (rest : Rest) → IsHistoryOf events past rest
+    → (ending_of past ≡ Some (ending.Closed closed.InputEnded) → IsAmong End events)
+    × (ending_of past ≡ Some (ending.Closed closed.ReadFailed) → IsAmong ReadFailed events)
+
+-- Nothing is ordered after a Quit.
+abbrev pub QuitIsLast : Type 0
+QuitIsLast =
+    (events : List Incoming) (past : History) (rest : Rest) → IsHistoryOf events past rest
+    → (front more : List PlainOrder) → orders_of past ≡ front ++ Quit ∷ more → more ≡ []
 
 -- ---- Output order
 

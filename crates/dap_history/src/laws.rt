@@ -1,4 +1,4 @@
-ghost use Rattle.dap_history.specs.Laws.{HistoryIsOne, ContentsAreOfTheStream, CutsChangeNothing, EachIsAnsweredOnce, SeqCountFromOne, DisconnectIsLast, NumbersAreWritten, StopsFollowNumbers};
+ghost use Rattle.dap_history.specs.Laws.{HistoryIsOne, ContentsAreOfTheStream, CutsChangeNothing, EachIsAnsweredOnce, SeqCountFromOne, DisconnectIsLast, ClosedByItsEvent, QuitIsLast, NumbersAreWritten, StopsFollowNumbers};
 ghost use Rattle.dap_history.specs.ReadingLaws.{ReadingsGoOn};
 ghost use Rattle.dap_history.specs.Stops.{EachRunStartsThere, EachStopIsRight, QuestionsAreAnsweredThere};
 
@@ -20,6 +20,8 @@ pub fn history_laws()
     ensures stops { EachStopIsRight }
     ensures questions { QuestionsAreAnsweredThere }
     ensures last { DisconnectIsLast }
+    ensures closed_by { ClosedByItsEvent }
+    ensures quits_last { QuitIsLast }
 {
     frame_laws();
     message_laws();

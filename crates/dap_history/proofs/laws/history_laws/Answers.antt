@@ -5,6 +5,7 @@ use Rattle.dap_history.proofs.Cuts.{cuts_change_nothing}
 use Rattle.dap_history.proofs.Starts.{each_run_starts}
 use Rattle.dap_history.proofs.Answered.{each_answered}
 use Rattle.dap_history.proofs.Last.{disconnect_last}
+use Rattle.dap_history.proofs.Closings.{closed_by_end, closed_by_failure, quit_is_last}
 use Rattle.dap_history.proofs.Numbered.{numbers_count}
 use Rattle.dap_history.proofs.StopOrder.{stops_follow}
 use Rattle.dap_history.proofs.Progress.{numbers_written}
@@ -60,3 +61,9 @@ returns-clause-cuts c = cuts_change_nothing
 
 pub returns-clause-runs : goal.returns-clause-runs
 returns-clause-runs c = each_run_starts (one_program c.text_laws.ensures.program) c.meaning_laws.ensures.joins
+
+pub returns-clause-closed_by : goal.returns-clause-closed_by
+returns-clause-closed_by c = λ events past rest history. (closed_by_end events past rest history, closed_by_failure events past rest history)
+
+pub returns-clause-quits_last : goal.returns-clause-quits_last
+returns-clause-quits_last c = quit_is_last

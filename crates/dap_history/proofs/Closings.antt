@@ -1,0 +1,485 @@
+-- A session that its input's end closed has taken that event, and Quit is the last order.
+use Rattle.std.proofs.Common.{◌≡◌, ◌⊎◌, inl, inr, ℕ, List, [], ◌∷◌, ◌++◌, Bool, true, false, Option, None, Some, Result, Ok, Err, refl, sym, ◌∙◌, ap, subst, append-nil}
+use Rattle.std.specs.Prelude.{nat_eq, if◌then◌else◌, ℤ}
+use Rattle.std.proofs.lemmas.Grind.{flat_map-append}
+use Rattle.dap_msg.specs.declared.command.Command.{Command}
+use Rattle.dap_msg.specs.declared.command.Command.TheVariants as command
+use Rattle.dap_msg.specs.declared.outgoing.Body.TheVariants as body
+use Rattle.dap_msg.specs.declared.outgoing.Refusal.TheVariants as refusal
+use Rattle.dap_msg.specs.declared.requests.set_breakpoints.SetBreakpointsArguments.{SetBreakpointsArguments}
+use Rattle.dbg_plan.specs.Breakpoints.{Breakpoint}
+use Rattle.dbg_plan.specs.Due.{due, depth_at}
+use Rattle.dbg_plan.specs.declared.evaluation.EvalFault.{EvalFault}
+use Rattle.dbg_plan.specs.declared.evaluation.EvalFault.TheVariants.{Overflow, DivideByZero}
+use Rattle.dbg_plan.specs.declared.mode.Reason.{Reason}
+use Rattle.dbg_runner.specs.declared.outcome.SliceOutcome.{SliceOutcome}
+use Rattle.dbg_runner.specs.declared.outcome.SliceOutcome.TheVariants as slice
+use Rattle.dbg_runner.specs.Plain.{PlainOrder, Go, Hold, Quit, PlainReport}
+use Rattle.dap_history.specs.declared.ending.Closed.{Closed}
+use Rattle.dap_history.specs.declared.ending.Closed.TheVariants as closed
+use Rattle.dap_history.specs.declared.ending.Ending.{Ending}
+use Rattle.dap_history.specs.declared.ending.Ending.TheVariants as ending
+use Rattle.dap_history.specs.declared.fault.LoadFault.{LoadFault}
+use Rattle.dap_history.specs.declared.fault.LoadFault.TheVariants as load_fault
+use Rattle.dap_history.specs.declared.launch.Launch.{Launch}
+use Rattle.dap_history.specs.declared.situation.Situation.{Situation}
+use Rattle.dap_history.specs.declared.situation.Situation.TheVariants.{Fresh, Ready, Configuring, Running, Stopped, Faulted, Ended}
+use Rattle.dap_history.specs.Last.{or_else, last_such}
+use Rattle.dap_history.specs.History.{Launched, Item, Content, Loaded, Accepted, Fault, InputEnd, ReadFailure, MemoryFailure, Effect, Step, History, orders_of}
+use Rattle.dap_history.specs.Readings.{situation, launched, runs, position, plan, waiting_pause, is_held, closing_command, closing_report, closing, ending_of}
+use Rattle.dap_history.specs.Replies.{Reply, refused, causing, ordering, OfProgram, on_thread}
+use Rattle.dap_history.specs.Reports.{report_effect, held}
+use Rattle.dap_history.specs.Launching.{initialize_in, Launches}
+use Rattle.dap_history.specs.Breakpoints.{hold_once, effect_in, SetsOf, Sets, SetsIn, is_at}
+use Rattle.dap_history.specs.Running.{Pace, mode_of, body_of, resumes, entry_mode, enters, ConfiguresIn, ResumesIn, pause_in}
+use Rattle.dap_history.specs.Frames.{frame_by_id}
+use Rattle.dap_history.specs.Inspection.{asked_of, scopes, variables, result_reply, EvaluatesIn, RepliesAt, Inspects, InspectsIn}
+use Rattle.dap_history.specs.Emission.{threads_in, RepliesIn, Causes, IsAfter}
+use Rattle.dap_history.specs.Interleaving.{Load, IsLoad, Interleaves}
+use Rattle.dap_history.specs.Events.{Incoming, Piece, End, ReadFailed, NoMemory, File, Report, Rest, only_bytes, IsTaking, Takes, none, one_more, Rests, closed as rests_closed, open_ended, faulty, waits, TakesAll, MayTake, LeadsByPiece, LeadsByFile, LeadsByReport, Loads, Leads, LeadsAll, IsHistoryOf}
+
+-- ---- one more item
+
+or_else-none : {A : Type 0} (x : Option A) → or_else x None ≡ x
+or_else-none None = refl
+or_else-none (Some x) = refl
+
+or_else_assoc : {A : Type 0} (x y z : Option A) → or_else (or_else x y) z ≡ or_else x (or_else y z)
+or_else_assoc None y z = refl
+or_else_assoc (Some x) y z = refl
+
+last_such-snoc : {A B : Type 0} (f : A → Option B) (xs : List A) (x : A) → last_such f (xs ++ x ∷ []) ≡ or_else (f x) (last_such f xs)
+last_such-snoc f [] x = sym (or_else-none (f x))
+last_such-snoc f (y ∷ ys) x = ap (λ o. or_else o (f y)) (last_such-snoc f ys x) ∙ or_else_assoc (f x) (last_such f ys) (f y)
+
+ending_after : (past : History) (item : Item) (new : History) → IsAfter past item new → ending_of new ≡ or_else (closing item) (ending_of past)
+ending_after past item new after =
+    ap ending_of after.new_is ∙ last_such-snoc (λ (s : Step). closing s.item) past after.step ∙ ap (λ i. or_else (closing i) (ending_of past)) after.item_is
+
+orders_after : (past : History) (item : Item) (new : History) (after : IsAfter past item new) → orders_of new ≡ orders_of past ++ after.step.effect.orders
+orders_after past item new after =
+    ap orders_of after.new_is ∙ flat_map-append (λ (s : Step). s.effect.orders) past (after.step ∷ [])
+    ∙ ap (λ l. orders_of past ++ l) (append-nil after.step.effect.orders)
+
+-- a session that took the item goes on only where the item doesn't close
+ends_by : (past : History) (item : Item) (new : History) → IsTaking past → IsAfter past item new → ending_of new ≡ closing item
+ends_by past item new taking after = ending_after past item new after ∙ ap (λ o. or_else (closing item) o) taking ∙ or_else-none (closing item)
+
+-- ---- what holds along events
+
+-- an item that neither the input's end nor a failed read is
+abbrev IsPlain : Item → Type 0
+IsPlain InputEnd = ⊥
+IsPlain ReadFailure = ⊥
+IsPlain _ = Unit {0}
+
+abbrev KeptBy : (History → Type 0) → Item → Type 0
+KeptBy P item = (past new : History) → IsTaking past → IsAfter past item new → P past → P new
+
+module _ (P : History → Type 0) (kept : (item : Item) → IsPlain item → KeptBy P item) where
+  walk_takes : {past : History} {bytes : List ℕ} {new : History} {left : List ℕ} → Takes past bytes new left → P past → P new
+  walk_takes none here = here
+  walk_takes (one_more {past = past} {mid = mid} request taking front unwanted after more) here =
+      walk_takes more (kept (Content request) tt past mid taking after here)
+
+  walk_rests : (past : History) (bytes : List ℕ) {new : History} {rest : Rest} → Rests past bytes new rest → P past → P new
+  walk_rests past bytes (rests_closed not) here = here
+  walk_rests past bytes (open_ended taking is) here = here
+  walk_rests past bytes (faulty k new taking is after) here = kept (Fault k) tt past new taking after here
+  walk_rests past bytes (waits request launch more taking front wanted) here = here
+
+  walk_all : (past : History) (bytes : List ℕ) (new : History) (rest : Rest) → TakesAll past bytes new rest → P past → P new
+  walk_all past bytes new rest all here = walk_rests all.mid all.left all.rests (walk_takes all.taken here)
+
+  walk_may : (past : History) (item : Item) (new : History) → KeptBy P item → MayTake past item new → P past → P new
+  walk_may past item new keeps (inl is) here = subst P (sym is.1) here
+  walk_may past item new keeps (inr is) here = keeps past new is.0 is.1 here
+
+  walk_piece : (past : History) (launch : Option Launch) (bytes : List ℕ) (new : History) (left : Rest) → LeadsByPiece past launch bytes new left → P past → P new
+  walk_piece past None bytes new left all here = walk_all past bytes new left all here
+  walk_piece past (Some launch) bytes new left is here = subst P (sym is.0) here
+
+  walk_loads : (past : History) (launch : Launch) (file : Option (List ℕ)) (bytes : List ℕ) (new : History) (left : Rest) → Loads past launch file bytes new left → P past → P new
+  walk_loads past launch file bytes new left loads here =
+      walk_all loads.mid bytes new left loads.after (kept (Loaded launch file) tt past loads.mid loads.taking loads.loaded here)
+
+  walk_file : (past : History) (rest : Rest) (launch : Option Launch) (file : Result (List ℕ) LoadFault) (new : History) (left : Rest) → LeadsByFile past rest launch file new left → P past → P new
+  walk_file past rest None file new left is here = subst P (sym is.0) here
+  walk_file past rest (Some launch) (Ok file) new left (inl is) here = subst P (sym is.1) here
+  walk_file past rest (Some launch) (Ok file) new left (inr loads) here = walk_loads past launch (Some file) rest.bytes new left loads here
+  walk_file past rest (Some launch) (Err load_fault.CannotRead) new left (inl is) here = subst P (sym is.1) here
+  walk_file past rest (Some launch) (Err load_fault.CannotRead) new left (inr loads) here = walk_loads past launch None rest.bytes new left loads here
+  walk_file past rest (Some launch) (Err load_fault.NoMemory) new left is here = walk_may past MemoryFailure new (kept MemoryFailure tt) is.0 here
+
+  walk_report : (past : History) (r : PlainReport) (new : History) → LeadsByReport past r new → P past → P new
+  walk_report past r new (inl is) here = subst P (sym is.1) here
+  walk_report past r new (inr is) here = kept (Accepted r) tt past new is.0 is.2 here
+
+-- ---- the event that closed the session
+
+module _ (by : Closed) (asked : ¬ (closed.Disconnected ≡ by)) where
+  abbrev IsNotClosed : History → Type 0
+  IsNotClosed past = ¬ (ending_of past ≡ Some (ending.Closed by))
+
+  command_not : (c : Command) → ¬ (closing_command c ≡ Some (ending.Closed by))
+  command_not command.Disconnect is = asked cc
+  command_not _ is = absurd cc
+
+  report_not : (outcome : SliceOutcome) → ¬ (closing_report outcome ≡ Some (ending.Closed by))
+  report_not slice.NoMemory is = absurd cc
+  report_not _ is = absurd cc
+
+  plain_not : (item : Item) → IsPlain item → ¬ (closing item ≡ Some (ending.Closed by))
+  plain_not (Content None) plain is = absurd cc
+  plain_not (Content (Some request)) plain is = command_not request.body is
+  plain_not (Loaded launch file) plain is = absurd cc
+  plain_not (Accepted r) plain is = report_not r.outcome is
+  plain_not (Fault k) plain is = absurd cc
+  plain_not InputEnd plain is = absurd plain
+  plain_not ReadFailure plain is = absurd plain
+  plain_not MemoryFailure plain is = absurd cc
+
+  not_kept : (item : Item) → ¬ (closing item ≡ Some (ending.Closed by)) → KeptBy IsNotClosed item
+  not_kept item not past new taking after here is = not (sym (ends_by past item new taking after) ∙ is)
+
+  plain_kept : (item : Item) → IsPlain item → KeptBy IsNotClosed item
+  plain_kept item plain = not_kept item (plain_not item plain)
+
+  module _ (own : Incoming) (at_end : (own ≡ End) ⊎ ¬ (closed.InputEnded ≡ by)) (at_failure : (own ≡ ReadFailed) ⊎ ¬ (closed.ReadFailed ≡ by)) where
+    by_end : (past new : History) → (own ≡ End) ⊎ ¬ (closed.InputEnded ≡ by) → MayTake past InputEnd new → IsNotClosed past → (own ≡ End) ⊎ IsNotClosed new
+    by_end past new (inl same) may here = inl same
+    by_end past new (inr other) may here =
+        inr (walk_may IsNotClosed plain_kept past InputEnd new (not_kept InputEnd (λ is. other cc)) may here)
+
+    by_failure : (past new : History) → (own ≡ ReadFailed) ⊎ ¬ (closed.ReadFailed ≡ by) → MayTake past ReadFailure new → IsNotClosed past → (own ≡ ReadFailed) ⊎ IsNotClosed new
+    by_failure past new (inl same) may here = inl same
+    by_failure past new (inr other) may here =
+        inr (walk_may IsNotClosed plain_kept past ReadFailure new (not_kept ReadFailure (λ is. other cc)) may here)
+
+    by_event : (past : History) (rest : Rest) (e : Incoming) (new : History) (left : Rest) → Leads past rest e new left → IsNotClosed past → (own ≡ e) ⊎ IsNotClosed new
+    by_event past rest (Piece piece) new left leads here = inr (walk_piece IsNotClosed plain_kept past rest.launch (rest.bytes ++ piece) new left leads here)
+    by_event past rest End new left leads here = by_end past new at_end leads.0 here
+    by_event past rest ReadFailed new left leads here = by_failure past new at_failure leads.0 here
+    by_event past rest NoMemory new left leads here = inr (walk_may IsNotClosed plain_kept past MemoryFailure new (plain_kept MemoryFailure tt) leads.0 here)
+    by_event past rest (File file) new left leads here = inr (walk_file IsNotClosed plain_kept past rest rest.launch file new left leads here)
+    by_event past rest (Report r) new left leads here = inr (walk_report IsNotClosed plain_kept past r new leads.0 here)
+
+    abbrev Stands : List Incoming → Type 0
+    Stands events = (front : List Incoming) × (back : List Incoming) × (events ≡ front ++ own ∷ back)
+
+    -- a session that goes on, and is closed so after these events
+    closed_from : (past : History) (rest : Rest) (events : List Incoming) (new : History) (left : Rest) → LeadsAll past rest events new left → IsNotClosed past → ending_of new ≡ Some (ending.Closed by) → Stands events
+    closed_from past rest [] new left all not is = absurd (not (subst (λ h. ending_of h ≡ Some (ending.Closed by)) all.0 is))
+    closed_from past rest (e ∷ events) new left all not is =
+        onward (λ here. closed_from all.0 all.1 events new left all.3 here is) (by_event past rest e all.0 all.1 all.2 not)
+      where
+        onward : (IsNotClosed all.0 → Stands events) → (own ≡ e) ⊎ IsNotClosed all.0 → Stands (e ∷ events)
+        onward later (inl same) = ([], events, ap (λ x. x ∷ events) (sym same))
+        onward later (inr here) = let there = later here in (e ∷ there.0, there.1, ap (λ l. e ∷ l) there.2)
+
+-- A session that the input's end closed has taken it.
+pub closed_by_end : (events : List Incoming) (past : History) (rest : Rest) → IsHistoryOf events past rest → ending_of past ≡ Some (ending.Closed closed.InputEnded)
+    → (front : List Incoming) × (back : List Incoming) × (events ≡ front ++ End ∷ back)
+closed_by_end events past rest history is =
+    closed_from closed.InputEnded (λ same. absurd cc) End (inl refl) (inr (λ same. absurd cc)) [] (only_bytes []) events past rest history (λ none. absurd cc) is
+
+-- A session that a failed read closed has taken it.
+pub closed_by_failure : (events : List Incoming) (past : History) (rest : Rest) → IsHistoryOf events past rest → ending_of past ≡ Some (ending.Closed closed.ReadFailed)
+    → (front : List Incoming) × (back : List Incoming) × (events ≡ front ++ ReadFailed ∷ back)
+closed_by_failure events past rest history is =
+    closed_from closed.ReadFailed (λ same. absurd cc) ReadFailed (inr (λ same. absurd cc)) (inl refl) [] (only_bytes []) events past rest history (λ none. absurd cc) is
+
+-- ---- Quit among orders
+
+abbrev NoQuit : List PlainOrder → Type 0
+NoQuit [] = Unit {0}
+NoQuit (Go run ∷ orders) = NoQuit orders
+NoQuit (Hold run ∷ orders) = NoQuit orders
+NoQuit (Quit ∷ orders) = ⊥
+
+no_quit-append : (xs ys : List PlainOrder) → NoQuit xs → NoQuit ys → NoQuit (xs ++ ys)
+no_quit-append [] ys a b = b
+no_quit-append (Go run ∷ xs) ys a b = no_quit-append xs ys a b
+no_quit-append (Hold run ∷ xs) ys a b = no_quit-append xs ys a b
+no_quit-append (Quit ∷ xs) ys a b = absurd a
+
+abbrev later_orders : List PlainOrder → List PlainOrder
+later_orders [] = []
+later_orders (order ∷ orders) = orders
+
+no_quit_in : (orders front more : List PlainOrder) → NoQuit orders → ¬ (orders ≡ front ++ Quit ∷ more)
+no_quit_in [] [] more quiet is = absurd cc
+no_quit_in [] (x ∷ front) more quiet is = absurd cc
+no_quit_in (Go run ∷ orders) [] more quiet is = absurd cc
+no_quit_in (Hold run ∷ orders) [] more quiet is = absurd cc
+no_quit_in (Quit ∷ orders) front more quiet is = quiet
+no_quit_in (Go run ∷ orders) (x ∷ front) more quiet is = no_quit_in orders front more quiet (ap later_orders is)
+no_quit_in (Hold run ∷ orders) (x ∷ front) more quiet is = no_quit_in orders front more quiet (ap later_orders is)
+
+quit_ends : (orders front more : List PlainOrder) → NoQuit orders → orders ++ Quit ∷ [] ≡ front ++ Quit ∷ more → more ≡ []
+quit_ends [] [] more quiet is = sym (ap later_orders is)
+quit_ends [] (x ∷ []) more quiet is = let e = ap later_orders is in absurd cc
+quit_ends [] (x ∷ y ∷ front) more quiet is = let e = ap later_orders is in absurd cc
+quit_ends (Go run ∷ orders) [] more quiet is = absurd cc
+quit_ends (Hold run ∷ orders) [] more quiet is = absurd cc
+quit_ends (Quit ∷ orders) front more quiet is = absurd quiet
+quit_ends (Go run ∷ orders) (x ∷ front) more quiet is = quit_ends orders front more quiet (ap later_orders is)
+quit_ends (Hold run ∷ orders) (x ∷ front) more quiet is = quit_ends orders front more quiet (ap later_orders is)
+
+-- ---- which replies order Quit
+
+abbrev IsQuiet : Reply → Type 0
+IsQuiet reply = NoQuit reply.effect.orders
+
+quiet_if : (reply other : Reply) → IsQuiet other → reply ≡ other → IsQuiet reply
+quiet_if reply other quiet is = subst IsQuiet (sym is) quiet
+
+thread_quiet : (thread : ℕ) (reply : Reply) → IsQuiet reply → IsQuiet (on_thread thread reply)
+thread_quiet thread reply quiet = by_test (nat_eq thread 1)
+  where
+    by_test : (same : Bool) → IsQuiet (if same then reply else refused refusal.UnknownThread)
+    by_test true = quiet
+    by_test false = tt
+
+hold_quiet : (past : History) → NoQuit (hold_once past)
+hold_quiet past = by_test (is_held past)
+  where
+    by_test : (held : Bool) → NoQuit (if held then [] else Hold (runs past) ∷ [])
+    by_test true = tt
+    by_test false = tt
+
+initialize_quiet : (s : Situation) → IsQuiet (initialize_in s)
+initialize_quiet Fresh = tt
+initialize_quiet _ = tt
+
+threads_quiet : (s : Situation) → IsQuiet (threads_in s)
+threads_quiet Fresh = tt
+threads_quiet _ = tt
+
+effect_quiet : (s : Situation) (past : History) (bs : List Breakpoint) → NoQuit (effect_in s past bs).orders
+effect_quiet Running past bs = hold_quiet past
+effect_quiet Configuring past bs = tt
+effect_quiet Stopped past bs = tt
+effect_quiet Faulted past bs = tt
+effect_quiet Ended past bs = tt
+effect_quiet Fresh past bs = tt
+effect_quiet Ready past bs = tt
+
+-- what is so of each launched program is so of the one that there is
+of_program : (l : Option Launched) (says : Launched → Type 0) (reply : Reply) → ((l : Launched) → says l → IsQuiet reply) → OfProgram l says → IsQuiet reply
+of_program None says reply quiet is = absurd is
+of_program (Some l) says reply quiet is = quiet l is
+
+sets_quiet : (past : History) (a : SetBreakpointsArguments) (reply : Reply) → Sets past a reply → IsQuiet reply
+sets_quiet past a reply is =
+    of_program (launched past) (λ l. SetsOf (is_at a.path l.path) past l a.breakpoints reply) reply (λ l says. by_source (is_at a.path l.path) l says) is
+  where
+    by_source : (same : Bool) (l : Launched) → SetsOf same past l a.breakpoints reply → IsQuiet reply
+    by_source true l says = quiet_if reply _ (effect_quiet (situation past) past says.breakpoints) says.reply_is
+    by_source false l says = quiet_if reply _ tt says
+
+sets_in_quiet : (s : Situation) (past : History) (a : SetBreakpointsArguments) (reply : Reply) → SetsIn s past a reply → IsQuiet reply
+sets_in_quiet Fresh past a reply is = quiet_if reply _ tt is
+sets_in_quiet Ready past a reply is = quiet_if reply _ tt is
+sets_in_quiet _ past a reply is = sets_quiet past a reply is
+
+enters_quiet : (past : History) (l : Launched) (why : Option Reason) → NoQuit (enters past l why).orders
+enters_quiet past l None = tt
+enters_quiet past l (Some r) = tt
+
+configures_in_quiet : (s : Situation) (past : History) (reply : Reply) → ConfiguresIn s past reply → IsQuiet reply
+configures_in_quiet Configuring past reply is =
+    of_program (launched past) _ reply
+    (λ l says. quiet_if reply _ (enters_quiet past l (due l.program (plan past).breakpoints (plan past).counted_from (entry_mode l) 0)) says) is
+configures_in_quiet _ past reply is = quiet_if reply _ tt is
+
+resumes_in_quiet : (s : Situation) (past : History) (pace : Pace) (thread : ℕ) (reply : Reply) → ResumesIn s past pace thread reply → IsQuiet reply
+resumes_in_quiet Stopped past pace thread reply is =
+    of_program (launched past) _ reply
+    (λ l says. quiet_if reply _ (thread_quiet thread (causing (body_of pace) (ordering (resumes past l (mode_of pace (depth_at l.program (position past)))))) tt) says) is
+resumes_in_quiet Faulted past pace thread reply is = quiet_if reply _ (thread_quiet thread _ tt) is
+resumes_in_quiet _ past pace thread reply is = quiet_if reply _ tt is
+
+pause_quiet : (s : Situation) (past : History) (thread : ℕ) → IsQuiet (pause_in s past thread)
+pause_quiet Running past thread = thread_quiet thread (causing body.None (ordering (hold_once past))) (hold_quiet past)
+pause_quiet Stopped past thread = thread_quiet thread _ tt
+pause_quiet Faulted past thread = thread_quiet thread _ tt
+pause_quiet _ past thread = tt
+
+result_quiet : (r : Result ℤ EvalFault) → IsQuiet (result_reply r)
+result_quiet (Ok v) = tt
+result_quiet (Err Overflow) = tt
+result_quiet (Err DivideByZero) = tt
+
+by_option : {A : Type 0} (o : Option A) (P : Option A → Type 0) → P None → ((x : A) → P (Some x)) → P o
+by_option None P at_none at_some = at_none
+by_option (Some x) P at_none at_some = at_some x
+
+inspects_quiet : (past : History) (question : Command) (reply : Reply) → Inspects past question reply → IsQuiet reply
+inspects_quiet past (command.StackTrace a) reply is =
+    of_program (launched past) _ reply
+    (λ l says. by_option _ (λ c. RepliesAt (asked_of past l) c (command.StackTrace a) reply → IsQuiet reply) (λ no_state. absurd no_state)
+    (λ c found. quiet_if reply _ (thread_quiet a.thread_id _ tt) found) says) is
+inspects_quiet past (command.Scopes a) reply is =
+    of_program (launched past) _ reply
+    (λ l says. by_option _ (λ c. RepliesAt (asked_of past l) c (command.Scopes a) reply → IsQuiet reply) (λ no_state. absurd no_state)
+    (λ c found. quiet_if reply _ (by_option (frame_by_id c a.frame_id) (λ f. IsQuiet (scopes (asked_of past l) a.frame_id c f)) tt (λ f. tt)) found) says) is
+inspects_quiet past (command.Variables a) reply is =
+    of_program (launched past) _ reply
+    (λ l says. by_option _ (λ c. RepliesAt (asked_of past l) c (command.Variables a) reply → IsQuiet reply) (λ no_state. absurd no_state)
+    (λ c found. quiet_if reply _ (by_option (frame_by_id c a.variables_reference) (λ f. IsQuiet (variables (asked_of past l) f)) tt (λ f. tt)) found) says) is
+inspects_quiet past (command.Evaluate a) reply is =
+    of_program (launched past) _ reply
+    (λ l says. by_option _ (λ c. RepliesAt (asked_of past l) c (command.Evaluate a) reply → IsQuiet reply) (λ no_state. absurd no_state)
+    (λ c found. by_option (frame_by_id c a.frame_id) (λ f. EvaluatesIn l.program c a.frame_id f a.expression reply → IsQuiet reply)
+    (λ refused_is. quiet_if reply _ tt refused_is)
+    (λ f either. elim either as (λ e. IsQuiet reply) [ inl has ↦ quiet_if reply _ (result_quiet has.result) has.reply_is | inr has ↦ quiet_if reply _ tt has.reply_is ])
+    found) says) is
+inspects_quiet past question reply is =
+    of_program (launched past) _ reply
+    (λ l says. by_option _ (λ c. RepliesAt (asked_of past l) c question reply → IsQuiet reply) (λ no_state. absurd no_state) (λ c found. absurd found) says) is
+
+inspects_in_quiet : (s : Situation) (past : History) (question : Command) (reply : Reply) → InspectsIn s past question reply → IsQuiet reply
+inspects_in_quiet Running past question reply is = quiet_if reply _ tt is
+inspects_in_quiet Stopped past question reply is = inspects_quiet past question reply is
+inspects_in_quiet Faulted past question reply is = inspects_quiet past question reply is
+inspects_in_quiet _ past question reply is = quiet_if reply _ tt is
+
+-- orders without a Quit; or a Quit alone, by what closes the session
+abbrev QuitsBy : List PlainOrder → Option Ending → Type 0
+QuitsBy orders closes = NoQuit orders ⊎ ((orders ≡ Quit ∷ []) × ((by : Ending) × (closes ≡ Some by)))
+
+replies_quit : (s : Situation) (past : History) (asked : Command) (reply : Reply) → RepliesIn s past asked reply → QuitsBy reply.effect.orders (closing_command asked)
+replies_quit s past (command.Initialize a) reply is = inl (quiet_if reply _ (initialize_quiet s) is)
+replies_quit s past (command.Launch a) reply is = inl (quiet_if reply _ tt is)
+replies_quit s past (command.SetBreakpoints a) reply is = inl (sets_in_quiet s past a reply is)
+replies_quit s past command.ConfigurationDone reply is = inl (configures_in_quiet s past reply is)
+replies_quit s past command.Threads reply is = inl (quiet_if reply _ (threads_quiet s) is)
+replies_quit s past (command.Continue a) reply is = inl (resumes_in_quiet s past _ a.thread_id reply is)
+replies_quit s past (command.Next a) reply is = inl (resumes_in_quiet s past _ a.thread_id reply is)
+replies_quit s past (command.StepIn a) reply is = inl (resumes_in_quiet s past _ a.thread_id reply is)
+replies_quit s past (command.StepOut a) reply is = inl (resumes_in_quiet s past _ a.thread_id reply is)
+replies_quit s past (command.Pause a) reply is = inl (quiet_if reply _ (pause_quiet s past a.thread_id) is)
+replies_quit s past (command.StackTrace a) reply is = inl (inspects_in_quiet s past _ reply is)
+replies_quit s past (command.Scopes a) reply is = inl (inspects_in_quiet s past _ reply is)
+replies_quit s past (command.Variables a) reply is = inl (inspects_in_quiet s past _ reply is)
+replies_quit s past (command.Evaluate a) reply is = inl (inspects_in_quiet s past _ reply is)
+replies_quit s past command.Disconnect reply is = inr (ap (λ (r : Reply). r.effect.orders) is, (_, refl))
+replies_quit s past (command.Unsupported a) reply is = inl (quiet_if reply _ tt is)
+replies_quit s past (command.BadArguments a) reply is = inl (quiet_if reply _ tt is)
+
+launches_quiet : (launch : Launch) (file : Option (List ℕ)) (reply : Reply) → Launches launch.arguments file reply → IsQuiet reply
+launches_quiet launch None reply is = quiet_if reply _ tt is
+launches_quiet launch (Some text) reply (inl is) = quiet_if reply _ tt is.reply_is
+launches_quiet launch (Some text) reply (inr is) = quiet_if reply _ tt is.reply_is
+
+report_quiet : (past : History) (r : PlainReport) (outcome : SliceOutcome) → NoQuit (report_effect past r outcome).orders
+report_quiet past r slice.Held = by_test (waiting_pause past)
+  where
+    by_test : (pauses : Bool) → NoQuit (held past r pauses).orders
+    by_test true = tt
+    by_test false = tt
+report_quiet past r _ = tt
+
+-- What an item orders has a Quit only where the item closes the session.
+item_quits : (past : History) (item : Item) (step : Step) → Causes past item step → QuitsBy step.effect.orders (closing item)
+item_quits past (Content None) step is = inl (subst (λ (e : Effect). NoQuit e.orders) (sym is.effect_is) tt)
+item_quits past (Content (Some request)) step is =
+    subst (λ (e : Effect). QuitsBy e.orders (closing_command request.body)) (sym is.2.effect_is) (replies_quit (situation past) past request.body is.0 is.1)
+item_quits past (Loaded launch file) step is = inl (subst (λ (e : Effect). NoQuit e.orders) (sym is.2.effect_is) (launches_quiet launch file is.0 is.1))
+item_quits past (Accepted r) step is = inl (subst (λ (e : Effect). NoQuit e.orders) (sym is.effect_is) (report_quiet past r r.outcome))
+item_quits past (Fault k) step is = inl (subst (λ (e : Effect). NoQuit e.orders) (sym is.effect_is) tt)
+item_quits past InputEnd step is = inr (ap (λ (e : Effect). e.orders) is.effect_is, (_, refl))
+item_quits past ReadFailure step is = inr (ap (λ (e : Effect). e.orders) is.effect_is, (_, refl))
+item_quits past MemoryFailure step is = inl (subst (λ (e : Effect). NoQuit e.orders) (sym is.effect_is) tt)
+
+-- ---- Quit is ordered last
+
+-- while the session takes items, none was ordered; and nothing is ordered after one
+record Quits (past : History) : Type 0 where
+  pub before : IsTaking past → NoQuit (orders_of past)
+  pub last : (front more : List PlainOrder) → orders_of past ≡ front ++ Quit ∷ more → more ≡ []
+
+quits_kept : (item : Item) → KeptBy Quits item
+quits_kept item past new taking after here = by_item (item_quits past item after.step after.causes)
+  where
+    orders_are : orders_of new ≡ orders_of past ++ after.step.effect.orders
+    orders_are = orders_after past item new after
+
+    by_item : QuitsBy after.step.effect.orders (closing item) → Quits new
+    by_item (inl quiet) =
+        let none_yet : NoQuit (orders_of new) = subst NoQuit (sym orders_are) (no_quit-append (orders_of past) after.step.effect.orders (here.before taking) quiet) in
+        record { before = λ still. none_yet; last = λ front more is. absurd (no_quit_in (orders_of new) front more none_yet is) }
+    by_item (inr quits) = record {
+      before = λ still. let e = sym still ∙ ends_by past item new taking after ∙ quits.1.1 in absurd cc;
+      last = λ front more is. quit_ends (orders_of past) front more (here.before taking) (sym (ap (λ l. orders_of past ++ l) quits.0) ∙ sym orders_are ∙ is);
+    }
+
+plain_quits : (item : Item) → IsPlain item → KeptBy Quits item
+plain_quits item plain = quits_kept item
+
+event_quits : (past : History) (rest : Rest) (e : Incoming) (new : History) (left : Rest) → Leads past rest e new left → Quits past → Quits new
+event_quits past rest (Piece piece) new left leads here = walk_piece Quits plain_quits past rest.launch (rest.bytes ++ piece) new left leads here
+event_quits past rest End new left leads here = walk_may Quits plain_quits past InputEnd new (quits_kept InputEnd) leads.0 here
+event_quits past rest ReadFailed new left leads here = walk_may Quits plain_quits past ReadFailure new (quits_kept ReadFailure) leads.0 here
+event_quits past rest NoMemory new left leads here = walk_may Quits plain_quits past MemoryFailure new (quits_kept MemoryFailure) leads.0 here
+event_quits past rest (File file) new left leads here = walk_file Quits plain_quits past rest rest.launch file new left leads here
+event_quits past rest (Report r) new left leads here = walk_report Quits plain_quits past r new leads.0 here
+
+events_quit : (past : History) (rest : Rest) (events : List Incoming) (new : History) (left : Rest) → LeadsAll past rest events new left → Quits past → Quits new
+events_quit past rest [] new left all here = subst Quits (sym all.0) here
+events_quit past rest (e ∷ events) new left all here = events_quit all.0 all.1 events new left all.3 (event_quits past rest e all.0 all.1 all.2 here)
+
+quits_of : (events : List Incoming) (past : History) (rest : Rest) → IsHistoryOf events past rest → Quits past
+quits_of events past rest history =
+    events_quit [] (only_bytes []) events past rest history (record { before = λ taking. tt; last = λ front more is. absurd (no_quit_in [] front more tt is) })
+
+-- Nothing is ordered after a Quit.
+pub quit_is_last : (events : List Incoming) (past : History) (rest : Rest) → IsHistoryOf events past rest → (front more : List PlainOrder) → orders_of past ≡ front ++ Quit ∷ more → more ≡ []
+quit_is_last events past rest history = (quits_of events past rest history).last
+
+-- While the session takes items, none is ordered.
+pub no_quit_while_taking : (events : List Incoming) (past : History) (rest : Rest) → IsHistoryOf events past rest → IsTaking past → (front more : List PlainOrder) → ¬ (orders_of past ≡ front ++ Quit ∷ more)
+no_quit_while_taking events past rest history taking front more =
+    no_quit_in (orders_of past) front more ((quits_of events past rest history).before taking)
+
+-- ---- what an inbox gave
+
+abbrev pub IsFile : Incoming → Type 0
+IsFile (File file) = Unit {0}
+IsFile _ = ⊥
+
+only_files_load : (before : List Incoming) (e : Incoming) (load : Load) → ¬ IsFile e → ¬ IsLoad before e load
+only_files_load before (File file) load no_file is = no_file tt
+only_files_load before _ load no_file is = is
+
+abbrev first_event : Incoming → List Incoming → Incoming
+first_event other [] = other
+first_event other (e ∷ events) = e
+
+abbrev later_events : List Incoming → List Incoming
+later_events [] = []
+later_events (e ∷ events) = events
+
+-- An event that is no file comes from the inbox.
+pub interleaved_event : (own : Incoming) → ¬ IsFile own → (before events given : List Incoming) (loads : List Load) → Interleaves before events given loads
+    → (front back : List Incoming) → events ≡ front ++ own ∷ back → (f : List Incoming) × (b : List Incoming) × (given ≡ f ++ own ∷ b)
+interleaved_event own no_file before [] given loads from [] back is = absurd cc
+interleaved_event own no_file before [] given loads from (x ∷ front) back is = absurd cc
+interleaved_event own no_file before (e ∷ events) given loads (inl from) [] back is =
+    absurd (only_files_load before e from.0 (λ file. no_file (subst IsFile (ap (first_event own) is) file)) from.3)
+interleaved_event own no_file before (e ∷ events) given loads (inl from) (x ∷ front) back is =
+    interleaved_event own no_file (before ++ e ∷ []) events given from.1 from.4 front back (ap later_events is)
+interleaved_event own no_file before (e ∷ events) given loads (inr from) [] back is =
+    ([], from.0, from.1 ∙ ap (λ x. x ∷ from.0) (ap (first_event own) is))
+interleaved_event own no_file before (e ∷ events) given loads (inr from) (x ∷ front) back is =
+    let there = interleaved_event own no_file (before ++ e ∷ []) events from.0 loads from.3 front back (ap later_events is) in
+    (e ∷ there.0, there.1, from.1 ∙ ap (λ l. e ∷ l) there.2)
+
+pub interleaved_end : (events given : List Incoming) (loads : List Load) → Interleaves [] events given loads → (front back : List Incoming) → events ≡ front ++ End ∷ back
+    → (f : List Incoming) × (b : List Incoming) × (given ≡ f ++ End ∷ b)
+interleaved_end events given loads from front back is = interleaved_event End (λ file. file) [] events given loads from front back is
+
+pub interleaved_failure : (events given : List Incoming) (loads : List Load) → Interleaves [] events given loads → (front back : List Incoming) → events ≡ front ++ ReadFailed ∷ back
+    → (f : List Incoming) × (b : List Incoming) × (given ≡ f ++ ReadFailed ∷ b)
+interleaved_failure events given loads from front back is = interleaved_event ReadFailed (λ file. file) [] events given loads from front back is
