@@ -6,7 +6,7 @@ use Rattle.dap_history.specs.Events.{Incoming}
 use Rattle.dap_history.specs.Interleaving.{Load}
 use Rattle.dap_session.specs.Ports.{Ports}
 use Rattle.dap_session.specs.Serving.{Drives, Driven}
-use Rattle.adapter.specs.Transfer.{Supply, Output, AreRead, ArePut}
+use Rattle.dap_wires.specs.Transfer.{Supply, Output, AreRead, ArePut}
 use Rattle.adapter.specs.Serving.{Streams, input_of, output_of, nothing_sent, IsDriven}
 
 pub carried : (result : Result Closed SessionFault) (loads later_loads : List Load) (old later : Streams) (before given : List Incoming) (begin sent : Ports)

@@ -9,8 +9,8 @@ use Rattle.dap_history.specs.Events.{Incoming}
 use Rattle.dap_session.specs.declared.ports.Event.{Event}
 use Rattle.dap_session.specs.Incoming.{incoming_of}
 use Rattle.dap_session.specs.Sending.{Begins}
-use Rattle.adapter.specs.Transfer.{Supply, IsRead, AreRead, Output, WritesAll, AppendsPart, ArePut, has_any, TriesToWrite}
-use Rattle.adapter.proofs.Known.{appends_both}
+use Rattle.dap_wires.specs.Transfer.{Supply, IsRead, AreRead, Output, WritesAll, AppendsPart, ArePut, has_any, TriesToWrite}
+use Rattle.dap_wires.proofs.Known.{appends_both}
 
 -- ---- events
 

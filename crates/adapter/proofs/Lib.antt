@@ -1,5 +1,3 @@
-pub mod Known
-pub mod Transferring
 pub mod Exchanged
 pub mod Carried
 pub mod ListingLines

@@ -1,4 +1,3 @@
-pub mod Transfer
 pub mod Serving
 pub mod ExitReasons
 pub mod Loading

@@ -12,7 +12,7 @@ use Rattle.adapter.specs.declared.serving.Served.{Served}
 use Rattle.adapter.specs.declared.serving.Served.TheVariants as served
 use Rattle.adapter.specs.declared.serving.ServeFault.{ServeFault}
 use Rattle.adapter.specs.declared.serving.ServeFault.TheVariants as fault
-use Rattle.adapter.specs.Transfer.{Supply, supply, AreRead, Output, output, ArePut}
+use Rattle.dap_wires.specs.Transfer.{Supply, supply, AreRead, Output, output, ArePut}
 
 -- The input's bytes left and the output's bytes written, where they are known, and how often reading and writing failed.
 pub record Streams : Type 0 where

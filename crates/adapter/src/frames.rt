@@ -1,11 +1,10 @@
 //! Where the session's frames go, in one thread: to the output, at once.
 
 ghost use Rattle.std.specs.Prelude.{◌≡◌, [], map};
-ghost use Rattle.adapter.specs.Transfer.{Output as OutputIs, output as output_at, ArePut, has_any, TriesToWrite};
+ghost use Rattle.dap_wires.specs.Transfer.{Output as OutputIs, output as output_at, ArePut, has_any, TriesToWrite};
 
-use crate::streams::Sink;
-use crate::transfer::write_all;
 use dap_session::Out;
+use dap_wires::{Sink, write_all};
 use dbg_runner::History;
 use std::snapshot::Snapshot;
 use std::sync::Wait;

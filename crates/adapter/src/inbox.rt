@@ -2,12 +2,11 @@
 
 ghost use Rattle.std.specs.Prelude.{◌≡◌, [], map};
 ghost use Rattle.dap_session.specs.Incoming.{incoming_of};
-ghost use Rattle.adapter.specs.Transfer.{IsRead, AreRead, Supply, supply};
+ghost use Rattle.dap_wires.specs.Transfer.{IsRead, AreRead, Supply, supply};
 
 use crate::running::{Running, report_next};
-use crate::streams::Source;
-use crate::transfer::{ROOM, next_event};
 use dap_session::{Event, Inbox};
+use dap_wires::{PIECE_LIMIT, Source, next_event};
 use dbg_runner::{Gate, History};
 use std::alloc::Global;
 use std::cell::Cell;
@@ -21,7 +20,7 @@ pub struct Client<'a, R: Wait, I: Source, G: Gate> {
     rt: &'a R,
     alloc: Global,
     input: I,
-    room: [u8; ROOM],
+    room: [u8; PIECE_LIMIT],
     running: &'a Cell<Option<Running>>,
     gate: G,
     events: History<Event>,
@@ -46,7 +45,7 @@ impl<'a, R: Wait, I: Source + Drop, G: Gate + Drop> Client<'a, R, I, G> {
             rt,
             alloc,
             input,
-            room: [0; ROOM],
+            room: [0; PIECE_LIMIT],
             running,
             gate,
             events: History::new(),
@@ -101,7 +100,7 @@ fn next_of<R: Wait, I: Source, G: Gate>(
     alloc: Global,
     running: Option<Running>,
     input: &mut I,
-    room: &mut [u8; ROOM],
+    room: &mut [u8; PIECE_LIMIT],
     gate: &mut G,
 ) -> (Event, Option<Running>)
     ensures { IsRead (incoming_of result.0) (supply (I.left input.old) (I.failures input.old)) (supply (I.left input.new) (I.failures input.new)) }

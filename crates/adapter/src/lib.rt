@@ -10,7 +10,6 @@
 
 pub mod arguments;
 mod checking;
-mod counting;
 mod exit_reason;
 mod files;
 mod frames;
@@ -19,12 +18,10 @@ mod listing;
 mod program;
 mod running;
 mod serving;
-mod streams;
-mod transfer;
 
 pub use checking::{CheckFault, check};
+pub use dap_wires::{IoFault, Reading, Sink, Source, Writing, read_beginning};
 pub use exit_reason::{ExitReason, end_of_arguments, end_of_check, end_of_serve};
-pub use files::{FileLoader, read_beginning};
+pub use files::FileLoader;
 pub use program::{execute, run};
 pub use serving::{ServeFault, Served, serve};
-pub use streams::{IoFault, Reading, Sink, Source, Writing};

@@ -1,6 +1,7 @@
 //! The runner, in the thread of the session: one slice at a time.
 
-use crate::counting::next_count;
+ghost use Rattle.std.specs.Prelude.{◌≡◌, ◌+◌};
+
 use dap_session::{Order, OrderFault, Orders};
 use dbg_plan::Mode;
 use dbg_runner::{Considered, Gate, History, Report, next_report};
@@ -50,6 +51,18 @@ pub fn report_next<R: Wait, G: Gate>(
     (report, running)
 }
 
+/// One more. It waits for good where no count is left.
+fn next_count(rt: &impl Wait, count: u64) -> u64
+    ensures { result ≡ count + 1 }
+{
+    for _ in rt.forever() {
+        if let Some(next) = count.checked_add(1) {
+            return next;
+        }
+    }
+    unreachable!()
+}
+
 /// Where the session's orders go: to the run that is on in this thread. It is never full, and never gone.
 #[derive(Drop)]
 pub struct OrdersHere<'a> {
@@ -72,12 +85,16 @@ impl<'a> OrdersHere<'a> {
 }
 
 impl Orders for OrdersHere<'_> {
-    ghost use Rattle.std.specs.Prelude.{map};
+    ghost use Rattle.std.specs.Prelude.{⊤, map};
     ghost use Rattle.dbg_runner.specs.Orders.{plain_order};
 
     ghost seen = { λ s. record { orders = map plain_order s.orders.entries; fulls = 0; refusals = 0 } };
 
     ghost is_full = { λ _. ⊥ };
+
+    ghost Origin = { ⊤ };
+
+    ghost origin = { λ _. tt };
 
     fn push(&mut self, order: Order) -> Result<(), OrderFault> {
         self.orders = self.orders.and(&order);

@@ -37,6 +37,7 @@ pub fn drive<I: Inbox, L: Loader, O: Out, D: Orders>(
         (ports (O.seen out.new) (D.seen orders.new)) }
     ensures inbox { I.origin inbox.new ≡ I.origin inbox.old }
     ensures out { O.origin out.new ≡ O.origin out.old }
+    ensures orders { D.origin orders.new ≡ D.origin orders.old }
 {
     let mut session = Session::new(alloc);
     take_all(rt, &mut session, inbox, loader, out, orders)
@@ -57,6 +58,7 @@ fn take_all<I: Inbox, L: Loader, O: Out, D: Orders>(
         (ports (O.seen out.new) (D.seen orders.new)) }
     ensures inbox { I.origin inbox.new ≡ I.origin inbox.old }
     ensures out { O.origin out.new ≡ O.origin out.old }
+    ensures orders { D.origin orders.new ≡ D.origin orders.old }
 {
     let mut wanted = None;
     for _ in rt.forever() {
@@ -107,7 +109,8 @@ fn lawful(event: Event) -> Event
 
 /// Pushes the order to quit. That it was refused is not reported.
 fn try_quit<D: Orders>(orders: &mut D)
-    ensures { HasTriedQuit (D.seen orders.old) (D.seen orders.new) }
+    ensures quit { HasTriedQuit (D.seen orders.old) (D.seen orders.new) }
+    ensures origin { D.origin orders.new ≡ D.origin orders.old }
 {
     match orders.push(Order::Quit) {
         Ok(()) | Err(OrderFault::Full | OrderFault::Gone) => {}

@@ -65,6 +65,11 @@ pub trait Orders {
     /// There is no room for an order.
     ghost is_full: { Self → Type 0 };
 
+    /// What the port is over, which no call changes.
+    ghost Origin: { Type 0 };
+
+    ghost origin: { Self → Origin };
+
     /// Pushes an order at the end. Each refusal is counted by its kind, and by that alone.
     fn push(&mut self, order: Order) -> Result<(), OrderFault>
         ensures ok { OnOk result ((seen self.new).orders ≡ (seen self.old).orders ++ plain_order order ∷ []) }
@@ -75,7 +80,8 @@ pub trait Orders {
         ensures full_count { result ≡ Err Full → (seen self.old).fulls < (seen self.new).fulls }
         ensures full_refusals { result ≡ Err Full → (seen self.new).refusals ≡ (seen self.old).refusals }
         ensures gone_count { result ≡ Err Gone → (seen self.old).refusals < (seen self.new).refusals }
-        ensures gone_fulls { result ≡ Err Gone → (seen self.new).fulls ≡ (seen self.old).fulls };
+        ensures gone_fulls { result ≡ Err Gone → (seen self.new).fulls ≡ (seen self.old).fulls }
+        ensures origin { origin self.new ≡ origin self.old };
 }
 
 /// Where events come from.

@@ -101,6 +101,7 @@ impl Session {
         ensures quiet { self.old.ending ≢ None → ports (O.seen out.new) (D.seen orders.new) ≡ ports (O.seen out.old) (D.seen orders.old) }
         ensures same { self.old.ending ≢ None → self.new ≡ self.old }
         ensures out { O.origin out.new ≡ O.origin out.old }
+        ensures orders { D.origin orders.new ≡ D.origin orders.old }
     {
         match self.ending {
             Some(Ending::Fault(fault)) => return Err(fault),
@@ -128,6 +129,7 @@ impl Session {
             (ports (O.seen out.new) (D.seen orders.new)) }
         ensures no_memory { LacksMemory (incoming_of event) (launch_of self.old.phase) → result ≡ Err NoMemory }
         ensures out { O.origin out.new ≡ O.origin out.old }
+        ensures orders { D.origin orders.new ≡ D.origin orders.old }
     {
         reading_laws();
         self.take_event(event, out, orders)?;
@@ -149,6 +151,7 @@ impl Session {
         ensures no_memory { LacksMemory (incoming_of event) (launch_of self.old.phase) → result ≡ Err NoMemory }
         ensures well { OnOk result (IsWell self.new.ending) }
         ensures out { O.origin out.new ≡ O.origin out.old }
+        ensures orders { D.origin orders.new ≡ D.origin orders.old }
     {
         reading_laws();
         match event {

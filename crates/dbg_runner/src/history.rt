@@ -16,6 +16,9 @@ impl<T> Model for History<T> {
     ghost also_owns = { λ _. ftrue };
 }
 
+// It has no value of `T`.
+unsafe impl<T> Send for History<T> {}
+
 impl<T> History<T> {
     /// The empty history.
     pub fn new() -> History<T>

@@ -37,7 +37,9 @@ impl<O: OrdersIn + Drop, S: Reports + Drop, G: Gate + Drop> Joined<O, S, G> {
         requires sent { S.sent reports ≡ [] }
         requires handed_back { S.handed_back reports ≡ [] }
         requires passed { G.passed gate ≡ [] }
-        ensures { acts_of result.deeds.entries ≡ [] }
+        ensures acts { acts_of result.deeds.entries ≡ [] }
+        ensures orders { O.origin result.orders ≡ O.origin orders }
+        ensures reports { S.origin result.reports ≡ S.origin reports }
     {
         Joined {
             orders,
@@ -53,6 +55,8 @@ impl<O: OrdersIn + Drop, S: Reports + Drop, G: Gate + Drop> Joined<O, S, G> {
         ensures sent { S.sent result.1 ≡ flat_map sent_in (acts_of self.deeds.entries) }
         ensures handed_back { S.handed_back result.1 ≡ flat_map handed_back_in (acts_of self.deeds.entries) }
         ensures passed { G.passed result.2 ≡ flat_map passed_in (acts_of self.deeds.entries) }
+        ensures orders { O.origin result.0 ≡ O.origin self.orders }
+        ensures reports { S.origin result.1 ≡ S.origin self.reports }
     {
         let Joined {
             orders,
@@ -66,6 +70,10 @@ impl<O: OrdersIn + Drop, S: Reports + Drop, G: Gate + Drop> Joined<O, S, G> {
 
 impl<O: OrdersIn + Drop, S: Reports + Drop, G: Gate + Drop> Ports for Joined<O, S, G> {
     ghost acts = { λ joined. acts_of joined.deeds.entries };
+
+    ghost Origin = { O.Origin × S.Origin };
+
+    ghost origin = { λ joined. (O.origin joined.orders, S.origin joined.reports) };
 
     fn next(&mut self) -> Order {
         let order = self.orders.next();

@@ -13,13 +13,20 @@ pub trait OrdersIn {
     /// The orders that were taken, the oldest first.
     ghost taken: { Self → List PlainOrder };
 
+    /// What the port is over, which no call changes.
+    ghost Origin: { Type 0 };
+
+    ghost origin: { Self → Origin };
+
     /// Waits for the next order, and takes it.
     fn next(&mut self) -> Order
-        ensures { taken self.new ≡ taken self.old ++ plain_order result ∷ [] };
+        ensures taken { taken self.new ≡ taken self.old ++ plain_order result ∷ [] }
+        ensures origin { origin self.new ≡ origin self.old };
 
     /// Takes the next order, if one is there.
     fn poll(&mut self) -> Option<Order>
-        ensures { taken self.new ≡ taken self.old ++ option_to_list (option_map plain_order result) };
+        ensures taken { taken self.new ≡ taken self.old ++ option_to_list (option_map plain_order result) }
+        ensures origin { origin self.new ≡ origin self.old };
 }
 
 /// Where the runner's reports go.
@@ -34,13 +41,19 @@ pub trait Reports {
     /// The reports that were handed back, the oldest first.
     ghost handed_back: { Self → List PlainReport };
 
+    /// What the port is over, which no call changes.
+    ghost Origin: { Type 0 };
+
+    ghost origin: { Self → Origin };
+
     /// Sends a report, or hands it back.
     fn send(&mut self, report: Report) -> Result<(), Report>
         ensures sends { OnOk result (sent self.new ≡ sent self.old ++ plain_report report ∷ []) }
         ensures keeps_refused { OnOk result (handed_back self.new ≡ handed_back self.old) }
         ensures refuses { OnErr result (handed_back self.new ≡ handed_back self.old ++ plain_report report ∷ []) }
         ensures keeps_sent { OnErr result (sent self.new ≡ sent self.old) }
-        ensures back { IfErr result (λ back. back ≡ report) };
+        ensures back { IfErr result (λ back. back ≡ report) }
+        ensures origin { origin self.new ≡ origin self.old };
 }
 
 /// What the runner's slices wait for.

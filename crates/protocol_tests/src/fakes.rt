@@ -84,12 +84,16 @@ pub struct OrdersPushed<'a, R: Abort> {
 }
 
 impl<R: Abort> Orders for OrdersPushed<'_, R> {
-    ghost use Rattle.std.specs.Prelude.{◌≤◌, map, vec_len};
+    ghost use Rattle.std.specs.Prelude.{◌≤◌, ℕ, map, vec_len};
     ghost use Rattle.dbg_runner.specs.Orders.{plain_order};
 
     ghost seen = { λ s. record { orders = map plain_order s.orders.items; fulls = s.fulls; refusals = s.refusals } };
 
     ghost is_full = { λ s. s.room ≤ vec_len s.orders };
+
+    ghost Origin = { ℕ };
+
+    ghost origin = { λ _. 0 };
 
     fn push(&mut self, order: Order) -> Result<(), OrderFault> {
         if self.orders.len() >= self.room {

@@ -170,7 +170,7 @@ impl<'a, R: Abort> Client<'a, R> {
 }
 
 impl<R: Abort> Inbox for Client<'_, R> {
-    ghost use Rattle.std.specs.Prelude.{map, ℕ};
+    ghost use Rattle.std.specs.Prelude.{ℕ, map};
     ghost use Rattle.dap_session.specs.Incoming.{incoming_of};
 
     ghost given = { λ s. map incoming_of s.history.entries };
@@ -262,12 +262,16 @@ fn shown(alloc: Global, order: &Order) -> Result<String, AllocError> {
 }
 
 impl<R: Abort> Orders for Pushed<'_, R> {
-    ghost use Rattle.std.specs.Prelude.{map};
+    ghost use Rattle.std.specs.Prelude.{ℕ, map};
     ghost use Rattle.dbg_runner.specs.Orders.{plain_order};
 
     ghost seen = { λ s. record { orders = map plain_order s.orders.entries; fulls = 0; refusals = 0 } };
 
     ghost is_full = { λ _. ⊥ };
+
+    ghost Origin = { ℕ };
+
+    ghost origin = { λ _. 0 };
 
     fn push(&mut self, order: Order) -> Result<(), OrderFault> {
         self.orders = self.orders.and(&order);

@@ -11,10 +11,14 @@ pub struct Queue {
 }
 
 impl OrdersIn for Queue {
-    ghost use Rattle.std.specs.Prelude.{map};
+    ghost use Rattle.std.specs.Prelude.{ℕ, map};
     ghost use Rattle.dbg_runner.specs.Orders.{plain_order};
 
     ghost taken = { λ queue. map plain_order queue.taken.entries };
+
+    ghost Origin = { ℕ };
+
+    ghost origin = { λ _. 0 };
 
     fn next(&mut self) -> Order {
         let order = self.orders.pop_front().unwrap_or(Order::Quit);
@@ -39,12 +43,16 @@ pub struct Last {
 }
 
 impl Reports for Last {
-    ghost use Rattle.std.specs.Prelude.{[], map};
+    ghost use Rattle.std.specs.Prelude.{[], ℕ, map};
     ghost use Rattle.dbg_runner.specs.Reported.{plain_report};
 
     ghost sent = { λ last. map plain_report last.sent.entries };
 
     ghost handed_back = { λ _. [] };
+
+    ghost Origin = { ℕ };
+
+    ghost origin = { λ _. 0 };
 
     fn send(&mut self, report: Report) -> Result<(), Report> {
         self.sent = self.sent.and(&report);

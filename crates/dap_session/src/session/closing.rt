@@ -1,5 +1,6 @@
 // How a session closes where its input does.
 
+ghost use Rattle.std.specs.Prelude.{◌≡◌};
 ghost use Rattle.dap_session.specs.Handling.{PushesQuit};
 
 use super::Session;
@@ -20,6 +21,7 @@ impl Session {
     ) -> Result<(), SessionFault>
         ensures quits { PushesQuit result (D.seen orders.old) (D.seen orders.new) }
         ensures ending { OnOk result (self.new.ending ≡ Some (ending.Closed closed)) }
+        ensures orders { D.origin orders.new ≡ D.origin orders.old }
     {
         quit(orders)?;
         self.ending = Some(Ending::Closed(closed));
@@ -29,7 +31,8 @@ impl Session {
 
 /// Pushes the order to quit.
 fn quit<D: Orders>(orders: &mut D) -> Result<(), SessionFault>
-    ensures { PushesQuit result (D.seen orders.old) (D.seen orders.new) }
+    ensures quits { PushesQuit result (D.seen orders.old) (D.seen orders.new) }
+    ensures origin { D.origin orders.new ≡ D.origin orders.old }
 {
     match orders.push(Order::Quit) {
         Ok(()) => Ok(()),

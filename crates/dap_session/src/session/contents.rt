@@ -39,6 +39,7 @@ impl Session {
             (ports (O.seen out.new) (D.seen orders.new)) }
         ensures well { OnOk result (IsWell self.new.ending) }
         ensures out { O.origin out.new ≡ O.origin out.old }
+        ensures orders { D.origin orders.new ≡ D.origin orders.old }
     {
         let Ok(()) = self.decoder.feed(piece) else {
             return Err(SessionFault::NoMemory);
@@ -69,6 +70,7 @@ impl Session {
             (ports (O.seen out.new) (D.seen orders.new)) }
         ensures well { OnOk result (IsWell self.new.ending) }
         ensures out { O.origin out.new ≡ O.origin out.old }
+        ensures orders { D.origin orders.new ≡ D.origin orders.old }
     {
         reading_laws();
         while self.ending.is_none() && !self.waits() {
@@ -97,6 +99,7 @@ impl Session {
         ensures stream { self.new.stream ≡ self.old.stream }
         ensures well { OnOk result (IsWell self.new.ending) }
         ensures out { O.origin out.new ≡ O.origin out.old }
+        ensures orders { D.origin orders.new ≡ D.origin orders.old }
     {
         message_laws();
         match read(self.alloc, content) {

@@ -42,6 +42,7 @@ impl Session {
         ensures no_memory { LacksMemory (File (plain_file file)) (launch_of self.old.phase) → result ≡ Err NoMemory }
         ensures well { OnOk result (IsWell self.new.ending) }
         ensures out { O.origin out.new ≡ O.origin out.old }
+        ensures orders { D.origin orders.new ≡ D.origin orders.old }
     {
         let Some((settings, launch)) = self.take_launch() else {
             return Ok(());
@@ -84,6 +85,7 @@ impl Session {
         ensures stream { self.new.stream ≡ self.old.stream }
         ensures ending { self.new.ending ≡ None }
         ensures out { O.origin out.new ≡ O.origin out.old }
+        ensures orders { D.origin orders.new ≡ D.origin orders.old }
     {
         reading_laws();
         let request_seq = launch.seq;

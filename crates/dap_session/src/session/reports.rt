@@ -35,6 +35,7 @@ impl Session {
             (ports (O.seen out.new) (D.seen orders.new)) }
         ensures well { OnOk result (IsWell self.new.ending) }
         ensures out { O.origin out.new ≡ O.origin out.old }
+        ensures orders { D.origin orders.new ≡ D.origin orders.old }
     {
         let Some((target, run)) = self.take_run(&report) else {
             return Ok(());
@@ -80,6 +81,7 @@ impl Session {
         ensures stream { self.new.stream ≡ self.old.stream }
         ensures ending { self.new.ending ≡ None }
         ensures out { O.origin out.new ≡ O.origin out.old }
+        ensures orders { D.origin orders.new ≡ D.origin orders.old }
     {
         reading_laws();
         if let SliceOutcome::NoMemory = report.outcome() {

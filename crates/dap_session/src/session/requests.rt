@@ -39,6 +39,7 @@ impl Session {
         ensures stream { self.new.stream ≡ self.old.stream }
         ensures well { OnOk result (IsWell self.new.ending) }
         ensures out { O.origin out.new ≡ O.origin out.old }
+        ensures orders { D.origin orders.new ≡ D.origin orders.old }
     {
         let Request { seq, body } = request;
         match (mem::replace(&mut self.phase, Phase::Fresh), body) {
@@ -68,6 +69,7 @@ impl Session {
         ensures stream { self.new.stream ≡ self.old.stream }
         ensures well { OnOk result (IsWell self.new.ending) }
         ensures out { O.origin out.new ≡ O.origin out.old }
+        ensures orders { D.origin orders.new ≡ D.origin orders.old }
     {
         reading_laws();
         let Ok(Reply { result, effect }) = reply(self.alloc, phase, &request.body) else {

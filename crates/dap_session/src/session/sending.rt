@@ -56,6 +56,7 @@ impl Session {
         ensures stream { self.new.stream ≡ self.old.stream }
         ensures ending { self.new.ending ≡ self.old.ending }
         ensures out { O.origin out.new ≡ O.origin out.old }
+        ensures orders { D.origin orders.new ≡ D.origin orders.old }
     {
         reading_laws();
         let Effect {
@@ -166,6 +167,7 @@ fn push<D: Orders>(order: Option<Order>, orders: &mut D) -> Result<(), SessionFa
     ensures ok_gone { OnOk result ((D.seen orders.new).refusals ≡ (D.seen orders.old).refusals) }
     ensures ok_full { OnOk result ((D.seen orders.new).fulls ≡ (D.seen orders.old).fulls) }
     ensures err { IfErr result (λ fault. IsNotPushed fault (D.seen orders.old) (D.seen orders.new)) }
+    ensures origin { D.origin orders.new ≡ D.origin orders.old }
 {
     let Some(order) = order else {
         return Ok(());

@@ -17,10 +17,14 @@ pub struct Script {
 }
 
 impl OrdersIn for Script {
-    ghost use Rattle.std.specs.Prelude.{map};
+    ghost use Rattle.std.specs.Prelude.{ℕ, map};
     ghost use Rattle.dbg_runner.specs.Orders.{plain_order};
 
     ghost taken = { λ script. map plain_order script.taken.entries };
+
+    ghost Origin = { ℕ };
+
+    ghost origin = { λ _. 0 };
 
     fn next(&mut self) -> Order {
         let order = match self.debuggee.take() {
@@ -60,12 +64,16 @@ pub struct Tray<'a, R: Abort> {
 }
 
 impl<R: Abort> Reports for Tray<'_, R> {
-    ghost use Rattle.std.specs.Prelude.{map};
+    ghost use Rattle.std.specs.Prelude.{ℕ, map};
     ghost use Rattle.dbg_runner.specs.Reported.{plain_report};
 
     ghost sent = { λ tray. map plain_report tray.sent.entries };
 
     ghost handed_back = { λ tray. map plain_report tray.handed_back.entries };
+
+    ghost Origin = { ℕ };
+
+    ghost origin = { λ _. 0 };
 
     fn send(&mut self, report: Report) -> Result<(), Report> {
         if self.reports.len() >= self.room {

@@ -2,7 +2,7 @@ use Rattle.std.proofs.Common.{refl, map, ap, ◌∙◌, []}
 use Rattle.dbg_runner.specs.Orders.{plain_order}
 use Rattle.dap_session.specs.Incoming.{incoming_of}
 use Rattle.dap_session.specs.Ports.{ports}
-use Rattle.adapter.specs.Transfer.{supply, output}
+use Rattle.dap_wires.specs.Transfer.{supply, output}
 use Rattle.adapter.specs.Serving.{streams}
 use Rattle.adapter.proofs.Exchanged.{plain}
 use Rattle.adapter.proofs.Carried.{carried}

@@ -12,7 +12,7 @@ returns-in-NoMemory-clause-comes g c = λ past taking is_phase seq_is. fails_bef
 
 pub returns-in_default-report : goal.returns-in_default-report
 returns-in_default-report g c =
-    record { comes = λ past taking is_phase seq_is. fails_before past _ _; stream = refl; ending = c.requires.taking; out = refl }
+    record { comes = λ past taking is_phase seq_is. fails_before past _ _; stream = refl; ending = c.requires.taking; out = refl; orders = refl }
 
 pub returns-clause-comes : goal.returns-clause-comes
 returns-clause-comes g c = λ past taking is_phase seq_is.

@@ -1,0 +1,138 @@
+-- What was written of some bytes so far.
+use Rattle.std.proofs.Common.{◌≡◌, ◌<◌, ◌+◌, ℕ, List, [], ◌∷◌, ◌++◌, Option, refl, sym, ◌∙◌, ap, subst, append_assoc, append-nil, take, drop, length, get_or, ◌≤◌, arith, add-one}
+use Rattle.std.specs.Prelude.{map}
+use Rattle.std.specs.List.{concat}
+use Rattle.std.specs.Io.KnownBytes.{Keeps, Appends, Consumes, IsAtEnd}
+use Rattle.std.proofs.Math.Seq.{take-suc}
+use Rattle.std.proofs.lemmas.List.{take-append-drop, map-append, length-take, take_all}
+use Rattle.std.proofs.lemmas.List.Folds.{concat-append}
+use Rattle.dap_wires.specs.Transfer.{AppendsPart, BeginsWith}
+use Rattle.dap_wires.proofs.Known.{appends_none, appends_both, appends_keep, consumes_after, consumes_both, keeps_consumes}
+
+-- the front of these bytes was written, and this rest is left
+pub record Partly (whole rest : List ℕ) (old later : Option (List ℕ)) : Type 0 where
+  pub front : List ℕ
+  pub whole_is : whole ≡ front ++ rest
+  pub written : Appends old later front
+
+pub partly_begins : (whole : List ℕ) (old : Option (List ℕ)) → Partly whole whole old old
+partly_begins whole old = record { front = []; whole_is = refl; written = appends_none old }
+
+pub partly_goes_on : (whole rest shorter : List ℕ) (old mid later : Option (List ℕ)) (n : ℕ) → Partly whole rest old mid → Appends mid later (take n rest) → shorter ≡ drop n rest → Partly whole shorter old later
+partly_goes_on whole rest shorter old mid later n p wrote shorter_is = record {
+  front = p.front ++ take n rest;
+  whole_is = p.whole_is ∙ (ap (λ l. p.front ++ l) (sym (take-append-drop n rest) ∙ ap (λ l. take n rest ++ l) (sym shorter_is)) ∙ sym (append_assoc p.front (take n rest) shorter));
+  written = appends_both old mid later p.front (take n rest) p.written wrote;
+}
+
+pub partly_keeps : (whole rest : List ℕ) (old mid later : Option (List ℕ)) → Partly whole rest old mid → Keeps mid later → Partly whole rest old later
+partly_keeps whole rest old mid later p keeps = record { front = p.front; whole_is = p.whole_is; written = appends_keep old mid later p.front p.written keeps }
+
+pub partly_stops : (whole rest : List ℕ) (old later : Option (List ℕ)) → Partly whole rest old later → AppendsPart old later whole
+partly_stops whole rest old later p = (p.front, p.written, (rest, sym p.whole_is))
+
+pub partly_ends : (whole rest : List ℕ) (old later : Option (List ℕ)) → Partly whole rest old later → rest ≡ [] → Appends old later whole
+partly_ends whole rest old later p none = subst (Appends old later) (sym (p.whole_is ∙ (ap (λ l. p.front ++ l) none ∙ append-nil p.front))) p.written
+
+-- one frame more behind those before
+pub part_of_more : (old mid later : Option (List ℕ)) (before bytes behind : List ℕ) → Appends old mid before → AppendsPart mid later bytes → AppendsPart old later (before ++ (bytes ++ behind))
+part_of_more old mid later before bytes behind wrote part = (
+  before ++ part.0,
+  appends_both old mid later before part.0 wrote part.1,
+  (
+    part.2.0 ++ behind,
+    append_assoc before part.0 (part.2.0 ++ behind)
+        ∙ ap (λ l. before ++ l) (sym (append_assoc part.0 part.2.0 behind) ∙ ap (λ l. l ++ behind) part.2.1),
+  ),
+)
+
+-- a read that gave nothing, with room for some
+pub read_ends : (old mid later : Option (List ℕ)) (n : ℕ) (room : List ℕ) → Keeps old mid → Consumes mid later (take n room) × (n ≡ 0 → 0 < length room → IsAtEnd later) → n ≡ 0 → 0 < length room
+    → Consumes old later [] × IsAtEnd later
+read_ends old mid later n room keeps got none some =
+    (consumes_after old mid later [] keeps (subst (λ k. Consumes mid later (take k room)) none got.0), got.1 none some)
+
+-- a read that gave some
+pub read_gives : (old mid later : Option (List ℕ)) (n : ℕ) (room piece : List ℕ) → Keeps old mid → Consumes mid later (take n room) × (n ≡ 0 → 0 < length room → IsAtEnd later) → piece ≡ take n room
+    → Consumes old later piece
+read_gives old mid later n room piece keeps got is =
+    consumes_after old mid later piece keeps (subst (Consumes mid later) (sym is) got.0)
+
+-- what was read, put behind nothing
+pub read_alone : (n : ℕ) (room before piece : List ℕ) → piece ≡ before ++ take n room → before ≡ [] → piece ≡ take n room
+read_alone n room before piece is none = is ∙ ap (λ l. l ++ take n room) none
+
+pub piece_short : (n size : ℕ) (room piece : List ℕ) → piece ≡ take n room → length room ≡ size → length piece ≤ size
+piece_short n size room piece is room_is =
+    let e = ap length is in let l = length-take n room in omega (arith, e, l, room_is)
+
+-- what a read gave is not empty, unless it gave no byte
+pub piece_some : (n : ℕ) (room piece : List ℕ) → piece ≡ take n room → (n ≡ 0 → ⊥) → n ≤ length room → 0 < length piece
+piece_some n room piece is some within =
+    let e = ap length is in let l = length-take n room in omega (arith, e, l, some, within)
+
+-- ---- frames, one after another
+
+concat_map-append : {A : Type 0} (f : A → List ℕ) (xs ys : List A) → concat (map f (xs ++ ys)) ≡ concat (map f xs) ++ concat (map f ys)
+concat_map-append f xs ys = ap concat (map-append f xs ys) ∙ concat-append (map f xs) (map f ys)
+
+pub concat_map-next : {A : Type 0} (f : A → List ℕ) (xs : List A) (i : ℕ) (x : A) → i < length xs → x ≡ get_or xs i x
+    → concat (map f (take (i + 1) xs)) ≡ concat (map f (take i xs)) ++ f x
+concat_map-next f xs i x within is =
+    ap (λ k. concat (map f (take k xs))) (add-one i)
+    ∙ ap (λ l. concat (map f l)) (take-suc xs i x within)
+    ∙ concat_map-append f (take i xs) (get_or xs i x ∷ [])
+    ∙ ap (λ l. concat (map f (take i xs)) ++ l) (append-nil (f (get_or xs i x)) ∙ ap f (sym is))
+
+-- the frame at i was written in part
+pub frames_stop : {A : Type 0} (f : A → List ℕ) (xs : List A) (i : ℕ) (x : A) (old mid later : Option (List ℕ)) → i < length xs → x ≡ get_or xs i x
+    → Appends old mid (concat (map f (take i xs))) → AppendsPart mid later (f x) → AppendsPart old later (concat (map f xs))
+frames_stop f xs i x old mid later within is wrote part =
+    subst (AppendsPart old later) (sym whole) (part_of_more old mid later (concat (map f (take i xs))) (f x) (concat (map f (drop (i + 1) xs))) wrote part)
+  where
+    whole : concat (map f xs) ≡ concat (map f (take i xs)) ++ (f x ++ concat (map f (drop (i + 1) xs)))
+    whole =
+        ap (λ l. concat (map f l)) (sym (take-append-drop (i + 1) xs))
+        ∙ concat_map-append f (take (i + 1) xs) (drop (i + 1) xs)
+        ∙ ap (λ l. l ++ concat (map f (drop (i + 1) xs))) (concat_map-next f xs i x within is)
+        ∙ append_assoc (concat (map f (take i xs))) (f x) (concat (map f (drop (i + 1) xs)))
+
+pub frames_go_on : {A : Type 0} (f : A → List ℕ) (xs : List A) (i : ℕ) (x : A) (old mid later : Option (List ℕ)) → i < length xs → x ≡ get_or xs i x
+    → Appends old mid (concat (map f (take i xs))) → Appends mid later (f x) → Appends old later (concat (map f (take (i + 1) xs)))
+frames_go_on f xs i x old mid later within is wrote more =
+    subst (Appends old later) (sym (concat_map-next f xs i x within is)) (appends_both old mid later (concat (map f (take i xs))) (f x) wrote more)
+
+-- ---- the first bytes of a source
+
+-- all of them, where a read gave none
+pub begins_whole : (bytes : List ℕ) (old mid later : Option (List ℕ)) (n : ℕ) (room : List ℕ) → Consumes old mid bytes
+    → Consumes mid later (take n room) × (n ≡ 0 → 0 < length room → IsAtEnd later) → n ≡ 0 → 0 < length room → length bytes ≤ 65537
+    → BeginsWith bytes old later
+begins_whole bytes old mid later n room before got none some short = record {
+  read = bytes;
+  consumed = subst (Consumes old later) (append-nil bytes)
+      (consumes_both old mid later bytes [] before (subst (λ k. Consumes mid later (take k room)) none got.0));
+  bytes_are = sym (take_all 65537 bytes short);
+  whole = λ less. got.1 none some;
+}
+
+-- as many of them as are wanted
+pub begins_cut : (all bytes : List ℕ) (old later : Option (List ℕ)) → Consumes old later all → bytes ≡ take 65537 all → 65537 ≤ length all
+    → BeginsWith bytes old later
+begins_cut all bytes old later consumed is long = record {
+  read = all;
+  consumed = consumed;
+  bytes_are = is;
+  whole = λ less. let e = ap length is in let l = length-take 65537 all in absurd (omega (arith, e, l, less, long));
+}
+
+-- more of them
+pub begins_more : (bytes more : List ℕ) (old mid later : Option (List ℕ)) (n : ℕ) (room : List ℕ) → Consumes old mid bytes
+    → Consumes mid later (take n room) → more ≡ bytes ++ take n room → Consumes old later more
+begins_more bytes more old mid later n room before got is =
+    subst (Consumes old later) (sym is) (consumes_both old mid later bytes (take n room) before got)
+
+-- the same after a read that gave nothing
+pub begins_kept : (bytes : List ℕ) (old mid later : Option (List ℕ)) → Consumes old mid bytes → Keeps mid later → Consumes old later bytes
+begins_kept bytes old mid later before kept =
+    subst (Consumes old later) (append-nil bytes) (consumes_both old mid later bytes [] before (keeps_consumes mid later kept))

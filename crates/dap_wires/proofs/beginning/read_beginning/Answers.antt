@@ -1,0 +1,13 @@
+use Rattle.std.proofs.Common.{◌<◌, ◌≤◌, length, arith}
+use Rattle.dap_wires.proofs.Transferring.{begins_whole}
+use Rattle.dap_wires.proofs.beginning.read_beginning.Goals as goal
+
+pub returns-in-Ok-eq0-clause-bytes : goal.returns-in-Ok-eq0-clause-bytes
+returns-in-Ok-eq0-clause-bytes g c =
+    let size = c.loop.invariant.2 in
+    let kept = c.read.auto.room in
+    let room : 0 < length c.read.new.room = omega (arith, size, kept) in
+    let count = c.len.ensures in
+    let few = c.if-len-ge-MOST.false in
+    let short : length c.loop.bytes.items ≤ 65537 = omega (arith, count, few) in
+    begins_whole _ _ _ _ _ c.read.new.room c.loop.invariant.0 c.in-Ok-eq0.ensures.bytes c.in-Ok-eq0.field-0-test room short

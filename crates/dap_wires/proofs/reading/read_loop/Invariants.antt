@@ -1,0 +1,14 @@
+use Rattle.std.proofs.Common.{◌≡◌}
+use Rattle.dap_wires.specs.Inbox.{client_events, client_home}
+use Rattle.dap_wires.specs.Transfer.{supply}
+use Rattle.dap_wires.proofs.ReadSoFar.{ReadSoFar}
+use Rattle.dap_wires.proofs.reading.read_loop.Given as goal
+
+abbrev pub invariant-loop : goal.invariant-loop
+invariant-loop g l =
+    ReadSoFar
+    (client_events l.initial.inbox)
+    (client_events l.inbox)
+    (supply (g.I.Source.left l.initial.input) (g.I.Source.failures l.initial.input))
+    (supply (g.I.Source.left l.input) (g.I.Source.failures l.input))
+    × (client_home l.inbox ≡ client_home l.initial.inbox)

@@ -1,0 +1,79 @@
+-- The rule of a queue, whoever puts and takes between two moments: what was taken and then what is inside is, of each sender,
+-- what it put, in its order.
+use Rattle.std.specs.Prelude.{◌≡◌, ℕ, Bool, true, false, not, cond, List, [], ◌∷◌, ◌++◌, filter}
+use mathlib.Core.Option.{some}
+use lib.ListN.{get_elem?}
+use Rattle.dap_wires.specs.declared.end_log.EndLog.{EndLog}
+
+module _ {M : Type 0} where
+  abbrev pub log : Bool → Bool → Bool → List M → List M → List M → EndLog M
+  log first second takes put_first put_second taken =
+      record { first = first; second = second; takes = takes; put_first = put_first; put_second = put_second; taken = taken }
+
+  module _ (by_second : M → Bool) where
+    -- what each sender sent of these messages
+    abbrev pub of_first : List M → List M
+    of_first ms = filter (λ m. not (by_second m)) ms
+
+    abbrev pub of_second : List M → List M
+    of_second ms = filter by_second ms
+
+    -- An end that puts, as one sender or the other, knows all that this sender put; the one that takes knows all that was taken.
+    pub record Fits (one two taker : ℕ) (taken inside : List M) (end : ℕ) (v : EndLog M) : Type 0 where
+      pub first : v.first ≡ true → (end ≡ one) × (v.put_first ≡ of_first (taken ++ inside))
+      pub second : v.second ≡ true → (end ≡ two) × (v.put_second ≡ of_second (taken ++ inside))
+      pub takes : v.takes ≡ true → (end ≡ taker) × (v.taken ≡ taken)
+
+    -- At most one end puts as the first sender, one as the second, and one takes; these messages are inside.
+    pub record Delivers (inside : List M) (logs : List (EndLog M)) : Type 0 where
+      pub one : ℕ
+      pub two : ℕ
+      pub taker : ℕ
+      pub taken : List M
+      pub each : (end : ℕ) (v : EndLog M) → get_elem? logs end ≡ some v → Fits one two taker taken inside end v
+
+    -- the end may put this message
+    abbrev pub May : EndLog M → M → Type 0
+    May v m = cond (by_second m) v.second v.first ≡ true
+
+    -- after a message was put
+    abbrev pub put : EndLog M → M → EndLog M
+    put v m = log v.first v.second v.takes (v.put_first ++ of_first (m ∷ [])) (v.put_second ++ of_second (m ∷ [])) v.taken
+
+    -- at one moment these messages were inside, after some that had been taken
+    abbrev pub WasInside : EndLog M → List M → Type 0
+    WasInside v inside =
+        (taken : List M)
+        × (v.first ≡ true → v.put_first ≡ of_first (taken ++ inside))
+        × (v.second ≡ true → v.put_second ≡ of_second (taken ++ inside))
+
+    -- what was put is what was taken and what is inside
+    abbrev pub Balances : EndLog M → List M → Type 0
+    Balances v inside = (v.put_first ≡ of_first (v.taken ++ inside)) × (v.put_second ≡ of_second (v.taken ++ inside))
+
+  -- after a message was taken
+  abbrev pub took : EndLog M → M → EndLog M
+  took v m = log v.first v.second v.takes v.put_first v.put_second (v.taken ++ m ∷ [])
+
+  -- ---- ends that give a right away, and get it back
+
+  abbrev pub only_first : EndLog M → EndLog M
+  only_first v = log v.first false false v.put_first [] []
+
+  abbrev pub only_second : EndLog M → EndLog M
+  only_second v = log false v.second false [] v.put_second []
+
+  abbrev pub without_first : EndLog M → EndLog M
+  without_first v = log false v.second v.takes [] v.put_second v.taken
+
+  abbrev pub without_second : EndLog M → EndLog M
+  without_second v = log v.first false v.takes v.put_first [] v.taken
+
+  abbrev pub idle : EndLog M
+  idle = log false false false [] [] []
+
+  abbrev pub with_first : EndLog M → EndLog M → EndLog M
+  with_first v w = log true v.second v.takes w.put_first v.put_second v.taken
+
+  abbrev pub with_second : EndLog M → EndLog M → EndLog M
+  with_second v w = log v.first true v.takes v.put_first w.put_second v.taken

@@ -1,0 +1,34 @@
+-- What clauses say of the ends of a queue.
+use Rattle.atomic_table.specs.declared.badge.Badge.{Badge}
+use Rattle.atomic_table.specs.Seated.{TableId}
+use Rattle.crossbeam_channel.specs.declared.flavors.array.Key.{Key}
+use Rattle.crossbeam_channel.specs.Claims.{view}
+use Rattle.dap_wires.specs.declared.end_log.EndLog.{EndLog}
+use Rattle.dap_wires.specs.declared.ends.SendEnd.{SendEnd}
+use Rattle.dap_wires.specs.declared.ends.ReceiveEnd.{ReceiveEnd}
+use Rattle.dap_wires.specs.declared.ends.Receipt.{Receipt}
+
+-- which queue an end belongs to
+abbrev pub Home : Type 0 → Type 0
+Home M = TableId × Badge (Key M)
+
+module _ {M R : Type 0} where
+  -- what was done at an end
+  abbrev pub sender_log : SendEnd M R → EndLog M
+  sender_log e = view e.pass
+
+  abbrev pub receiver_log : ReceiveEnd M R → EndLog M
+  receiver_log e = view e.pass
+
+  abbrev pub sender_home : SendEnd M R → Home M
+  sender_home e = (e.pass.table_id, e.pass.me.0.of)
+
+  abbrev pub receiver_home : ReceiveEnd M R → Home M
+  receiver_home e = (e.pass.table_id, e.pass.me.0.of)
+
+module _ {M : Type 0} where
+  abbrev pub receipt_log : Receipt M → EndLog M
+  receipt_log r = view r.pass
+
+  abbrev pub receipt_home : Receipt M → Home M
+  receipt_home r = (r.pass.table_id, r.pass.me.0.of)

@@ -1,0 +1,33 @@
+-- What went through a queue of orders, as plain data.
+use Rattle.std.specs.Prelude.{◌≡◌, List, length, map, ◌++◌}
+use Rattle.atomic_table.specs.Seated.{TableId}
+use Rattle.crossbeam_queue.specs.Passes.{view}
+use Rattle.dbg_runner.specs.declared.order.Order.{Order}
+use Rattle.dbg_runner.specs.Orders.{plain_order}
+use Rattle.dbg_runner.specs.Plain.{PlainOrder}
+use Rattle.dap_session.specs.Ports.{Ordered}
+use Rattle.dap_wires.specs.declared.order_ends.OrderSender.{OrderSender}
+use Rattle.dap_wires.specs.declared.order_ends.OrderReceiver.{OrderReceiver}
+
+module _ {R : Type 0} where
+  -- the orders that the session pushed, and how often it found the queue full; the runner is never gone
+  abbrev pub pushed_orders : OrderSender R → Ordered
+  pushed_orders e = record { orders = map plain_order (view e.pass).put_first; fulls = length e.fulls.entries; refusals = 0 }
+
+  -- four orders that were pushed were inside together
+  pub record WasFull (e : OrderSender R) : Type 0 where
+    pub taken : List Order
+    pub inside : List Order
+    pub pushed_are : (view e.pass).put_first ≡ taken ++ inside
+    pub four : length inside ≡ 4
+
+  -- the orders that the runner took
+  abbrev pub taken_orders : OrderReceiver R → List PlainOrder
+  taken_orders e = map plain_order (view e.pass).taken
+
+  -- which queue an end belongs to
+  abbrev pub push_home : OrderSender R → TableId
+  push_home e = e.pass.table_id
+
+  abbrev pub pop_home : OrderReceiver R → TableId
+  pop_home e = e.pass.table_id

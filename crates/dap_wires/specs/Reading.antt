@@ -1,0 +1,37 @@
+-- What a reader sends until it ends.
+use Rattle.std.specs.Prelude.{◌≡◌, ◌++◌, ◌∷◌, [], ℕ, List, map, Option, Some, None}
+use Rattle.dap_history.specs.Events.{Incoming, Piece, End, ReadFailed, File, Report}
+use Rattle.dap_history.specs.Events.{NoMemory as NoMemoryCame}
+use Rattle.dap_wires.specs.declared.reading.ReadEnd.{ReadEnd}
+use Rattle.dap_wires.specs.declared.reading.ReadEnd.TheVariants.{Ended, Failed, NoMemory, HandedBack}
+use Rattle.dap_wires.specs.Transfer.{Supply, IsRead, AreRead}
+
+-- what is sent last
+abbrev pub last_of : ReadEnd → List Incoming
+last_of Ended = End ∷ []
+last_of Failed = ReadFailed ∷ []
+last_of NoMemory = NoMemoryCame ∷ []
+last_of HandedBack = []
+
+-- an event that was handed back was read all the same
+abbrev pub Loses : ReadEnd → Supply → Supply → Type 0
+Loses HandedBack mid later = (event : Incoming) × IsRead event mid later
+Loses _ mid later = later ≡ mid
+
+-- Pieces were sent, and then what ended the input, or nothing where the last event was handed back. All that was read was
+-- sent, but for that one.
+pub record IsReadUntil (end : ReadEnd) (sent : List Incoming) (old later : Supply) : Type 0 where
+  pub pieces : List (List ℕ)
+  pub sent_are : sent ≡ map Piece pieces ++ last_of end
+  pub mid : Supply
+  pub read : AreRead sent old mid
+  pub loses : Loses end mid later
+
+-- how reading ends by this event, if it does
+abbrev pub end_by : Incoming → Option ReadEnd
+end_by (Piece bytes) = None
+end_by End = Some Ended
+end_by ReadFailed = Some Failed
+end_by NoMemoryCame = Some NoMemory
+end_by (File file) = None
+end_by (Report r) = None

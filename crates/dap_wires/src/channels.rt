@@ -1,0 +1,108 @@
+// A queue of two senders and one receiver.
+
+ghost use Rattle.std.specs.Prelude.{◌≡◌, ◌<◌, true, false, [], IfOk, IfErr, OnOk, OnErr, IfSome, IfNone, List, ◌++◌};
+ghost use Rattle.dap_wires.specs.Delivery.{log, put, took, May, of_first, of_second};
+ghost use Rattle.dap_wires.specs.Ends.{sender_log, receiver_log, receipt_log, sender_home, receiver_home, receipt_home};
+
+use crate::ends::{Receipt, ReceiveEnd, SendEnd};
+use crate::rule::{First, Puts, Second, Sent, Takes, Whole};
+use crossbeam_channel::{SendError, bounded_with};
+use std::alloc::{AllocError, Global};
+use std::sync::Wait;
+
+/// A queue with room for `capacity` messages: the ends of the first sender, of the second, and of the receiver.
+pub fn channel<M: Sent + Drop, R: Wait + Copy + Drop>(
+    rt: R,
+    alloc: Global,
+    capacity: usize,
+) -> Result<(SendEnd<M, R>, SendEnd<M, R>, ReceiveEnd<M, R>), AllocError>
+    requires { 0 < capacity }
+    ensures first { IfOk result (λ r. sender_log r.0 ≡ log true false false [] [] []) }
+    ensures second { IfOk result (λ r. sender_log r.1 ≡ log false true false [] [] []) }
+    ensures receiver { IfOk result (λ r. receiver_log r.2 ≡ log false false true [] [] []) }
+    ensures one { IfOk result (λ r. (sender_home r.1 ≡ sender_home r.0) × (receiver_home r.2 ≡ sender_home r.0)) }
+{
+    let (sender, receiver, mut pass) = bounded_with(alloc, capacity)?;
+    let first = sender.another::<First>(&mut pass);
+    let second = sender.another::<Second>(&mut pass);
+    let other = sender.try_clone()?;
+    Ok((
+        SendEnd {
+            rt,
+            sender,
+            pass: first,
+        },
+        SendEnd {
+            rt,
+            sender: other,
+            pass: second,
+        },
+        ReceiveEnd { rt, receiver, pass },
+    ))
+}
+
+/// When all have ended: of each sender, what was taken and then what is left inside is what it sent.
+pub fn settle<M: Sent + Drop, R: Wait + Drop>(
+    first: SendEnd<M, R>,
+    second: SendEnd<M, R>,
+    receipt: Receipt<M>,
+)
+    requires one { (sender_home second ≡ sender_home first) × (receipt_home receipt ≡ sender_home first) }
+    requires first { (sender_log first).first ≡ true }
+    requires second { (sender_log second).second ≡ true }
+    requires receiver { (receipt_log receipt).takes ≡ true }
+    ensures { (inside : List M)
+        × ((sender_log first).put_first ≡ of_first M.by_second ((receipt_log receipt).taken ++ inside))
+        × ((sender_log second).put_second ≡ of_second M.by_second ((receipt_log receipt).taken ++ inside)) }
+{
+    let SendEnd {
+        sender,
+        pass: one,
+        ..
+    } = first;
+    let SendEnd { pass: two, .. } = second;
+    let Receipt { mut pass } = receipt;
+    sender.absorb::<First>(&mut pass, one);
+    sender.absorb::<Second>(&mut pass, two);
+    sender.learn_as::<Whole>(&mut pass);
+}
+
+impl<M: Sent + Drop, R: Wait + Drop> SendEnd<M, R> {
+    /// Sends a message, waiting while the queue is full; or hands it back, where the receiver is gone or an allocation failed.
+    pub fn send(&mut self, message: M) -> Result<(), M>
+        requires { May M.by_second (sender_log self.old) message }
+        ensures sent { OnOk result (sender_log self.new ≡ put M.by_second (sender_log self.old) message) }
+        ensures refused { OnErr result (sender_log self.new ≡ sender_log self.old) }
+        ensures back { IfErr result (λ back. back ≡ message) }
+        ensures home { sender_home self.new ≡ sender_home self.old }
+    {
+        let SendEnd { rt, sender, pass } = self;
+        match sender.send_as::<Puts, R>(rt, pass, message) {
+            Ok(()) => Ok(()),
+            Err(SendError::Disconnected(back)) => Err(back),
+            Err(SendError::OutOfMemory(back)) => Err(back),
+        }
+    }
+}
+
+impl<M: Sent + Drop, R: Wait + Drop> ReceiveEnd<M, R> {
+    /// Waits for the next message, and takes it; or none, where the senders are gone or an allocation failed.
+    pub fn receive(&mut self) -> Option<M>
+        requires { (receiver_log self.old).takes ≡ true }
+        ensures some { IfSome result (λ m. receiver_log self.new ≡ took (receiver_log self.old) m) }
+        ensures none { IfNone result (receiver_log self.new ≡ receiver_log self.old) }
+        ensures home { receiver_home self.new ≡ receiver_home self.old }
+    {
+        let ReceiveEnd { rt, receiver, pass } = self;
+        receiver.recv_as::<Takes, R>(rt, pass).ok()
+    }
+
+    /// Leaves the queue: from now on a send hands its message back.
+    pub fn leave(self) -> Receipt<M>
+        ensures log { receipt_log result ≡ receiver_log self }
+        ensures home { receipt_home result ≡ receiver_home self }
+    {
+        let ReceiveEnd { pass, .. } = self;
+        Receipt { pass }
+    }
+}

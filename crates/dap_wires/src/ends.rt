@@ -1,0 +1,35 @@
+// The ends of a queue, each with a pass that carries what was done at it.
+
+ghost use Rattle.std.specs.Prelude.{◌≡◌, []};
+ghost use Rattle.crossbeam_channel.specs.Claims.{IsSeatAt};
+ghost use Rattle.crossbeam_channel.specs.Ends.{sends_on, receives_on};
+
+use crate::end_log::EndLog;
+use crate::rule::{InOrder, Sent};
+use crossbeam_channel::{Pass, RuledReceiver, RuledSender};
+use std::sync::Wait;
+
+/// The end of one sender.
+#[derive(Drop)]
+pub struct SendEnd<M: Sent + Drop, R: Wait + Drop> {
+    pub(crate) rt: R,
+    pub(crate) sender: RuledSender<M, EndLog<M>, InOrder>,
+    pub(crate) pass: Pass<M, EndLog<M>>,
+    ghost seated: { IsSeatAt (sends_on sender) pass },
+}
+
+/// The end of the receiver.
+#[derive(Drop)]
+pub struct ReceiveEnd<M: Sent + Drop, R: Wait + Drop> {
+    pub(crate) rt: R,
+    pub(crate) receiver: RuledReceiver<M, EndLog<M>, InOrder>,
+    pub(crate) pass: Pass<M, EndLog<M>>,
+    ghost seated: { IsSeatAt (receives_on receiver) pass },
+}
+
+/// What was taken from a queue that its receiver has left.
+#[derive(Drop)]
+pub struct Receipt<M: Drop> {
+    pub(crate) pass: Pass<M, EndLog<M>>,
+    ghost idle: { pass.me.1 ≡ [] },
+}

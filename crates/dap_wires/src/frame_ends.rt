@@ -1,0 +1,38 @@
+// The ends of an outbox.
+
+ghost use Rattle.std.specs.Prelude.{◌≡◌, true, false};
+ghost use Rattle.dap_wires.specs.Ends.{sender_log, receiver_log};
+ghost use Rattle.dap_wires.specs.Parcels.{has_end};
+
+use crate::ends::{ReceiveEnd, SendEnd};
+use crate::parcel::Parcel;
+use dbg_runner::History;
+use std::sync::Wait;
+
+/// The end of the session, which puts frames.
+#[derive(Drop)]
+pub struct FrameSender<R: Wait + Drop> {
+    pub(crate) end: SendEnd<Parcel, R>,
+    // The second sender's end, which nobody uses.
+    pub(crate) unused: SendEnd<Parcel, R>,
+    pub(crate) refused: History<Vec<u8>>,
+    ghost puts: { (sender_log end).first ≡ true },
+    ghost unused_puts: { (sender_log unused).second ≡ true },
+    ghost open: { has_end (sender_log end).put_first ≡ false },
+}
+
+/// The end of a session that puts no more.
+#[derive(Drop)]
+pub struct EndedSender<R: Wait + Drop> {
+    pub(crate) end: SendEnd<Parcel, R>,
+    pub(crate) unused: SendEnd<Parcel, R>,
+    ghost puts: { (sender_log end).first ≡ true },
+    ghost unused_puts: { (sender_log unused).second ≡ true },
+}
+
+/// The end of the writer, which takes frames.
+#[derive(Drop)]
+pub struct FrameReceiver<R: Wait + Drop> {
+    pub(crate) end: ReceiveEnd<Parcel, R>,
+    ghost takes: { (receiver_log end).takes ≡ true },
+}

@@ -1,0 +1,44 @@
+//! What connects a session and a runner with the world and with each other: queues between threads, and the loops at an
+//! input and at an output.
+//!
+//! The one contract is the rule of the queues (`specs/Delivery`): what was taken and then what is inside is, of each sender,
+//! what it put, in its order, each once. [`inbox`], [`outbox`] and [`orders`] make a queue each; their ends meet the ports of
+//! [`dap_session`] and [`dbg_runner`], and [`settle_inbox`], [`settle_outbox`] and [`settle_orders`] compare them when all
+//! threads have ended. [`read_loop`] and [`write_loop`] stand between a queue and a [`Source`] or a [`Sink`]: what the one
+//! sends is what it read, and what the other wrote is what it took. Each rule and each loop is of use without the others.
+#![tactic(auto)]
+
+mod beginning;
+mod channels;
+mod counting;
+mod end_log;
+mod ends;
+mod event_ends;
+mod events;
+mod frame_ends;
+mod frames;
+mod order_ends;
+mod order_queue;
+mod parcel;
+mod reading;
+mod rule;
+mod streams;
+mod transfer;
+mod writing;
+
+pub use beginning::read_beginning;
+pub use channels::{channel, settle};
+pub use end_log::EndLog;
+pub use ends::{Receipt, ReceiveEnd, SendEnd};
+pub use event_ends::{ClientSender, EventReceiver, ReportSender};
+pub use events::{inbox, settle_inbox};
+pub use frame_ends::{EndedSender, FrameReceiver, FrameSender};
+pub use frames::{outbox, settle_outbox};
+pub use order_ends::{OrderReceiver, OrderSender};
+pub use order_queue::{orders, settle_orders};
+pub use parcel::Parcel;
+pub use reading::{ReadEnd, read_loop};
+pub use rule::{First, InOrder, Puts, Second, Sent, Takes, Whole};
+pub use streams::{IoFault, Reading, Sink, Source, Writing};
+pub use transfer::{PIECE_LIMIT, next_event, say, write_all};
+pub use writing::{WriteFailed, write_loop};

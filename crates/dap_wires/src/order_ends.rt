@@ -1,0 +1,48 @@
+// The ends of a queue of orders.
+
+ghost use Rattle.std.specs.Prelude.{◌≡◌, true};
+ghost use Rattle.std.specs.Arc.{arc_value};
+ghost use Rattle.crossbeam_queue.specs.Passes.{view, IsPassOf, ruled_capacity};
+
+use crate::end_log::EndLog;
+use crate::rule::{InOrder, Sent};
+use crossbeam_queue::{Pass, RuledArrayQueue};
+use crossbeam_utils::sync::{Parker, Unparker};
+use dbg_runner::{History, Order};
+use std::alloc::Global;
+use std::sync::{Arc, Wait};
+
+/// A session sends all orders.
+impl Sent for Order {
+    ghost use Rattle.std.specs.Prelude.{false};
+
+    ghost by_second = { λ _. false };
+}
+
+pub(crate) type OrderQueue = RuledArrayQueue<Order, EndLog<Order>, InOrder>;
+
+/// The end of the session, which pushes orders.
+#[derive(Drop)]
+pub struct OrderSender<R: Wait + Drop> {
+    pub(crate) rt: R,
+    pub(crate) queue: Arc<OrderQueue, Global>,
+    pub(crate) pass: Pass<Order, EndLog<Order>>,
+    pub(crate) unparker: Unparker,
+    // An entry for each order that found the queue full.
+    pub(crate) fulls: History<()>,
+    ghost seated: { IsPassOf (arc_value queue) pass },
+    ghost four: { ruled_capacity (arc_value queue) ≡ 4 },
+    ghost pushes: { (view pass).first ≡ true },
+}
+
+/// The end of the runner, which takes orders.
+#[derive(Drop)]
+pub struct OrderReceiver<R: Wait + Drop> {
+    pub(crate) rt: R,
+    pub(crate) queue: Arc<OrderQueue, Global>,
+    pub(crate) pass: Pass<Order, EndLog<Order>>,
+    pub(crate) parker: Parker,
+    ghost seated: { IsPassOf (arc_value queue) pass },
+    ghost takes: { (view pass).takes ≡ true },
+    ghost joins: { (view pass).second ≡ true },
+}

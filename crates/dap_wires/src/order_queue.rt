@@ -1,0 +1,205 @@
+// The queue of orders, with a parker at which the runner sleeps. Nothing about orders rests on the parker.
+
+ghost use Rattle.std.specs.Prelude.{◌≡◌, ◌∷◌, ◌++◌, [], List, length, map, option_map, true, IfOk, OnOk, OnErr};
+ghost use Rattle.std.specs.Option.{option_to_list};
+ghost use Rattle.std.specs.Arc.{arc_value};
+ghost use Rattle.crossbeam_queue.specs.Passes.{view, IsPassOf, ruled_capacity};
+ghost use Rattle.dap_session.specs.Sending.{Begins};
+ghost use Rattle.dbg_runner.specs.Orders.{plain_order};
+ghost use Rattle.dbg_runner.specs.declared.order.Order.{Order};
+ghost use Rattle.dap_wires.specs.Orders.{pushed_orders, taken_orders, push_home, pop_home};
+
+use crate::end_log::EndLog;
+use crate::order_ends::{OrderQueue, OrderReceiver, OrderSender};
+use crate::rule::{First, Puts, Takes, Whole};
+use crossbeam_queue::Pass;
+use crossbeam_utils::sync::Parker;
+use dap_session::{OrderFault, Orders};
+use dbg_runner::{History, Order, OrdersIn};
+use std::alloc::{AllocError, Global};
+use std::sync::{Arc, Wait};
+
+/// How many orders the queue holds: an old run is held, a new one goes, is held, and the runner quits.
+const ORDERS_CAPACITY: usize = 4;
+
+/// A queue of orders: the ends of the session and of the runner.
+///
+/// # Errors
+///
+/// An allocation failed.
+pub fn orders<R: Wait + Copy + Drop>(
+    rt: R,
+    alloc: Global,
+) -> Result<(OrderSender<R>, OrderReceiver<R>), AllocError>
+    ensures pushed { IfOk result (λ r. pushed_orders r.0 ≡ record { orders = []; fulls = 0; refusals = 0 }) }
+    ensures taken { IfOk result (λ r. taken_orders r.1 ≡ []) }
+    ensures one { IfOk result (λ r. pop_home r.1 ≡ push_home r.0) }
+{
+    let (queue, mut pass) = OrderQueue::ruled(alloc, ORDERS_CAPACITY)?;
+    let first = queue.another::<First>(&mut pass);
+    let queue = Arc::new(alloc, queue)?;
+    let other = Arc::try_clone(&queue)?;
+    let parker = Parker::new(alloc)?;
+    let unparker = parker.unparker().clone()?;
+    Ok((
+        OrderSender {
+            rt,
+            queue,
+            pass: first,
+            unparker,
+            fulls: History::new(),
+        },
+        OrderReceiver {
+            rt,
+            queue: other,
+            pass,
+            parker,
+        },
+    ))
+}
+
+/// When both have ended: the orders that the runner took are a beginning of those that the session pushed.
+pub fn settle_orders<R: Wait + Drop>(session: OrderSender<R>, runner: OrderReceiver<R>)
+    requires { pop_home runner ≡ push_home session }
+    ensures { Begins (taken_orders runner) (pushed_orders session).orders }
+{
+    let OrderSender {
+        queue,
+        pass: first,
+        ..
+    } = session;
+    let OrderReceiver { mut pass, .. } = runner;
+    queue.absorb::<First>(&mut pass, first);
+    queue.learn_as::<Whole>(&mut pass);
+}
+
+/// Pushes an order, or hands it back where the queue was full.
+fn offer<R: Wait>(
+    rt: &R,
+    queue: &Arc<OrderQueue, Global>,
+    pass: &mut Pass<Order, EndLog<Order>>,
+    order: Order,
+) -> Result<(), Order>
+    requires seated { IsPassOf (arc_value queue.now) pass.old }
+    requires four { ruled_capacity (arc_value queue.now) ≡ 4 }
+    requires pushes { (view pass.old).first ≡ true }
+    ensures seated { IsPassOf (arc_value queue.now) pass.new }
+    ensures home { pass.new.table_id ≡ pass.old.table_id }
+    ensures pushes { (view pass.new).first ≡ true }
+    ensures pushed { OnOk result (map plain_order (view pass.new).put_first ≡ map plain_order (view pass.old).put_first ++ plain_order order ∷ []) }
+    ensures refused { OnErr result (view pass.new ≡ view pass.old) }
+    ensures full { OnErr result ((taken inside : List Order) × ((view pass.old).put_first ≡ taken ++ inside) × (length inside ≡ 4)) }
+{
+    match queue.push_as::<Puts, R>(rt, pass, order) {
+        Ok(()) => Ok(()),
+        Err(back) => Err(back),
+    }
+}
+
+/// Takes the next order, if one is there.
+fn take<R: Wait>(
+    rt: &R,
+    queue: &Arc<OrderQueue, Global>,
+    pass: &mut Pass<Order, EndLog<Order>>,
+) -> Option<Order>
+    requires seated { IsPassOf (arc_value queue.now) pass.old }
+    requires takes { (view pass.old).takes ≡ true }
+    ensures seated { IsPassOf (arc_value queue.now) pass.new }
+    ensures home { pass.new.table_id ≡ pass.old.table_id }
+    ensures takes { (view pass.new).takes ≡ true }
+    ensures joins { (view pass.new).second ≡ (view pass.old).second }
+    ensures taken { map plain_order (view pass.new).taken ≡ map plain_order (view pass.old).taken ++ option_to_list (option_map plain_order result) }
+{
+    match queue.pop_as::<Takes, R>(rt, pass) {
+        None => None,
+        Some(order) => Some(order),
+    }
+}
+
+/// Waits for the next order, and takes it.
+fn take_next<R: Wait>(
+    rt: &R,
+    queue: &Arc<OrderQueue, Global>,
+    pass: &mut Pass<Order, EndLog<Order>>,
+    parker: &Parker,
+) -> Order
+    requires seated { IsPassOf (arc_value queue.now) pass.old }
+    requires takes { (view pass.old).takes ≡ true }
+    ensures seated { IsPassOf (arc_value queue.now) pass.new }
+    ensures home { pass.new.table_id ≡ pass.old.table_id }
+    ensures takes { (view pass.new).takes ≡ true }
+    ensures joins { (view pass.new).second ≡ (view pass.old).second }
+    ensures taken { map plain_order (view pass.new).taken ≡ map plain_order (view pass.old).taken ++ plain_order result ∷ [] }
+{
+    for _ in rt.forever() {
+        if let Some(order) = take(rt, queue, pass) {
+            return order;
+        }
+        parker.park(rt);
+    }
+    unreachable!()
+}
+
+impl<R: Wait + Drop> Orders for OrderSender<R> {
+    ghost use Rattle.atomic_table.specs.Seated.{TableId};
+    ghost use Rattle.dap_wires.specs.Orders.{pushed_orders, WasFull, push_home};
+
+    ghost seen = { pushed_orders };
+
+    ghost is_full = { WasFull };
+
+    ghost Origin = { TableId };
+
+    ghost origin = { push_home };
+
+    fn push(&mut self, order: Order) -> Result<(), OrderFault> {
+        let OrderSender {
+            rt,
+            queue,
+            pass,
+            unparker,
+            fulls,
+        } = self;
+        match offer(rt, queue, pass, order) {
+            Ok(()) => {
+                unparker.unpark();
+                Ok(())
+            }
+            Err(_) => {
+                *fulls = fulls.and(&());
+                Err(OrderFault::Full)
+            }
+        }
+    }
+}
+
+impl<R: Wait + Drop> OrdersIn for OrderReceiver<R> {
+    ghost use Rattle.atomic_table.specs.Seated.{TableId};
+    ghost use Rattle.dap_wires.specs.Orders.{taken_orders, pop_home};
+
+    ghost taken = { taken_orders };
+
+    ghost Origin = { TableId };
+
+    ghost origin = { pop_home };
+
+    fn poll(&mut self) -> Option<Order> {
+        let OrderReceiver {
+            rt,
+            queue,
+            pass,
+            ..
+        } = self;
+        take(rt, queue, pass)
+    }
+
+    fn next(&mut self) -> Order {
+        let OrderReceiver {
+            rt,
+            queue,
+            pass,
+            parker,
+        } = self;
+        take_next(rt, queue, pass, parker)
+    }
+}

@@ -1,0 +1,66 @@
+// From an input to the inbox.
+
+ghost use Rattle.std.specs.Prelude.{◌≡◌, ◌++◌, List};
+ghost use Rattle.dap_history.specs.Events.{Incoming};
+ghost use Rattle.dap_session.specs.Incoming.{incoming_of};
+ghost use Rattle.dap_wires.specs.Inbox.{client_events, client_home};
+ghost use Rattle.dap_wires.specs.Reading.{IsReadUntil, end_by};
+ghost use Rattle.dap_wires.specs.Transfer.{supply};
+
+use crate::event_ends::ClientSender;
+use crate::streams::Source;
+use crate::transfer::{PIECE_LIMIT, next_event};
+use dap_session::Event;
+use std::alloc::Global;
+use std::sync::Wait;
+
+/// How reading ended.
+#[derive(Clone, Copy, Debug, PartialEq, Eq)]
+pub enum ReadEnd {
+    /// The input came to its end.
+    Ended,
+    /// A read failed.
+    Failed,
+    /// An allocation failed.
+    NoMemory,
+    /// The inbox handed an event back.
+    HandedBack,
+}
+
+/// Reads pieces and sends them, until the end of the input, a failure, an allocation that fails, or an event that the inbox
+/// hands back.
+pub fn read_loop<I: Source, R: Wait + Drop>(
+    rt: &impl Wait,
+    alloc: Global,
+    input: &mut I,
+    inbox: &mut ClientSender<R>,
+) -> ReadEnd
+    ensures read { (sent : List Incoming) × (client_events inbox.new ≡ client_events inbox.old ++ sent)
+        × IsReadUntil result sent (supply (I.left input.old) (I.failures input.old)) (supply (I.left input.new) (I.failures input.new)) }
+    ensures home { client_home inbox.new ≡ client_home inbox.old }
+{
+    let mut room = [0; PIECE_LIMIT];
+    for _ in rt.forever() {
+        let event = next_event(rt, alloc, input, &mut room);
+        let end = end_of(&event);
+        if inbox.send(event).is_err() {
+            return ReadEnd::HandedBack;
+        }
+        if let Some(end) = end {
+            return end;
+        }
+    }
+    unreachable!()
+}
+
+/// How reading ends by this event, if it does.
+fn end_of(event: &Event) -> Option<ReadEnd>
+    ensures { result ≡ end_by (incoming_of event.now) }
+{
+    match event {
+        Event::Piece(_) | Event::File(_) | Event::Report(_) => None,
+        Event::End => Some(ReadEnd::Ended),
+        Event::ReadFailed => Some(ReadEnd::Failed),
+        Event::NoMemory => Some(ReadEnd::NoMemory),
+    }
+}

@@ -1,0 +1,45 @@
+// From the outbox to an output.
+
+ghost use Rattle.std.specs.Prelude.{◌≡◌, ◌++◌, List};
+ghost use Rattle.dap_wires.specs.declared.parcel.Parcel.{Parcel};
+ghost use Rattle.dap_wires.specs.Outbox.{parcels_taken, parcel_home};
+ghost use Rattle.dap_wires.specs.Transfer.{output as output_at};
+ghost use Rattle.dap_wires.specs.Writing.{IsWrittenUntil};
+
+use crate::frame_ends::FrameReceiver;
+use crate::parcel::Parcel;
+use crate::streams::Sink;
+use crate::transfer::write_all;
+use std::sync::Wait;
+
+/// The output failed.
+#[derive(Clone, Copy, Debug, PartialEq, Eq)]
+pub struct WriteFailed;
+
+/// Writes the frames that come, each whole before it waits for the next, until the end comes.
+///
+/// # Errors
+///
+/// The output failed: a beginning of the frames that were taken was written.
+pub fn write_loop<O: Sink, R: Wait + Drop>(
+    rt: &impl Wait,
+    output: &mut O,
+    outbox: &mut FrameReceiver<R>,
+) -> Result<(), WriteFailed>
+    ensures written { (taken : List Parcel) × (parcels_taken outbox.new ≡ parcels_taken outbox.old ++ taken)
+        × IsWrittenUntil result taken (output_at (O.written output.old) (O.failures output.old)) (output_at (O.written output.new) (O.failures output.new)) }
+    ensures home { parcel_home outbox.new ≡ parcel_home outbox.old }
+{
+    for _ in rt.forever() {
+        match outbox.receive() {
+            None => {}
+            Some(Parcel::End) => return Ok(()),
+            Some(Parcel::Frame(frame)) => {
+                if !write_all(rt, output, frame.as_slice()) {
+                    return Err(WriteFailed);
+                }
+            }
+        }
+    }
+    unreachable!()
+}
