@@ -1,4 +1,4 @@
-"""Shows that misuses don't compile: each file here is checked as a crate of its own over dbg_runner.
+"""Shows that misuses don't compile: each file here is checked as a crate of its own.
 
 A file's first line says what the compiler must answer: `// Refused: CODE`, or `// Accepted`.
 """
@@ -20,7 +20,7 @@ def make_copy(top: pathlib.Path) -> pathlib.Path:
     # Links in place of copies: what earlier checks kept is large.
     shutil.copytree(TOP / "crates", top / "crates", copy_function=os.link, symlinks=True)
     crates = (TOP / "crates.txt").read_text()
-    (top / "crates.txt").write_text(crates + "misuse: dbg_plan dbg_runner\n")
+    (top / "crates.txt").write_text(crates + "misuse: dap_session dbg_plan dbg_runner\n")
     misuse = top / "crates" / "misuse"
     (misuse / "src").mkdir(parents=True)
     return misuse
