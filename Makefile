@@ -4,7 +4,7 @@ PROGRAM = crates/pl0dap/out/pl0dap
 SPEED = crates/speed/out/speed
 SOURCES = crates.txt $(shell find crates -name out -prune -o -type f \( -name '*.rt' -o -name '*.antt' \) -print)
 
-.PHONY: try build demo rows sessions refusals misuse check plants gate-times install bench
+.PHONY: try build demo rows sessions editors refusals misuse check plants gate-times install bench
 
 # A stored session in readable form within a minute or two, from a fresh clone on. All of it is sent at once.
 try:
@@ -36,6 +36,11 @@ rows: $(PROGRAM)
 # Random sessions, each message compared with what a plain model of the adapter says.
 sessions: $(PROGRAM)
 	python3 demo/sessions.py $(PROGRAM) 500
+
+# The sessions of editors, played to the program; then Emacs and Kate, where they are installed, debug a program with it. Nothing is
+# installed: status 2 where one is missing.
+editors: $(PROGRAM)
+	python3 editors/drive/drive.py $(PROGRAM)
 
 # The merge gate: proves everything from nothing, and runs everything.
 check:

@@ -1,0 +1,113 @@
+#!/usr/bin/env python3
+"""Kate debugs examples/factorial.pl0 on a display of its own: keys are pressed for it, and what it shows isn't looked at.
+
+usage: kate.py COMMAND..
+
+COMMAND starts the adapter, or the proxy before it. Ends with status 0 once all keys are pressed; the session is in the
+proxy's transcript. Needs kate (22.12), Xvfb and xdotool. Kate's settings are in a folder that is removed
+afterwards.
+"""
+import json
+import os
+import subprocess
+import sys
+import tempfile
+import time
+
+TOP = os.path.realpath(os.path.join(os.path.dirname(__file__), "..", ".."))
+PROGRAM = os.path.join(TOP, "examples", "factorial.pl0")
+CONFIGURATION = "launch, stop at the first step"
+START, REST = 60, 1.5  # seconds that Kate gets at most to start, and after each key
+ADAPTER = float(os.environ.get("DRIVE_SECONDS", "2"))  # seconds that the adapter gets to start
+SESSION = """[Kate Plugins]
+kategdbplugin=true
+
+[Open MainWindows]
+Count=1
+
+[Plugin:kategdbplugin:MainWindow:0]
+lastTarget=0
+targetCount=1
+target_0=%s
+version=5
+"""
+
+
+def keys(*names: str) -> None:
+    subprocess.run(["xdotool", "key", *names], check=True)
+    time.sleep(REST)
+
+
+def focus() -> None:
+    """Waits for Kate's window, and lets it have the keys."""
+    search = ["xdotool", "search", "--onlyvisible", "--class", "kate", "windowfocus"]
+    until = time.monotonic() + START
+    while subprocess.run(search, stderr=subprocess.DEVNULL).returncode:
+        if time.monotonic() > until:
+            sys.exit("Kate has no window")
+        time.sleep(1)
+    time.sleep(2 * REST)
+
+
+def action(name: str) -> None:
+    """Picks an action of Kate's by its name."""
+    keys("ctrl+alt+i")
+    subprocess.run(["xdotool", "type", name], check=True)
+    time.sleep(REST)
+    keys("Return")
+
+
+def write(path: str, text: str) -> None:
+    os.makedirs(os.path.dirname(path), exist_ok=True)
+    with open(path, "w", encoding="utf-8") as file:
+        file.write(text)
+
+
+def settings(home: str, command: list[str]) -> None:
+    """Kate's settings: the adapter as editors/kate/dap.json has it, but by this command; and a session that debugs the program."""
+    with open(os.path.join(TOP, "editors", "kate", "dap.json"), encoding="utf-8") as file:
+        adapters = json.load(file)
+    adapters["dap"]["pl0dap"]["run"]["command"] = command
+    write(os.path.join(home, ".config", "kate", "gdbplugin", "dap.json"), json.dumps(adapters))
+    target = {"debuggerKey": "pl0dap", "debuggerProfile": CONFIGURATION, "target": "PL/0", "variables": {"file": PROGRAM}}
+    write(os.path.join(home, ".local", "share", "kate", "sessions", "pl0.katesession"), SESSION % json.dumps(target))
+
+
+def debug() -> None:
+    """A session: a breakpoint, two stops, a value, a step and the end."""
+    focus()
+    keys("ctrl+F7")
+    time.sleep(ADAPTER)
+    action("Toggle Breakpoint")
+    action("Continue")
+    action("Continue")
+    keys("Home", "shift+Right")
+    action("Print Value")
+    action("Step Over")
+    keys("Up")
+    action("Toggle Breakpoint")
+    action("Continue")
+    keys("ctrl+q")
+
+
+def main() -> int:
+    with tempfile.TemporaryDirectory() as home:
+        settings(home, sys.argv[1:])
+        display = ":%d" % (os.getpid() % 10000 + 100)
+        screen = subprocess.Popen(["Xvfb", display, "-screen", "0", "1200x800x24"], stderr=subprocess.DEVNULL)
+        os.environ.update(HOME=home, DISPLAY=display, XDG_RUNTIME_DIR=home)
+        time.sleep(1)
+        kate = subprocess.Popen(["kate", "-s", "pl0", "-l", "9", PROGRAM], stderr=subprocess.DEVNULL)
+        try:
+            debug()
+            kate.wait(timeout=30)
+        finally:
+            kate.terminate()
+            screen.terminate()
+            kate.wait()
+            screen.wait()
+    return 0
+
+
+if __name__ == "__main__":
+    sys.exit(main())

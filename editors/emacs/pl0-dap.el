@@ -1,0 +1,54 @@
+;;; pl0-dap.el --- PL/0 programs and their debugger -*- lexical-binding: t; -*-
+
+;;; Commentary:
+
+;; A mode for PL/0 programs, and what dap-mode has to know of the adapter.  Load this file, open a program, and call `dap-debug'.
+
+;;; Code:
+
+(require 'dap-mode)
+(require 'dap-utils)
+
+(defgroup pl0 nil "PL/0 programs." :group 'languages)
+
+(defcustom pl0-dap-command '("pl0dap")
+  "The adapter and its arguments."
+  :type '(repeat string))
+
+(defconst pl0-font-lock-keywords
+  (let ((name "[[:alpha:]][[:alnum:]]*"))
+    `((,(regexp-opt '("const" "var" "procedure" "call" "begin" "end" "if" "then" "while" "do" "odd") 'words)
+       . font-lock-keyword-face)
+      (,(format "\\<\\(?:procedure\\|call\\)\\s-+\\(%s\\)" name) 1 font-lock-function-name-face)
+      ("!" . font-lock-builtin-face)
+      ("\\<[0-9]+\\>" . font-lock-constant-face)))
+  "What `pl0-mode' highlights.")
+
+;;;###autoload
+(define-derived-mode pl0-mode prog-mode "PL/0"
+  "Major mode for programs in PL/0, which has neither comments nor texts in quotes."
+  (setq-local font-lock-defaults '(pl0-font-lock-keywords t))
+  (setq-local imenu-generic-expression '((nil "\\<procedure\\s-+\\([[:alpha:]][[:alnum:]]*\\)" 1)))
+  (setq-local tab-width 2)
+  (setq-local indent-tabs-mode nil))
+
+;;;###autoload
+(add-to-list 'auto-mode-alist '("\\.pl0\\'" . pl0-mode))
+
+(defun pl0-dap-configuration (configuration)
+  "CONFIGURATION with what it leaves out: the adapter, and the current buffer's file as the program."
+  (-> configuration
+      (dap--put-if-absent :dap-server-path pl0-dap-command)
+      (dap--put-if-absent :request "launch")
+      (dap--put-if-absent :name "PL/0")
+      (dap--put-if-absent :program (or buffer-file-name (user-error "This buffer has no file")))))
+
+(dap-register-debug-provider "pl0" #'pl0-dap-configuration)
+
+(dap-register-debug-template "PL/0" (list :type "pl0" :request "launch"))
+
+;; A member that is nil is sent as null, which isn't a truth value: where a program isn't to stop, leave :stopOnEntry out.
+(dap-register-debug-template "PL/0, stop at the first step" (list :type "pl0" :request "launch" :stopOnEntry t))
+
+(provide 'pl0-dap)
+;;; pl0-dap.el ends here
