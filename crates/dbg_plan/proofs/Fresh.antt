@@ -4,7 +4,7 @@ use Rattle.std.proofs.Common.{◌≡◌, ℕ, false, None, option_map, length, r
 use Rattle.std.specs.Arc.{arc_value}
 use Rattle.dbg_plan.specs.declared.debuggee.Debuggee.TheInside.{Inside}
 use Rattle.dbg_plan.specs.Plans.{IsNumbered, listed_of}
-use Rattle.dbg_plan.specs.Counting.{AreCounts, MayBePlanOf, IsInOrder}
+use Rattle.dbg_plan.specs.Counting.{AreCounts, MayBePlanOf}
 use Rattle.dbg_plan.specs.Counts.{IsCounting, StandsBy, plan_of, next_at, next_of}
 use Rattle.dbg_plan.proofs.Here.{begin}
 
@@ -23,12 +23,11 @@ fresh d was new machine considered first counts numbered fits =
       counts = rw (first, next) (begin (program new.machine) _ (next_of d) _ numbered (λ k. ap (λ cs. slice_index cs k) counts ∙ zeros 256 k));
       begun = omega arith;
       stands = rw (considered, machine) was.stands;
-      in_order = subst (λ (m : Standing). IsInOrder m.unit) (sym machine) was.in_order;
     }
 
 -- a debuggee over a machine, with no plan
-pub begun : (new : Inside) → new.plan ≡ None → new.considered ≡ false → new.counted_from ≡ new.machine.position → length new.counts ≡ 256 → IsInOrder new.machine.unit → IsCounting new
-begun new plan considered first room in_order =
+pub begun : (new : Inside) → new.plan ≡ None → new.considered ≡ false → new.counted_from ≡ new.machine.position → length new.counts ≡ 256 → IsCounting new
+begun new plan considered first room =
     let next : next_of new ≡ new.machine.position = ap (λ b. next_at new.machine.position b) considered in
     let none : plan_of new ≡ None = ap (λ o. option_map arc_value o) plan in
     record {
@@ -38,5 +37,4 @@ begun new plan considered first room in_order =
       counts = subst (λ o. AreCounts (program new.machine) (listed_of o) new.counted_from (next_of new) new.counts) (sym none) tt;
       begun = omega (arith, first, next);
       stands = subst (λ b. StandsBy new.machine b) (sym considered) tt;
-      in_order = in_order;
     }

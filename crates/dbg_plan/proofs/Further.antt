@@ -9,7 +9,7 @@ use Rattle.dbg_plan.specs.declared.mode.Reason.TheVariants as reason
 use Rattle.dbg_plan.specs.Due.{reason_of, depth_at}
 use Rattle.dbg_plan.specs.Debugged.{IsRunning, IsConsidered, due_now}
 use Rattle.dbg_plan.specs.Advances.{further}
-use Rattle.dbg_plan.specs.Counting.{AreCounts, CountsOn, MayBePlanOf, IsInOrder}
+use Rattle.dbg_plan.specs.Counting.{AreCounts, CountsOn, MayBePlanOf}
 use Rattle.dbg_plan.specs.Counts.{IsCounting, debugged_of, plan_of, next_at, next_of}
 
 -- the next position to be considered tells whether this one was
@@ -46,7 +46,6 @@ module _ (d : Inside) (was : IsCounting d) (behind : next_of d ≡ d.machine.pos
         counts = subst (λ n. AreCounts (program machine) (listed_of (plan_of d)) d.counted_from n counts) (sym next) counts_on.counts;
         begun = omega (arith, begun, behind, place, next);
         stands = rw (considered) running;
-        in_order = subst (λ (m : Standing). IsInOrder m.unit) (sym on) was.in_order;
       }
 
   pub led : (mode : Mode) (due : Option Reason) → due ≡ (if hit then Some reason.Breakpoint else reason_of mode (depth_at (program machine) machine.position)) → (debugged_of now ≡ further (debugged_of d)) × IsConsidered (debugged_of now) × (due ≡ due_now (debugged_of now) mode)

@@ -1,11 +1,9 @@
 -- One more position considered: the counts and what is due, over plain variables.
-use Rattle.std.proofs.Common.{◌≡◌, ◌≢◌, ◌⊎◌, inl, inr, cond, nat_eq, ℕ, zero, suc, ◌+◌, ◌*◌, ◌%◌, ◌<◌, ◌≤◌, Bool, true, false, List, [], ◌∷◌, length, slice_index, Option, Some, None, ap, sym, ◌∙◌, refl, subst, arith, All, add-one, map}
+use Rattle.std.proofs.Common.{◌≡◌, ◌≢◌, ◌⊎◌, inl, inr, cond, nat_eq, ℕ, zero, suc, ◌+◌, ◌*◌, ◌%◌, ◌<◌, ◌≤◌, Bool, true, false, List, [], ◌∷◌, length, slice_index, Option, Some, None, ap, sym, ◌∙◌, refl, subst, arith, All, add-one}
 use Rattle.std.specs.List.{list_any}
 use Rattle.std.specs.Prelude.{◌&&◌, ◌||◌, nat_le, if◌then◌else◌}
 use Rattle.std.proofs.lemmas.Bool.Decides.{nat_tests, eqb_tells}
 use Rattle.pl0_tree.specs.Tree.{Block}
-use Rattle.pl0_tree.specs.Steps.{steps}
-use Rattle.pl0_tree.specs.Ascending.{Ascend}
 use Rattle.pl0_machine.specs.Machine.{Standing, program, configuration, frames, top_of, IsNext}
 use Rattle.dbg_plan.specs.declared.breakpoint.Breakpoint.{Breakpoint}
 use Rattle.dbg_plan.specs.declared.breakpoint.Rule.{Rule}
@@ -30,7 +28,7 @@ any_plain hit (b ∷ bs) = ap (λ v. hit (plain_breakpoint b) || v) (any_plain h
 arrivals_rise : (main : Block) (b : PlainBreakpoint) (first m : ℕ) → first ≤ m → arrivals main b first (m + 1) ≡ (if arrives_at main b m then arrivals main b first m + 1 else arrivals main b first m)
 arrivals_rise main b first m le = rw add-one (ap (λ (v : Bool). if v && arrives_at main b m then arrivals main b first m + 1 else arrivals main b first m) (le_true first m le))
 
-module _ (m : Standing) (ascend : ∥ Ascend (map (λ step. step.place) (steps (program m))) ∥₁) (p : ℕ) (here : IsNext (program m) (top_of (frames m)) p) (bs : List Breakpoint) (numbered : IsNumbered bs) (counts : List ℕ) (room : length counts ≡ 256) where
+module _ (m : Standing) (p : ℕ) (here : IsNext (program m) (top_of (frames m)) p) (bs : List Breakpoint) (numbered : IsNumbered bs) (counts : List ℕ) (room : length counts ≡ 256) where
   pub counts_on : (first : ℕ) → first ≤ m.position → AreCounts (program m) bs first m.position counts → CountsOn (program m) bs m.position first counts (any_due (holds_now m) (those_of p bs) counts) (counted (holds_now m) (those_of p bs) counts)
   counts_on first le h =
       let main = (program m) in
@@ -38,7 +36,7 @@ module _ (m : Standing) (ascend : ∥ Ascend (map (λ step. step.place) (steps (
       let a : Breakpoint → Bool = λ b. arrives_at main (plain_breakpoint b) m.position in
       let old : Breakpoint → ℕ = λ b. arrivals main (plain_breakpoint b) first m.position in
       let new : Breakpoint → ℕ = λ b. arrivals main (plain_breakpoint b) first (m.position + 1) in
-      let agree = arrives_here main ascend (configuration m) p here in
+      let agree = arrives_here main m.unit.tree.in_order (configuration m) p here in
       let rises : (b : Breakpoint) → new b ≡ (if a b then old b + 1 else old b) = λ b. arrivals_rise main (plain_breakpoint b) first m.position le in
       record {
         counts = tally (is_of p) (holds_now m) a old new agree rises bs 0 counts numbered.numbers (omega arith) h;
@@ -46,13 +44,13 @@ module _ (m : Standing) (ascend : ∥ Ascend (map (λ step. step.place) (steps (
       }
 
 -- what the code's walk leaves, by what it knows of the plan and its entry
-pub goes_on : (m : Standing) → ∥ Ascend (map (λ step. step.place) (steps (program m))) ∥₁ → (p : ℕ) → IsNext (program m) (top_of (frames m)) p → (plan : Option Listed) (listed : Listed) → plan ≡ Some listed → IsNumbered listed.breakpoints → (entry : List Breakpoint) → entry ≡ those_of p listed.breakpoints → (counts : List ℕ) → length counts ≡ 256 → (due : Bool) (new : List ℕ) → due ≡ any_due (holds_now m) entry counts → new ≡ counted (holds_now m) entry counts → (first : ℕ) → first ≤ m.position → AreCounts (program m) (listed_of plan) first m.position counts → CountsOn (program m) (listed_of plan) m.position first counts due new
-goes_on m ascend p here plan listed is numbered entry entry_is counts room due new due_is new_is first le h =
+pub goes_on : (m : Standing) (p : ℕ) → IsNext (program m) (top_of (frames m)) p → (plan : Option Listed) (listed : Listed) → plan ≡ Some listed → IsNumbered listed.breakpoints → (entry : List Breakpoint) → entry ≡ those_of p listed.breakpoints → (counts : List ℕ) → length counts ≡ 256 → (due : Bool) (new : List ℕ) → due ≡ any_due (holds_now m) entry counts → new ≡ counted (holds_now m) entry counts → (first : ℕ) → first ≤ m.position → AreCounts (program m) (listed_of plan) first m.position counts → CountsOn (program m) (listed_of plan) m.position first counts due new
+goes_on m p here plan listed is numbered entry entry_is counts room due new due_is new_is first le h =
     let main = (program m) in
     let f = holds_now m in
     let bs = listed.breakpoints in
     let old : AreCounts main bs first m.position counts = subst (λ q. AreCounts main (listed_of q) first m.position counts) is h in
-    let on = counts_on m ascend p here bs numbered counts room first le old in
+    let on = counts_on m p here bs numbered counts room first le old in
     let at_plan : CountsOn main (listed_of plan) m.position first counts (any_due f (those_of p bs) counts) (counted f (those_of p bs) counts) = subst (λ q. CountsOn main (listed_of q) m.position first counts (any_due f (those_of p bs) counts) (counted f (those_of p bs) counts)) (sym is) on in
     let at_entry : CountsOn main (listed_of plan) m.position first counts (any_due f entry counts) (counted f entry counts) = subst (λ es. CountsOn main (listed_of plan) m.position first counts (any_due f es counts) (counted f es counts)) (sym entry_is) at_plan in
     let at_due : CountsOn main (listed_of plan) m.position first counts due (counted f entry counts) = subst (λ d. CountsOn main (listed_of plan) m.position first counts d (counted f entry counts)) (sym due_is) at_entry in

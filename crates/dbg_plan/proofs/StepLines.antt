@@ -5,7 +5,7 @@ use Rattle.std.specs.Bool.{then_some}
 use Rattle.std.specs.List.{position_or_len}
 use Rattle.std.specs.List.Sorted.{IsNonDecreasingBy, IsPartitionPoint}
 use Rattle.std.specs.Coded.{le_prop}
-use Rattle.std.proofs.Math.Logic.{∥∥₁_elim, ∥∥₁_map}
+use Rattle.std.proofs.Math.Logic.{∥∥₁_elim}
 use Rattle.std.proofs.Math.Nat.{ℕ_set}
 use Rattle.std.proofs.lemmas.Bool.{cases_eq}
 use Rattle.std.proofs.lemmas.Bool.Decides.{nat_tests}
@@ -16,14 +16,12 @@ use Rattle.pl0_tree.specs.declared.tree.Place.{Place}
 use Rattle.pl0_tree.specs.Tree.{Block}
 use Rattle.pl0_tree.specs.declared.step.Step.{Step}
 use Rattle.pl0_tree.specs.declared.step.StepKind.TheVariants.{Return}
-use Rattle.pl0_tree.specs.Faults.{IsTreeOf}
 use Rattle.pl0_tree.specs.Scope.{IsBefore}
 use Rattle.pl0_tree.specs.Ascending.{Ascend}
 use Rattle.pl0_tree.specs.Steps.{StepAt, IsStep, AreSteps, steps}
 use Rattle.pl0_unit.specs.declared.unit.Unit.{Unit as Compiled}
 use Rattle.pl0_machine.specs.Machine.{program_of}
 use Rattle.dbg_plan.specs.Resolutions.{step_from}
-use Rattle.dbg_plan.specs.Counting.{IsInOrder}
 
 -- the table tells of each step what the program has there
 pub record Tells (main : Block) (ts : List StepAt) (i : ℕ) (s : Step) : Type 0 where
@@ -74,12 +72,9 @@ same_position main line (s ∷ ss) (t ∷ ts) are =
 
 -- ---- the table of a unit
 
-pub unit_ascends : (u : Compiled) → ((text : List ℕ) (main : Block) → IsTreeOf text main → Ascend (map (λ (s : StepAt). s.place) (steps main))) → ∥ Ascend (map (λ (s : StepAt). s.place) (steps (program_of u))) ∥₁
-unit_ascends u in_order = ∥∥₁_map u.tree.lawful (in_order u.tree.text.items (program_of u))
-
-pub unit_rises : (u : Compiled) → IsInOrder u → IsNonDecreasingBy (λ (s : Step). s.place.line) u.steps.items
-unit_rises u in_order i j d le lt =
-    ∥∥₁_elim u.compiled le_prop (λ h. ∥∥₁_elim in_order.places le_prop (λ ascend. lines_rise (program_of u) u.steps.items (steps (program_of u)) h.steps ascend i j d le lt))
+pub unit_rises : (u : Compiled) → IsNonDecreasingBy (λ (s : Step). s.place.line) u.steps.items
+unit_rises u i j d le lt =
+    ∥∥₁_elim u.compiled le_prop (λ h. ∥∥₁_elim u.tree.in_order le_prop (λ ascend. lines_rise (program_of u) u.steps.items (steps (program_of u)) h.steps ascend i j d le lt))
 
 pub unit_length : (u : Compiled) → length u.steps.items ≡ length (steps (program_of u))
 unit_length u = ∥∥₁_elim u.compiled (ℕ_set _ _) (λ h. same_length (program_of u) u.steps.items (steps (program_of u)) h.steps)

@@ -10,7 +10,7 @@ use Rattle.pl0_machine.specs.Machine.{Standing, program_of, program, frames_of, 
 use Rattle.dbg_plan.specs.Plans.{listed_of}
 use Rattle.dbg_plan.specs.declared.debuggee.Debuggee.TheInside.{Inside}
 use Rattle.dbg_plan.specs.Debugged.{IsRunning}
-use Rattle.dbg_plan.specs.Counting.{AreCounts, MayBePlanOf, IsInOrder}
+use Rattle.dbg_plan.specs.Counting.{AreCounts, MayBePlanOf}
 use Rattle.dbg_plan.specs.Counts.{IsCounting, plan_of, next_at, next_of, StandsBy}
 
 at_next : (main : Block) (n : ℕ) → at main (n + 1) ≡ led_to (outcome main n)
@@ -69,9 +69,6 @@ module _ (d : Inside) (was : IsCounting d) (machine : Standing) (result : StepOu
   fits_still : MayBePlanOf machine.unit (plan_of d)
   fits_still = subst (λ u. MayBePlanOf u (plan_of d)) (sym (same_unit d.machine machine result stepped)) was.fits
 
-  in_order_still : IsInOrder machine.unit
-  in_order_still = subst (λ u. IsInOrder u) (sym (same_unit d.machine machine result stepped)) was.in_order
-
   -- the counts are those of the positions before the next to be considered
   module _ (considered : Bool) (next : next_at machine.position considered ≡ next_of d) (stands : StandsBy machine considered) where
     pub counting_still : IsCounting (record d { machine = machine; considered = considered })
@@ -85,7 +82,6 @@ module _ (d : Inside) (was : IsCounting d) (machine : Standing) (result : StepOu
               (subst (λ n. AreCounts (program d.machine) (listed_of (plan_of d)) d.counted_from n d.counts) (sym next) was.counts);
           begun = omega (arith, begun, next);
           stands = stands;
-          in_order = in_order_still;
         }
 
   pub after_fault : (fault : RunFault) → result ≡ Fault fault → IsRunning d.machine → IsCounting (record d { machine = machine; considered = true })

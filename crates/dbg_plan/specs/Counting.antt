@@ -1,11 +1,9 @@
 -- How arrivals are counted: of each breakpoint only what its rule needs to know.
-use Rattle.std.specs.Prelude.{◌≡◌, ℕ, ◌+◌, ◌-◌, ◌%◌, min, Bool, true, false, ◌&&◌, ◌||◌, nat_eq, nat_lt, if◌then◌else◌, List, [], ◌∷◌, map, slice_index, slice_set, Option, Some, None}
+use Rattle.std.specs.Prelude.{◌≡◌, ℕ, ◌+◌, ◌-◌, ◌%◌, min, Bool, true, false, ◌&&◌, ◌||◌, nat_eq, nat_lt, if◌then◌else◌, List, [], ◌∷◌, slice_index, slice_set, Option, Some, None}
 use Rattle.pl0_tree.specs.Tree.{Block}
-use Rattle.pl0_tree.specs.Steps.{steps}
-use Rattle.pl0_tree.specs.Ascending.{Ascend}
 use Rattle.pl0_meaning.specs.Values.{Configuration}
 use Rattle.pl0_unit.specs.declared.unit.Unit.{Unit as Compiled}
-use Rattle.pl0_machine.specs.Machine.{Standing, program_of, program, configuration, frames, top_of, IsNext}
+use Rattle.pl0_machine.specs.Machine.{Standing, program, configuration, frames, top_of, IsNext}
 use Rattle.dbg_plan.specs.declared.breakpoint.Rule.{Rule}
 use Rattle.dbg_plan.specs.declared.breakpoint.Rule.TheVariants.{From, Every}
 use Rattle.dbg_plan.specs.declared.breakpoint.Breakpoint.{Breakpoint}
@@ -80,10 +78,6 @@ CountFrom number n (b ∷ bs) counts = (slice_index counts n ≡ reduced b.rule 
 -- the counts are those of the arrivals at the positions from `first` up to, but not including, `next`
 abbrev pub AreCounts : Block → List Breakpoint → ℕ → ℕ → List ℕ → Type 0
 AreCounts main breakpoints first next counts = CountFrom (λ b. arrivals main (plain_breakpoint b) first next) 0 breakpoints counts
-
--- the steps of a program stand in the order of their places
-pub record IsInOrder (unit : Compiled) : Type 0 where
-  pub places : ∥ Ascend (map (λ step. step.place) (steps (program_of unit))) ∥₁
 
 -- one more position was considered, and whether a breakpoint is due there
 pub record CountsOn (main : Block) (breakpoints : List Breakpoint) (position first : ℕ) (old : List ℕ) (due : Bool) (new : List ℕ) : Type 0 where

@@ -4,7 +4,7 @@ use Rattle.std.specs.Arc.{arc_value}
 use Rattle.pl0_machine.specs.Machine.{Standing, program}
 use Rattle.dbg_plan.specs.declared.debuggee.Debuggee.TheInside.{Inside}
 use Rattle.dbg_plan.specs.Plans.{breakpoint_limit, Listed, IsNumbered, breakpoints_of, listed_of}
-use Rattle.dbg_plan.specs.Counting.{AreCounts, MayBePlanOf, IsInOrder}
+use Rattle.dbg_plan.specs.Counting.{AreCounts, MayBePlanOf}
 use Rattle.dbg_plan.specs.Debugged.{Debugged, IsRunning}
 
 abbrev pub plan_of : Inside → Option Listed
@@ -33,4 +33,3 @@ pub record IsCounting (d : Inside) : Type 0 where
   pub counts : AreCounts (program d.machine) (listed_of (plan_of d)) d.counted_from (next_of d) d.counts
   pub begun : d.counted_from ≤ next_of d
   pub stands : StandsBy d.machine d.considered
-  pub in_order : IsInOrder d.machine.unit

@@ -7,7 +7,7 @@ ghost use Rattle.dbg_plan.specs.Plans.{breakpoint_limit, listed_of};
 ghost use Rattle.dbg_plan.specs.declared.mode.Reason.TheVariants as reason;
 ghost use Rattle.dbg_plan.specs.Due.{reason_of, depth_at};
 ghost use Rattle.dbg_plan.specs.Debugged.{IsRunning};
-ghost use Rattle.dbg_plan.specs.Counting.{increased, is_due, holds_now, counted, counted_at, any_due, due_at, AreCounts, CountsOn, MayBePlanOf, IsMetHere, IsInOrder};
+ghost use Rattle.dbg_plan.specs.Counting.{increased, is_due, holds_now, counted, counted_at, any_due, due_at, AreCounts, CountsOn, MayBePlanOf, IsMetHere};
 
 use crate::breakpoint::{Breakpoint, Rule};
 use crate::evaluation::is_met;
@@ -81,7 +81,6 @@ pub fn count_arrivals(machine: &Machine, breakpoints: &[Breakpoint], counts: &mu
 pub fn count_position(machine: &Machine, plan: &Option<Arc<Plan>>, counts: &mut [u32]) -> bool
     requires running { IsRunning machine.now }
     requires fits { MayBePlanOf machine.now.unit (option_map arc_value plan.now) }
-    requires in_order { IsInOrder machine.now.unit }
     requires room { length counts.old ≡ breakpoint_limit }
     // Whatever position the counts begin at, they go on, and say what is due.
     ensures { (first : ℕ) → first ≤ machine.now.position

@@ -11,7 +11,6 @@ use crate::breakpoint::BREAKPOINT_LIMIT;
 use crate::counting::{count_position, reason_here};
 use crate::evaluation::{EvalFault, evaluate};
 use crate::mode::{Mode, Reason};
-use crate::order::order_laws;
 use crate::plan::Plan;
 use pl0_machine::{Machine, StepOutcome};
 use pl0_meaning::RunFault;
@@ -85,7 +84,6 @@ impl Debuggee {
     pub fn new(machine: Machine) -> Debuggee
         ensures { result ≡ record { unit = machine.unit; position = machine.position; breakpoints = []; counted_from = machine.position; next = machine.position } }
     {
-        order_laws(machine.unit());
         let position = machine.position();
         Debuggee {
             machine,

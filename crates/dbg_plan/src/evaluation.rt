@@ -1,8 +1,9 @@
 // The values of expressions and conditions in the frames of a machine.
 
-ghost use Rattle.std.specs.Prelude.{◌≡◌, ◌<◌, IsSome, Some, neg_ℤ};
+ghost use Rattle.std.specs.Prelude.{◌≡◌, ◌<◌, IsSome, Some};
 ghost use Rattle.pl0_tree.specs.Plain.{plain_expression};
-ghost use Rattle.pl0_meaning.specs.Values.{value, name_number, or_zero, operation, comparison, checked, is_odd};
+ghost use Rattle.pl0_meaning.specs.Values.{value, name_number, or_zero};
+ghost use Rattle.pl0_meaning.specs.Arithmetic.{IsArithmetic};
 ghost use Rattle.pl0_machine.specs.Machine.{program, frames, depth_of};
 ghost use Rattle.dbg_plan.specs.Debugged.{IsRunning};
 ghost use Rattle.dbg_plan.specs.Values.{answered};
@@ -13,7 +14,8 @@ use crate::binding::{Located, locate};
 use crate::breakpoint::Breakpoint;
 use crate::located::{LocatedCondition, LocatedExpression};
 use pl0_machine::Machine;
-use pl0_tree::{Expression, Operator, Relation};
+use pl0_meaning::{RunFault, apply, compare, is_odd, negate};
+use pl0_tree::Expression;
 use pl0_unit::Unit;
 
 /// Why an evaluation has no result.
@@ -24,52 +26,18 @@ pub enum EvalFault {
     DivideByZero,
 }
 
-// An operation on two numbers. A quotient goes toward zero.
-#[inline]
-fn combine(operator: Operator, x: i64, y: i64) -> Result<i64, EvalFault>
-    ensures { operation operator x y ≡ answered result }
+// What arithmetic gives, as an evaluation's result.
+#[inline(always)]
+fn evaluated(outcome: Result<i64, RunFault>) -> Result<i64, EvalFault>
+    requires { IsArithmetic outcome }
+    ensures { outcome ≡ answered result }
 {
-    match operator {
-        Operator::Add => x.checked_add(y).ok_or(EvalFault::Overflow),
-        Operator::Subtract => x.checked_sub(y).ok_or(EvalFault::Overflow),
-        Operator::Multiply => x.checked_mul(y).ok_or(EvalFault::Overflow),
-        Operator::Divide => {
-            if y == 0 {
-                Err(EvalFault::DivideByZero)
-            } else {
-                x.checked_div(y).ok_or(EvalFault::Overflow)
-            }
-        }
+    match outcome {
+        Ok(number) => Ok(number),
+        Err(RunFault::Overflow) => Err(EvalFault::Overflow),
+        Err(RunFault::DivideByZero) => Err(EvalFault::DivideByZero),
+        Err(RunFault::Depth | RunFault::StepLimit) => unreachable!(),
     }
-}
-
-// The negative of a number.
-#[inline]
-fn negated(x: i64) -> Result<i64, EvalFault>
-    ensures { checked (neg_ℤ x) ≡ answered result }
-{
-    x.checked_neg().ok_or(EvalFault::Overflow)
-}
-
-#[inline]
-fn compare(relation: Relation, x: i64, y: i64) -> bool
-    ensures { result ≡ comparison relation x y }
-{
-    match relation {
-        Relation::Equal => x == y,
-        Relation::Unequal => x != y,
-        Relation::Less => x < y,
-        Relation::AtMost => x <= y,
-        Relation::Greater => x > y,
-        Relation::AtLeast => x >= y,
-    }
-}
-
-#[inline]
-fn odd(x: i64) -> bool
-    ensures { result ≡ is_odd x }
-{
-    x % 2 != 0
 }
 
 // The number of a variable in the frame to which `level` links lead.
@@ -102,11 +70,11 @@ fn value_of(
         LocatedExpression::Variable { level, index } => Ok(variable(
             machine, frame, *level, *index,
         )),
-        LocatedExpression::Negate(inner) => negated(value_of(machine, frame, inner)?),
+        LocatedExpression::Negate(inner) => evaluated(negate(value_of(machine, frame, inner)?)),
         LocatedExpression::Binary(operator, left, right) => {
             let x = value_of(machine, frame, left)?;
             let y = value_of(machine, frame, right)?;
-            combine(*operator, x, y)
+            evaluated(apply(*operator, x, y))
         }
     }
 }
@@ -122,7 +90,7 @@ fn truth_of(
     ensures { bound_truth (frames machine.now) frame condition.now ≡ answered result }
 {
     match condition {
-        LocatedCondition::Odd(expression) => Ok(odd(value_of(machine, frame, expression)?)),
+        LocatedCondition::Odd(expression) => Ok(is_odd(value_of(machine, frame, expression)?)),
         LocatedCondition::Compare(relation, left, right) => {
             let x = value_of(machine, frame, left)?;
             let y = value_of(machine, frame, right)?;
@@ -174,11 +142,11 @@ pub fn evaluate(machine: &Machine, frame: usize, expression: &Expression) -> Res
     match expression {
         Expression::Name(name) => Ok(name_value(machine, frame, name.text.as_str())),
         Expression::Number(number) => Ok(*number),
-        Expression::Negate(inner) => negated(evaluate(machine, frame, inner)?),
+        Expression::Negate(inner) => evaluated(negate(evaluate(machine, frame, inner)?)),
         Expression::Binary(operator, left, right) => {
             let x = evaluate(machine, frame, left)?;
             let y = evaluate(machine, frame, right)?;
-            combine(*operator, x, y)
+            evaluated(apply(*operator, x, y))
         }
     }
 }

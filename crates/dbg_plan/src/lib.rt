@@ -16,7 +16,6 @@ mod debuggee;
 mod evaluation;
 mod located;
 mod mode;
-mod order;
 mod plan;
 mod resolving;
 mod rule;

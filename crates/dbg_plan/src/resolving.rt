@@ -13,7 +13,6 @@ ghost use Rattle.dbg_plan.specs.Resolving.{IsBoundConditionOf, ResolvesLine};
 
 use crate::binding::bind_condition;
 use crate::breakpoint::{BoundCondition, Breakpoint};
-use crate::order::order_laws;
 use crate::plan::Plan;
 use crate::rule::{BadHitCondition, read_rule};
 use pl0_syntax::{editor_laws, parse_condition};
@@ -43,7 +42,6 @@ pub enum Resolution {
 fn first_step(unit: &Unit, line: u32) -> Option<StepNumber>
     ensures { result ≡ step_from (program_of unit.now) line }
 {
-    order_laws(unit);
     let first = unit.steps.partition_point(|step| step.place.line < line);
     (first < unit.steps.len()).then_some(first)
 }

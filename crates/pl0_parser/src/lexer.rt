@@ -141,42 +141,25 @@ fn number_symbol<'a>(digits: &[u8]) -> Symbol<'a>
 fn sign<'a>(bytes: &[u8]) -> (Symbol<'a>, usize)
     ensures { IsSign bytes.now result.0 result.1 }
 {
-    if bytes.starts_with(b":=") {
-        (Symbol::Mark(Mark::Becomes), 2)
-    } else if bytes.starts_with(b"<=") {
-        (Symbol::Mark(Mark::AtMost), 2)
-    } else if bytes.starts_with(b">=") {
-        (Symbol::Mark(Mark::AtLeast), 2)
-    } else if bytes.starts_with(b"+") {
-        (Symbol::Mark(Mark::Plus), 1)
-    } else if bytes.starts_with(b"-") {
-        (Symbol::Mark(Mark::Minus), 1)
-    } else if bytes.starts_with(b"*") {
-        (Symbol::Mark(Mark::Times), 1)
-    } else if bytes.starts_with(b"/") {
-        (Symbol::Mark(Mark::Slash), 1)
-    } else if bytes.starts_with(b"(") {
-        (Symbol::Mark(Mark::Open), 1)
-    } else if bytes.starts_with(b")") {
-        (Symbol::Mark(Mark::Close), 1)
-    } else if bytes.starts_with(b"=") {
-        (Symbol::Mark(Mark::Equal), 1)
-    } else if bytes.starts_with(b"#") {
-        (Symbol::Mark(Mark::Unequal), 1)
-    } else if bytes.starts_with(b"<") {
-        (Symbol::Mark(Mark::Less), 1)
-    } else if bytes.starts_with(b">") {
-        (Symbol::Mark(Mark::Greater), 1)
-    } else if bytes.starts_with(b",") {
-        (Symbol::Mark(Mark::Comma), 1)
-    } else if bytes.starts_with(b";") {
-        (Symbol::Mark(Mark::Semicolon), 1)
-    } else if bytes.starts_with(b".") {
-        (Symbol::Mark(Mark::Period), 1)
-    } else if bytes.starts_with(b"!") {
-        (Symbol::Mark(Mark::Exclamation), 1)
-    } else {
-        (Symbol::Faulty(FaultKind::BadCharacter), 1)
+    match bytes {
+        [b':', b'=', ..] => (Symbol::Mark(Mark::Becomes), 2),
+        [b'<', b'=', ..] => (Symbol::Mark(Mark::AtMost), 2),
+        [b'>', b'=', ..] => (Symbol::Mark(Mark::AtLeast), 2),
+        [b'+', ..] => (Symbol::Mark(Mark::Plus), 1),
+        [b'-', ..] => (Symbol::Mark(Mark::Minus), 1),
+        [b'*', ..] => (Symbol::Mark(Mark::Times), 1),
+        [b'/', ..] => (Symbol::Mark(Mark::Slash), 1),
+        [b'(', ..] => (Symbol::Mark(Mark::Open), 1),
+        [b')', ..] => (Symbol::Mark(Mark::Close), 1),
+        [b'=', ..] => (Symbol::Mark(Mark::Equal), 1),
+        [b'#', ..] => (Symbol::Mark(Mark::Unequal), 1),
+        [b'<', ..] => (Symbol::Mark(Mark::Less), 1),
+        [b'>', ..] => (Symbol::Mark(Mark::Greater), 1),
+        [b',', ..] => (Symbol::Mark(Mark::Comma), 1),
+        [b';', ..] => (Symbol::Mark(Mark::Semicolon), 1),
+        [b'.', ..] => (Symbol::Mark(Mark::Period), 1),
+        [b'!', ..] => (Symbol::Mark(Mark::Exclamation), 1),
+        _ => (Symbol::Faulty(FaultKind::BadCharacter), 1),
     }
 }
 

@@ -1,8 +1,8 @@
 // The values of names, expressions and conditions.
 
-ghost use Rattle.std.specs.Prelude.{◌≡◌, neg_ℤ, option_map, slice_get};
+ghost use Rattle.std.specs.Prelude.{◌≡◌, option_map, slice_get};
 ghost use Rattle.pl0_tree.specs.Scope.{block_at};
-ghost use Rattle.pl0_meaning.specs.Values.{number_of, number_at, constant_of, declared_number, name_number, or_zero, operation, comparison, checked, is_odd, value, truth};
+ghost use Rattle.pl0_meaning.specs.Values.{number_of, number_at, constant_of, declared_number, name_number, or_zero, value, truth};
 ghost use Rattle.pl0_tree.specs.Plain.{plain_block, plain_expression, plain_condition};
 ghost use Rattle.pl0_tree.specs.Tree.{constants};
 ghost use Rattle.pl0_tree.specs.declared.tree.Block.{out-Block};
@@ -11,8 +11,8 @@ ghost use Rattle.language_tests.specs.Names.{meaning_of};
 use crate::interpreter::finding::{find, frame_at};
 use crate::interpreter::frame::Frame;
 use crate::interpreter::scope::{Meaning, block_at, home};
-use pl0_meaning::RunFault;
-use pl0_tree::{Block, Condition, Expression, Operator, Relation};
+use pl0_meaning::{RunFault, apply, compare, is_odd, negate};
+use pl0_tree::{Block, Condition, Expression};
 
 fn number_at(frames: &[Frame], frame: Option<usize>, index: usize) -> Option<i64>
     ensures { result ≡ number_at frames.now frame index }
@@ -66,48 +66,6 @@ fn name_number(main: &Block, frames: &[Frame], frame: usize, name: &str) -> Opti
     declared_number(main, frames, frame, home.path, home.meaning)
 }
 
-fn negated(x: i64) -> Result<i64, RunFault>
-    ensures { result ≡ checked (neg_ℤ x) }
-{
-    x.checked_neg().ok_or(RunFault::Overflow)
-}
-
-fn operation(operator: Operator, x: i64, y: i64) -> Result<i64, RunFault>
-    ensures { result ≡ operation operator x y }
-{
-    match operator {
-        Operator::Add => x.checked_add(y).ok_or(RunFault::Overflow),
-        Operator::Subtract => x.checked_sub(y).ok_or(RunFault::Overflow),
-        Operator::Multiply => x.checked_mul(y).ok_or(RunFault::Overflow),
-        Operator::Divide => {
-            if y == 0 {
-                Err(RunFault::DivideByZero)
-            } else {
-                x.checked_div(y).ok_or(RunFault::Overflow)
-            }
-        }
-    }
-}
-
-fn comparison(relation: Relation, x: i64, y: i64) -> bool
-    ensures { result ≡ comparison relation x y }
-{
-    match relation {
-        Relation::Equal => x == y,
-        Relation::Unequal => x != y,
-        Relation::Less => x < y,
-        Relation::AtMost => x <= y,
-        Relation::Greater => x > y,
-        Relation::AtLeast => x >= y,
-    }
-}
-
-fn is_odd(x: i64) -> bool
-    ensures { result ≡ is_odd x }
-{
-    x % 2 != 0
-}
-
 /// The value of an expression in a frame, the left operand first.
 pub(crate) fn value(
     main: &Block,
@@ -123,11 +81,11 @@ pub(crate) fn value(
             let number = name_number(main, frames, frame, name.text.as_str());
             Ok(number.unwrap_or(0))
         }
-        Expression::Negate(inner) => negated(value(main, frames, frame, inner)?),
+        Expression::Negate(inner) => negate(value(main, frames, frame, inner)?),
         Expression::Binary(operator, left, right) => {
             let x = value(main, frames, frame, left)?;
             let y = value(main, frames, frame, right)?;
-            operation(*operator, x, y)
+            apply(*operator, x, y)
         }
     }
 }
@@ -146,7 +104,7 @@ pub(crate) fn truth(
         Condition::Compare(relation, left, right) => {
             let x = value(main, frames, frame, left)?;
             let y = value(main, frames, frame, right)?;
-            Ok(comparison(*relation, x, y))
+            Ok(compare(*relation, x, y))
         }
     }
 }

@@ -2,12 +2,11 @@ use Rattle.std.proofs.Common.{◌≡◌, ◌∙◌, ◌+◌, sym, subst, ap}
 use Rattle.pl0_meaning.specs.declared.RunFault.{RunFault}
 use Rattle.pl0_machine.specs.declared.outcome.StepOutcome.{StepOutcome}
 use Rattle.pl0_machine.specs.declared.outcome.StepOutcome.TheVariants.{Done, Fault}
-use Rattle.dbg_plan.specs.Counting.{IsInOrder}
 use Rattle.dbg_plan.specs.Counts.{IsCounting}
 use Rattle.dbg_plan.specs.Debugged.{Debugged}
 use Rattle.dbg_plan.specs.Advances.{further}
 use Rattle.dbg_plan.proofs.Further.{stays_counting, led}
-use Rattle.dbg_plan.proofs.Stepping.{went_on, same_unit, stays_there, not_fault}
+use Rattle.dbg_plan.proofs.Stepping.{went_on, stays_there, not_fault}
 use Rattle.dbg_plan.proofs.debuggee.Debuggee.advance.Goals as goal
 
 pub invariant_of-self : goal.invariant_of-self
@@ -21,10 +20,6 @@ returns-after-written-clause-led c =
     let behind = subst (λ (d : Debugged). d.next ≡ d.position + 1) (sym c.self.view_is) c.requires.considered.behind in
     let there = led c.self.inside c.self.invariant behind c.step.new.self (went_on c.self.inside.machine c.step.new.self c.step.result c.step.ensures _ c.in-Went.is).0 (went_on c.self.inside.machine c.step.new.self c.step.result c.step.ensures _ c.in-Went.is).1 c.count_position-hit.new.counts c.count_position-hit.result c.count_position-hit.ensures c.args.mode c.reason_here.result c.reason_here.ensures in
     (there.0 ∙ ap (λ (d : Debugged). further d) c.self.view_is, there.1, there.2)
-
-pub count_position-hit-requires-clause-in_order : goal.count_position-hit-requires-clause-in_order
-count_position-hit-requires-clause-in_order c =
-    subst (λ u. IsInOrder u) (sym (same_unit c.self.inside.machine c.step.new.self c.step.result c.step.ensures)) c.self.invariant.in_order
 
 pub invariant_of-self-in-Done : goal.invariant_of-self-in-Done
 invariant_of-self-in-Done c =

@@ -1,0 +1,113 @@
+-- The words of a lawful program are found as what they are used for.
+use Rattle.std.proofs.Common.{◌≡◌, ℕ, zero, suc, ◌<◌, List, [], ◌∷◌, length, get_or, Option, Some, None, sym, subst, arith}
+use Rattle.std.specs.Coded.{×_prop, Unit-prop}
+use Rattle.pl0_tree.specs.declared.tree.Statement.{Statement as DeclaredStatement}
+use Rattle.pl0_tree.specs.Tree.{Name, Block, body, Statement, Empty, Assign, Call, Write, Then, If, While, Expression, Variable as Named, Number, Negate, Binary, Condition, Odd, Compare}
+use Rattle.pl0_tree.specs.Plain.{plain_statement, joined}
+use Rattle.pl0_tree.specs.Scope.{Path, block_at, Meaning, AConstant, AVariable, AProcedure, Manner, IsRead, IsAssigned, IsCalled, use_of, expression_uses, condition_uses, statement_uses, body_uses, Allows, IsLawful}
+use Rattle.pl0_names.specs.declared.scopes.Found.{Found}
+use Rattle.pl0_code.specs.declared.scope.Declared.{Declared}
+use Rattle.pl0_code.specs.declared.scope.Declared.TheVariants.{Constant, Variable, Procedure as AnEntry}
+use Rattle.pl0_code.specs.Rows.{Resolver}
+use Rattle.pl0_code.specs.Sizes.{entry}
+use Rattle.pl0_code.specs.Chains.{declared_as, resolver}
+use Rattle.pl0_code.specs.Usable.{CanBeRead, CanBeAssigned, CanBeCalled, IsFoundTo, CanEvaluate, CanTest, CanDo}
+use Rattle.pl0_code.proofs.Coding.{IsMeant, AreMeant, meant_first, meant_second, meant_each, meant_found}
+
+-- what a name that is used so is declared as
+abbrev CanBe : Manner → Declared → Type 0
+CanBe IsRead = CanBeRead
+CanBe IsAssigned = CanBeAssigned
+CanBe IsCalled = CanBeCalled
+
+declared_for : (o : Option Block) (from : ℕ) (manner : Manner) (m : Meaning) → Allows m manner → CanBe manner (declared_as o from m)
+declared_for o from IsRead (AConstant k) ok = tt
+declared_for o from IsRead (AVariable k) ok = tt
+declared_for o from IsRead (AProcedure k) ok = absurd ok
+declared_for o from IsAssigned (AConstant k) ok = absurd ok
+declared_for o from IsAssigned (AVariable k) ok = tt
+declared_for o from IsAssigned (AProcedure k) ok = absurd ok
+declared_for o from IsCalled (AConstant k) ok = absurd ok
+declared_for o from IsCalled (AVariable k) ok = absurd ok
+declared_for o from IsCalled (AProcedure k) ok = tt
+
+module _ (main : Block) (q : Path) where
+  found_for : (manner : Manner) (x : Name) → IsMeant main q (use_of manner x) → IsFoundTo (CanBe manner) (resolver main q x.word)
+  found_for manner x meant =
+      let h = meant.at in
+      subst (λ o. IsFoundTo (CanBe manner) o) (sym (meant_found main q x.word h meant.found))
+      (declared_for (block_at main h.path) (entry main h.path) manner h.declaration.meaning meant.allowed)
+
+  can_evaluate : (e : Expression) → AreMeant main q (expression_uses e) → CanEvaluate (resolver main q) e
+  can_evaluate (Number n) meant = tt
+  can_evaluate (Named x) meant = found_for IsRead x meant.0
+  can_evaluate (Negate e) meant = can_evaluate e meant
+  can_evaluate (Binary op left right) meant =
+      (can_evaluate left (meant_first main q (expression_uses left) (expression_uses right) meant), can_evaluate right (meant_second main q (expression_uses left) (expression_uses right) meant))
+
+  can_test : (c : Condition) → AreMeant main q (condition_uses c) → CanTest (resolver main q) c
+  can_test (Odd e) meant = can_evaluate e meant
+  can_test (Compare c left right) meant =
+      (can_evaluate left (meant_first main q (expression_uses left) (expression_uses right) meant), can_evaluate right (meant_second main q (expression_uses left) (expression_uses right) meant))
+
+  can_do : (s : Statement) → AreMeant main q (statement_uses s) → CanDo (resolver main q) s
+  can_do Empty meant = tt
+  can_do (Then s t) meant =
+      (can_do s (meant_first main q (statement_uses s) (statement_uses t) meant), can_do t (meant_second main q (statement_uses s) (statement_uses t) meant))
+  can_do (Assign x e) meant = (found_for IsAssigned x meant.0, can_evaluate e meant.1)
+  can_do (Call p x) meant = found_for IsCalled x meant.0
+  can_do (Write p e) meant = can_evaluate e meant
+  can_do (If p c s) meant =
+      (can_test c (meant_first main q (condition_uses c) (statement_uses s) meant), can_do s (meant_second main q (condition_uses c) (statement_uses s) meant))
+  can_do (While p c s) meant =
+      (can_test c (meant_first main q (condition_uses c) (statement_uses s) meant), can_do s (meant_second main q (condition_uses c) (statement_uses s) meant))
+
+  -- the statement of a block
+  pub can_do_body : (b : Block) → IsLawful main → block_at main q ≡ Some b → CanDo (resolver main q) (body b)
+  can_do_body b lawful at = can_do (body b) (meant_each main q (body_uses b) (λ i u e. lawful.uses q b i u at e))
+
+-- one of several statements
+pub can_do_part : (r : Resolver) (xs : List DeclaredStatement) (i : ℕ) (s : DeclaredStatement) → i < length xs → s ≡ get_or xs i s → CanDo r (joined xs) → CanDo r (plain_statement s)
+can_do_part r [] i s lt is can = absurd (omega arith)
+can_do_part r (x ∷ xs) zero s lt is can = subst (λ y. CanDo r (plain_statement y)) (sym is) can.0
+can_do_part r (x ∷ xs) (suc i) s lt is can = can_do_part r xs i s (omega arith) is can.1
+
+-- ---- that they are is known once it is known under ∥ ∥₁
+
+none_prop : IsProp ⊥
+none_prop a b = absurd a
+
+declared_prop : (manner : Manner) (d : Declared) → IsProp (CanBe manner d)
+declared_prop IsRead (Constant v) = Unit-prop
+declared_prop IsRead (Variable a) = Unit-prop
+declared_prop IsRead (AnEntry a) = none_prop
+declared_prop IsAssigned (Constant v) = none_prop
+declared_prop IsAssigned (Variable a) = Unit-prop
+declared_prop IsAssigned (AnEntry a) = none_prop
+declared_prop IsCalled (Constant v) = none_prop
+declared_prop IsCalled (Variable a) = none_prop
+declared_prop IsCalled (AnEntry a) = Unit-prop
+
+found_prop : (manner : Manner) (o : Option (Found Declared)) → IsProp (IsFoundTo (CanBe manner) o)
+found_prop manner None = none_prop
+found_prop manner (Some f) = declared_prop manner f.declared
+
+module _ (r : Resolver) where
+  evaluate_prop : (e : Expression) → IsProp (CanEvaluate r e)
+  evaluate_prop (Number n) = Unit-prop
+  evaluate_prop (Named x) = found_prop IsRead (r x.word)
+  evaluate_prop (Negate e) = evaluate_prop e
+  evaluate_prop (Binary op left right) = ×_prop (evaluate_prop left) (evaluate_prop right)
+
+  test_prop : (c : Condition) → IsProp (CanTest r c)
+  test_prop (Odd e) = evaluate_prop e
+  test_prop (Compare c left right) = ×_prop (evaluate_prop left) (evaluate_prop right)
+
+  pub do_prop : (s : Statement) → IsProp (CanDo r s)
+  do_prop Empty = Unit-prop
+  do_prop (Then s t) = ×_prop (do_prop s) (do_prop t)
+  do_prop (Assign x e) = ×_prop (found_prop IsAssigned (r x.word)) (evaluate_prop e)
+  do_prop (Call p x) = found_prop IsCalled (r x.word)
+  do_prop (Write p e) = evaluate_prop e
+  do_prop (If p c s) = ×_prop (test_prop c) (do_prop s)
+  do_prop (While p c s) = ×_prop (test_prop c) (do_prop s)
