@@ -15,6 +15,8 @@ pub mod Passing
 pub mod Stopping
 pub mod OneHistory
 pub mod Texts
+pub mod Places
+pub mod Fitting
 pub mod OneReply
 pub mod Contents
 pub mod Cuts

@@ -1,5 +1,5 @@
 -- Laws of what a session sends, said without the rules of the commands and reports. `Stops` has the one on stops.
-use Rattle.std.specs.Prelude.{◌≡◌, ◌++◌, ◌∷◌, [], ℕ, ◌+◌, ℤ, List, map, Option, None, Some, option_map, slice_get, Ok}
+use Rattle.std.specs.Prelude.{◌≡◌, ◌++◌, ◌∷◌, [], ℕ, ◌+◌, ◌^◌, ◌<◌, ℤ, List, map, Option, None, Some, option_map, slice_get, Ok}
 use Rattle.std.specs.List.{filter_map}
 use Rattle.dap_frame.specs.Frame.{Frames, frame_of}
 use Rattle.dap_msg.specs.declared.request.Request.{Request}
@@ -16,12 +16,14 @@ use Rattle.dap_msg.specs.declared.outgoing.Body.TheVariants as body
 use Rattle.dap_msg.specs.declared.outgoing.EventBody.TheVariants as event
 use Rattle.dap_msg.specs.declared.outgoing.StopReason.{StopReason}
 use Rattle.dap_msg.specs.Outgoing.{text_of}
+use Rattle.dap_msg.specs.Laws.{ReadsAsMessage}
 use Rattle.pl0_meaning.specs.Runs.{written}
 use Rattle.dap_history.specs.History.{Launched, Item, Content, Loaded, Accepted, Fault, InputEnd, ReadFailure, MemoryFailure, Step, History, messages, messages_of, orders_of}
 use Rattle.dap_history.specs.Readings.{launched, position, ending_of}
 use Rattle.dap_history.specs.declared.ending.Ending.TheVariants as ending
 use Rattle.dap_history.specs.declared.ending.Closed.TheVariants as closed
 use Rattle.dbg_runner.specs.Plain.{PlainOrder, Quit}
+use Rattle.dap_history.specs.Emission.{IsAfter}
 use Rattle.dap_history.specs.Events.{Incoming, Piece, End, ReadFailed, Rest, AreLawful, IsHistoryOf}
 use Rattle.dap_history.specs.Output.{frames_from}
 
@@ -32,6 +34,10 @@ abbrev pub HistoryIsOne : Type 0
 HistoryIsOne =
     (events : List Incoming) (past other : History) (rest left : Rest) → IsHistoryOf events past rest → IsHistoryOf events other left
     → (past ≡ other) × (rest ≡ left)
+
+-- An item leads from a history to one other: what it is answered with, and what it causes, is settled.
+abbrev pub ItemsLeadToOne : Type 0
+ItemsLeadToOne = (past : History) (item : Item) (new other : History) → IsAfter past item new → IsAfter past item other → new ≡ other
 
 -- ---- Contents of the stream
 
@@ -107,6 +113,13 @@ abbrev pub SeqCountFromOne : Type 0
 SeqCountFromOne =
     (messages : List Outgoing) (n : ℕ)
     → slice_get (frames_from 1 messages) n ≡ option_map (λ message. frame_of (text_of message (n + 1))) (slice_get messages n)
+
+-- The content of the nth frame is read as the nth message, which says that its seq is n. Seqs are numbers of 64 bits.
+abbrev pub FramesAreReadBack : Type 0
+FramesAreReadBack =
+    (events : List Incoming) (past : History) (rest : Rest) → IsHistoryOf events past rest
+    → (n : ℕ) (message : Outgoing) → slice_get (messages_of past) n ≡ Some message → n + 1 < 2 ^ 64
+    → (content : List ℕ) × (slice_get (frames_from 1 (messages_of past)) n ≡ Some (frame_of content)) × ReadsAsMessage message (n + 1) content
 
 -- ---- Last message
 

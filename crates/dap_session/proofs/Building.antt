@@ -30,6 +30,7 @@ adds_both xs ys a b c first then_ =
           ∙ ap (λ n. a.frames ++ (frames_from a.next_seq xs ++ frames_from n ys)) first.seq_is
           ∙ ap (λ l. a.frames ++ l) (sym (frames_from-append a.next_seq xs ys));
       seq_is = let l = length-append xs ys in let f = first.seq_is in let t = then_.seq_is in omega (arith, l, f, t);
+      seq_fits = λ fits. then_.seq_fits (first.seq_fits fits);
     }
 
 -- one more of some events

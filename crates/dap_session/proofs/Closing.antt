@@ -1,5 +1,5 @@
 -- How a session closes where its input does.
-use Rattle.std.proofs.Common.{◌≡◌, inl, inr, [], ◌∷◌, ◌++◌, None, Some, Result, Ok, Err, refl, sym, ◌∙◌, append-nil}
+use Rattle.std.proofs.Common.{◌≡◌, inl, inr, [], ◌∷◌, ◌++◌, None, Some, Result, Ok, Err, refl, sym, ◌∙◌, append-nil, arith}
 use Rattle.std.specs.Prelude.{OnOk}
 use Rattle.dbg_runner.specs.Plain.{Quit}
 use Rattle.dap_history.specs.declared.ending.Closed.{Closed}
@@ -79,6 +79,7 @@ closes laws (Ok u) past rest event item closed last out old later taking ends af
         adds = adds_quit laws past item;
         frames_are = sym (append-nil out.frames);
         orders_are = quits.0;
+        seqs_fit = λ fits. let next = laws.next_seq_is past (closing_step item) in omega (arith, next, fits);
       };
       refuses_nothing = record { writer = refl; runner = quits.2; full = quits.1 };
     }

@@ -1,7 +1,6 @@
 -- A session that is driven.
-use Rattle.std.proofs.Common.{◌≡◌, ◌⊎◌, inl, inr, ℕ, List, [], ◌∷◌, ◌++◌, Option, None, Some, option_map, Result, Ok, Err, refl, sym, ◌∙◌, ap, subst, append_assoc, append-nil}
+use Rattle.std.proofs.Common.{◌≡◌, ◌⊎◌, inl, inr, ℕ, List, [], ◌∷◌, ◌++◌, Option, None, Some, option_map, Result, Ok, Err, refl, sym, ◌∙◌, ap, subst, append_assoc, append-nil, lit≤}
 use Rattle.std.specs.Prelude.{string_bytes}
-use Rattle.dap_frame.specs.declared.fault.FramingFault.{FramingFault}
 use Rattle.dap_history.specs.declared.ending.Closed.{Closed}
 use Rattle.dap_history.specs.declared.ending.Ending.{Ending}
 use Rattle.dap_history.specs.declared.ending.Ending.TheVariants as ending
@@ -10,22 +9,22 @@ use Rattle.dap_history.specs.declared.fault.LoadFault.TheVariants.{CannotRead, N
 use Rattle.dap_history.specs.declared.fault.SessionFault.{SessionFault}
 use Rattle.dap_history.specs.declared.fault.SessionFault.TheVariants as faults
 use Rattle.dap_history.specs.declared.launch.Launch.{Launch}
-use Rattle.dap_history.specs.History.{History, messages_of, orders_of}
+use Rattle.dap_history.specs.History.{History}
 use Rattle.dap_history.specs.Readings.{ending_of}
 use Rattle.dap_history.specs.Events.{Incoming, Piece, End, ReadFailed, File, Report, Rest, IsTaking, AreLawful, IsHistoryOf}
 use Rattle.dap_history.specs.Events.{NoMemory as NoMemoryCame}
 use Rattle.dap_history.specs.Output.{frames_from}
-use Rattle.dap_history.specs.Interleaving.{Load, Awaits, AwaitsNone, IsLoad, Interleaves, LastLoadFails, InterleavesUpTo}
+use Rattle.dap_history.specs.Interleaving.{Load, Awaits, AwaitsNone, Interleaves, InterleavesUpTo}
 use Rattle.dap_phase.specs.declared.phase.Phase.{Phase}
 use Rattle.dap_phase.specs.Phases.{launch_of}
 use Rattle.dap_session.specs.declared.want.Want.{Want}
 use Rattle.dap_session.specs.declared.want.Want.TheVariants as want_is
-use Rattle.dap_session.specs.Ports.{Ports, Ordered, Written, load_of, ports}
+use Rattle.dap_session.specs.Ports.{Ports, load_of}
 use Rattle.dap_session.specs.Sending.{Sends, RefusesNothing, TriesQuit}
 use Rattle.dap_session.specs.State.{State, StandsFor, Wants, WantsHere, IsOpenEnded}
-use Rattle.dap_session.specs.Taking.{FailsAt, EndsAt, GoesWell, LacksMemory, Comes}
-use Rattle.dap_session.specs.Serving.{Serves, ServesUntilFault, StopsShort, Drives, Driven}
-use Rattle.dap_session.specs.Coming.{Sources, sources, stored, ComesFrom}
+use Rattle.dap_session.specs.Taking.{LacksMemory, Comes}
+use Rattle.dap_session.specs.Serving.{Serves, Drives, Driven}
+use Rattle.dap_session.specs.Coming.{Sources, stored, ComesFrom}
 use Rattle.dap_session.proofs.Joining.{sends_both, refuses_both, sends_nothing}
 
 -- ---- interleavings, one after another
@@ -242,34 +241,35 @@ serves events past rest by old later history is sent sure = record {
   ending_is = is;
   frames_are = sent.frames_are ∙ ap (λ ms. old.frames ++ frames_from 1 ms) (sym sent.adds.messages_are);
   orders_are = sent.orders_are ∙ ap (λ os. old.orders ++ os) (sym sent.adds.orders_are);
+  seqs_fit = sent.seqs_fit (lit≤ tt);
   refuses_nothing = sure;
 }
 
 -- the result is as the way and its last event lead to
 ends : (events : List Incoming) (past : History) (rest : Rest) (event : Incoming) (after : State) (old mid later last : Ports) (given : List Incoming) (loads : List Load) (fault : SessionFault)
-    → IsHistoryOf events past rest → Sends [] past old mid → RefusesNothing old mid → TriesQuit later last
+    → IsHistoryOf events past rest → IsTaking past → Sends [] past old mid → RefusesNothing old mid → TriesQuit later last
     → Comes (Err fault) events past rest event after mid later
     → Interleaves [] (events ++ event ∷ []) given loads ⊎ ((fault ≡ faults.NoMemory) × InterleavesUpTo (events ++ event ∷ []) given loads)
     → Drives (Err fault) (events ++ event ∷ []) given loads old last
-ends events past rest event after old mid later last given loads (faults.Frame k) history sent sure quit comes (inl all) =
+ends events past rest event after old mid later last given loads (faults.Frame k) history taking sent sure quit comes (inl all) =
     (all, record { mid = later; serves = serves (events ++ event ∷ []) comes.new comes.rest (ending.Fault (faults.Frame k)) old later comes.history comes.ending_is (sends_both [] past comes.new old mid later sent comes.sends) (refuses_both old mid later sure comes.refuses_nothing); quit = quit })
-ends events past rest event after old mid later last given loads faults.NoMemory history sent sure quit comes (inl all) =
-    (inl all, record { before = events; last = event; events_are = refl; past = past; rest = rest; history = history; mid = mid; sent = sent; refuses_nothing = sure; stopped = later; fails = comes; quit = quit })
-ends events past rest event after old mid later last given loads faults.SeqExhausted history sent sure quit comes (inl all) =
-    (all, record { before = events; last = event; events_are = refl; past = past; rest = rest; history = history; mid = mid; sent = sent; refuses_nothing = sure; stopped = later; fails = comes; quit = quit })
-ends events past rest event after old mid later last given loads faults.OrdersFull history sent sure quit comes (inl all) =
-    (all, record { before = events; last = event; events_are = refl; past = past; rest = rest; history = history; mid = mid; sent = sent; refuses_nothing = sure; stopped = later; fails = comes; quit = quit })
-ends events past rest event after old mid later last given loads faults.RunnerGone history sent sure quit comes (inl all) =
-    (all, record { before = events; last = event; events_are = refl; past = past; rest = rest; history = history; mid = mid; sent = sent; refuses_nothing = sure; stopped = later; fails = comes; quit = quit })
-ends events past rest event after old mid later last given loads faults.WriterGone history sent sure quit comes (inl all) =
-    (all, record { before = events; last = event; events_are = refl; past = past; rest = rest; history = history; mid = mid; sent = sent; refuses_nothing = sure; stopped = later; fails = comes; quit = quit })
-ends events past rest event after old mid later last given loads (faults.Frame k) history sent sure quit comes (inr up) = absurd (let e = up.0 in cc)
-ends events past rest event after old mid later last given loads faults.NoMemory history sent sure quit comes (inr up) =
-    (up.1, record { before = events; last = event; events_are = refl; past = past; rest = rest; history = history; mid = mid; sent = sent; refuses_nothing = sure; stopped = later; fails = comes; quit = quit })
-ends events past rest event after old mid later last given loads faults.SeqExhausted history sent sure quit comes (inr up) = absurd (let e = up.0 in cc)
-ends events past rest event after old mid later last given loads faults.OrdersFull history sent sure quit comes (inr up) = absurd (let e = up.0 in cc)
-ends events past rest event after old mid later last given loads faults.RunnerGone history sent sure quit comes (inr up) = absurd (let e = up.0 in cc)
-ends events past rest event after old mid later last given loads faults.WriterGone history sent sure quit comes (inr up) = absurd (let e = up.0 in cc)
+ends events past rest event after old mid later last given loads faults.NoMemory history taking sent sure quit comes (inl all) =
+    (inl all, record { before = events; last = event; events_are = refl; past = past; rest = rest; history = history; taking = taking; mid = mid; sent = sent; refuses_nothing = sure; stopped = later; fails = comes; quit = quit })
+ends events past rest event after old mid later last given loads faults.SeqExhausted history taking sent sure quit comes (inl all) =
+    (all, record { before = events; last = event; events_are = refl; past = past; rest = rest; history = history; taking = taking; mid = mid; sent = sent; refuses_nothing = sure; stopped = later; fails = comes; quit = quit })
+ends events past rest event after old mid later last given loads faults.OrdersFull history taking sent sure quit comes (inl all) =
+    (all, record { before = events; last = event; events_are = refl; past = past; rest = rest; history = history; taking = taking; mid = mid; sent = sent; refuses_nothing = sure; stopped = later; fails = comes; quit = quit })
+ends events past rest event after old mid later last given loads faults.RunnerGone history taking sent sure quit comes (inl all) =
+    (all, record { before = events; last = event; events_are = refl; past = past; rest = rest; history = history; taking = taking; mid = mid; sent = sent; refuses_nothing = sure; stopped = later; fails = comes; quit = quit })
+ends events past rest event after old mid later last given loads faults.WriterGone history taking sent sure quit comes (inl all) =
+    (all, record { before = events; last = event; events_are = refl; past = past; rest = rest; history = history; taking = taking; mid = mid; sent = sent; refuses_nothing = sure; stopped = later; fails = comes; quit = quit })
+ends events past rest event after old mid later last given loads (faults.Frame k) history taking sent sure quit comes (inr up) = absurd (let e = up.0 in cc)
+ends events past rest event after old mid later last given loads faults.NoMemory history taking sent sure quit comes (inr up) =
+    (up.1, record { before = events; last = event; events_are = refl; past = past; rest = rest; history = history; taking = taking; mid = mid; sent = sent; refuses_nothing = sure; stopped = later; fails = comes; quit = quit })
+ends events past rest event after old mid later last given loads faults.SeqExhausted history taking sent sure quit comes (inr up) = absurd (let e = up.0 in cc)
+ends events past rest event after old mid later last given loads faults.OrdersFull history taking sent sure quit comes (inr up) = absurd (let e = up.0 in cc)
+ends events past rest event after old mid later last given loads faults.RunnerGone history taking sent sure quit comes (inr up) = absurd (let e = up.0 in cc)
+ends events past rest event after old mid later last given loads faults.WriterGone history taking sent sure quit comes (inr up) = absurd (let e = up.0 in cc)
 
 -- the session was closed
 pub way_closes : (session after : State) (wanted : Option (List ℕ)) (want : Want) (event : Incoming) (begin now next : Sources) (old mid later : Ports) (by : Closed)
@@ -309,7 +309,7 @@ way_fails session after wanted fault event begin now next old mid later last way
         given_are = adds.given_are ∙ ap (λ l. l ++ adds.given) way.given_are ∙ append_assoc begin.given way.given adds.given;
         loads_are = adds.loads_are ∙ ap (λ l. l ++ adds.loads) way.loads_are ∙ append_assoc begin.loaded way.loads adds.loads;
         lawful = lawful_both way.events (event ∷ []) way.lawful law;
-        drives = ends way.events way.past way.stands.rest event after old mid later last (way.given ++ adds.given) (way.loads ++ adds.loads) fault way.stands.history way.sent way.sure quit
+        drives = ends way.events way.past way.stands.rest event after old mid later last (way.given ++ adds.given) (way.loads ++ adds.loads) fault way.stands.history (sym way.stands.ending_is ∙ way.open_ended) way.sent way.sure quit
             (step.comes way.events way.past way.stands)
             (inl (interleaves_both [] way.events (event ∷ []) way.given adds.given way.loads adds.loads way.interleaves adds.one));
       }
@@ -322,7 +322,7 @@ way_fails session after wanted fault event begin now next old mid later last way
             given_are = none.given_are ∙ way.given_are;
             loads_are = none.loads_are ∙ way.loads_are;
             lawful = lawful_both way.events (event ∷ []) way.lawful law;
-            drives = ends way.events way.past way.stands.rest event after old mid later last way.given way.loads fault way.stands.history way.sent way.sure quit
+            drives = ends way.events way.past way.stands.rest event after old mid later last way.given way.loads fault way.stands.history (sym way.stands.ending_is ∙ way.open_ended) way.sent way.sure quit
                 (step.comes way.events way.past way.stands)
                 (inr (same, inr (record { before = way.events; path = none.path; events_are = ap (λ x. way.events ++ x ∷ []) none.event_is; awaited = none.awaited; interleaves = way.interleaves })));
           }

@@ -1,5 +1,5 @@
 -- One item more, for a session at a history.
-use Rattle.std.proofs.Common.{◌≡◌, inl, inr, ℕ, [], ◌∷◌, ◌++◌, Option, None, Some, Result, Ok, Err, refl, sym, ◌∙◌, ap, subst, append-nil, add-zero}
+use Rattle.std.proofs.Common.{◌≡◌, inl, inr, ℕ, [], ◌∷◌, ◌++◌, Option, None, Some, Result, Ok, Err, refl, sym, ◌∙◌, ap, subst, append-nil, add-zero, ◌+◌, length, arith}
 use Rattle.std.specs.Prelude.{map, option_map, OnOk}
 use Rattle.std.specs.Option.{option_to_list}
 use Rattle.dap_msg.specs.declared.command.CommandName.{CommandName}
@@ -97,6 +97,7 @@ sends_silent laws past step quiet still old = record {
   };
   frames_are = sym (append-nil old.frames);
   orders_are = sym (append-nil old.orders);
+  seqs_fit = λ fits. let next = laws.next_seq_is past step ∙ ap (λ ms. next_seq past + length ms) quiet in omega (arith, next, fits);
 }
 
 -- ---- a content that is no request

@@ -37,6 +37,7 @@ sends_both a b c p q r first next =
           ∙ ap (λ n. p.frames ++ (frames_from (next_seq a) first.messages ++ frames_from n next.messages)) (next_seq_along a b first.messages first.orders first.adds)
           ∙ ap (λ l. p.frames ++ l) (sym (frames_from-append (next_seq a) first.messages next.messages));
       orders_are = next.orders_are ∙ ap (λ l. l ++ next.orders) first.orders_are ∙ append_assoc p.orders first.orders next.orders;
+      seqs_fit = λ fits. next.seqs_fit (first.seqs_fit fits);
     }
 
 pub sends_nothing : (past : History) (old : Ports) → Sends past past old old
@@ -46,6 +47,7 @@ sends_nothing past old = record {
   adds = record { messages_are = sym (append-nil (messages_of past)); orders_are = sym (append-nil (orders_of past)) };
   frames_are = sym (append-nil old.frames);
   orders_are = sym (append-nil old.orders);
+  seqs_fit = λ fits. fits;
 }
 
 pub refuses_both : (p q r : Ports) → RefusesNothing p q → RefusesNothing q r → RefusesNothing p r

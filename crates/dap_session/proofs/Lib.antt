@@ -10,3 +10,5 @@ pub mod Closing
 pub mod Files
 pub mod Standing
 pub mod Driven
+pub mod Beginnings
+pub mod Numbering

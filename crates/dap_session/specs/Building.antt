@@ -1,5 +1,5 @@
 -- What comes of building frames, of pushing an order and of putting frames.
-use Rattle.std.specs.Prelude.{◌≡◌, ◌<◌, ◌+◌, ◌^◌, ◌⊎◌, ◌++◌, ◌∷◌, [], ℕ, List, map, length, Vec}
+use Rattle.std.specs.Prelude.{◌≡◌, ◌<◌, ◌≤◌, ◌+◌, ◌^◌, ◌⊎◌, ◌++◌, ◌∷◌, [], ℕ, List, map, length, Vec}
 use Rattle.std.specs.declared.alloc.Global.{Global}
 use Rattle.dap_msg.specs.declared.outgoing.Outgoing.{Outgoing}
 use Rattle.dap_history.specs.declared.fault.SessionFault.{SessionFault}
@@ -20,6 +20,7 @@ pub record Built : Type 0 where
 pub record AddsFrames (messages : List Outgoing) (old new : Built) : Type 0 where
   pub frames_are : new.frames ≡ old.frames ++ frames_from old.next_seq messages
   pub seq_is : new.next_seq ≡ old.next_seq + length messages
+  pub seq_fits : old.next_seq ≤ 2 ^ 53 → new.next_seq ≤ 2 ^ 53
 
 -- why messages that would be numbered from first on have no frames
 abbrev pub IsNotBuilt : SessionFault → ℕ → List Outgoing → Type 0

@@ -11,6 +11,8 @@ pub mod State
 pub mod Taking
 -- what comes of all
 pub mod Serving
+-- what holds of it
+pub mod Laws
 -- What only inner contracts cite.
 -- what comes of one step
 pub mod Steps

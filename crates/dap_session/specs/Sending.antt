@@ -1,5 +1,5 @@
 -- What of a history was sent.
-use Rattle.std.specs.Prelude.{◌≡◌, ◌<◌, ◌^◌, ◌⊎◌, ℕ, List, [], ◌∷◌, ◌++◌}
+use Rattle.std.specs.Prelude.{◌≡◌, ◌<◌, ◌≤◌, ◌^◌, ◌⊎◌, ℕ, List, [], ◌∷◌, ◌++◌}
 use Rattle.dap_msg.specs.declared.outgoing.Outgoing.{Outgoing}
 use Rattle.dbg_runner.specs.Plain.{PlainOrder, Quit}
 use Rattle.dap_history.specs.declared.fault.SessionFault.{SessionFault}
@@ -13,6 +13,10 @@ pub record Adds (past new : History) (messages : List Outgoing) (orders : List P
   pub messages_are : messages_of new ≡ messages_of past ++ messages
   pub orders_are : orders_of new ≡ orders_of past ++ orders
 
+-- no seq of a message is 2^53 or more, where none was before
+abbrev pub SeqsFit : History → History → Type 0
+SeqsFit past new = next_seq past ≤ 2 ^ 53 → next_seq new ≤ 2 ^ 53
+
 -- The ports gained just what the history did: the frames of the messages, numbered on, and the orders.
 pub record Sends (past new : History) (old later : Ports) : Type 0 where
   pub messages : List Outgoing
@@ -20,6 +24,7 @@ pub record Sends (past new : History) (old later : Ports) : Type 0 where
   pub adds : Adds past new messages orders
   pub frames_are : later.frames ≡ old.frames ++ frames_from (next_seq past) messages
   pub orders_are : later.orders ≡ old.orders ++ orders
+  pub seqs_fit : SeqsFit past new
 
 -- The ports refused nothing.
 pub record RefusesNothing (old later : Ports) : Type 0 where
@@ -55,6 +60,7 @@ pub record PutsSome (past new : History) (old later : Ports) : Type 0 where
   pub frame : List ℕ
   pub refused_are : later.refused ≡ old.refused ++ frame ∷ []
   pub begins : Begins (put ++ frame ∷ []) (frames_from (next_seq past) messages)
+  pub seqs_fit : SeqsFit past new
 
 -- What was sent of one more step, which leads from past to new, by the fault that broke it off, which has its cause: a port
 -- refused just now, or a message would have no seq. Orders go before frames, and frames are built before either.

@@ -1,14 +1,14 @@
 -- What a whole run of a session sends.
-use Rattle.std.specs.Prelude.{◌≡◌, ◌++◌, ◌∷◌, [], List, Some, Result, Ok, Err}
+use Rattle.std.specs.Prelude.{◌≡◌, ◌≤◌, ◌^◌, ◌++◌, ◌∷◌, [], List, Some, Result, Ok, Err}
 use Rattle.dap_frame.specs.declared.fault.FramingFault.{FramingFault}
 use Rattle.dap_history.specs.declared.fault.SessionFault.{SessionFault}
 use Rattle.dap_history.specs.declared.fault.SessionFault.TheVariants.{Frame, NoMemory, SeqExhausted, OrdersFull, RunnerGone, WriterGone}
 use Rattle.dap_history.specs.declared.ending.Closed.{Closed}
 use Rattle.dap_history.specs.declared.ending.Ending.{Ending}
 use Rattle.dap_history.specs.declared.ending.Ending.TheVariants as ending
-use Rattle.dap_history.specs.History.{History, messages_of, orders_of}
+use Rattle.dap_history.specs.History.{History, messages_of, orders_of, next_seq}
 use Rattle.dap_history.specs.Readings.{ending_of}
-use Rattle.dap_history.specs.Events.{Incoming, Rest, AreLawful, IsHistoryOf}
+use Rattle.dap_history.specs.Events.{Incoming, Rest, IsTaking, AreLawful, IsHistoryOf}
 use Rattle.dap_history.specs.Output.{frames_from}
 use Rattle.dap_history.specs.Interleaving.{Load, Interleaves, InterleavesUpTo}
 use Rattle.dap_session.specs.Ports.{Ports}
@@ -16,7 +16,7 @@ use Rattle.dap_session.specs.Sending.{Sends, RefusesNothing, TriesQuit}
 use Rattle.dap_session.specs.Taking.{FailsAt}
 
 -- The events were taken until the session ended so, and all was sent that they give: the frames of the messages with
--- seq 1, 2, 3 and on, and the orders.
+-- seq 1, 2, 3 and on, none of them 2^53 or more, and the orders.
 pub record Serves (events : List Incoming) (ending : Ending) (old later : Ports) : Type 0 where
   pub past : History
   pub rest : Rest
@@ -24,6 +24,7 @@ pub record Serves (events : List Incoming) (ending : Ending) (old later : Ports)
   pub ending_is : ending_of past ≡ Some ending
   pub frames_are : later.frames ≡ old.frames ++ frames_from 1 (messages_of past)
   pub orders_are : later.orders ≡ old.orders ++ orders_of past
+  pub seqs_fit : next_seq past ≤ 2 ^ 53
   pub refuses_nothing : RefusesNothing old later
 
 -- A framing fault ended the session. All was sent that the events give, and then a Quit was tried.
@@ -32,8 +33,8 @@ pub record ServesUntilFault (events : List Incoming) (fault : FramingFault) (old
   pub serves : Serves events (ending.Fault (Frame fault)) old mid
   pub quit : TriesQuit mid later
 
--- The session gave up at the last event. What the others give was sent, and a beginning of what that one adds, and then
--- a Quit was tried.
+-- The session, which the others hadn't ended, gave up at the last event. What the others give was sent, and a beginning of
+-- what that one adds, and then a Quit was tried.
 pub record StopsShort (events : List Incoming) (fault : SessionFault) (old later : Ports) : Type 0 where
   pub before : List Incoming
   pub last : Incoming
@@ -41,6 +42,7 @@ pub record StopsShort (events : List Incoming) (fault : SessionFault) (old later
   pub past : History
   pub rest : Rest
   pub history : IsHistoryOf before past rest
+  pub taking : IsTaking past
   pub mid : Ports
   pub sent : Sends [] past old mid
   pub refuses_nothing : RefusesNothing old mid

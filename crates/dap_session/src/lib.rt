@@ -10,6 +10,7 @@
 #![tactic(auto)]
 
 mod driving;
+mod laws;
 mod ports;
 mod session;
 mod want;
@@ -17,6 +18,7 @@ mod want;
 pub use dap_history::{Closed, Ending, LoadFault, SessionFault};
 pub use dbg_runner::{Order, Report};
 pub use driving::drive;
+pub use laws::session_laws;
 pub use ports::{Event, Inbox, Loader, OrderFault, Orders, Out};
 pub use session::Session;
 pub use want::Want;

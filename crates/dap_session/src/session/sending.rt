@@ -93,6 +93,7 @@ impl Frames {
     ) -> Result<Frames, SessionFault>
         ensures frames { IfOk result (λ all. all.frames ≡ frames_from seq (with_answer answer (map Event events))) }
         ensures seq { IfOk result (λ all. all.next_seq ≡ seq + length (with_answer answer (map Event events))) }
+        ensures fits { IfOk result (λ all. seq ≤ 2 ^ 53 → all.next_seq ≤ 2 ^ 53) }
         ensures err { IfErr result (λ fault. IsNotBuilt fault seq (with_answer answer (map Event events))) }
     {
         let mut all = Frames {

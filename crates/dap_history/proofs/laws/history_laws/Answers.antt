@@ -6,7 +6,7 @@ use Rattle.dap_history.proofs.Starts.{each_run_starts}
 use Rattle.dap_history.proofs.Answered.{each_answered}
 use Rattle.dap_history.proofs.Last.{disconnect_last}
 use Rattle.dap_history.proofs.Closings.{closed_by_end, closed_by_failure, quit_is_last}
-use Rattle.dap_history.proofs.Numbered.{numbers_count}
+use Rattle.dap_history.proofs.Numbered.{numbers_count, frames_read_back}
 use Rattle.dap_history.proofs.StopOrder.{stops_follow}
 use Rattle.dap_history.proofs.Progress.{numbers_written}
 use Rattle.dap_history.proofs.Stopping.{each_stop_right}
@@ -16,6 +16,15 @@ use Rattle.dap_history.proofs.Texts.{one_program}
 use Rattle.dap_history.proofs.OneHistory.{one_history}
 use Rattle.dap_history.proofs.laws.history_laws.Goals as goal
 
+pub returns-clause-one_effect : goal.returns-clause-one_effect
+returns-clause-one_effect c = one_after (record {
+  one_tree = c.text_laws.ensures.program;
+  one_fault = c.text_laws.ensures.one_fault;
+  not_both = c.text_laws.ensures.fault;
+  one_condition = c.editor_laws.ensures.one_condition;
+  one_expression = c.editor_laws.ensures.one_expression;
+})
+
 pub returns-clause-one : goal.returns-clause-one
 returns-clause-one c = λ events past other rest left history there.
     one_history (record {
@@ -23,13 +32,7 @@ returns-clause-one c = λ events past other rest left history there.
       one_fault = c.frame_laws.ensures.faults;
       not_both = c.frame_laws.ensures.both;
       one_request = c.message_laws.ensures.reading;
-      one_after = one_after (record {
-        one_tree = c.text_laws.ensures.program;
-        one_fault = c.text_laws.ensures.one_fault;
-        not_both = c.text_laws.ensures.fault;
-        one_condition = c.editor_laws.ensures.one_condition;
-        one_expression = c.editor_laws.ensures.one_expression;
-      });
+      one_after = returns-clause-one_effect c;
     }) [] (only_bytes []) events past other rest left history there
 
 pub returns-clause-answered : goal.returns-clause-answered
@@ -37,6 +40,10 @@ returns-clause-answered c = each_answered
 
 pub returns-clause-numbered : goal.returns-clause-numbered
 returns-clause-numbered c = numbers_count
+
+pub returns-clause-read_back : goal.returns-clause-read_back
+returns-clause-read_back c =
+    frames_read_back (contents_of_stream c.frame_laws.ensures.join) c.message_laws.ensures.echo c.message_laws.ensures.read_back c.configuration_laws.ensures.few
 
 pub returns-clause-outputs : goal.returns-clause-outputs
 returns-clause-outputs c = numbers_written (one_program c.text_laws.ensures.program) c.meaning_laws.ensures.joins

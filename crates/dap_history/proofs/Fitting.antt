@@ -1,0 +1,439 @@
+-- The numbers of a history's messages fit in 64 bits.
+use Rattle.std.proofs.Common.{◌≡◌, inl, inr, ℕ, zero, suc, ◌+◌, ◌-◌, ◌^◌, ◌≤◌, ◌<◌, Bool, true, false, cond, nat_eq, List, [], ◌∷◌, ◌++◌, map, length, Option, None, Some, option_map, Result, Ok, Err, ℤ, refl, sym, ap, ◌∙◌, subst, arith, lit≤, eqb-true}
+use Rattle.std.specs.Prelude.{All, slice_get}
+use Rattle.std.specs.Option.{option_map_or}
+use Rattle.std.proofs.lemmas.List.Elements.{All-nil, All-cons, All-take, All-drop, All-map}
+use Rattle.dap_msg.specs.declared.command.Command.{Command}
+use Rattle.dap_msg.specs.declared.command.Command.TheVariants as command
+use Rattle.dap_msg.specs.declared.command.CommandName.{CommandName}
+use Rattle.dap_msg.specs.declared.outgoing.Outgoing.{Outgoing}
+use Rattle.dap_msg.specs.declared.outgoing.Outgoing.TheVariants.{Event}
+use Rattle.dap_msg.specs.declared.outgoing.Body.TheVariants as body
+use Rattle.dap_msg.specs.declared.outgoing.Refusal.{Refusal}
+use Rattle.dap_msg.specs.declared.outgoing.EventBody.{EventBody}
+use Rattle.dap_msg.specs.declared.outgoing.EventBody.TheVariants as event
+use Rattle.dap_msg.specs.declared.outgoing.StackFrame.{StackFrame}
+use Rattle.dap_msg.specs.declared.outgoing.Scope.{Scope}
+use Rattle.dap_msg.specs.declared.requests.launch.LaunchArguments.{LaunchArguments}
+use Rattle.dap_msg.specs.declared.requests.set_breakpoints.SetBreakpointsArguments.{SetBreakpointsArguments}
+use Rattle.dap_msg.specs.declared.requests.set_breakpoints.SourceBreakpoint.{SourceBreakpoint}
+use Rattle.dap_msg.specs.declared.requests.stack_trace.StackTraceArguments.{StackTraceArguments}
+use Rattle.dap_msg.specs.Laws.{LineFits, FrameFits, ReferenceFits, BodyFits, ResultFits, NumbersFit}
+use Rattle.pl0_tree.specs.Tree.{Block}
+use Rattle.pl0_tree.specs.Steps.{StepAt}
+use Rattle.pl0_meaning.specs.Values.{Frame, Configuration, next_step}
+use Rattle.pl0_meaning.specs.Runs.{at, frame_limit}
+use Rattle.pl0_meaning.specs.Laws.{FramesAreFew}
+use Rattle.dbg_plan.specs.Breakpoints.{Breakpoint}
+use Rattle.dbg_plan.specs.declared.mode.Reason.{Reason}
+use Rattle.dbg_plan.specs.declared.evaluation.EvalFault.{EvalFault}
+use Rattle.dbg_plan.specs.declared.evaluation.EvalFault.TheVariants.{Overflow, DivideByZero}
+use Rattle.dbg_plan.specs.declared.resolving.Resolution.{Resolution}
+use Rattle.dbg_plan.specs.declared.resolving.Resolution.TheVariants.{At, NoStep, BadCondition, BadHitCondition}
+use Rattle.dbg_runner.specs.Plain.{PlainReport}
+use Rattle.dbg_runner.specs.declared.outcome.SliceOutcome.{SliceOutcome}
+use Rattle.dbg_runner.specs.declared.outcome.SliceOutcome.TheVariants as slice
+use Rattle.dap_history.specs.declared.situation.Situation.{Situation}
+use Rattle.dap_history.specs.declared.situation.Situation.TheVariants.{Fresh, Ready, Configuring, Running, Stopped, Faulted, Ended}
+use Rattle.dap_history.specs.Last.{or_else}
+use Rattle.dap_history.specs.History.{Launched, Item, Content, Loaded, Accepted, Fault, InputEnd, ReadFailure, MemoryFailure, Step, History, Effect, with_answer, messages, messages_of}
+use Rattle.dap_history.specs.Readings.{situation, launched, position, waiting_pause}
+use Rattle.dap_history.specs.Replies.{Reply, nothing, ordering, refused, on_thread, OfProgram, stops, ends}
+use Rattle.dap_history.specs.Launching.{initialize_in, Launches}
+use Rattle.dap_history.specs.Breakpoints.{answer_of, effect_in, SetsOf, SetsIn, is_at}
+use Rattle.dap_history.specs.Running.{Pace, ToStop, ToNext, ToStep, ToReturn, body_of, enters, ConfiguresIn, ResumesIn, pause_in}
+use Rattle.dap_history.specs.Frames.{Counting, line_of, column_of, frame_name, shown_frame, shown_frames, at_most, scopes_from, frame_by_id}
+use Rattle.dap_history.specs.Inspection.{Asked, stack_trace, scopes, variables, result_reply, EvaluatesIn, RepliesFrom, RepliesAt, asked_of, InspectsIn}
+use Rattle.dap_history.specs.Reports.{outputs, held, report_effect}
+use Rattle.dap_history.specs.Emission.{threads_in, RepliesIn, Answers, HasEffect, Causes}
+use Rattle.dap_history.specs.Events.{Incoming, Rest, IsHistoryOf}
+use Rattle.dap_history.proofs.Readings.{launched-snoc, messages_of-snoc}
+use Rattle.dap_history.proofs.Along.{IsKept, any_reports, along}
+use Rattle.dap_history.proofs.Silent.{all_silent}
+use Rattle.dap_history.proofs.Outputs.{report_launches}
+use Rattle.dap_history.proofs.Places.{most, BlockNear, read_near, MayBeNear, program_step_near, FramesNear, frames_near, next_step_near}
+
+-- ---- messages one after another
+
+abbrev pub MessagesFit : List Outgoing → Type 0
+MessagesFit [] = Unit {0}
+MessagesFit (m ∷ ms) = NumbersFit m × MessagesFit ms
+
+messages_fit-append : (ms ns : List Outgoing) → MessagesFit ms → MessagesFit ns → MessagesFit (ms ++ ns)
+messages_fit-append [] ns a b = b
+messages_fit-append (m ∷ ms) ns a b = (a.0, messages_fit-append ms ns a.1 b)
+
+pub message_fits : (ms : List Outgoing) (n : ℕ) (m : Outgoing) → MessagesFit ms → slice_get ms n ≡ Some m → NumbersFit m
+message_fits [] n m fits is = absurd cc
+message_fits (x ∷ ms) zero m fits is = let same : x ≡ m = cc in subst NumbersFit same fits.0
+message_fits (x ∷ ms) (suc n) m fits is = message_fits ms n m fits.1 is
+
+abbrev EventsFit : List EventBody → Type 0
+EventsFit es = MessagesFit (map Event es)
+
+events_fit-append : (es fs : List EventBody) → EventsFit es → EventsFit fs → EventsFit (es ++ fs)
+events_fit-append [] fs a b = b
+events_fit-append (e ∷ es) fs a b = (a.0, events_fit-append es fs a.1 b)
+
+-- what a reply says fits, and what it reports
+record ReplyFits (reply : Reply) : Type 0 where
+  result : ResultFits reply.result
+  events : EventsFit reply.effect.events
+
+fits_if : (reply other : Reply) → ReplyFits other → reply ≡ other → ReplyFits reply
+fits_if reply other fits is = subst ReplyFits (sym is) fits
+
+refused_fits : (why : Refusal) → ReplyFits (refused why)
+refused_fits why = record { result = tt; events = tt }
+
+if_fits : (b : Bool) (some other : Reply) → ReplyFits some → ReplyFits other → ReplyFits (cond b some other)
+if_fits true some other a b = a
+if_fits false some other a b = b
+
+thread_fits : (thread : ℕ) (reply : Reply) → ReplyFits reply → ReplyFits (on_thread thread reply)
+thread_fits thread reply fits = if_fits (nat_eq thread 1) reply (refused _) fits (refused_fits _)
+
+-- ---- lines, frames and scopes
+
+near_small : (n : ℕ) → n ≤ most → n < 2 ^ 64
+near_small n is = omega arith
+
+line_small : (less : ℕ) (o : Option StepAt) → MayBeNear o → option_map_or (λ s. s.place.line) o 0 - less < 2 ^ 64
+line_small less None near = omega arith
+line_small less (Some s) near = omega (arith, near.0)
+
+place_line_small : (counting : Counting) (o : Option StepAt) → MayBeNear o → line_of counting (option_map (λ s. s.place) o) < 2 ^ 64
+place_line_small counting None near = omega arith
+place_line_small counting (Some s) near = omega (arith, near.0)
+
+place_column_small : (counting : Counting) (o : Option StepAt) → MayBeNear o → column_of counting (option_map (λ s. s.place) o) < 2 ^ 64
+place_column_small counting None near = omega arith
+place_column_small counting (Some s) near = omega (arith, near.1)
+
+scopes_if : (b : Bool) (n i : ℕ) (word : List ℕ) (rest other : List Scope) → nat_eq n i ≡ b → n < frame_limit → All ReferenceFits rest → All ReferenceFits other
+    → All ReferenceFits (cond b (record { name = word; reference = i + 1 } ∷ rest) other)
+scopes_if true n i word rest other is few near far =
+    let same : n ≡ i = eqb-true n i is in
+    let small : i + 1 < 2 ^ 64 = omega arith in
+    All-cons ReferenceFits _ rest small near
+scopes_if false n i word rest other is few near far = far
+
+scopes_fit : (main : Block) (c : Configuration) (i : ℕ) → length c ≤ frame_limit → All ReferenceFits (scopes_from main c i)
+scopes_fit main [] i few = All-nil ReferenceFits
+scopes_fit main (f ∷ below) i few =
+    let less : length below ≤ frame_limit = omega (arith, few) in
+    scopes_if (nat_eq (length below) i) (length below) i (frame_name main f.block) (scopes_from main below f.link) (scopes_from main below i) refl (omega (arith, few))
+    (scopes_fit main below f.link less) (scopes_fit main below i less)
+
+module _ (main : Block) (near : BlockNear main) where
+  answers_fit : (less : ℕ) (answers : List Resolution) → All LineFits (map (answer_of main less) answers)
+  answers_fit less answers = All-map LineFits (answer_of main less) answers (λ k d lt. one_fits _)
+    where
+      one_fits : (r : Resolution) → LineFits (answer_of main less r)
+      one_fits (At n) = line_small less _ (program_step_near main n near)
+      one_fits NoStep = tt
+      one_fits BadCondition = tt
+      one_fits BadHitCondition = tt
+
+  shown_fit : (counting : Counting) (c : Configuration) → FramesNear c → length c ≤ frame_limit → All FrameFits (shown_frames main counting c)
+  shown_fit counting [] frames few = All-nil FrameFits
+  shown_fit counting (f ∷ below) frames few =
+      let less : length below ≤ frame_limit = omega (arith, few) in
+      let there = next_step_near main near f frames.0 in
+      All-cons FrameFits (shown_frame main counting f (length below + 1)) (shown_frames main counting below)
+      (omega (arith, few), place_line_small counting (next_step main f) there, place_column_small counting (next_step main f) there)
+      (shown_fit counting below frames.1 less)
+
+at_most_fit : (n : ℕ) (frames : List StackFrame) → All FrameFits frames → All FrameFits (at_most n frames)
+at_most_fit zero frames fit = fit
+at_most_fit (suc n) frames fit = All-take FrameFits (suc n) frames fit
+
+-- ---- what is taken
+
+-- the seq of the item's request is one of 64 bits
+abbrev pub ItemFits : Item → Type 0
+ItemFits (Content (Some request)) = request.seq < 2 ^ 64
+ItemFits (Loaded launch file) = launch.seq < 2 ^ 64
+ItemFits _ = Unit {0}
+
+abbrev pub ItemsFit : History → Type 0
+ItemsFit [] = Unit {0}
+ItemsFit (step ∷ past) = ItemFits step.item × ItemsFit past
+
+-- ---- replies
+
+module _ (few : FramesAreFew) where
+  stack_fits : (of : Asked) (asked : StackTraceArguments) (n : ℕ) (c : Configuration) → BlockNear of.program → at of.program n ≡ Some c → ReplyFits (stack_trace of asked c)
+  stack_fits of asked n c near is =
+      let less = few of.program n c is in
+      let shown = shown_fit of.program near of.counting c (frames_near of.program near n c is) less in
+      thread_fits asked.thread_id _ (record {
+        result = (at_most_fit asked.levels _ (All-drop FrameFits asked.start_frame _ shown), omega (arith, less));
+        events = tt;
+      })
+
+  scopes_reply_fits : (of : Asked) (id n : ℕ) (c : Configuration) (f : Option Frame) → at of.program n ≡ Some c → ReplyFits (scopes of id c f)
+  scopes_reply_fits of id n c None is = refused_fits _
+  scopes_reply_fits of id n c (Some f) is = record { result = scopes_fit of.program c (id - 1) (few of.program n c is); events = tt }
+
+  variables_fit : (of : Asked) (f : Option Frame) → ReplyFits (variables of f)
+  variables_fit of None = refused_fits _
+  variables_fit of (Some f) = record { result = tt; events = tt }
+
+  result_fits : (r : Result ℤ EvalFault) → ReplyFits (result_reply r)
+  result_fits (Ok v) = record { result = tt; events = tt }
+  result_fits (Err Overflow) = refused_fits _
+  result_fits (Err DivideByZero) = refused_fits _
+
+  evaluates_fit : (main : Block) (c : Configuration) (id : ℕ) (f : Option Frame) (text : List ℕ) (reply : Reply) → EvaluatesIn main c id f text reply → ReplyFits reply
+  evaluates_fit main c id None text reply is = fits_if reply _ (refused_fits _) is
+  evaluates_fit main c id (Some f) text reply (inl is) = fits_if reply _ (result_fits is.result) is.reply_is
+  evaluates_fit main c id (Some f) text reply (inr is) = fits_if reply _ (refused_fits _) is.reply_is
+
+  replies_fit : (of : Asked) (n : ℕ) (c : Configuration) (question : Command) (reply : Reply) → BlockNear of.program → at of.program n ≡ Some c → RepliesFrom of c question reply → ReplyFits reply
+  replies_fit of n c (command.StackTrace a) reply near is says = fits_if reply _ (stack_fits of a n c near is) says
+  replies_fit of n c (command.Scopes a) reply near is says = fits_if reply _ (scopes_reply_fits of a.frame_id n c (frame_by_id c a.frame_id) is) says
+  replies_fit of n c (command.Variables a) reply near is says = fits_if reply _ (variables_fit of (frame_by_id c a.variables_reference)) says
+  replies_fit of n c (command.Evaluate a) reply near is says = evaluates_fit of.program c a.frame_id (frame_by_id c a.frame_id) a.expression reply says
+  replies_fit of n c _ reply near is says = absurd says
+
+  replies_at_fit : (of : Asked) (n : ℕ) (o : Option Configuration) (question : Command) (reply : Reply) → BlockNear of.program → at of.program n ≡ o → RepliesAt of o question reply → ReplyFits reply
+  replies_at_fit of n None question reply near is says = absurd says
+  replies_at_fit of n (Some c) question reply near is says = replies_fit of n c question reply near is says
+
+  abbrev LaunchedNear : Option Launched → Type 0
+  LaunchedNear None = Unit {0}
+  LaunchedNear (Some l) = BlockNear l.program
+
+  inspects_fit : (l : Option Launched) (past : History) (question : Command) (reply : Reply) → LaunchedNear l → OfProgram l (λ l. RepliesAt (asked_of past l) (at l.program (position past)) question reply) → ReplyFits reply
+  inspects_fit None past question reply near says = absurd says
+  inspects_fit (Some l) past question reply near says = replies_at_fit (asked_of past l) (position past) (at l.program (position past)) question reply near refl says
+
+  inspects_in_fit : (s : Situation) (past : History) (question : Command) (reply : Reply) → LaunchedNear (launched past) → InspectsIn s past question reply → ReplyFits reply
+  inspects_in_fit Stopped past question reply near says = inspects_fit (launched past) past question reply near says
+  inspects_in_fit Faulted past question reply near says = inspects_fit (launched past) past question reply near says
+  inspects_in_fit Running past question reply near says = fits_if reply _ (refused_fits _) says
+  inspects_in_fit Fresh past question reply near says = fits_if reply _ (refused_fits _) says
+  inspects_in_fit Ready past question reply near says = fits_if reply _ (refused_fits _) says
+  inspects_in_fit Configuring past question reply near says = fits_if reply _ (refused_fits _) says
+  inspects_in_fit Ended past question reply near says = fits_if reply _ (refused_fits _) says
+
+  initialize_fits : (s : Situation) → ReplyFits (initialize_in s)
+  initialize_fits Fresh = record { result = tt; events = tt }
+  initialize_fits Ready = refused_fits _
+  initialize_fits Configuring = refused_fits _
+  initialize_fits Running = refused_fits _
+  initialize_fits Stopped = refused_fits _
+  initialize_fits Faulted = refused_fits _
+  initialize_fits Ended = refused_fits _
+
+  threads_fit : (s : Situation) → ReplyFits (threads_in s)
+  threads_fit Fresh = refused_fits _
+  threads_fit Ready = record { result = tt; events = tt }
+  threads_fit Configuring = record { result = tt; events = tt }
+  threads_fit Running = record { result = tt; events = tt }
+  threads_fit Stopped = record { result = tt; events = tt }
+  threads_fit Faulted = record { result = tt; events = tt }
+  threads_fit Ended = record { result = tt; events = tt }
+
+  effect_fits : (s : Situation) (past : History) (bs : List Breakpoint) → EventsFit (effect_in s past bs).events
+  effect_fits Configuring past bs = tt
+  effect_fits Stopped past bs = tt
+  effect_fits Faulted past bs = tt
+  effect_fits Running past bs = tt
+  effect_fits Ended past bs = tt
+  effect_fits Fresh past bs = tt
+  effect_fits Ready past bs = tt
+
+  sets_of_fit : (same : Bool) (past : History) (l : Launched) (lines : List SourceBreakpoint) (reply : Reply) → BlockNear l.program → SetsOf same past l lines reply → ReplyFits reply
+  sets_of_fit true past l lines reply near says =
+      fits_if reply _ (record { result = answers_fit l.program near _ says.answers; events = effect_fits (situation past) past says.breakpoints }) says.reply_is
+  sets_of_fit false past l lines reply near says =
+      fits_if reply _ (record { result = All-map LineFits _ lines (λ k d lt. tt); events = tt }) says
+
+  sets_fit : (l : Option Launched) (past : History) (a : SetBreakpointsArguments) (reply : Reply) → LaunchedNear l → OfProgram l (λ l. SetsOf (is_at a.path l.path) past l a.breakpoints reply) → ReplyFits reply
+  sets_fit None past a reply near says = absurd says
+  sets_fit (Some l) past a reply near says = sets_of_fit (is_at a.path l.path) past l a.breakpoints reply near says
+
+  sets_in_fit : (s : Situation) (past : History) (a : SetBreakpointsArguments) (reply : Reply) → LaunchedNear (launched past) → SetsIn s past a reply → ReplyFits reply
+  sets_in_fit Fresh past a reply near says = fits_if reply _ (refused_fits _) says
+  sets_in_fit Ready past a reply near says = fits_if reply _ (refused_fits _) says
+  sets_in_fit Configuring past a reply near says = sets_fit (launched past) past a reply near says
+  sets_in_fit Running past a reply near says = sets_fit (launched past) past a reply near says
+  sets_in_fit Stopped past a reply near says = sets_fit (launched past) past a reply near says
+  sets_in_fit Faulted past a reply near says = sets_fit (launched past) past a reply near says
+  sets_in_fit Ended past a reply near says = sets_fit (launched past) past a reply near says
+
+  enters_fit : (past : History) (l : Launched) (why : Option Reason) → EventsFit (enters past l why).events
+  enters_fit past l None = tt
+  enters_fit past l (Some r) = (tt, tt)
+
+  configures_fit : (o : Option Launched) (past : History) (reply : Reply) (why : Launched → Option Reason) → OfProgram o (λ l. reply ≡ record { result = Ok body.None; effect = enters past l (why l) }) → ReplyFits reply
+  configures_fit None past reply why says = absurd says
+  configures_fit (Some l) past reply why says = fits_if reply _ (record { result = tt; events = enters_fit past l (why l) }) says
+
+  configures_in_fit : (s : Situation) (past : History) (reply : Reply) → ConfiguresIn s past reply → ReplyFits reply
+  configures_in_fit Configuring past reply says = configures_fit (launched past) past reply _ says
+  configures_in_fit Fresh past reply says = fits_if reply _ (refused_fits _) says
+  configures_in_fit Ready past reply says = fits_if reply _ (refused_fits _) says
+  configures_in_fit Running past reply says = fits_if reply _ (refused_fits _) says
+  configures_in_fit Stopped past reply says = fits_if reply _ (refused_fits _) says
+  configures_in_fit Faulted past reply says = fits_if reply _ (refused_fits _) says
+  configures_in_fit Ended past reply says = fits_if reply _ (refused_fits _) says
+
+  pace_fits : (pace : Pace) → BodyFits (body_of pace)
+  pace_fits ToStop = tt
+  pace_fits ToNext = tt
+  pace_fits ToStep = tt
+  pace_fits ToReturn = tt
+
+  resumes_fit : (o : Option Launched) (reply : Reply) (pace : Pace) (thread : ℕ) (effect : Launched → Effect) → ((l : Launched) → EventsFit (effect l).events)
+      → OfProgram o (λ l. reply ≡ on_thread thread (record { result = Ok (body_of pace); effect = effect l })) → ReplyFits reply
+  resumes_fit None reply pace thread effect fit says = absurd says
+  resumes_fit (Some l) reply pace thread effect fit says = fits_if reply _ (thread_fits thread _ (record { result = pace_fits pace; events = fit l })) says
+
+  resumes_in_fit : (s : Situation) (past : History) (pace : Pace) (thread : ℕ) (reply : Reply) → ResumesIn s past pace thread reply → ReplyFits reply
+  resumes_in_fit Running past pace thread reply says = fits_if reply _ (refused_fits _) says
+  resumes_in_fit Stopped past pace thread reply says = resumes_fit (launched past) reply pace thread _ (λ l. tt) says
+  resumes_in_fit Faulted past pace thread reply says =
+      fits_if reply _ (thread_fits thread _ (record { result = pace_fits pace; events = (small 1 (lit≤ tt), (tt, tt)) })) says
+    where
+      small : (n : ℕ) → n ≤ 1 → n < 2 ^ 64
+      small n is = omega arith
+  resumes_in_fit Fresh past pace thread reply says = fits_if reply _ (refused_fits _) says
+  resumes_in_fit Ready past pace thread reply says = fits_if reply _ (refused_fits _) says
+  resumes_in_fit Configuring past pace thread reply says = fits_if reply _ (refused_fits _) says
+  resumes_in_fit Ended past pace thread reply says = fits_if reply _ (refused_fits _) says
+
+  pause_fits : (s : Situation) (past : History) (thread : ℕ) → ReplyFits (pause_in s past thread)
+  pause_fits Running past thread = thread_fits thread _ (record { result = tt; events = tt })
+  pause_fits Stopped past thread = thread_fits thread _ (record { result = tt; events = tt })
+  pause_fits Faulted past thread = thread_fits thread _ (record { result = tt; events = tt })
+  pause_fits Fresh past thread = refused_fits _
+  pause_fits Ready past thread = refused_fits _
+  pause_fits Configuring past thread = refused_fits _
+  pause_fits Ended past thread = refused_fits _
+
+  command_fits : (s : Situation) (past : History) (asked : Command) (reply : Reply) → LaunchedNear (launched past) → RepliesIn s past asked reply → ReplyFits reply
+  command_fits s past (command.Initialize a) reply near says = fits_if reply _ (initialize_fits s) says
+  command_fits s past (command.Launch a) reply near says = fits_if reply _ (refused_fits _) says
+  command_fits s past (command.SetBreakpoints a) reply near says = sets_in_fit s past a reply near says
+  command_fits s past command.ConfigurationDone reply near says = configures_in_fit s past reply says
+  command_fits s past command.Threads reply near says = fits_if reply _ (threads_fit s) says
+  command_fits s past (command.Continue a) reply near says = resumes_in_fit s past ToStop a.thread_id reply says
+  command_fits s past (command.Next a) reply near says = resumes_in_fit s past ToNext a.thread_id reply says
+  command_fits s past (command.StepIn a) reply near says = resumes_in_fit s past ToStep a.thread_id reply says
+  command_fits s past (command.StepOut a) reply near says = resumes_in_fit s past ToReturn a.thread_id reply says
+  command_fits s past (command.Pause a) reply near says = fits_if reply _ (pause_fits s past a.thread_id) says
+  command_fits s past (command.StackTrace a) reply near says = inspects_in_fit s past (command.StackTrace a) reply near says
+  command_fits s past (command.Scopes a) reply near says = inspects_in_fit s past (command.Scopes a) reply near says
+  command_fits s past (command.Variables a) reply near says = inspects_in_fit s past (command.Variables a) reply near says
+  command_fits s past (command.Evaluate a) reply near says = inspects_in_fit s past (command.Evaluate a) reply near says
+  command_fits s past command.Disconnect reply near says = fits_if reply _ (record { result = tt; events = tt }) says
+  command_fits s past (command.Unsupported a) reply near says = fits_if reply _ (refused_fits _) says
+  command_fits s past (command.BadArguments a) reply near says = fits_if reply _ (refused_fits _) says
+
+  launch_fits : (arguments : LaunchArguments) (file : Option (List ℕ)) (reply : Reply) → Launches arguments file reply → ReplyFits reply
+  launch_fits arguments None reply says = fits_if reply _ (refused_fits _) says
+  launch_fits arguments (Some text) reply (inl says) = fits_if reply _ (refused_fits _) says.reply_is
+  launch_fits arguments (Some text) reply (inr says) = fits_if reply _ (record { result = tt; events = (tt, tt) }) says.reply_is
+
+  -- ---- reports
+
+  outputs_fit : (vs : List ℤ) → EventsFit (map event.Output vs)
+  outputs_fit [] = tt
+  outputs_fit (v ∷ vs) = (tt, outputs_fit vs)
+
+  held_fits : (past : History) (r : PlainReport) (pauses : Bool) → EventsFit (held past r pauses).events
+  held_fits past r true = events_fit-append (outputs r) (stops _) (outputs_fit r.numbers) (tt, tt)
+  held_fits past r false = outputs_fit r.numbers
+
+  report_fits : (past : History) (r : PlainReport) (o : SliceOutcome) → EventsFit (report_effect past r o).events
+  report_fits past r slice.More = outputs_fit r.numbers
+  report_fits past r (slice.Due reason) = events_fit-append (outputs r) (stops _) (outputs_fit r.numbers) (tt, tt)
+  report_fits past r slice.Held = held_fits past r (waiting_pause past)
+  report_fits past r slice.Done = events_fit-append (outputs r) (ends 0) (outputs_fit r.numbers) (small 0 (lit≤ tt), (tt, tt))
+    where
+      small : (n : ℕ) → n ≤ 1 → n < 2 ^ 64
+      small n is = omega arith
+  report_fits past r (slice.Fault fault) = events_fit-append (outputs r) (stops _) (outputs_fit r.numbers) (tt, tt)
+  report_fits past r slice.NoMemory = tt
+
+  -- ---- steps
+
+  effect_step : (step : Step) (effect : Effect) → HasEffect effect step → EventsFit effect.events → MessagesFit (messages step)
+  effect_step step effect has fit =
+      subst (λ a. MessagesFit (with_answer a (map Event step.effect.events))) (sym has.answer_is) (subst (λ (e : Effect). EventsFit e.events) (sym has.effect_is) fit)
+
+  answer_step : (step : Step) (seq : ℕ) (command : CommandName) (reply : Reply) → Answers seq command reply step → seq < 2 ^ 64 → ReplyFits reply → MessagesFit (messages step)
+  answer_step step seq command reply answers small fit =
+      subst (λ a. MessagesFit (with_answer a (map Event step.effect.events))) (sym answers.answer_is)
+      ((small, fit.result), subst (λ (e : Effect). EventsFit e.events) (sym answers.effect_is) fit.events)
+
+  step_fits : (past : History) (item : Item) (step : Step) → LaunchedNear (launched past) → ItemFits item → Causes past item step → MessagesFit (messages step)
+  step_fits past (Content None) step near small causes = effect_step step nothing causes tt
+  step_fits past (Content (Some request)) step near small causes =
+      answer_step step request.seq _ causes.0 causes.2 small (command_fits (situation past) past request.body causes.0 near causes.1)
+  step_fits past (Loaded launch file) step near small causes =
+      answer_step step launch.seq _ causes.0 causes.2 small (launch_fits launch.arguments file causes.0 causes.1)
+  step_fits past (Accepted r) step near small causes = effect_step step (report_effect past r r.outcome) causes (report_fits past r r.outcome)
+  step_fits past (Fault k) step near small causes = effect_step step nothing causes tt
+  step_fits past InputEnd step near small causes = effect_step step (ordering _) causes tt
+  step_fits past ReadFailure step near small causes = effect_step step (ordering _) causes tt
+  step_fits past MemoryFailure step near small causes = effect_step step nothing causes tt
+
+  -- ---- what is launched
+
+  later_near : (o before : Option Launched) → LaunchedNear o → LaunchedNear before → LaunchedNear (or_else o before)
+  later_near None before a b = b
+  later_near (Some l) before a b = a
+
+  none_near : (o : Option Launched) → o ≡ None → LaunchedNear o
+  none_near o is = subst LaunchedNear (sym is) tt
+
+  launch_near : (arguments : LaunchArguments) (file : Option (List ℕ)) (reply : Reply) → Launches arguments file reply → LaunchedNear reply.effect.launched
+  launch_near arguments None reply says = none_near _ (ap (λ (r : Reply). r.effect.launched) says)
+  launch_near arguments (Some text) reply (inl says) = none_near _ (ap (λ (r : Reply). r.effect.launched) says.reply_is)
+  launch_near arguments (Some text) reply (inr says) =
+      subst (λ (r : Reply). LaunchedNear r.effect.launched) (sym says.reply_is) (read_near text says.program says.reads)
+
+  step_launches_near : (past : History) (item : Item) (step : Step) → Causes past item step → LaunchedNear step.effect.launched
+  step_launches_near past (Content None) step causes = none_near _ (ap (λ (e : Effect). e.launched) causes.effect_is)
+  step_launches_near past (Content (Some request)) step causes =
+      none_near _ (ap (λ (e : Effect). e.launched) causes.2.effect_is ∙ (all_silent (situation past) past request.body causes.0 causes.1).no_launch)
+  step_launches_near past (Loaded launch file) step causes =
+      subst (λ (e : Effect). LaunchedNear e.launched) (sym causes.2.effect_is) (launch_near launch.arguments file causes.0 causes.1)
+  step_launches_near past (Accepted r) step causes = none_near _ (ap (λ (e : Effect). e.launched) causes.effect_is ∙ report_launches past r r.outcome)
+  step_launches_near past (Fault k) step causes = none_near _ (ap (λ (e : Effect). e.launched) causes.effect_is)
+  step_launches_near past InputEnd step causes = none_near _ (ap (λ (e : Effect). e.launched) causes.effect_is)
+  step_launches_near past ReadFailure step causes = none_near _ (ap (λ (e : Effect). e.launched) causes.effect_is)
+  step_launches_near past MemoryFailure step causes = none_near _ (ap (λ (e : Effect). e.launched) causes.effect_is)
+
+  -- ---- histories
+
+  items_apart : (past : History) (step : Step) → ItemsFit (past ++ step ∷ []) → ItemsFit past × ItemFits step.item
+  items_apart [] step fit = (tt, fit.0)
+  items_apart (s ∷ past) step fit = let rest = items_apart past step fit.1 in ((fit.0, rest.0), rest.1)
+
+  record Fitting (past : History) : Type 0 where
+    near : LaunchedNear (launched past)
+    fit : ItemsFit past → MessagesFit (messages_of past)
+
+  fitting_more : (past : History) (step : Step) → Causes past step.item step → Fitting past → Fitting (past ++ step ∷ [])
+  fitting_more past step causes so_far = record {
+    near = subst LaunchedNear (sym (launched-snoc past step)) (later_near step.effect.launched (launched past) (step_launches_near past step.item step causes) so_far.near);
+    fit = λ items.
+        let apart = items_apart past step items in
+        subst MessagesFit (sym (messages_of-snoc past step))
+        (messages_fit-append (messages_of past) (messages step) (so_far.fit apart.0) (step_fits past step.item step so_far.near apart.1 causes));
+  }
+
+  fitting_kept : IsKept (λ r. Unit {0}) Fitting
+  fitting_kept = record {
+    step = λ past item new taking taken after here.
+        subst Fitting (sym after.new_is) (fitting_more past after.step (subst (λ i. Causes past i after.step) (sym after.item_is) after.causes) here);
+  }
+
+  pub history_fits : (events : List Incoming) (past : History) (rest : Rest) → IsHistoryOf events past rest → ItemsFit past → MessagesFit (messages_of past)
+  history_fits events past rest history items =
+      (along (λ r. Unit {0}) Fitting fitting_kept (record { near = tt; fit = λ is. tt }) events past rest (any_reports events) history).fit items

@@ -1,0 +1,269 @@
+-- The text of a message is read back as its value.
+use Rattle.std.proofs.Common.{◌≡◌, ℕ, suc, ◌<◌, ◌≤◌, ◌^◌, ◌&&◌, Bool, true, false, List, [], ◌∷◌, map, Option, Some, Ok, Err, option_map, option_and_then, Ordering, Less, Equal, Greater, refl, sym, ap, ◌∙◌, arith, lit≤, append-nil}
+use Rattle.std.specs.Prelude.{All}
+use Rattle.std.specs.Ordering.{nat_cmp, match_ordering}
+use Rattle.std.specs.Cmp.Lexicographic.{slice_cmp}
+use Rattle.std.proofs.lemmas.Bool.{and_parts}
+use Rattle.json.specs.Token.{Token}
+use Rattle.json.specs.Lex.{tokens}
+use Rattle.json.specs.Json as json
+use Rattle.json.specs.Tree as tree
+use Rattle.json.proofs.Printed.Decimals.{IsNumber-decimal}
+use Rattle.json.proofs.Printed.Tokens.{tokens-print}
+use Rattle.json.proofs.Printed.Trees.{value-json_tokens, ArePrintable-json_tokens}
+use Rattle.serde_json.specs.Data.{Data, null, boolean, number, unsigned, negative, float, string, array, object, Items, no_items, item, Members, no_members, member, put, depth, items_depth, members_depth}
+use Rattle.serde_json.specs.Read.{of_json, of_items, of_members, max_depth, read}
+use Rattle.serde_json.specs.View.{items_of}
+use Rattle.serde_json.specs.Written.{outline, items_outline, members_outline, compact_text}
+use Rattle.serde_json.proofs.Numbers.{number_of-decimal}
+use Rattle.serde_json.proofs.Texts.{print-outline}
+use Rattle.dap_msg.specs.Laws.{NumbersFit, LineFits, FrameFits, ReferenceFits, MessagesAreReadBack}
+use Rattle.dap_msg.specs.Outgoing.{value_of}
+use Rattle.dap_msg.specs.Scopes.{scope}
+use Rattle.dap_msg.specs.SetBreakpoints.{breakpoint}
+use Rattle.dap_msg.specs.StackTrace.{stack_frame}
+use Rattle.dap_msg.specs.Variables.{variable}
+use Rattle.dap_msg.specs.declared.outgoing.BreakpointAnswer.{BreakpointAnswer}
+use Rattle.dap_msg.specs.declared.outgoing.BreakpointAnswer.TheVariants.{At, Unverified}
+use Rattle.dap_msg.specs.declared.outgoing.Outgoing.{Outgoing}
+use Rattle.dap_msg.specs.declared.outgoing.Outgoing.TheVariants.{Answer, Event}
+use Rattle.dap_msg.specs.declared.outgoing.Body.TheVariants as body
+use Rattle.dap_msg.specs.declared.outgoing.EventBody.TheVariants as event
+use Rattle.dap_msg.specs.declared.outgoing.Scope.{Scope}
+use Rattle.dap_msg.specs.declared.outgoing.StackFrame.{StackFrame}
+use Rattle.dap_msg.specs.declared.outgoing.StopReason.TheVariants as reason
+use Rattle.dap_msg.proofs.Names.{says}
+use Rattle.dap_msg.proofs.Shapes.{nests_little}
+
+-- ---- values whose numbers fit, with their keys in order
+
+abbrev mutual
+  Fits : Data → Type 0
+  Fits null = Unit {0}
+  Fits (boolean b) = Unit {0}
+  Fits (number (unsigned n)) = n < 2 ^ 64
+  Fits (number (negative z)) = ⊥
+  Fits (number (float x)) = ⊥
+  Fits (string s) = Unit {0}
+  Fits (array ds) = ItemsFit ds
+  Fits (object ms) = MembersFit ms
+
+  ItemsFit : Items → Type 0
+  ItemsFit no_items = Unit {0}
+  ItemsFit (item d ds) = Fits d × ItemsFit ds
+
+  MembersFit : Members → Type 0
+  MembersFit no_members = Unit {0}
+  MembersFit (member k d ms) = Fits d × MembersFit ms
+
+abbrev is_greater : Ordering → Bool
+is_greater Less = false
+is_greater Equal = false
+is_greater Greater = true
+
+-- the key comes after those of the members
+abbrev is_after : List ℕ → Members → Bool
+is_after k no_members = true
+is_after k (member l d ms) = is_greater (slice_cmp nat_cmp k l) && is_after k ms
+
+-- the first members, with one more at their end
+abbrev then_member : Members → List ℕ → Data → Members
+then_member no_members k d = member k d no_members
+then_member (member l e ms) k d = member l e (then_member ms k d)
+
+abbrev then_members : Members → Members → Members
+then_members found no_members = found
+then_members found (member k d ms) = then_members (then_member found k d) ms
+
+abbrev mutual
+  is_sorted : Data → Bool
+  is_sorted null = true
+  is_sorted (boolean b) = true
+  is_sorted (number n) = true
+  is_sorted (string s) = true
+  is_sorted (array ds) = items_are_sorted ds
+  is_sorted (object ms) = members_are_sorted ms no_members
+
+  items_are_sorted : Items → Bool
+  items_are_sorted no_items = true
+  items_are_sorted (item d ds) = is_sorted d && items_are_sorted ds
+
+  -- after those found
+  members_are_sorted : Members → Members → Bool
+  members_are_sorted no_members found = true
+  members_are_sorted (member k d ms) found = is_after k found && (is_sorted d && members_are_sorted ms (then_member found k d))
+
+-- ---- the members go in one after another
+
+put_step : (k l : List ℕ) (d e : Data) (ms rest : Members) (o : Ordering) → is_greater o ≡ true → rest ≡ put k d ms
+    → match_ordering o (member k d (member l e ms)) (member l d ms) (member l e (put k d ms)) ≡ member l e rest
+put_step k l d e ms rest Less is same = absurd cc
+put_step k l d e ms rest Equal is same = absurd cc
+put_step k l d e ms rest Greater is same = ap (member l e) (sym same)
+
+put_after : (k : List ℕ) (d : Data) (found : Members) → is_after k found ≡ true → put k d found ≡ then_member found k d
+put_after k d no_members is = refl
+put_after k d (member l e ms) is =
+    let both = and_parts (is_greater (slice_cmp nat_cmp k l)) (is_after k ms) is in
+    put_step k l d e ms (then_member ms k d) (slice_cmp nat_cmp k l) both.0 (sym (put_after k d ms both.1))
+
+-- one member after another is all of them
+then_members_none : (l : List ℕ) (e : Data) (ms found : Members) → then_members (member l e found) ms ≡ member l e (then_members found ms)
+then_members_none l e no_members found = refl
+then_members_none l e (member k d ms) found = then_members_none l e ms (then_member found k d)
+
+all_members : (ms : Members) → then_members no_members ms ≡ ms
+all_members no_members = refl
+all_members (member k d ms) = then_members_none k d ms no_members ∙ ap (member k d) (all_members ms)
+
+mutual
+  read_as : (d : Data) → Fits d → is_sorted d ≡ true → of_json (outline d) ≡ Some d
+  read_as null fits sorted = refl
+  read_as (boolean b) fits sorted = refl
+  read_as (number (unsigned n)) fits sorted = ap (option_map number) (number_of-decimal n fits)
+  read_as (number (negative z)) fits sorted = absurd fits
+  read_as (number (float x)) fits sorted = absurd fits
+  read_as (string s) fits sorted = refl
+  read_as (array ds) fits sorted = ap (option_map array) (items_read ds fits sorted)
+  read_as (object ms) fits sorted = ap (option_map object) (members_read ms no_members fits sorted ∙ ap Some (all_members ms))
+
+  items_read : (ds : Items) → ItemsFit ds → items_are_sorted ds ≡ true → of_items (items_outline ds) ≡ Some ds
+  items_read no_items fits sorted = refl
+  items_read (item d ds) fits sorted =
+      let both = and_parts (is_sorted d) (items_are_sorted ds) sorted in
+      rw (read_as d fits.0 both.0, items_read ds fits.1 both.1)
+
+  members_read : (ms found : Members) → MembersFit ms → members_are_sorted ms found ≡ true → of_members (members_outline ms) found ≡ Some (then_members found ms)
+  members_read no_members found fits sorted = refl
+  members_read (member k d ms) found fits sorted =
+      let first = and_parts (is_after k found) _ sorted in
+      let next = and_parts (is_sorted d) _ first.1 in
+      rw (read_as d fits.0 next.0) (ap (of_members (members_outline ms)) (put_after k d found first.0) ∙ members_read ms (then_member found k d) fits.1 next.1)
+
+-- ---- numbers are JSON's, and the depth is the value's
+
+mutual
+  has_numbers : (d : Data) → Fits d → tree.HasNumbers (outline d)
+  has_numbers null fits = tt
+  has_numbers (boolean b) fits = tt
+  has_numbers (number (unsigned n)) fits = IsNumber-decimal n fits
+  has_numbers (number (negative z)) fits = absurd fits
+  has_numbers (number (float x)) fits = absurd fits
+  has_numbers (string s) fits = tt
+  has_numbers (array ds) fits = items_have_numbers ds fits
+  has_numbers (object ms) fits = members_have_numbers ms fits
+
+  items_have_numbers : (ds : Items) → ItemsFit ds → tree.ItemsHaveNumbers (items_outline ds)
+  items_have_numbers no_items fits = tt
+  items_have_numbers (item d ds) fits = (has_numbers d fits.0, items_have_numbers ds fits.1)
+
+  members_have_numbers : (ms : Members) → MembersFit ms → tree.MembersHaveNumbers (members_outline ms)
+  members_have_numbers no_members fits = tt
+  members_have_numbers (member k d ms) fits = (has_numbers d fits.0, members_have_numbers ms fits.1)
+
+mutual
+  as_deep : (d : Data) → tree.depth (outline d) ≤ depth d
+  as_deep null = omega arith
+  as_deep (boolean b) = omega arith
+  as_deep (number n) = omega arith
+  as_deep (string s) = omega arith
+  as_deep (array ds) = omega (arith, items_as_deep ds)
+  as_deep (object ms) = omega (arith, members_as_deep ms)
+
+  items_as_deep : (ds : Items) → tree.items_depth (items_outline ds) ≤ items_depth ds
+  items_as_deep no_items = omega arith
+  items_as_deep (item d ds) = omega (arith, as_deep d, items_as_deep ds)
+
+  members_as_deep : (ms : Members) → tree.members_depth (members_outline ms) ≤ members_depth ms
+  members_as_deep no_members = omega arith
+  members_as_deep (member k d ms) = omega (arith, as_deep d, members_as_deep ms)
+
+-- ---- the round trip
+
+abbrev whole : Option (json.Json × List Token) → Option Data
+whole o = option_and_then of_json (option_and_then (λ p. json.if_last p.0 p.1) o)
+
+lexed : (d : Data) → Fits d → tokens (compact_text d) ≡ tree.json_tokens (outline d)
+lexed d fits = ap tokens (sym (print-outline d)) ∙ tokens-print (tree.json_tokens (outline d)) (ArePrintable-json_tokens (outline d) (has_numbers d fits))
+
+round_trip : (d : Data) → Fits d → is_sorted d ≡ true → depth d ≤ max_depth → read (compact_text d) ≡ Some d
+round_trip d fits sorted shallow =
+    ap whole (ap (json.value max_depth) (lexed d fits ∙ sym (append-nil _)) ∙ value-json_tokens (outline d) max_depth [] (omega (arith, as_deep d))) ∙ read_as d fits sorted
+
+-- ---- messages
+
+each_sorted : {A : Type 0} (f : A → Data) → ((x : A) → is_sorted (f x) ≡ true) → (xs : List A) → items_are_sorted (items_of (map f xs)) ≡ true
+each_sorted f sorted [] = refl
+each_sorted f sorted (x ∷ xs) = rw (sorted x) (each_sorted f sorted xs)
+
+breakpoint_sorted : (b : BreakpointAnswer) → is_sorted (breakpoint b) ≡ true
+breakpoint_sorted (At line) = refl
+breakpoint_sorted (Unverified why) = refl
+
+message_sorted : (message : Outgoing) (seq : ℕ) → is_sorted (value_of message seq) ≡ true
+message_sorted (Answer request_seq command (Ok body.None)) seq = refl
+message_sorted (Answer request_seq command (Ok body.Capabilities)) seq = refl
+message_sorted (Answer request_seq command (Ok (body.Breakpoints answers))) seq = rw (each_sorted breakpoint breakpoint_sorted answers)
+message_sorted (Answer request_seq command (Ok body.Threads)) seq = refl
+message_sorted (Answer request_seq command (Ok body.Continued)) seq = refl
+message_sorted (Answer request_seq command (Ok (body.StackTrace path frames total))) seq = rw (each_sorted (stack_frame path) (λ f. refl) frames)
+message_sorted (Answer request_seq command (Ok (body.Scopes scopes))) seq = rw (each_sorted scope (λ s. refl) scopes)
+message_sorted (Answer request_seq command (Ok (body.Variables variables))) seq = rw (each_sorted variable (λ v. refl) variables)
+message_sorted (Answer request_seq command (Ok (body.Value v))) seq = refl
+message_sorted (Answer request_seq command (Err r)) seq = refl
+message_sorted (Event event.Initialized) seq = refl
+message_sorted (Event (event.Stopped reason.Breakpoint)) seq = refl
+message_sorted (Event (event.Stopped reason.Step)) seq = refl
+message_sorted (Event (event.Stopped reason.Entry)) seq = refl
+message_sorted (Event (event.Stopped reason.Pause)) seq = refl
+message_sorted (Event (event.Stopped (reason.Exception fault))) seq = refl
+message_sorted (Event (event.Output v)) seq = refl
+message_sorted (Event (event.Exited code)) seq = refl
+message_sorted (Event event.Terminated) seq = refl
+
+each_fits : {A : Type 0} (f : A → Data) (P : A → Type 0) → ((x : A) → P x → Fits (f x)) → (xs : List A) → All P xs → ItemsFit (items_of (map f xs))
+each_fits f P fits [] all = tt
+each_fits f P fits (x ∷ xs) all = (fits x (all 0 x (omega arith)), each_fits f P fits xs (λ k d lt. all (suc k) d (omega arith)))
+
+breakpoint_fits : (b : BreakpointAnswer) → LineFits b → Fits (breakpoint b)
+breakpoint_fits (At line) fits = (fits, (tt, tt))
+breakpoint_fits (Unverified why) fits = (tt, (tt, tt))
+
+frame_fits : (path : List ℕ) (f : StackFrame) → FrameFits f → Fits (stack_frame path f)
+frame_fits path f fits = (fits.2, (fits.0, (fits.1, (tt, ((tt, tt), tt)))))
+
+scope_fits : (s : Scope) → ReferenceFits s → Fits (scope s)
+scope_fits s fits = (tt, (tt, (fits, tt)))
+
+small : (n : ℕ) → n ≤ 1 → n < 2 ^ 64
+small n is = omega arith
+
+message_fits : (message : Outgoing) (seq : ℕ) → NumbersFit message → seq < 2 ^ 64 → Fits (value_of message seq)
+message_fits (Answer request_seq command (Ok body.None)) seq fits below = (tt, (fits.0, (below, (tt, (tt, tt)))))
+message_fits (Answer request_seq command (Ok body.Capabilities)) seq fits below = ((tt, (tt, (tt, tt))), (tt, (fits.0, (below, (tt, (tt, tt))))))
+message_fits (Answer request_seq command (Ok (body.Breakpoints answers))) seq fits below =
+    ((each_fits breakpoint LineFits breakpoint_fits answers fits.1, tt), (tt, (fits.0, (below, (tt, (tt, tt))))))
+message_fits (Answer request_seq command (Ok body.Threads)) seq fits below =
+    ((((small 1 (lit≤ tt), (tt, tt)), tt), tt), (tt, (fits.0, (below, (tt, (tt, tt))))))
+message_fits (Answer request_seq command (Ok body.Continued)) seq fits below = ((tt, tt), (tt, (fits.0, (below, (tt, (tt, tt))))))
+message_fits (Answer request_seq command (Ok (body.StackTrace path frames total))) seq fits below =
+    ((each_fits (stack_frame path) FrameFits (frame_fits path) frames fits.1.0, (fits.1.1, tt)), (tt, (fits.0, (below, (tt, (tt, tt))))))
+message_fits (Answer request_seq command (Ok (body.Scopes scopes))) seq fits below =
+    ((each_fits scope ReferenceFits scope_fits scopes fits.1, tt), (tt, (fits.0, (below, (tt, (tt, tt))))))
+message_fits (Answer request_seq command (Ok (body.Variables variables))) seq fits below =
+    ((each_fits variable (λ v. Unit {0}) (λ v is. (tt, (tt, (small 0 (lit≤ tt), tt)))) variables (λ k d lt. tt), tt), (tt, (fits.0, (below, (tt, (tt, tt))))))
+message_fits (Answer request_seq command (Ok (body.Value v))) seq fits below = ((tt, (small 0 (lit≤ tt), tt)), (tt, (fits.0, (below, (tt, (tt, tt))))))
+message_fits (Answer request_seq command (Err r)) seq fits below = (tt, (tt, (tt, (fits.0, (below, (tt, (tt, tt)))))))
+message_fits (Event event.Initialized) seq fits below = (tt, (below, (tt, tt)))
+message_fits (Event (event.Stopped reason.Breakpoint)) seq fits below = ((tt, (tt, (small 1 (lit≤ tt), tt))), (tt, (below, (tt, tt))))
+message_fits (Event (event.Stopped reason.Step)) seq fits below = ((tt, (tt, (small 1 (lit≤ tt), tt))), (tt, (below, (tt, tt))))
+message_fits (Event (event.Stopped reason.Entry)) seq fits below = ((tt, (tt, (small 1 (lit≤ tt), tt))), (tt, (below, (tt, tt))))
+message_fits (Event (event.Stopped reason.Pause)) seq fits below = ((tt, (tt, (small 1 (lit≤ tt), tt))), (tt, (below, (tt, tt))))
+message_fits (Event (event.Stopped (reason.Exception fault))) seq fits below = ((tt, (tt, (tt, (small 1 (lit≤ tt), tt)))), (tt, (below, (tt, tt))))
+message_fits (Event (event.Output v)) seq fits below = ((tt, (tt, tt)), (tt, (below, (tt, tt))))
+message_fits (Event (event.Exited code)) seq fits below = ((fits, tt), (tt, (below, (tt, tt))))
+message_fits (Event event.Terminated) seq fits below = (tt, (below, (tt, tt)))
+
+pub messages_are_read_back : MessagesAreReadBack
+messages_are_read_back message seq fits below =
+    (round_trip (value_of message seq) (message_fits message seq fits below) (message_sorted message seq) (nests_little message seq), says message seq)
