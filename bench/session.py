@@ -1,13 +1,15 @@
 #!/usr/bin/env python3
-"""Times debug sessions: the start, the answers at a stop, a run under a breakpoint; and looks at the memory at a stop.
+"""Times debug sessions: the start, the answers at a stop, many requests at once, pauses, the way to the next stop, and runs under
+a breakpoint; and looks at the memory at a stop.
 
 usage: session.py PROGRAM [SPEED]
 
-One request is sent at a time, over pipes, and its answer waited for. Beside the program stands `answer.c`, which answers
-each frame with a constant: what the pipes and this script take. A time is from before the request is written, or the process
-is started, to after the answer was read. Instructions are what `valgrind --tool=callgrind` counts more where a session has
-more of a request. A run is timed up to the event `exited`; beside it stand a C interpreter of the same code, and the program
-`speed` where it is given. It needs clang, and valgrind for the instructions.
+One request is sent at a time, over pipes, and its answer waited for, but where many are sent at once. Beside the program stands
+`answer.c`, in turn with it, which answers each frame with the same bytes: what the pipes and this script take. A time is from
+before the request is written, or the process is started, to after the last message was read that it causes. Instructions are what
+`valgrind --tool=callgrind` counts more where a session has more of a request. A run is timed up to the event `exited`; beside it
+stand a C interpreter of the same code, and the program `speed` where it is given. It needs clang, and valgrind for the
+instructions.
 """
 import dataclasses
 import functools
@@ -21,6 +23,7 @@ import string
 import subprocess
 import sys
 import tempfile
+import threading
 import time
 
 HERE = os.path.dirname(os.path.abspath(__file__))
@@ -36,6 +39,11 @@ LIMIT = 64 * KIB
 TURNS = 10_000_000
 STEPS = 2 * TURNS + 2
 FALSE = "x < 0"
+# The requests that are sent at once, and how often so many of them.
+PIPELINED = (25_000, 100_000)
+PIPELINED_TURNS = 5
+# How long a program runs before it is paused.
+MOMENT = 0.001
 # How much is taken from a pipe at once, at most.
 PIECE = 1 << 20
 
@@ -85,13 +93,17 @@ class Client:
             sys.exit(f"{command}: {answer.decode()}")
         return answer
 
-    def seconds(self, command: str, arguments: dict) -> float:
-        """The time of a round trip."""
+    def seconds(self, command: str, arguments: dict, messages: int = 1) -> float:
+        """The time of a round trip, up to the last of so many messages."""
         frame = self.framed(command, arguments)
         begin = time.perf_counter()
         self.send(frame)
-        self.receive()
-        return time.perf_counter() - begin
+        for _ in range(messages):
+            content = self.receive()
+        taken = time.perf_counter() - begin
+        if messages > 1 and b'"event":"stopped"' not in content:
+            sys.exit(f"{command}: {content.decode()}")
+        return taken
 
     def launch(self, path: str, on_entry: bool) -> None:
         self.ask("initialize", {})
@@ -206,6 +218,36 @@ def conditions(shape, size: int) -> Question:
     return Question(name, Stop(path, text), "setBreakpoints", {"source": {"path": path}, "breakpoints": asked}, FEW)
 
 
+def paused() -> Stop:
+    """A loop without end."""
+    return Stop("endless.pl0", "while 1 = 1 do.\n", 1)
+
+
+def spaced() -> Stop:
+    """A breakpoint that is reached each 10,000 steps: one of the outer loop, two assignments, and 9,997 of the inner loop."""
+    inner = "while x < 4998 do x := x + 1"
+    return Stop("spaced.pl0", f"var x;\nwhile 1 = 1 do\nbegin x := 0;\nx := 0;\n{inner} end.\n", 3)
+
+
+@dataclasses.dataclass
+class Journey:
+    """A request that leads from a stop to the next one, and what is asked at the stop before it without being timed."""
+
+    name: str
+    stop: Stop
+    command: str
+    before: str | None = None
+    breakpoints: bool = True
+
+
+def journeys() -> list[Journey]:
+    return [
+        Journey("from `continue` to the stop, 1 step away", paused(), "continue"),
+        Journey("from `continue` to the stop, 10,000 steps away", spaced(), "continue"),
+        Journey("from `pause` to the stop, while a program loops", paused(), "pause", "continue", breakpoints=False),
+    ]
+
+
 def questions() -> list[Question]:
     some = {"threadId": 1, "levels": 20}
     expression = {"expression": "n * (n - 1) + 2", "frameId": DEPTH}
@@ -264,17 +306,89 @@ def instructions_each(program: str, question: Question, folder: str) -> str:
     return f"{(more - few) // 2:,}"
 
 
+def constant(answer: str, contents: list[bytes], folder: str) -> list[str]:
+    """The command that answers each frame with these contents."""
+    path = os.path.join(folder, "answered")
+    with open(path, "wb") as file:
+        file.write(b"".join(b"Content-Length: %d\r\n\r\n%s" % (len(content), content) for content in contents))
+    return [answer, path]
+
+
 def show_questions(program: str, answer: str, folder: str) -> None:
     for question in questions():
         client = question.stop.reach([program], folder)
-        size = len(client.ask(question.command, question.arguments))
-        times = [client.seconds(question.command, question.arguments) for _ in range(question.count)]
+        content = client.ask(question.command, question.arguments)
+        other = Client(constant(answer, [content], folder), folder)
+        times = [
+            [one.seconds(question.command, question.arguments) for one in (client, other)] for _ in range(question.count)
+        ]
         client.end()
+        other.end()
         counted = instructions_each(program, question, folder)
-        show(question.name, times, f"{size:9,} {counted:>12}")
-    client = Client([answer], folder)
-    show("`threads`, by `answer.c`", [client.seconds("threads", {}) for _ in range(MANY)])
-    client.end()
+        show(question.name, [one for one, _ in times], f"{len(content):9,} {counted:>12}")
+        show("  by `answer.c`", [one for _, one in times])
+
+
+def show_journeys(program: str, answer: str, folder: str) -> None:
+    thread = {"threadId": 1}
+    for journey in journeys():
+        client = journey.stop.reach([program], folder)
+        if not journey.breakpoints:
+            client.ask("setBreakpoints", {"source": {"path": journey.stop.path}, "breakpoints": []})
+        last = b'{"body":{"allThreadsStopped":true,"reason":"breakpoint","threadId":1},"event":"stopped","seq":99,"type":"event"}'
+        granted = b'{"command":"%s","request_seq":98,"seq":98,"success":true,"type":"response"}' % journey.command.encode()
+        other = Client(constant(answer, [granted, last], folder), folder)
+        times = []
+        for _ in range(MANY):
+            if journey.before:
+                client.ask(journey.before, thread)
+                time.sleep(MOMENT)
+            times.append([one.seconds(journey.command, thread, messages=2) for one in (client, other)])
+        client.end()
+        other.end()
+        show(journey.name, [one for one, _ in times])
+        show("  by `answer.c`", [one for _, one in times])
+
+
+def pipelined_seconds(words: list[str], count: int, folder: str) -> float:
+    """The time of so many requests that are written without waiting, up to the end of the output."""
+    client = Client(words, folder)
+    client.send(client.framed("initialize", {}))
+    client.receive()
+    whole = b"".join(client.framed("threads", {}) for _ in range(count)) + client.framed("disconnect", {})
+
+    def feed() -> None:
+        client.send(whole)
+        client.process.stdin.close()
+
+    feeder = threading.Thread(target=feed)
+    frames = 0
+    begin = time.perf_counter()
+    feeder.start()
+    while piece := os.read(client.process.stdout.fileno(), PIECE):
+        frames += piece.count(b"Content-Length")
+    taken = time.perf_counter() - begin
+    feeder.join()
+    client.process.wait()
+    # A header may be cut between two pieces, which is seldom.
+    if frames < count * 0.9:
+        sys.exit(f"{words}: {frames} frames for {count} requests")
+    return taken
+
+
+def show_pipelined(program: str, answer: str, folder: str) -> None:
+    names = {"`threads` at once": program, "`threads` at once, by `answer.c`": answer}
+    times = {name: [[] for _ in PIPELINED] for name in names}
+    for _ in range(PIPELINED_TURNS):
+        for name, word in names.items():
+            for number, count in enumerate(PIPELINED):
+                times[name][number].append(pipelined_seconds([word], count, folder))
+    for name, taken in times.items():
+        for count, some in zip(PIPELINED, taken):
+            each = statistics.median(some) / count
+            show(f"{count:,} {name}", some, f"{each * 1e9:8.0f} ns a request")
+        growth = statistics.median(taken[1]) / statistics.median(taken[0])
+        print(f"  four times as many take {growth:.2f} times as long, by the medians", flush=True)
 
 
 def memory(client: Client) -> str:
@@ -386,6 +500,8 @@ def main() -> int:
         print(f"{'':66} {'times':>5} {'best':>13} {'median':>13} {'bytes':>9} {'instructions':>12}")
         show_starts(program, answer, folder)
         show_questions(program, answer, folder)
+        show_journeys(program, answer, folder)
+        show_pipelined(program, answer, folder)
         show_runs(program, speed[0] if speed else None, folder)
         show_memory(program, folder)
     return 0

@@ -1,19 +1,48 @@
 """Feeds debug sessions to the adapter over pipes, and has what they must write.
 
-The adapter reads nothing while a program runs, and takes all requests that one read brings before the run's first slice.
-So a request that is meant for a stop is sent when the stop was written.
+A request that is meant for a stop is sent when the stop was written. Where the adapter gave up it still waits in a read, which
+nothing but its input ends: so once a call was refused, and a thread of the adapter has ended, the input is closed.
 """
 import dataclasses
 import itertools
 import json
 import os
+import re
+import select
 import subprocess
 import threading
 
 import rows
 
 # A session that has not ended after so many seconds is killed, which shows in its status.
-MOST_SECONDS = 60
+MOST_SECONDS = 20
+HEADER = re.compile(rb"Content-Length: ([0-9]+)\r\n\r\n")
+# The session's own thread, the reader, the runner and the writer.
+THREADS = 4
+# How long a frame is waited for before it is looked whether the adapter gave up, and how often in a row it must seem so.
+MOMENT = 0.004
+LOOKS = 3
+
+
+class Told:
+    """A pipe on which something is told once."""
+
+    def __init__(self) -> None:
+        self.fd, self.teller = os.pipe()
+        os.set_blocking(self.fd, False)
+        self.text = b""
+
+    def look(self) -> bytes:
+        """What was told so far."""
+        try:
+            self.text += os.read(self.fd, 64)
+        except BlockingIOError:
+            pass
+        return self.text
+
+    def close(self) -> None:
+        os.close(self.fd)
+        os.close(self.teller)
 
 
 @dataclasses.dataclass
@@ -69,48 +98,102 @@ def session(*asked: tuple) -> Session:
     return Session(exchanges, refused)
 
 
-def next_frame(stream) -> bytes:
-    """The next frame of a stream, or what is left of one where it ends."""
-    header = stream.readline() + stream.readline()
-    return header + stream.read(int(header.split()[1])) if header.endswith(b"\r\n\r\n") else header
+def frames_of(text: bytes) -> list[bytes]:
+    """The frames of a text, and what is left of one where it ends."""
+    found = []
+    while text:
+        header = HEADER.match(text)
+        end = header.end() + int(header[1]) if header else len(text)
+        found.append(text[:end])
+        text = text[end:]
+    return found
 
 
 def is_refusal(frame: bytes) -> bool:
     return frame.endswith(b'"success":false,"type":"response"}')
 
 
-def is_sent(process: subprocess.Popen, frame: bytes) -> bool:
-    """Sends a frame, and answers whether the process still had its input open."""
-    try:
-        return os.write(process.stdin.fileno(), frame) == len(frame)
-    except BrokenPipeError:
-        return False
+class Talk:
+    """A process that is fed, and what it wrote."""
+
+    def __init__(self, process: subprocess.Popen, told: Told | None, patience: int):
+        self.process = process
+        self.told = told
+        self.looks = LOOKS * patience
+        self.written = b""
+        self.given = 0
+
+    def send(self, frame: bytes) -> bool:
+        """Sends a frame, and answers whether the process still had its input open."""
+        try:
+            return os.write(self.process.stdin.fileno(), frame) == len(frame)
+        except BrokenPipeError:
+            return False
+
+    def has_given_up(self) -> bool:
+        """Whether a call was refused, and a thread has ended."""
+        if not self.told or not self.told.look():
+            return False
+        try:
+            return len(os.listdir(f"/proc/{self.process.pid}/task")) < THREADS
+        except FileNotFoundError:
+            return True
+
+    def receive(self) -> bytes:
+        """The next frame; none where the process has ended or given up."""
+        seemed = 0
+        while len(frames := frames_of(self.written[self.given:])) < 1 or not is_whole(frames[0]):
+            if select.select([self.process.stdout], [], [], MOMENT)[0]:
+                seemed = 0
+                if not self.take():
+                    return b""
+            else:
+                seemed = seemed + 1 if self.has_given_up() else 0
+                if seemed >= self.looks:
+                    return b""
+        self.given += len(frames[0])
+        return frames[0]
+
+    def take(self) -> bool:
+        piece = os.read(self.process.stdout.fileno(), 65536)
+        self.written += piece
+        return piece != b""
+
+    def converse(self, exchanges: list[Exchange]) -> None:
+        """Asks, and waits for what must be written then. After a refusal no event is waited for."""
+        for exchange in exchanges:
+            if not self.send(exchange.request):
+                return
+            for _ in exchange.answer:
+                frame = self.receive()
+                if not frame:
+                    return
+                if is_refusal(frame):
+                    break
 
 
-def converse(process: subprocess.Popen, exchanges: list[Exchange]) -> list[bytes]:
-    """The frames that the process writes. After a refusal no event is waited for."""
-    written = []
-    for exchange in exchanges:
-        if not is_sent(process, exchange.request):
-            break
-        for _ in exchange.answer:
-            written.append(next_frame(process.stdout))
-            if not written[-1] or is_refusal(written[-1]):
-                break
-    process.stdin.close()
-    return [frame for frame in written if frame] + list(iter(lambda: next_frame(process.stdout), b""))
+def is_whole(frame: bytes) -> bool:
+    header = HEADER.match(frame)
+    return bool(header) and len(frame) == header.end() + int(header[1])
 
 
-def feed(words: list[str], exchanges: list[Exchange], **settings) -> tuple[list[bytes], int, bytes]:
+def feed(
+    words: list[str], exchanges: list[Exchange], told: Told | None = None, patience: int = 1, **settings
+) -> tuple[list[bytes], int, bytes]:
     """The frames that a command writes where it is asked so, its status, and what it says on standard error."""
     pipe = subprocess.PIPE
-    with subprocess.Popen(words, stdin=pipe, stdout=pipe, stderr=pipe, cwd=rows.TOP, **settings) as process:
+    with subprocess.Popen(words, stdin=pipe, stdout=pipe, stderr=pipe, bufsize=0, cwd=rows.TOP, **settings) as process:
         end = threading.Timer(MOST_SECONDS, process.kill)
         end.start()
-        written = converse(process, exchanges)
+        talk = Talk(process, told, patience)
+        talk.converse(exchanges)
+        process.stdin.close()
+        while talk.take():
+            pass
         said = process.stderr.read()
+        process.wait()
         end.cancel()
-    return written, process.returncode, said
+    return frames_of(talk.written), process.returncode, said
 
 
 CAPABILITIES = {
@@ -192,5 +275,32 @@ OVERFLOW_SESSION = session(
     ("variables", {"variablesReference": 1}, variables(x=2**63 - 1)),
     ("evaluate", {"expression": "x - 1", "frameId": 1}, result(2**63 - 2)),
     ("continue", {"threadId": 1}, {"allThreadsContinued": True}, *over(1)),
+    DISCONNECT,
+)
+
+TWO = "examples/two.pl0"
+# It doesn't stop.
+TWO_SESSION = session(
+    INITIALIZE,
+    ("launch", {"program": TWO}, None, event("initialized")),
+    (
+        "setBreakpoints",
+        {"source": {"path": TWO}, "breakpoints": [{"line": 1, "condition": "two = 3"}, {"line": 3}]},
+        {"breakpoints": [{"line": 2, "verified": True}, {"message": "noStep", "verified": False}]},
+    ),
+    ("configurationDone", {}, None, printed(4), *over(0)),
+    DISCONNECT,
+)
+
+ENDLESS = "demo/endless.pl0"
+# It is paused somewhere in a loop without end, which looks the same everywhere.
+ENDLESS_SESSION = session(
+    INITIALIZE,
+    ("launch", {"program": ENDLESS}, None, event("initialized")),
+    ("configurationDone", {}, None),
+    ("pause", {"threadId": 1}, None, stopped("pause")),
+    ("stackTrace", {"threadId": 1}, stack(ENDLESS, ("main", 1, 1))),
+    ("continue", {"threadId": 1}, {"allThreadsContinued": True}),
+    ("pause", {"threadId": 1}, None, stopped("pause")),
     DISCONNECT,
 )

@@ -1,8 +1,8 @@
 """Makes random sessions: programs with and without mistakes, and pieces of input that are mostly timely.
 
-A session is made beside a model of the adapter, so that what is asked fits the situation more often than not.
+A session is made beside a model of the adapter, so that what is asked fits the situation more often than not. In a session that
+crosses, requests are sent while the program runs too; in another one the client waits for the stop first.
 """
-import copy
 import dataclasses
 import json
 import random
@@ -71,6 +71,15 @@ FIELDS = [b""] * 4 + [b"X-Y: z\r\n", b"Content-Type: application/vscode-jsonrpc;
           b"content-length: 7\r\n", b"0: \r\n"]
 CHANGES = [b"", b'"', b"{", b"}", b"[", b"]", b",", b":", b"0", b"1", b"9", b"-", b".", b"e", b"\\", b"/", b" ", b"\n", b"\r",
            b"\x00", b"\x7f", b"\xc3", b"\xff", "é".encode(), b"x", b"null"]
+# It runs for so long that requests arrive in the middle.
+LONG = """var a, b, c, x;
+procedure p; var n; begin n := x; a := a + n end;
+while x < {turns} do
+begin x := x + 1;
+b := b + 2; c := c + a / 7;
+if x / {rare} * {rare} = x then
+! x + c; call p
+end."""
 PATHS = {"p.pl0": 20, "deep.pl0": 3, "bad.pl0": 6, "worse.pl0": 6, "missing.pl0": 1, ".": 1, "p.pl0/": 1,
          "./p.pl0": 1, "x" * 255: 1}
 COMMANDS = [*FITTING, "attach", "restart", "terminate", "cancel", "source", "completions", "stepBack", "setVariable", "goto"]
@@ -278,33 +287,38 @@ def visited(program: Program) -> list[Statement]:
 
 def lasts(model: Session, command: str) -> bool:
     """Whether a run that a command begins is still on after its first slice."""
-    twin = copy.copy(model)
-    twin.sent = []
-    twin.plan = [dataclasses.replace(one) for one in model.plan]
-    twin.machine = copy.copy(model.machine)
-    twin.machine.frames = [
-        dataclasses.replace(one, values=dict(one.values), to_do=list(one.to_do)) for one in model.machine.frames
-    ]
+    twin = model.twin()
     twin.resume(command)
     twin.slice()
     return twin.situation == "Running"
 
 
 @dataclasses.dataclass
+class Part:
+    """A part of the input, and what the client waits for after it: a `stop` and all answers, all `answers`, a `moment`, or
+    `nothing`."""
+
+    text: bytes
+    wait: str
+
+
+@dataclasses.dataclass
 class Story:
-    """A session: the files that there are, and the pieces of input, each of whole frames and parts of some."""
+    """A session: the files that there are, the parts of the input, and whether requests cross the reports of a run."""
 
     files: dict[str, bytes]
-    pieces: list[list[bytes]]
+    parts: list[Part]
+    crosses: bool
 
 
 class Maker:
     """Makes the pieces of a session beside a model."""
 
-    def __init__(self, chance: random.Random, folder: str):
+    def __init__(self, chance: random.Random, folder: str, crosses: bool):
         self.chance = chance
+        self.crosses = crosses
         self.texts = Texts(chance)
-        self.files = {name: self.text(name).encode() for name in ("p.pl0", "deep.pl0", "bad.pl0", "worse.pl0")}
+        self.files = {name: self.text(name).encode() for name in ("p.pl0", "deep.pl0", "bad.pl0", "worse.pl0", "long.pl0")}
         self.model = Session(folder)
         self.seq = chance.choice([0, 0, 0, 100, 2**53 - 200])
         self.favourite = chance.choice(["continue", "continue", "next", "stepIn", "stepOut"])
@@ -317,6 +331,8 @@ class Maker:
             return self.texts.program()
         if name == "deep.pl0":
             return self.chance.choice(["procedure p; call p;\ncall p.", "var x; while x < 700 do\nx := x + 1.", "."])
+        if name == "long.pl0":
+            return LONG.format(turns=self.chance.choice([1000, 4000, 16000]), rare=self.chance.choice([50, 200, 1000]))
         if name == "worse.pl0" and self.chance.random() < 0.1:
             return self.chance.choice(["", " " * 65537, " " * 65535 + ".", "\n\n"])
         return self.texts.mistaken()
@@ -370,6 +386,7 @@ class Maker:
             return {name: chance.random() < 0.5 for name in ("linesStartAt1", "columnsStartAt1") if chance.random() < 0.4}
         if command == "launch":
             path = chance.choices(list(PATHS), list(PATHS.values()))[0]
+            path = "long.pl0" if self.crosses and chance.random() < 0.3 else path
             return {"program": path, **({"stopOnEntry": chance.random() < 0.7} if chance.random() < 0.7 else {})}
         if command == "setBreakpoints":
             path = self.often(self.model.path, ["q.pl0", "", "p.pl0", "P.PL0"], 0.08)
@@ -452,12 +469,15 @@ class Maker:
         at = self.chance.randrange(len(text))
         return text[:at] + self.chance.choice(CHANGES) + text[at + 1:]
 
-    def piece(self) -> list[bytes]:
-        """A piece; its last frame may be cut, so that the rest comes with the next piece."""
+    def piece(self) -> list[Part]:
+        """A piece, after which the program doesn't run, mostly. Its last frame may be cut, so that the rest comes with the next
+        piece."""
         parts = [self.rest] if self.rest else []
         self.model.take(self.rest)
         self.rest = b""
         while not self.model.is_closed():
+            if self.model.situation == "Running" and not self.crosses:
+                break
             part = self.part()
             if self.chance.random() < 0.03:
                 at = self.chance.randrange(len(part))
@@ -466,29 +486,59 @@ class Maker:
             self.model.take(part)
             if self.rest or self.chance.random() < (0.25 if self.model.situation == "Running" else 0.75):
                 break
-        self.model.run()
-        return parts
+        self.run()
+        return self.crossing(parts) if self.crosses else [Part(text, "stop") for text in self.cut(b"".join(parts))]
 
-    def last(self) -> list[bytes]:
-        """What ends a session: a request to leave with more after it, a frame that is none, or the end of the input."""
+    def run(self) -> None:
+        """Runs the model's program to where it stops, and holds it as soon as may be, or later."""
+        while self.model.situation == "Running":
+            if self.model.may_be_held() and self.chance.random() < 0.5:
+                self.model.give_back()
+            else:
+                self.model.slice()
+
+    def crossing(self, parts: list[bytes]) -> list[Part]:
+        """The parts of a piece, some cut and some together, with little waiting between them."""
+        cut = [text for part in parts for text in self.cut(part)]
+        one = self.chance.random() < 0.4
+        texts = [b"".join(cut)] if one else cut
+        waits = [self.chance.choice(["nothing", "nothing", "answers", "moment"]) for _ in texts[1:]]
+        return [Part(text, wait) for text, wait in zip(texts, [*waits, self.often("stop", ["answers", "nothing"], 0.2)])]
+
+    def cut(self, part: bytes) -> list[bytes]:
+        if len(part) < 2 or self.chance.random() < 0.8:
+            return [part]
+        at = self.chance.randrange(1, len(part))
+        return [part[:at], part[at:]]
+
+    def last(self) -> list[Part]:
+        """What ends a session: a request to leave with more after it, a frame that is none, or the end of the input. Where
+        requests cross, it may come while the program runs."""
         kind = self.texts.pick(leave=6, fault=2, end=2)
+        before = []
+        if self.crosses and not self.rest and self.model.situation == "Stopped" and self.chance.random() < 0.5:
+            before = [Part(frame(self.request("continue")), self.chance.choice(["nothing", "answers"]))]
         if kind == "end":
-            return []
+            return before
+        # The rest may be of a request that lets the program run.
+        rest = [Part(self.rest, self.chance.choice(["nothing", "stop"]) if self.crosses else "stop")] if self.rest else []
         if kind == "fault":
-            return [self.rest, self.chance.choice(FAULTY)]
-        return [self.rest, frame(self.request("disconnect")), self.often(b"", [*FAULTY, frame(self.content())], 0.3)]
+            return [*before, *rest, Part(self.chance.choice(FAULTY), "nothing")]
+        more = self.often(b"", [*FAULTY, frame(self.content())], 0.3)
+        return [*before, *rest, Part(frame(self.request("disconnect")) + more, "nothing")]
 
 
-def make(seed: int) -> Story:
+def make(seed: int, crosses: bool) -> Story:
     """The session of a seed."""
     chance = random.Random(seed)
     with tempfile.TemporaryDirectory() as folder:
-        maker = Maker(chance, folder)
+        maker = Maker(chance, folder, crosses)
         put_files(folder, maker.files)
-        pieces: list[list[bytes]] = []
+        parts: list[Part] = []
         most = chance.choice([15, 30, 60])
-        while not maker.model.is_closed() and len(pieces) < most:
-            pieces.append(maker.piece())
+        for _ in range(most):
+            if not maker.model.is_closed():
+                parts += maker.piece()
         if not maker.model.is_closed():
-            pieces.append(maker.last())
-    return Story(maker.files, pieces)
+            parts += maker.last()
+    return Story(maker.files, parts, crosses)

@@ -2,6 +2,7 @@
 
 It is written apart from the adapter, from the protocol's rules, and stands on `plain_pl0`.
 """
+import copy
 import dataclasses
 import json
 import os
@@ -293,7 +294,9 @@ class Mode:
 class Session:
     """A session: what it is given changes it, and adds to the contents that leave.
 
-    A piece of input is taken whole by `take`; then `run` runs the program to where it stops, if it runs.
+    A piece of input is taken whole by `take`. While the program runs, `slice` accepts the report of its next slice, and
+    `give_back` that it is held, which may come after a slice of the run, once there is reason for it (`may_be_held`). When each
+    comes is open.
     """
 
     def __init__(self, folder: str):
@@ -302,6 +305,7 @@ class Session:
         self.situation = "Fresh"
         self.fault: int | None = None
         self.sent: list[bytes] = []
+        self.seq = 0
         self.lines = self.columns = True
         self.path = ""
         self.entry = False
@@ -312,12 +316,38 @@ class Session:
         self.waiting_plan: list[Breakpoint] | None = None
         self.waiting_pause = False
         self.is_held = False
+        self.slices = 0
+        # After how many slices each run was held that was.
+        self.held: list[int] = []
+        # Requests to set breakpoints so far, and the one whose plan is in force.
+        self.asked_plans = 0
+        self.plan_number = 0
+
+    def twin(self) -> "Session":
+        """The same session, which has sent nothing since, and goes on apart from this one."""
+        twin = copy.copy(self)
+        twin.sent = []
+        twin.held = list(self.held)
+        twin.frames = copy.copy(self.frames)
+        twin.plan = [dataclasses.replace(one) for one in self.plan]
+        twin.machine = self.machine.twin() if self.machine else None
+        return twin
+
+    def key(self) -> tuple:
+        """What the rest of the session depends on, beside what was taken of its input, since a program's run is always the
+        same."""
+        return (
+            self.situation, self.machine and self.machine.position, self.slices > 0, self.is_held, self.waiting_pause,
+            self.waiting_plan is None, self.asked_plans, self.plan_number, tuple(one.arrivals for one in self.plan),
+            dataclasses.astuple(self.mode),
+        )
 
     def is_closed(self) -> bool:
         return self.situation == "Closed"
 
     def put(self, message: dict) -> None:
-        whole = {**message, "seq": len(self.sent) + 1}
+        self.seq += 1
+        whole = {**message, "seq": self.seq}
         self.sent.append(json.dumps(whole, sort_keys=True, separators=(",", ":"), ensure_ascii=False).encode())
 
     def event(self, name: str, body: dict | None = None) -> None:
@@ -414,6 +444,7 @@ class Session:
         self.mode = mode
         self.waiting_plan = None
         self.waiting_pause = self.is_held = False
+        self.slices = 0
 
     def answer_initialize(self, lines: bool, columns: bool) -> dict:
         self.situation = "Ready"
@@ -443,10 +474,11 @@ class Session:
             one.line += 0 if self.lines else 1
         found = [resolved(self.program, one) for one in asked]
         plan = [one for one in found if isinstance(one, Breakpoint)]
+        self.asked_plans += 1
         if self.situation == "Running":
             self.waiting_plan, self.is_held = plan, True
         else:
-            self.plan = plan
+            self.plan, self.plan_number = plan, self.asked_plans
         return {"breakpoints": [self.told(one) for one in found]}
 
     def told(self, one: Breakpoint | str) -> dict:
@@ -513,13 +545,18 @@ class Session:
         return "breakpoint" if any(due) else mode.reason(self.machine.depth())
 
     def run(self) -> None:
-        """Gives slices until the program doesn't run; orders are looked at after each slice."""
+        """Runs the program to where it stops, and holds it as soon as may be."""
         while self.situation == "Running":
-            self.slice()
-            if self.situation == "Running" and self.is_held:
+            if self.may_be_held():
                 self.give_back()
+            else:
+                self.slice()
+
+    def may_be_held(self) -> bool:
+        return self.situation == "Running" and self.is_held and self.slices > 0
 
     def slice(self) -> None:
+        self.slices += 1
         numbers: list[int] = []
         for _ in range(SLICE):
             try:
@@ -544,10 +581,12 @@ class Session:
 
     def put_plan_in(self) -> None:
         if self.waiting_plan is not None:
-            self.plan = self.waiting_plan
+            self.plan = [dataclasses.replace(one) for one in self.waiting_plan]
+            self.plan_number = self.asked_plans
 
     def give_back(self) -> None:
         """The runner gives the program back between two slices."""
+        self.held.append(self.slices)
         self.put_plan_in()
         if self.waiting_pause:
             self.stop("pause")

@@ -1,4 +1,4 @@
-"""Plays a session to the adapter: each piece of input is a write of its own, and is read before the next one is written."""
+"""Plays a session to the adapter: each piece of input is a write of its own."""
 import fcntl
 import os
 import re
@@ -32,14 +32,23 @@ class Adapter:
         return struct.unpack("i", fcntl.ioctl(self.child.stdin, termios.FIONREAD, b"    "))[0]
 
     def write(self, piece: bytes) -> None:
-        """Writes a piece as soon as all input before it was read."""
+        """Writes a piece as soon as all input before it was read, so that one of at most 4,096 bytes is one read."""
         until = time.monotonic() + WAIT
         while self.unread() and self.child.poll() is None and time.monotonic() < until:
             time.sleep(0.0002)
-        try:
-            self.child.stdin.write(piece)
-        except BrokenPipeError:
-            pass  # it has ended, which the output shows
+        self.write_now(piece)
+
+    def write_now(self, piece: bytes) -> None:
+        """Writes a piece, at most 4,096 bytes at once, and takes meanwhile what comes, so that neither waits for the other."""
+        while piece:
+            came, room, _ = select.select([self.child.stdout], [self.child.stdin], [], WAIT)
+            try:
+                if room:
+                    piece = piece[os.write(self.child.stdin.fileno(), piece[:4096]):]
+                elif not came or not self.more():
+                    return
+            except BrokenPipeError:
+                return  # it has ended, which the output shows
 
     def more(self) -> bool:
         """Receives some more bytes; none at the end of the output, or if none come in time."""
@@ -59,9 +68,12 @@ class Adapter:
             if not self.more():
                 return None
 
+    def end_input(self) -> None:
+        self.child.stdin.close()
+
     def end(self) -> tuple[bytes, int, str]:
         """Ends the input, and returns what was still written, the status and the last line on standard error."""
-        self.child.stdin.close()
+        self.end_input()
         while self.more():
             pass
         try:

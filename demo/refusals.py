@@ -1,23 +1,27 @@
 #!/usr/bin/env python3
-"""Runs the programs again and again, with another allocation, read or write refused each time, and judges how they end.
+"""Runs the programs again and again, with another allocation, thread, read or write refused each time, and judges how they end.
 
-usage: refusals.py PROGRAM SPEED
+usage: refusals.py PROGRAM [SPEED]
 
 PROGRAM is pl0dap; SPEED is the program `speed`, which runs a text by the machine alone, in slices under a plan, and by the
-runner. Each allocation is refused in turn, up to the first run that asks for none more, and then each read and each write of
+runner. Each allocation is refused in turn, up to the first run that asks for none more, and then each thread, read and write of
 PROGRAM. What is written may differ from the whole answer only by what is missing at its end, of a session by whole frames,
 and the program must say why. But a run in slices may also end by the report that there was no memory for one, and must for
-each slice; and where the file of a launch can't be read, the launch must be refused, and the session goes on. It needs
-clang.
+each slice; and where the file of a launch can't be read, the launch must be refused, and the session goes on.
+
+The threads of a session take turns as they like, so which call is the Nth differs from one time to the next: each end must be
+one that is allowed, and none must hang. Before a thread was asked for nothing may be written where the session gives up. It
+needs clang.
 """
 import collections
 import dataclasses
-import io
 import itertools
 import os
+import signal
 import subprocess
 import sys
 import tempfile
+from collections.abc import Iterator
 
 import feeding
 import rows
@@ -36,17 +40,25 @@ LINES = 20
 # allocation that the program can do without changes nothing. Fault 2 of the session is out of memory.
 ALLOCATION_ENDS = [(0, ""), (3, "pl0dap: no memory"), (3, "pl0dap: refused 2")]
 WRITE_ENDS = [(1, "pl0dap: write failed")]
-SESSION_ENDS = {"allocation": ALLOCATION_ENDS, "read": [(1, "pl0dap: read failed")], "write": WRITE_ENDS}
+NO_THREAD = (3, "pl0dap: refused 7")
+# A thread may also be refused for want of memory. The last read of a session, after its `disconnect`, changes nothing.
+SESSION_ENDS = {
+    "allocation": [*ALLOCATION_ENDS, NO_THREAD],
+    "thread": [NO_THREAD],
+    "read": [(0, ""), (1, "pl0dap: read failed")],
+    "write": WRITE_ENDS,
+}
 LISTING_ENDS = {"allocation": ALLOCATION_ENDS, "read": [(1, "pl0dap: cannot read")], "write": WRITE_ENDS}
 # What a session with a program that can't be read is called.
 UNREAD = "launch refused"
-# What the one without a stop writes then.
-NOT_LAUNCHED = (
-    rows.frame(rows.CAPABILITIES)
-    + rows.refused(2, "launch", 2, "cannotRead")
-    + rows.refused(3, "setBreakpoints", 3, "wrongPhase")
-    + rows.refused(4, "configurationDone", 4, "wrongPhase")
-)
+# In a loop without end a call is asked for again and again. After so many, a few more are refused up to the most.
+EACH, MOST = 500, 20_000
+# After so many runs that ended as they may not, no more are tried.
+MOST_WRONG = 5
+# Where so many runs in a row ask for no call of that number, there is none.
+UNASKED = 3
+# How much longer than at first it is waited where a session seemed to have given up.
+PATIENCE = 50
 
 
 def wants_memory(thing: str, why: str) -> tuple[int, str]:
@@ -83,6 +95,8 @@ class Run:
     source: str = os.devnull
     # What it is asked over pipes, in place of the source.
     exchanges: list[feeding.Exchange] | None = None
+    # Whether it runs for as long as the client likes.
+    is_endless: bool = False
     # What it must write in place of the whole at some refusal of a kind, with status 0, and what that is called.
     instead: dict[str, dict[bytes, str]] = dataclasses.field(default_factory=dict)
 
@@ -92,13 +106,16 @@ class Run:
     def is_beginning(self, written: bytes) -> bool:
         return written in itertools.accumulate(self.pieces, initial=b"")
 
-    def end(self, kind: str, written: bytes, status: int, said: str) -> str | None:
+    def end(self, kind: str, outcome: "Outcome") -> str | None:
         """How a run ended in which something of a kind was refused, in words; None where it may not end so."""
+        written, status, said = outcome.written, outcome.status, outcome.said
         if (status, said) == (0, "") and written in self.instead.get(kind, {}):
             return self.instead[kind][written]
         if (status, said) not in self.ends[kind] or not self.is_beginning(written):
             return None
         if status == 0 and written != self.whole():
+            return None
+        if status != 0 and written and self.ends is SESSION_ENDS and (outcome.early or kind == "thread"):
             return None
         return said or "nothing missing"
 
@@ -120,38 +137,33 @@ def no_memory(last: int, after: str) -> dict[str, dict[bytes, str]]:
     return {"allocation": {f"{text}\n".encode(): text for text in texts}}
 
 
-def frames(stream) -> list[bytes]:
-    return list(iter(lambda: feeding.next_frame(stream), b""))
-
-
 def stored_session(program: str) -> Run:
     with open(os.path.join(CRATES, "pl0dap", "stdout"), "rb") as file:
-        return Run([program], frames(file), SESSION_ENDS, source=os.path.join(CRATES, "pl0dap", "stdin"))
+        pieces = feeding.frames_of(file.read())
+    return Run([program], pieces, SESSION_ENDS, source=os.path.join(CRATES, "pl0dap", "stdin"))
 
 
-def run_session(program: str, folder: str) -> Run:
-    """A debug session without a stop, so that all of it can be sent at once."""
-    source = os.path.join(folder, "session")
-    with open(source, "wb") as file:
-        file.write(rows.RUN)
-    unread = {"read": {NOT_LAUNCHED: UNREAD}}
-    return Run([program], frames(io.BytesIO(rows.RAN)), SESSION_ENDS, source=source, instead=unread)
-
-
-def fed_session(program: str, session: feeding.Session) -> Run:
+def fed_session(program: str, session: feeding.Session, is_endless: bool = False) -> Run:
     unread = {"read": {b"".join(session.unread): UNREAD}}
-    return Run([program], session.frames(), SESSION_ENDS, exchanges=session.exchanges, instead=unread)
+    exchanges = session.exchanges
+    return Run([program], session.frames(), SESSION_ENDS, exchanges=exchanges, is_endless=is_endless, instead=unread)
 
 
-def runs(program: str, speed: str, folder: str) -> dict[str, Run]:
+def runs(program: str) -> dict[str, Run]:
     procedures = os.path.join(CRATES, "check_runs", "data", "procedures.pl0")
-    under = f" under {LINES} breakpoints"
     return {
         "a session": stored_session(program),
-        "a debug session without a stop": run_session(program, folder),
+        "a debug session without a stop": fed_session(program, feeding.TWO_SESSION),
         "a debug session with a stop": fed_session(program, feeding.FACTORIAL_SESSION),
         "a debug session with a fault": fed_session(program, feeding.OVERFLOW_SESSION),
+        "a debug session with pauses": fed_session(program, feeding.ENDLESS_SESSION, is_endless=True),
         "a listing": Run([program, "--check", procedures], by_bytes(listing("procedures")), LISTING_ENDS),
+    }
+
+
+def runs_of_texts(speed: str) -> dict[str, Run]:
+    under = f" under {LINES} breakpoints"
+    return {
         "a machine": Run(
             [speed, "machine", RECURSION], [f"Done after {STEPS} steps\n".encode()], {"allocation": MACHINE_ENDS}
         ),
@@ -172,64 +184,93 @@ def runs(program: str, speed: str, folder: str) -> dict[str, Run]:
 
 @dataclasses.dataclass
 class Outcome:
-    """What a run wrote, its status, what it said on standard error beside its log, and whether a call was refused."""
+    """What a run wrote, its status, what it said on standard error beside its log, whether a call was refused, and whether no
+    thread had been asked for then."""
 
     written: bytes
     status: int
     said: str
     refused: bool = False
+    early: bool = False
 
 
 def lines_said(errors: bytes) -> str:
     return " ".join(line.strip() for line in errors.decode().splitlines() if line and not line.startswith("["))
 
 
-def perform(run: Run, **settings) -> Outcome:
+def perform(run: Run, told: feeding.Told, patience: int, **settings) -> Outcome:
     if run.exchanges:
-        frames, status, errors = feeding.feed(run.words, run.exchanges, **settings)
+        frames, status, errors = feeding.feed(run.words, run.exchanges, told, patience, **settings)
         return Outcome(b"".join(frames), status, lines_said(errors))
     with open(run.source, "rb") as file:
-        done = subprocess.run(run.words, stdin=file, capture_output=True, cwd=rows.TOP, **settings)
+        try:
+            limit = feeding.MOST_SECONDS
+            done = subprocess.run(run.words, stdin=file, capture_output=True, cwd=rows.TOP, timeout=limit, **settings)
+        except subprocess.TimeoutExpired:
+            return Outcome(b"", -signal.SIGKILL, "it hangs")
     return Outcome(done.stdout, done.returncode, lines_said(done.stderr))
 
 
-def play(run: Run, environment: dict[str, str] | None = None) -> Outcome:
+def play(run: Run, environment: dict[str, str] | None = None, patience: int = 1) -> Outcome:
     """Runs it, and reads whether a call was refused."""
-    told, tells = os.pipe()
-    extra = {**environment, "TOLD": str(tells)} if environment else {}
-    outcome = perform(run, pass_fds=[tells], env={**os.environ, **extra})
-    os.close(tells)
-    with os.fdopen(told, "rb") as pipe:
-        outcome.refused = pipe.read() != b""
+    told = feeding.Told()
+    extra = {**environment, "TOLD": str(told.teller)} if environment else {}
+    outcome = perform(run, told, patience, pass_fds=[told.teller], env={**os.environ, **extra})
+    text = told.look()
+    outcome.refused, outcome.early = text != b"", text == b"0"
+    told.close()
     return outcome
+
+
+def numbers(run: Run) -> Iterator[int]:
+    """The numbers of the calls that are refused."""
+    number = 1
+    while not run.is_endless or number < MOST:
+        yield number
+        number += 1 if not run.is_endless or number < EACH else number // 20
+
+
+def judged(run: Run, kind: str, number: int, library: str) -> tuple[Outcome, str | None]:
+    """Refuses a call, and answers how the run ended, in words too where it may end so. It is waited longer where it seems that
+    the input was closed too soon."""
+    for patience in (1, PATIENCE):
+        outcome = play(run, {"LD_PRELOAD": library, "REFUSES": kind, "REFUSED": str(number)}, patience)
+        end = run.end(kind, outcome)
+        if end is not None or not outcome.refused or outcome.status < 0:
+            break
+    return outcome, end
 
 
 def is_judged(name: str, run: Run, kind: str, library: str) -> bool:
     """Refuses each call of a kind in turn, prints how the runs ended, and answers whether all ended as they may."""
     ends: collections.Counter[str] = collections.Counter()
-    wrong = 0
-    for number in itertools.count(1):
-        outcome = play(run, {"LD_PRELOAD": library, "REFUSES": kind, "REFUSED": str(number)})
-        if not outcome.refused:
+    wrong = unasked = early = 0
+    for number in numbers(run):
+        outcome, end = judged(run, kind, number, library)
+        unasked = 0 if outcome.refused else unasked + 1
+        if unasked == UNASKED or wrong == MOST_WRONG:
             break
-        end = run.end(kind, outcome.written, outcome.status, outcome.said)
-        if end is None:
-            print(f"{name}, {kind} {number}: {outcome}")
+        if outcome.refused and end is None:
+            print(f"{name}, {kind} {number}: {outcome}", flush=True)
             wrong += 1
-        else:
+        elif outcome.refused:
             ends[end] += 1
+            early += outcome.early and end == "pl0dap: refused 2"
     unseen = [end for end in run.instead.get(kind, {}).values() if end not in ends]
     said = ", ".join(f"{count} times {end}" for end, count in ends.items())
-    print(f"{name}, each {kind} of {number - 1} refused: {said}" + (f"; never {unseen}" if unseen else ""), flush=True)
-    return not wrong and not unseen
+    before = f"; {early} times refused 2 before any thread" if early else ""
+    none = f"; never {unseen}" if unseen else ""
+    print(f"{name}, {kind} refused {sum(ends.values()) + wrong} times, up to {number}: {said}{before}{none}", flush=True)
+    return not wrong and not unseen and (kind != "allocation" or run.ends is not SESSION_ENDS or early > 0)
 
 
 def main() -> int:
     good = True
+    program, *speed = map(os.path.abspath, sys.argv[1:])
     with tempfile.TemporaryDirectory() as folder:
         library = os.path.join(folder, "refuse.so")
         subprocess.run(["clang", "-shared", "-fPIC", "-o", library, os.path.join(HERE, "refuse.c")], check=True)
-        for name, run in runs(*map(os.path.abspath, sys.argv[1:3]), folder).items():
+        for name, run in {**runs(program), **(runs_of_texts(*speed) if speed else {})}.items():
             outcome = play(run)
             if outcome != Outcome(run.whole(), 0, ""):
                 print(f"{name}, nothing refused: {outcome}")

@@ -3,15 +3,18 @@
 
 usage: rows.py PROGRAM
 
-Each input goes in whole and cut in two at a number of places, and one of at most 4,096 bytes a byte at a time. Then the
-worked sessions are played, each request after the messages that are due before it. At last the messages of the session in
-docs/PROTOCOL.md are compared with those of demo/factorial.session as it is played. Prints a line for each input and each
-session, and ends with status 1 where one differs.
+Each input goes in whole and cut in two at a number of places, and one of at most 4,096 bytes a byte at a time. Between two parts
+of an input the client waits until the program that is debugged stopped or ended. Then the worked sessions are played, each
+request after the messages that are due before it. At last the messages of the session in docs/PROTOCOL.md are compared with
+those of demo/factorial.session as it is played. Prints a line for each input and each session, and ends with status 1 where one
+differs.
 """
 import os
+import re
 import subprocess
 import sys
 import tempfile
+import time
 
 from worked import differences
 
@@ -74,7 +77,6 @@ def event(seq: int, name: str, body: bytes | None = None) -> bytes:
     return frame(b'{%s"event":"%s","seq":%d,"type":"event"}' % (before, name.encode(), seq))
 
 
-# The input of a run ends with `configurationDone`: what comes after it is read when the run stops, unless one read has both.
 RUN = (
     frame(INITIALIZE)
     + asked(2, "launch", b'{"program":"examples/two.pl0"}')
@@ -123,7 +125,33 @@ ENTERED = (
     + disconnected(11, 13)
 )
 
-# name, input, output, status, last line on standard error
+# What is sent while this program runs meets no stop, whenever it comes.
+LOOP = (
+    request(1, "initialize")
+    + asked(2, "launch", b'{"program":"demo/endless.pl0"}')
+    + request(3, "configurationDone")
+)
+LOOPS = frame(CAPABILITIES) + granted(2, "launch", 2) + event(3, "initialized") + granted(4, "configurationDone", 3)
+PAUSED = b'{"allThreadsStopped":true,"reason":"pause","threadId":1}'
+PAUSES = [
+    LOOP + asked(4, "stackTrace", b'{"threadId":1}') + asked(5, "pause", b'{"threadId":1}'),
+    asked(6, "stackTrace", b'{"threadId":1}') + asked(7, "continue", b'{"threadId":1}') + asked(8, "pause", b'{"threadId":1}'),
+    request(9, "disconnect"),
+]
+PAUSED_TWICE = (
+    LOOPS
+    + refused(5, "stackTrace", 4, "notStopped")
+    + granted(6, "pause", 5)
+    + event(7, "stopped", PAUSED)
+    + granted(8, "stackTrace", 6, b'{"stackFrames":[{"column":1,"id":1,"line":1,"name":"main",'
+              b'"source":{"path":"demo/endless.pl0"}}],"totalFrames":1}')
+    + granted(9, "continue", 7, b'{"allThreadsContinued":true}')
+    + granted(10, "pause", 8)
+    + event(11, "stopped", PAUSED)
+    + disconnected(9, 12)
+)
+
+# name, input or its parts, output, status, last line on standard error
 ROWS = [
     ("hello", HELLO, ANSWERS, 0, ""),
     ("nothing", b"", b"", 0, ""),
@@ -138,36 +166,57 @@ ROWS = [
     ("no space", headed(b"Content-Length:49"), b"", 2, "pl0dap: frame 2"),
     ("skipped contents", frame(b'{"seq":1}') + frame(b"[") + frame(b"") + request(1, "initialize")
      + request(2, "threads") + request(3, "disconnect"), frame(CAPABILITIES) + THREADS + disconnected(3, 3), 0, ""),
-    ("a run", RUN, RAN, 0, ""),
+    ("a run", [RUN, b""], RAN, 0, ""),
     ("a stop on entry", ENTRY, ENTERED, 0, ""),
+    ("two pauses in a loop without end", PAUSES, PAUSED_TWICE, 0, ""),
+    ("a disconnect in a loop without end", LOOP + request(4, "disconnect"), LOOPS + disconnected(4, 5), 0, ""),
+    ("the end of the input in a loop without end", LOOP, LOOPS, 0, ""),
+    ("a framing fault in a loop without end", LOOP + b"\r\n", LOOPS, 2, "pl0dap: frame 3"),
     ("two disconnects", request(1, "disconnect") + request(2, "disconnect"), disconnected(1, 1), 0, ""),
 ]
 
 
-def run(program: str, pieces: list[bytes]) -> tuple[bytes, int, str]:
-    """What the program does on these pieces, each of which it gets by a write of its own."""
+# How long a stop is waited for.
+MOST_SECONDS = 60
+STOPS = re.compile(rb'"event":"(?:stopped|terminated)"')
+
+
+def wait_for_stops(output, count: int) -> None:
+    """Waits until so many stops or ends were written."""
+    until = time.monotonic() + MOST_SECONDS
+    while time.monotonic() < until:
+        if len(STOPS.findall(os.pread(output.fileno(), 1 << 20, 0))) >= count:
+            return
+        time.sleep(0.0005)
+
+
+def run(program: str, parts: list[list[bytes]]) -> tuple[bytes, int, str]:
+    """What the program does on the pieces of these parts, each of which it gets by a write of its own."""
     with tempfile.TemporaryFile() as output, tempfile.TemporaryFile() as notes:
         child = subprocess.Popen([program], stdin=subprocess.PIPE, stdout=output, stderr=notes, bufsize=0, cwd=TOP)
         try:
-            for piece in pieces:
-                child.stdin.write(piece)
+            for number, pieces in enumerate(parts):
+                wait_for_stops(output, number)
+                for piece in pieces:
+                    child.stdin.write(piece)
             child.stdin.close()
         except BrokenPipeError:
             pass  # it ended before it read all
-        status = child.wait(timeout=60)
+        status = child.wait(timeout=MOST_SECONDS)
         output.seek(0)
         notes.seek(0)
         lines = notes.read().decode().splitlines()
         return output.read(), status, lines[-1] if lines else ""
 
 
-def cuts(whole: bytes):
-    """The ways in which an input is cut into pieces."""
-    yield [whole]
-    if len(whole) <= 4096:
-        yield [whole[at:at + 1] for at in range(len(whole))]
-    for at in range(1, len(whole), max(1, len(whole) // 16)):
-        yield [whole[:at], whole[at:]]
+def cuts(parts: list[bytes]):
+    """The ways in which each part of an input is cut into pieces."""
+    yield [[part] for part in parts]
+    if len(b"".join(parts)) <= 4096:
+        yield [[part[at:at + 1] for at in range(len(part))] for part in parts]
+    for number, part in enumerate(parts):
+        for at in range(1, len(part), max(1, len(part) // 16)):
+            yield [[one] if other != number else [part[:at], part[at:]] for other, one in enumerate(parts)]
 
 
 def is_on_the_page(program: str) -> bool:
@@ -183,7 +232,8 @@ def main() -> int:
     program = os.path.abspath(sys.argv[1])
     failed = 0
     for name, given, output, status, last in ROWS:
-        wrong = [found for pieces in cuts(given) if (found := run(program, pieces)) != (output, status, last)]
+        parts = given if isinstance(given, list) else [given]
+        wrong = [found for cut in cuts(parts) if (found := run(program, cut)) != (output, status, last)]
         failed += bool(wrong)
         print(f"{name}: {'as it must be' if not wrong else f'differs: {wrong[0]}'}")
     for name, found in differences(os.path.abspath(program)):

@@ -237,6 +237,39 @@ SESSIONS = [
 > disconnect
 < 7: ok disconnect/5
 """),
+    ("breakpoints while the program runs, a write later", ENDLESS, PRELUDE + """
+> configurationDone
+< 4: ok configurationDone/3
+> setBreakpoints {"source":{"path":"p.pl0"},"breakpoints":[{"line":1}]}
+< 5: ok setBreakpoints/4 1
+< 6: stopped breakpoint
+> disconnect
+< 7: ok disconnect/5
+"""),
+    ("pauses while the program runs", ENDLESS, PRELUDE + """
+> configurationDone
+< 4: ok configurationDone/3
+> pause {"threadId":1}
+< 5: ok pause/4
+< 6: stopped pause
+> stackTrace {"threadId":1}
+< 7: ok stackTrace/5 main 1:1 id 1, of 1
+> continue {"threadId":1}
+< 8: ok continue/6
+> stackTrace {"threadId":1}
+< 9: no stackTrace/7 notStopped
+> pause {"threadId":1}
+< 10: ok pause/8
+< 11: stopped pause
+> disconnect
+< 12: ok disconnect/9
+"""),
+    ("a disconnect while the program runs", ENDLESS, PRELUDE + """
+> configurationDone
+< 4: ok configurationDone/3
+> disconnect
+< 5: ok disconnect/4
+"""),
     ("an overflow", b"var x; begin x := 9223372036854775807; x := x + 1 end.", PRELUDE + """
 > configurationDone
 < 4: ok configurationDone/3

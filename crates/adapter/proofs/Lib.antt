@@ -1,4 +1,4 @@
-pub mod Exchanged
-pub mod Carried
 pub mod ListingLines
 mod ArgumentKinds
+mod Gathered
+mod Crossing

@@ -40,6 +40,7 @@ reason_of_serve (Ok served) = Success
 reason_of_serve (Err serve.WriteFailed) = WriteFailed
 reason_of_serve (Err serve.ReadFailed) = ReadFailed
 reason_of_serve (Err (serve.Session fault)) = reason_of_session fault
+reason_of_serve (Err serve.NoThread) = Refused 7
 
 -- faults of a text by their numbers
 abbrev pub fault_number : FaultKind → ℕ

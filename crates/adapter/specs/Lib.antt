@@ -1,3 +1,4 @@
+pub mod Jobs
 pub mod Serving
 pub mod ExitReasons
 pub mod Loading

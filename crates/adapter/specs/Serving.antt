@@ -1,18 +1,27 @@
 -- What a whole run over an input and an output reads and writes.
-use Rattle.std.specs.Prelude.{◌≡◌, ◌++◌, [], ℕ, List, Option, Result, Ok, Err}
+use Rattle.std.specs.Prelude.{◌≡◌, ◌≢◌, ◌⊎◌, ◌++◌, [], ℕ, List, Option, Result, Ok, Err}
+use Rattle.std.specs.List.{concat, flat_map}
 use Rattle.dap_history.specs.declared.fault.SessionFault.{SessionFault}
-use Rattle.dap_history.specs.declared.fault.SessionFault.TheVariants.{Frame, NoMemory, SeqExhausted, OrdersFull, RunnerGone, WriterGone}
+use Rattle.dap_history.specs.declared.fault.SessionFault.TheVariants.{NoMemory}
 use Rattle.dap_history.specs.declared.ending.Closed.{Closed}
 use Rattle.dap_history.specs.declared.ending.Closed.TheVariants as closed
 use Rattle.dap_history.specs.Events.{Incoming, AreLawful}
 use Rattle.dap_history.specs.Interleaving.{Load}
 use Rattle.dap_session.specs.Ports.{Ports}
+use Rattle.dap_session.specs.Sending.{Begins}
 use Rattle.dap_session.specs.Serving.{Drives}
+use Rattle.dbg_runner.specs.Plain.{PlainOrder}
+use Rattle.dbg_runner.specs.Queues.{order_in, sent_in, handed_back_in}
+use Rattle.dbg_runner.specs.Runner.{Act, Idle, Ended, Leads}
 use Rattle.adapter.specs.declared.serving.Served.{Served}
 use Rattle.adapter.specs.declared.serving.Served.TheVariants as served
 use Rattle.adapter.specs.declared.serving.ServeFault.{ServeFault}
 use Rattle.adapter.specs.declared.serving.ServeFault.TheVariants as fault
-use Rattle.dap_wires.specs.Transfer.{Supply, supply, AreRead, Output, output, ArePut}
+use Rattle.dap_wires.specs.declared.reading.ReadEnd.{ReadEnd}
+use Rattle.dap_wires.specs.declared.writing.WriteFailed.{WriteFailed}
+use Rattle.dap_wires.specs.Reading.{IsReadUntil}
+use Rattle.dap_wires.specs.Senders.{from_client, reports_among}
+use Rattle.dap_wires.specs.Transfer.{Supply, supply, Output, output, WritesAll, FailsIn}
 
 -- The input's bytes left and the output's bytes written, where they are known, and how often reading and writing failed.
 pub record Streams : Type 0 where
@@ -34,9 +43,33 @@ output_of s = output s.written s.write_failures
 abbrev pub nothing_sent : Ports
 nothing_sent = record { frames = []; orders = []; refused = []; runner_gone = 0; orders_full = 0 }
 
--- A session was driven to its end. What its inbox gave is what the input had, with the reports of the runs between; what the
--- loader gave is what its launches wanted; the frames that it put were written. No order was refused.
-pub record IsDriven (result : Result Closed SessionFault) (loads later_loads : List Load) (old later : Streams) : Type 0 where
+-- the bytes were written, or the output failed after a beginning of them
+abbrev pub Writes : Result (Unit {0}) WriteFailed → List ℕ → Output → Output → Type 0
+Writes (Ok done) bytes old later = WritesAll bytes old later
+Writes (Err failed) bytes old later = FailsIn bytes old later
+
+-- ---- which of what was sent was taken
+
+-- After the input's end, or a failure to read, all that the reader sent was taken.
+abbrev pub TakesAllSent : Result Closed SessionFault → List Incoming → List Incoming → Type 0
+TakesAllSent (Ok closed.Disconnected) taken sent = Begins taken sent
+TakesAllSent (Ok closed.InputEnded) taken sent = taken ≡ sent
+TakesAllSent (Ok closed.ReadFailed) taken sent = taken ≡ sent
+TakesAllSent (Err fault) taken sent = Begins taken sent
+
+-- Where the session was closed, the runner took all orders, unless a report was handed back to it.
+abbrev pub TakesAllOrders : Result Closed SessionFault → List Act → List PlainOrder → Type 0
+TakesAllOrders (Ok by) acts pushed =
+    (flat_map order_in acts ≡ pushed) ⊎ (Begins (flat_map order_in acts) pushed × (flat_map handed_back_in acts ≢ []))
+TakesAllOrders (Err fault) acts pushed = Begins (flat_map order_in acts) pushed
+
+-- ---- reader, runner, session and writer, side by side
+
+-- Each came to its end. What the session took is, of the reader and of the runner, a beginning of what that sent; what the
+-- loader gave is what its launches wanted; the runner took a beginning of the orders that the session pushed; and the frames
+-- that it put were written.
+pub record IsDriven (wrote : Result (Unit {0}) WriteFailed) (result : Result Closed SessionFault) (loads later_loads : List Load) (old later : Streams) : Type 0 where
+  -- the session
   pub events : List Incoming
   pub given : List Incoming
   pub loaded : List Load
@@ -44,25 +77,32 @@ pub record IsDriven (result : Result Closed SessionFault) (loads later_loads : L
   pub lawful : AreLawful events
   pub drives : Drives result events given loaded nothing_sent sent
   pub loads_are : later_loads ≡ loads ++ loaded
-  pub read : ∥ AreRead given (input_of old) (input_of later) ∥₁
-  pub written : ∥ ArePut sent.frames sent.refused (output_of old) (output_of later) ∥₁
-  pub never_full : sent.orders_full ≡ 0
   pub never_gone : sent.runner_gone ≡ 0
+  -- the reader
+  pub end : ReadEnd
+  pub client : List Incoming
+  pub read : IsReadUntil end client (input_of old) (input_of later)
+  pub client_taken : TakesAllSent result (from_client given) client
+  -- the runner
+  pub acts : List Act
+  pub worked : Leads Idle acts Ended
+  pub orders_taken : TakesAllOrders result acts sent.orders
+  pub reports_taken : Begins (reports_among given) (flat_map sent_in acts)
+  -- the writer
+  pub written : Writes wrote (concat sent.frames) (output_of old) (output_of later)
 
--- how serving went, by how the session ended; a writer that is gone is an output that failed
-abbrev pub outcome_of : Result Closed SessionFault → Result Served ServeFault
-outcome_of (Ok closed.Disconnected) = Ok served.Disconnected
-outcome_of (Ok closed.InputEnded) = Ok served.InputEnded
-outcome_of (Ok closed.ReadFailed) = Err fault.ReadFailed
-outcome_of (Err WriterGone) = Err fault.WriteFailed
-outcome_of (Err (Frame k)) = Err (fault.Session (Frame k))
-outcome_of (Err NoMemory) = Err (fault.Session NoMemory)
-outcome_of (Err SeqExhausted) = Err (fault.Session SeqExhausted)
-outcome_of (Err OrdersFull) = Err (fault.Session OrdersFull)
-outcome_of (Err RunnerGone) = Err (fault.Session RunnerGone)
+-- how serving went, by how the writer and the session ended
+abbrev pub outcome_of : Result (Unit {0}) WriteFailed → Result Closed SessionFault → Result Served ServeFault
+outcome_of (Err failed) result = Err fault.WriteFailed
+outcome_of (Ok done) (Ok closed.Disconnected) = Ok served.Disconnected
+outcome_of (Ok done) (Ok closed.InputEnded) = Ok served.InputEnded
+outcome_of (Ok done) (Ok closed.ReadFailed) = Err fault.ReadFailed
+outcome_of (Ok done) (Err f) = Err (fault.Session f)
 
--- serving went so
-pub record IsServed (outcome : Result Served ServeFault) (loads later_loads : List Load) (old later : Streams) : Type 0 where
-  pub result : Result Closed SessionFault
-  pub outcome_is : outcome ≡ outcome_of result
-  pub driven : IsDriven result loads later_loads old later
+-- Serving went so. Where there was no memory for the queues, nothing was done; of a thread that can't be started nothing is
+-- said.
+pub data IsServed (outcome : Result Served ServeFault) (loads later_loads : List Load) (old later : Streams) : Type 0 where
+  drove : (wrote : Result (Unit {0}) WriteFailed) (result : Result Closed SessionFault) → outcome ≡ outcome_of wrote result
+      → IsDriven wrote result loads later_loads old later → IsServed outcome loads later_loads old later
+  had_no_memory : outcome ≡ Err (fault.Session NoMemory) → later ≡ old → later_loads ≡ loads → IsServed outcome loads later_loads old later
+  had_no_thread : outcome ≡ Err fault.NoThread → IsServed outcome loads later_loads old later

@@ -131,6 +131,7 @@ pub fn end_of_serve(outcome: &Result<Served, ServeFault>) -> ExitReason
         Err(ServeFault::WriteFailed) => ExitReason::WriteFailed,
         Err(ServeFault::ReadFailed) => ExitReason::ReadFailed,
         Err(ServeFault::Session(fault)) => end_of_session(*fault),
+        Err(ServeFault::NoThread) => ExitReason::Refused(7),
     }
 }
 

@@ -2,22 +2,20 @@
 //!
 //! The one contract is that of [`execute`]: what the arguments ask for was done over these ports, the reason names how
 //! that ended, and standard error has it in a last line. It cites three others. [`parse_arguments`](arguments::parse_arguments)
-//! says what the arguments ask for; [`serve`], that a session was driven by what the input had and by the reports of its
-//! runs, and that the frames which it put were written; and [`check`], that the listing of a file's text was written, which
-//! `specs/Listing` defines. The hard lemmas are in `proofs/Exchanged`: what is read and written, one event and one frame
-//! after another, joins to the whole.
+//! says what the arguments ask for; [`serve`], that reader, runner, session and writer, each in a thread, did together what
+//! `specs/Serving` defines; and [`check`], that the listing of a file's text was written, which `specs/Listing` defines. The
+//! hard lemmas are in `proofs/Gathered`: what the ends of the queues tell, when all threads were joined, makes one whole.
 #![tactic(auto)]
 
 pub mod arguments;
 mod checking;
 mod exit_reason;
 mod files;
-mod frames;
-mod inbox;
+mod jobs;
 mod listing;
 mod program;
-mod running;
 mod serving;
+mod tasks;
 
 pub use checking::{CheckFault, check};
 pub use dap_wires::{IoFault, Reading, Sink, Source, Writing, read_beginning};

@@ -24,6 +24,7 @@ use std::alloc::{AllocError, Global};
 use std::io::ErrorKind;
 use std::rt::{Env, Files};
 use std::sync::Wait;
+use std::thread::Threads;
 use std::{env, io};
 
 /// Lets every slice pass at once.
@@ -42,30 +43,26 @@ impl Gate for OpenGate {
 
 /// Does what the arguments of this process ask for, as [`execute`] does, with the files of the system. What is left to a
 /// `main` is to end with the reason's status.
-pub fn run<R: Wait + Env + Files + Eprint + AllocGlobal, I: Source + Drop, O: Sink + Drop, E: Sink>(
-    rt: &R,
-    input: I,
-    output: O,
-    errors: &mut E,
-) -> (ExitReason, I, O)
+pub fn run<R, I, O, E>(rt: &R, input: &mut I, output: &mut O, errors: &mut E) -> ExitReason
+where
+    R: Threads + Wait + Env + Files + Eprint + AllocGlobal + Copy + Drop + Send,
+    I: Source + Send,
+    O: Sink + Send,
+    E: Sink,
     // It does so for some arguments and some files: what the system gives, no contract can say.
-    ensures { Runs result.0
-        (streams (I.left input) (I.failures input) (O.written output) (O.failures output))
-        (streams (I.left result.1) (I.failures result.1) (O.written result.2) (O.failures result.2))
+    ensures { Runs result
+        (streams (I.left input.old) (I.failures input.old) (O.written output.old) (O.failures output.old))
+        (streams (I.left input.new) (I.failures input.new) (O.written output.new) (O.failures output.new))
         (output_at (E.written errors.old) (E.failures errors.old))
         (output_at (E.written errors.new) (E.failures errors.new)) }
 {
     let mut files = FileLoader::new(rt, rt.alloc());
     let given = match given_arguments(rt) {
         Ok(given) => given,
-        Err(error) => {
-            let reason = refuse_arguments(rt, end_of_reading(&error), errors);
-            return (reason, input, output);
-        }
+        Err(error) => return refuse_arguments(rt, end_of_reading(&error), errors),
     };
     let Ok(arguments) = texts(rt.alloc(), given.as_slice()) else {
-        let reason = refuse_arguments(rt, ExitReason::NoMemory, errors);
-        return (reason, input, output);
+        return refuse_arguments(rt, ExitReason::NoMemory, errors);
     };
     execute(rt, arguments.as_slice(), &mut files, input, output, errors)
 }
@@ -109,60 +106,60 @@ fn refuse_arguments<R: Wait + Eprint + AllocGlobal, E: Sink>(
 
 /// Does what the arguments ask for, of which the first is the program's name, and reports the end on `errors`: nothing at
 /// status 0, the usage at status 4, and else the last line. Where `errors` fails, nothing else changes.
-pub fn execute<
-    R: Wait + Eprint + AllocGlobal,
-    L: Loader,
-    I: Source + Drop,
-    O: Sink + Drop,
-    E: Sink,
->(
+pub fn execute<R, L, I, O, E>(
     rt: &R,
     arguments: &[&str],
     loader: &mut L,
-    input: I,
-    output: O,
+    input: &mut I,
+    output: &mut O,
     errors: &mut E,
-) -> (ExitReason, I, O)
-    ensures { Executes (map (λ argument. argument.now) arguments.entry.now) result.0 (L.loaded loader.old) (L.loaded loader.new)
-        (streams (I.left input) (I.failures input) (O.written output) (O.failures output))
-        (streams (I.left result.1) (I.failures result.1) (O.written result.2) (O.failures result.2))
+) -> ExitReason
+where
+    R: Threads + Wait + Eprint + AllocGlobal + Copy + Drop + Send,
+    L: Loader,
+    I: Source + Send,
+    O: Sink + Send,
+    E: Sink,
+    ensures { Executes (map (λ argument. argument.now) arguments.entry.now) result (L.loaded loader.old) (L.loaded loader.new)
+        (streams (I.left input.old) (I.failures input.old) (O.written output.old) (O.failures output.old))
+        (streams (I.left input.new) (I.failures input.new) (O.written output.new) (O.failures output.new))
         (output_at (E.written errors.old) (E.failures errors.old))
         (output_at (E.written errors.new) (E.failures errors.new)) }
 {
-    let (reason, input, output) = perform(rt, arguments, loader, input, output);
+    let reason = perform(rt, arguments, loader, input, output);
     report(rt, arguments, reason, errors);
-    (reason, input, output)
+    reason
 }
 
 /// Does what the arguments ask for.
-fn perform<R: Wait + AllocGlobal, L: Loader, I: Source + Drop, O: Sink + Drop>(
+fn perform<R, L, I, O>(
     rt: &R,
     arguments: &[&str],
     loader: &mut L,
-    input: I,
-    mut output: O,
-) -> (ExitReason, I, O)
-    ensures { Performs (map (λ argument. argument.now) arguments.entry.now) result.0 (L.loaded loader.old) (L.loaded loader.new)
-        (streams (I.left input) (I.failures input) (O.written output) (O.failures output))
-        (streams (I.left result.1) (I.failures result.1) (O.written result.2) (O.failures result.2)) }
+    input: &mut I,
+    output: &mut O,
+) -> ExitReason
+where
+    R: Threads + Wait + AllocGlobal + Copy + Drop + Send,
+    L: Loader,
+    I: Source + Send,
+    O: Sink + Send,
+    ensures { Performs (map (λ argument. argument.now) arguments.entry.now) result (L.loaded loader.old) (L.loaded loader.new)
+        (streams (I.left input.old) (I.failures input.old) (O.written output.old) (O.failures output.old))
+        (streams (I.left input.new) (I.failures input.new) (O.written output.new) (O.failures output.new)) }
 {
     match parse_arguments(rt.alloc(), arguments) {
         Ok(Invocation::Serve) => {
             let gate = OpenGate {
                 passed: History::new(),
             };
-            let (outcome, input, output) = serve(rt, rt.alloc(), input, output, loader, gate);
-            (end_of_serve(&outcome), input, output)
+            end_of_serve(&serve(rt, rt.alloc(), input, output, loader, gate))
         }
         Ok(Invocation::Check(file)) => {
-            let outcome = check(rt, rt.alloc(), file, loader, &mut output);
-            (end_of_check(&outcome), input, output)
+            end_of_check(&check(rt, rt.alloc(), file, loader, output))
         }
-        Err(ArgumentsFault::Help) => {
-            let reason = show_help(rt, &mut output);
-            (reason, input, output)
-        }
-        Err(fault) => (end_of_arguments(fault), input, output),
+        Err(ArgumentsFault::Help) => show_help(rt, output),
+        Err(fault) => end_of_arguments(fault),
     }
 }
 

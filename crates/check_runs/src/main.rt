@@ -11,8 +11,8 @@ fn main(rt: HostRuntime) -> Result<(), anyhow::Error> {
     for file in env::args(&rt)?.skip(1) {
         println!(rt; "{file}:")?;
         let arguments = ["pl0dap", "--check", file.as_str()];
-        let input = Reading::new(&rt, rt.stdin());
-        let output = Writing::new(&rt, rt.stdout());
+        let input = &mut Reading::new(&rt, rt.stdin());
+        let output = &mut Writing::new(&rt, rt.stdout());
         execute(&rt, &arguments, &mut files, input, output, errors);
     }
     Ok(())

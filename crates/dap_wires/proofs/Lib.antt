@@ -4,3 +4,4 @@ pub mod ReadSoFar
 pub mod Sending
 pub mod Transferring
 pub mod WrittenSoFar
+pub mod Crossing

@@ -5,9 +5,8 @@ use adapter::{Reading, Writing, run};
 use std::process::ExitCode;
 
 fn main(rt: HostRuntime) -> ExitCode {
-    let input = Reading::new(&rt, rt.stdin());
-    let output = Writing::new(&rt, rt.stdout());
+    let input = &mut Reading::new(&rt, rt.stdin());
+    let output = &mut Writing::new(&rt, rt.stdout());
     let errors = &mut Writing::new(&rt, rt.stderr());
-    let (reason, _input, _output) = run(&rt, input, output, errors);
-    ExitCode::from(reason.status())
+    ExitCode::from(run(&rt, input, output, errors).status())
 }

@@ -1,9 +1,10 @@
 //! Tests of the protocol's crates and of the adapter, over their public calls alone: what no contract says, as the frames and
 //! texts that editors know, and that each call can succeed at the largest sizes. It is never installed.
 //!
-//! `frames`, `requests` and `messages` try one layer each. `rows` has the worked rows, as transcripts; `driving` runs them
-//! through a session over ports in memory, and `serving` through the adapter over streams in memory, both of which stand in
-//! `fakes`. `listings`, `loading`, `command_line` and `running` try what else the program does.
+//! `frames`, `requests` and `messages` try one layer each. `rows` has the worked rows, as transcripts, and `programs` those
+//! that debug a program; `driving` runs them through a session over ports in memory, and `serving` through the adapter over
+//! streams in memory, both of which stand in `fakes`. In `held` streams and runs wait for each other, in `refusals` reads and
+//! writes fail. `listings`, `loading`, `command_line` and `running` try what else the program does.
 #![tactic(auto)]
 
 #[cfg(test)]
@@ -15,11 +16,17 @@ mod fakes;
 #[cfg(test)]
 mod frames;
 #[cfg(test)]
+mod held;
+#[cfg(test)]
 mod listings;
 #[cfg(test)]
 mod loading;
 #[cfg(test)]
 mod messages;
+#[cfg(test)]
+mod programs;
+#[cfg(test)]
+mod refusals;
 #[cfg(test)]
 mod requests;
 #[cfg(test)]

@@ -1,10 +1,9 @@
 //! Judging a text: its listing byte for byte, its first fault, and each way in which there is neither.
 
-use crate::fakes::{OneFile, Output, Streams, Unreadable};
+use crate::fakes::{OneFile, Output, Progress, Streams, Unreadable};
 use adapter::{check, end_of_check};
 use dap_session::Loader;
 use std::alloc::Global;
-use std::cell::Cell;
 use std::process::Abort;
 use std::sync::Wait;
 use std::test::Fail;
@@ -32,8 +31,8 @@ fn is_judged<R: Abort + Wait, L: Loader>(
     streams: Streams,
     expected: (&[u8], u8, &str),
 ) -> Result<bool, Fail> {
-    let written = Cell::new(0);
-    let mut output = Output::new(rt, alloc, streams, &written);
+    let progress = Progress::new();
+    let mut output = Output::new(rt, alloc, streams, &progress);
     let reason = end_of_check(&check(rt, alloc, "p.pl0", loader, &mut output));
     let line = format!(in alloc; "{reason}")?;
     let (listing, status, last_line) = expected;

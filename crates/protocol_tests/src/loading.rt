@@ -1,10 +1,9 @@
 //! The beginning of a file, read from a source that is interrupted at each second read.
 
-use crate::fakes::{Input, Streams};
+use crate::fakes::{Input, Progress, Streams};
 use crate::text::repeated;
 use adapter::read_beginning;
 use dap_session::LoadFault;
-use std::cell::Cell;
 use std::test::Fail;
 
 /// The lengths of files, and how many bytes of them are given.
@@ -20,7 +19,7 @@ const LENGTHS: [(usize, usize); 5] = [
 fn gives_the_first_bytes(rt: HostRuntime) -> Result<(), Fail> {
     let alloc = rt.alloc();
     let text = repeated(alloc, "", "x", 65_538, "")?;
-    let written = Cell::new(0);
+    let progress = Progress::new();
     for (length, given) in LENGTHS.as_slice() {
         for read_step in [1000, usize::MAX] {
             let bytes = text.as_bytes().get(..*length).unwrap_or_default();
@@ -28,7 +27,7 @@ fn gives_the_first_bytes(rt: HostRuntime) -> Result<(), Fail> {
                 read_step,
                 ..Streams::WELL
             };
-            let mut source = Input::new(&rt, bytes, streams, &written);
+            let mut source = Input::new(&rt, bytes, streams, &progress);
             let read = read_beginning(&rt, alloc, &mut source)?;
             assert!(rt;
                 text.as_bytes().starts_with(read.as_slice()),
@@ -44,14 +43,14 @@ fn gives_the_first_bytes(rt: HostRuntime) -> Result<(), Fail> {
 #[test]
 fn gives_nothing_where_a_read_fails(rt: HostRuntime) {
     let alloc = rt.alloc();
-    let written = Cell::new(0);
+    let progress = Progress::new();
     for read_fails_at in 0..7usize {
         let streams = Streams {
             read_step: 2,
             read_fails_at,
             ..Streams::WELL
         };
-        let mut source = Input::new(&rt, b"var x; .", streams, &written);
+        let mut source = Input::new(&rt, b"var x; .", streams, &progress);
         let read = read_beginning(&rt, alloc, &mut source);
         assert!(rt;
             matches!(read, Err(LoadFault::CannotRead)),

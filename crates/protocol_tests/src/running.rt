@@ -1,6 +1,6 @@
 //! The program from its arguments to its end, over streams in memory: what it writes, what it says of its end, its status.
 
-use crate::fakes::{Input, OneFile, Output, Streams, Unreadable};
+use crate::fakes::{Input, OneFile, Output, Progress, Streams, Unreadable};
 use crate::listings::{LAWFUL, LISTING};
 use crate::rows::{HELLO, INITIALIZE};
 use crate::transcript::{ANSWERED, frames, input};
@@ -8,10 +8,10 @@ use adapter::arguments::HELP;
 use adapter::execute;
 use dap_session::Loader;
 use std::alloc::Global;
-use std::cell::Cell;
 use std::process::Abort;
 use std::sync::Wait;
 use std::test::Fail;
+use std::thread::Threads;
 
 /// What a run must come to.
 #[derive(Clone, Copy)]
@@ -21,20 +21,28 @@ struct Expected<'a> {
     status: u8,
 }
 
-/// Whether the program comes to this, with so much room for what it says of its end.
-fn comes_to<R: Abort + Wait + Eprint + AllocGlobal, L: Loader>(
+/// Whether the program comes to this over such streams, with room for all that it says of its end.
+fn comes_to<R, L>(
     rt: &R,
     arguments: &[&str],
     loader: &mut L,
     bytes: &[u8],
     streams: Streams,
     expected: Expected,
-) -> bool {
-    let written = Cell::new(0);
-    let input = Input::new(rt, bytes, Streams::WELL, &written);
-    let output = Output::new(rt, rt.alloc(), streams, &written);
-    let mut errors = Output::new(rt, rt.alloc(), Streams::WELL, &written);
-    let (reason, _, output) = execute(rt, arguments, loader, input, output, &mut errors);
+) -> bool
+where
+    R: Threads + Wait + Abort + Eprint + AllocGlobal + Copy + Drop + Send + Sync,
+    L: Loader,
+{
+    let progress = Progress::new();
+    let mut input = Input::new(rt, bytes, streams, &progress);
+    let mut output = Output::new(rt, rt.alloc(), streams, &progress);
+    let roomy = Streams {
+        room: usize::MAX,
+        ..streams
+    };
+    let mut errors = Output::new(rt, rt.alloc(), roomy, &progress);
+    let reason = execute(rt, arguments, loader, &mut input, &mut output, &mut errors);
     output.bytes.as_slice() == expected.output
         && errors.bytes.as_slice() == expected.errors.as_bytes()
         && reason.status() == expected.status
@@ -178,16 +186,16 @@ fn says_what_it_does_not_understand(rt: HostRuntime) {
 #[test]
 fn ends_so_where_errors_cannot_be_written(rt: HostRuntime) {
     let alloc = rt.alloc();
-    let written = Cell::new(0);
+    let progress = Progress::new();
     let full = Streams {
         room: 0,
         ..Streams::WELL
     };
-    let output = Output::new(&rt, alloc, Streams::WELL, &written);
-    let mut errors = Output::new(&rt, alloc, full, &written);
-    let input = Input::new(&rt, b"", Streams::WELL, &written);
+    let mut output = Output::new(&rt, alloc, Streams::WELL, &progress);
+    let mut errors = Output::new(&rt, alloc, full, &progress);
+    let mut input = Input::new(&rt, b"", Streams::WELL, &progress);
     let files = &mut Unreadable::new(alloc);
-    let (reason, _, output) = execute(&rt, &CHECK, files, input, output, &mut errors);
+    let reason = execute(&rt, &CHECK, files, &mut input, &mut output, &mut errors);
     assert_eq!(rt; reason.status(), 1);
     assert!(rt; output.bytes.is_empty() && errors.bytes.is_empty());
 }

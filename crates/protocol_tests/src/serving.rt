@@ -1,33 +1,43 @@
 //! Whole sessions of the adapter over an input and an output in memory.
 
-use crate::fakes::{Input, OneFile, OpenGate, Output, Streams};
+use crate::fakes::{Cut, Hold, Input, OneFile, Output, Progress, SliceGate, Streams};
 use crate::rows::{FAULTS, HELLO, INITIALIZE, ROWS, Row, fault_row};
 use crate::text::repeated;
 use crate::transcript::{ANSWERED, SENT, frames, input};
 use adapter::{Reading, ServeFault, Served, Writing, end_of_serve, serve};
 use std::alloc::Global;
-use std::cell::Cell;
 use std::process::Abort;
 use std::sync::Wait;
 use std::test::Fail;
+use std::thread::Threads;
 
 /// What came of a session.
 #[derive(Drop)]
-struct Outcome {
-    end: Result<Served, ServeFault>,
-    output: Vec<u8>,
+pub struct Outcome {
+    pub end: Result<Served, ServeFault>,
+    pub output: Vec<u8>,
+    /// How many slices passed the gate.
+    pub slices: usize,
 }
 
-/// Serves an input of these bytes.
-fn run<R: Abort + Wait>(rt: &R, alloc: Global, bytes: &[u8], streams: Streams) -> Outcome {
-    let written = Cell::new(0);
-    let input = Input::new(rt, bytes, streams, &written);
-    let output = Output::new(rt, alloc, streams, &written);
-    let files = &mut OneFile::new(alloc, b"");
-    let (end, _, output) = serve(rt, alloc, input, output, files, OpenGate::new());
+/// Serves an input of these bytes, with this program.
+pub fn run<R: Threads + Wait + Abort + Copy + Drop + Send + Sync>(
+    rt: &R,
+    alloc: Global,
+    program: &str,
+    bytes: &[u8],
+    streams: Streams,
+) -> Outcome {
+    let progress = Progress::new();
+    let mut input = Input::new(rt, bytes, streams, &progress);
+    let mut output = Output::new(rt, alloc, streams, &progress);
+    let mut files = OneFile::new(alloc, program.as_bytes());
+    let gate = SliceGate::new(rt, streams, &progress);
+    let end = serve(rt, alloc, &mut input, &mut output, &mut files, gate);
     Outcome {
         end,
         output: output.bytes,
+        slices: progress.slices(),
     }
 }
 
@@ -40,14 +50,14 @@ struct Expected<'a> {
 }
 
 /// Whether the input is answered so.
-fn is_served<R: Abort + Wait>(
+fn is_served<R: Threads + Wait + Abort + Copy + Drop + Send + Sync>(
     rt: &R,
     alloc: Global,
     input: &[u8],
     streams: Streams,
     expected: Expected,
 ) -> Result<bool, Fail> {
-    let run = run(rt, alloc, input, streams);
+    let run = run(rt, alloc, "", input, streams);
     let reason = end_of_serve(&run.end);
     let line = format!(in alloc; "{reason}")?;
     Ok(
@@ -58,7 +68,7 @@ fn is_served<R: Abort + Wait>(
 }
 
 /// The streams of reads and writes of so many bytes each.
-fn by(step: usize) -> Streams {
+fn by(step: usize) -> Streams<'static> {
     Streams {
         read_step: step,
         write_step: step,
@@ -67,7 +77,11 @@ fn by(step: usize) -> Streams {
 }
 
 /// The row is served so: whole, by single bytes, and cut in two at each place.
-fn assert_served<R: Abort + Wait>(rt: &R, alloc: Global, row: &Row) -> Result<(), Fail> {
+fn assert_served<R: Threads + Wait + Abort + Copy + Drop + Send + Sync>(
+    rt: &R,
+    alloc: Global,
+    row: &Row,
+) -> Result<(), Fail> {
     let name = row.name;
     let input = input(alloc, row.transcript, row.tail)?;
     let output = frames(alloc, row.transcript, ANSWERED)?;
@@ -80,14 +94,15 @@ fn assert_served<R: Abort + Wait>(rt: &R, alloc: Global, row: &Row) -> Result<()
         is_served(rt, alloc, input.as_slice(), by(1), expected)?,
         "{name}, by bytes"
     );
-    for cut_at in 0..input.len() {
+    for at in 0..input.len() {
+        let hold = Hold::Nothing;
         let streams = Streams {
-            cut_at,
+            cuts: &[Cut { at, hold }],
             ..Streams::WELL
         };
         assert!(rt;
             is_served(rt, alloc, input.as_slice(), streams, expected)?,
-            "{name}, cut at {cut_at}"
+            "{name}, cut at {at}"
         );
     }
     Ok(())
@@ -164,96 +179,20 @@ fn serves_the_largest_content(rt: HostRuntime) -> Result<(), Fail> {
     Ok(())
 }
 
-/// The second read answers only once the first answer is written whole.
-#[test]
-fn writes_before_it_reads_again(rt: HostRuntime) -> Result<(), Fail> {
-    let alloc = rt.alloc();
-    let input = frames(alloc, HELLO, SENT)?;
-    let first = frames(alloc, INITIALIZE, SENT)?;
-    let answer = frames(alloc, INITIALIZE, ANSWERED)?;
-    let streams = Streams {
-        read_step: first.len(),
-        held_at: first.len(),
-        until_written: answer.len(),
-        ..Streams::WELL
-    };
-    let run = run(&rt, alloc, input.as_slice(), streams);
-    assert_eq!(rt; run.end, Ok(Served::Disconnected));
-    Ok(())
-}
-
-/// Reads fail at each byte in turn.
-#[test]
-fn ends_where_a_read_fails(rt: HostRuntime) -> Result<(), Fail> {
-    let alloc = rt.alloc();
-    let input = frames(alloc, HELLO, SENT)?;
-    let first = frames(alloc, INITIALIZE, SENT)?;
-    let answer = frames(alloc, INITIALIZE, ANSWERED)?;
-    for read_step in [1, first.len()] {
-        for read_fails_at in 0..input.len() {
-            let streams = Streams {
-                read_step,
-                read_fails_at,
-                ..Streams::WELL
-            };
-            let expected = Expected {
-                output: if read_fails_at < first.len() {
-                    b""
-                } else {
-                    answer.as_slice()
-                },
-                status: 1,
-                last_line: "pl0dap: read failed",
-            };
-            assert!(rt;
-                is_served(&rt, alloc, input.as_slice(), streams, expected)?,
-                "at {read_fails_at}"
-            );
-        }
-    }
-    Ok(())
-}
-
-/// Writes fail, or take nothing, after each number of bytes in turn.
-#[test]
-fn ends_where_a_write_fails(rt: HostRuntime) -> Result<(), Fail> {
-    let alloc = rt.alloc();
-    let input = frames(alloc, HELLO, SENT)?;
-    let output = frames(alloc, HELLO, ANSWERED)?;
-    for room in 0..output.len() {
-        for takes_nothing in [false, true] {
-            let streams = Streams {
-                room,
-                takes_nothing,
-                ..Streams::WELL
-            };
-            let expected = Expected {
-                output: &output[..room],
-                status: 1,
-                last_line: "pl0dap: write failed",
-            };
-            assert!(rt;
-                is_served(&rt, alloc, input.as_slice(), streams, expected)?,
-                "at {room}"
-            );
-        }
-    }
-    Ok(())
-}
-
 #[test]
 fn serves_streams_of_std(rt: HostRuntime) -> Result<(), Fail> {
     let alloc = rt.alloc();
     let input = frames(alloc, HELLO, SENT)?;
     let expected = frames(alloc, HELLO, ANSWERED)?;
     let mut output = Vec::new(alloc);
-    let (result, _, _) = serve(
+    let progress = Progress::new();
+    let result = serve(
         &rt,
         alloc,
-        Reading::new(&rt, input.as_slice()),
-        Writing::new(&rt, &mut output),
+        &mut Reading::new(&rt, input.as_slice()),
+        &mut Writing::new(&rt, &mut output),
         &mut OneFile::new(alloc, b""),
-        OpenGate::new(),
+        SliceGate::new(&rt, Streams::WELL, &progress),
     );
     assert_eq!(rt; result, Ok(Served::Disconnected));
     assert_eq!(rt; output.as_slice(), expected.as_slice());

@@ -1,0 +1,28 @@
+-- What the reader's and the runner's tasks own, and what they give back, may go to another thread.
+use mathlib.Core.List.{[], ◌∷◌}
+use denote.RattleType.{RattleType}
+use denote.Ref.{NamedLft, MutRef}
+use denote.Struct.Tuple.{Tuple}
+use denote.Param.Send.{IsSend, sendable}
+use Rattle.std.proofs.Crossing.{crosses}
+use Rattle.dap_wires.specs.contracts.event_ends.ClientSender as ClientSender
+use Rattle.dap_wires.specs.contracts.event_ends.ReportSender as ReportSender
+use Rattle.dap_wires.specs.contracts.order_ends.OrderReceiver as OrderReceiver
+use Rattle.dap_wires.specs.contracts.reading.ReadEnd as ReadEnd
+use Rattle.dap_wires.proofs.Crossing.{client_sender_send, client_sender_field_send, report_sender_send, report_sender_field_send, order_receiver_send, order_receiver_field_send}
+use Rattle.adapter.specs.contracts.jobs.Reads as Reads
+use Rattle.adapter.specs.contracts.jobs.Runs as Runs
+
+pub runs_send : (G R : RattleType) → IsSend G → IsSend R → IsSend (Runs.the_row G R)
+runs_send G R g r =
+    let a = order_receiver_field_send R r in let b = report_sender_field_send R r in search (crosses, sendable) depth 60 fits 20000
+
+pub ran_send : (R : RattleType) → IsSend R → IsSend (Tuple (OrderReceiver.the_row R ∷ ReportSender.the_row R ∷ []))
+ran_send R r =
+    let a = order_receiver_send R r in let b = report_sender_send R r in search (crosses, sendable) depth 60 fits 20000
+
+pub reads_send : (α : NamedLft) (I R : RattleType) → IsSend I → IsSend R → IsSend (Reads.the_row α I R)
+reads_send α I R i r = let a = client_sender_field_send R r in search (crosses, sendable) depth 60 fits 20000
+
+pub read_send : (α : NamedLft) (I R : RattleType) → IsSend I → IsSend R → IsSend (Tuple (MutRef α.mir α.lft I ∷ ClientSender.the_row R ∷ ReadEnd.the_row ∷ []))
+read_send α I R i r = let a = client_sender_send R r in search (crosses, sendable) depth 60 fits 20000

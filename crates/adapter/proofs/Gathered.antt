@@ -1,0 +1,249 @@
+-- When all threads have ended: what each of them knows, put together.
+use Rattle.std.proofs.Common.{◌≡◌, ◌≢◌, ◌⊎◌, inl, inr, ℕ, Bool, true, false, true≢false, List, [], ◌∷◌, ◌++◌, Some, Result, Ok, Err, refl, sym, ap, ◌∙◌, subst, append_assoc, append-nil, rules}
+use Rattle.std.specs.Prelude.{map, drop}
+use Rattle.std.specs.List.{concat, flat_map}
+use Rattle.std.proofs.lemmas.Grind.{flat_map-append}
+use Rattle.std.proofs.lemmas.List.Folds.{concat-append}
+use Rattle.dap_history.specs.declared.fault.SessionFault.{SessionFault}
+use Rattle.dap_history.specs.declared.ending.Closed.{Closed}
+use Rattle.dap_history.specs.declared.ending.Closed.TheVariants as closed
+use Rattle.dap_history.specs.declared.ending.Ending.{Ending}
+use Rattle.dap_history.specs.declared.ending.Ending.TheVariants as ending
+use Rattle.dap_history.specs.History.{History, orders_of}
+use Rattle.dap_history.specs.Readings.{ending_of}
+use Rattle.dap_history.specs.Events.{Incoming, Piece, End, ReadFailed, File, Report, Rest, IsHistoryOf}
+use Rattle.dap_history.specs.Events.{NoMemory as NoMemoryCame}
+use Rattle.dap_history.specs.Interleaving.{Load, Interleaves}
+use Rattle.dap_history.proofs.Closings.{closed_by_end, closed_by_failure, interleaved_end, interleaved_failure, quit_is_last}
+use Rattle.dap_session.specs.Ports.{Ports, Ordered}
+use Rattle.dap_session.specs.Sending.{Begins}
+use Rattle.dap_session.specs.Serving.{Drives, Driven, Serves}
+use Rattle.dbg_runner.specs.Plain.{PlainOrder, PlainReport, Quit}
+use Rattle.dbg_runner.specs.Queues.{order_in, sent_in, handed_back_in}
+use Rattle.dbg_runner.specs.Runner.{Act, Runner, Idle, Ended, Does, Leads}
+use Rattle.dbg_runner.specs.Runner as runner
+use Rattle.dap_wires.specs.declared.parcel.Parcel.{Parcel}
+use Rattle.dap_wires.specs.declared.parcel.Parcel.TheVariants as parcel
+use Rattle.dap_wires.specs.declared.reading.ReadEnd.{ReadEnd}
+use Rattle.dap_wires.specs.declared.reading.ReadEnd.TheVariants as ends
+use Rattle.dap_wires.specs.declared.writing.WriteFailed.{WriteFailed}
+use Rattle.dap_wires.specs.Parcels.{frames_in, has_end, AreEnded}
+use Rattle.dap_wires.specs.Reading.{IsReadUntil, last_of}
+use Rattle.dap_wires.specs.Senders.{from_client, reports_among}
+use Rattle.dap_wires.specs.Transfer.{Supply, Output, WritesAll}
+use Rattle.dap_wires.specs.Writing.{IsWrittenUntil}
+use Rattle.adapter.specs.Jobs.{Drove}
+use Rattle.adapter.specs.Serving.{Streams, input_of, output_of, nothing_sent, Writes, TakesAllSent, TakesAllOrders, IsDriven}
+
+-- ---- lists
+
+module _ {A : Type 0} where
+  tail_is : {x y : A} {xs ys : List A} → x ∷ xs ≡ y ∷ ys → xs ≡ ys
+  tail_is e = ap (drop 1) e
+
+  append_none : (xs ys : List A) → xs ++ ys ≡ [] → xs ≡ []
+  append_none [] ys e = refl
+  append_none (x ∷ xs) ys e = absurd (search (e, rules))
+
+  begins_more : (xs ys zs : List A) → Begins xs ys → Begins xs (ys ++ zs)
+  begins_more xs ys zs b = (b.0 ++ zs, sym (append_assoc xs b.0 zs) ∙ ap (λ l. l ++ zs) b.1)
+
+-- ---- the writer
+
+ended_has : (taken more : List Parcel) → AreEnded taken → has_end (taken ++ more) ≡ true
+ended_has [] more ended = absurd ended
+ended_has (parcel.Frame frame ∷ taken) more ended = ended_has taken more ended
+ended_has (parcel.End ∷ taken) more ended = refl
+
+-- nothing was put after the end
+ended_whole : (taken more : List Parcel) → AreEnded taken → AreEnded (taken ++ more) → frames_in taken ≡ frames_in (taken ++ more)
+ended_whole [] more ended whole = absurd ended
+ended_whole (parcel.Frame frame ∷ taken) more ended whole = ap (λ l. frame.items ∷ l) (ended_whole taken more ended whole)
+ended_whole (parcel.End ∷ []) [] ended whole = refl
+ended_whole (parcel.End ∷ []) (p ∷ more) ended whole = absurd whole
+ended_whole (parcel.End ∷ p ∷ taken) more ended whole = absurd ended
+
+frames_both : (xs ys : List Parcel) → frames_in (xs ++ ys) ≡ frames_in xs ++ frames_in ys
+frames_both [] ys = refl
+frames_both (parcel.Frame frame ∷ xs) ys = ap (λ l. frame.items ∷ l) (frames_both xs ys)
+frames_both (parcel.End ∷ xs) ys = frames_both xs ys
+
+-- the frames that were put were written, or a beginning of them
+pub writes_frames : (wrote : Result (Unit {0}) WriteFailed) (taken put : List Parcel) (frames : List (List ℕ)) (old later : Output)
+    → Begins taken put → frames_in put ≡ frames → (has_end put ≡ false) ⊎ AreEnded put → IsWrittenUntil wrote taken old later → Writes wrote (concat frames) old later
+writes_frames (Ok done) taken put frames old later begins frames_are (inl without) written =
+    absurd (true≢false (sym (ended_has taken begins.0 written.0) ∙ (ap has_end begins.1 ∙ without)))
+writes_frames (Ok done) taken put frames old later begins frames_are (inr ended) written =
+    let same : frames_in taken ≡ frames = ended_whole taken begins.0 written.0 (subst AreEnded (sym begins.1) ended) ∙ (ap frames_in begins.1 ∙ frames_are) in
+    subst (λ f. WritesAll (concat f) old later) same written.1
+writes_frames (Err failed) taken put frames old later begins frames_are ended written =
+    let whole : concat frames ≡ concat (frames_in taken) ++ concat (frames_in begins.0) =
+    ap concat (sym frames_are ∙ (ap frames_in (sym begins.1) ∙ frames_both taken begins.0)) ∙ concat-append (frames_in taken) (frames_in begins.0) in
+    let part = written.1.0 in (
+      (part.0, part.1, subst (Begins part.0) (sym whole) (begins_more part.0 (concat (frames_in taken)) (concat (frames_in begins.0)) part.2)),
+      written.1.1,
+    )
+
+-- ---- the reader
+
+abbrev IsPiece : Incoming → Type 0
+IsPiece (Piece bytes) = Unit {0}
+IsPiece End = ⊥
+IsPiece ReadFailed = ⊥
+IsPiece NoMemoryCame = ⊥
+IsPiece (File file) = ⊥
+IsPiece (Report r) = ⊥
+
+-- at most one event
+abbrev AtMostOne : List Incoming → Type 0
+AtMostOne [] = Unit {0}
+AtMostOne (e ∷ []) = Unit {0}
+AtMostOne (e ∷ f ∷ events) = ⊥
+
+last_one : (end : ReadEnd) → AtMostOne (last_of end)
+last_one ends.Ended = tt
+last_one ends.Failed = tt
+last_one ends.NoMemory = tt
+last_one ends.HandedBack = tt
+
+none_after : (last xs ys : List Incoming) (own : Incoming) → AtMostOne last → xs ++ own ∷ ys ≡ last → ys ≡ []
+none_after [] [] ys own one e = absurd (search (e, rules))
+none_after [] (x ∷ xs) ys own one e = absurd (search (e, rules))
+none_after (a ∷ []) [] ys own one e = tail_is e
+none_after (a ∷ []) (x ∷ []) ys own one e = absurd (search (tail_is e, rules))
+none_after (a ∷ []) (x ∷ z ∷ xs) ys own one e = absurd (search (tail_is e, rules))
+none_after (a ∷ b ∷ last) xs ys own one e = absurd one
+
+-- after pieces comes one event at most: what is no piece is the last
+last_sent : (pieces : List (List ℕ)) (last xs ys : List Incoming) (own : Incoming) → AtMostOne last → ¬ IsPiece own
+    → xs ++ own ∷ ys ≡ map Piece pieces ++ last → ys ≡ []
+last_sent [] last xs ys own one other e = none_after last xs ys own one e
+last_sent (p ∷ pieces) last [] ys own one other e =
+    let same : Piece p ≡ own = search (e, rules) in
+    absurd (other (subst IsPiece same tt))
+last_sent (p ∷ pieces) last (x ∷ xs) ys own one other e = last_sent pieces last xs ys own one other (tail_is e)
+
+client_both : (xs ys : List Incoming) → from_client (xs ++ ys) ≡ from_client xs ++ from_client ys
+client_both [] ys = refl
+client_both (Piece bytes ∷ xs) ys = ap (λ l. Piece bytes ∷ l) (client_both xs ys)
+client_both (End ∷ xs) ys = ap (λ l. End ∷ l) (client_both xs ys)
+client_both (ReadFailed ∷ xs) ys = ap (λ l. ReadFailed ∷ l) (client_both xs ys)
+client_both (NoMemoryCame ∷ xs) ys = ap (λ l. NoMemoryCame ∷ l) (client_both xs ys)
+client_both (File file ∷ xs) ys = ap (λ l. File file ∷ l) (client_both xs ys)
+client_both (Report r ∷ xs) ys = client_both xs ys
+
+-- all that was sent was taken where that has an event that is no piece
+all_taken : (end : ReadEnd) (taken client front back : List Incoming) (own : Incoming) (old later : Supply) → IsReadUntil end client old later
+    → Begins taken client → ¬ IsPiece own → taken ≡ front ++ own ∷ back → taken ≡ client
+all_taken end taken client front back own old later read begins other has =
+    let sent : front ++ own ∷ (back ++ begins.0) ≡ map Piece read.pieces ++ last_of end =
+    sym (append_assoc front (own ∷ back) begins.0) ∙ (ap (λ l. l ++ begins.0) (sym has) ∙ (begins.1 ∙ read.sent_are)) in
+    let none : back ++ begins.0 ≡ [] = last_sent read.pieces (last_of end) front (back ++ begins.0) own (last_one end) other sent in
+    let nothing : begins.0 ≡ [] = ap (λ l. l ++ begins.0) (sym (append_none back begins.0 none)) ∙ none in
+    sym (append-nil taken) ∙ (ap (λ l. taken ++ l) (sym nothing) ∙ begins.1)
+
+-- ---- the runner
+
+-- the last act took Quit, or a report was handed back
+abbrev EndsBy : List Act → Type 0
+EndsBy acts = ((front : List PlainOrder) × (flat_map order_in acts ≡ front ++ Quit ∷ [])) ⊎ (flat_map handed_back_in acts ≢ [])
+
+-- an act that leads to the end took Quit, or was a report handed back
+abbrev Finishes : Act → Runner → Type 0
+Finishes act next = (next ≢ Ended) ⊎ ((order_in act ≡ Quit ∷ []) ⊎ (handed_back_in act ≢ []))
+
+finishes : {from next : Runner} {act : Act} → Does from act next → Finishes act next
+finishes runner.takes_go = inl (λ e. search (e, rules))
+finishes runner.has_none_to_hold = inl (λ e. search (e, rules))
+finishes runner.quits = inr (inl refl)
+finishes runner.passes = inl (λ e. search (e, rules))
+finishes (runner.goes_on _ _) = inl (λ e. search (e, rules))
+finishes (runner.stops _ _ _) = inl (λ e. search (e, rules))
+finishes (runner.is_refused _ _) = inr (inr (λ e. search (e, rules)))
+finishes runner.finds_none = inl (λ e. search (e, rules))
+finishes runner.finds_go = inl (λ e. search (e, rules))
+finishes runner.finds_hold = inl (λ e. search (e, rules))
+finishes (runner.finds_other_hold _) = inl (λ e. search (e, rules))
+finishes runner.finds_quit = inr (inl refl)
+finishes (runner.holds _ _) = inl (λ e. search (e, rules))
+finishes (runner.is_refused_held _ _) = inr (inr (λ e. search (e, rules)))
+
+last_act : (act : Act) (next : Runner) → next ≡ Ended → Finishes act next → EndsBy (act ∷ [])
+last_act act next ended (inl goes_on) = absurd (goes_on ended)
+last_act act next ended (inr (inl quits)) = inl ([], append-nil (order_in act) ∙ quits)
+last_act act next ended (inr (inr refused)) = inr (λ e. refused (append_none (handed_back_in act) [] e))
+
+act_before : (act : Act) (acts : List Act) → EndsBy acts → EndsBy (act ∷ acts)
+act_before act acts (inl quits) = inl (order_in act ++ quits.0, ap (λ l. order_in act ++ l) quits.1 ∙ sym (append_assoc (order_in act) quits.0 (Quit ∷ [])))
+act_before act acts (inr refused) = inr (λ e. refused (ap (λ l. l ++ flat_map handed_back_in acts) (sym (append_none (handed_back_in act) (flat_map handed_back_in acts) e)) ∙ e))
+
+ends_by_some : (from : Runner) (act : Act) (acts : List Act) → Leads from (act ∷ acts) Ended → EndsBy (act ∷ acts)
+ends_by_some from act [] leads = last_act act leads.0 leads.2 (finishes leads.1)
+ends_by_some from act (next ∷ acts) leads = act_before act (next ∷ acts) (ends_by_some leads.0 next acts leads.2)
+
+ends_by : (acts : List Act) → Leads Idle acts Ended → EndsBy acts
+ends_by [] leads = absurd (search (leads, rules))
+ends_by (act ∷ acts) leads = ends_by_some Idle act acts leads
+
+-- ---- all together
+
+takes_client : (result : Result Closed SessionFault) (events given client : List Incoming) (loads : List Load) (sent : Ports) (end : ReadEnd) (old later : Supply)
+    → Drives result events given loads nothing_sent sent → IsReadUntil end client old later → Begins (from_client given) client
+    → TakesAllSent result (from_client given) client
+takes_client (Ok closed.Disconnected) events given client loads sent end old later drives read begins = begins
+takes_client (Ok closed.InputEnded) events given client loads sent end old later drives read begins =
+    let by = closed_by_end events drives.1.past drives.1.rest drives.1.history drives.1.ending_is in
+    let own = interleaved_end events given loads drives.0 by.0 by.1 by.2 in
+    all_taken end (from_client given) client (from_client own.0) (from_client own.1) End old later read begins (λ p. p) (ap from_client own.2 ∙ client_both own.0 (End ∷ own.1))
+takes_client (Ok closed.ReadFailed) events given client loads sent end old later drives read begins =
+    let by = closed_by_failure events drives.1.past drives.1.rest drives.1.history drives.1.ending_is in
+    let own = interleaved_failure events given loads drives.0 by.0 by.1 by.2 in
+    all_taken end (from_client given) client (from_client own.0) (from_client own.1) ReadFailed old later read begins (λ p. p) (ap from_client own.2 ∙ client_both own.0 (ReadFailed ∷ own.1))
+takes_client (Err fault) events given client loads sent end old later drives read begins = begins
+
+all_orders : (events : List Incoming) (by : Ending) (sent : Ports) (acts : List Act) → Serves events by nothing_sent sent → Begins (flat_map order_in acts) sent.orders
+    → EndsBy acts → (flat_map order_in acts ≡ sent.orders) ⊎ (Begins (flat_map order_in acts) sent.orders × (flat_map handed_back_in acts ≢ []))
+all_orders events by sent acts serves begins (inl quits) =
+    let whole : orders_of serves.past ≡ quits.0 ++ Quit ∷ begins.0 =
+    sym serves.orders_are ∙ (sym begins.1 ∙ (ap (λ l. l ++ begins.0) quits.1 ∙ append_assoc quits.0 (Quit ∷ []) begins.0)) in
+    let nothing : begins.0 ≡ [] = quit_is_last events serves.past serves.rest serves.history quits.0 begins.0 whole in
+    inl (sym (append-nil (flat_map order_in acts)) ∙ (ap (λ l. flat_map order_in acts ++ l) (sym nothing) ∙ begins.1))
+all_orders events by sent acts serves begins (inr refused) = inr (begins, refused)
+
+takes_orders : (result : Result Closed SessionFault) (events given : List Incoming) (loads : List Load) (sent : Ports) (acts : List Act)
+    → Drives result events given loads nothing_sent sent → Leads Idle acts Ended → Begins (flat_map order_in acts) sent.orders
+    → TakesAllOrders result acts sent.orders
+takes_orders (Ok by) events given loads sent acts drives leads begins = all_orders events (ending.Closed by) sent acts drives.1 begins (ends_by acts leads)
+takes_orders (Err fault) events given loads sent acts drives leads begins = begins
+
+-- Nothing was taken, put or pushed when all began.
+pub gathers : (wrote : Result (Unit {0}) WriteFailed) (result : Result Closed SessionFault) (loads later_loads : List Load) (old later : Streams)
+    (given : List Incoming) (put : List Parcel) (pushed : Ordered) (end : ReadEnd) (client : List Incoming) (acts : List Act) (reports : List PlainReport) (orders : List PlainOrder) (taken : List Parcel)
+    → Drove result [] given loads later_loads nothing_sent put pushed
+    → IsReadUntil end client (input_of old) (input_of later) → Begins (from_client given) client
+    → Leads Idle acts Ended → orders ≡ flat_map order_in acts → reports ≡ flat_map sent_in acts → Begins orders pushed.orders → Begins (reports_among given) reports
+    → IsWrittenUntil wrote taken (output_of old) (output_of later) → Begins taken put
+    → IsDriven wrote result loads later_loads old later
+gathers wrote result loads later_loads old later given put pushed end client acts reports orders taken drove read client_taken leads orders_are reports_are orders_taken reports_taken written put_taken =
+    let d = drove.driven in
+    let drives : Drives result d.events given d.loads nothing_sent drove.later = subst (λ g. Drives result d.events g d.loads nothing_sent drove.later) (sym d.given_are) d.drives in
+    let begins : Begins (flat_map order_in acts) drove.later.orders = subst (λ o. Begins o drove.later.orders) orders_are (subst (λ o. Begins orders o) drove.orders_are orders_taken) in
+    record {
+      events = d.events;
+      given = given;
+      loaded = d.loads;
+      sent = drove.later;
+      lawful = d.lawful;
+      drives = drives;
+      loads_are = d.loads_are;
+      never_gone = drove.never_gone;
+      end = end;
+      client = client;
+      read = read;
+      client_taken = takes_client result d.events given client d.loads drove.later end (input_of old) (input_of later) drives read client_taken;
+      acts = acts;
+      worked = leads;
+      orders_taken = takes_orders result d.events given d.loads drove.later acts drives leads begins;
+      reports_taken = subst (λ r. Begins (reports_among given) r) reports_are reports_taken;
+      written = writes_frames wrote taken put drove.later.frames (output_of old) (output_of later) put_taken drove.frames_are drove.ended written;
+    }

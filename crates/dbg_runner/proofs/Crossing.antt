@@ -1,0 +1,45 @@
+-- Reports and orders may go to another thread. One search for all of it would break off, so each type is a step.
+use denote.Param.Send.{IsSend, IsSync, sendable}
+use Rattle.std.proofs.Crossing.{crosses}
+use Rattle.dbg_plan.proofs.located.LocatedExpression.TheLaws.TheKnot as located
+use Rattle.pl0_tree.proofs.tree.Block.TheLaws.TheKnot as block
+use Rattle.pl0_tree.proofs.tree.Expression.TheLaws.TheKnot as expression
+use Rattle.pl0_tree.proofs.tree.Statement.TheLaws.TheKnot as statement
+use Rattle.pl0_unit.specs.contracts.unit.Unit as Compiled
+use Rattle.pl0_machine.specs.contracts.machine.Machine as Machine
+use Rattle.dbg_plan.specs.contracts.plan.Plan as Plan
+use Rattle.dbg_plan.specs.contracts.debuggee.Debuggee as Debuggee
+use Rattle.dbg_runner.specs.contracts.outputs.Outputs as Outputs
+use Rattle.dbg_runner.specs.contracts.report.Report as Report
+use Rattle.dbg_runner.specs.contracts.order.Considered as Considered
+use Rattle.dbg_runner.specs.contracts.order.Order as Order
+
+unit_send : IsSend Compiled.the_row
+unit_send = search (crosses, block.crosses, expression.crosses, statement.crosses, sendable) depth 60 fits 20000
+
+unit_sync : IsSync Compiled.the_row
+unit_sync = search (crosses, block.crosses, expression.crosses, statement.crosses, sendable) depth 60 fits 20000
+
+plan_send : IsSend Plan.the_row
+plan_send = search (crosses, located.crosses, expression.crosses, sendable) depth 60 fits 20000
+
+plan_sync : IsSync Plan.the_row
+plan_sync = search (crosses, located.crosses, expression.crosses, sendable) depth 60 fits 20000
+
+machine_send : IsSend Machine.the_field.row
+machine_send = let a = unit_send in let b = unit_sync in search (crosses, sendable) depth 60 fits 20000
+
+debuggee_send : IsSend Debuggee.the_row
+debuggee_send = let a = machine_send in let c = plan_send in let d = plan_sync in search (crosses, sendable) depth 60 fits 20000
+
+outputs_send : IsSend Outputs.the_field.row
+outputs_send = let a = unit_send in let b = unit_sync in let c = plan_send in let d = plan_sync in search (crosses, sendable) depth 60 fits 20000
+
+pub report_send : IsSend Report.the_field.row
+report_send = let a = debuggee_send in let b = outputs_send in search (crosses, sendable) depth 60 fits 20000
+
+considered_send : IsSend Considered.the_field.row
+considered_send = let a = debuggee_send in search (crosses, sendable) depth 60 fits 20000
+
+pub order_send : IsSend Order.the_row
+order_send = let a = considered_send in search (crosses, sendable) depth 60 fits 20000

@@ -1,0 +1,128 @@
+//! Sessions whose streams and gate wait for each other, each in vain unless all threads go on at once.
+
+use crate::fakes::{Cut, Hold, Streams};
+use crate::programs::{BROKEN, CUT_OFF, Debugging, NOTHING, PAUSED, PROCEDURES};
+use crate::serving::{Outcome, run};
+use crate::transcript::Exchange;
+use adapter::Served;
+use std::alloc::Global;
+use std::process::Abort;
+use std::sync::Wait;
+use std::test::Fail;
+use std::thread::Threads;
+
+/// A session ends so, with the frames of its transcript.
+fn assert_answered(
+    rt: &impl Abort,
+    session: &Debugging,
+    exchange: &Exchange,
+    run: &Outcome,
+    end: Served,
+) {
+    let name = session.name;
+    assert_eq!(rt; run.end, Ok(end), "{name}");
+    assert!(rt;
+        run.output.as_slice() == exchange.answered.as_slice(),
+        "{name}"
+    );
+}
+
+/// Serves a session as its transcript says: how many slices passed the gate.
+fn assert_served<R: Threads + Wait + Abort + Copy + Drop + Send + Sync>(
+    rt: &R,
+    alloc: Global,
+    session: &Debugging,
+    end: Served,
+) -> Result<usize, Fail> {
+    let exchange = Exchange::new(alloc, session.transcript)?;
+    let streams = Streams {
+        cuts: exchange.reads.as_slice(),
+        slice_hold: exchange.slice_hold,
+        ..Streams::WELL
+    };
+    let sent = exchange.sent.as_slice();
+    let run = run(rt, alloc, session.program, sent, streams);
+    assert_answered(rt, session, &exchange, &run, end);
+    Ok(run.slices)
+}
+
+/// Each read after a run began waits for what the run brings.
+#[test]
+fn reports_runs_to_an_editor_that_waits(rt: HostRuntime) -> Result<(), Fail> {
+    let slices = assert_served(&rt, rt.alloc(), &PROCEDURES, Served::Disconnected)?;
+    assert_eq!(rt; slices, 3);
+    Ok(())
+}
+
+/// The first slice waits for the answer to the pause, and the end of the input for the stop.
+#[test]
+fn answers_a_pause_while_the_program_runs(rt: HostRuntime) -> Result<(), Fail> {
+    let slices = assert_served(&rt, rt.alloc(), &PAUSED, Served::InputEnded)?;
+    assert_eq!(rt; slices, 1);
+    Ok(())
+}
+
+/// The first slice waits for the answer to the breakpoints, and the end of the input for the stop, which a second run brings.
+#[test]
+fn sets_breakpoints_while_the_program_runs(rt: HostRuntime) -> Result<(), Fail> {
+    let slices = assert_served(&rt, rt.alloc(), &BROKEN, Served::InputEnded)?;
+    assert_eq!(rt; slices, 2);
+    Ok(())
+}
+
+/// The input ends when the second slice began, of a program without end.
+#[test]
+fn quits_a_run_where_the_input_ends(rt: HostRuntime) -> Result<(), Fail> {
+    let alloc = rt.alloc();
+    let mut exchange = Exchange::new(alloc, CUT_OFF.transcript)?;
+    exchange.reads.push(Cut {
+        at: exchange.sent.len(),
+        hold: Hold::Passed(2),
+    })?;
+    let streams = Streams {
+        cuts: exchange.reads.as_slice(),
+        ..Streams::WELL
+    };
+    let sent = exchange.sent.as_slice();
+    let run = run(&rt, alloc, CUT_OFF.program, sent, streams);
+    assert_answered(&rt, &CUT_OFF, &exchange, &run, Served::InputEnded);
+    Ok(())
+}
+
+/// Each write waits until a second piece was asked for.
+#[test]
+fn reads_before_it_has_written(rt: HostRuntime) -> Result<(), Fail> {
+    let alloc = rt.alloc();
+    let exchange = Exchange::new(alloc, NOTHING.transcript)?;
+    let streams = Streams {
+        cuts: exchange.reads.as_slice(),
+        write_hold: Hold::Read(2),
+        ..Streams::WELL
+    };
+    let sent = exchange.sent.as_slice();
+    let run = run(&rt, alloc, "", sent, streams);
+    assert_answered(&rt, &NOTHING, &exchange, &run, Served::Disconnected);
+    Ok(())
+}
+
+/// Each read waits until all that the one before it asked for is written.
+#[test]
+fn writes_before_it_reads_again(rt: HostRuntime) -> Result<(), Fail> {
+    let alloc = rt.alloc();
+    let mut exchange = Exchange::new(alloc, NOTHING.transcript)?;
+    for (read, answered) in exchange
+        .reads
+        .iter_mut()
+        .zip(exchange.answered_before.iter())
+    {
+        read.hold = Hold::Written(*answered);
+    }
+    let streams = Streams {
+        cuts: exchange.reads.as_slice(),
+        ..Streams::WELL
+    };
+    let sent = exchange.sent.as_slice();
+    let run = run(&rt, alloc, "", sent, streams);
+    assert_answered(&rt, &NOTHING, &exchange, &run, Served::Disconnected);
+    Ok(())
+}

@@ -1,0 +1,135 @@
+//! Reads and writes that fail in turn. Those that are interrupted are tried again, as each is once.
+
+use crate::fakes::Streams;
+use crate::programs::{Debugging, NOTHING, PROCEDURES};
+use crate::rows::{HELLO, INITIALIZE};
+use crate::serving::run;
+use crate::transcript::{ANSWERED, Exchange, SENT, frames};
+use adapter::{ServeFault, Served};
+use std::alloc::Global;
+use std::process::Abort;
+use std::sync::Wait;
+use std::test::Fail;
+use std::thread::Threads;
+
+/// Each read of a session fails in turn: what came before it is answered, and after a disconnect nothing changes.
+fn assert_reads_fail<R: Threads + Wait + Abort + Copy + Drop + Send + Sync>(
+    rt: &R,
+    alloc: Global,
+    session: &Debugging,
+) -> Result<(), Fail> {
+    let name = session.name;
+    let exchange = Exchange::new(alloc, session.transcript)?;
+    let sent = exchange.sent.as_slice();
+    let reads = exchange.reads.as_slice();
+    for (read, answered) in reads.iter().zip(exchange.answered_before.iter()) {
+        let at = read.at;
+        let streams = Streams {
+            cuts: reads,
+            read_fails_at: at,
+            ..Streams::WELL
+        };
+        let end = if at < sent.len() {
+            Err(ServeFault::ReadFailed)
+        } else {
+            Ok(Served::Disconnected)
+        };
+        let run = run(rt, alloc, session.program, sent, streams);
+        assert_eq!(rt; run.end, end, "{name}, at {at}");
+        let expected = exchange.answered.get(..*answered);
+        assert!(rt; Some(run.output.as_slice()) == expected, "{name}, at {at}");
+    }
+    Ok(())
+}
+
+#[test]
+fn ends_where_a_read_fails(rt: HostRuntime) -> Result<(), Fail> {
+    assert_reads_fail(&rt, rt.alloc(), &NOTHING)?;
+    assert_reads_fail(&rt, rt.alloc(), &PROCEDURES)
+}
+
+/// The output takes so many bytes of a session, and fails at the next write.
+fn assert_write_fails<R: Threads + Wait + Abort + Copy + Drop + Send + Sync>(
+    rt: &R,
+    alloc: Global,
+    session: &Debugging,
+    exchange: &Exchange,
+    room: usize,
+) {
+    let name = session.name;
+    for takes_nothing in [false, true] {
+        let streams = Streams {
+            cuts: exchange.reads.as_slice(),
+            room,
+            takes_nothing,
+            ..Streams::WELL
+        };
+        let sent = exchange.sent.as_slice();
+        let run = run(rt, alloc, session.program, sent, streams);
+        assert_eq!(rt; run.end, Err(ServeFault::WriteFailed), "{name}, at {room}");
+        let expected = exchange.answered.get(..room);
+        assert!(rt;
+            Some(run.output.as_slice()) == expected,
+            "{name}, at {room}"
+        );
+    }
+}
+
+/// Each write of a session fails in turn, after none of its bytes, after one, and after all but one.
+fn assert_writes_fail<R: Threads + Wait + Abort + Copy + Drop + Send + Sync>(
+    rt: &R,
+    alloc: Global,
+    session: &Debugging,
+) -> Result<(), Fail> {
+    let exchange = Exchange::new(alloc, session.transcript)?;
+    for (begin, end) in exchange.answers.as_slice() {
+        for room in [*begin, begin.saturating_add(1), end.saturating_sub(1)] {
+            assert_write_fails(rt, alloc, session, &exchange, room);
+        }
+    }
+    Ok(())
+}
+
+#[test]
+fn ends_where_a_write_fails(rt: HostRuntime) -> Result<(), Fail> {
+    assert_writes_fail(&rt, rt.alloc(), &NOTHING)?;
+    assert_writes_fail(&rt, rt.alloc(), &PROCEDURES)
+}
+
+/// Reads fail at each byte in turn.
+#[test]
+fn ends_where_a_read_fails_within_a_frame(rt: HostRuntime) -> Result<(), Fail> {
+    let alloc = rt.alloc();
+    let input = frames(alloc, HELLO, SENT)?;
+    let first = frames(alloc, INITIALIZE, SENT)?;
+    let answer = frames(alloc, INITIALIZE, ANSWERED)?;
+    for read_step in [1, first.len()] {
+        for read_fails_at in 0..input.len() {
+            let streams = Streams {
+                read_step,
+                read_fails_at,
+                ..Streams::WELL
+            };
+            let expected = if read_fails_at < first.len() {
+                b""
+            } else {
+                answer.as_slice()
+            };
+            let run = run(&rt, alloc, "", input.as_slice(), streams);
+            assert_eq!(rt; run.end, Err(ServeFault::ReadFailed), "at {read_fails_at}");
+            assert!(rt; run.output.as_slice() == expected, "at {read_fails_at}");
+        }
+    }
+    Ok(())
+}
+
+/// Writes fail, or take nothing, after each number of bytes in turn.
+#[test]
+fn ends_where_a_write_fails_within_a_frame(rt: HostRuntime) -> Result<(), Fail> {
+    let alloc = rt.alloc();
+    let exchange = Exchange::new(alloc, HELLO)?;
+    for room in 0..exchange.answered.len() {
+        assert_write_fails(&rt, alloc, &NOTHING, &exchange, room);
+    }
+    Ok(())
+}

@@ -1,0 +1,240 @@
+// A session over memory, in one thread: what a client sends byte by byte, and a run before the next byte.
+
+use anyhow::{Result, anyhow};
+use dap_session::{Event, Inbox, LoadFault, Loader, Order, OrderFault, Orders, Out, drive};
+use dbg_plan::Mode;
+use dbg_runner::{Considered, History, Report, next_report};
+use std::alloc::Global;
+use std::cell::Cell;
+use std::fs;
+use std::rt::Files;
+use std::sync::Wait;
+
+/// A program's text has at most one byte less.
+const MOST: usize = 65_537;
+
+/// Drives a session by what a client sends: the frames that it puts, joined.
+pub fn run<R: Wait + Files + AllocGlobal>(rt: &R, alloc: Global, sent: &[u8]) -> Result<Vec<u8>> {
+    let running = Cell::new(None);
+    let mut client = Client {
+        events: Events {
+            alloc,
+            rest: sent,
+            running: &running,
+        },
+        given: History::new(),
+    };
+    let mut loader = Disk {
+        rt,
+        loads: History::new(),
+    };
+    let mut frames = Frames {
+        bytes: Vec::new(alloc),
+        put: History::new(),
+        refused: History::new(),
+    };
+    let mut orders = OrdersHere {
+        running: &running,
+        pushed: History::new(),
+    };
+    drive(
+        rt,
+        alloc,
+        &mut client,
+        &mut loader,
+        &mut frames,
+        &mut orders,
+    )
+    .map_err(|fault| anyhow!("the session gave up: {fault:?}"))?;
+    Ok(frames.bytes)
+}
+
+/// A run that is on.
+#[derive(Drop)]
+struct Running {
+    run: u64,
+    debuggee: Considered,
+    mode: Mode,
+    begun: bool,
+    held: bool,
+}
+
+/// The next report of a run, and the run if it goes on. A run is held after a slice, and never before its first.
+fn report_next(alloc: Global, running: Running) -> (Report, Option<Running>) {
+    let Running {
+        run,
+        debuggee,
+        mode,
+        begun,
+        held,
+    } = running;
+    if held && begun {
+        return (Report::held(run, mode, debuggee.into_debuggee()), None);
+    }
+    let (report, on) = next_report(alloc, run, debuggee.into_debuggee(), mode);
+    let running = on.map(|debuggee| Running {
+        run,
+        debuggee: Considered::new(debuggee),
+        mode,
+        begun: true,
+        held,
+    });
+    (report, running)
+}
+
+/// The next report of the run that is on, or else the next byte.
+#[derive(Drop)]
+struct Events<'a> {
+    alloc: Global,
+    rest: &'a [u8],
+    running: &'a Cell<Option<Running>>,
+}
+
+impl Events<'_> {
+    fn next(&mut self) -> Event {
+        if let Some(running) = self.running.replace(None) {
+            let (report, running) = report_next(self.alloc, running);
+            self.running.set(running);
+            return Event::Report(report);
+        }
+        let Some((byte, rest)) = self.rest.split_first() else {
+            return Event::End;
+        };
+        self.rest = rest;
+        match Vec::from_slice(self.alloc, &[*byte]) {
+            Ok(piece) => Event::Piece(piece),
+            Err(_) => Event::NoMemory,
+        }
+    }
+}
+
+/// What the session takes, noted.
+#[derive(Drop)]
+struct Client<'a> {
+    events: Events<'a>,
+    given: History<Event>,
+}
+
+impl Inbox for Client<'_> {
+    ghost use Rattle.std.specs.Prelude.{map, ⊤};
+    ghost use Rattle.dap_session.specs.Incoming.{incoming_of};
+
+    ghost given = { λ s. map incoming_of s.given.entries };
+
+    ghost Origin = { ⊤ };
+
+    ghost origin = { λ _. tt };
+
+    fn next(&mut self) -> Event {
+        let event = self.events.next();
+        self.given = self.given.and(&event);
+        event
+    }
+}
+
+/// The files of the system.
+#[derive(Drop)]
+struct Disk<'a, R: Files + AllocGlobal> {
+    rt: &'a R,
+    loads: History<(String, Vec<u8>)>,
+}
+
+impl<R: Files + AllocGlobal> Loader for Disk<'_, R> {
+    ghost use Rattle.std.specs.Prelude.{map, string_bytes, Ok};
+    ghost use Rattle.dap_session.specs.Ports.{load_of};
+
+    ghost loaded = { λ s. map (λ load. load_of (string_bytes load.0) (Ok load.1.items)) s.loads.entries };
+
+    fn load(&mut self, path: &str) -> Result<Vec<u8>, LoadFault> {
+        let Ok(mut text) = fs::read(self.rt, path) else {
+            return Err(LoadFault::NoMemory);
+        };
+        text.truncate(MOST);
+        let Ok(path) = String::from_str(self.rt.alloc(), path) else {
+            return Err(LoadFault::NoMemory);
+        };
+        let load = (path, text);
+        self.loads = self.loads.and(&load);
+        Ok(load.1)
+    }
+}
+
+/// Joins the frames.
+#[derive(Drop)]
+struct Frames {
+    bytes: Vec<u8>,
+    put: History<Vec<u8>>,
+    refused: History<Vec<u8>>,
+}
+
+impl Out for Frames {
+    ghost use Rattle.std.specs.Prelude.{map, ⊤};
+
+    ghost seen = { λ s. record { frames = map (λ f. f.items) s.put.entries; refused = map (λ f. f.items) s.refused.entries } };
+
+    ghost Origin = { ⊤ };
+
+    ghost origin = { λ _. tt };
+
+    fn put(&mut self, frame: Vec<u8>) -> Result<(), Vec<u8>> {
+        match self.bytes.extend_from_slice(frame.as_slice()) {
+            Ok(()) => {
+                self.put = self.put.and(&frame);
+                Ok(())
+            }
+            Err(_) => {
+                self.refused = self.refused.and(&frame);
+                Err(frame)
+            }
+        }
+    }
+}
+
+/// Where orders go: to the run that is on.
+#[derive(Drop)]
+struct OrdersHere<'a> {
+    running: &'a Cell<Option<Running>>,
+    pushed: History<Order>,
+}
+
+impl Orders for OrdersHere<'_> {
+    ghost use Rattle.std.specs.Prelude.{map, ⊤};
+    ghost use Rattle.dbg_runner.specs.Orders.{plain_order};
+
+    ghost seen = { λ s. record { orders = map plain_order s.pushed.entries; fulls = 0; refusals = 0 } };
+
+    ghost is_full = { λ _. ⊥ };
+
+    ghost Origin = { ⊤ };
+
+    ghost origin = { λ _. tt };
+
+    fn push(&mut self, order: Order) -> Result<(), OrderFault> {
+        self.pushed = self.pushed.and(&order);
+        let running = self.running.replace(None);
+        self.running.set(obey(running, order));
+        Ok(())
+    }
+}
+
+/// The run that is on after an order.
+fn obey(running: Option<Running>, order: Order) -> Option<Running> {
+    match order {
+        Order::Go {
+            run,
+            debuggee,
+            mode,
+        } => Some(Running {
+            run,
+            debuggee,
+            mode,
+            begun: false,
+            held: false,
+        }),
+        Order::Hold { run } => running.map(|running| Running {
+            held: running.held || running.run == run,
+            ..running
+        }),
+        Order::Quit => None,
+    }
+}
