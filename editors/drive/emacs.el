@@ -1,9 +1,9 @@
-;;; emacs.el --- Emacs debugs examples/factorial.pl0 -*- lexical-binding: t; -*-
+;;; emacs.el --- Emacs debugs examples/factorial.pl0 or demo/endless.pl0 -*- lexical-binding: t; -*-
 
-;; usage: emacs --batch --load editors/drive/emacs.el -- COMMAND..
+;; usage: emacs --batch --load editors/drive/emacs.el -- SESSION COMMAND..
 ;;
-;; COMMAND starts the adapter, or the proxy before it.  Prints what Emacs shows, line by line, and ends with status 0 at the end
-;; of the session.
+;; SESSION is factorial or endless.  COMMAND starts the adapter, or the proxy before it.  Prints what Emacs shows, line by line,
+;; and ends with status 0 at the end of the session.
 
 (require 'package)
 (package-initialize)
@@ -17,7 +17,8 @@
         dap-breakpoints-file (expand-file-name "breakpoints" store)))
 (require 'dap-ui)
 (load (expand-file-name "editors/emacs/pl0-dap.el" drive-folder) nil t)
-(setq pl0-dap-command (cdr (member "--" command-line-args))
+(defconst drive-session (cadr (member "--" command-line-args)))
+(setq pl0-dap-command (cddr (member "--" command-line-args))
       command-line-args-left nil)
 
 (defun drive-show (form &rest values)
@@ -61,21 +62,78 @@
       (drive-wait "a value" shown))
     (drive-show "%s is %s" expression shown)))
 
-(find-file (expand-file-name "examples/factorial.pl0" drive-folder))
-(drive-show "mode %s" mode-name)
-(goto-char (point-min))
-(forward-line 8)
-(dap-breakpoint-toggle)
-(cl-letf (((symbol-function 'read-string) (lambda (&rest _) "k = 8")))
-  (dap-breakpoint-condition buffer-file-name (dap--get-breakpoint-at-point)))
-(dap-debug (copy-tree (cdr (assoc "PL/0" dap-debug-template-configurations))))
-(drive-show-stop)
-(drive-evaluate "k * (k - 1)")
-(drive-evaluate "k +")
-(dap-next (dap--cur-session))
-(drive-show-stop)
-(dap-continue (dap--cur-session) 1)
-(drive-wait "the end" (not (dap--session-running (dap--cur-session))))
-(with-current-buffer (dap--debug-session-output-buffer (dap--cur-session))
-  (drive-show "output %s" (string-trim (buffer-string))))
+(defun drive-start (program)
+  "Open PROGRAM; print its mode."
+  (find-file (expand-file-name program drive-folder))
+  (drive-show "mode %s" mode-name)
+  (goto-char (point-min)))
+
+(defun drive-debug ()
+  "Debug the program of the buffer."
+  (dap-debug (copy-tree (cdr (assoc "PL/0" dap-debug-template-configurations)))))
+
+(defun drive-factorial ()
+  "A breakpoint with a condition, a stop, two values, a step and the end."
+  (drive-start "examples/factorial.pl0")
+  (forward-line 8)
+  (dap-breakpoint-toggle)
+  (cl-letf (((symbol-function 'read-string) (lambda (&rest _) "k = 8")))
+    (dap-breakpoint-condition buffer-file-name (dap--get-breakpoint-at-point)))
+  (drive-debug)
+  (drive-show-stop)
+  (drive-evaluate "k * (k - 1)")
+  (drive-evaluate "k +")
+  (dap-next (dap--cur-session))
+  (drive-show-stop)
+  (dap-continue (dap--cur-session) 1)
+  (drive-wait "the end" (not (dap--session-running (dap--cur-session))))
+  (with-current-buffer (dap--debug-session-output-buffer (dap--cur-session))
+    (drive-show "output %s" (string-trim (buffer-string)))))
+
+(defun drive-rest (seconds)
+  "Let SECONDS pass."
+  (let ((until (+ (float-time) seconds)))
+    (while (< (float-time) until)
+      (accept-process-output nil 0.1))))
+
+(defun drive-pause ()
+  "Stop the thread that runs."
+  (cl-letf (((symbol-function 'completing-read) (lambda (_prompt names &rest _) (car names))))
+    (dap-stop-thread)
+    (drive-show-stop)))
+
+(defun drive-continue ()
+  "Let the program run for a second."
+  (dap-continue (dap--cur-session) 1)
+  (drive-rest 1)
+  (drive-show (if (drive-frame) "it stopped" "it runs")))
+
+(defun drive-show-process (when)
+  "Print whether the adapter's process is there, WHEN, and whether Emacs counts the session as running."
+  (drive-show "%s: the process is %s, the session %s" when (process-status (dap--debug-session-proc (dap--cur-session)))
+              (dap--debug-session-state (dap--cur-session))))
+
+(defun drive-endless ()
+  "A loop without an end: two pauses, a breakpoint that is set while it runs, and a stop at the user's wish."
+  (drive-start "demo/endless.pl0")
+  (drive-debug)
+  (drive-wait "the run" (eq 'running (dap--debug-session-state (dap--cur-session))))
+  (drive-rest 1)
+  (drive-pause)
+  (drive-evaluate "6 * 7")
+  (drive-continue)
+  (dap-breakpoint-toggle)
+  (drive-show-stop)
+  (dap-breakpoint-toggle)
+  (drive-continue)
+  (drive-pause)
+  (drive-continue)
+  (dap-disconnect (dap--cur-session))
+  (drive-rest 3)
+  (drive-show-process "3 seconds after disconnect"))
+
+(pcase drive-session
+  ("factorial" (drive-factorial))
+  ("endless" (drive-endless))
+  (_ (drive-show "no session %s" drive-session) (kill-emacs 4)))
 (kill-emacs 0)

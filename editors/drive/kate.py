@@ -1,10 +1,11 @@
 #!/usr/bin/env python3
-"""Kate debugs examples/factorial.pl0 on a display of its own: keys are pressed for it, and what it shows isn't looked at.
+"""Kate debugs examples/factorial.pl0 or demo/endless.pl0 on a display of its own: keys are pressed for it, and what it shows isn't
+looked at.
 
-usage: kate.py COMMAND..
+usage: kate.py SESSION COMMAND..
 
-COMMAND starts the adapter, or the proxy before it. Ends with status 0 once all keys are pressed; the session is in the
-proxy's transcript. Needs kate (22.12), Xvfb and xdotool. Kate's settings are in a folder that is removed
+SESSION is factorial or endless. COMMAND starts the adapter, or the proxy before it. Ends with status 0 once all keys are pressed;
+the session is in the proxy's transcript. Needs kate (22.12), Xvfb and xdotool. Kate's settings are in a folder that is removed
 afterwards.
 """
 import json
@@ -15,8 +16,6 @@ import tempfile
 import time
 
 TOP = os.path.realpath(os.path.join(os.path.dirname(__file__), "..", ".."))
-PROGRAM = os.path.join(TOP, "examples", "factorial.pl0")
-CONFIGURATION = "launch, stop at the first step"
 START, REST = 60, 1.5  # seconds that Kate gets at most to start, and after each key
 ADAPTER = float(os.environ.get("DRIVE_SECONDS", "2"))  # seconds that the adapter gets to start
 SESSION = """[Kate Plugins]
@@ -63,18 +62,18 @@ def write(path: str, text: str) -> None:
         file.write(text)
 
 
-def settings(home: str, command: list[str]) -> None:
+def settings(home: str, program: str, configuration: str, command: list[str]) -> None:
     """Kate's settings: the adapter as editors/kate/dap.json has it, but by this command; and a session that debugs the program."""
     with open(os.path.join(TOP, "editors", "kate", "dap.json"), encoding="utf-8") as file:
         adapters = json.load(file)
     adapters["dap"]["pl0dap"]["run"]["command"] = command
     write(os.path.join(home, ".config", "kate", "gdbplugin", "dap.json"), json.dumps(adapters))
-    target = {"debuggerKey": "pl0dap", "debuggerProfile": CONFIGURATION, "target": "PL/0", "variables": {"file": PROGRAM}}
+    target = {"debuggerKey": "pl0dap", "debuggerProfile": configuration, "target": "PL/0", "variables": {"file": program}}
     write(os.path.join(home, ".local", "share", "kate", "sessions", "pl0.katesession"), SESSION % json.dumps(target))
 
 
-def debug() -> None:
-    """A session: a breakpoint, two stops, a value, a step and the end."""
+def factorial() -> None:
+    """A breakpoint, two stops, a value, a step and the end."""
     focus()
     keys("ctrl+F7")
     time.sleep(ADAPTER)
@@ -90,14 +89,35 @@ def debug() -> None:
     keys("ctrl+q")
 
 
+def endless() -> None:
+    """Two pauses in a loop without an end, and a stop at the user's wish, which is a pause where the program runs."""
+    focus()
+    keys("ctrl+F7")
+    time.sleep(ADAPTER)
+    action("Continue")
+    action("Toggle Breakpoint / Break")
+    action("Continue")
+    action("Stop Debugging")
+    action("Stop Debugging")
+    keys("ctrl+q")
+
+
+SESSIONS = {
+    "factorial": ("examples/factorial.pl0", "9", "launch, stop at the first step", factorial),
+    "endless": ("demo/endless.pl0", "1", "launch", endless),
+}
+
+
 def main() -> int:
+    place, line, configuration, debug = SESSIONS[sys.argv[1]]
+    program = os.path.join(TOP, place)
     with tempfile.TemporaryDirectory() as home:
-        settings(home, sys.argv[1:])
+        settings(home, program, configuration, sys.argv[2:])
         display = ":%d" % (os.getpid() % 10000 + 100)
         screen = subprocess.Popen(["Xvfb", display, "-screen", "0", "1200x800x24"], stderr=subprocess.DEVNULL)
         os.environ.update(HOME=home, DISPLAY=display, XDG_RUNTIME_DIR=home)
         time.sleep(1)
-        kate = subprocess.Popen(["kate", "-s", "pl0", "-l", "9", PROGRAM], stderr=subprocess.DEVNULL)
+        kate = subprocess.Popen(["kate", "-s", "pl0", "-l", line, program], stderr=subprocess.DEVNULL)
         try:
             debug()
             kate.wait(timeout=30)

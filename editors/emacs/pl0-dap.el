@@ -50,5 +50,14 @@
 ;; A member that is nil is sent as null, which isn't a truth value: where a program isn't to stop, leave :stopOnEntry out.
 (dap-register-debug-template "PL/0, stop at the first step" (list :type "pl0" :request "launch" :stopOnEntry t))
 
+;; The adapter's process ends at the end of its input, which dap-mode leaves open after `disconnect'.
+(defun pl0-dap-close-input (message _callback session)
+  "Close the adapter's input if MESSAGE, which was sent in SESSION, is `disconnect'."
+  (when (and (equal "disconnect" (plist-get message :command))
+             (equal "pl0" (plist-get (dap--debug-session-launch-args session) :type)))
+    (process-send-eof (dap--debug-session-proc session))))
+
+(advice-add 'dap--send-message :after #'pl0-dap-close-input)
+
 (provide 'pl0-dap)
 ;;; pl0-dap.el ends here
