@@ -77,33 +77,33 @@ abbrev mutual
   ProceduresNear (AProcedure x b more) = BlockNear b × ProceduresNear more
 
 mutual
-  expression_left : {s : List Token} {e : Expression} {rest : List Token} → ReadsExpression s e rest → TokensNear s → TokensNear rest
+  expression_left : {n : ℕ} {s : List Token} {e : Expression} {rest : List Token} → ReadsExpression n s e rest → TokensNear s → TokensNear rest
   expression_left (unsigned term more) near = more_terms_left more (term_left term near)
   expression_left (positive term more) near = more_terms_left more (term_left term near.1)
   expression_left (negative term more) near = more_terms_left more (term_left term near.1)
 
-  more_terms_left : {s : List Token} {first e : Expression} {rest : List Token} → ReadsMoreTerms s first e rest → TokensNear s → TokensNear rest
+  more_terms_left : {n : ℕ} {s : List Token} {first e : Expression} {rest : List Token} → ReadsMoreTerms n s first e rest → TokensNear s → TokensNear rest
   more_terms_left no_term near = near
   more_terms_left (one_term adding term more) near = more_terms_left more (term_left term near.1)
 
-  term_left : {s : List Token} {e : Expression} {rest : List Token} → ReadsTerm s e rest → TokensNear s → TokensNear rest
+  term_left : {n : ℕ} {s : List Token} {e : Expression} {rest : List Token} → ReadsTerm n s e rest → TokensNear s → TokensNear rest
   term_left (factors factor more) near = more_factors_left more (factor_left factor near)
 
-  more_factors_left : {s : List Token} {first e : Expression} {rest : List Token} → ReadsMoreFactors s first e rest → TokensNear s → TokensNear rest
+  more_factors_left : {n : ℕ} {s : List Token} {first e : Expression} {rest : List Token} → ReadsMoreFactors n s first e rest → TokensNear s → TokensNear rest
   more_factors_left no_factor near = near
   more_factors_left (one_factor multiplying factor more) near = more_factors_left more (factor_left factor near.1)
 
-  factor_left : {s : List Token} {e : Expression} {rest : List Token} → ReadsFactor s e rest → TokensNear s → TokensNear rest
+  factor_left : {n : ℕ} {s : List Token} {e : Expression} {rest : List Token} → ReadsFactor n s e rest → TokensNear s → TokensNear rest
   factor_left name near = near.1
   factor_left number near = near.1
   factor_left (nested inner) near = (expression_left inner near.1).1
 
-condition_left : {s : List Token} {c : Condition} {rest : List Token} → ReadsCondition s c rest → TokensNear s → TokensNear rest
+condition_left : {n : ℕ} {s : List Token} {c : Condition} {rest : List Token} → ReadsCondition n s c rest → TokensNear s → TokensNear rest
 condition_left (odd expression) near = expression_left expression near.1
 condition_left (comparison first comparing second) near = expression_left second (expression_left first near).1
 
 mutual
-  statement_near : {s : List Token} {x : Statement} {rest : List Token} → ReadsStatement s x rest → TokensNear s → StatementNear x × TokensNear rest
+  statement_near : {n : ℕ} {s : List Token} {x : Statement} {rest : List Token} → ReadsStatement n s x rest → TokensNear s → StatementNear x × TokensNear rest
   statement_near empty near = (tt, near)
   statement_near (assignment expression) near = (near.0, expression_left expression near.1.1)
   statement_near call near = (near.0, near.1.1)
@@ -114,7 +114,7 @@ mutual
   statement_near (loop condition statement) near =
       let inner = statement_near statement (condition_left condition near.1).1 in ((near.0, inner.0), inner.1)
 
-  statements_near : {s : List Token} {x : Statement} {rest : List Token} → ReadsStatements s x rest → TokensNear s → StatementNear x × TokensNear rest
+  statements_near : {n : ℕ} {s : List Token} {x : Statement} {rest : List Token} → ReadsStatements n s x rest → TokensNear s → StatementNear x × TokensNear rest
   statements_near (last_statement statement) near = let a = statement_near statement near in ((a.0, tt), a.1.1)
   statements_near (one_statement statement statements) near =
       let a = statement_near statement near in
@@ -137,18 +137,18 @@ variable_part_left no_variables near = near
 variable_part_left (variables more) near = variables_left more near.1
 
 mutual
-  block_near : {s : List Token} {b : Block} {rest : List Token} → ReadsBlock s b rest → TokensNear s → BlockNear b × TokensNear rest
+  block_near : {n : ℕ} {s : List Token} {b : Block} {rest : List Token} → ReadsBlock n s b rest → TokensNear s → BlockNear b × TokensNear rest
   block_near (block constant_part variable_part rows statement) near =
       let p = procedures_near rows (variable_part_left variable_part (constant_part_left constant_part near)) in
       let b = statement_near statement p.1 in ((p.0, b.0, b.1.0), b.1)
 
-  procedures_near : {s : List Token} {ps : Procedures} {rest : List Token} → ReadsProcedures s ps rest → TokensNear s → ProceduresNear ps × TokensNear rest
+  procedures_near : {n : ℕ} {s : List Token} {ps : Procedures} {rest : List Token} → ReadsProcedures n s ps rest → TokensNear s → ProceduresNear ps × TokensNear rest
   procedures_near no_procedure near = (tt, near)
   procedures_near (one_procedure read more) near =
       let b = block_near read near.1.1.1 in
       let m = procedures_near more b.1.1 in ((b.0, m.0), m.1)
 
-program_near : {tokens : List Token} {main : Block} → ReadsProgram tokens main → TokensNear tokens → BlockNear main
+program_near : {n : ℕ} {tokens : List Token} {main : Block} → ReadsProgram n tokens main → TokensNear tokens → BlockNear main
 program_near (program read) near = (block_near read near).0
 
 tree_near : (text : List ℕ) (main : Block) → IsTreeOf text main → BlockNear main

@@ -5,6 +5,7 @@ use Rattle.std.proofs.Math.Logic.{∥∥₁_elim}
 use Rattle.pl0_tree.specs.Tree.{Block}
 use Rattle.pl0_tree.specs.Tokens.{tokens_of}
 use Rattle.pl0_tree.specs.Reading.{ReadsProgram}
+use Rattle.pl0_tree.specs.Faults.{level_limit}
 use Rattle.pl0_tree.specs.Steps.{steps}
 use Rattle.pl0_tree.specs.Unique.{program_once}
 use Rattle.pl0_tree.specs.BlockCode.{block_code}
@@ -19,7 +20,7 @@ use Rattle.dbg_runner.specs.Reported.{text_of}
 one_program : (u v : Compiled) → text_of u ≡ text_of v → program_of u ≡ program_of v
 one_program u v same =
     let alike = Coded-set block_code (program_of u) (program_of v) in
-    ∥∥₁_elim u.tree.lawful alike (λ x. ∥∥₁_elim v.tree.lawful alike (λ y. program_once (subst (λ t. ReadsProgram (tokens_of t) (program_of u)) same x.reads) y.reads))
+    ∥∥₁_elim u.tree.lawful alike (λ x. ∥∥₁_elim v.tree.lawful alike (λ y. program_once (subst (λ t. ReadsProgram level_limit (tokens_of t) (program_of u)) same x.reads) y.reads))
 
 one_table : OneCode → (u v : Compiled) → program_of u ≡ program_of v → u.begun_steps.items ≡ v.begun_steps.items
 one_table one u v same =

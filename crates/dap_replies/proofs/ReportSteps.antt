@@ -6,6 +6,7 @@ use Rattle.std.specs.Coded.{Coded-set}
 use Rattle.std.proofs.Math.Logic.{∥∥₁_elim}
 use Rattle.pl0_tree.specs.Tokens.{tokens_of}
 use Rattle.pl0_tree.specs.Reading.{ReadsProgram}
+use Rattle.pl0_tree.specs.Faults.{level_limit}
 use Rattle.pl0_tree.specs.Unique.{program_once}
 use Rattle.pl0_tree.specs.BlockCode.{block_code}
 use Rattle.pl0_unit.specs.declared.unit.Unit.{Unit as Compiled}
@@ -101,7 +102,7 @@ one_program : (u v : Compiled) → text_of u ≡ text_of v → program_of u ≡ 
 one_program u v same =
     let alike = Coded-set block_code (program_of u) (program_of v) in
     ∥∥₁_elim u.tree.lawful alike (λ x. ∥∥₁_elim v.tree.lawful alike (λ y.
-    program_once (subst (λ t. ReadsProgram (tokens_of t) (program_of u)) same x.reads) y.reads))
+    program_once (subst (λ t. ReadsProgram level_limit (tokens_of t) (program_of u)) same x.reads) y.reads))
 
 -- a unit of the program's text will do as well
 same_target : (t : Target) (u v : Compiled) (past : History) → text_of u ≡ text_of v → IsTarget t u past → IsTarget t v past
