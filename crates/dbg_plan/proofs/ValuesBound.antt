@@ -1,13 +1,14 @@
 -- What is bound has the value of the source.
 use Rattle.std.proofs.Common.{◌≡◌, ℕ, List, slice_get, Option, Some, None, IsSome, Ok, ℤ, pos, neg_ℤ, refl, sym, ap, ◌∙◌, subst}
+use Rattle.std.specs.Prelude.{option_and_then}
 use Rattle.std.proofs.lemmas.Option.{slice_get-get_or}
 use Rattle.pl0_tree.specs.Tree.{Block, Expression, Variable, Number, Negate, Binary, Condition, Odd, Compare}
 use Rattle.pl0_tree.specs.Scope.{Meaning, AConstant, AVariable, AProcedure, Home, home}
-use Rattle.pl0_meaning.specs.Values.{Frame, Configuration, frame_at, number_of, number_at, find, declared_number, meant_number, number_in, name_number, or_zero, after, checked, operation, comparison, is_odd, value, truth}
+use Rattle.pl0_meaning.specs.Values.{Frame, Configuration, frame_at, declared_number, name_number, or_zero, after, checked, operation, comparison, is_odd, value, truth}
 use Rattle.pl0_unit.specs.Code.{level}
 use Rattle.pl0_meaning.specs.Frames.{AreLinked}
 use Rattle.pl0_meaning.specs.Homes.{home_is}
-use Rattle.pl0_meaning.specs.Linking.{found, frame_of, variable_within}
+use Rattle.pl0_meaning.specs.Linking.{found, variable_found, frame_of, variable_within}
 use Rattle.dbg_plan.specs.declared.located.LocatedExpression.{LocatedExpression}
 use Rattle.dbg_plan.specs.declared.located.LocatedExpression.TheVariants as bound
 use Rattle.dbg_plan.specs.declared.located.LocatedCondition.{LocatedCondition}
@@ -34,8 +35,7 @@ module _ (main : Block) (c : Configuration) (i : ℕ) (f : Frame) (linked : AreL
       let home_of = home_is main f.block x h e in
       let r = found main c f.block i f h.path linked at refl home_of.around in
       let lt = variable_within main f.block h k r.frame home_of means (frame_of main c r.at r.frame linked r.there) r.block in
-      let there : number_at c (find c i h.path) k ≡ slice_get r.frame.numbers k =
-      ap (λ o. number_at c o k) r.is ∙ ap (λ o. number_of o k) r.there in
+      let there = variable_found c i r.at k h.path r.frame r.is r.there in
       let some : IsSome (slice_get r.frame.numbers k) = subst (λ o. IsSome o) (sym (slice_get-get_or r.frame.numbers k (pos 0) lt)) refl in
       subst (λ o. Reads c i b (or_zero o)) (sym there) (reads_variable c i (level f.block h.path) k b (slice_get r.frame.numbers k) is (leads main c f.block i f h.path linked at refl home_of.around k ∙ there) some)
 
@@ -44,14 +44,17 @@ module _ (main : Block) (c : Configuration) (i : ℕ) (f : Frame) (linked : AreL
   declared_reads x h (AVariable k) b e means is = variable_reads x h k b e means is
   declared_reads x h (AProcedure k) b e means is = reads_number c i b (pos 0) (pos 0) is refl
 
-  home_reads : (x : List ℕ) (o : Option Home) (b : LocatedExpression) → home main f.block x ≡ o → IsNameBound main f.block o b → Reads c i b (or_zero (meant_number main c i o))
+  abbrev home_number : Option Home → Option ℤ
+  home_number o = option_and_then (λ (h : Home). declared_number main c i h.path h.declaration.meaning) o
+
+  home_reads : (x : List ℕ) (o : Option Home) (b : LocatedExpression) → home main f.block x ≡ o → IsNameBound main f.block o b → Reads c i b (or_zero (home_number o))
   home_reads x None b e is = reads_number c i b (pos 0) (pos 0) is refl
   home_reads x (Some h) b e is = declared_reads x h h.declaration.meaning b e refl is
 
   -- a name that is bound has its number
   pub name_reads : (x : List ℕ) (b : LocatedExpression) → IsNameBound main f.block (home main f.block x) b → Reads c i b (or_zero (name_number main c i x))
   name_reads x b is =
-      subst (λ o. Reads c i b (or_zero (number_in main c i o x))) (sym at) (home_reads x (home main f.block x) b refl is)
+      subst (λ o. Reads c i b (or_zero (home_number (option_and_then (λ (g : Frame). home main g.block x) o)))) (sym at) (home_reads x (home main f.block x) b refl is)
 
   -- an expression that is bound has its value
   pub expression_reads : (e : Expression) (b : LocatedExpression) → IsExpressionBound main f.block e b → CanRead c i b × (bound_value c i b ≡ value main c i e)

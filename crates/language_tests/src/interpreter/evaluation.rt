@@ -2,7 +2,7 @@
 
 ghost use Rattle.std.specs.Prelude.{◌≡◌, option_map, slice_get};
 ghost use Rattle.pl0_tree.specs.Scope.{block_at};
-ghost use Rattle.pl0_meaning.specs.Values.{number_of, number_at, constant_of, declared_number, name_number, or_zero, value, truth};
+ghost use Rattle.pl0_meaning.specs.Values.{constant_of, variable, declared_number, name_number, value, truth};
 ghost use Rattle.pl0_tree.specs.Plain.{plain_block, plain_expression, plain_condition};
 ghost use Rattle.pl0_tree.specs.Tree.{constants};
 ghost use Rattle.pl0_tree.specs.declared.tree.Block.{out-Block};
@@ -14,11 +14,12 @@ use crate::interpreter::scope::{Meaning, block_at, home};
 use pl0_meaning::{RunFault, apply, compare, is_odd, negate};
 use pl0_tree::{Block, Condition, Expression};
 
-fn number_at(frames: &[Frame], frame: Option<usize>, index: usize) -> Option<i64>
-    ensures { result ≡ number_at frames.now frame index }
+// The number of a variable of a block, as a frame sees it.
+fn variable(frames: &[Frame], frame: usize, path: &[usize], index: usize) -> Option<i64>
+    ensures { result ≡ variable frames.now frame path.now index }
 {
-    let frame = frame_at(frames, frame?)?;
-    frame.numbers().get(index).copied()
+    let declaring = frame_at(frames, find(frames, frame, path)?)?;
+    declaring.numbers().get(index).copied()
 }
 
 fn kept_value(block: &Block, index: usize) -> Option<i64>
@@ -52,7 +53,7 @@ fn declared_number(
 {
     match meaning {
         Meaning::Constant(index) => constant_of(main, path, index),
-        Meaning::Variable(index) => number_at(frames, find(frames, frame, path), index),
+        Meaning::Variable(index) => variable(frames, frame, path, index),
         Meaning::Procedure(_) => None,
     }
 }
