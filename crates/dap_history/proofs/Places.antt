@@ -1,6 +1,7 @@
 -- The steps of a text's program stand within as many lines and columns as a text may have bytes.
 use Rattle.std.proofs.Common.{◌≡◌, ℕ, zero, suc, ◌+◌, ◌-◌, ◌≤◌, Bool, true, false, cond, eqb, nat_eq, nat_lt, List, [], ◌∷◌, ◌++◌, length, Option, None, Some, Result, Ok, Err, ℤ, subst, arith, pred}
 use Rattle.std.specs.Prelude.{slice_get, option_map, option_and_then}
+use Rattle.std.specs.Option.{option_map_or}
 use Rattle.std.proofs.Math.Bridge.{le_prop}
 use Rattle.std.proofs.Math.Logic.{∥∥₁_elim}
 use Rattle.pl0_tree.specs.declared.tree.Place.{Place}
@@ -13,7 +14,7 @@ use Rattle.pl0_tree.specs.Steps.{StepAt, step, statement_steps, block_steps, pro
 use Rattle.pl0_tree.specs.Faults.{IsTreeOf, limit}
 use Rattle.pl0_meaning.specs.declared.RunFault.{RunFault}
 use Rattle.pl0_meaning.specs.Values.{Frame, Configuration, find, value, truth, return_of, first_step, next_step}
-use Rattle.pl0_meaning.specs.Runs.{opened, Outcome, Goes, Faults, Over, on_value, with_number, with_number_at, declared_assigned, assigned, new_frame, frame_limit, entered, declared_called, called, rest_of, returned, statement_step, frame_step, next_of, last_position, step_at, after_step, at}
+use Rattle.pl0_meaning.specs.Runs.{opened, Outcome, Goes, Faults, Over, on_value, with_number, target, assigned, new_frame, frame_limit, entered, declared_called, called, rest_of, returned, statement_step, frame_step, next_of, last_position, step_at, after_step, at}
 use Rattle.pl0_meaning.specs.Runs.{step as run_step}
 
 abbrev pub most : ℕ
@@ -288,18 +289,12 @@ with_number_near : (c : Configuration) (i k : ℕ) (v : ℤ) → FramesNear c �
 with_number_near [] i k v near = tt
 with_number_near (f ∷ below) i k v near = either_near (nat_eq (length below) i) _ _ near (near.0, with_number_near below i k v near.1)
 
-with_number_at_near : (c : Configuration) (o : Option ℕ) (k : ℕ) (v : ℤ) → FramesNear c → FramesNear (with_number_at c o k v)
-with_number_at_near c None k v near = near
-with_number_at_near c (Some i) k v near = with_number_near c i k v near
-
-declared_assigned_near : (c : Configuration) (q : Path) (m : Meaning) (v : ℤ) → FramesNear c → FramesNear (declared_assigned c q m v)
-declared_assigned_near c q (AVariable k) v near = with_number_at_near c (find c (length c - 1) q) k v near
-declared_assigned_near c q (AConstant k) v near = near
-declared_assigned_near c q (ProcedureIndex k) v near = near
+number_near : (c : Configuration) (o : Option (ℕ × ℕ)) (v : ℤ) → FramesNear c → FramesNear (option_map_or (λ (i, k). with_number c i k v) o c)
+number_near c None v near = near
+number_near c (Some (i, k)) v near = with_number_near c i k v near
 
 assigned_near : (c : Configuration) (o : Option Home) (v : ℤ) → FramesNear c → FramesNear (assigned c o v)
-assigned_near c None v near = near
-assigned_near c (Some h) v near = declared_assigned_near c h.path h.declaration.meaning v near
+assigned_near c o v near = number_near c (option_and_then (λ (h : Home). target c h.path h.declaration.meaning) o) v near
 
 new_frame_near : (o : Option Block) (q : Path) (link : ℕ) (c : Configuration) → BlockMayBeNear o → FramesNear c → FramesNear (new_frame o q link ++ c)
 new_frame_near None q link c near frames = frames
