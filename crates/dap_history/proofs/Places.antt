@@ -14,7 +14,7 @@ use Rattle.pl0_tree.specs.Steps.{StepAt, step, statement_steps, block_steps, pro
 use Rattle.pl0_tree.specs.Faults.{IsTreeOf, limit}
 use Rattle.pl0_meaning.specs.declared.RunFault.{RunFault}
 use Rattle.pl0_meaning.specs.Values.{Frame, Configuration, find, value, truth, return_of, first_step, next_step}
-use Rattle.pl0_meaning.specs.Runs.{opened, Outcome, Goes, Faults, Over, on_value, with_number, target, assigned, new_frame, frame_limit, entered, declared_called, called, rest_of, returned, statement_step, frame_step, next_of, last_position, step_at, after_step, at}
+use Rattle.pl0_meaning.specs.Runs.{opened, Outcome, Goes, Faults, Over, on_value, with_number, target, assigned, new_frame, frame_limit, callee, entered, called, rest_of, returned, statement_step, frame_step, next_of, last_position, step_at, after_step, at}
 use Rattle.pl0_meaning.specs.Runs.{step as run_step}
 
 abbrev pub most : ℕ
@@ -296,24 +296,28 @@ number_near c (Some (i, k)) v near = with_number_near c i k v near
 assigned_near : (c : Configuration) (o : Option Home) (v : ℤ) → FramesNear c → FramesNear (assigned c o v)
 assigned_near c o v near = number_near c (option_and_then (λ (h : Home). target c h.path h.declaration.meaning) o) v near
 
-new_frame_near : (o : Option Block) (q : Path) (link : ℕ) (c : Configuration) → BlockMayBeNear o → FramesNear c → FramesNear (new_frame o q link ++ c)
-new_frame_near None q link c near frames = frames
-new_frame_near (Some b) q link c near frames = (opened_near (body b) (body_near b near), frames)
+abbrev EntersNear : Configuration → Option Frame → Type 0
+EntersNear c o = OutcomeNear (option_map_or (entered c) o Over)
+
+new_frame_near : (o : Option Block) (q : Path) (link : ℕ) (c : Configuration) → BlockMayBeNear o → FramesNear c → EntersNear c (option_map (λ b. new_frame b q link) o)
+new_frame_near None q link c near frames = tt
+new_frame_near (Some b) q link c near frames =
+    either_outcome (nat_lt (length c) frame_limit) _ _ (opened_near (body b) (body_near b near), frames) tt
 
 module _ (main : Block) (near : BlockNear main) where
-  entered_near : (c : Configuration) (q : Path) (k : ℕ) (o : Option ℕ) → FramesNear c → OutcomeNear (entered main c q k o)
-  entered_near c q k None frames = tt
-  entered_near c q k (Some link) frames =
-      either_outcome (nat_lt (length c) frame_limit) _ _ (new_frame_near (block_at main (k ∷ q)) (k ∷ q) link c (block_at_near main (k ∷ q) near) frames) tt
+  linked_near : (c : Configuration) (q : Path) (k : ℕ) (o : Option ℕ) → FramesNear c → EntersNear c (option_and_then (λ link. option_map (λ b. new_frame b (k ∷ q) link) (block_at main (k ∷ q))) o)
+  linked_near c q k None frames = tt
+  linked_near c q k (Some link) frames =
+      new_frame_near (block_at main (k ∷ q)) (k ∷ q) link c (block_at_near main (k ∷ q) near) frames
 
-  declared_called_near : (c : Configuration) (q : Path) (m : Meaning) → FramesNear c → OutcomeNear (declared_called main c q m)
-  declared_called_near c q (ProcedureIndex k) frames = entered_near c q k (find c (length c - 1) q) frames
-  declared_called_near c q (AConstant k) frames = tt
-  declared_called_near c q (AVariable k) frames = tt
+  callee_near : (c : Configuration) (q : Path) (m : Meaning) → FramesNear c → EntersNear c (callee main c q m)
+  callee_near c q (ProcedureIndex k) frames = linked_near c q k (find c (length c - 1) q) frames
+  callee_near c q (AConstant k) frames = tt
+  callee_near c q (AVariable k) frames = tt
 
   called_near : (c : Configuration) (o : Option Home) → FramesNear c → OutcomeNear (called main c o)
   called_near c None frames = tt
-  called_near c (Some h) frames = declared_called_near c h.path h.declaration.meaning frames
+  called_near c (Some h) frames = callee_near c h.path h.declaration.meaning frames
 
   chosen_near : (f : Frame) (below : Configuration) (b : Bool) (some other : List Statement) → TodoNear some → TodoNear other → FramesNear below → FramesNear (record f { todo = cond b some other } ∷ below)
   chosen_near f below true some other a b frames = (a, frames)

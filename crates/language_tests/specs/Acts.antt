@@ -1,12 +1,12 @@
 -- What the functions that take a step promise: the definitions' steps, of the frames as a whole. No public contract cites
 -- this file.
-use Rattle.std.specs.Prelude.{◌≡◌, ℕ, ◌-◌, nat_lt, if◌then◌else◌, List, [], ◌∷◌, ◌++◌, length, Option, Some, None, Result, Ok, Err, ℤ}
+use Rattle.std.specs.Prelude.{◌≡◌, ℕ, ◌-◌, if◌then◌else◌, List, [], ◌∷◌, ◌++◌, length, Option, Some, None, option_map, Result, Ok, Err, ℤ}
+use Rattle.std.specs.Option.{option_map_or}
 use Rattle.std.specs.declared.alloc.AllocError.{AllocError}
 use Rattle.pl0_tree.specs.Tree.{Block, Statement, Empty, Then, Assign, Call, Write, If, While, Expression, Condition}
 use Rattle.pl0_tree.specs.Scope.{Path, block_at, home}
-use Rattle.pl0_meaning.specs.declared.RunFault.TheVariants.{Depth}
 use Rattle.pl0_meaning.specs.Values.{Configuration, value, truth}
-use Rattle.pl0_meaning.specs.Runs.{Outcome, Goes, Faults, Over, opened, on_value, with_number, assigned, new_frame, frame_limit, called, rest_of, returned}
+use Rattle.pl0_meaning.specs.Runs.{Outcome, Goes, Faults, Over, opened, on_value, with_number, assigned, new_frame, entered, called, rest_of, returned}
 use Rattle.language_tests.specs.declared.interpreter.outcome.Outcome.{Outcome as Told}
 use Rattle.language_tests.specs.declared.interpreter.outcome.Outcome.TheVariants as taken
 use Rattle.language_tests.specs.declared.interpreter.step.Variable.{Variable}
@@ -60,8 +60,7 @@ callee_of callee = (callee.block.items, callee.link)
 
 abbrev pub entering : Block → Configuration → Option (Path × ℕ) → Outcome
 entering main c None = Over
-entering main c (Some callee) =
-    if nat_lt (length c) frame_limit then Goes None (new_frame (block_at main callee.0) callee.0 callee.1 ++ c) else Faults Depth
+entering main c (Some callee) = option_map_or (entered c) (option_map (λ b. new_frame b callee.0 callee.1) (block_at main callee.0)) Over
 
 -- ---- statements
 

@@ -241,13 +241,14 @@ fn call<'a>(
     let Some(Callee { block, link }) = procedure_meant(alloc, main, frames, name)? else {
         return Ok(Outcome::Over);
     };
+    let Some(entered) = block_at(main, &block) else {
+        return Ok(Outcome::Over);
+    };
     if FRAME_LIMIT <= frames.len() {
         return Ok(Outcome::Fault(RunFault::Depth));
     }
-    if let Some(entered) = block_at(main, &block) {
-        let frame = Frame::new(alloc, entered, block, link)?;
-        frames.insert(0, frame)?;
-    }
+    let frame = Frame::new(alloc, entered, block, link)?;
+    frames.insert(0, frame)?;
     Ok(Outcome::Went(None))
 }
 
