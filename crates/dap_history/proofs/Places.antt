@@ -14,7 +14,7 @@ use Rattle.pl0_tree.specs.Steps.{StepAt, step, statement_steps, block_steps, pro
 use Rattle.pl0_tree.specs.Faults.{IsTreeOf, limit}
 use Rattle.pl0_meaning.specs.declared.RunFault.{RunFault}
 use Rattle.pl0_meaning.specs.Values.{Frame, Configuration, find, value, truth, return_of, first_step, next_step}
-use Rattle.pl0_meaning.specs.Runs.{opened, Outcome, Goes, Faults, Over, on_value, with_number, target, assigned, new_frame, frame_limit, callee, entered, called, rest_of, returned, statement_step, frame_step, next_of, last_position, step_at, after_step, at}
+use Rattle.pl0_meaning.specs.Runs.{opened, Outcome, Goes, Faults, Over, on_value, with_number, target, assigned, new_frame, frame_limit, callee, entered, called, rest_of, returned, statement_step, frame_step, led_to, last_position, step_at, at}
 use Rattle.pl0_meaning.specs.Runs.{step as run_step}
 
 abbrev pub most : ℕ
@@ -360,12 +360,12 @@ module _ (main : Block) (near : BlockNear main) where
   MayBeFramesNear None = Unit {0}
   MayBeFramesNear (Some c) = FramesNear c
 
-  next_near_of : (o : Outcome) → OutcomeNear o → MayBeFramesNear (next_of o)
+  next_near_of : (o : Outcome) → OutcomeNear o → MayBeFramesNear (led_to o)
   next_near_of (Goes w c) frames = frames
   next_near_of (Faults fault) frames = tt
   next_near_of Over frames = tt
 
-  after_step_near : (n : ℕ) (o : Option Configuration) → MayBeFramesNear o → MayBeFramesNear (after_step main n o)
+  after_step_near : (n : ℕ) (o : Option Configuration) → MayBeFramesNear o → MayBeFramesNear (option_and_then (λ c. led_to (step_at main n c)) o)
   after_step_near n None frames = tt
   after_step_near n (Some c) frames = next_near_of (step_at main n c) (step_at_near n c frames)
 

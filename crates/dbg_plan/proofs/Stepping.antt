@@ -1,9 +1,9 @@
 -- A debuggee whose machine took a step.
-use Rattle.std.proofs.Common.{◌≡◌, ℕ, ◌+◌, ◌<◌, Bool, true, false, [], ◌∷◌, length, Option, Some, None, ℤ, refl, sym, ap, ◌∙◌, subst, arith, add-one}
-use Rattle.pl0_tree.specs.Tree.{Block}
+use Rattle.std.proofs.Common.{◌≡◌, ◌+◌, ◌<◌, Bool, true, false, [], ◌∷◌, length, Option, Some, ℤ, refl, sym, ap, ◌∙◌, subst, arith}
 use Rattle.pl0_meaning.specs.declared.RunFault.{RunFault}
 use Rattle.pl0_meaning.specs.Values.{Configuration}
-use Rattle.pl0_meaning.specs.Runs.{Outcome, Goes, Faults, Over, at, outcome, outcome_from, after_step as stepped_from, next_of as led_to}
+use Rattle.pl0_meaning.specs.Runs.{Outcome, Goes, Faults, Over, at, led_to}
+use Rattle.pl0_meaning.specs.Linking.{at_next}
 use Rattle.pl0_machine.specs.declared.outcome.StepOutcome.{StepOutcome}
 use Rattle.pl0_machine.specs.declared.outcome.StepOutcome.TheVariants.{Went, Done, Fault}
 use Rattle.pl0_machine.specs.Machine.{Standing, program_of, program, frames_of, outcome_of, told, Stepped}
@@ -12,13 +12,6 @@ use Rattle.dbg_plan.specs.declared.debuggee.Debuggee.TheInside.{Inside}
 use Rattle.dbg_plan.specs.Debugged.{IsRunning}
 use Rattle.dbg_plan.specs.Counting.{AreCounts, MayBePlanOf}
 use Rattle.dbg_plan.specs.Counts.{IsCounting, plan_of, next_at, next_of, StandsBy}
-
-at_next : (main : Block) (n : ℕ) → at main (n + 1) ≡ led_to (outcome main n)
-at_next main n = rw add-one (from (at main n))
-  where
-    from : (o : Option Configuration) → stepped_from main n o ≡ led_to (outcome_from main n o)
-    from None = refl
-    from (Some c) = refl
 
 module _ (old new : Standing) (result : StepOutcome) (stepped : Stepped (outcome_of old) old result new) where
   -- the program is the same

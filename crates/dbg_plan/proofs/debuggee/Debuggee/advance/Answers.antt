@@ -9,6 +9,10 @@ use Rattle.dbg_plan.proofs.Further.{stays_counting, led}
 use Rattle.dbg_plan.proofs.Stepping.{went_on, stays_there, not_fault}
 use Rattle.dbg_plan.proofs.debuggee.Debuggee.advance.Goals as goal
 
+pub count_position-hit-requires-clause-running : goal.count_position-hit-requires-clause-running
+count_position-hit-requires-clause-running c =
+    (went_on c.self.inside.machine c.step.new.self c.step.result c.step.ensures _ c.in-Went.is).1
+
 pub invariant_of-self : goal.invariant_of-self
 invariant_of-self c =
     let behind = subst (λ (d : Debugged). d.next ≡ d.position + 1) (sym c.self.view_is) c.requires.considered.behind in
