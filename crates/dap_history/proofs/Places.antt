@@ -1,5 +1,5 @@
 -- The steps of a text's program stand within as many lines and columns as a text may have bytes.
-use Rattle.std.proofs.Common.{◌≡◌, ℕ, zero, suc, ◌+◌, ◌-◌, ◌≤◌, Bool, true, false, cond, eqb, nat_eq, nat_lt, List, [], ◌∷◌, ◌++◌, length, Option, None, Some, Result, Ok, Err, ℤ, subst, arith, pred}
+use Rattle.std.proofs.Common.{◌≡◌, ℕ, zero, suc, ◌+◌, ◌-◌, ◌≤◌, Bool, true, false, cond, eqb, nat_eq, nat_lt, List, [], ◌∷◌, ◌++◌, length, drop, Option, None, Some, Result, Ok, Err, ℤ, subst, arith, pred}
 use Rattle.std.specs.Prelude.{slice_get, option_map, option_and_then}
 use Rattle.std.specs.Option.{option_map_or}
 use Rattle.std.proofs.Math.Bridge.{le_prop}
@@ -14,7 +14,7 @@ use Rattle.pl0_tree.specs.Steps.{StepAt, step, statement_steps, block_steps, pro
 use Rattle.pl0_tree.specs.Faults.{IsTreeOf, limit}
 use Rattle.pl0_meaning.specs.declared.RunFault.{RunFault}
 use Rattle.pl0_meaning.specs.Values.{Frame, Configuration, find, value, truth, return_of, first_step, next_step}
-use Rattle.pl0_meaning.specs.Runs.{opened, Outcome, Goes, Faults, Over, on_value, with_number, target, assigned, new_frame, frame_limit, callee, entered, called, rest_of, returned, statement_step, frame_step, led_to, last_position, step_at, at}
+use Rattle.pl0_meaning.specs.Runs.{opened, Outcome, Goes, Faults, Over, on_value, with_number, target, assigned, new_frame, frame_limit, callee, entered, called, returned, statement_step, frame_step, led_to, last_position, step_at, at}
 use Rattle.pl0_meaning.specs.Runs.{step as run_step}
 
 abbrev pub most : ℕ
@@ -337,7 +337,7 @@ module _ (main : Block) (near : BlockNear main) where
   statement_step_near f below Empty rest frames here more = tt
   statement_step_near f below (Then s t) rest frames here more = tt
 
-  rest_near : (todo : List Statement) → TodoNear todo → TodoNear (rest_of todo)
+  rest_near : (todo : List Statement) → TodoNear todo → TodoNear (drop 1 todo)
   rest_near [] near = tt
   rest_near (s ∷ rest) near = near.1
 

@@ -1,12 +1,12 @@
 -- What the functions that take a step promise: the definitions' steps, of the frames as a whole. No public contract cites
 -- this file.
-use Rattle.std.specs.Prelude.{◌≡◌, ℕ, ◌-◌, if◌then◌else◌, List, [], ◌∷◌, ◌++◌, length, Option, Some, None, option_map, Result, Ok, Err, ℤ}
+use Rattle.std.specs.Prelude.{◌≡◌, ℕ, ◌-◌, if◌then◌else◌, List, [], ◌∷◌, ◌++◌, length, drop, Option, Some, None, option_map, Result, Ok, Err, ℤ}
 use Rattle.std.specs.Option.{option_map_or}
 use Rattle.std.specs.declared.alloc.AllocError.{AllocError}
 use Rattle.pl0_tree.specs.Tree.{Block, Statement, Empty, Then, Assign, Call, Write, If, While, Expression, Condition}
 use Rattle.pl0_tree.specs.Scope.{Path, block_at, home}
 use Rattle.pl0_meaning.specs.Values.{Configuration, value, truth}
-use Rattle.pl0_meaning.specs.Runs.{Outcome, Goes, Faults, Over, opened, on_value, with_number, assigned, new_frame, entered, called, rest_of, returned}
+use Rattle.pl0_meaning.specs.Runs.{Outcome, Goes, Faults, Over, opened, on_value, with_number, assigned, new_frame, entered, called, returned}
 use Rattle.language_tests.specs.declared.interpreter.outcome.Outcome.{Outcome as Told}
 use Rattle.language_tests.specs.declared.interpreter.outcome.Outcome.TheVariants as taken
 use Rattle.language_tests.specs.declared.interpreter.step.Variable.{Variable}
@@ -72,7 +72,7 @@ writing main c e = on_value (value main c (length c - 1) e) (λ v. Goes (Some v)
 
 abbrev pub deciding : Block → Configuration → Condition → Statement → Outcome
 deciding main c test body =
-    on_value (truth main c (length c - 1) test) (λ holds. Goes None (if holds then with_todo c (opened body ++ rest_of (todo_of c)) else returned c))
+    on_value (truth main c (length c - 1) test) (λ holds. Goes None (if holds then with_todo c (opened body ++ drop 1 (todo_of c)) else returned c))
 
 abbrev pub repeating : Block → Configuration → Condition → Statement → Outcome
 repeating main c test body =

@@ -3,7 +3,7 @@
 ghost use Rattle.std.specs.Prelude.{◌≡◌, ℤ, ◌∷◌, map, drop, option_map, slice_get, IfOk};
 ghost use Rattle.pl0_tree.specs.Scope.{home};
 ghost use Rattle.pl0_tree.specs.Plain.{plain_block, plain_statement, plain_expression, plain_condition};
-ghost use Rattle.pl0_meaning.specs.Runs.{assigned, called, rest_of, returned, step, with_number};
+ghost use Rattle.pl0_meaning.specs.Runs.{assigned, called, returned, step, with_number};
 ghost use Rattle.language_tests.specs.Acts.{todo_of, newest_block, with_todo, variable_of, with_variable, callee_of, entering, told, next_or, Did, assignment, writing, deciding, repeating, calling, act};
 
 use crate::interpreter::evaluation::{truth, value};
@@ -38,7 +38,7 @@ fn first_to_do<'a>(frames: &[Frame<'a>]) -> Option<&'a Statement>
 }
 
 fn rest<'f, 'a>(todo: &'f [&'a Statement]) -> &'f [&'a Statement]
-    ensures { map (λ s. plain_statement s.now) result.now ≡ rest_of (map (λ s. plain_statement s.now) todo.now) }
+    ensures { map (λ s. plain_statement s.now) result.now ≡ drop 1 (map (λ s. plain_statement s.now) todo.now) }
 {
     match todo {
         [] => todo,
