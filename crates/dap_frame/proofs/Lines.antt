@@ -1,6 +1,7 @@
 -- Bytes cut into lines, and lines into fields: there is one way only.
 use Rattle.std.proofs.Common.{◌≡◌, ◌≢◌, ◌&&◌, ℕ, Bool, true, false, List, [], ◌∷◌, ◌++◌, length, refl, sym, ◌∙◌, ap, subst, arith, length-append}
 use Rattle.std.specs.List.{list_all}
+use Rattle.std.proofs.lemmas.Bool.{and_parts}
 use Rattle.dap_frame.specs.Header.{Field, IsField, line_end, is_name_byte, is_value_byte, field_text, HasNoLineEnd}
 
 -- no byte is x
@@ -12,16 +13,12 @@ has_no-append : (x : ℕ) (ys zs : List ℕ) → HasNo x ys → HasNo x zs → H
 has_no-append x [] zs h k = k
 has_no-append x (y ∷ ys) zs h k = (h.0, has_no-append x ys zs h.1 k)
 
-right_true : (a b : Bool) → (a && b) ≡ true → b ≡ true
-right_true true b h = h
-right_true false b h = absurd cc
-
 -- bytes that pass a test have none that fails it
 passing : (p : ℕ → Bool) (x : ℕ) → p x ≡ false → (ys : List ℕ) → list_all p ys ≡ true → HasNo x ys
 passing p x fails [] h = tt
 passing p x fails (y ∷ ys) h = (
   λ e. absurd (let bad : (p x && list_all p ys) ≡ true = subst (λ z. (p z && list_all p ys) ≡ true) e h in let no : (false && list_all p ys) ≡ true = subst (λ b. (b && list_all p ys) ≡ true) fails bad in cc),
-  passing p x fails ys (right_true (p y) (list_all p ys) h),
+  passing p x fails ys (and_parts (p y) (list_all p ys) h).1,
 )
 
 pub name_no_colon : (f : Field) → IsField f → HasNo 58 f.name

@@ -76,10 +76,8 @@ impl Decoder {
             return Err(fault);
         }
         self.front = compact(&mut self.bytes, self.front, 0);
-        match self.bytes.extend_from_slice(piece) {
-            Ok(()) => Ok(()),
-            Err(_) => Err(FramingFault::NoMemory),
-        }
+        self.bytes.extend_from_slice(piece)?;
+        Ok(())
     }
 
     /// The next content, or `None` where no whole frame has come yet.
@@ -122,9 +120,7 @@ impl Decoder {
             return Ok(None);
         };
         let mut given = Vec::new(*self.bytes.allocator());
-        let Ok(()) = given.extend_from_slice(content) else {
-            return Err(FramingFault::NoMemory);
-        };
+        given.extend_from_slice(content)?;
         self.front = compact(&mut self.bytes, self.front + size, SPARE);
         self.header = Header::START;
         Ok(Some(given))

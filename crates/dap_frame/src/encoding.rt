@@ -18,10 +18,7 @@ pub fn encode(content: &[u8], out: &mut Vec<u8>) -> Result<(), FramingFault>
     // It comes only where `out` has no room for the frame.
     ensures full { OnErr result (vec_capacity out.old < vec_len out.old + length (frame_of content.now)) }
 {
-    match append_frame(content, out) {
-        Ok(()) => Ok(()),
-        Err(AllocError) => Err(FramingFault::NoMemory),
-    }
+    Ok(append_frame(content, out)?)
 }
 
 /// Makes room for the whole frame first, so that nothing can fail after that.

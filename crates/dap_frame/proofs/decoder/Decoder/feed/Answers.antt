@@ -5,7 +5,6 @@ use Rattle.dap_frame.specs.Frame.{Frames}
 use Rattle.dap_frame.specs.Progress.{IsRead}
 use Rattle.dap_frame.proofs.Feeding.{fed, frames_longer}
 use Rattle.dap_frame.proofs.decoder.Decoder.feed.Goals as goal
-use Rattle.dap_frame.proofs.decoder.Decoder.feed.Goals.{in-Ok, in-Err}
 
 pub invariant_of-self : goal.invariant_of-self
 invariant_of-self c =
@@ -19,11 +18,7 @@ returns-clause-stream c = λ stream contents before.
     let piece = c.args.piece.now in
     let front = c.compact-self-inside.result in
     let bytes = c.compact-self-inside.new.bytes.items in
-    elim c.match-extend_from_slice.branch [
-      | in-Ok w ↦
-          let taken : c.extend_from_slice.new.self.items ≡ bytes ++ piece = rw w.in-Ok.is at c.extend_from_slice.ensures.items in
-          let rest : c.args.self.now.rest ++ piece ≡ drop front c.extend_from_slice.new.self.items =
-          ap (λ r. r ++ piece) (sym (ap (λ s. s.rest) c.self.view_is) ∙ sym kept.rest) ∙ sym (drop-append-le front bytes piece kept.there) ∙ ap (drop front) (sym taken) in
-          rw w.result-is (subst (Frames (stream ++ piece) contents) rest (frames_longer stream c.args.self.now.rest piece contents before))
-      | in-Err w ↦ rw w.result-is tt
-    ]
+    let taken : c.extend_from_slice.new.self.items ≡ bytes ++ piece = c.in_ok-extend_from_slice.ensures.items in
+    let rest : c.args.self.now.rest ++ piece ≡ drop front c.extend_from_slice.new.self.items =
+    ap (λ r. r ++ piece) (sym (ap (λ s. s.rest) c.self.view_is) ∙ sym kept.rest) ∙ sym (drop-append-le front bytes piece kept.there) ∙ ap (drop front) (sym taken) in
+    subst (Frames (stream ++ piece) contents) rest (frames_longer stream c.args.self.now.rest piece contents before)
