@@ -1,5 +1,5 @@
 -- What was read and sent so far.
-use Rattle.std.proofs.Common.{◌≡◌, ℕ, false, true≢false, List, [], ◌∷◌, ◌++◌, refl, sym, ◌∙◌, ap, subst, append_assoc, append-nil, Ok, Err, rules}
+use Rattle.std.proofs.Common.{◌≡◌, ℕ, false, true≢false, List, [], ◌∷◌, ◌++◌, refl, sym, ◌∙◌, ap, subst, append-nil, Ok, Err, rules}
 use Rattle.std.specs.Prelude.{map, Some, None, unwrap_or, Result, OnOk}
 use Rattle.std.specs.Result.{is_err}
 use Rattle.std.proofs.lemmas.List.{map-append}
@@ -12,6 +12,7 @@ use Rattle.dap_wires.specs.declared.reading.ReadEnd.TheVariants.{HandedBack}
 use Rattle.dap_wires.specs.Reading.{last_of, Loses, IsReadUntil, end_by}
 use Rattle.dap_wires.specs.Senders.{is_report}
 use Rattle.dap_wires.specs.Transfer.{Supply, IsRead, AreRead}
+use Rattle.dap_wires.proofs.Growing.{one_more}
 
 -- pieces were sent, and nothing else was read
 pub record ReadSoFar (put_old put_new : List Incoming) (old later : Supply) : Type 0 where
@@ -26,14 +27,11 @@ are_read-append : (events : List Incoming) (e : Incoming) (old mid later : Suppl
 are_read-append [] e old mid later before now = (later, subst (λ s. IsRead e s later) before now, refl)
 are_read-append (first ∷ events) e old mid later before now = (before.0, before.1, are_read-append events e before.0 mid later before.2 now)
 
-one_more : (put_old put_mid put_new events : List Incoming) (e : Incoming) → put_mid ≡ put_old ++ events → put_new ≡ put_mid ++ e ∷ [] → put_new ≡ put_old ++ (events ++ e ∷ [])
-one_more put_old put_mid put_new events e before now = now ∙ ap (λ l. l ++ e ∷ []) before ∙ append_assoc put_old events (e ∷ [])
+some_is_no_none : {A : Type 0} {x : ReadEnd} → Some x ≡ None → A
+some_is_no_none e = absurd (search (e, rules))
 
-is_some : {A : Type 0} {x : ReadEnd} → Some x ≡ None → A
-is_some e = absurd (search (e, rules))
-
-some_is : {x y : ReadEnd} → Some x ≡ Some y → x ≡ y
-some_is {x} e = ap (λ o. unwrap_or o x) e
+same_in_some : {x y : ReadEnd} → Some x ≡ Some y → x ≡ y
+same_in_some {x} e = ap (λ o. unwrap_or o x) e
 
 -- where nothing was handed back, it was sent
 pub when_ok : {A B : Type 0} {P : Type 0} (answer : Result A B) → is_err answer ≡ false → OnOk answer P → P
@@ -50,9 +48,9 @@ read_goes_on put_old put_mid put_new old mid later (event.Piece piece) r own non
       put_is = one_more put_old put_mid put_new (map Piece r.pieces) (Piece piece.items) r.put_is put_is ∙ ap (λ l. put_old ++ l) pieces_are;
       read = subst (λ l. AreRead l old later) pieces_are (are_read-append (map Piece r.pieces) (Piece piece.items) old mid later r.read now);
     }
-read_goes_on put_old put_mid put_new old mid later event.End r own none now put_is = is_some none
-read_goes_on put_old put_mid put_new old mid later event.ReadFailed r own none now put_is = is_some none
-read_goes_on put_old put_mid put_new old mid later event.NoMemory r own none now put_is = is_some none
+read_goes_on put_old put_mid put_new old mid later event.End r own none now put_is = some_is_no_none none
+read_goes_on put_old put_mid put_new old mid later event.ReadFailed r own none now put_is = some_is_no_none none
+read_goes_on put_old put_mid put_new old mid later event.NoMemory r own none now put_is = some_is_no_none none
 read_goes_on put_old put_mid put_new old mid later (event.File (Ok file)) r own none now put_is = absurd now
 read_goes_on put_old put_mid put_new old mid later (event.File (Err fault)) r own none now put_is = absurd now
 read_goes_on put_old put_mid put_new old mid later (event.Report x) r own none now put_is = absurd (true≢false own)
@@ -77,16 +75,16 @@ ends_by put_old put_mid put_new old mid later e end r last nothing now put_is = 
 
 pub read_ends : (put_old put_mid put_new : List Incoming) (old mid later : Supply) (e : Event) (end : ReadEnd) → ReadSoFar put_old put_mid old mid
     → end_by (incoming_of e) ≡ Some end → IsRead (incoming_of e) mid later → put_new ≡ put_mid ++ incoming_of e ∷ [] → Until end put_old put_new old later
-read_ends put_old put_mid put_new old mid later (event.Piece piece) end r is now put_is = is_some (sym is)
+read_ends put_old put_mid put_new old mid later (event.Piece piece) end r is now put_is = some_is_no_none (sym is)
 read_ends put_old put_mid put_new old mid later event.End end r is now put_is =
-    rw (sym (some_is is)) (ends_by put_old put_mid put_new old mid later _ _ r refl (λ s. refl) now put_is)
+    rw (sym (same_in_some is)) (ends_by put_old put_mid put_new old mid later _ _ r refl (λ s. refl) now put_is)
 read_ends put_old put_mid put_new old mid later event.ReadFailed end r is now put_is =
-    rw (sym (some_is is)) (ends_by put_old put_mid put_new old mid later _ _ r refl (λ s. refl) now put_is)
+    rw (sym (same_in_some is)) (ends_by put_old put_mid put_new old mid later _ _ r refl (λ s. refl) now put_is)
 read_ends put_old put_mid put_new old mid later event.NoMemory end r is now put_is =
-    rw (sym (some_is is)) (ends_by put_old put_mid put_new old mid later _ _ r refl (λ s. refl) now put_is)
+    rw (sym (same_in_some is)) (ends_by put_old put_mid put_new old mid later _ _ r refl (λ s. refl) now put_is)
 read_ends put_old put_mid put_new old mid later (event.File (Ok file)) end r is now put_is = absurd now
 read_ends put_old put_mid put_new old mid later (event.File (Err fault)) end r is now put_is = absurd now
-read_ends put_old put_mid put_new old mid later (event.Report x) end r is now put_is = is_some (sym is)
+read_ends put_old put_mid put_new old mid later (event.Report x) end r is now put_is = some_is_no_none (sym is)
 
 -- the last event was handed back
 pub read_lost : (put_old put_mid put_new : List Incoming) (old mid later : Supply) (e : Incoming) → ReadSoFar put_old put_mid old mid

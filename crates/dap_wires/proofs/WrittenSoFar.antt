@@ -8,6 +8,7 @@ use Rattle.dap_wires.specs.declared.parcel.Parcel.{Parcel}
 use Rattle.dap_wires.specs.declared.parcel.Parcel.TheVariants as parcel
 use Rattle.dap_wires.specs.Parcels.{frames_in, has_end, AreEnded}
 use Rattle.dap_wires.specs.Transfer.{Output, AppendsPart, WritesAll, FailsIn}
+use Rattle.dap_wires.proofs.Growing.{one_more}
 use Rattle.dap_wires.proofs.Known.{appends_none, appends_both}
 use Rattle.dap_wires.proofs.Sending.{frames_append, frame_keeps_open, end_ends, frames_end}
 
@@ -21,9 +22,6 @@ pub record WrittenSoFar (taken_old taken_new : List Parcel) (old later : Output)
 
 pub written_begins : (taken : List Parcel) (old : Output) → WrittenSoFar taken taken old old
 written_begins taken old = record { taken = []; taken_is = sym (append-nil taken); no_end = refl; written = appends_none old.written; failures = refl }
-
-one_more : (taken_old taken_mid taken_new taken : List Parcel) (p : Parcel) → taken_mid ≡ taken_old ++ taken → taken_new ≡ taken_mid ++ p ∷ [] → taken_new ≡ taken_old ++ (taken ++ p ∷ [])
-one_more taken_old taken_mid taken_new taken p before now = now ∙ ap (λ l. l ++ p ∷ []) before ∙ append_assoc taken_old taken (p ∷ [])
 
 -- nothing was taken
 pub written_waits : (taken_old taken_mid taken_new : List Parcel) (old later : Output) → WrittenSoFar taken_old taken_mid old later → taken_new ≡ taken_mid → WrittenSoFar taken_old taken_new old later

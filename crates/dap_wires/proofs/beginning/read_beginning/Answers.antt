@@ -1,5 +1,5 @@
 use Rattle.std.proofs.Common.{◌<◌, ◌≤◌, length, arith}
-use Rattle.dap_wires.proofs.Transferring.{begins_whole}
+use Rattle.dap_wires.proofs.FromSource.{begins_whole}
 use Rattle.dap_wires.proofs.beginning.read_beginning.Goals as goal
 
 pub returns-in-Ok-eq0-clause-bytes : goal.returns-in-Ok-eq0-clause-bytes

@@ -1,6 +1,6 @@
 use Rattle.std.proofs.Common.{◌≡◌, ◌<◌, length, vec_len, vec_capacity, Err, ◌∙◌, ap, refl, arith}
 use Rattle.dap_wires.proofs.Known.{keeps_self, keeps_both, keeps_consumes}
-use Rattle.dap_wires.proofs.Transferring.{read_ends, read_gives, read_alone, piece_short, piece_some}
+use Rattle.dap_wires.proofs.FromSource.{read_nothing, read_gives, read_alone, piece_short, piece_some}
 use Rattle.dap_wires.proofs.transfer.next_event.Goals as goal
 
 pub loop-init : goal.loop-init
@@ -11,7 +11,7 @@ returns-in-Ok-eq0-clause-read g c =
     let size = c.loop.invariant.2 in
     let kept = c.read.auto.room in
     let room : 0 < length c.read.new.room = omega (arith, size, kept) in
-    let e = read_ends _ _ _ _ _ c.loop.invariant.0 c.in-Ok-eq0.ensures.bytes c.in-Ok-eq0.field-0-test room in
+    let e = read_nothing _ _ _ _ _ c.loop.invariant.0 c.in-Ok-eq0.ensures.bytes c.in-Ok-eq0.field-0-test room in
     (e.0, e.1, c.in-Ok-eq0.ensures.kept ∙ c.loop.invariant.1)
 
 pub unwrap-requires : goal.unwrap-requires
