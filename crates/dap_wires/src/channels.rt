@@ -68,7 +68,7 @@ pub fn settle<M: Sent + Drop, R: Wait + Drop>(
 }
 
 impl<M: Sent + Drop, R: Wait + Drop> SendEnd<M, R> {
-    /// Sends a message, waiting while the queue is full; or hands it back, where the receiver is gone or an allocation failed.
+    /// Sends a message, waiting while the queue is full; or hands it back, where the receiver is gone.
     pub fn send(&mut self, message: M) -> Result<(), M>
         requires { May M.by_second (sender_log self.old) message }
         ensures sent { OnOk result (sender_log self.new ≡ put M.by_second (sender_log self.old) message) }
@@ -80,7 +80,8 @@ impl<M: Sent + Drop, R: Wait + Drop> SendEnd<M, R> {
         match sender.send_as::<Puts, R>(rt, pass, message) {
             Ok(()) => Ok(()),
             Err(SendError::Disconnected(back)) => Err(back),
-            Err(SendError::OutOfMemory(back)) => Err(back),
+            // A queue of a fixed size needs no allocation to send.
+            Err(SendError::OutOfMemory(_)) => unreachable!(),
         }
     }
 }

@@ -58,8 +58,7 @@ pub fn settle_inbox<R: Wait + Drop>(
 }
 
 impl<R: Wait + Drop> ClientSender<R> {
-    /// Sends an event that is no report, waiting while the inbox is full; or hands it back, where the session is gone or an
-    /// allocation failed.
+    /// Sends an event that is no report, waiting while the inbox is full; or hands it back, where the session is gone.
     pub fn send(&mut self, event: Event) -> Result<(), Event>
         requires { is_report event ≡ false }
         ensures sent { OnOk result (client_events self.new ≡ client_events self.old ++ incoming_of event ∷ []) }

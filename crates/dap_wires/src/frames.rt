@@ -53,7 +53,7 @@ pub fn settle_outbox<R: Wait + Drop>(frames: EndedSender<R>, receipt: Receipt<Pa
 }
 
 impl<R: Wait + Drop> FrameSender<R> {
-    /// Puts the end after all frames. Where it is refused, the writer is gone, or an allocation failed.
+    /// Puts the end after all frames. It is refused only where the writer is gone.
     pub fn finish(self) -> EndedSender<R>
         ensures put { (has_end (parcels_put result) ≡ false) ⊎ AreEnded (parcels_put result) }
         ensures frames { frames_in (parcels_put result) ≡ (put_frames self).frames }
