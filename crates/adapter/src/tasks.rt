@@ -6,7 +6,7 @@ ghost use Rattle.std.specs.Prelude.{◌≡◌, IfSome};
 use std::snapshot::Snapshot;
 use std::sync::Wait;
 use std::thread;
-use std::thread::{Promise, Threads};
+use std::thread::{Promise, PromisedHandle, Scope, Threads};
 
 /// Work for a thread.
 pub trait Task: Drop {
@@ -35,6 +35,24 @@ impl<T: Task> Promise<T::Output> for Ran<T> {
     ghost kept_by = { λ p r. T.gives p.0.value r };
 }
 
+/// Starts a thread of a scope that does a task, or drops the task, where no thread can be made.
+fn start<'s, E, T: Task<Output = A> + Send + 's, A: Send + Drop + 's>(
+    scope: &Scope<'s, E>,
+    task: T,
+) -> Option<PromisedHandle<A, Ran<T>>>
+    requires { T.can_run task }
+    ensures { IfSome result (λ handle. handle.promise.0.value ≡ task) }
+{
+    let started = scope.spawn_with(
+        Ran(Snapshot::of(&task)),
+        move || -> A
+            requires { T.can_run task }
+            ensures { T.gives task result }
+        { task.run() },
+    );
+    started.ok()
+}
+
 /// Does three tasks in threads of their own and the last one in this thread, and joins all. Where a thread can't be started,
 /// the last task is given up, the threads that were started are joined, and the answer is none.
 pub fn run_beside<
@@ -58,33 +76,15 @@ pub fn run_beside<
             requires { S.can_run first × T.can_run second × U.can_run third × V.can_run last }
             ensures { IfSome result (λ r. S.gives first r.0 × T.gives second r.1 × U.gives third r.2 × V.gives last r.3) }
         {
-            let Ok(one) = scope.spawn_with(
-                Ran(Snapshot::of(&first)),
-                move || -> A
-                    requires { S.can_run first }
-                    ensures { S.gives first result }
-                { first.run() },
-            ) else {
+            let Some(one) = start(scope, first) else {
                 last.give_up();
                 return None;
             };
-            let Ok(two) = scope.spawn_with(
-                Ran(Snapshot::of(&second)),
-                move || -> B
-                    requires { T.can_run second }
-                    ensures { T.gives second result }
-                { second.run() },
-            ) else {
+            let Some(two) = start(scope, second) else {
                 last.give_up();
                 return None;
             };
-            let Ok(three) = scope.spawn_with(
-                Ran(Snapshot::of(&third)),
-                move || -> C
-                    requires { U.can_run third }
-                    ensures { U.gives third result }
-                { third.run() },
-            ) else {
+            let Some(three) = start(scope, third) else {
                 last.give_up();
                 return None;
             };
