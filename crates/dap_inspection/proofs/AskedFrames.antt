@@ -1,6 +1,7 @@
 -- The frames asked for, one by one.
 use Rattle.std.proofs.Common.{◌≡◌, ℕ, zero, suc, ◌+◌, ◌-◌, ◌<◌, min, List, [], ◌∷◌, ◌++◌, length, get_or, take, drop, Option, Some, None}
 use Rattle.std.proofs.Common.{refl, ap, sym, ◌∙◌, arith, ⊎_elim}
+use Rattle.std.proofs.lemmas.Option.{same_Some}
 use Rattle.std.proofs.lemmas.Bool.{cases_eq}
 use Rattle.std.proofs.lemmas.List.{take_more, take_all, take_min, get_or-drop, length-drop}
 use Rattle.pl0_tree.specs.Tree.{Block}
@@ -10,9 +11,6 @@ use Rattle.dap_msg.specs.declared.outgoing.StackFrame.{StackFrame}
 use Rattle.dap_history.specs.Frames.{Counting, shown_frame, shown_frames, at_most}
 use Rattle.dap_inspection.specs.Showing.{IsShownAs, asked_of}
 
-same_frame : (a b : Frame) → ◌≡◌ {A = Option Frame} (Some a) (Some b) → a ≡ b
-same_frame a b e = cc
-
 -- frame i stands at this index from the top
 shown_at : (main : Block) (counting : Counting) (c : Configuration) (i : ℕ) (f : Frame) (d : StackFrame) → frame_at c i ≡ Some f →
     get_or (shown_frames main counting c) (length c - suc i) d ≡ shown_frame main counting f (i + 1)
@@ -20,7 +18,7 @@ shown_at main counting [] i f d at = cc
 shown_at main counting (g ∷ below) i f d at =
     ⊎_elim
     (λ same.
-    let is : g ≡ f = same_frame g f (sym (frame_at-top g below i same) ∙ at) in
+    let is : g ≡ f = same_Some g f (sym (frame_at-top g below i same) ∙ at) in
     let first : length (g ∷ below) - suc i ≡ 0 = omega (arith, same) in
     ap (λ n. get_or (shown_frames main counting (g ∷ below)) n d) first
     ∙ ap (λ n. shown_frame main counting g (n + 1)) same

@@ -4,6 +4,5 @@ pub mod AskedFrames
 pub mod ScopeChain
 pub mod FrameById
 pub mod AliveFrames
-pub mod NumberedBlocks
 pub mod FrameVariables
 pub mod FrameReadings

@@ -1,6 +1,7 @@
 -- The scopes of a frame, by the links.
 use Rattle.std.proofs.Common.{◌≡◌, ◌≢◌, ℕ, zero, suc, ◌+◌, ◌-◌, ◌<◌, ◌≤◌, List, [], ◌∷◌, ◌++◌, length, nat_eq, Option, Some, None}
 use Rattle.std.proofs.Common.{refl, ap, sym, ◌∙◌, subst, append_assoc, arith, ⊎_elim}
+use Rattle.std.proofs.lemmas.Option.{same_Some}
 use Rattle.std.proofs.lemmas.Bool.{cases_eq, cond-true, cond-false, eq-eqb, ne_eqb}
 use Rattle.std.proofs.Math.Logic.{∥∥₁_elim}
 use Rattle.std.specs.Coded.{le_prop}
@@ -13,9 +14,6 @@ use Rattle.pl0_machine.specs.Machine.{parent_of}
 use Rattle.dap_msg.specs.declared.outgoing.Scope.{Scope}
 use Rattle.dap_history.specs.Frames.{frame_name, scopes_from}
 use Rattle.dap_inspection.specs.Showing.{IsScopeOf}
-
-same_frame : (a b : Frame) → ◌≡◌ {A = Option Frame} (Some a) (Some b) → a ≡ b
-same_frame a b e = cc
 
 -- ---- the definition goes down through all frames
 
@@ -37,7 +35,7 @@ linked_scopes main [] i f at lower = cc
 linked_scopes main (g ∷ below) i f at lower =
     ⊎_elim
     (λ same.
-    let is : g ≡ f = same_frame g f (sym (frame_at-top g below i same) ∙ at) in
+    let is : g ≡ f = same_Some g f (sym (frame_at-top g below i same) ∙ at) in
     let ne : length below ≢ f.link = omega (arith, lower, same) in
     scopes_top main g below i same ∙ ap (λ h. from_top main h below i) is ∙ sym (again ne))
     (λ other.
@@ -53,7 +51,7 @@ linked_scopes main (g ∷ below) i f at lower =
 -- the main block's frame has its own alone
 lowest_scopes : (main : Block) (c : Configuration) (f : Frame) → frame_at c 0 ≡ Some f → scopes_from main c 0 ≡ own_scope main f 0 ∷ []
 lowest_scopes main [] f at = cc
-lowest_scopes main (g ∷ []) f at = let is : g ≡ f = same_frame g f at in ap (λ h. own_scope main h 0 ∷ []) is
+lowest_scopes main (g ∷ []) f at = let is : g ≡ f = same_Some g f at in ap (λ h. own_scope main h 0 ∷ []) is
 lowest_scopes main (g ∷ h ∷ below) f at =
     let ne : length (h ∷ below) ≢ 0 = omega arith in
     scopes_below main g (h ∷ below) 0 ne ∙ lowest_scopes main (h ∷ below) f (sym (frame_at-below g (h ∷ below) 0 ne) ∙ at)
@@ -66,7 +64,7 @@ nested main [] i f linked at = cc
 nested main (g ∷ below) i f linked at =
     ⊎_elim
     (λ same.
-    let is : g ≡ f = same_frame g f (sym (frame_at-top g below (suc i) same) ∙ at) in
+    let is : g ≡ f = same_Some g f (sym (frame_at-top g below (suc i) same) ∙ at) in
     top f.block refl (subst (λ (h : Frame). IsLinkedTo h.block h.link below) is linked.1) same)
     (λ other. nested main below i f linked.2 (sym (frame_at-below g below (suc i) other) ∙ at))
     (cases_eq (length below) (suc i))

@@ -17,7 +17,8 @@ use Rattle.dbg_plan.specs.Plans.{Listed, AreAtSteps, watched_lines}
 use Rattle.dbg_plan.specs.Counting.{MayBePlanOf}
 use Rattle.dbg_runner.specs.Reported.{text_of}
 
-one_program : (u v : Compiled) → text_of u ≡ text_of v → program_of u ≡ program_of v
+-- one text is the text of one program
+pub one_program : (u v : Compiled) → text_of u ≡ text_of v → program_of u ≡ program_of v
 one_program u v same =
     let alike = Coded-set block_code (program_of u) (program_of v) in
     ∥∥₁_elim u.tree.lawful alike (λ x. ∥∥₁_elim v.tree.lawful alike (λ y. program_once (subst (λ t. ReadsProgram level_limit (tokens_of t) (program_of u)) same x.reads) y.reads))

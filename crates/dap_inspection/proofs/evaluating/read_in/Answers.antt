@@ -2,7 +2,7 @@ use Rattle.std.proofs.Common.{◌≡◌, ◌∙◌, ap, sym, subst, length, arit
 use Rattle.pl0_tree.specs.Steps.{steps, blocks, AreSteps}
 use Rattle.pl0_tree.specs.Blocks.{AreNestings}
 use Rattle.pl0_machine.specs.Machine.{program_of, program, frame_of}
-use Rattle.dap_inspection.proofs.NumberedBlocks.{unit_steps, unit_nestings}
+use Rattle.dbg_plan.proofs.UnitBlocks.{unit_steps, unit_nestings}
 use Rattle.dap_inspection.proofs.FrameReadings.{next_within, read_there, not_read_there}
 use Rattle.dap_inspection.proofs.evaluating.read_in.Goals as goal
 use Rattle.dap_inspection.proofs.evaluating.read_in.Goals.{After-deref-2}

@@ -2,7 +2,8 @@ use Rattle.std.proofs.Common.{◌<◌, length, sym, subst}
 use Rattle.pl0_tree.specs.Steps.{blocks}
 use Rattle.pl0_tree.specs.Blocks.{AreNestings}
 use Rattle.pl0_machine.specs.Machine.{program_of}
-use Rattle.dap_inspection.proofs.UnitTables.{unit_nestings, block_within}
+use Rattle.dbg_plan.proofs.UnitBlocks.{unit_nestings}
+use Rattle.dap_inspection.proofs.UnitTables.{some_within}
 use Rattle.dap_inspection.proofs.frame_name.frame_name.Goals as goal
 
 pub block_name-requires-clause-table : goal.block_name-requires-clause-table
@@ -12,4 +13,4 @@ block_name-requires-clause-table c =
 
 pub block_name-requires-clause-within : goal.block_name-requires-clause-within
 block_name-requires-clause-within c =
-    subst (λ t. c.args.block < length t) (sym c.deref.ensures.value) (block_within c.args.unit.now c.args.block c.requires)
+    subst (λ t. c.args.block < length t) (sym c.deref.ensures.value) (some_within c.args.unit.now c.args.block c.requires)

@@ -5,7 +5,8 @@ use Rattle.pl0_tree.specs.Steps.{blocks}
 use Rattle.pl0_tree.specs.Blocks.{AreNestings}
 use Rattle.pl0_machine.specs.Machine.{program_of, program, frames, frame_of, Shows}
 use Rattle.dap_inspection.specs.Locals.{names_in}
-use Rattle.dap_inspection.proofs.NumberedBlocks.{unit_nestings, shown_within}
+use Rattle.dbg_plan.proofs.UnitBlocks.{unit_nestings}
+use Rattle.dap_inspection.proofs.UnitTables.{shown_block_within}
 use Rattle.dap_inspection.proofs.FrameVariables.{names_are, count_is}
 use Rattle.dap_inspection.proofs.locals.declared_names.Goals as goal
 use Rattle.dap_inspection.proofs.locals.declared_names.Goals.{After-deref-2}
@@ -18,7 +19,7 @@ block-declaring-requires-clause-table c =
 pub block-declaring-requires-clause-within : goal.block-declaring-requires-clause-within
 block-declaring-requires-clause-within c =
     let same : c.deref-unit.result.now ≡ c.args.machine.now.unit = c.deref-unit.ensures ∙ c.unit.ensures in
-    rw c.deref.ensures.value (shown_within c.deref-unit.result.now (frame_of c.args.machine.now c.args.frame) c.frame-number.result
+    rw c.deref.ensures.value (shown_block_within c.deref-unit.result.now (frame_of c.args.machine.now c.args.frame) c.frame-number.result
     (subst (λ u. Shows (program_of u) (frame_of c.args.machine.now c.args.frame) c.frame-number.result) (sym same) c.frame-number.ensures))
 
 names_there : (c : After-deref-2) → map plain_name c.deref-2.result.now ≡ names_in (program c.args.machine.now) (frame_of c.args.machine.now c.args.frame)
