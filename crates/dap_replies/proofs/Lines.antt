@@ -19,6 +19,7 @@ use Rattle.dbg_plan.specs.declared.resolving.SourceBreakpoint.{SourceBreakpoint 
 use Rattle.dbg_plan.specs.declared.resolving.Resolution.{Resolution}
 use Rattle.dbg_plan.specs.declared.resolving.Resolution.TheVariants.{At, NoStep, BadCondition, BadHitCondition}
 use Rattle.dbg_plan.specs.Resolutions.{IsResolvedTo, AreResolved}
+use Rattle.dbg_plan.proofs.StepLines.{unit_length}
 use Rattle.dap_history.specs.Breakpoints.{IsAskedAs, AreAskedAs, step_line}
 use Rattle.dap_replies.specs.Lines.{IsAtStep}
 
@@ -67,21 +68,12 @@ at_steps main [] (a ∷ answers) bs are = absurd are
 at_steps main (x ∷ asked) [] bs are = absurd are
 at_steps main (x ∷ asked) (a ∷ answers) bs are = All-cons (IsAtStep main) a answers (at_step main x a are.0 are.3) (at_steps main asked answers are.1 are.4)
 
-same_length : (main : Block) (ss : List Step) (ts : List StepAt) → AreSteps main ss ts → length ss ≡ length ts
-same_length main [] [] are = refl
-same_length main [] (t ∷ ts) are = absurd are
-same_length main (s ∷ ss) [] are = absurd are
-same_length main (s ∷ ss) (t ∷ ts) are = ap suc (same_length main ss ts are.1)
-
 same_line : (main : Block) (ss : List Step) (ts : List StepAt) (n : ℕ) (d : Step) → AreSteps main ss ts → n < length ss
     → (get_or ss n d).place.line ≡ option_map_or (λ (t : StepAt). t.place.line) (slice_get ts n) 0
 same_line main [] ts n d are lt = absurd (omega arith)
 same_line main (s ∷ ss) [] n d are lt = absurd are
 same_line main (s ∷ ss) (t ∷ ts) zero d are lt = ap (λ (p : Place). p.line) are.0.place
 same_line main (s ∷ ss) (t ∷ ts) (suc n) d are lt = same_line main ss ts n d are.1 (omega arith)
-
-pub unit_length : (u : Compiled) → length u.steps.items ≡ length (steps (program_of u))
-unit_length u = ∥∥₁_elim u.compiled (ℕ_set _ _) (λ h. same_length (program_of u) u.steps.items (steps (program_of u)) h.steps)
 
 pub unit_line : (u : Compiled) (n : ℕ) (s : Step) → n < length (steps (program_of u)) → s ≡ get_or u.steps.items n s → s.place.line ≡ step_line (program_of u) n
 unit_line u n s lt is =

@@ -2,13 +2,6 @@
 use Rattle.std.proofs.Common.{◌≡◌, ℕ, ◌+◌, ℤ, List, [], ◌∷◌, ◌++◌, map, Option, None, Some, refl, sym, subst, ◌∙◌, ap}
 use Rattle.std.specs.Prelude.{unwrap_or}
 use Rattle.std.proofs.lemmas.List.{append-nil}
-use Rattle.std.specs.Coded.{Coded-set}
-use Rattle.std.proofs.Math.Logic.{∥∥₁_elim}
-use Rattle.pl0_tree.specs.Tokens.{tokens_of}
-use Rattle.pl0_tree.specs.Reading.{ReadsProgram}
-use Rattle.pl0_tree.specs.Faults.{level_limit}
-use Rattle.pl0_tree.specs.Unique.{program_once}
-use Rattle.pl0_tree.specs.BlockCode.{block_code}
 use Rattle.pl0_unit.specs.declared.unit.Unit.{Unit as Compiled}
 use Rattle.pl0_machine.specs.Machine.{program_of}
 use Rattle.dap_msg.specs.declared.outgoing.Outgoing.TheVariants.{Event}
@@ -21,7 +14,7 @@ use Rattle.dbg_plan.specs.Debugged.{Debugged}
 use Rattle.dbg_plan.specs.declared.mode.Mode.{Mode}
 use Rattle.dbg_runner.specs.Plain.{Heading, PlainReport, Go}
 use Rattle.dbg_runner.specs.Reported.{Reported, text_of, plain_report, heading, stopped}
-use Rattle.dap_history.specs.Last.{or_else, last_such}
+use Rattle.dap_history.specs.Last.{last_such}
 use Rattle.dap_history.specs.Plans.{Plan}
 use Rattle.dap_history.specs.History.{Item, Accepted, Step, History}
 use Rattle.dap_history.specs.ReadingLaws.{ReadingsGoOn}
@@ -29,10 +22,12 @@ use Rattle.dap_history.specs.Readings.{stop_mark, message_mark, situation, end_o
 use Rattle.dap_history.specs.Replies.{reporting, stops, ends}
 use Rattle.dap_history.specs.Reports.{outputs, put_in_at, stands, goes_on}
 use Rattle.dap_history.specs.declared.situation.Situation.TheVariants.{Ended}
+use Rattle.dap_history.proofs.Readings.{or_else-none}
 use Rattle.dap_phase.specs.declared.phase.Phase.TheVariants as phase
 use Rattle.dap_phase.specs.declared.phase.Target.{Target}
 use Rattle.dap_phase.specs.Runs.{Ordered, begun, heading_in, with_waiting}
 use Rattle.dap_phase.specs.Phases.{IsTarget, IsDebuggee, IsRun, IsPhase}
+use Rattle.dap_phase.proofs.Units.{one_program}
 use Rattle.dap_replies.specs.Replied.{report_step}
 use Rattle.dap_replies.specs.Reporting.{GoesOnWith, standing}
 use Rattle.dap_replies.proofs.Stays.{situation_stays, last_run_stays, runs_stay, plan_stays, waiting_plan_stays, waiting_pause_stays, held_stays, target_stays}
@@ -40,14 +35,10 @@ use Rattle.dap_replies.proofs.Begun.{with_next_run, run_begins}
 
 -- ---- numbers mark no situation
 
-or_nothing : {A : Type 0} (o : Option A) → or_else o None ≡ o
-or_nothing None = refl
-or_nothing (Some x) = refl
-
 mark_of : (vs : List ℤ) (events : List EventBody)
     → last_such message_mark (map Event (map event.Output vs ++ events)) ≡ last_such message_mark (map Event events)
 mark_of [] events = refl
-mark_of (v ∷ vs) events = or_nothing (last_such message_mark (map Event (map event.Output vs ++ events))) ∙ mark_of vs events
+mark_of (v ∷ vs) events = or_else-none (last_such message_mark (map Event (map event.Output vs ++ events))) ∙ mark_of vs events
 
 no_mark : (r : PlainReport) → last_such message_mark (map Event (outputs r)) ≡ None
 no_mark r = ap (λ es. last_such message_mark (map Event es)) (sym (append-nil (outputs r))) ∙ mark_of r.numbers []
@@ -97,12 +88,6 @@ report_ends laws t u r past is = (
     step = report_step r (reporting (outputs r ++ ends 0))
 
 -- ---- the debuggee comes back
-
-one_program : (u v : Compiled) → text_of u ≡ text_of v → program_of u ≡ program_of v
-one_program u v same =
-    let alike = Coded-set block_code (program_of u) (program_of v) in
-    ∥∥₁_elim u.tree.lawful alike (λ x. ∥∥₁_elim v.tree.lawful alike (λ y.
-    program_once (subst (λ t. ReadsProgram level_limit (tokens_of t) (program_of u)) same x.reads) y.reads))
 
 -- a unit of the program's text will do as well
 same_target : (t : Target) (u v : Compiled) (past : History) → text_of u ≡ text_of v → IsTarget t u past → IsTarget t v past

@@ -17,7 +17,7 @@ use Rattle.dbg_plan.specs.declared.mode.Reason.{Reason}
 use Rattle.dbg_plan.specs.declared.mode.Reason.TheVariants as reason
 use Rattle.dbg_runner.specs.Orders.{plain_order}
 use Rattle.dbg_runner.specs.Plain.{Go}
-use Rattle.dbg_runner.specs.Reported.{heading, text_of}
+use Rattle.dbg_runner.specs.Reported.{heading}
 use Rattle.dap_history.specs.declared.situation.Situation.{Situation}
 use Rattle.dap_history.specs.declared.situation.Situation.TheVariants as situation_is
 use Rattle.dap_history.specs.History.{Launched, History}
@@ -36,16 +36,13 @@ use Rattle.dap_replies.specs.declared.running.Pace.TheVariants as pace
 use Rattle.dap_replies.specs.Paces.{pace_of, resumption}
 use Rattle.dap_replies.specs.Replied.{request_step, HasReplied}
 use Rattle.dap_replies.specs.Going.{HasGone, HasStopped, HasEnded, IsOver}
+use Rattle.dap_replies.proofs.Situations.{launched_as}
 use Rattle.dap_replies.proofs.Begun.{run_begins}
 use Rattle.dap_msg.specs.declared.outgoing.Refusal.TheVariants as refusal
 use Rattle.dap_replies.proofs.Refused.{unknown_thread}
 use Rattle.dap_replies.proofs.Stays.{target_stays, debuggee_stays}
 
 -- ---- the definitions
-
--- what the phase keeps of the launch
-abbrev pub launched_as : Target → Compiled → Launched
-launched_as t u = record { path = t.path; stop_on_entry = t.stop_on_entry; text = text_of u; program = program_of u }
 
 of_program : (o : Option Launched) (l : Launched) (says : Launched → Type 0) → o ≡ Some l → says l → OfProgram o says
 of_program o l says o_is is = subst (λ o. OfProgram o says) (sym o_is) is

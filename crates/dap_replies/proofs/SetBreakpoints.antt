@@ -15,13 +15,12 @@ use Rattle.dbg_plan.specs.Breakpoints.{Breakpoint}
 use Rattle.dbg_plan.specs.Debugged.{Debugged}
 use Rattle.dbg_runner.specs.Plain.{PlainOrder, Hold}
 use Rattle.dbg_runner.specs.Orders.{plain_order}
-use Rattle.dbg_runner.specs.Reported.{text_of}
 use Rattle.dbg_runner.specs.declared.order.Order.{Order}
 use Rattle.dap_history.specs.Last.{or_else, last_such}
 use Rattle.dap_history.specs.Plans.{Plan}
 use Rattle.dap_history.specs.declared.situation.Situation.{Situation}
 use Rattle.dap_history.specs.declared.situation.Situation.TheVariants.{Configuring, Running, Stopped, Faulted}
-use Rattle.dap_history.specs.History.{Launched, Step, History}
+use Rattle.dap_history.specs.History.{Step, History}
 use Rattle.dap_history.specs.ReadingLaws.{ReadingsGoOn}
 use Rattle.dap_history.specs.Readings.{order_mark, situation, settings, go, runs, position, waiting_plan, hold_mark, is_held}
 use Rattle.dap_history.specs.Replies.{Reply, nothing, causing, OfProgram}
@@ -33,16 +32,13 @@ use Rattle.dap_phase.specs.Runs.{Ordered, heading_in}
 use Rattle.dap_phase.specs.Phases.{situation_of, IsTarget, IsDebuggee, IsRun, IsPhase}
 use Rattle.dap_replies.specs.Replied.{HasReplied, Replies, request_step}
 use Rattle.dap_replies.specs.Lines.{AreAnswered, is_other, with_order}
-use Rattle.dap_replies.proofs.Situations.{replies_there}
+use Rattle.dap_replies.proofs.Situations.{launched_as, replies_there}
 use Rattle.dap_replies.proofs.Stays.{situation_stays, target_stays, position_stays, plan_stays, last_run_stays, runs_stay, waiting_pause_stays, no_last}
 
 -- ---- the reply
 
-abbrev launch_of : Target → Compiled → Launched
-launch_of t u = record { path = t.path; stop_on_entry = t.stop_on_entry; text = text_of u; program = program_of u }
-
 sets : (past : History) (t : Target) (u : Compiled) (asked : SetBreakpointsArguments) (reply : Reply) → IsTarget t u past
-    → SetsOf (is_at asked.path t.path) past (launch_of t u) asked.breakpoints reply → Sets past asked reply
+    → SetsOf (is_at asked.path t.path) past (launched_as t u) asked.breakpoints reply → Sets past asked reply
 sets past t u asked reply target of =
     subst (λ o. OfProgram o (λ l. SetsOf (is_at asked.path l.path) past l asked.breakpoints reply)) (sym target.launched_is) of
 
@@ -50,7 +46,7 @@ sets past t u asked reply target of =
 sets_other : (past : History) (t : Target) (u : Compiled) (asked : SetBreakpointsArguments) → IsTarget t u past → not (is_at asked.path t.path) ≡ true → Sets past asked (other_source asked.breakpoints)
 sets_other past t u asked target other =
     let reply = other_source asked.breakpoints in
-    sets past t u asked reply target (subst (λ b. SetsOf b past (launch_of t u) asked.breakpoints reply) (sym (not-true (is_at asked.path t.path) other)) refl)
+    sets past t u asked reply target (subst (λ b. SetsOf b past (launched_as t u) asked.breakpoints reply) (sym (not-true (is_at asked.path t.path) other)) refl)
 
 pub replies_other : (p : Phase) (past : History) (asked : SetBreakpointsArguments) → is_other p asked.path ≡ true → IsPhase p past → SetsIn (situation_of p) past asked (other_source asked.breakpoints)
 replies_other phase.Fresh past asked other is = absurd cc
@@ -73,7 +69,7 @@ sets_here past t u asked answers bs s is target are =
     let reply = causing (body.Breakpoints answers) (effect_in s past bs) in
     let main = program_of u in
     let found = are.answered.resolutions in
-    sets past t u asked reply target (subst (λ b. SetsOf b past (launch_of t u) asked.breakpoints reply) (sym are.same) (record {
+    sets past t u asked reply target (subst (λ b. SetsOf b past (launched_as t u) asked.breakpoints reply) (sym are.same) (record {
       answers = found;
       breakpoints = bs;
       resolved = subst (λ (i : InitializeArguments). IsResolved main (offset i.lines_start_at_1) asked.breakpoints found bs) target.settings_are are.answered.resolved;

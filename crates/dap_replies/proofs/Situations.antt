@@ -1,17 +1,25 @@
--- What is replied in the situation of a phase.
+-- What is replied in the situation of a phase, and what a phase keeps of the launch.
 use Rattle.std.proofs.Common.{◌≡◌, refl, sym, subst}
+use Rattle.pl0_unit.specs.declared.unit.Unit.{Unit as Compiled}
+use Rattle.pl0_machine.specs.Machine.{program_of}
+use Rattle.dbg_runner.specs.Reported.{text_of}
 use Rattle.dap_msg.specs.declared.command.Command.{Command}
 use Rattle.dap_msg.specs.declared.requests.initialize.InitializeArguments.{InitializeArguments}
 use Rattle.dap_msg.specs.declared.command.Command.TheVariants as command
 use Rattle.dap_msg.specs.declared.outgoing.Body.TheVariants as body
 use Rattle.dap_msg.specs.declared.outgoing.Refusal.TheVariants as refusal
-use Rattle.dap_history.specs.History.{History}
+use Rattle.dap_history.specs.History.{Launched, History}
 use Rattle.dap_history.specs.Readings.{situation}
 use Rattle.dap_history.specs.Replies.{Reply, answered, refused}
 use Rattle.dap_history.specs.Emission.{RepliesIn}
+use Rattle.dap_phase.specs.declared.phase.Target.{Target}
 use Rattle.dap_phase.specs.declared.phase.Phase.{Phase}
 use Rattle.dap_phase.specs.declared.phase.Phase.TheVariants as phase
 use Rattle.dap_phase.specs.Phases.{IsPhase, situation_of}
+
+-- what the phase keeps of the launch
+abbrev pub launched_as : Target → Compiled → Launched
+launched_as t u = record { path = t.path; stop_on_entry = t.stop_on_entry; text = text_of u; program = program_of u }
 
 -- the situation of the history is that of the phase
 pub replies_there : (p : Phase) (past : History) → IsPhase p past → (command : Command) (reply : Reply) → RepliesIn (situation_of p) past command reply → RepliesIn (situation past) past command reply

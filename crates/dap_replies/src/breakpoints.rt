@@ -141,11 +141,11 @@ fn is_of_other_source(phase: &Phase, asked: &Option<Text>) -> bool
 {
     match phase {
         Phase::Fresh | Phase::Ready(_) | Phase::Launching(_, _) => false,
-        Phase::Configuring(target, _) => !is_launched(asked, target),
-        Phase::Running(target, _) => !is_launched(asked, target),
-        Phase::Stopped(target, _) => !is_launched(asked, target),
-        Phase::Faulted(target, _) => !is_launched(asked, target),
-        Phase::Ended(target, _) => !is_launched(asked, target),
+        Phase::Configuring(target, _)
+        | Phase::Running(target, _)
+        | Phase::Stopped(target, _)
+        | Phase::Faulted(target, _)
+        | Phase::Ended(target, _) => !is_launched(asked, target),
     }
 }
 

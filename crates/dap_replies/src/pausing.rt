@@ -1,32 +1,16 @@
 // What interrupts a run: `pause`.
 
-ghost use Rattle.std.specs.Prelude.{◌≡◌, [], Ok, None};
 ghost use Rattle.dap_msg.specs.declared.command.Command.TheVariants as command_is;
-ghost use Rattle.dap_msg.specs.declared.outgoing.Body.TheVariants as body_is;
 ghost use Rattle.dap_phase.specs.declared.phase.Phase.TheVariants as phase_is;
 ghost use Rattle.dap_replies.specs.Going.{Stands, WaitsToPause};
 ghost use Rattle.dap_replies.specs.Replied.{Replies};
 
 use crate::effect::{Effect, Reply};
-use crate::running::refuse;
+use crate::refusing::{refuse, unmoved};
 use dap_history::reading_laws;
 use dap_msg::{Body, Items, Refusal, ThreadArguments};
 use dap_phase::{Phase, Run, Target};
 use std::alloc::Global;
-
-// An answer alone: the program stands already.
-fn stay(alloc: Global, phase: Phase) -> Reply
-    ensures { result ≡ record { result = Ok body_is.None; effect = record { events = []; order = None; phase = phase } } }
-{
-    Reply {
-        result: Ok(Body::None),
-        effect: Effect {
-            events: Items::new(Vec::new(alloc)),
-            order: None,
-            phase,
-        },
-    }
-}
 
 // A pause waits until the runner gives the debuggee back, which it is asked to once.
 fn wait(alloc: Global, target: Target, mut run: Run) -> Reply
@@ -56,7 +40,7 @@ fn interrupt(alloc: Global, target: Target, run: Run, asked: ThreadArguments) ->
     wait(alloc, target, run)
 }
 
-// Replies where the program stands.
+// Replies where the program stands already.
 fn remain(alloc: Global, phase: Phase, asked: ThreadArguments) -> Reply
     requires { Stands phase }
     ensures { Replies (command_is.Pause asked) phase result }
@@ -65,7 +49,7 @@ fn remain(alloc: Global, phase: Phase, asked: ThreadArguments) -> Reply
     if asked.thread_id != 1 {
         return refuse(alloc, phase, Refusal::UnknownThread);
     }
-    stay(alloc, phase)
+    unmoved(alloc, phase, Ok(Body::None))
 }
 
 /// Replies to `pause`.

@@ -33,8 +33,8 @@ pub(crate) fn conclude(alloc: Global, phase: Phase, given: Result<Body, Refusal>
     unmoved(alloc, phase, given)
 }
 
-// A reply that nothing follows.
-fn unmoved(alloc: Global, phase: Phase, given: Result<Body, Refusal>) -> Reply
+/// A reply that nothing follows.
+pub(crate) fn unmoved(alloc: Global, phase: Phase, given: Result<Body, Refusal>) -> Reply
     ensures { result ≡ unmoved phase given }
 {
     Reply {

@@ -1,6 +1,7 @@
 // Reports of the runner.
 
-ghost use Rattle.std.specs.Prelude.{◌≡◌, ◌++◌, Some, map, IfOk};
+ghost use Rattle.std.specs.Prelude.{◌≡◌, ◌≢◌, ◌++◌, Some, map, IfOk, OnOk};
+ghost use Rattle.dbg_runner.specs.declared.outcome.SliceOutcome.TheVariants as slice;
 ghost use Rattle.dbg_runner.specs.Plain.{heading_of};
 ghost use Rattle.dbg_runner.specs.Reported.{carried, plain_report, stopped, text_of};
 ghost use Rattle.dap_history.specs.History.{History};
@@ -30,8 +31,9 @@ use std::alloc::{AllocError, Global};
 /// An allocation failed, here or in the runner.
 pub fn report(alloc: Global, target: Target, run: Run, report: Report) -> Result<Effect, AllocError>
     requires { heading_of (plain_report report) ≡ heading_in target.runs run }
-    ensures { IfOk result (λ done. (past : History) → IsPhase (phase_is.Running target run) past →
+    ensures follows { IfOk result (λ done. (past : History) → IsPhase (phase_is.Running target run) past →
         HasReported (plain_report report) past done) }
+    ensures memory { OnOk result (report.outcome ≢ slice.NoMemory) }
 {
     match report.outcome() {
         SliceOutcome::More => go_on(alloc, target, run, &report),
@@ -165,8 +167,8 @@ fn events(
     Ok(Items::new(events))
 }
 
-// The reason of a stop, for the client.
-fn stop_reason(reason: Reason) -> StopReason
+/// The reason of a stop, for the client.
+pub(crate) fn stop_reason(reason: Reason) -> StopReason
     ensures { result ≡ stop_of reason }
 {
     match reason {

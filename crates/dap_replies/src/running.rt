@@ -1,17 +1,18 @@
 // What starts a run and resumes one: `configurationDone`, `continue`, `next`, `stepIn` and `stepOut`.
 
-ghost use Rattle.std.specs.Prelude.{◌≡◌, [], if◌then◌else◌, IfOk, Err, None};
+ghost use Rattle.std.specs.Prelude.{◌≡◌, if◌then◌else◌, IfOk};
 ghost use Rattle.dap_msg.specs.declared.command.Command.TheVariants as command_is;
 ghost use Rattle.dbg_plan.specs.declared.mode.Mode.TheVariants as mode_is;
-ghost use Rattle.dap_history.specs.Replies.{stop_of};
 ghost use Rattle.dap_phase.specs.declared.phase.Phase.TheVariants as phase_is;
 ghost use Rattle.dap_replies.specs.Going.{HasGone, HasStopped, HasEnded};
 ghost use Rattle.dap_replies.specs.Paces.{resumption};
 ghost use Rattle.dap_replies.specs.Replied.{Replies};
 
 use crate::effect::{Effect, Reply};
+use crate::refusing::refuse;
+use crate::reporting::stop_reason;
 use dap_history::reading_laws;
-use dap_msg::{Body, EventBody, Items, Refusal, StopReason, ThreadArguments};
+use dap_msg::{Body, EventBody, Items, Refusal, ThreadArguments};
 use dap_phase::{Phase, Run, Target, Unstarted};
 use dbg_plan::{Mode, Reason};
 use dbg_runner::Considered;
@@ -61,20 +62,6 @@ impl Pace {
     }
 }
 
-// A refusal, after which all is as before.
-pub(crate) fn refuse(alloc: Global, phase: Phase, why: Refusal) -> Reply
-    ensures { result ≡ record { result = Err why; effect = record { events = []; order = None; phase = phase } } }
-{
-    Reply {
-        result: Err(why),
-        effect: Effect {
-            events: Items::new(Vec::new(alloc)),
-            order: None,
-            phase,
-        },
-    }
-}
-
 // An answer, and the next run of the debuggee.
 fn go(
     alloc: Global,
@@ -99,17 +86,6 @@ fn go(
             phase: Phase::Running(target, run),
         },
     })
-}
-
-// Why the program stops at a position that is due.
-fn stop_reason(reason: Reason) -> StopReason
-    ensures { result ≡ stop_of reason }
-{
-    match reason {
-        Reason::Breakpoint => StopReason::Breakpoint,
-        Reason::Entry => StopReason::Entry,
-        Reason::Step => StopReason::Step,
-    }
 }
 
 // An answer, and the stop where the program stands.

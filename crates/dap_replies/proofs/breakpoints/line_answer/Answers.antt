@@ -1,6 +1,7 @@
 use Rattle.std.proofs.Common.{◌-◌, ap, arith, ◌∙◌}
 use Rattle.dap_msg.specs.declared.outgoing.BreakpointAnswer.TheVariants as answer_is
-use Rattle.dap_replies.proofs.Lines.{unit_length, unit_line}
+use Rattle.dbg_plan.proofs.StepLines.{unit_length}
+use Rattle.dap_replies.proofs.Lines.{unit_line}
 use Rattle.dap_replies.proofs.breakpoints.line_answer.Goals as goal
 
 pub index-requires : goal.index-requires

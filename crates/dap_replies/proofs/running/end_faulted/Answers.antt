@@ -6,13 +6,13 @@ use Rattle.dap_phase.specs.declared.phase.Phase.TheVariants as phase
 use Rattle.dap_replies.specs.Going.{HasEnded}
 use Rattle.dap_replies.specs.Paces.{resumption}
 use Rattle.dap_replies.specs.Replied.{Replies}
-use Rattle.dap_replies.proofs.Refused.{refuses, unknown_thread}
+use Rattle.dap_replies.proofs.Refused.{unknown_thread}
 use Rattle.dap_replies.proofs.Resumed.{as_paced, ends_faulted}
 use Rattle.dap_replies.proofs.running.end_faulted.Goals as goal
 
 pub returns-then-asked-ne1 : goal.returns-then-asked-ne1
-returns-then-asked-ne1 c = λ past.
-    refuses c.reading_laws.ensures (resumption c.args.pace c.args.asked) (phase.Faulted c.args.target c.args.debuggee) refusal.UnknownThread past c.refuse.result c.refuse.ensures
+returns-then-asked-ne1 c = λ past is.
+    c.refuse.ensures.refuses (resumption c.args.pace c.args.asked) past is
     (as_paced c.args.pace c.args.asked situation_is.Faulted past (refused refusal.UnknownThread) (unknown_thread c.args.asked.thread_id _ c.if-asked-ne1.true))
 
 pub returns : goal.returns

@@ -1,6 +1,5 @@
 use Rattle.std.proofs.Common.{◌≡◌, ap, ◌∙◌}
 use Rattle.std.proofs.lemmas.Result.{IfOk-weaker}
-use Rattle.dap_msg.specs.declared.outgoing.Refusal.TheVariants as refusal
 use Rattle.dbg_plan.specs.Due.{depth_at}
 use Rattle.dbg_plan.specs.Debugged.{machine_of}
 use Rattle.pl0_machine.specs.Machine.{Standing, program_of}
@@ -9,16 +8,13 @@ use Rattle.dap_phase.specs.declared.phase.Phase.TheVariants as phase
 use Rattle.dap_replies.specs.Going.{HasGone}
 use Rattle.dap_replies.specs.Paces.{pace_of, resumption}
 use Rattle.dap_replies.specs.Replied.{Replies}
-use Rattle.dap_replies.proofs.Refused.{refuses}
 use Rattle.dap_replies.proofs.Resumed.{depth_there, resumes_there, stands_refusing}
 use Rattle.dap_replies.proofs.running.go_on.Goals as goal
 
 pub returns-then-asked-ne1 : goal.returns-then-asked-ne1
 returns-then-asked-ne1 c = λ past is.
-    let t = c.args.target in
-    let d = c.args.debuggee in
-    refuses c.reading_laws.ensures (resumption c.args.pace c.args.asked) (phase.Stopped t d) refusal.UnknownThread past c.refuse.result c.refuse.ensures
-    (stands_refusing t d c.args.pace c.args.asked past c.if-asked-ne1.true is) is
+    c.refuse.ensures.refuses (resumption c.args.pace c.args.asked) past is
+    (stands_refusing c.args.target c.args.debuggee c.args.pace c.args.asked past c.if-asked-ne1.true is)
 
 pub returns : goal.returns
 returns c =
