@@ -1,11 +1,9 @@
 -- Frames that were added one after another.
 use Rattle.std.proofs.Common.{◌≡◌, ℕ, ◌+◌, ◌<◌, List, [], ◌∷◌, ◌++◌, length, map, take, get_or, refl, sym, ◌∙◌, ap, arith, subst, append_assoc, append-nil, length-append, Vec, Global}
 use Rattle.std.proofs.lemmas.List.{map_more, map-append}
-use Rattle.dap_frame.specs.Frame.{frame_of}
 use Rattle.dap_msg.specs.declared.outgoing.Outgoing.{Outgoing}
 use Rattle.dap_msg.specs.declared.outgoing.Outgoing.TheVariants.{Event}
 use Rattle.dap_msg.specs.declared.outgoing.EventBody.{EventBody}
-use Rattle.dap_msg.specs.Outgoing.{text_of}
 use Rattle.dbg_runner.specs.Plain.{PlainOrder}
 use Rattle.dap_history.specs.declared.fault.SessionFault.{SessionFault}
 use Rattle.dap_history.specs.declared.fault.SessionFault.TheVariants.{Frame, NoMemory, SeqExhausted, OrdersFull, RunnerGone, WriterGone}
@@ -15,11 +13,7 @@ use Rattle.dap_history.specs.ReadingLaws.{ReadingsGoOn}
 use Rattle.dap_session.specs.Building.{plain_frames, Built, AddsFrames, IsNotPushed}
 use Rattle.dap_session.specs.Ports.{Written, Ordered, ports}
 use Rattle.dap_session.specs.Sending.{Begins, Adds, PushesSome, BreaksOff}
-
-pub frames_from-append : (n : ℕ) (xs ys : List Outgoing) → frames_from n (xs ++ ys) ≡ frames_from n xs ++ frames_from (n + length xs) ys
-frames_from-append n [] ys = ap (λ k. frames_from k ys) (omega arith)
-frames_from-append n (x ∷ xs) ys =
-    ap (λ l. frame_of (text_of x n) ∷ l) (frames_from-append (n + 1) xs ys ∙ ap (λ k. frames_from (n + 1) xs ++ frames_from k ys) (omega arith))
+use Rattle.dap_session.proofs.Joining.{frames_from-append}
 
 pub adds_both : (xs ys : List Outgoing) (a b c : Built) → AddsFrames xs a b → AddsFrames ys b c → AddsFrames (xs ++ ys) a c
 adds_both xs ys a b c first then_ =

@@ -1,11 +1,9 @@
 -- One item more, for a session at a history.
-use Rattle.std.proofs.Common.{◌≡◌, inl, inr, ℕ, [], ◌∷◌, ◌++◌, Option, None, Some, Result, Ok, Err, refl, sym, ◌∙◌, ap, subst, append-nil, add-zero, ◌+◌, length, arith}
-use Rattle.std.specs.Prelude.{map, option_map, OnOk}
-use Rattle.std.specs.Option.{option_to_list}
+use Rattle.std.proofs.Common.{◌≡◌, inl, inr, ℕ, [], ◌∷◌, ◌++◌, Option, None, Some, Result, Ok, Err, refl, sym, ◌∙◌, ap, append-nil, add-zero, ◌+◌, length, arith}
+use Rattle.std.specs.Prelude.{map, OnOk}
 use Rattle.dap_msg.specs.declared.command.CommandName.{CommandName}
 use Rattle.dap_msg.specs.declared.outgoing.Outgoing.{Outgoing}
 use Rattle.dap_msg.specs.declared.outgoing.Outgoing.TheVariants.{Answer, Event}
-use Rattle.dbg_runner.specs.Orders.{plain_order}
 use Rattle.dap_history.specs.declared.fault.SessionFault.{SessionFault}
 use Rattle.dap_history.specs.declared.fault.SessionFault.TheVariants.{NoMemory}
 use Rattle.dap_history.specs.Last.{or_else}
@@ -15,6 +13,7 @@ use Rattle.dap_history.specs.Replies.{Reply}
 use Rattle.dap_history.specs.ReadingLaws.{ReadingsGoOn}
 use Rattle.dap_history.specs.Emission.{Causes}
 use Rattle.dap_history.specs.Events.{IsTaking}
+use Rattle.dap_history.proofs.Readings.{or_else-none}
 use Rattle.dap_phase.specs.declared.phase.Phase.{Phase}
 use Rattle.dap_phase.specs.Phases.{IsPhase, launch_of}
 use Rattle.dap_replies.specs.declared.effect.Effect.{Effect as Done}
@@ -26,10 +25,6 @@ use Rattle.dap_session.specs.Sending.{Sends, RefusesNothing, BreaksOff}
 use Rattle.dap_session.specs.State.{State, Knows}
 use Rattle.dap_session.specs.Steps.{IsStepOf, IsSent}
 use Rattle.dap_session.specs.Handling.{TakesItem, FailsAtItem, HandlesItem}
-
-pub or_else-none : {A : Type 0} (x : Option A) → or_else x None ≡ x
-or_else-none None = refl
-or_else-none (Some x) = refl
 
 -- an item that is taken ends the session as it says
 pub ending_after : ReadingsGoOn → (past : History) (step : Step) → IsTaking past → ending_of (past ++ step ∷ []) ≡ closing step.item
@@ -115,32 +110,23 @@ skips laws keeps past session old taking open_ free knows =
 
 -- ---- what is sent of a reply
 
--- the phase and the rest of an effect are those of another
-pub frees : (done freed : Done) (effect : Effect) → freed.events ≡ done.events → freed.order ≡ done.order → Does done effect → Does freed effect
-frees done freed effect events order does =
-    record {
-      events_are = events ∙ does.events_are;
-      orders_are = ap (λ o. option_to_list (option_map plain_order o)) order ∙ does.orders_are;
-    }
-
-pub is_answer_step : (item : Item) (seq : ℕ) (said name : CommandName) (given : Given) (reply : Reply) (freed : Done) → said ≡ name → freed.events ≡ given.effect.events → freed.order ≡ given.effect.order → Gives given reply
-    → IsStepOf (Some (Answer seq said given.result)) freed (step_of item (Some (Answer seq name reply.result)) reply.effect)
-is_answer_step item seq said name given reply freed named events order gives =
-    is_step item (Some (Answer seq said given.result)) (Some (Answer seq name reply.result)) reply.effect freed
-    (ap (λ r. Some (Answer seq said r)) gives.result_is ∙ ap (λ n. Some (Answer seq n reply.result)) named)
-    (frees given.effect freed reply.effect events order gives.effect_is)
+pub is_answer_step : (item : Item) (seq : ℕ) (said name : CommandName) (given : Given) (reply : Reply) → said ≡ name → Gives given reply
+    → IsStepOf (Some (Answer seq said given.result)) given.effect (step_of item (Some (Answer seq name reply.result)) reply.effect)
+is_answer_step item seq said name given reply named gives =
+    is_step item (Some (Answer seq said given.result)) (Some (Answer seq name reply.result)) reply.effect given.effect
+    (ap (λ r. Some (Answer seq said r)) gives.result_is ∙ ap (λ n. Some (Answer seq n reply.result)) named) gives.effect_is
 
 -- a step that ends nothing was sent, or broken off
 pub sends_item : ReadingsGoOn → (result : Result (Unit {0}) SessionFault) (past : History) (step : Step) (session : State) (phase : Phase) (old later : Ports) → IsTaking past → Causes past step.item step → closing step.item ≡ None
-    → session.ending ≡ None → IsPhase phase (past ++ step ∷ []) → launch_of phase ≡ None → OnOk result (session.phase ≡ phase) → IsSent result past step session old later
+    → session.ending ≡ None → IsPhase phase (past ++ step ∷ []) → OnOk result ((h : History) → IsPhase phase h → IsPhase session.phase h) → OnOk result (launch_of session.phase ≡ None) → IsSent result past step session old later
     → HandlesItem result past step.item session old later
-sends_item laws (Ok u) past step session phase old later taking causes on open_ is free same sent =
+sends_item laws (Ok u) past step session phase old later taking causes on open_ is keeps free sent =
     takes_item laws past step session old later taking causes
     (record {
       ending_is = open_ ∙ sym on;
-      phase_is = subst (λ p. IsPhase p (past ++ step ∷ [])) (sym same) is;
-      free = ap launch_of same ∙ free;
+      phase_is = keeps (past ++ step ∷ []) is;
+      free = free;
     })
     (record { sends = sent.0; refuses_nothing = sent.1; seq_is = sent.2 })
-sends_item laws (Err fault) past step session phase old later taking causes on open_ is free same sent =
+sends_item laws (Err fault) past step session phase old later taking causes on open_ is keeps free sent =
     fails_at_step fault past step old later causes sent

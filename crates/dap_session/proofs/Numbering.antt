@@ -1,6 +1,7 @@
 -- What a session put is numbered, and read back.
-use Rattle.std.proofs.Common.{◌≡◌, ℕ, zero, suc, ◌+◌, ◌<◌, ◌^◌, List, [], ◌∷◌, ◌++◌, length, Option, None, Some, option_map, refl, sym, ◌∙◌, subst, arith}
+use Rattle.std.proofs.Common.{◌≡◌, ℕ, zero, suc, ◌+◌, ◌<◌, ◌^◌, List, [], ◌∷◌, ◌++◌, Option, None, Some, option_map, refl, sym, ◌∙◌, subst, arith}
 use Rattle.std.specs.Prelude.{slice_get}
+use Rattle.std.proofs.lemmas.Option.{same_Some, slice_get_within}
 use Rattle.dap_frame.specs.Frame.{frame_of}
 use Rattle.dap_msg.specs.declared.outgoing.Outgoing.{Outgoing}
 use Rattle.dap_msg.specs.Outgoing.{text_of}
@@ -18,17 +19,9 @@ get_begins [] more n x is = absurd cc
 get_begins (y ∷ xs) more zero x is = is
 get_begins (y ∷ xs) more (suc n) x is = get_begins xs more n x is
 
-get_within : {A : Type 0} (xs : List A) (n : ℕ) (x : A) → slice_get xs n ≡ Some x → n < length xs
-get_within [] n x is = absurd cc
-get_within (y ∷ xs) zero x is = omega arith
-get_within (y ∷ xs) (suc n) x is = omega (arith, get_within xs n x is)
-
 there_is : {A B : Type 0} (f : A → B) (o : Option A) (b : B) → option_map f o ≡ Some b → (a : A) × (o ≡ Some a)
 there_is f None b is = absurd cc
 there_is f (Some a) b is = (a, refl)
-
-same_frame : (a b : List ℕ) → ◌≡◌ {A = Option (List ℕ)} (Some a) (Some b) → a ≡ b
-same_frame a b is = cc
 
 module _ (count : SeqCountFromOne) (back : FramesAreReadBack) where
   reads_nth : (events : List Incoming) (past : History) (rest : Rest) → IsHistoryOf events past rest → (n : ℕ) (frame : List ℕ) → slice_get (frames_from 1 (messages_of past)) n ≡ Some frame → n + 1 < 2 ^ 64
@@ -36,7 +29,7 @@ module _ (count : SeqCountFromOne) (back : FramesAreReadBack) where
   reads_nth events past rest history n frame is small =
       let there = there_is (λ m. frame_of (text_of m (n + 1))) (slice_get (messages_of past) n) frame (sym (count (messages_of past) n) ∙ is) in
       let read = back events past rest history n there.0 there.1 small in
-      (there.0, read.0, there.1, same_frame frame (frame_of read.0) (sym is ∙ read.1), read.2)
+      (there.0, read.0, there.1, same_Some frame (frame_of read.0) (sym is ∙ read.1), read.2)
 
   pub frames_are_numbered : IsSettled → HistoryIsOne → FramesAreNumbered
   frames_are_numbered settled one result given_before given_after loaded_before loaded_after old later driven =
@@ -47,6 +40,6 @@ module _ (count : SeqCountFromOne) (back : FramesAreReadBack) where
         read = λ past rest history n frame is.
             let begins = puts.begins past rest history in
             let whole = subst (λ fs. slice_get fs n ≡ Some frame) begins.1 (get_begins puts.frames begins.0 n frame is) in
-            let within = get_within puts.frames n frame is in
+            let within = slice_get_within puts.frames n frame is in
             reads_nth driven.events past rest history n frame whole (omega (arith, within, puts.few));
       }

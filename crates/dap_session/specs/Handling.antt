@@ -1,11 +1,11 @@
 -- What the functions leave that take an event: from the history that the session stood for, how far it came.
-use Rattle.std.specs.Prelude.{◌≡◌, ◌⊎◌, ◌++◌, ◌∷◌, [], ◌<◌, ℕ, List, Vec, Option, None, Some, Result, Ok, Err}
+use Rattle.std.specs.Prelude.{◌≡◌, ◌⊎◌, ◌++◌, ◌∷◌, [], ℕ, List, Vec, Option, None, Some, Result, Ok, Err}
 use Rattle.std.specs.declared.alloc.Global.{Global}
 use Rattle.dap_frame.specs.declared.fault.FramingFault.{FramingFault}
 use Rattle.dap_msg.specs.declared.request.Request.{Request}
 use Rattle.dbg_runner.specs.Plain.{PlainReport, Quit, heading_of}
 use Rattle.dap_history.specs.declared.fault.SessionFault.{SessionFault}
-use Rattle.dap_history.specs.declared.fault.SessionFault.TheVariants.{Frame, OrdersFull, RunnerGone}
+use Rattle.dap_history.specs.declared.fault.SessionFault.TheVariants.{Frame}
 use Rattle.dap_history.specs.declared.fault.LoadFault.{LoadFault}
 use Rattle.dap_history.specs.declared.ending.Ending.{Ending}
 use Rattle.dap_history.specs.declared.ending.Ending.TheVariants as ending
@@ -20,6 +20,7 @@ use Rattle.dap_phase.specs.declared.phase.Phase.TheVariants as phase
 use Rattle.dap_phase.specs.Runs.{heading_in}
 use Rattle.dap_phase.specs.Phases.{launch_of}
 use Rattle.dap_session.specs.Ports.{Ordered, Ports}
+use Rattle.dap_session.specs.Building.{IsNotPushed}
 use Rattle.dap_session.specs.Sending.{Sends, RefusesNothing, BreaksOff}
 use Rattle.dap_session.specs.State.{State, Knows, GoesOn}
 use Rattle.dap_session.specs.Taking.{TowardByPiece, Toward}
@@ -142,6 +143,4 @@ plain_file (Err fault) = Err fault
 -- A Quit was pushed, or the port refused it.
 abbrev pub PushesQuit : Result (Unit {0}) SessionFault → Ordered → Ordered → Type 0
 PushesQuit (Ok u) old later = (later.orders ≡ old.orders ++ Quit ∷ []) × (later.fulls ≡ old.fulls) × (later.refusals ≡ old.refusals)
-PushesQuit (Err OrdersFull) old later = (later.orders ≡ old.orders) × (old.fulls < later.fulls)
-PushesQuit (Err RunnerGone) old later = (later.orders ≡ old.orders) × (old.refusals < later.refusals)
-PushesQuit (Err _) old later = ⊥
+PushesQuit (Err fault) old later = IsNotPushed fault old later

@@ -1,10 +1,8 @@
 // How a session closes where its input does.
 
-ghost use Rattle.std.specs.Prelude.{◌≡◌};
-ghost use Rattle.dap_session.specs.Handling.{PushesQuit};
-
 use super::Session;
-use crate::ports::{OrderFault, Orders};
+use super::sending::push;
+use crate::ports::Orders;
 use dap_history::{Closed, Ending, SessionFault};
 use dbg_runner::Order;
 
@@ -23,20 +21,8 @@ impl Session {
         ensures ending { OnOk result (self.new.ending ≡ Some (ending.Closed closed)) }
         ensures orders { D.origin orders.new ≡ D.origin orders.old }
     {
-        quit(orders)?;
+        push(Some(Order::Quit), orders)?;
         self.ending = Some(Ending::Closed(closed));
         Ok(())
-    }
-}
-
-/// Pushes the order to quit.
-fn quit<D: Orders>(orders: &mut D) -> Result<(), SessionFault>
-    ensures quits { PushesQuit result (D.seen orders.old) (D.seen orders.new) }
-    ensures origin { D.origin orders.new ≡ D.origin orders.old }
-{
-    match orders.push(Order::Quit) {
-        Ok(()) => Ok(()),
-        Err(OrderFault::Full) => Err(SessionFault::OrdersFull),
-        Err(OrderFault::Gone) => Err(SessionFault::RunnerGone),
     }
 }

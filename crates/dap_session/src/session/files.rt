@@ -7,7 +7,6 @@ ghost use Rattle.dap_session.specs.Taking.{file_of};
 ghost use Rattle.dap_session.specs.Handling.{plain_file};
 
 use super::Session;
-use super::requests::free;
 use crate::ports::{Orders, Out};
 use dap_history::{Launch, LoadFault, SessionFault, reading_laws};
 use dap_msg::{CommandName, InitializeArguments, Outgoing, Supported};
@@ -98,7 +97,7 @@ impl Session {
             command: CommandName::Supported(Supported::Launch),
             result,
         };
-        self.send(Some(answer), free(effect), out, orders)
+        self.send(Some(answer), effect, out, orders)
     }
 }
 

@@ -1,11 +1,10 @@
 // Reports of the runner.
 
 use super::Session;
-use super::requests::free;
 use crate::ports::{Orders, Out};
 use dap_history::{SessionFault, reading_laws};
 use dap_phase::{Phase, Run, Target};
-use dbg_runner::{Report, SliceOutcome};
+use dbg_runner::Report;
 use std::mem;
 
 impl Session {
@@ -84,12 +83,9 @@ impl Session {
         ensures orders { D.origin orders.new ≡ D.origin orders.old }
     {
         reading_laws();
-        if let SliceOutcome::NoMemory = report.outcome() {
-            return Err(SessionFault::NoMemory);
-        }
         let Ok(effect) = dap_replies::report(self.alloc, target, run, report) else {
             return Err(SessionFault::NoMemory);
         };
-        self.send(None, free(effect), out, orders)
+        self.send(None, effect, out, orders)
     }
 }

@@ -1,16 +1,14 @@
 // Requests.
 
 ghost use Rattle.std.specs.Prelude.{◌≡◌};
-ghost use Rattle.dap_history.specs.History.{History};
 ghost use Rattle.dap_history.specs.Readings.{closing_command};
-ghost use Rattle.dap_phase.specs.Phases.{IsPhase, launch_of};
 
 use super::Session;
 use crate::ports::{Orders, Out};
 use dap_history::{Closed, Ending, Launch, SessionFault, reading_laws};
 use dap_msg::{Command, Outgoing, Request};
 use dap_phase::Phase;
-use dap_replies::{Effect, Reply, reply};
+use dap_replies::{Reply, reply};
 use std::mem;
 
 impl Session {
@@ -81,7 +79,7 @@ impl Session {
             command: request.body.into_name(),
             result,
         };
-        self.send(Some(answer), free(effect), out, orders)?;
+        self.send(Some(answer), effect, out, orders)?;
         self.ending = ending;
         Ok(())
     }
@@ -94,28 +92,5 @@ fn ending_by(command: &Command) -> Option<Ending>
     match command {
         Command::Disconnect => Some(Ending::Closed(Closed::Disconnected)),
         _ => None,
-    }
-}
-
-/// The effect, after which no launch waits.
-pub(super) fn free(effect: Effect) -> Effect
-    ensures events { result.events ≡ effect.events }
-    ensures order { result.order ≡ effect.order }
-    ensures free { launch_of result.phase ≡ None }
-    ensures phase { (past : History) → IsPhase effect.phase past → IsPhase result.phase past }
-{
-    let Effect {
-        events,
-        order,
-        phase,
-    } = effect;
-    let phase = match phase {
-        Phase::Launching(settings, _) => Phase::Ready(settings),
-        phase => phase,
-    };
-    Effect {
-        events,
-        order,
-        phase,
     }
 }

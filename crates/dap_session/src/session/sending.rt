@@ -1,14 +1,15 @@
 // How what an item leads to is sent: all frames are built first, then the order is pushed, then the frames are put.
 
-ghost use Rattle.std.specs.Prelude.{◌≡◌, ◌++◌, ◌∷◌, [], ◌⊎◌, ◌+◌, ◌≤◌, ◌<◌, ◌^◌, map, length, option_map, IfOk, IfErr, OnOk};
+ghost use Rattle.std.specs.Prelude.{◌≡◌, ◌++◌, ◌∷◌, [], ◌⊎◌, ◌+◌, ◌≤◌, ◌<◌, ◌^◌, map, length, option_map, IfOk, IfErr, OnOk, None};
 ghost use Rattle.std.specs.Option.{option_to_list};
 ghost use Rattle.dap_frame.specs.Frame.{frame_of};
 ghost use Rattle.dap_msg.specs.Outgoing.{text_of};
 ghost use Rattle.dap_msg.specs.declared.outgoing.Outgoing.TheVariants.{Event};
 ghost use Rattle.dbg_runner.specs.Orders.{plain_order};
 ghost use Rattle.dap_history.specs.declared.fault.SessionFault.TheVariants.{NoMemory, SeqExhausted};
-ghost use Rattle.dap_history.specs.History.{with_answer};
+ghost use Rattle.dap_history.specs.History.{History, with_answer};
 ghost use Rattle.dap_history.specs.Output.{frames_from};
+ghost use Rattle.dap_phase.specs.Phases.{IsPhase, launch_of};
 ghost use Rattle.dap_session.specs.Building.{plain_frames, Built, AddsFrames, IsNotBuilt, IsNotPushed, IsNotPut};
 
 use super::Session;
@@ -16,6 +17,7 @@ use crate::ports::{OrderFault, Orders, Out};
 use dap_frame::encode;
 use dap_history::{SessionFault, reading_laws};
 use dap_msg::{EventBody, Items, Outgoing, write};
+use dap_phase::Phase;
 use dap_replies::Effect;
 use dbg_runner::Order;
 use std::alloc::Global;
@@ -35,12 +37,13 @@ struct Frames {
 }
 
 impl Session {
-    ghost use Rattle.std.specs.Prelude.{◌≡◌, OnOk};
+    ghost use Rattle.std.specs.Prelude.{◌≡◌, None, OnOk};
     ghost use Rattle.dap_history.specs.History.{Step, History, next_seq};
+    ghost use Rattle.dap_phase.specs.Phases.{IsPhase, launch_of};
     ghost use Rattle.dap_session.specs.Ports.{ports};
     ghost use Rattle.dap_session.specs.Steps.{IsStepOf, IsSent};
 
-    /// Sends an answer, if there is one, and what follows it, and goes on in the phase after it.
+    /// Sends an answer, if there is one, and what follows it, and goes on in the phase after it, where no launch waits.
     pub(super) fn send<O: Out, D: Orders>(
         &mut self,
         answer: Option<Outgoing>,
@@ -52,7 +55,8 @@ impl Session {
             IsSent result past step self.new
             (ports (O.seen out.old) (D.seen orders.old))
             (ports (O.seen out.new) (D.seen orders.new)) }
-        ensures phase { OnOk result (self.new.phase ≡ effect.phase) }
+        ensures phase { OnOk result ((past : History) → IsPhase effect.phase past → IsPhase self.new.phase past) }
+        ensures free { OnOk result (launch_of self.new.phase ≡ None) }
         ensures stream { self.new.stream ≡ self.old.stream }
         ensures ending { self.new.ending ≡ self.old.ending }
         ensures out { O.origin out.new ≡ O.origin out.old }
@@ -72,7 +76,7 @@ impl Session {
         push(order, orders)?;
         put(frames, out)?;
         self.next_seq = next_seq;
-        self.phase = phase;
+        self.phase = without_launch(phase);
         Ok(())
     }
 }
@@ -142,6 +146,17 @@ impl Frames {
     }
 }
 
+/// The phase, where a launch no longer waits.
+fn without_launch(phase: Phase) -> Phase
+    ensures free { launch_of result ≡ None }
+    ensures phase { (past : History) → IsPhase phase past → IsPhase result past }
+{
+    match phase {
+        Phase::Launching(settings, _) => Phase::Ready(settings),
+        phase => phase,
+    }
+}
+
 /// The frame of a message. Its content is written in `content`, over what that held.
 fn frame(message: &Outgoing, seq: u64, content: &mut Vec<u8>) -> Result<Vec<u8>, SessionFault>
     ensures frame { IfOk result (λ frame. frame.items ≡ frame_of (text_of message.now seq)) }
@@ -163,7 +178,7 @@ fn frame(message: &Outgoing, seq: u64, content: &mut Vec<u8>) -> Result<Vec<u8>,
 }
 
 /// Pushes an order, if there is one.
-fn push<D: Orders>(order: Option<Order>, orders: &mut D) -> Result<(), SessionFault>
+pub(super) fn push<D: Orders>(order: Option<Order>, orders: &mut D) -> Result<(), SessionFault>
     ensures pushed { OnOk result ((D.seen orders.new).orders ≡ (D.seen orders.old).orders ++ option_to_list (option_map plain_order order)) }
     ensures ok_gone { OnOk result ((D.seen orders.new).refusals ≡ (D.seen orders.old).refusals) }
     ensures ok_full { OnOk result ((D.seen orders.new).fulls ≡ (D.seen orders.old).fulls) }

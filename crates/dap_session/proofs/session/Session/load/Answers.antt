@@ -17,8 +17,8 @@ returns-clause-comes g c = λ past taking is_phase seq_is.
     let file = option_map (λ (bytes : Vec ℕ Global). bytes.items) c.args.file in
     let item = Loaded c.args.launch file in
     let step = launch_step c.args.launch file h.reply in
-    sends_item c.reading_laws.ensures c.send.result past step _ c.free.result.phase _ _ taking
+    sends_item c.reading_laws.ensures c.send.result past step _ c.in-Ok.field-0.effect.phase _ _ taking
     (h.reply, h.launches, record { answer_is = refl; effect_is = refl }) refl
-    (c.send.ensures.ending ∙ c.requires) (c.free.ensures.phase _ h.phase_is) c.free.ensures.free c.send.ensures.phase
+    (c.send.ensures.ending ∙ c.requires) h.phase_is c.send.ensures.phase c.send.ensures.free
     (c.send.ensures.sent past step seq_is
-    (is_answer_step item c.args.launch.seq (name.Supported supported.Launch) (name.Supported supported.Launch) c.in-Ok.field-0 h.reply c.free.result refl c.free.ensures.events c.free.ensures.order h.gives))
+    (is_answer_step item c.args.launch.seq (name.Supported supported.Launch) (name.Supported supported.Launch) c.in-Ok.field-0 h.reply refl h.gives))
