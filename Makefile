@@ -33,9 +33,11 @@ rows: $(PROGRAM)
 	python3 demo/rows.py $(PROGRAM)
 	diff -r -x fault.pl0 -x procedures.pl0 examples crates/check_runs/data
 
-# Random sessions, each message compared with what a plain model of the adapter says.
-sessions: $(PROGRAM)
+# Random sessions, each message compared with what a plain model of the adapter says; and others, whose bytes are compared with what
+# the session puts over memory, in one thread.
+sessions: $(PROGRAM) $(SPEED)
 	python3 demo/sessions.py $(PROGRAM) 500
+	python3 demo/beside.py $(PROGRAM) $(SPEED) 200
 
 # The sessions of editors, played to the program; then Emacs and Kate, where they are installed, debug a program with it. Nothing is
 # installed: status 2 where one is missing.
