@@ -31,10 +31,25 @@ use std::sync::Wait;
 /// Reading the input.
 #[derive(Drop)]
 pub struct Reads<'a, I, R: Wait + Drop> {
-    pub rt: R,
-    pub alloc: Global,
-    pub input: &'a mut I,
-    pub inbox: ClientSender<R>,
+    rt: R,
+    alloc: Global,
+    input: &'a mut I,
+    inbox: ClientSender<R>,
+}
+
+impl<'a, I, R: Wait + Drop> Reads<'a, I, R> {
+    pub fn new(rt: R, alloc: Global, input: &'a mut I, inbox: ClientSender<R>) -> Reads<'a, I, R>
+        ensures same_input { result.input.ghost_name ≡ input.entry.ghost_name }
+        ensures input { result.input.now ≡ input.old }
+        ensures inbox { result.inbox ≡ inbox }
+    {
+        Reads {
+            rt,
+            alloc,
+            input,
+            inbox,
+        }
+    }
 }
 
 impl<'a, I: Source, R: Wait + Drop> Task for Reads<'a, I, R> {
@@ -61,9 +76,19 @@ impl<'a, I: Source, R: Wait + Drop> Task for Reads<'a, I, R> {
 /// Writing the output.
 #[derive(Drop)]
 pub struct Writes<'a, O, R: Wait + Drop> {
-    pub rt: R,
-    pub output: &'a mut O,
-    pub outbox: FrameReceiver<R>,
+    rt: R,
+    output: &'a mut O,
+    outbox: FrameReceiver<R>,
+}
+
+impl<'a, O, R: Wait + Drop> Writes<'a, O, R> {
+    pub fn new(rt: R, output: &'a mut O, outbox: FrameReceiver<R>) -> Writes<'a, O, R>
+        ensures same_output { result.output.ghost_name ≡ output.entry.ghost_name }
+        ensures output { result.output.now ≡ output.old }
+        ensures outbox { result.outbox ≡ outbox }
+    {
+        Writes { rt, output, outbox }
+    }
 }
 
 impl<'a, O: Sink, R: Wait + Drop> Task for Writes<'a, O, R> {
@@ -116,11 +141,32 @@ impl<G: Gate + Drop> Gate for NotedGate<G> {
 /// Running the program that is debugged.
 #[derive(Drop)]
 pub struct Runs<G: Drop, R: Wait + Drop> {
-    pub rt: R,
-    pub alloc: Global,
-    pub orders: OrderReceiver<R>,
-    pub reports: ReportSender<R>,
-    pub gate: G,
+    rt: R,
+    alloc: Global,
+    orders: OrderReceiver<R>,
+    reports: ReportSender<R>,
+    gate: G,
+}
+
+impl<G: Drop, R: Wait + Drop> Runs<G, R> {
+    pub fn new(
+        rt: R,
+        alloc: Global,
+        orders: OrderReceiver<R>,
+        reports: ReportSender<R>,
+        gate: G,
+    ) -> Runs<G, R>
+        ensures orders { result.orders ≡ orders }
+        ensures reports { result.reports ≡ reports }
+    {
+        Runs {
+            rt,
+            alloc,
+            orders,
+            reports,
+            gate,
+        }
+    }
 }
 
 impl<G: Gate + Drop, R: Wait + Drop> Task for Runs<G, R> {
@@ -150,37 +196,61 @@ impl<G: Gate + Drop, R: Wait + Drop> Task for Runs<G, R> {
 /// Driving the session, in the thread that joins the others.
 #[derive(Drop)]
 pub struct Drives<'a, L, R: Wait + Drop> {
-    pub rt: R,
-    pub alloc: Global,
-    pub loader: &'a mut L,
-    pub inbox: EventReceiver<R>,
-    pub outbox: FrameSender<R>,
-    pub orders: OrderSender<R>,
+    rt: R,
+    alloc: Global,
+    loader: &'a mut L,
+    inbox: EventReceiver<R>,
+    outbox: FrameSender<R>,
+    orders: OrderSender<R>,
 }
 
-/// What is left of a session: its ends, and how it ended.
+impl<'a, L, R: Wait + Drop> Drives<'a, L, R> {
+    pub fn new(
+        rt: R,
+        alloc: Global,
+        loader: &'a mut L,
+        inbox: EventReceiver<R>,
+        outbox: FrameSender<R>,
+        orders: OrderSender<R>,
+    ) -> Drives<'a, L, R>
+        ensures same_loader { result.loader.ghost_name ≡ loader.entry.ghost_name }
+        ensures loader { result.loader.now ≡ loader.old }
+        ensures inbox { result.inbox ≡ inbox }
+        ensures outbox { result.outbox ≡ outbox }
+        ensures orders { result.orders ≡ orders }
+    {
+        Drives {
+            rt,
+            alloc,
+            loader,
+            inbox,
+            outbox,
+            orders,
+        }
+    }
+}
+
+/// The ends of a session that is over.
 #[derive(Drop)]
-pub struct Driven<'a, L, R: Wait + Drop> {
-    pub loader: &'a mut L,
+pub struct SessionEnds<R: Wait + Drop> {
     pub inbox: Receipt<Event>,
     pub outbox: EndedSender<R>,
     pub orders: OrderSender<R>,
-    pub closed: Result<Closed, SessionFault>,
 }
 
 impl<'a, L: Loader, R: Wait + Drop> Task for Drives<'a, L, R> {
-    type Output = Driven<'a, L, R>;
+    type Output = (&'a mut L, SessionEnds<R>, Result<Closed, SessionFault>);
 
     ghost can_run = { λ _. ⊤ };
 
-    ghost gives = { λ t r. (r.loader.ghost_name ≡ t.loader.ghost_name)
-        × (receipt_home r.inbox ≡ event_home t.inbox) × ((receipt_log r.inbox).takes ≡ true)
-        × (ended_home r.outbox ≡ frame_home t.outbox) × (ended_unused_home r.outbox ≡ unused_home t.outbox)
-        × (push_home r.orders ≡ push_home t.orders)
-        × Drove r.closed (taken_events t.inbox) (received r.inbox) (L.loaded t.loader.now) (L.loaded r.loader.now)
-        (ports (put_frames t.outbox) (pushed_orders t.orders)) (parcels_put r.outbox) (pushed_orders r.orders) };
+    ghost gives = { λ t r. (r.0.ghost_name ≡ t.loader.ghost_name)
+        × (receipt_home r.1.inbox ≡ event_home t.inbox) × ((receipt_log r.1.inbox).takes ≡ true)
+        × (ended_home r.1.outbox ≡ frame_home t.outbox) × (ended_unused_home r.1.outbox ≡ unused_home t.outbox)
+        × (push_home r.1.orders ≡ push_home t.orders)
+        × Drove r.2 (taken_events t.inbox) (received r.1.inbox) (L.loaded t.loader.now) (L.loaded r.0.now)
+        (ports (put_frames t.outbox) (pushed_orders t.orders)) (parcels_put r.1.outbox) (pushed_orders r.1.orders) };
 
-    fn run(self) -> Driven<'a, L, R> {
+    fn run(self) -> (&'a mut L, SessionEnds<R>, Result<Closed, SessionFault>) {
         let Drives {
             rt,
             alloc,
@@ -190,13 +260,12 @@ impl<'a, L: Loader, R: Wait + Drop> Task for Drives<'a, L, R> {
             mut orders,
         } = self;
         let closed = drive(&rt, alloc, &mut inbox, loader, &mut outbox, &mut orders);
-        Driven {
-            loader,
+        let ends = SessionEnds {
             inbox: inbox.leave(),
             outbox: outbox.finish(),
             orders,
-            closed,
-        }
+        };
+        (loader, ends, closed)
     }
 }
 

@@ -1,16 +1,23 @@
 // A client over an input and an output: reader, runner and writer in threads of their own, the session in this one.
 
-ghost use Rattle.std.specs.Prelude.{◌≡◌};
+ghost use Rattle.std.specs.Prelude.{◌≡◌, true};
+ghost use Rattle.dap_session.specs.Sending.{Begins};
+ghost use Rattle.dap_wires.specs.Ends.{receipt_log, receipt_home};
+ghost use Rattle.dap_wires.specs.Inbox.{client_events, client_home, sent_reports, report_home, received};
+ghost use Rattle.dap_wires.specs.Orders.{pushed_orders, push_home, taken_orders, pop_home};
+ghost use Rattle.dap_wires.specs.Outbox.{parcels_put, ended_home, ended_unused_home, parcels_received};
+ghost use Rattle.dap_wires.specs.Senders.{from_client, reports_among};
 ghost use Rattle.adapter.specs.Serving.{streams, outcome_of, IsServed};
 
-use crate::jobs::{Driven, Drives, Reads, Runs, Writes};
+use crate::jobs::{Drives, Reads, Runs, SessionEnds, Writes};
 use crate::tasks::run_beside;
 use dap_session::{Closed, Loader, SessionFault};
 use dap_wires::{
-    Sink, Source, WriteFailed, inbox, orders, outbox, settle_inbox, settle_orders, settle_outbox,
+    ClientSender, OrderReceiver, Parcel, Receipt, ReportSender, Sink, Source, WriteFailed, inbox,
+    orders, outbox, settle_inbox, settle_orders, settle_outbox,
 };
 use dbg_runner::Gate;
-use std::alloc::Global;
+use std::alloc::{AllocError, Global};
 use std::sync::Wait;
 use std::thread::Threads;
 
@@ -28,6 +35,17 @@ pub enum ServeFault {
     ReadFailed,
     Session(SessionFault),
     NoThread,
+}
+
+impl From<AllocError> for ServeFault {
+    ghost use Rattle.dap_history.specs.declared.fault.SessionFault.TheVariants.{NoMemory};
+    ghost use Rattle.adapter.specs.declared.serving.ServeFault.TheVariants.{Session};
+
+    ghost from_gives = { λ _ fault. fault ≡ Session NoMemory };
+
+    fn from(_error: AllocError) -> ServeFault {
+        ServeFault::Session(SessionFault::NoMemory)
+    }
 }
 
 /// Serves an input and an output: a reader, a runner and a writer work in threads of their own, the session in this one, and
@@ -58,62 +76,52 @@ where
         (streams (I.left input.old) (I.failures input.old) (O.written output.old) (O.failures output.old))
         (streams (I.left input.new) (I.failures input.new) (O.written output.new) (O.failures output.new)) }
 {
-    let Ok((client, reports, events)) = inbox(*rt, alloc) else {
-        return Err(ServeFault::Session(SessionFault::NoMemory));
-    };
-    let Ok((frames, parcels)) = outbox(*rt, alloc) else {
-        return Err(ServeFault::Session(SessionFault::NoMemory));
-    };
-    let Ok((pushed, taken)) = orders(*rt, alloc) else {
-        return Err(ServeFault::Session(SessionFault::NoMemory));
-    };
-    let done = run_beside(
-        rt,
-        Writes {
-            rt: *rt,
-            output,
-            outbox: parcels,
-        },
-        Runs {
-            rt: *rt,
-            alloc,
-            orders: taken,
-            reports,
-            gate,
-        },
-        // The reader is started last, since nothing can wake it from a read.
-        Reads {
-            rt: *rt,
-            alloc,
-            input,
-            inbox: client,
-        },
-        Drives {
-            rt: *rt,
-            alloc,
-            loader,
-            inbox: events,
-            outbox: frames,
-            orders: pushed,
-        },
-    );
+    let (client, reports, events) = inbox(*rt, alloc)?;
+    let (frames, parcels) = outbox(*rt, alloc)?;
+    let (pushed, taken) = orders(*rt, alloc)?;
+    let writes = Writes::new(*rt, output, parcels);
+    let runs = Runs::new(*rt, alloc, taken, reports, gate);
+    let reads = Reads::new(*rt, alloc, input, client);
+    let drives = Drives::new(*rt, alloc, loader, events, frames, pushed);
+    // The reader is started last, since nothing can wake it from a read.
+    let done = run_beside(rt, writes, runs, reads, drives);
     let Some(((output, written, wrote), (taken, reports), (input, client, _), driven)) = done else {
         return Err(ServeFault::NoThread);
     };
-    let Driven {
-        loader,
-        inbox,
-        outbox,
-        orders,
-        closed,
-    } = driven;
+    let (loader, ends, closed) = driven;
     take_back(output);
     take_back(input);
     take_back(loader);
+    settle(client, reports, written, taken, ends);
+    outcome(wrote, closed)
+}
+
+/// Compares both sides of each queue, when all threads have ended.
+fn settle<R: Wait + Drop>(
+    client: ClientSender<R>,
+    reports: ReportSender<R>,
+    written: Receipt<Parcel>,
+    taken: OrderReceiver<R>,
+    ends: SessionEnds<R>,
+)
+    requires inbox { (report_home reports ≡ client_home client) × (receipt_home ends.inbox ≡ client_home client) }
+    requires events { (receipt_log ends.inbox).takes ≡ true }
+    requires outbox { (ended_unused_home ends.outbox ≡ ended_home ends.outbox) × (receipt_home written ≡ ended_home ends.outbox) }
+    requires parcels { (receipt_log written).takes ≡ true }
+    requires orders { pop_home taken ≡ push_home ends.orders }
+    ensures client { Begins (from_client (received ends.inbox)) (client_events client) }
+    ensures reports { Begins (reports_among (received ends.inbox)) (sent_reports reports) }
+    ensures frames { Begins (parcels_received written) (parcels_put ends.outbox) }
+    ensures orders { Begins (taken_orders taken) (pushed_orders ends.orders).orders }
+{
+    let SessionEnds {
+        inbox,
+        outbox,
+        orders,
+    } = ends;
     settle_inbox(client, reports, inbox);
     settle_outbox(outbox, written);
     settle_orders(orders, taken);
-    outcome(wrote, closed)
 }
 
 /// How serving went, by how the writer and the session ended.
