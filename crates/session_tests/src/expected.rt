@@ -1,5 +1,6 @@
 //! The contents that the short lines of a transcript stand for.
 
+use crate::text::in_two;
 use std::alloc::{AllocError, Global};
 use std::process::Abort;
 
@@ -19,11 +20,6 @@ fn written(alloc: Global, seq: &str, message: &str) -> Result<String, AllocError
         "no" => refusal(alloc, seq, rest),
         event => of_event(alloc, seq, event, rest),
     }
-}
-
-/// What stands before a mark and after it; all before it where there is none.
-fn in_two<'a>(text: &'a str, mark: &str) -> (&'a str, &'a str) {
-    text.split_once(mark).unwrap_or((text, ""))
 }
 
 fn success(alloc: Global, seq: &str, answer: &str) -> Result<String, AllocError> {

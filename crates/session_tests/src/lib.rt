@@ -1,8 +1,8 @@
 //! Tests of whole sessions, from the bytes that a client sends to the bytes and orders that leave, over ports in memory. It is
 //! never installed.
 //!
-//! `rows` has the sessions, as transcripts. `transcript` says how to read one, `expected` which contents its lines stand for,
-//! `ports` what a session runs over, `runner` and `reports` where the reports of the program come from.
+//! `rows` has the sessions, as transcripts. `transcript` says how to read one, `verbs` which lines stand for others that many
+//! sessions share, `expected` which contents its lines stand for, `ports` what a session runs over, `runner` and `reports` where the reports of the program come from.
 #![tactic(auto)]
 
 #[cfg(test)]
@@ -19,3 +19,5 @@ mod runner;
 mod text;
 #[cfg(test)]
 mod transcript;
+#[cfg(test)]
+mod verbs;

@@ -44,6 +44,11 @@ pub fn expanded(rt: &impl Abort, alloc: Global, text: &str) -> String {
     whole
 }
 
+/// What stands before a mark and after it; all before it where there is none.
+pub fn in_two<'a>(text: &'a str, mark: &str) -> (&'a str, &'a str) {
+    text.split_once(mark).unwrap_or((text, ""))
+}
+
 /// The bytes of a text, where `\r` and `\n` stand for CR and LF, `\f` for a byte that no UTF-8 has, and `\\` for `\`.
 pub fn unescaped(rt: &impl Abort, alloc: Global, text: &str) -> Vec<u8> {
     let mut bytes = Vec::new(alloc);

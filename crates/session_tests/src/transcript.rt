@@ -1,7 +1,7 @@
 //! Transcripts of sessions.
 //!
 //! `# NAME` begins a session, and each line `| ..` after it is one of the program's text. Then come events, and after each what comes
-//! of it; a line `launched` stands for the first two requests and their answers. The events are:
+//! of it. Some lines stand for others (`verbs`). The events are:
 //!
 //! - `> COMMAND ARGUMENTS`, a request of the client, numbered from 1, or `+ ..`, one in the same piece as the line before;
 //! - `>> CONTENT`, a frame of any content, and `>>> BYTES` or `+> BYTES`, bytes that needn't be a frame (`text`);
@@ -15,18 +15,12 @@
 use crate::expected::content;
 use crate::ports::{Client, Files, Noted, Pushed, Sent};
 use crate::text::{expanded, framed};
+use crate::verbs::spelled_out;
 use dap_session::{Closed, SessionFault, drive};
 use std::alloc::{AllocError, Global};
 use std::cell::Cell;
 use std::process::Abort;
 use std::sync::Wait;
-
-const LAUNCHED: &str = r#"> initialize
-1: ok initialize/1
-> launch {"program":"p.pl0"}
-2: ok launch/2
-3: initialized
-"#;
 
 /// The text of the program.
 fn program_of(rt: &impl Abort, alloc: Global, session: &str) -> String {
@@ -50,9 +44,7 @@ fn program_of(rt: &impl Abort, alloc: Global, session: &str) -> String {
 fn transcript_of(rt: &impl Abort, alloc: Global, session: &str) -> String {
     let mut transcript = String::new(alloc);
     for line in session.lines() {
-        if line == "launched" {
-            transcript.push_str(LAUNCHED).expect(rt, "memory");
-        } else if !line.starts_with('|') {
+        if !line.starts_with('|') {
             transcript.push_str(line).expect(rt, "memory");
             transcript.push_str("\n").expect(rt, "memory");
         }
@@ -171,9 +163,10 @@ fn assert_line(
 /// no more.
 pub fn assert_session<R: Abort + Wait>(rt: &R, alloc: Global, session: &str, piece: usize) {
     let (name, rest) = session.split_once('\n').expect(rt, "a transcript");
-    let program = program_of(rt, alloc, rest);
+    let session = spelled_out(rt, alloc, rest);
+    let program = program_of(rt, alloc, session.as_str());
     let program = expanded(rt, alloc, program.as_str());
-    let transcript = transcript_of(rt, alloc, rest);
+    let transcript = transcript_of(rt, alloc, session.as_str());
     let transcript = expanded(rt, alloc, transcript.as_str());
     let events = events_of(rt, alloc, transcript.as_str());
     let came = run(rt, alloc, program.as_str(), events.as_slice(), piece);

@@ -17,9 +17,7 @@ launched
 7: ok setBreakpoints/6 3 noStep
 > setBreakpoints {"source":{"path":"p.pl0"}}
 8: ok setBreakpoints/7
-end
-! Quit
-= InputEnded
+ended
 
 # lines from 0 are answered
 | var x;
@@ -33,9 +31,7 @@ end
 3: initialized
 > setBreakpoints {"source":{"path":"p.pl0"},"breakpoints":[{"line":1},{"line":3},{"line":4},{"line":2147483647}]}
 4: ok setBreakpoints/3 2 3 noStep noStep
-end
-! Quit
-= InputEnded
+ended
 
 # a condition and a hit condition
 | var x;
@@ -44,22 +40,16 @@ end
 launched
 > setBreakpoints {"source":{"path":"p.pl0"},"breakpoints":[{"line":3,"condition":"x > 2","hitCondition":"%2"}]}
 4: ok setBreakpoints/3 3
-> configurationDone
-! Go 1
-5: ok configurationDone/4
+started 5/4
 S 9
 6: stopped breakpoint
 > variables {"variablesReference":1}
 7: ok variables/5 x 4
-> continue {"threadId":1}
-! Go 2
-8: ok continue/6
+continue 2 8/6
 S 14
 9: exited 0
 10: terminated
-end
-! Quit
-= InputEnded
+ended
 
 # a condition that faults is met
 | var x;
@@ -68,39 +58,27 @@ end
 launched
 > setBreakpoints {"source":{"path":"p.pl0"},"breakpoints":[{"line":3,"condition":"1 / 0 = 1","hitCondition":"3"}]}
 4: ok setBreakpoints/3 3
-> configurationDone
-! Go 1
-5: ok configurationDone/4
+started 5/4
 S 5
 6: stopped breakpoint
 > variables {"variablesReference":1}
 7: ok variables/5 x 2
-> continue {"threadId":1}
-! Go 2
-8: ok continue/6
+continue 2 8/6
 S 7
 9: stopped breakpoint
-> continue {"threadId":1}
-! Go 3
-10: ok continue/7
+continue 3 10/7
 S 9
 11: stopped breakpoint
-> continue {"threadId":1}
-! Go 4
-12: ok continue/8
+continue 4 12/8
 S 11
 13: stopped breakpoint
 > variables {"variablesReference":1}
 14: ok variables/9 x 5
-> continue {"threadId":1}
-! Go 5
-15: ok continue/10
+continue 5 15/10
 S 14
 16: exited 0
 17: terminated
-end
-! Quit
-= InputEnded
+ended
 
 # conditions that don't read
 | var x;
@@ -109,9 +87,7 @@ end
 launched
 > setBreakpoints {"source":{"path":"p.pl0"},"breakpoints":[{"line":3,"condition":"x >"},{"line":3,"hitCondition":"03"},{"line":4,"condition":"x >","hitCondition":"03"},{"line":3,"condition":"x >","hitCondition":"03"},{"line":3,"condition":"","hitCondition":""},{"line":3,"condition":" "}]}
 4: ok setBreakpoints/3 badCondition badHitCondition noStep badCondition 3 badCondition
-end
-! Quit
-= InputEnded
+ended
 
 # a new plan begins its counts anew
 | var x;
@@ -120,25 +96,19 @@ end
 launched
 > setBreakpoints {"source":{"path":"p.pl0"},"breakpoints":[{"line":3,"hitCondition":"2"}]}
 4: ok setBreakpoints/3 3
-> configurationDone
-! Go 1
-5: ok configurationDone/4
+started 5/4
 S 3
 6: stopped breakpoint
 > setBreakpoints {"source":{"path":"p.pl0"},"breakpoints":[{"line":3,"hitCondition":"2"}]}
 7: ok setBreakpoints/5 3
 > setBreakpoints {"source":{"path":"q.pl0"},"breakpoints":[]}
 8: ok setBreakpoints/6
-> continue {"threadId":1}
-! Go 2
-9: ok continue/7
+continue 2 9/7
 S 7
 10: stopped breakpoint
 > setBreakpoints {"source":{"path":"p.pl0"}}
 11: ok setBreakpoints/8
-> continue {"threadId":1}
-! Go 3
-12: ok continue/9
+continue 3 12/9
 S 14
 13: exited 0
 14: terminated
@@ -146,9 +116,7 @@ S 14
 15: ok setBreakpoints/10 3 noStep badCondition
 > setBreakpoints {"source":{"path":"q.pl0"},"breakpoints":[{"line":3}]}
 16: ok setBreakpoints/11 otherSource
-end
-! Quit
-= InputEnded
+ended
 
 # 256 breakpoints at one line
 | while 1 = 1 do.
@@ -158,14 +126,10 @@ launched
 > configurationDone
 5: ok configurationDone/4
 6: stopped breakpoint
-> continue {"threadId":1}
-! Go 1
-7: ok continue/5
+continue 1 7/5
 S 1
 8: stopped breakpoint
-end
-! Quit
-= InputEnded
+ended
 
 # 257 breakpoints are no arguments, and the plan before them stays
 | while 1 = 1 do.
@@ -174,41 +138,27 @@ launched
 4: ok setBreakpoints/3 1
 > setBreakpoints {"source":{"path":"p.pl0"},"breakpoints":[~256 {"line":1},~{"line":1}]}
 5: no setBreakpoints/4 badArguments
-> configurationDone
-! Go 1
-6: ok configurationDone/5
+started 6/5
 S 2
 7: stopped breakpoint
-end
-! Quit
-= InputEnded
+ended
 
 # hits that a number divides
 | while 1 = 1 do.
 launched
 > setBreakpoints {"source":{"path":"p.pl0"},"breakpoints":[{"line":1,"hitCondition":"%2"},{"line":1,"hitCondition":"%3"}]}
 4: ok setBreakpoints/3 1 1
-> configurationDone
-! Go 1
-5: ok configurationDone/4
+started 5/4
 S 1
 6: stopped breakpoint
-> continue {"threadId":1}
-! Go 2
-7: ok continue/5
+continue 2 7/5
 S 2
 8: stopped breakpoint
-> continue {"threadId":1}
-! Go 3
-9: ok continue/6
+continue 3 9/6
 S 3
 10: stopped breakpoint
-> continue {"threadId":1}
-! Go 4
-11: ok continue/7
+continue 4 11/7
 S 5
 12: stopped breakpoint
-end
-! Quit
-= InputEnded
+ended
 "#;

@@ -8,29 +8,21 @@ pub const SESSIONS: &str = r#"
 launched
 > setBreakpoints {"source":{"path":"p.pl0"},"breakpoints":[{"line":3}]}
 4: ok setBreakpoints/3 3
-> configurationDone
-! Go 1
-5: ok configurationDone/4
+started 5/4
 > pause {"threadId":1}
 ! Hold 1
 6: ok pause/5
 S 1
 7: stopped breakpoint
-> continue {"threadId":1}
-! Go 2
-8: ok continue/6
+continue 2 8/6
 S 3
 9: stopped breakpoint
-end
-! Quit
-= InputEnded
+ended
 
 # a pause
 | while 1 = 1 do.
 launched
-> configurationDone
-! Go 1
-4: ok configurationDone/3
+started 4/3
 > pause {"threadId":1}
 ! Hold 1
 5: ok pause/4
@@ -45,25 +37,19 @@ S 256
 9: ok pause/7
 > pause {"threadId":2}
 10: no pause/8 unknownThread
-> continue {"threadId":1}
-! Go 2
-11: ok continue/9
+continue 2 11/9
 S 512
 > pause {"threadId":1}
 ! Hold 2
 12: ok pause/10
 S 512
 13: stopped pause
-end
-! Quit
-= InputEnded
+ended
 
 # breakpoints while the program runs
 | while 1 = 1 do.
 launched
-> configurationDone
-! Go 1
-4: ok configurationDone/3
+started 4/3
 > setBreakpoints {"source":{"path":"p.pl0"},"breakpoints":[{"line":1}]}
 ! Hold 1
 5: ok setBreakpoints/4 1
@@ -72,16 +58,12 @@ S 256
 ! Go 2
 S 257
 6: stopped breakpoint
-end
-! Quit
-= InputEnded
+ended
 
 # the later of two plans is put in, and one order is pushed
 | while 1 = 1 do.
 launched
-> configurationDone
-! Go 1
-4: ok configurationDone/3
+started 4/3
 > setBreakpoints {"source":{"path":"p.pl0"},"breakpoints":[{"line":1}]}
 ! Hold 1
 5: ok setBreakpoints/4 1
@@ -94,30 +76,22 @@ S 256
 ! Go 2
 S 260
 8: stopped breakpoint
-end
-! Quit
-= InputEnded
+ended
 
 # breakpoints of another source push no order
 | while 1 = 1 do.
 launched
-> configurationDone
-! Go 1
-4: ok configurationDone/3
+started 4/3
 > setBreakpoints {"source":{"path":"q.pl0"},"breakpoints":[{"line":1}]}
 5: ok setBreakpoints/4 otherSource
 S 256
 S 512
-end
-! Quit
-= InputEnded
+ended
 
 # a plan and a pause
 | while 1 = 1 do.
 launched
-> configurationDone
-! Go 1
-4: ok configurationDone/3
+started 4/3
 > setBreakpoints {"source":{"path":"p.pl0"},"breakpoints":[{"line":1}]}
 ! Hold 1
 5: ok setBreakpoints/4 1
@@ -126,14 +100,10 @@ launched
 S 256
 S 256
 7: stopped pause
-> continue {"threadId":1}
-! Go 2
-8: ok continue/6
+continue 2 8/6
 S 257
 9: stopped breakpoint
-end
-! Quit
-= InputEnded
+ended
 
 # a plan that waits is put in at a stop, and counts from there
 | var x;
@@ -142,36 +112,21 @@ end
 launched
 > setBreakpoints {"source":{"path":"p.pl0"},"breakpoints":[{"line":3}]}
 4: ok setBreakpoints/3 3
-> configurationDone
-! Go 1
-5: ok configurationDone/4
+started 5/4
 > setBreakpoints {"source":{"path":"p.pl0"},"breakpoints":[{"line":3,"hitCondition":"2"}]}
 ! Hold 1
 6: ok setBreakpoints/5 3
 S 1
 7: stopped breakpoint
-> continue {"threadId":1}
-! Go 2
-8: ok continue/6
+continue 2 8/6
 S 5
 9: stopped breakpoint
-end
-! Quit
-= InputEnded
+ended
 
 # a run that is held goes on in its mode
 | procedure p; while 1 = 1 do; begin call p; ! 1 end.
-> initialize
-1: ok initialize/1
-> launch {"program":"p.pl0","stopOnEntry":true}
-2: ok launch/2
-3: initialized
-> configurationDone
-4: ok configurationDone/3
-5: stopped entry
-> next {"threadId":1}
-! Go 1
-6: ok next/4
+entered
+next 1 6/4
 S 256
 > setBreakpoints {"source":{"path":"p.pl0"}}
 ! Hold 1
@@ -184,9 +139,7 @@ S 512
 8: ok pause/6
 S 512
 9: stopped pause
-end
-! Quit
-= InputEnded
+ended
 
 # the end of the program goes before a plan and a pause
 | .
@@ -202,16 +155,12 @@ launched
 S 1
 7: exited 0
 8: terminated
-end
-! Quit
-= InputEnded
+ended
 
 # a fault goes before a pause
 | ! 1 / 0.
 launched
-> configurationDone
-! Go 1
-4: ok configurationDone/3
+started 4/3
 > pause {"threadId":1}
 ! Hold 1
 5: ok pause/4
@@ -225,9 +174,7 @@ S 0
 9: ok stepOut/7
 10: exited 1
 11: terminated
-end
-! Quit
-= InputEnded
+ended
 
 # requests after a launch, in its piece
 | .

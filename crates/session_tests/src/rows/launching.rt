@@ -3,10 +3,7 @@
 pub const SESSIONS: &str = r#"
 # an unknown name
 | x := 1.
-> initialize
-1: ok initialize/1
-> launch {"program":"p.pl0"}
-2: no launch/2 syntax 10 1 1
+refused syntax 10 1 1
 > configurationDone
 3: no configurationDone/3 wrongPhase
 > launch {"program":"dot.pl0"}
@@ -14,65 +11,33 @@ pub const SESSIONS: &str = r#"
 5: initialized
 > launch {"program":"dot.pl0"}
 6: no launch/5 wrongPhase
-> configurationDone
-! Go 1
-7: ok configurationDone/6
-end
-! Quit
-= InputEnded
+started 7/6
+ended
 
 # no point at the end
 | var x; x := 1
-> initialize
-1: ok initialize/1
-> launch {"program":"p.pl0"}
-2: no launch/2 syntax 6 1 14
-> launch {"program":"dot.pl0"}
-3: ok launch/3
-4: initialized
-end
-! Quit
-= InputEnded
+refused syntax 6 1 14
+launched again
+ended
 
 # no point at the end of a line
 | var x; x := 1
 | 
-> initialize
-1: ok initialize/1
-> launch {"program":"p.pl0"}
-2: no launch/2 syntax 6 2 1
-> launch {"program":"dot.pl0"}
-3: ok launch/3
-4: initialized
-end
-! Quit
-= InputEnded
+refused syntax 6 2 1
+launched again
+ended
 
 # a use before the declaration
 | procedure p; call q; procedure q; ; call p.
-> initialize
-1: ok initialize/1
-> launch {"program":"p.pl0"}
-2: no launch/2 syntax 11 1 19
-> launch {"program":"dot.pl0"}
-3: ok launch/3
-4: initialized
-end
-! Quit
-= InputEnded
+refused syntax 11 1 19
+launched again
+ended
 
 # a call of a variable
 | var x; call x.
-> initialize
-1: ok initialize/1
-> launch {"program":"p.pl0"}
-2: no launch/2 syntax 12 1 13
-> launch {"program":"dot.pl0"}
-3: ok launch/3
-4: initialized
-end
-! Quit
-= InputEnded
+refused syntax 12 1 13
+launched again
+ended
 
 # a name that is declared twice
 | const a = 1, a = 2; .
@@ -80,37 +45,19 @@ end
 1: ok initialize/1
 > launch {"program":"p.pl0"}
 2: no launch/2 syntax 9 1 14
-> launch {"program":"dot.pl0"}
-3: ok launch/3
-4: initialized
-end
-! Quit
-= InputEnded
+launched again
+ended
 
 # an empty text
-> initialize
-1: ok initialize/1
-> launch {"program":"p.pl0"}
-2: no launch/2 syntax 6 1 1
-> launch {"program":"dot.pl0"}
-3: ok launch/3
-4: initialized
-end
-! Quit
-= InputEnded
+refused syntax 6 1 1
+launched again
+ended
 
 # a text too long
 | ~65536 ;~.
-> initialize
-1: ok initialize/1
-> launch {"program":"p.pl0"}
-2: no launch/2 syntax 1 1 1
-> launch {"program":"dot.pl0"}
-3: ok launch/3
-4: initialized
-end
-! Quit
-= InputEnded
+refused syntax 1 1 1
+launched again
+ended
 
 # no file
 | .
@@ -121,7 +68,5 @@ end
 > launch {"program":"p.pl0"}
 3: ok launch/3
 4: initialized
-end
-! Quit
-= InputEnded
+ended
 "#;

@@ -4,22 +4,16 @@ pub const SESSIONS: &str = r#"
 # the smallest program
 | .
 launched
-> configurationDone
-! Go 1
-4: ok configurationDone/3
+started 4/3
 S 1
 5: exited 0
 6: terminated
-end
-! Quit
-= InputEnded
+ended
 
 # a sum too large
 | var x; begin x := 9223372036854775807; x := x + 1 end.
 launched
-> configurationDone
-! Go 1
-4: ok configurationDone/3
+started 4/3
 S 1
 5: stopped exception overflow
 > stackTrace {"threadId":1}
@@ -30,9 +24,7 @@ S 1
 8: ok continue/6
 9: exited 1
 10: terminated
-end
-! Quit
-= InputEnded
+ended
 
 # lines and columns from 0
 | var x; begin x := 9223372036854775807; x := x + 1 end.
@@ -41,23 +33,17 @@ end
 > launch {"program":"p.pl0"}
 2: ok launch/2
 3: initialized
-> configurationDone
-! Go 1
-4: ok configurationDone/3
+started 4/3
 S 1
 5: stopped exception overflow
 > stackTrace {"threadId":1}
 6: ok stackTrace/4 1 frames: main 0:39 id 1
-end
-! Quit
-= InputEnded
+ended
 
 # a quotient too large
 | var x; begin x := - 9223372036854775807 - 1; ! x; x := x / (-1) end.
 launched
-> configurationDone
-! Go 1
-4: ok configurationDone/3
+started 4/3
 S 2
 5: output -9223372036854775808
 6: stopped exception overflow
@@ -69,31 +55,14 @@ S 2
 10: terminated
 > variables {"variablesReference":1}
 11: no variables/6 wrongPhase
-end
-! Quit
-= InputEnded
+ended
 
 # two procedures, one in the other
-| var n;
-| procedure p;
-| var k;
-| procedure q;
-| k := k + n;
-| begin
-| k := n;
-| n := n - 1;
-| if n > 0 then call p;
-| call q;
-| ! k
-| end;
-| begin n := 2; call p end.
-| 
+two procedures
 launched
 > setBreakpoints {"source":{"path":"p.pl0"},"breakpoints":[{"line":5}]}
 4: ok setBreakpoints/3 5
-> configurationDone
-! Go 1
-5: ok configurationDone/4
+started 5/4
 S 10
 6: {"body":{"allThreadsStopped":true,"reason":"breakpoint","threadId":1},"event":"stopped","seq":6,"type":"event"}
 > stackTrace {"threadId":1}
@@ -116,17 +85,13 @@ S 10
 15: no evaluate/13 badExpression
 > evaluate {"expression":"1 / n"}
 16: no evaluate/14 divideByZero
-> continue {"threadId":1}
-! Go 2
-17: ok continue/15
+continue 2 17/15
 S 15
 18: output 1
 19: stopped breakpoint
 > stackTrace {"threadId":1}
 20: ok stackTrace/16 3 frames: q 5:1 id 3, p 10:1 id 2, main 13:15 id 1
-> continue {"threadId":1}
-! Go 3
-21: ok continue/17
+continue 3 21/17
 S 20
 22: output 2
 23: exited 0
@@ -137,26 +102,11 @@ S 20
 = Disconnected
 
 # questions at a stop
-| var n;
-| procedure p;
-| var k;
-| procedure q;
-| k := k + n;
-| begin
-| k := n;
-| n := n - 1;
-| if n > 0 then call p;
-| call q;
-| ! k
-| end;
-| begin n := 2; call p end.
-| 
+two procedures
 launched
 > setBreakpoints {"source":{"path":"p.pl0"},"breakpoints":[{"line":5}]}
 4: ok setBreakpoints/3 5
-> configurationDone
-! Go 1
-5: ok configurationDone/4
+started 5/4
 S 10
 6: stopped breakpoint
 > stackTrace {"threadId":1,"startFrame":1,"levels":2}
@@ -191,16 +141,12 @@ S 10
 21: ok variables/19
 > threads
 22: ok threads/20
-end
-! Quit
-= InputEnded
+ended
 
 # calls without end
 | procedure p; call p; call p.
 launched
-> configurationDone
-! Go 1
-4: ok configurationDone/3
+started 4/3
 S 256
 S 512
 S 768
@@ -208,30 +154,22 @@ S 1023
 5: stopped exception depth
 > stackTrace {"threadId":1,"startFrame":1023,"levels":1}
 6: ok stackTrace/4 1024 frames: main 1:22 id 1
-end
-! Quit
-= InputEnded
+ended
 
 # 1,024 frames
 | var n; procedure p; begin n := n + 1; if n < 1023 then call p end; call p.
 launched
-> configurationDone
-! Go 1
-4: ok configurationDone/3
+started 4/3
 ~15 S
 ~S 4093
 5: exited 0
 6: terminated
-end
-! Quit
-= InputEnded
+ended
 
 # 1,025 frames
 | var n; procedure p; begin n := n + 1; if n < 1024 then call p end; call p.
 launched
-> configurationDone
-! Go 1
-4: ok configurationDone/3
+started 4/3
 ~11 S
 ~S 3069
 5: stopped exception depth
@@ -241,17 +179,11 @@ launched
 7: ok variables/5
 > variables {"variablesReference":1025}
 8: no variables/6 unknownReference
-end
-! Quit
-= InputEnded
+ended
 
 # the input ends in a run
 | .
 launched
-> configurationDone
-! Go 1
-4: ok configurationDone/3
-end
-! Quit
-= InputEnded
+started 4/3
+ended
 "#;

@@ -11,9 +11,7 @@ R run 1, Continue, from 0, lines -
 2: ok launch/2
 3: initialized
 R run 1, Continue, from 0, lines -
-> configurationDone
-! Go 1
-4: ok configurationDone/3
+started 4/3
 S 1
 5: output 7
 6: stopped exception divideByZero
@@ -28,26 +26,15 @@ R run 2, Continue, from 1, lines -
 10: terminated
 R run 1, Continue, from 0, lines -
 R run 1, Continue, from 1, lines -
-end
-! Quit
-= InputEnded
+ended
 
 # reports at a stop
 | begin ! 7; ! 8 end.
-> initialize
-1: ok initialize/1
-> launch {"program":"p.pl0","stopOnEntry":true}
-2: ok launch/2
-3: initialized
-> configurationDone
-4: ok configurationDone/3
-5: stopped entry
+entered
 R run 0, Entry, from 0, lines -
 R run 0, Continue, from 0, lines -
 R run 1, Continue, from 0, lines -
-> next {"threadId":1}
-! Go 1
-6: ok next/4
+next 1 6/4
 R run 1, In, from 0, lines -
 S 1
 7: output 7
@@ -55,25 +42,19 @@ S 1
 R run 1, Over, from 0, lines -
 R run 1, Over, from 1, lines -
 R run 2, Over, from 1, lines -
-> stepIn {"threadId":1}
-! Go 2
-9: ok stepIn/5
+stepIn 2 9/5
 R run 2, Over, from 1, lines -
 R run 1, In, from 1, lines -
 R run 2, In, from 0, lines -
 S 2
 10: output 8
 11: stopped step
-end
-! Quit
-= InputEnded
+ended
 
 # reports of another run, text, plan, mode and beginning
 | begin ! 7; ! 1 / 0 end.
 launched
-> configurationDone
-! Go 1
-4: ok configurationDone/3
+started 4/3
 R run 0, Continue, from 0, lines -
 R run 2, Continue, from 0, lines -
 R run 1, Continue, from 0, lines -, of begin ! 7; ! 2 / 0 end.
@@ -86,16 +67,12 @@ R run 1, Continue, from 1, lines -
 S 1
 5: output 7
 6: stopped exception divideByZero
-end
-! Quit
-= InputEnded
+ended
 
 # a report that is equal to the next one is accepted for it
 | begin ! 7; ! 1 / 0 end.
 launched
-> configurationDone
-! Go 1
-4: ok configurationDone/3
+started 4/3
 R run 1, Continue, from 0, lines -
 5: output 7
 6: stopped exception divideByZero
@@ -104,16 +81,12 @@ S 1
 7: ok continue/4
 8: exited 1
 9: terminated
-end
-! Quit
-= InputEnded
+ended
 
 # a second time, while the run goes on
 | begin ! 7; while 1 = 1 do end.
 launched
-> configurationDone
-! Go 1
-4: ok configurationDone/3
+started 4/3
 S 256
 5: output 7
 R run 1, Continue, from 0, lines -
@@ -125,49 +98,32 @@ R run 1, Continue, from 0, lines -
 6: ok pause/4
 S 512
 7: stopped pause
-end
-! Quit
-= InputEnded
+ended
 
 # a second time, after the end
 | ! 7.
 launched
-> configurationDone
-! Go 1
-4: ok configurationDone/3
+started 4/3
 S 2
 5: output 7
 6: exited 0
 7: terminated
 R run 1, Continue, from 0, lines -
-end
-! Quit
-= InputEnded
+ended
 
 # of the same breakpoints, counted from another position
 | var x;
 | while x < 6 do
 | x := x + 1.
-> initialize
-1: ok initialize/1
-> launch {"program":"p.pl0","stopOnEntry":true}
-2: ok launch/2
-3: initialized
-> configurationDone
-4: ok configurationDone/3
-5: stopped entry
+entered
 > setBreakpoints {"source":{"path":"p.pl0"},"breakpoints":[{"line":3}]}
 6: ok setBreakpoints/4 3
-> continue {"threadId":1}
-! Go 1
-7: ok continue/5
+continue 1 7/5
 R run 1, Continue, from 0, lines 3
 R run 1, Continue, from 0, lines -
 S 1
 8: stopped breakpoint
-end
-! Quit
-= InputEnded
+ended
 
 # of other breakpoints
 | var x;
@@ -176,33 +132,25 @@ end
 launched
 > setBreakpoints {"source":{"path":"p.pl0"},"breakpoints":[{"line":3}]}
 4: ok setBreakpoints/3 3
-> configurationDone
-! Go 1
-5: ok configurationDone/4
+started 5/4
 R run 1, Continue, from 0, lines -
 R run 1, Continue, from 0, lines 2
 R run 1, Continue, from 0, lines 3 3
 R run 1, Continue, from 0, lines 3 2
 S 1
 6: stopped breakpoint
-> continue {"threadId":1}
-! Go 2
-7: ok continue/5
+continue 2 7/5
 R run 1, Continue, from 1, lines 3
 R run 2, Continue, from 0, lines 3
 R run 2, Continue, from 1, lines 3
 8: stopped breakpoint
 S 3
-end
-! Quit
-= InputEnded
+ended
 
 # of the run before a hold
 | while 1 = 1 do.
 launched
-> configurationDone
-! Go 1
-4: ok configurationDone/3
+started 4/3
 S 256
 > setBreakpoints {"source":{"path":"p.pl0"}}
 ! Hold 1
@@ -213,7 +161,5 @@ R run 1, Continue, from 256, lines -
 R run 2, Continue, from 256, lines -
 R run 2, Continue, from 0, lines -
 S 512
-end
-! Quit
-= InputEnded
+ended
 "#;

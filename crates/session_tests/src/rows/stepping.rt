@@ -2,20 +2,7 @@
 
 pub const SESSIONS: &str = r#"
 # over calls, and to a breakpoint in one
-| var n;
-| procedure p;
-| var k;
-| procedure q;
-| k := k + n;
-| begin
-| k := n;
-| n := n - 1;
-| if n > 0 then call p;
-| call q;
-| ! k
-| end;
-| begin n := 2; call p end.
-| 
+two procedures
 > initialize
 1: ok initialize/1
 > launch {"program":"p.pl0","stopOnEntry":true}
@@ -28,164 +15,74 @@ pub const SESSIONS: &str = r#"
 6: stopped entry
 > stackTrace {"threadId":1}
 7: ok stackTrace/5 1 frames: main 13:7 id 1
-> next {"threadId":1}
-! Go 1
-8: ok next/6
+next 1 8/6
 S 1
 9: stopped step
 > stackTrace {"threadId":1}
 10: ok stackTrace/7 1 frames: main 13:15 id 1
-> next {"threadId":1}
-! Go 2
-11: ok next/8
+next 2 11/8
 S 2
 12: stopped breakpoint
 > stackTrace {"threadId":1}
 13: ok stackTrace/9 2 frames: p 7:1 id 2, main 13:15 id 1
-end
-! Quit
-= InputEnded
+ended
 
 # over calls
-| var n;
-| procedure p;
-| var k;
-| procedure q;
-| k := k + n;
-| begin
-| k := n;
-| n := n - 1;
-| if n > 0 then call p;
-| call q;
-| ! k
-| end;
-| begin n := 2; call p end.
-| 
-> initialize
-1: ok initialize/1
-> launch {"program":"p.pl0","stopOnEntry":true}
-2: ok launch/2
-3: initialized
-> configurationDone
-4: ok configurationDone/3
-5: stopped entry
-> next {"threadId":1}
-! Go 1
-6: ok next/4
+two procedures
+entered
+next 1 6/4
 S 1
 7: stopped step
-> next {"threadId":1}
-! Go 2
-8: ok next/5
+next 2 8/5
 S 19
 9: output 1
 10: output 2
 11: stopped step
 > stackTrace {"threadId":1}
 12: ok stackTrace/6 1 frames: main 13:25 id 1
-> stepIn {"threadId":1}
-! Go 3
-13: ok stepIn/7
+stepIn 3 13/7
 S 20
 14: exited 0
 15: terminated
-end
-! Quit
-= InputEnded
+ended
 
 # into a call and out of it
-| var n;
-| procedure p;
-| var k;
-| procedure q;
-| k := k + n;
-| begin
-| k := n;
-| n := n - 1;
-| if n > 0 then call p;
-| call q;
-| ! k
-| end;
-| begin n := 2; call p end.
-| 
-> initialize
-1: ok initialize/1
-> launch {"program":"p.pl0","stopOnEntry":true}
-2: ok launch/2
-3: initialized
-> configurationDone
-4: ok configurationDone/3
-5: stopped entry
-> stepIn {"threadId":1}
-! Go 1
-6: ok stepIn/4
+two procedures
+entered
+stepIn 1 6/4
 S 1
 7: stopped step
-> stepIn {"threadId":1}
-! Go 2
-8: ok stepIn/5
+stepIn 2 8/5
 S 2
 9: stopped step
 > stackTrace {"threadId":1}
 10: ok stackTrace/6 2 frames: p 7:1 id 2, main 13:15 id 1
-> stepOut {"threadId":1}
-! Go 3
-11: ok stepOut/7
+stepOut 3 11/7
 S 19
 12: output 1
 13: output 2
 14: stopped step
-end
-! Quit
-= InputEnded
+ended
 
 # out of a procedure
-| var n;
-| procedure p;
-| var k;
-| procedure q;
-| k := k + n;
-| begin
-| k := n;
-| n := n - 1;
-| if n > 0 then call p;
-| call q;
-| ! k
-| end;
-| begin n := 2; call p end.
-| 
+two procedures
 launched
 > setBreakpoints {"source":{"path":"p.pl0"},"breakpoints":[{"line":5}]}
 4: ok setBreakpoints/3 5
-> configurationDone
-! Go 1
-5: ok configurationDone/4
+started 5/4
 S 10
 6: stopped breakpoint
-> stepOut {"threadId":1}
-! Go 2
-7: ok stepOut/5
+stepOut 2 7/5
 S 12
 8: stopped step
 > stackTrace {"threadId":1}
 9: ok stackTrace/6 3 frames: p 11:1 id 3, p 9:15 id 2, main 13:15 id 1
-end
-! Quit
-= InputEnded
+ended
 
 # out of the main block to the end
 | begin ! 1; ! 2 end.
-> initialize
-1: ok initialize/1
-> launch {"program":"p.pl0","stopOnEntry":true}
-2: ok launch/2
-3: initialized
-> configurationDone
-4: ok configurationDone/3
-5: stopped entry
-> stepOut {"threadId":1}
-! Go 1
-6: ok stepOut/4
+entered
+stepOut 1 6/4
 > stackTrace {"threadId":1}
 7: no stackTrace/5 notStopped
 S 3
@@ -193,7 +90,5 @@ S 3
 9: output 2
 10: exited 0
 11: terminated
-end
-! Quit
-= InputEnded
+ended
 "#;

@@ -12,15 +12,11 @@ pub const SESSIONS: &str = r#"
 4: no continue/4 wrongPhase
 > initialize
 5: no initialize/5 wrongPhase
-end
-! Quit
-= InputEnded
+ended
 
 # line feeds alone end no line
 >>> Content-Length: 49\n\n{"seq":1,"type":"request","command":"initialize"}
-end
-! Quit
-= InputEnded
+ended
 
 # line feeds alone end no line, and the line's end comes later
 >>> Content-Length: 49\n\n{"seq":1,"type":"request","command":"initialize"}\r\n\r\n
@@ -46,15 +42,11 @@ end
 # 127 levels
 >> {"seq":1,"type":"request","command":"initialize","more":~126 [~~126 ]~}
 1: ok initialize/1
-end
-! Quit
-= InputEnded
+ended
 
 # 128 levels
 >> {"seq":1,"type":"request","command":"initialize","more":~127 [~~127 ]~}
-end
-! Quit
-= InputEnded
+ended
 
 # seqs
 >> {"seq":0,"type":"request","command":"initialize"}
@@ -63,18 +55,14 @@ end
 >> {"seq":"1","type":"request","command":"initialize"}
 >> {"seq":9007199254740991,"type":"request","command":"initialize"}
 1: ok initialize/9007199254740991
-end
-! Quit
-= InputEnded
+ended
 
 # commands of 64 letters, of 65 and of none
 >> {"seq":1,"type":"request","command":"~64 a~"}
 1: no ~64 a~/1 unsupported
 >> {"seq":2,"type":"request","command":"~65 a~"}
 >> {"seq":3,"type":"request","command":""}
-end
-! Quit
-= InputEnded
+ended
 
 # contents that are no requests
 >> {"seq":1}
@@ -87,9 +75,7 @@ end
 1: ok initialize/1
 > threads
 2: {"body":{"threads":[{"id":1,"name":"main"}]},"command":"threads","request_seq":2,"seq":2,"success":true,"type":"response"}
-end
-! Quit
-= InputEnded
+ended
 
 # arguments that are null
 > initialize null
@@ -117,12 +103,8 @@ end
 8: no continue/6 badArguments
 > continue {"threadId":2}
 9: no continue/7 unknownThread
-> continue {"threadId":1}
-! Go 1
-10: ok continue/8
-end
-! Quit
-= InputEnded
+continue 1 10/8
+ended
 
 # launches without a program
 > initialize
@@ -133,9 +115,7 @@ end
 3: no launch/3 badArguments
 > launch {"program":"~255 a~"}
 4: no launch/4 cannotRead
-end
-! Quit
-= InputEnded
+ended
 
 # before a session begins
 > launch {"program":"p.pl0"}
@@ -204,9 +184,7 @@ launched
 8: no pause/7 wrongPhase
 > variables {"variablesReference":1}
 9: no variables/8 wrongPhase
-> configurationDone
-! Go 1
-10: ok configurationDone/9
+started 10/9
 > initialize
 11: no initialize/10 wrongPhase
 > launch {"program":"p.pl0"}
@@ -272,9 +250,7 @@ S 1
 # a disconnect in a run
 | .
 launched
-> configurationDone
-! Go 1
-4: ok configurationDone/3
+started 4/3
 > disconnect
 ! Quit
 5: ok disconnect/4
@@ -283,9 +259,7 @@ launched
 # a read that fails in a run
 | .
 launched
-> configurationDone
-! Go 1
-4: ok configurationDone/3
+started 4/3
 read failed
 ! Quit
 = ReadFailed
