@@ -8,7 +8,11 @@ use crate::ends::{Receipt, ReceiveEnd, SendEnd};
 use crate::rule::{First, Puts, Second, Sent, Takes, Whole};
 use crossbeam_channel::{SendError, bounded_with};
 use std::alloc::{AllocError, Global};
+use std::hint;
 use std::sync::Wait;
+
+/// How often a receiver looks for a message before it sleeps: for some 20 microseconds.
+const POLLS: usize = 256;
 
 /// A queue with room for `capacity` messages: the ends of the first sender, of the second, and of the receiver.
 pub fn channel<M: Sent + Drop, R: Wait + Copy + Drop>(
@@ -95,6 +99,13 @@ impl<M: Sent + Drop, R: Wait + Drop> ReceiveEnd<M, R> {
         ensures home { receiver_home self.new ≡ receiver_home self.old }
     {
         let ReceiveEnd { rt, receiver, pass } = self;
+        // What comes within microseconds, as the next report of a run, is taken before a thread that sleeps could be woken.
+        for _ in 0..POLLS {
+            if let Ok(message) = receiver.try_recv_as::<Takes, R>(rt, pass) {
+                return Some(message);
+            }
+            hint::spin_loop();
+        }
         receiver.recv_as::<Takes, R>(rt, pass).ok()
     }
 
