@@ -21,7 +21,7 @@ use Rattle.pl0_meaning.specs.Laws.{WrittenJoins}
 use Rattle.dbg_plan.specs.Due.{due}
 use Rattle.dbg_runner.specs.declared.outcome.SliceOutcome.{SliceOutcome}
 use Rattle.dbg_runner.specs.Plain.{PlainReport, Heading, PlainOrder, Go, Hold, Quit}
-use Rattle.dbg_runner.specs.Lawful.{IsLawful, EndsBy, due_in as due_of}
+use Rattle.dbg_runner.specs.Lawful.{IsLawful, EndsBy, takes_all, faults, is_held, lacks_memory, due_in as due_of}
 use Rattle.dbg_runner.specs.declared.outcome.SliceOutcome.TheVariants as slice
 use Rattle.dap_history.specs.declared.situation.Situation.{Situation}
 use Rattle.dap_history.specs.declared.situation.Situation.TheVariants.{Configuring, Running, Stopped, Faulted, Ended}
@@ -267,12 +267,12 @@ abbrev pub NotDueAtEnd : Block → PlainReport → Type 0
 NotDueAtEnd main r = (r.end ≡ r.start) ⊎ (due_of main r r.end ≡ None)
 
 pub undue_end : (main : Block) (past : History) (r : PlainReport) (e : SliceOutcome) → EndsBy main r e → mark_of_effect (report_effect past r e) ≡ None → NotDueAtEnd main r
-undue_end main past r slice.More is none = inr is.1
+undue_end main past r slice.More (takes_all spent undue runs) none = inr undue
 undue_end main past r (slice.Due reason) is none = let e = sym (last_mark r (stops (stop_of reason))) ∙ none in absurd cc
-undue_end main past r slice.Held is none = inl is.0
+undue_end main past r slice.Held (is_held stays runs) none = inl stays
 undue_end main past r slice.Done is none = let e = sym (last_mark r (ends 0)) ∙ none in absurd cc
-undue_end main past r (slice.Fault fault) is none = is.1
-undue_end main past r slice.NoMemory is none = inl is.0
+undue_end main past r (slice.Fault fault) (faults early undue fails runs) none = undue
+undue_end main past r slice.NoMemory (lacks_memory stays runs) none = inl stays
 
 -- ---- along a history
 

@@ -8,11 +8,12 @@ use Rattle.dap_msg.specs.declared.outgoing.EventBody.TheVariants as event
 use Rattle.dap_msg.specs.declared.command.CommandName.TheVariants as name
 use Rattle.dap_msg.specs.declared.command.Supported.TheVariants as supported
 use Rattle.dap_msg.specs.declared.outgoing.Outgoing.TheVariants.{Event}
+use Rattle.pl0_tree.specs.Tree.{Block}
 use Rattle.pl0_tree.specs.Faults.{IsTreeOf}
 use Rattle.pl0_meaning.specs.Runs.{written, written_from}
 use Rattle.pl0_meaning.specs.Laws.{WrittenJoins}
 use Rattle.dbg_runner.specs.Plain.{PlainReport, Heading, Quit}
-use Rattle.dbg_runner.specs.Lawful.{IsLawful, EndsBy}
+use Rattle.dbg_runner.specs.Lawful.{IsLawful, EndsBy, lacks_memory}
 use Rattle.dbg_runner.specs.declared.outcome.SliceOutcome.TheVariants as slice
 use Rattle.dap_history.specs.declared.launch.Launch.{Launch}
 use Rattle.dap_history.specs.declared.situation.Situation.{Situation}
@@ -119,12 +120,16 @@ nothing_aside past item step is stays effect silent has so_far =
 
 -- ---- a report
 
+-- a slice for which there was no memory took no step
+took_none : (main : Block) (r : PlainReport) → EndsBy main r slice.NoMemory → r.end ≡ r.start
+took_none main r (lacks_memory stays runs) = stays
+
 module _ (one : OneProgram) (joins : WrittenJoins) where
   nothing_between : (r : PlainReport) → IsLawful r → r.outcome ≡ slice.NoMemory → r.numbers ≡ []
   nothing_between r lawful is =
-      let ends : EndsBy lawful.program r slice.NoMemory = subst (EndsBy lawful.program r) is lawful.lawful.outcome in
+      let stays = took_none lawful.program r (subst (EndsBy lawful.program r) is lawful.lawful.outcome) in
       let none : r.start - r.start ≡ 0 = omega arith in
-      lawful.lawful.numbers ∙ ap (written lawful.program r.start) ends.0 ∙ ap (written_from lawful.program r.start) none
+      lawful.lawful.numbers ∙ ap (written lawful.program r.start) stays ∙ ap (written_from lawful.program r.start) none
 
   pub report_text : (past : History) (r : PlainReport) (l : Launched) → Accepts past r → ProgressOf past (Some l) → r.text ≡ l.text
   report_text past r l accepts progress = ap (λ (h : Heading). h.text) accepts.expected ∙ progress.1 accepts.run accepts.run_is

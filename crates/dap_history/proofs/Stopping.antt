@@ -10,7 +10,7 @@ use Rattle.dbg_plan.specs.declared.mode.Reason.{Reason}
 use Rattle.dbg_plan.specs.declared.mode.Reason.TheVariants as reason
 use Rattle.dbg_runner.specs.declared.outcome.SliceOutcome.{SliceOutcome}
 use Rattle.dbg_runner.specs.Plain.{PlainReport, Heading}
-use Rattle.dbg_runner.specs.Lawful.{IsLawful, EndsBy}
+use Rattle.dbg_runner.specs.Lawful.{IsLawful, EndsBy, is_due, faults, is_held}
 use Rattle.dbg_runner.specs.declared.outcome.SliceOutcome.TheVariants as slice
 use Rattle.dap_history.specs.declared.launch.Launch.{Launch}
 use Rattle.dap_history.specs.declared.situation.Situation.TheVariants.{Ready}
@@ -153,26 +153,25 @@ module _ (one : OneProgram) (joins : WrittenJoins) where
   module _ (past : History) (r : PlainReport) (accepts : Accepts past r) (lawful : IsLawful r) (ran : Ran one joins past) (l : Launched) (is : launched past ≡ Some l) where
     stops_run : (e : SliceOutcome) → EndsBy lawful.program r e → (s : StopReason) → last_such stop_of_event (report_effect past r e).events ≡ Some s → IsRunsStop l accepts.run s r.end
     stops_run slice.More ends_by s so_far = let e = sym (outputs_stop_not r.numbers) ∙ so_far in absurd cc
-    stops_run (slice.Due why) ends_by s so_far =
+    stops_run (slice.Due why) (is_due on due_there runs) s so_far =
         let same : stop_of why ≡ s = let e = sym (stop_after r (stop_of why)) ∙ so_far in cc in
         let from = begun_there one joins past r accepts lawful ran l is in
-        let on = ends_by.0 in
         subst (λ s. IsRunsStop l accepts.run s r.end) same
-        (due_stop l accepts.run r.end why (same_due one joins past r accepts lawful ran l is r.end ∙ ends_by.1, omega (arith, from, on), none_before one joins past r accepts lawful ran l is))
-    stops_run slice.Held ends_by s so_far = by_pause (waiting_pause past) so_far
+        (due_stop l accepts.run r.end why (same_due one joins past r accepts lawful ran l is r.end ∙ due_there, omega (arith, from, on), none_before one joins past r accepts lawful ran l is))
+    stops_run slice.Held (is_held stays runs) s so_far = by_pause (waiting_pause past) so_far
       where
         by_pause : (pauses : Bool) → last_such stop_of_event (held past r pauses).events ≡ Some s → IsRunsStop l accepts.run s r.end
         by_pause true so_far =
             let same : stop.Pause ≡ s = let e = sym (stop_after r stop.Pause) ∙ so_far in cc in
             subst (λ s. IsRunsStop l accepts.run s r.end) same
-            (begun_before one joins past r accepts lawful ran l is, none_up_to one joins past r accepts lawful ran l is (inl ends_by.0))
+            (begun_before one joins past r accepts lawful ran l is, none_up_to one joins past r accepts lawful ran l is (inl stays))
         by_pause false so_far = let e = sym (outputs_stop_not r.numbers) ∙ so_far in absurd cc
     stops_run slice.Done ends_by s so_far = let e = sym (end_after r 0) ∙ so_far in absurd cc
-    stops_run (slice.Fault fault) ends_by s so_far =
+    stops_run (slice.Fault fault) (faults early undue fails runs) s so_far =
         let same : stop.Exception (exception_of fault) ≡ s = let e = sym (stop_after r (stop.Exception (exception_of fault))) ∙ so_far in cc in
-        let faults = ap (λ p. outcome p r.end) (sym (report_program one joins past r lawful l accepts (ran.so_far.progress (Some l) is))) ∙ ends_by.2 in
+        let fails_there = ap (λ p. outcome p r.end) (sym (report_program one joins past r lawful l accepts (ran.so_far.progress (Some l) is))) ∙ fails in
         subst (λ s. IsRunsStop l accepts.run s r.end) same
-        (fault, refl, faults, begun_before one joins past r accepts lawful ran l is, none_up_to one joins past r accepts lawful ran l is ends_by.1)
+        (fault, refl, fails_there, begun_before one joins past r accepts lawful ran l is, none_up_to one joins past r accepts lawful ran l is undue)
     stops_run slice.NoMemory ends_by s so_far = absurd cc
 
   report_stops : (past : History) (r : PlainReport) → Accepts past r → IsLawful r → Ran one joins past → (s : StopReason) → last_such stop_of_event (report_effect past r r.outcome).events ≡ Some s
