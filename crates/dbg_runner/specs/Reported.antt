@@ -41,20 +41,32 @@ heading run d mode = record { run = run; text = text_of d.unit; plan = d.breakpo
 abbrev pub stopped : Reported → Debugged
 stopped r = record { unit = r.unit; position = r.end; breakpoints = r.plan; counted_from = r.counted_from; next = r.end + 1 }
 
+-- Where the debuggee is once its slice is reported.
+pub data Whereabouts : Type 0 where
+  InReport : Whereabouts
+  BesideReport : Whereabouts
+  Nowhere : Whereabouts
+
+-- A debuggee that goes on is beside the report, one that is over is nowhere, and one that stopped is in the report.
+abbrev pub whereabouts : SliceOutcome → Whereabouts
+whereabouts out.More = BesideReport
+whereabouts out.Done = Nowhere
+whereabouts _ = InReport
+
+-- the debuggee, if it is in the report
+abbrev pub in_report : Whereabouts → Debugged → Option Debugged
+in_report InReport d = Some d
+in_report _ d = None
+
+-- the debuggee, if it is beside the report
+abbrev pub beside_report : Whereabouts → Debugged → Option Debugged
+beside_report BesideReport d = Some d
+beside_report _ d = None
+
 -- the debuggee that the report carries
 abbrev pub carried : Reported → SliceOutcome → Option Debugged
-carried r out.More = None
-carried r (out.Due reason) = Some (stopped r)
-carried r out.Done = None
-carried r (out.Fault fault) = Some (stopped r)
-carried r out.Held = Some (stopped r)
-carried r out.NoMemory = Some (stopped r)
+carried r outcome = in_report (whereabouts outcome) (stopped r)
 
 -- the debuggee that goes on beside the report
 abbrev pub left : Reported → SliceOutcome → Option Debugged
-left r out.More = Some (stopped r)
-left r (out.Due reason) = None
-left r out.Done = None
-left r (out.Fault fault) = None
-left r out.Held = None
-left r out.NoMemory = None
+left r outcome = beside_report (whereabouts outcome) (stopped r)
