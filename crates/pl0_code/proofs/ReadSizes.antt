@@ -4,7 +4,6 @@ use Rattle.pl0_tree.specs.Tree.{Name, Constant, Block, ABlock, Procedures, NoMor
 use Rattle.pl0_tree.specs.Tokens.{Token}
 use Rattle.pl0_tree.specs.Reading.{ReadsExpression, unsigned, positive, negative, ReadsMoreTerms, no_term, one_term, ReadsTerm, factors, ReadsMoreFactors, no_factor, one_factor, ReadsFactor, name, number, nested, ReadsCondition, odd, comparison, ReadsStatement, empty, assignment, call, write, sequence, choice, loop, ReadsStatements, last_statement, one_statement, ReadsConstants, last_constant, one_constant, ReadsConstantPart, no_constants, constants, ReadsVariables, last_variable, one_variable, ReadsVariablePart, no_variables, variables, ReadsBlock, block, ReadsProcedures, no_procedure, one_procedure, ReadsProgram, program}
 use Rattle.pl0_code.specs.Sizes.{expression_length, condition_length, statement_length, block_length, procedures_length}
-use Rattle.pl0_code.specs.Blocks.{block_count, procedures_count}
 
 abbrev mutual
   -- how many variables a block declares, with those of the blocks in it
@@ -91,12 +90,3 @@ mutual
 
 pub code_few : {n : ℕ} (tokens : List Token) (main : Block) → ReadsProgram n tokens main → block_length main + variable_count main ≤ length tokens + 1
 code_few tokens main (program read) = let a = block_fits tokens main _ read in omega (arith, a)
-
-mutual
-  -- there are no more blocks than instructions
-  pub count_fits : (b : Block) → block_count b ≤ block_length b
-  count_fits (ABlock cs xs ps s end) = let a = counts_fit ps in omega (arith, a)
-
-  counts_fit : (ps : Procedures) → procedures_count ps ≤ procedures_length ps
-  counts_fit NoMore = omega arith
-  counts_fit (AProcedure x b more) = let a = count_fits b in let c = counts_fit more in omega (arith, a, c)

@@ -6,6 +6,7 @@ use Rattle.pl0_tree.specs.Tree.{Name, Block, body, Statement, Empty, Assign, Cal
 use Rattle.pl0_tree.specs.Plain.{plain_statement, joined}
 use Rattle.pl0_tree.specs.Scope.{Path, block_at, Meaning, AConstant, AVariable, AProcedure, Manner, IsRead, IsAssigned, IsCalled, use_of, expression_uses, condition_uses, statement_uses, body_uses, Allows, IsLawful}
 use Rattle.pl0_names.specs.declared.scopes.Found.{Found}
+use Rattle.pl0_names.specs.Earlier.{AreDeclaredBefore}
 use Rattle.pl0_code.specs.declared.scope.Declared.{Declared}
 use Rattle.pl0_code.specs.declared.scope.Declared.TheVariants.{Constant, Variable, Procedure as AnEntry}
 use Rattle.pl0_code.specs.Rows.{Resolver}
@@ -35,7 +36,7 @@ module _ (main : Block) (q : Path) where
   found_for : (manner : Manner) (x : Name) → IsMeant main q (use_of manner x) → IsFoundTo (CanBe manner) (resolver main q x.word)
   found_for manner x meant =
       let h = meant.at in
-      subst (λ o. IsFoundTo (CanBe manner) o) (sym (meant_found main q x.word h meant.found))
+      subst (λ o. IsFoundTo (CanBe manner) o) (sym (meant_found main q x.word h meant.early))
       (declared_for (block_at main h.path) (entry main h.path) manner h.declaration.meaning meant.allowed)
 
   can_evaluate : (e : Expression) → AreMeant main q (expression_uses e) → CanEvaluate (resolver main q) e
@@ -63,8 +64,8 @@ module _ (main : Block) (q : Path) where
       (can_test c (meant_first main q (condition_uses c) (statement_uses s) meant), can_do s (meant_second main q (condition_uses c) (statement_uses s) meant))
 
   -- the statement of a block
-  pub can_do_body : (b : Block) → IsLawful main → block_at main q ≡ Some b → CanDo (resolver main q) (body b)
-  can_do_body b lawful at = can_do (body b) (meant_each main q (body_uses b) (λ i u e. lawful.uses q b i u at e))
+  pub can_do_body : (b : Block) → IsLawful main → AreDeclaredBefore main → block_at main q ≡ Some b → CanDo (resolver main q) (body b)
+  can_do_body b lawful early at = can_do (body b) (meant_each main q (body_uses b) (λ i u e. lawful.uses q b i u at e) (λ i u e. early q b i u at e))
 
 -- one of several statements
 pub can_do_part : (r : Resolver) (xs : List DeclaredStatement) (i : ℕ) (s : DeclaredStatement) → i < length xs → s ≡ get_or xs i s → CanDo r (joined xs) → CanDo r (plain_statement s)
