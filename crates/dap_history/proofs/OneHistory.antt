@@ -24,13 +24,13 @@ pub record IsReadOnce : Type 0 where
 
 module _ (once : IsReadOnce) where
   -- the request in front, and the bytes after it
-  one_front : (bytes : List ℕ) (a b : Option Request) (x y : List ℕ) → IsInFront bytes a x → IsInFront bytes b y → (a ≡ b) × (x ≡ y)
+  pub one_front : (bytes : List ℕ) (a b : Option Request) (x y : List ℕ) → IsInFront bytes a x → IsInFront bytes b y → (a ≡ b) × (x ≡ y)
   one_front bytes a b x y here there =
       let same = once.one_frame bytes here.content there.content x y here.framed there.framed in
       (once.one_request here.content a b here.read (subst (λ c. IsRequestOf c b) (sym same.0) there.read), same.1)
 
   -- where one has come to rest, no further content is taken
-  rests_here : {past new : History} {bytes : List ℕ} {rest : Rest} → Rests past bytes new rest → (request : Option Request) (more : List ℕ)
+  pub rests_here : {past new : History} {bytes : List ℕ} {rest : Rest} → Rests past bytes new rest → (request : Option Request) (more : List ℕ)
       → IsTaking past → IsInFront bytes request more → ¬ (wanted_in (situation past) request ≡ None)
   rests_here (closed not) request more taking front unwanted = not taking
   rests_here {bytes = bytes} (open_ended taking' is) request more taking front unwanted = is.no_frame front.content more front.framed

@@ -1,11 +1,7 @@
 -- What a session sent that gave up is a beginning of what its events give.
 use Rattle.std.proofs.Common.{◌≡◌, ◌⊎◌, inl, inr, ℕ, suc, ◌+◌, ◌≤◌, ◌<◌, ◌^◌, List, [], ◌∷◌, ◌++◌, length, Option, None, Some, Result, Ok, Err, refl, sym, ◌∙◌, ap, subst, append_assoc, append-nil, length-append, arith, lit≤}
 use Rattle.std.proofs.lemmas.Grind.{flat_map-append}
-use Rattle.dap_frame.specs.Laws.{FramesAreUnique, NeverBoth}
 use Rattle.dap_msg.specs.declared.outgoing.Outgoing.{Outgoing}
-use Rattle.dap_msg.specs.Laws.{OneReading}
-use Rattle.dap_msg.specs.declared.request.Request.{Request}
-use Rattle.dap_msg.specs.Request.{IsRequestOf}
 use Rattle.dbg_runner.specs.Plain.{PlainOrder, PlainReport}
 use Rattle.dap_history.specs.declared.ending.Closed.{Closed}
 use Rattle.dap_history.specs.declared.ending.Ending.{Ending}
@@ -16,15 +12,14 @@ use Rattle.dap_history.specs.declared.fault.LoadFault.TheVariants as load_fault
 use Rattle.dap_history.specs.declared.fault.SessionFault.{SessionFault}
 use Rattle.dap_history.specs.declared.fault.SessionFault.TheVariants.{Frame, NoMemory, SeqExhausted, OrdersFull, RunnerGone, WriterGone}
 use Rattle.dap_history.specs.History.{Item, Content, Loaded, Accepted, InputEnd, ReadFailure, MemoryFailure, History, messages, messages_of, orders_of, next_seq}
-use Rattle.dap_history.specs.Readings.{situation}
-use Rattle.dap_history.specs.Launching.{wanted_in}
 use Rattle.dap_history.specs.Emission.{IsAfter}
-use Rattle.dap_history.specs.Events.{Incoming, Piece, End, ReadFailed, File, Report, Rest, only_bytes, IsTaking, IsInFront, Takes, none, one_more, Rests, closed, open_ended, faulty, waits, TakesAll, MayTake, LeadsByPiece, LeadsByFile, LeadsByReport, Leads, LeadsAll, IsHistoryOf}
+use Rattle.dap_history.specs.Events.{Incoming, Piece, End, ReadFailed, File, Report, Rest, only_bytes, IsTaking, Takes, none, one_more, Rests, closed, open_ended, faulty, waits, TakesAll, MayTake, LeadsByPiece, LeadsByFile, LeadsByReport, Leads, LeadsAll, IsHistoryOf}
 use Rattle.dap_history.specs.Events.{NoMemory as NoMemoryCame}
-use Rattle.dap_history.specs.Laws.{HistoryIsOne, ItemsLeadToOne}
+use Rattle.dap_history.specs.Laws.{HistoryIsOne}
 use Rattle.dap_history.specs.Interleaving.{Load}
 use Rattle.dap_history.specs.Output.{frames_from}
 use Rattle.dap_history.specs.Reports.{Accepts}
+use Rattle.dap_history.proofs.OneHistory.{IsReadOnce, one_front, rests_here}
 use Rattle.dap_session.specs.Ports.{Ports}
 use Rattle.dap_session.specs.Sending.{Sends, Begins, PushesSome, PutsSome, BreaksOff, TriesQuit}
 use Rattle.dap_session.specs.Taking.{TowardByPiece, LoadsToward, Toward, FailsAt}
@@ -66,13 +61,6 @@ orders_begin past new is = (orders_of is.0, sym (flat_map-append (λ step. step.
 
 -- ---- an event that was taken in part
 
--- bytes have one frame or one fault in front, a content is one request or none, and an item leads to one history
-pub record IsSettled : Type 0 where
-  pub one_frame : FramesAreUnique
-  pub not_both : NeverBoth
-  pub one_request : OneReading
-  pub one_after : ItemsLeadToOne
-
 takes_begin : {past new : History} {bytes left : List ℕ} → Takes past bytes new left → Begins past new
 takes_begin {past = past} none = begins_same past past refl
 takes_begin {past = past} {new = new} (one_more {mid = mid} request taking front unwanted after taken) =
@@ -87,29 +75,14 @@ rests_begin {past = past} (waits request launch more taking front wanted) = begi
 all_begin : (past : History) (bytes : List ℕ) (new : History) (rest : Rest) → TakesAll past bytes new rest → Begins past new
 all_begin past bytes new rest all = begins_both past all.mid new (takes_begin all.taken) (rests_begin all.rests)
 
-module _ (settled : IsSettled) where
-  one_front : (bytes : List ℕ) (a b : Option Request) (x y : List ℕ) → IsInFront bytes a x → IsInFront bytes b y → (a ≡ b) × (x ≡ y)
-  one_front bytes a b x y here there =
-      let same = settled.one_frame bytes here.content there.content x y here.framed there.framed in
-      (settled.one_request here.content a b here.read (subst (λ c. IsRequestOf c b) (sym same.0) there.read), same.1)
-
-  -- where no further content is taken, none can be
-  rests_here : {past new : History} {bytes : List ℕ} {rest : Rest} → Rests past bytes new rest → (request : Option Request) (more : List ℕ)
-      → IsTaking past → IsInFront bytes request more → ¬ (wanted_in (situation past) request ≡ None)
-  rests_here (closed not) request more taking front unwanted = not taking
-  rests_here (open_ended taking' is) request more taking front unwanted = is.no_frame front.content more front.framed
-  rests_here {bytes = bytes} (faulty k new taking' fault after) request more taking front unwanted = settled.not_both bytes front.content more k front.framed fault
-  rests_here {past = past} {bytes = bytes} (waits other launch more' taking' there wanted) request more taking front unwanted =
-      let same = one_front bytes other request more' more there front in
-      let e = sym unwanted ∙ ap (wanted_in (situation past)) (sym same.0) ∙ wanted in absurd cc
-
+module _ (once : IsReadOnce) where
   -- what was taken is a beginning of all that can be
   taken_begins : {past mid other new : History} {bytes left left' : List ℕ} {rest : Rest} → Takes past bytes mid left → Takes past bytes other left' → Rests other left' new rest → Begins mid new
   taken_begins {past = past} {other = other} {new = new} none taken rests = begins_both past other new (takes_begin taken) (rests_begin rests)
-  taken_begins (one_more {more = more} request taking front unwanted after taken) none rests = absurd (rests_here rests request more taking front unwanted)
+  taken_begins (one_more {more = more} request taking front unwanted after taken) none rests = absurd (rests_here once rests request more taking front unwanted)
   taken_begins (one_more {past = past} {mid = mid} {bytes = bytes} {more = more} request taking front unwanted after taken) (one_more {mid = mid'} {new = end} {more = more'} {left = left'} request' taking' front' unwanted' after' taken') rests =
-      let same = one_front bytes request request' more more' front front' in
-      let mids = settled.one_after past (Content request) mid mid' after (subst (λ r. IsAfter past (Content r) mid') (sym same.0) after') in
+      let same = one_front once bytes request request' more more' front front' in
+      let mids = once.one_after past (Content request) mid mid' after (subst (λ r. IsAfter past (Content r) mid') (sym same.0) after') in
       taken_begins taken (subst (λ h. Takes h more end left') (sym mids) (subst (λ b. Takes mid' b end left') (sym same.1) taken')) rests
 
   may_begin : (past : History) (item : Item) (new : History) → MayTake past item new → Begins past new
@@ -119,7 +92,7 @@ module _ (settled : IsSettled) where
   item_begins : (past : History) (item : Item) (next new : History) → IsTaking past → (next ≡ past) ⊎ IsAfter past item next → MayTake past item new → Begins next new
   item_begins past item next new taking (inl same) may = subst (λ h. Begins h new) (sym same) (may_begin past item new may)
   item_begins past item next new taking (inr after) (inl is) = absurd (is.0 taking)
-  item_begins past item next new taking (inr after) (inr is) = begins_same next new (settled.one_after past item next new after is.1)
+  item_begins past item next new taking (inr after) (inr is) = begins_same next new (once.one_after past item next new after is.1)
 
   piece_begins : (past : History) (launch : Option Launch) (bytes : List ℕ) (next new : History) (left : Rest) → TowardByPiece past launch bytes next → LeadsByPiece past launch bytes new left → Begins next new
   piece_begins past None bytes next new left toward leads = taken_begins toward.1 leads.taken leads.rests
@@ -129,7 +102,7 @@ module _ (settled : IsSettled) where
   loaded_begins : (past : History) (launch : Launch) (file : Option (List ℕ)) (bytes : List ℕ) (mid other next new : History) (left : List ℕ) (rest : Rest)
       → IsAfter past (Loaded launch file) mid → Takes mid bytes next left → IsAfter past (Loaded launch file) other → TakesAll other bytes new rest → Begins next new
   loaded_begins past launch file bytes mid other next new left rest after taken there all =
-      let here = subst (λ h. TakesAll h bytes new rest) (settled.one_after past (Loaded launch file) other mid there after) all in
+      let here = subst (λ h. TakesAll h bytes new rest) (once.one_after past (Loaded launch file) other mid there after) all in
       taken_begins taken here.taken here.rests
 
   same_launch : (past : History) (rest : Rest) (launch : Launch) (answer : Result (List ℕ) LoadFault) (file : Option (List ℕ)) (next : History) → rest.launch ≡ Some launch → (toward : LoadsToward past rest answer next) → toward.file ≡ file
@@ -161,7 +134,7 @@ module _ (settled : IsSettled) where
   report_begins past r next new taking (inl same) (inl not) = begins_same next new (same ∙ sym not.1)
   report_begins past r next new taking (inl same) (inr is) = subst (λ h. Begins h new) (sym same) (begins_longer past (Accepted r) new is.2)
   report_begins past r next new taking (inr toward) (inl not) = absurd (not.0 (taking, toward.0))
-  report_begins past r next new taking (inr toward) (inr is) = begins_same next new (settled.one_after past (Accepted r) next new toward.1 is.2)
+  report_begins past r next new taking (inr toward) (inr is) = begins_same next new (once.one_after past (Accepted r) next new toward.1 is.2)
 
   event_begins : (past : History) (rest : Rest) (event : Incoming) (next new : History) (left : Rest) → IsTaking past → Toward past rest event next → Leads past rest event new left → Begins next new
   event_begins past rest (Piece piece) next new left taking toward leads = piece_begins past rest.launch _ next new left toward leads
@@ -310,7 +283,7 @@ pub record PutsFew (events : List Incoming) (old later : Ports) : Type 0 where
   pub few : length frames < 2 ^ 53
   pub begins : (past : History) (rest : Rest) → IsHistoryOf events past rest → Begins frames (frames_from 1 (messages_of past))
 
-module _ (settled : IsSettled) (one : HistoryIsOne) where
+module _ (once : IsReadOnce) (one : HistoryIsOne) where
   -- a history of all events goes on with the last one from where the session stood
   last_leads : (events : List Incoming) (last : Incoming) (past : History) (rest : Rest) (new : History) (left : Rest) → IsHistoryOf events past rest → IsHistoryOf (events ++ last ∷ []) new left → Leads past rest last new left
   last_leads events last past rest new left here whole =
@@ -329,7 +302,7 @@ module _ (settled : IsSettled) (one : HistoryIsOne) where
           orders_are = part.orders_are;
           begins = λ new left whole.
               let leads = last_leads stops.before stops.last stops.past stops.rest new left stops.history (subst (λ es. IsHistoryOf es new left) stops.events_are whole) in
-              let is = event_begins settled stops.past stops.rest stops.last fails.next new left stops.taking (next_toward fault stops.past stops.rest stops.last stops.mid stops.stopped fails) leads in
+              let is = event_begins once stops.past stops.rest stops.last fails.next new left stops.taking (next_toward fault stops.past stops.rest stops.last stops.mid stops.stopped fails) leads in
               (begins_both part.frames _ _ part.frames_begin (frames_begin fails.next new is), begins_both part.orders _ _ part.orders_begin (orders_begin fails.next new is));
         },
         part.few,

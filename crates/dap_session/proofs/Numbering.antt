@@ -10,8 +10,9 @@ use Rattle.dap_history.specs.History.{History, messages_of}
 use Rattle.dap_history.specs.Events.{Incoming, Rest, IsHistoryOf}
 use Rattle.dap_history.specs.Laws.{HistoryIsOne, SeqCountFromOne, FramesAreReadBack}
 use Rattle.dap_history.specs.Output.{frames_from}
+use Rattle.dap_history.proofs.OneHistory.{IsReadOnce}
 use Rattle.dap_session.specs.Laws.{FramesAreNumbered}
-use Rattle.dap_session.proofs.Beginnings.{IsSettled, drives_few}
+use Rattle.dap_session.proofs.Beginnings.{drives_few}
 
 -- what stands in a beginning stands in the whole
 get_begins : {A : Type 0} (xs more : List A) (n : ℕ) (x : A) → slice_get xs n ≡ Some x → slice_get (xs ++ more) n ≡ Some x
@@ -31,9 +32,9 @@ module _ (count : SeqCountFromOne) (back : FramesAreReadBack) where
       let read = back events past rest history n there.0 there.1 small in
       (there.0, read.0, there.1, same_Some frame (frame_of read.0) (sym is ∙ read.1), read.2)
 
-  pub frames_are_numbered : IsSettled → HistoryIsOne → FramesAreNumbered
-  frames_are_numbered settled one result given_before given_after loaded_before loaded_after old later driven =
-      let puts = drives_few settled one result driven.events driven.given driven.loads old later driven.drives in record {
+  pub frames_are_numbered : IsReadOnce → HistoryIsOne → FramesAreNumbered
+  frames_are_numbered once one result given_before given_after loaded_before loaded_after old later driven =
+      let puts = drives_few once one result driven.events driven.given driven.loads old later driven.drives in record {
         frames = puts.frames;
         frames_are = puts.frames_are;
         few = puts.few;

@@ -5,6 +5,7 @@ use Rattle.dap_session.proofs.laws.session_laws.Goals as goal
 pub returns-clause-beginnings : goal.returns-clause-beginnings
 returns-clause-beginnings c = faults_leave_beginnings (record {
   one_frame = c.frame_laws.ensures.frames;
+  one_fault = c.frame_laws.ensures.faults;
   not_both = c.frame_laws.ensures.both;
   one_request = c.message_laws.ensures.reading;
   one_after = c.history_laws.ensures.one_effect;
@@ -13,6 +14,7 @@ returns-clause-beginnings c = faults_leave_beginnings (record {
 pub returns-clause-numbered : goal.returns-clause-numbered
 returns-clause-numbered c = frames_are_numbered c.history_laws.ensures.numbered c.history_laws.ensures.read_back (record {
   one_frame = c.frame_laws.ensures.frames;
+  one_fault = c.frame_laws.ensures.faults;
   not_both = c.frame_laws.ensures.both;
   one_request = c.message_laws.ensures.reading;
   one_after = c.history_laws.ensures.one_effect;
