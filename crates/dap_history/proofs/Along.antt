@@ -18,40 +18,41 @@ use Rattle.dap_history.proofs.Readings.{ending_of-snoc}
 use Rattle.dap_history.specs.Launching.{wanted_in}
 use Rattle.dap_history.specs.Events.{Incoming, Piece, End, ReadFailed, NoMemory, File, Report, AreLawful, Rest, only_bytes, IsTaking, Takes, none, one_more, Rests, closed, open_ended, faulty, waits, TakesAll, MayTake, LeadsByPiece, LeadsByFile, LeadsByReport, Loads, Leads, LeadsAll, IsHistoryOf}
 
--- an item is taken only so: a content that wants no file, a launch in Ready, a report that is accepted and as Q says
-abbrev pub IsTaken : (PlainReport → Type 0) → History → Item → Type 0
+-- an item is taken only so: a content that wants no file, a launch in Ready, a report that is accepted; and what an event
+-- brings is as Q says of it
+abbrev pub IsTaken : (Incoming → Type 0) → History → Item → Type 0
 IsTaken Q past (Content request) = wanted_in (situation past) request ≡ None
 IsTaken Q past (Loaded launch file) = situation past ≡ Ready
-IsTaken Q past (Accepted r) = Accepts past r × Q r
+IsTaken Q past (Accepted r) = Accepts past r × Q (Report r)
+IsTaken Q past InputEnd = Q End
+IsTaken Q past ReadFailure = Q ReadFailed
 IsTaken Q past _ = Unit {0}
 
 -- what one more item keeps, while the session takes any
-pub record IsKept (Q : PlainReport → Type 0) (P : History → Type 0) : Type 0 where
+pub record IsKept (Q : Incoming → Type 0) (P : History → Type 0) : Type 0 where
   pub step : (past : History) (item : Item) (new : History) → IsTaking past → IsTaken Q past item → IsAfter past item new → P past → P new
 
--- each report among the events is as Q says
-abbrev pub AllReports : (PlainReport → Type 0) → List Incoming → Type 0
-AllReports Q [] = Unit {0}
-AllReports Q (Report r ∷ events) = Q r × AllReports Q events
-AllReports Q (e ∷ events) = AllReports Q events
+-- each of the events is as Q says
+abbrev pub AllEvents : (Incoming → Type 0) → List Incoming → Type 0
+AllEvents Q [] = Unit {0}
+AllEvents Q (e ∷ events) = Q e × AllEvents Q events
 
-pub any_reports : (events : List Incoming) → AllReports (λ r. Unit {0}) events
-any_reports [] = tt
-any_reports (Report r ∷ events) = (tt, any_reports events)
-any_reports (Piece p ∷ events) = any_reports events
-any_reports (End ∷ events) = any_reports events
-any_reports (ReadFailed ∷ events) = any_reports events
-any_reports (NoMemory ∷ events) = any_reports events
-any_reports (File f ∷ events) = any_reports events
+pub any_events : (events : List Incoming) → AllEvents (λ e. Unit {0}) events
+any_events [] = tt
+any_events (e ∷ events) = (tt, any_events events)
 
-pub lawful_reports : (events : List Incoming) → AreLawful events → AllReports IsLawful events
-lawful_reports [] are = tt
-lawful_reports (Report r ∷ events) are = (are.0, lawful_reports events are.1)
-lawful_reports (Piece p ∷ events) are = lawful_reports events are
-lawful_reports (End ∷ events) are = lawful_reports events are
-lawful_reports (ReadFailed ∷ events) are = lawful_reports events are
-lawful_reports (NoMemory ∷ events) are = lawful_reports events are
-lawful_reports (File f ∷ events) are = lawful_reports events are
+abbrev pub IsLawfulEvent : Incoming → Type 0
+IsLawfulEvent (Report r) = IsLawful r
+IsLawfulEvent _ = Unit {0}
+
+pub lawful_events : (events : List Incoming) → AreLawful events → AllEvents IsLawfulEvent events
+lawful_events [] are = tt
+lawful_events (Report r ∷ events) are = (are.0, lawful_events events are.1)
+lawful_events (Piece p ∷ events) are = (tt, lawful_events events are)
+lawful_events (End ∷ events) are = (tt, lawful_events events are)
+lawful_events (ReadFailed ∷ events) are = (tt, lawful_events events are)
+lawful_events (NoMemory ∷ events) are = (tt, lawful_events events are)
+lawful_events (File f ∷ events) are = (tt, lawful_events events are)
 
 -- a launch waits only in Ready
 abbrev pub WaitsWell : History → Rest → Type 0
@@ -74,7 +75,7 @@ closes_for_good past item new by is after taking =
     ∙ ap (λ i. or_else (closing i) (ending_of past)) after.item_is ∙ ap (λ o. or_else o (ending_of past)) is in
     absurd cc
 
-module _ (Q : PlainReport → Type 0) (P : History → Type 0) (kept : IsKept Q P) where
+module _ (Q : Incoming → Type 0) (P : History → Type 0) (kept : IsKept Q P) where
   -- what holds of a history, with its rest
   abbrev Holds : History → Rest → Type 0
   Holds past rest = P past × WaitsWell past rest
@@ -120,37 +121,27 @@ module _ (Q : PlainReport → Type 0) (P : History → Type 0) (kept : IsKept Q 
   along_file past rest (Some launch) (Err load_fault.NoMemory) new left same is here =
       subst (λ r. Holds new r) (sym is.1) (along_may past rest MemoryFailure new _ tt refl is.0 here)
 
-  along_report : (past : History) (rest : Rest) (r : PlainReport) (new : History) → Q r → LeadsByReport past r new → Holds past rest → Holds new rest
+  along_report : (past : History) (rest : Rest) (r : PlainReport) (new : History) → Q (Report r) → LeadsByReport past r new → Holds past rest → Holds new rest
   along_report past rest r new good (inl is) here = subst (λ h. Holds h rest) (sym is.1) here
   along_report past rest r new good (inr is) here = (
     kept.step past (Accepted r) new is.0 (is.1, good) is.2 here.0,
     λ taking launch waits_. let e = sym is.1.running ∙ here.1 is.0 launch waits_ in absurd cc,
   )
 
-  along_event : (past : History) (rest : Rest) (event : Incoming) (new : History) (left : Rest) → AllReports Q (event ∷ []) → Leads past rest event new left → Holds past rest → Holds new left
+  along_event : (past : History) (rest : Rest) (event : Incoming) (new : History) (left : Rest) → Q event → Leads past rest event new left → Holds past rest → Holds new left
   along_event past rest (Piece piece) new left good leads here = along_piece past rest rest.launch (rest.bytes ++ piece) new left refl leads here
-  along_event past rest End new left good leads here = subst (λ r. Holds new r) (sym leads.1) (along_may past rest InputEnd new _ tt refl leads.0 here)
-  along_event past rest ReadFailed new left good leads here = subst (λ r. Holds new r) (sym leads.1) (along_may past rest ReadFailure new _ tt refl leads.0 here)
+  along_event past rest End new left good leads here = subst (λ r. Holds new r) (sym leads.1) (along_may past rest InputEnd new _ good refl leads.0 here)
+  along_event past rest ReadFailed new left good leads here = subst (λ r. Holds new r) (sym leads.1) (along_may past rest ReadFailure new _ good refl leads.0 here)
   along_event past rest NoMemory new left good leads here = subst (λ r. Holds new r) (sym leads.1) (along_may past rest MemoryFailure new _ tt refl leads.0 here)
   along_event past rest (File file) new left good leads here = along_file past rest rest.launch file new left refl leads here
-  along_event past rest (Report r) new left good leads here = subst (λ l. Holds new l) (sym leads.1) (along_report past rest r new good.0 leads.0 here)
+  along_event past rest (Report r) new left good leads here = subst (λ l. Holds new l) (sym leads.1) (along_report past rest r new good leads.0 here)
 
-  -- the first of the reports, and the others
-  first_good : (e : Incoming) (events : List Incoming) → AllReports Q (e ∷ events) → AllReports Q (e ∷ []) × AllReports Q events
-  first_good (Report r) events good = ((good.0, tt), good.1)
-  first_good (Piece p) events good = (tt, good)
-  first_good End events good = (tt, good)
-  first_good ReadFailed events good = (tt, good)
-  first_good NoMemory events good = (tt, good)
-  first_good (File f) events good = (tt, good)
-
-  along_from : (past : History) (rest : Rest) (events : List Incoming) (new : History) (left : Rest) → AllReports Q events → LeadsAll past rest events new left → Holds past rest → Holds new left
+  along_from : (past : History) (rest : Rest) (events : List Incoming) (new : History) (left : Rest) → AllEvents Q events → LeadsAll past rest events new left → Holds past rest → Holds new left
   along_from past rest [] new left good all here = subst (λ h. Holds h left) (sym all.0) (subst (λ r. Holds past r) (sym all.1) here)
   along_from past rest (e ∷ events) new left good all here =
-      let both = first_good e events good in
-      along_from all.0 all.1 events new left both.1 all.3 (along_event past rest e all.0 all.1 both.0 all.2 here)
+      along_from all.0 all.1 events new left good.1 all.3 (along_event past rest e all.0 all.1 good.0 all.2 here)
 
   -- What holds of no steps, and is kept, holds of each history.
-  pub along : P [] → (events : List Incoming) (past : History) (rest : Rest) → AllReports Q events → IsHistoryOf events past rest → P past
+  pub along : P [] → (events : List Incoming) (past : History) (rest : Rest) → AllEvents Q events → IsHistoryOf events past rest → P past
   along first events past rest good history =
       (along_from [] (only_bytes []) events past rest good history (first, λ taking launch is. absurd cc)).0

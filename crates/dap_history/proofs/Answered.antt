@@ -12,7 +12,7 @@ use Rattle.dap_history.specs.Replies.{Reply}
 use Rattle.dap_history.specs.Emission.{Answers, Causes}
 use Rattle.dap_history.specs.Laws.{answered, asked, EachIsAnsweredOnce}
 use Rattle.dap_history.proofs.Readings.{messages_of-snoc}
-use Rattle.dap_history.proofs.Along.{IsKept, any_reports, along}
+use Rattle.dap_history.proofs.Along.{IsKept, any_events, along}
 
 abbrev Once : History → Type 0
 Once past = filter_map answered (messages_of past) ≡ filter_map asked (map (λ (step : Step). step.item) past)
@@ -51,11 +51,11 @@ once_more past item step item_is causes here =
     ∙ sym (filter_map-append asked (map (λ (s : Step). s.item) past) (step.item ∷ []))
     ∙ ap (filter_map asked) (sym (map-append (λ (s : Step). s.item) past (step ∷ [])))
 
-once_kept : IsKept (λ r. Unit {0}) Once
+once_kept : IsKept (λ e. Unit {0}) Once
 once_kept = record {
   step = λ past item new taking taken after here.
       subst Once (sym after.new_is) (once_more past item after.step after.item_is after.causes here);
 }
 
 pub each_answered : EachIsAnsweredOnce
-each_answered events past rest history = along (λ r. Unit {0}) Once once_kept refl events past rest (any_reports events) history
+each_answered events past rest history = along (λ e. Unit {0}) Once once_kept refl events past rest (any_events events) history

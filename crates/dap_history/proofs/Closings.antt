@@ -1,7 +1,6 @@
 -- A session that its input's end closed has taken that event, and Quit is the last order.
-use Rattle.std.proofs.Common.{◌≡◌, ◌⊎◌, inl, inr, ℕ, List, [], ◌∷◌, ◌++◌, Bool, true, false, Option, None, Some, Result, Ok, Err, refl, sym, ◌∙◌, ap, subst, append-nil}
+use Rattle.std.proofs.Common.{◌≡◌, ◌⊎◌, inl, inr, ℕ, List, [], ◌∷◌, ◌++◌, Bool, true, false, Option, None, Some, Result, Ok, Err, refl, sym, ◌∙◌, ap, subst}
 use Rattle.std.specs.Prelude.{nat_eq, if◌then◌else◌, ℤ}
-use Rattle.std.proofs.lemmas.Grind.{flat_map-append}
 use Rattle.dap_msg.specs.declared.command.Command.{Command}
 use Rattle.dap_msg.specs.declared.command.Command.TheVariants as command
 use Rattle.dap_msg.specs.declared.outgoing.Body.TheVariants as body
@@ -19,12 +18,10 @@ use Rattle.dap_history.specs.declared.ending.Closed.{Closed}
 use Rattle.dap_history.specs.declared.ending.Closed.TheVariants as closed
 use Rattle.dap_history.specs.declared.ending.Ending.{Ending}
 use Rattle.dap_history.specs.declared.ending.Ending.TheVariants as ending
-use Rattle.dap_history.specs.declared.fault.LoadFault.{LoadFault}
-use Rattle.dap_history.specs.declared.fault.LoadFault.TheVariants as load_fault
 use Rattle.dap_history.specs.declared.launch.Launch.{Launch}
 use Rattle.dap_history.specs.declared.situation.Situation.{Situation}
 use Rattle.dap_history.specs.declared.situation.Situation.TheVariants.{Fresh, Ready, Configuring, Running, Stopped, Faulted, Ended}
-use Rattle.dap_history.specs.Last.{or_else, last_such}
+use Rattle.dap_history.specs.Last.{or_else}
 use Rattle.dap_history.specs.History.{Launched, Item, Content, Loaded, Accepted, Fault, InputEnd, ReadFailure, MemoryFailure, Effect, Step, History, orders_of}
 use Rattle.dap_history.specs.Readings.{situation, launched, runs, position, plan, waiting_pause, is_held, closing_command, closing_report, closing, ending_of}
 use Rattle.dap_history.specs.Replies.{Reply, refused, causing, ordering, OfProgram, on_thread}
@@ -36,158 +33,87 @@ use Rattle.dap_history.specs.Frames.{frame_by_id}
 use Rattle.dap_history.specs.Inspection.{asked_of, scopes, variables, result_reply, EvaluatesIn, RepliesAt, Inspects, InspectsIn}
 use Rattle.dap_history.specs.Emission.{threads_in, RepliesIn, Causes, IsAfter}
 use Rattle.dap_history.specs.Interleaving.{Load, IsLoad, Interleaves}
-use Rattle.dap_history.specs.Events.{Incoming, Piece, End, ReadFailed, NoMemory, File, Report, Rest, only_bytes, IsTaking, Takes, none, one_more, Rests, closed as rests_closed, open_ended, faulty, waits, TakesAll, MayTake, LeadsByPiece, LeadsByFile, LeadsByReport, Loads, Leads, LeadsAll, IsHistoryOf}
-
--- ---- one more item
-
-or_else-none : {A : Type 0} (x : Option A) → or_else x None ≡ x
-or_else-none None = refl
-or_else-none (Some x) = refl
-
-or_else_assoc : {A : Type 0} (x y z : Option A) → or_else (or_else x y) z ≡ or_else x (or_else y z)
-or_else_assoc None y z = refl
-or_else_assoc (Some x) y z = refl
-
-last_such-snoc : {A B : Type 0} (f : A → Option B) (xs : List A) (x : A) → last_such f (xs ++ x ∷ []) ≡ or_else (f x) (last_such f xs)
-last_such-snoc f [] x = sym (or_else-none (f x))
-last_such-snoc f (y ∷ ys) x = ap (λ o. or_else o (f y)) (last_such-snoc f ys x) ∙ or_else_assoc (f x) (last_such f ys) (f y)
-
-ending_after : (past : History) (item : Item) (new : History) → IsAfter past item new → ending_of new ≡ or_else (closing item) (ending_of past)
-ending_after past item new after =
-    ap ending_of after.new_is ∙ last_such-snoc (λ (s : Step). closing s.item) past after.step ∙ ap (λ i. or_else (closing i) (ending_of past)) after.item_is
-
-orders_after : (past : History) (item : Item) (new : History) (after : IsAfter past item new) → orders_of new ≡ orders_of past ++ after.step.effect.orders
-orders_after past item new after =
-    ap orders_of after.new_is ∙ flat_map-append (λ (s : Step). s.effect.orders) past (after.step ∷ [])
-    ∙ ap (λ l. orders_of past ++ l) (append-nil after.step.effect.orders)
+use Rattle.dap_history.specs.Events.{Incoming, Piece, End, ReadFailed, NoMemory, File, Report, Rest, IsTaking, IsHistoryOf}
+use Rattle.dap_history.specs.Laws.{IsAmong, QuitIsLast}
+use Rattle.dap_history.proofs.Readings.{or_else-none, orders_of-snoc, ending_of-snoc}
+use Rattle.dap_history.proofs.Along.{IsTaken, IsKept, AllEvents, any_events, along}
 
 -- a session that took the item goes on only where the item doesn't close
 ends_by : (past : History) (item : Item) (new : History) → IsTaking past → IsAfter past item new → ending_of new ≡ closing item
-ends_by past item new taking after = ending_after past item new after ∙ ap (λ o. or_else (closing item) o) taking ∙ or_else-none (closing item)
-
--- ---- what holds along events
-
--- an item that neither the input's end nor a failed read is
-abbrev IsPlain : Item → Type 0
-IsPlain InputEnd = ⊥
-IsPlain ReadFailure = ⊥
-IsPlain _ = Unit {0}
-
-abbrev KeptBy : (History → Type 0) → Item → Type 0
-KeptBy P item = (past new : History) → IsTaking past → IsAfter past item new → P past → P new
-
-module _ (P : History → Type 0) (kept : (item : Item) → IsPlain item → KeptBy P item) where
-  walk_takes : {past : History} {bytes : List ℕ} {new : History} {left : List ℕ} → Takes past bytes new left → P past → P new
-  walk_takes none here = here
-  walk_takes (one_more {past = past} {mid = mid} request taking front unwanted after more) here =
-      walk_takes more (kept (Content request) tt past mid taking after here)
-
-  walk_rests : (past : History) (bytes : List ℕ) {new : History} {rest : Rest} → Rests past bytes new rest → P past → P new
-  walk_rests past bytes (rests_closed not) here = here
-  walk_rests past bytes (open_ended taking is) here = here
-  walk_rests past bytes (faulty k new taking is after) here = kept (Fault k) tt past new taking after here
-  walk_rests past bytes (waits request launch more taking front wanted) here = here
-
-  walk_all : (past : History) (bytes : List ℕ) (new : History) (rest : Rest) → TakesAll past bytes new rest → P past → P new
-  walk_all past bytes new rest all here = walk_rests all.mid all.left all.rests (walk_takes all.taken here)
-
-  walk_may : (past : History) (item : Item) (new : History) → KeptBy P item → MayTake past item new → P past → P new
-  walk_may past item new keeps (inl is) here = subst P (sym is.1) here
-  walk_may past item new keeps (inr is) here = keeps past new is.0 is.1 here
-
-  walk_piece : (past : History) (launch : Option Launch) (bytes : List ℕ) (new : History) (left : Rest) → LeadsByPiece past launch bytes new left → P past → P new
-  walk_piece past None bytes new left all here = walk_all past bytes new left all here
-  walk_piece past (Some launch) bytes new left is here = subst P (sym is.0) here
-
-  walk_loads : (past : History) (launch : Launch) (file : Option (List ℕ)) (bytes : List ℕ) (new : History) (left : Rest) → Loads past launch file bytes new left → P past → P new
-  walk_loads past launch file bytes new left loads here =
-      walk_all loads.mid bytes new left loads.after (kept (Loaded launch file) tt past loads.mid loads.taking loads.loaded here)
-
-  walk_file : (past : History) (rest : Rest) (launch : Option Launch) (file : Result (List ℕ) LoadFault) (new : History) (left : Rest) → LeadsByFile past rest launch file new left → P past → P new
-  walk_file past rest None file new left is here = subst P (sym is.0) here
-  walk_file past rest (Some launch) (Ok file) new left (inl is) here = subst P (sym is.1) here
-  walk_file past rest (Some launch) (Ok file) new left (inr loads) here = walk_loads past launch (Some file) rest.bytes new left loads here
-  walk_file past rest (Some launch) (Err load_fault.CannotRead) new left (inl is) here = subst P (sym is.1) here
-  walk_file past rest (Some launch) (Err load_fault.CannotRead) new left (inr loads) here = walk_loads past launch None rest.bytes new left loads here
-  walk_file past rest (Some launch) (Err load_fault.NoMemory) new left is here = walk_may past MemoryFailure new (kept MemoryFailure tt) is.0 here
-
-  walk_report : (past : History) (r : PlainReport) (new : History) → LeadsByReport past r new → P past → P new
-  walk_report past r new (inl is) here = subst P (sym is.1) here
-  walk_report past r new (inr is) here = kept (Accepted r) tt past new is.0 is.2 here
+ends_by past item new taking after =
+    ap ending_of after.new_is ∙ ending_of-snoc past after.step ∙ ap (λ i. or_else (closing i) (ending_of past)) after.item_is
+    ∙ ap (λ o. or_else (closing item) o) taking ∙ or_else-none (closing item)
 
 -- ---- the event that closed the session
 
-module _ (by : Closed) (asked : ¬ (closed.Disconnected ≡ by)) where
-  abbrev IsNotClosed : History → Type 0
-  IsNotClosed past = ¬ (ending_of past ≡ Some (ending.Closed by))
+module _ (own : Incoming) (is_own : (e : Incoming) → (own ≡ e) ⊎ ¬ (own ≡ e)) where
+  stands_or_not : (events : List Incoming) → IsAmong own events ⊎ AllEvents (λ e. ¬ (own ≡ e)) events
+  stands_or_not [] = inr tt
+  stands_or_not (e ∷ events) = onward (is_own e) (stands_or_not events)
+    where
+      onward : (own ≡ e) ⊎ ¬ (own ≡ e) → IsAmong own events ⊎ AllEvents (λ x. ¬ (own ≡ x)) events → IsAmong own (e ∷ events) ⊎ AllEvents (λ x. ¬ (own ≡ x)) (e ∷ events)
+      onward (inl same) there = inl ([], events, ap (λ x. x ∷ events) (sym same))
+      onward (inr other) (inl there) = inl (e ∷ there.0, there.1, ap (λ l. e ∷ l) there.2)
+      onward (inr other) (inr none) = inr (other, none)
 
-  command_not : (c : Command) → ¬ (closing_command c ≡ Some (ending.Closed by))
-  command_not command.Disconnect is = asked cc
-  command_not _ is = absurd cc
+  module _ (by : Closed) (asked : ¬ (closed.Disconnected ≡ by)) (at_end : closed.InputEnded ≡ by → own ≡ End) (at_failure : closed.ReadFailed ≡ by → own ≡ ReadFailed) where
+    abbrev IsNotClosed : History → Type 0
+    IsNotClosed past = ¬ (ending_of past ≡ Some (ending.Closed by))
 
-  report_not : (outcome : SliceOutcome) → ¬ (closing_report outcome ≡ Some (ending.Closed by))
-  report_not slice.NoMemory is = absurd cc
-  report_not _ is = absurd cc
+    command_not : (c : Command) → ¬ (closing_command c ≡ Some (ending.Closed by))
+    command_not command.Disconnect is = asked cc
+    command_not _ is = absurd cc
 
-  plain_not : (item : Item) → IsPlain item → ¬ (closing item ≡ Some (ending.Closed by))
-  plain_not (Content None) plain is = absurd cc
-  plain_not (Content (Some request)) plain is = command_not request.body is
-  plain_not (Loaded launch file) plain is = absurd cc
-  plain_not (Accepted r) plain is = report_not r.outcome is
-  plain_not (Fault k) plain is = absurd cc
-  plain_not InputEnd plain is = absurd plain
-  plain_not ReadFailure plain is = absurd plain
-  plain_not MemoryFailure plain is = absurd cc
+    report_not : (outcome : SliceOutcome) → ¬ (closing_report outcome ≡ Some (ending.Closed by))
+    report_not slice.NoMemory is = absurd cc
+    report_not _ is = absurd cc
 
-  not_kept : (item : Item) → ¬ (closing item ≡ Some (ending.Closed by)) → KeptBy IsNotClosed item
-  not_kept item not past new taking after here is = not (sym (ends_by past item new taking after) ∙ is)
+    -- no item closes so that another event brings
+    item_not : (past : History) (item : Item) → IsTaken (λ e. ¬ (own ≡ e)) past item → ¬ (closing item ≡ Some (ending.Closed by))
+    item_not past (Content None) taken is = absurd cc
+    item_not past (Content (Some request)) taken is = command_not request.body is
+    item_not past (Loaded launch file) taken is = absurd cc
+    item_not past (Accepted r) taken is = report_not r.outcome is
+    item_not past (Fault k) taken is = absurd cc
+    item_not past InputEnd other is = other (at_end cc)
+    item_not past ReadFailure other is = other (at_failure cc)
+    item_not past MemoryFailure taken is = absurd cc
 
-  plain_kept : (item : Item) → IsPlain item → KeptBy IsNotClosed item
-  plain_kept item plain = not_kept item (plain_not item plain)
+    not_closed_kept : IsKept (λ e. ¬ (own ≡ e)) IsNotClosed
+    not_closed_kept = record {
+      step = λ past item new taking taken after here is. item_not past item taken (sym (ends_by past item new taking after) ∙ is);
+    }
 
-  module _ (own : Incoming) (at_end : (own ≡ End) ⊎ ¬ (closed.InputEnded ≡ by)) (at_failure : (own ≡ ReadFailed) ⊎ ¬ (closed.ReadFailed ≡ by)) where
-    by_end : (past new : History) → (own ≡ End) ⊎ ¬ (closed.InputEnded ≡ by) → MayTake past InputEnd new → IsNotClosed past → (own ≡ End) ⊎ IsNotClosed new
-    by_end past new (inl same) may here = inl same
-    by_end past new (inr other) may here =
-        inr (walk_may IsNotClosed plain_kept past InputEnd new (not_kept InputEnd (λ is. other cc)) may here)
-
-    by_failure : (past new : History) → (own ≡ ReadFailed) ⊎ ¬ (closed.ReadFailed ≡ by) → MayTake past ReadFailure new → IsNotClosed past → (own ≡ ReadFailed) ⊎ IsNotClosed new
-    by_failure past new (inl same) may here = inl same
-    by_failure past new (inr other) may here =
-        inr (walk_may IsNotClosed plain_kept past ReadFailure new (not_kept ReadFailure (λ is. other cc)) may here)
-
-    by_event : (past : History) (rest : Rest) (e : Incoming) (new : History) (left : Rest) → Leads past rest e new left → IsNotClosed past → (own ≡ e) ⊎ IsNotClosed new
-    by_event past rest (Piece piece) new left leads here = inr (walk_piece IsNotClosed plain_kept past rest.launch (rest.bytes ++ piece) new left leads here)
-    by_event past rest End new left leads here = by_end past new at_end leads.0 here
-    by_event past rest ReadFailed new left leads here = by_failure past new at_failure leads.0 here
-    by_event past rest NoMemory new left leads here = inr (walk_may IsNotClosed plain_kept past MemoryFailure new (plain_kept MemoryFailure tt) leads.0 here)
-    by_event past rest (File file) new left leads here = inr (walk_file IsNotClosed plain_kept past rest rest.launch file new left leads here)
-    by_event past rest (Report r) new left leads here = inr (walk_report IsNotClosed plain_kept past r new leads.0 here)
-
-    abbrev Stands : List Incoming → Type 0
-    Stands events = (front : List Incoming) × (back : List Incoming) × (events ≡ front ++ own ∷ back)
-
-    -- a session that goes on, and is closed so after these events
-    closed_from : (past : History) (rest : Rest) (events : List Incoming) (new : History) (left : Rest) → LeadsAll past rest events new left → IsNotClosed past → ending_of new ≡ Some (ending.Closed by) → Stands events
-    closed_from past rest [] new left all not is = absurd (not (subst (λ h. ending_of h ≡ Some (ending.Closed by)) all.0 is))
-    closed_from past rest (e ∷ events) new left all not is =
-        onward (λ here. closed_from all.0 all.1 events new left all.3 here is) (by_event past rest e all.0 all.1 all.2 not)
+    closed_by : (events : List Incoming) (past : History) (rest : Rest) → IsHistoryOf events past rest → ending_of past ≡ Some (ending.Closed by) → IsAmong own events
+    closed_by events past rest history is = found (stands_or_not events)
       where
-        onward : (IsNotClosed all.0 → Stands events) → (own ≡ e) ⊎ IsNotClosed all.0 → Stands (e ∷ events)
-        onward later (inl same) = ([], events, ap (λ x. x ∷ events) (sym same))
-        onward later (inr here) = let there = later here in (e ∷ there.0, there.1, ap (λ l. e ∷ l) there.2)
+        found : IsAmong own events ⊎ AllEvents (λ e. ¬ (own ≡ e)) events → IsAmong own events
+        found (inl there) = there
+        found (inr none) = absurd (along (λ e. ¬ (own ≡ e)) IsNotClosed not_closed_kept (λ first. absurd cc) events past rest none history is)
+
+is_end : (e : Incoming) → (End ≡ e) ⊎ ¬ (End ≡ e)
+is_end (Piece p) = inr (λ same. absurd cc)
+is_end End = inl refl
+is_end ReadFailed = inr (λ same. absurd cc)
+is_end NoMemory = inr (λ same. absurd cc)
+is_end (File f) = inr (λ same. absurd cc)
+is_end (Report r) = inr (λ same. absurd cc)
+
+is_failure : (e : Incoming) → (ReadFailed ≡ e) ⊎ ¬ (ReadFailed ≡ e)
+is_failure (Piece p) = inr (λ same. absurd cc)
+is_failure End = inr (λ same. absurd cc)
+is_failure ReadFailed = inl refl
+is_failure NoMemory = inr (λ same. absurd cc)
+is_failure (File f) = inr (λ same. absurd cc)
+is_failure (Report r) = inr (λ same. absurd cc)
 
 -- A session that the input's end closed has taken it.
-pub closed_by_end : (events : List Incoming) (past : History) (rest : Rest) → IsHistoryOf events past rest → ending_of past ≡ Some (ending.Closed closed.InputEnded)
-    → (front : List Incoming) × (back : List Incoming) × (events ≡ front ++ End ∷ back)
-closed_by_end events past rest history is =
-    closed_from closed.InputEnded (λ same. absurd cc) End (inl refl) (inr (λ same. absurd cc)) [] (only_bytes []) events past rest history (λ none. absurd cc) is
+pub closed_by_end : (events : List Incoming) (past : History) (rest : Rest) → IsHistoryOf events past rest → ending_of past ≡ Some (ending.Closed closed.InputEnded) → IsAmong End events
+closed_by_end = closed_by End is_end closed.InputEnded (λ same. absurd cc) (λ same. refl) (λ same. absurd cc)
 
 -- A session that a failed read closed has taken it.
-pub closed_by_failure : (events : List Incoming) (past : History) (rest : Rest) → IsHistoryOf events past rest → ending_of past ≡ Some (ending.Closed closed.ReadFailed)
-    → (front : List Incoming) × (back : List Incoming) × (events ≡ front ++ ReadFailed ∷ back)
-closed_by_failure events past rest history is =
-    closed_from closed.ReadFailed (λ same. absurd cc) ReadFailed (inr (λ same. absurd cc)) (inl refl) [] (only_bytes []) events past rest history (λ none. absurd cc) is
+pub closed_by_failure : (events : List Incoming) (past : History) (rest : Rest) → IsHistoryOf events past rest → ending_of past ≡ Some (ending.Closed closed.ReadFailed) → IsAmong ReadFailed events
+closed_by_failure = closed_by ReadFailed is_failure closed.ReadFailed (λ same. absurd cc) (λ same. absurd cc) (λ same. refl)
 
 -- ---- Quit among orders
 
@@ -400,11 +326,11 @@ record Quits (past : History) : Type 0 where
   pub before : IsTaking past → NoQuit (orders_of past)
   pub last : (front more : List PlainOrder) → orders_of past ≡ front ++ Quit ∷ more → more ≡ []
 
-quits_kept : (item : Item) → KeptBy Quits item
-quits_kept item past new taking after here = by_item (item_quits past item after.step after.causes)
+quits_more : (past : History) (item : Item) (new : History) → IsTaking past → IsAfter past item new → Quits past → Quits new
+quits_more past item new taking after here = by_item (item_quits past item after.step after.causes)
   where
     orders_are : orders_of new ≡ orders_of past ++ after.step.effect.orders
-    orders_are = orders_after past item new after
+    orders_are = ap orders_of after.new_is ∙ orders_of-snoc past after.step
 
     by_item : QuitsBy after.step.effect.orders (closing item) → Quits new
     by_item (inl quiet) =
@@ -415,33 +341,15 @@ quits_kept item past new taking after here = by_item (item_quits past item after
       last = λ front more is. quit_ends (orders_of past) front more (here.before taking) (sym (ap (λ l. orders_of past ++ l) quits.0) ∙ sym orders_are ∙ is);
     }
 
-plain_quits : (item : Item) → IsPlain item → KeptBy Quits item
-plain_quits item plain = quits_kept item
+quits_kept : IsKept (λ e. Unit {0}) Quits
+quits_kept = record { step = λ past item new taking taken after here. quits_more past item new taking after here }
 
-event_quits : (past : History) (rest : Rest) (e : Incoming) (new : History) (left : Rest) → Leads past rest e new left → Quits past → Quits new
-event_quits past rest (Piece piece) new left leads here = walk_piece Quits plain_quits past rest.launch (rest.bytes ++ piece) new left leads here
-event_quits past rest End new left leads here = walk_may Quits plain_quits past InputEnd new (quits_kept InputEnd) leads.0 here
-event_quits past rest ReadFailed new left leads here = walk_may Quits plain_quits past ReadFailure new (quits_kept ReadFailure) leads.0 here
-event_quits past rest NoMemory new left leads here = walk_may Quits plain_quits past MemoryFailure new (quits_kept MemoryFailure) leads.0 here
-event_quits past rest (File file) new left leads here = walk_file Quits plain_quits past rest rest.launch file new left leads here
-event_quits past rest (Report r) new left leads here = walk_report Quits plain_quits past r new leads.0 here
-
-events_quit : (past : History) (rest : Rest) (events : List Incoming) (new : History) (left : Rest) → LeadsAll past rest events new left → Quits past → Quits new
-events_quit past rest [] new left all here = subst Quits (sym all.0) here
-events_quit past rest (e ∷ events) new left all here = events_quit all.0 all.1 events new left all.3 (event_quits past rest e all.0 all.1 all.2 here)
-
-quits_of : (events : List Incoming) (past : History) (rest : Rest) → IsHistoryOf events past rest → Quits past
-quits_of events past rest history =
-    events_quit [] (only_bytes []) events past rest history (record { before = λ taking. tt; last = λ front more is. absurd (no_quit_in [] front more tt is) })
+quits_first : Quits []
+quits_first = record { before = λ taking. tt; last = λ front more is. absurd (no_quit_in [] front more tt is) }
 
 -- Nothing is ordered after a Quit.
-pub quit_is_last : (events : List Incoming) (past : History) (rest : Rest) → IsHistoryOf events past rest → (front more : List PlainOrder) → orders_of past ≡ front ++ Quit ∷ more → more ≡ []
-quit_is_last events past rest history = (quits_of events past rest history).last
-
--- While the session takes items, none is ordered.
-pub no_quit_while_taking : (events : List Incoming) (past : History) (rest : Rest) → IsHistoryOf events past rest → IsTaking past → (front more : List PlainOrder) → ¬ (orders_of past ≡ front ++ Quit ∷ more)
-no_quit_while_taking events past rest history taking front more =
-    no_quit_in (orders_of past) front more ((quits_of events past rest history).before taking)
+pub quit_is_last : QuitIsLast
+quit_is_last events past rest history = (along (λ e. Unit {0}) Quits quits_kept quits_first events past rest (any_events events) history).last
 
 -- ---- what an inbox gave
 

@@ -1,8 +1,8 @@
 -- Each step of a history was caused by its item, after the steps before it.
 use Rattle.std.proofs.Common.{◌≡◌, ◌⊎◌, inl, inr, [], ◌∷◌, ◌++◌, refl, sym, ◌∙◌, ap, subst}
-use Rattle.dbg_runner.specs.Plain.{PlainReport}
 use Rattle.dap_history.specs.History.{Item, Step, History}
 use Rattle.dap_history.specs.Emission.{Causes, IsAfter}
+use Rattle.dap_history.specs.Events.{Incoming}
 use Rattle.dap_history.proofs.Along.{IsTaken, IsKept}
 
 abbrev head_of : (xs : History) (first : Step) → Step
@@ -34,17 +34,17 @@ splits (p ∷ past) s (x ∷ front) step more is = onward (splits past s front s
     onward (inr e) = inr (e.0, ap (λ y. y ∷ past) same ∙ ap (λ ys. x ∷ ys) e.1)
 
 -- the step was taken after these
-pub record WasTaken (Q : PlainReport → Type 0) (P : History → Type 0) (front : History) (step : Step) : Type 0 where
+pub record WasTaken (Q : Incoming → Type 0) (P : History → Type 0) (front : History) (step : Step) : Type 0 where
   pub held : P front
   pub taken : IsTaken Q front step.item
   pub causes : Causes front step.item step
 
-pub record EachTaken (Q : PlainReport → Type 0) (P : History → Type 0) (past : History) : Type 0 where
+pub record EachTaken (Q : Incoming → Type 0) (P : History → Type 0) (past : History) : Type 0 where
   pub now : P past
   pub each : (front : History) (step : Step) (more : History) → past ≡ front ++ step ∷ more → WasTaken Q P front step
 
 -- What is kept is so of each step of a history too.
-pub each_kept : (Q : PlainReport → Type 0) (P : History → Type 0) → IsKept Q P → IsKept Q (EachTaken Q P)
+pub each_kept : (Q : Incoming → Type 0) (P : History → Type 0) → IsKept Q P → IsKept Q (EachTaken Q P)
 each_kept Q P kept = record {
   step = λ past item new taking taken after here. record {
     now = kept.step past item new taking taken after here.now;
@@ -66,5 +66,5 @@ pub none_first : (front : History) (step : Step) (more : History) → ¬ ([] ≡
 none_first [] step more e = absurd cc
 none_first (x ∷ xs) step more e = absurd cc
 
-pub each_first : (Q : PlainReport → Type 0) (P : History → Type 0) → P [] → EachTaken Q P []
+pub each_first : (Q : Incoming → Type 0) (P : History → Type 0) → P [] → EachTaken Q P []
 each_first Q P first = record { now = first; each = λ front step more is. absurd (none_first front step more is) }

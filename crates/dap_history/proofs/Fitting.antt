@@ -48,7 +48,7 @@ use Rattle.dap_history.specs.Reports.{outputs, held, report_effect}
 use Rattle.dap_history.specs.Emission.{threads_in, RepliesIn, Answers, HasEffect, Causes}
 use Rattle.dap_history.specs.Events.{Incoming, Rest, IsHistoryOf}
 use Rattle.dap_history.proofs.Readings.{launched-snoc, messages_of-snoc}
-use Rattle.dap_history.proofs.Along.{IsKept, any_reports, along}
+use Rattle.dap_history.proofs.Along.{IsKept, any_events, along}
 use Rattle.dap_history.proofs.Silent.{all_silent}
 use Rattle.dap_history.proofs.Outputs.{report_launches}
 use Rattle.dap_history.proofs.Places.{most, BlockNear, read_near, MayBeNear, program_step_near, FramesNear, frames_near, next_step_near}
@@ -428,7 +428,7 @@ module _ (few : FramesAreFew) where
         (messages_fit-append (messages_of past) (messages step) (so_far.fit apart.0) (step_fits past step.item step so_far.near apart.1 causes));
   }
 
-  fitting_kept : IsKept (λ r. Unit {0}) Fitting
+  fitting_kept : IsKept (λ e. Unit {0}) Fitting
   fitting_kept = record {
     step = λ past item new taking taken after here.
         subst Fitting (sym after.new_is) (fitting_more past after.step (subst (λ i. Causes past i after.step) (sym after.item_is) after.causes) here);
@@ -436,4 +436,4 @@ module _ (few : FramesAreFew) where
 
   pub history_fits : (events : List Incoming) (past : History) (rest : Rest) → IsHistoryOf events past rest → ItemsFit past → MessagesFit (messages_of past)
   history_fits events past rest history items =
-      (along (λ r. Unit {0}) Fitting fitting_kept (record { near = tt; fit = λ is. tt }) events past rest (any_reports events) history).fit items
+      (along (λ e. Unit {0}) Fitting fitting_kept (record { near = tt; fit = λ is. tt }) events past rest (any_events events) history).fit items

@@ -6,16 +6,15 @@ use Rattle.dap_msg.specs.declared.command.CommandName.TheVariants as name
 use Rattle.dap_msg.specs.declared.command.Supported.TheVariants.{Disconnect}
 use Rattle.dap_msg.specs.declared.outgoing.Outgoing.TheVariants.{Answer, Event}
 use Rattle.dap_msg.specs.declared.outgoing.Body.TheVariants as body
-use Rattle.dbg_runner.specs.Plain.{PlainReport}
 use Rattle.dap_history.specs.declared.ending.Ending.{Ending}
 use Rattle.dap_history.specs.History.{Content, Step, History, with_answer, messages, messages_of}
 use Rattle.dap_history.specs.Readings.{closing, ending_of}
 use Rattle.dap_history.specs.Replies.{Reply}
 use Rattle.dap_history.specs.Emission.{Causes}
-use Rattle.dap_history.specs.Events.{IsTaking}
+use Rattle.dap_history.specs.Events.{Incoming, IsTaking}
 use Rattle.dap_history.specs.Laws.{DisconnectIsLast}
 use Rattle.dap_history.proofs.Readings.{last_such-append, messages_of-snoc}
-use Rattle.dap_history.proofs.Along.{IsKept, any_reports, along}
+use Rattle.dap_history.proofs.Along.{IsKept, any_events, along}
 use Rattle.dap_history.proofs.Each.{splits, none_first, WasTaken, EachTaken, each_kept, each_first}
 use Rattle.dap_history.proofs.Passing.{none_left}
 
@@ -40,7 +39,7 @@ closes_last_more past s taking here = record {
     by_place before step after by closes (inl is) = is.2
     by_place before step after by closes (inr is) = absurd (closed_there before step is.0 by closes (subst IsTaking is.1 taking))
 
-closes_last_kept : (Q : PlainReport → Type 0) → IsKept Q ClosesLast
+closes_last_kept : (Q : Incoming → Type 0) → IsKept Q ClosesLast
 closes_last_kept Q = record {
   step = λ past item new taking taken after here. subst ClosesLast (sym after.new_is) (closes_last_more past after.step taking here);
 }
@@ -62,10 +61,10 @@ disconnect_last events past rest history before step after seq past_is item_is =
       ∙ ap (λ l. messages_of before ++ l) (answers_it before step seq (subst (λ i. Causes before i step) item_is was.causes)),
 )
   where
-    each : EachTaken (λ r. Unit {0}) ClosesLast past
-    each = along (λ r. Unit {0}) (EachTaken (λ r. Unit {0}) ClosesLast) (each_kept (λ r. Unit {0}) ClosesLast (closes_last_kept (λ r. Unit {0}))) (each_first (λ r. Unit {0}) ClosesLast closes_last_first) events past rest (any_reports events) history
+    each : EachTaken (λ e. Unit {0}) ClosesLast past
+    each = along (λ e. Unit {0}) (EachTaken (λ e. Unit {0}) ClosesLast) (each_kept (λ e. Unit {0}) ClosesLast (closes_last_kept (λ e. Unit {0}))) (each_first (λ e. Unit {0}) ClosesLast closes_last_first) events past rest (any_events events) history
 
-    was : WasTaken (λ r. Unit {0}) ClosesLast before step
+    was : WasTaken (λ e. Unit {0}) ClosesLast before step
     was = each.each before step after past_is
 
     ends : after ≡ []

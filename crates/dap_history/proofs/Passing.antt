@@ -34,6 +34,7 @@ use Rattle.dap_history.specs.Replies.{Reply, stops, ends, stop_of}
 use Rattle.dap_history.specs.Reports.{Accepts, outputs, report_effect}
 use Rattle.dap_history.specs.Emission.{RepliesIn, HasEffect, Causes}
 use Rattle.dap_history.specs.Stops.{due_in, NoneDueUpTo, NoneDueBefore}
+use Rattle.dap_history.specs.Events.{Incoming}
 use Rattle.dap_history.proofs.Texts.{OneProgram}
 use Rattle.dap_history.proofs.Readings.{last_such-append}
 use Rattle.dap_history.proofs.Along.{IsTaken}
@@ -224,7 +225,7 @@ item_begins past ReadFailure step is = subst (BeginsHere (position past)) (sym i
 item_begins past MemoryFailure step is = subst (BeginsHere (position past)) (sym is.effect_is) none_begins
 
 -- nothing is launched while a program runs
-pub launches_not : (Q : PlainReport → Type 0) (past : History) (item : Item) (step : Step) → IsTaken Q past item → Causes past item step → IsRunning (situation past) → step.effect.launched ≡ None
+pub launches_not : (Q : Incoming → Type 0) (past : History) (item : Item) (step : Step) → IsTaken Q past item → Causes past item step → IsRunning (situation past) → step.effect.launched ≡ None
 launches_not Q past (Content None) step taken is running = ap (λ (e : Effect). e.launched) is.effect_is
 launches_not Q past (Content (Some request)) step taken is running =
     ap (λ (e : Effect). e.launched) is.2.effect_is ∙ (all_silent (situation past) past request.body is.0 is.1).no_launch

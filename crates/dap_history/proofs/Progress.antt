@@ -28,7 +28,7 @@ use Rattle.dap_history.specs.Emission.{Answers, HasEffect, Causes}
 use Rattle.dap_history.proofs.Texts.{OneProgram}
 use Rattle.dap_history.specs.Laws.{output, numbers, NumbersAreWritten}
 use Rattle.dap_history.proofs.Readings.{messages_of-snoc, launched-snoc, position-snoc, last_run-snoc, situation-snoc}
-use Rattle.dap_history.proofs.Along.{IsTaken, IsKept, lawful_reports, along}
+use Rattle.dap_history.proofs.Along.{IsTaken, IsKept, IsLawfulEvent, lawful_events, along}
 use Rattle.dap_history.proofs.Early.{IsEarly, IsEarlyMark, unanswered_late, answered_late, result_late, early_reply, early_unwrap}
 use Rattle.dap_history.proofs.Silent.{GoesBy, no_go, of_text, no_stop, IsSilent, all_silent}
 use Rattle.dap_history.proofs.Outputs.{answer_aside, no_answer, report_numbers, report_launches, GoesAs, GoesOn, no_run, as_text, report_goes}
@@ -229,7 +229,7 @@ module _ (one : OneProgram) (joins : WrittenJoins) where
 
   -- ---- each item
 
-  pub progress_more : (past : History) (item : Item) (step : Step) → step.item ≡ item → IsTaken IsLawful past item → Causes past item step → Progress past → Progress (past ++ step ∷ [])
+  pub progress_more : (past : History) (item : Item) (step : Step) → step.item ≡ item → IsTaken IsLawfulEvent past item → Causes past item step → Progress past → Progress (past ++ step ∷ [])
   progress_more past (Content None) step is taken causes so_far = nothing_aside past (Content None) step is refl nothing (record { no_numbers = refl; no_launch = refl; goes = no_go; stops = no_stop }) causes so_far
   progress_more past (Content (Some request)) step is taken causes so_far =
       aside_keeps past step
@@ -245,7 +245,7 @@ module _ (one : OneProgram) (joins : WrittenJoins) where
   progress_more past ReadFailure step is taken causes so_far = nothing_aside past ReadFailure step is refl (ordering (Quit ∷ [])) (record { no_numbers = refl; no_launch = refl; goes = no_go; stops = no_stop }) causes so_far
   progress_more past MemoryFailure step is taken causes so_far = nothing_aside past MemoryFailure step is refl nothing (record { no_numbers = refl; no_launch = refl; goes = no_go; stops = no_stop }) causes so_far
 
-  pub progress_kept : IsKept IsLawful Progress
+  pub progress_kept : IsKept IsLawfulEvent Progress
   progress_kept = record {
     step = λ past item new taking taken after here.
         subst Progress (sym after.new_is) (progress_more past item after.step after.item_is taken after.causes here);
@@ -260,5 +260,5 @@ module _ (one : OneProgram) (joins : WrittenJoins) where
 
   pub numbers_written : NumbersAreWritten
   numbers_written events past rest lawful history =
-      let so_far = along IsLawful Progress progress_kept progress_first events past rest (lawful_reports events lawful) history in
+      let so_far = along IsLawfulEvent Progress progress_kept progress_first events past rest (lawful_events events lawful) history in
       (λ l is. (so_far.progress (Some l) is).0, λ is. (so_far.progress None is).0)

@@ -18,7 +18,7 @@ use Rattle.dap_msg.specs.declared.outgoing.EventBody.{EventBody}
 use Rattle.dap_msg.specs.declared.outgoing.EventBody.TheVariants as event
 use Rattle.dap_msg.specs.declared.outgoing.StopReason.{StopReason}
 use Rattle.pl0_meaning.specs.Runs.{at}
-use Rattle.dbg_runner.specs.Plain.{PlainReport, PlainOrder, Go, Hold, Quit}
+use Rattle.dbg_runner.specs.Plain.{PlainOrder, Go, Hold, Quit}
 use Rattle.dap_history.specs.declared.situation.Situation.{Situation}
 use Rattle.dap_history.specs.declared.situation.Situation.TheVariants.{Fresh, Ready, Configuring, Running, Stopped, Faulted, Ended}
 use Rattle.dap_history.specs.Last.{or_else, last_such}
@@ -28,8 +28,9 @@ use Rattle.dap_history.specs.Replies.{Reply, OfProgram, refused}
 use Rattle.dap_history.specs.Inspection.{RepliesAt, asked_of, Inspects, InspectsIn}
 use Rattle.dap_history.specs.Emission.{RepliesIn, Answers, Causes}
 use Rattle.dap_history.specs.Stops.{stop_of_event, stop_in, IsStanding, StoppedLastAt, IsQuestion, AnswersFrom, QuestionsAreAnsweredThere}
+use Rattle.dap_history.specs.Events.{Incoming}
 use Rattle.dap_history.proofs.Readings.{situation-snoc, position-snoc}
-use Rattle.dap_history.proofs.Along.{IsTaken, IsKept, any_reports, along}
+use Rattle.dap_history.proofs.Along.{IsTaken, IsKept, any_events, along}
 use Rattle.dap_history.proofs.Each.{WasTaken, EachTaken, each_kept, each_first}
 
 -- ---- marks of a kind
@@ -135,7 +136,7 @@ abbrev pub Stood : History → Type 0
 Stood past = IsStanding (situation past) → (m : ℕ) × StoppedLastAt past m × (m ≡ position past)
 
 -- no report is accepted where the program stands
-moves_nothing : (Q : PlainReport → Type 0) (past : History) (item : Item) → IsTaken Q past item → IsStanding (situation past) → end_of item ≡ None
+moves_nothing : (Q : Incoming → Type 0) (past : History) (item : Item) → IsTaken Q past item → IsStanding (situation past) → end_of item ≡ None
 moves_nothing Q past (Content request) taken is = refl
 moves_nothing Q past (Loaded launch file) taken is = refl
 moves_nothing Q past (Accepted r) taken is = absurd (subst IsStanding taken.0.running is)
@@ -163,7 +164,7 @@ stands_on past step m none was = record {
   position_is = was.position_is;
 }
 
-stood_more : (Q : PlainReport → Type 0) (past : History) (step : Step) → IsTaken Q past step.item → Causes past step.item step → Stood past → Stood (past ++ step ∷ [])
+stood_more : (Q : Incoming → Type 0) (past : History) (step : Step) → IsTaken Q past step.item → Causes past step.item step → Stood past → Stood (past ++ step ∷ [])
 stood_more Q past step taken causes stood = by_stop (stop_in step) refl
   where
     onward : stop_in step ≡ None → (MarkIs IsStanding (step_mark step) ⊎ ((step_mark step ≡ None) × IsStanding (situation past)))
@@ -180,7 +181,7 @@ stood_more Q past step taken causes stood = by_stop (stop_in step) refl
     by_stop (Some r) is = stops_here past step r is
     by_stop None none = λ standing. onward none (mark_unwrap IsStanding (step_mark step) (situation past) (subst IsStanding (situation-snoc past step) standing))
 
-pub stood_kept : (Q : PlainReport → Type 0) → IsKept Q Stood
+pub stood_kept : (Q : Incoming → Type 0) → IsKept Q Stood
 stood_kept Q = record {
   step = λ past item new taking taken after here.
       subst Stood (sym after.new_is)
@@ -234,10 +235,10 @@ questions_answered events past rest history before request step asks = (
   λ b answer. standing_of (situation before) before request.body causes.0 b inspects (let e = sym causes.2.answer_is ∙ answer in cc),
 )
   where
-    each : EachTaken (λ r. Unit {0}) Stood past
-    each = along (λ r. Unit {0}) (EachTaken (λ r. Unit {0}) Stood) (each_kept (λ r. Unit {0}) Stood (stood_kept (λ r. Unit {0}))) (each_first (λ r. Unit {0}) Stood (λ is. absurd is)) events past rest (any_reports events) history
+    each : EachTaken (λ e. Unit {0}) Stood past
+    each = along (λ e. Unit {0}) (EachTaken (λ e. Unit {0}) Stood) (each_kept (λ e. Unit {0}) Stood (stood_kept (λ e. Unit {0}))) (each_first (λ e. Unit {0}) Stood (λ is. absurd is)) events past rest (any_events events) history
 
-    was : WasTaken (λ r. Unit {0}) Stood before step
+    was : WasTaken (λ e. Unit {0}) Stood before step
     was = each.each before step asks.after asks.past_is
 
     causes : (reply : Reply) × RepliesIn (situation before) before request.body reply × Answers request.seq (name_of request.body) reply step

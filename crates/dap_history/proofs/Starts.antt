@@ -3,7 +3,6 @@ use Rattle.std.proofs.Common.{◌≡◌, ℕ, List, Option, None, Some, refl, sy
 use Rattle.std.specs.Prelude.{unwrap_or}
 use Rattle.pl0_meaning.specs.Laws.{WrittenJoins}
 use Rattle.dbg_runner.specs.Plain.{PlainReport, Heading}
-use Rattle.dbg_runner.specs.Lawful.{IsLawful}
 use Rattle.dap_history.specs.Last.{last_such}
 use Rattle.dap_history.specs.History.{Launched, Item, Content, Loaded, Accepted, Fault, InputEnd, ReadFailure, MemoryFailure, Step, History, Effect}
 use Rattle.dap_history.specs.Readings.{go, situation, position, launched, end_of}
@@ -11,7 +10,7 @@ use Rattle.dap_history.specs.Reports.{Accepts, report_effect}
 use Rattle.dap_history.specs.Emission.{Causes}
 use Rattle.dap_history.specs.Stops.{run_in, EachRunStartsThere}
 use Rattle.dap_history.proofs.Readings.{position-snoc}
-use Rattle.dap_history.proofs.Along.{IsTaken, lawful_reports, along}
+use Rattle.dap_history.proofs.Along.{IsTaken, IsLawfulEvent, lawful_events, along}
 use Rattle.dap_history.proofs.Each.{WasTaken, EachTaken, each_kept, each_first}
 use Rattle.dap_history.proofs.Silent.{GoesBy, no_go, of_text, all_silent}
 use Rattle.dap_history.proofs.Outputs.{GoesAs, no_run, as_text, report_goes}
@@ -47,7 +46,7 @@ module _ (one : OneProgram) (joins : WrittenJoins) where
   of_report past r accepts ran run text None is = absurd (let e = sym (ran.so_far.progress None is).1 ∙ accepts.run_is in cc)
   of_report past r accepts ran run text (Some l) is = (l, is, text ∙ report_text one joins past r l accepts (ran.so_far.progress (Some l) is))
 
-  of_launched : (past : History) (item : Item) (step : Step) → IsTaken IsLawful past item → Causes past item step → Ran one joins past → (run : Heading) → run_in step ≡ Some run → OfLaunched past run
+  of_launched : (past : History) (item : Item) (step : Step) → IsTaken IsLawfulEvent past item → Causes past item step → Ran one joins past → (run : Heading) → run_in step ≡ Some run → OfLaunched past run
   of_launched past (Content None) step taken is ran run run_is = let e = sym (run_of_effect step _ is.effect_is) ∙ run_is in absurd cc
   of_launched past (Content (Some request)) step taken is ran run run_is =
       by_reply past (last_such go is.0.effect.orders) (all_silent (situation past) past request.body is.0 is.1).goes run (sym (run_of_effect step _ is.2.effect_is) ∙ run_is)
@@ -71,8 +70,8 @@ module _ (one : OneProgram) (joins : WrittenJoins) where
         starts_at (unwrap_or (end_of step.item) (position before)) (run_in step) (item_begins before step.item step was.causes) run run_is ∙ sym (position-snoc before step),
       )
     where
-      each : EachTaken IsLawful (Ran one joins) past
-      each = along IsLawful (EachTaken IsLawful (Ran one joins)) (each_kept IsLawful (Ran one joins) (ran_kept one joins)) (each_first IsLawful (Ran one joins) (ran_first one joins)) events past rest (lawful_reports events lawful) history
+      each : EachTaken IsLawfulEvent (Ran one joins) past
+      each = along IsLawfulEvent (EachTaken IsLawfulEvent (Ran one joins)) (each_kept IsLawfulEvent (Ran one joins) (ran_kept one joins)) (each_first IsLawfulEvent (Ran one joins) (ran_first one joins)) events past rest (lawful_events events lawful) history
 
-      was : WasTaken IsLawful (Ran one joins) before step
+      was : WasTaken IsLawfulEvent (Ran one joins) before step
       was = each.each before step after past_is

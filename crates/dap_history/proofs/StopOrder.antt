@@ -10,7 +10,6 @@ use Rattle.dap_msg.specs.declared.outgoing.EventBody.TheVariants as event
 use Rattle.pl0_meaning.specs.Laws.{WrittenJoins}
 use Rattle.dbg_runner.specs.declared.outcome.SliceOutcome.{SliceOutcome}
 use Rattle.dbg_runner.specs.Plain.{PlainReport}
-use Rattle.dbg_runner.specs.Lawful.{IsLawful}
 use Rattle.dbg_runner.specs.declared.outcome.SliceOutcome.TheVariants as slice
 use Rattle.dap_history.specs.declared.launch.Launch.{Launch}
 use Rattle.dap_history.specs.History.{Item, Content, Loaded, Accepted, Fault, InputEnd, ReadFailure, MemoryFailure, Step, History, Effect, with_answer, messages, messages_of}
@@ -23,7 +22,7 @@ use Rattle.dap_history.specs.Emission.{HasEffect, Causes}
 use Rattle.dap_history.proofs.Texts.{OneProgram}
 use Rattle.dap_history.specs.Laws.{output, numbers, StopsFollowNumbers}
 use Rattle.dap_history.proofs.Readings.{messages_of-snoc}
-use Rattle.dap_history.proofs.Along.{lawful_reports, along}
+use Rattle.dap_history.proofs.Along.{IsLawfulEvent, lawful_events, along}
 use Rattle.dap_history.proofs.Silent.{all_silent}
 use Rattle.dap_history.proofs.Progress.{Progress, progress_first, progress_kept, progress_more}
 use Rattle.dap_history.proofs.Each.{EachTaken, each_kept, each_first}
@@ -75,7 +74,7 @@ step_quiet past MemoryFailure step is = unanswered_quiet step _ is tt
 
 pub stops_follow : OneProgram → WrittenJoins → StopsFollowNumbers
 stops_follow one joins events past rest lawful history front step more past_is l is before reason after split =
-    let all = along IsLawful (EachTaken IsLawful Progress) (each_kept IsLawful Progress (progress_kept one joins)) (each_first IsLawful Progress (progress_first one joins)) events past rest (lawful_reports events lawful) history in
+    let all = along IsLawfulEvent (EachTaken IsLawfulEvent Progress) (each_kept IsLawfulEvent Progress (progress_kept one joins)) (each_first IsLawfulEvent Progress (progress_first one joins)) events past rest (lawful_events events lawful) history in
     let was = all.each front step more past_is in
     let so_far = progress_more one joins front step.item step refl was.taken was.causes was.held in
     let wrote = (so_far.progress (Some l) is).0 in

@@ -24,7 +24,7 @@ use Rattle.dap_history.specs.Emission.{Causes}
 use Rattle.dap_history.proofs.Texts.{OneProgram}
 use Rattle.dap_history.specs.Stops.{stop_of_event, stop_in, NoneDueUpTo, NoneDueBefore, due_in, IsRunsStop, IsRightStop, EachStopIsRight}
 use Rattle.dap_history.proofs.Readings.{situation-snoc, position-snoc, launched-snoc, last_run-snoc, last_such-append}
-use Rattle.dap_history.proofs.Along.{IsTaken, IsKept, lawful_reports, along}
+use Rattle.dap_history.proofs.Along.{IsTaken, IsKept, IsLawfulEvent, lawful_events, along}
 use Rattle.dap_history.proofs.Each.{WasTaken, EachTaken, each_kept, each_first}
 use Rattle.dap_history.proofs.Silent.{StopsBy, no_stop, at_first, all_silent}
 use Rattle.dap_history.proofs.Standing.{MarkIs, mark_unwrap, answers_only}
@@ -39,7 +39,7 @@ module _ (one : OneProgram) (joins : WrittenJoins) where
   not_begun : (past : History) → Progress past → situation past ≡ Ready → (last_run past ≡ None) × (position past ≡ 0)
   not_begun past so_far ready = let progress = so_far.progress None (so_far.early (subst IsEarly (sym ready) tt)) in (progress.1, progress.2)
 
-  configuring_more : (past : History) (step : Step) → IsTaken IsLawful past step.item → Causes past step.item step → Ran one joins past → IsConfiguring (situation (past ++ step ∷ []))
+  configuring_more : (past : History) (step : Step) → IsTaken IsLawfulEvent past step.item → Causes past step.item step → Ran one joins past → IsConfiguring (situation (past ++ step ∷ []))
       → (last_run (past ++ step ∷ []) ≡ None) × (position (past ++ step ∷ []) ≡ 0)
   configuring_more past step taken causes ran is = by_mark (mark_unwrap IsConfiguring (step_mark step) (situation past) (subst IsConfiguring (situation-snoc past step) is))
     where
@@ -50,11 +50,11 @@ module _ (one : OneProgram) (joins : WrittenJoins) where
         position-snoc past step ∙ ap (λ o. unwrap_or o (position past)) stays ∙ before.1,
       )
 
-      by_load : (item : Item) → IsLoaded item → IsTaken IsLawful past item → Causes past item step → (last_such go step.effect.orders ≡ None) × (end_of item ≡ None) × (situation past ≡ Ready)
+      by_load : (item : Item) → IsLoaded item → IsTaken IsLawfulEvent past item → Causes past item step → (last_such go step.effect.orders ≡ None) × (end_of item ≡ None) × (situation past ≡ Ready)
       by_load (Loaded launch file) loaded ready is = (ap (λ (e : Effect). last_such go e.orders) is.2.effect_is ∙ loaded_orders launch file is.0 is.1, refl, ready)
       by_load _ loaded taken is = absurd loaded
 
-      stays_there : (item : Item) → IsTaken IsLawful past item → IsConfiguring (situation past) → end_of item ≡ None
+      stays_there : (item : Item) → IsTaken IsLawfulEvent past item → IsConfiguring (situation past) → end_of item ≡ None
       stays_there (Accepted r) taken is = absurd (subst IsConfiguring taken.0.running is)
       stays_there _ taken is = refl
 
@@ -67,7 +67,7 @@ module _ (one : OneProgram) (joins : WrittenJoins) where
           keeps (no_mark_no_go step.effect.orders (none_left (last_such order_mark step.effect.orders) _ is.0).0) (stays_there step.item taken is.1) (ran.configuring is.1)
 
   -- the run that goes on passed nothing that is due
-  goes_on : (past : History) (item : Item) (step : Step) → step.item ≡ item → IsTaken IsLawful past item → Causes past item step → Ran one joins past → IsRunning (situation past) → step_mark step ≡ None
+  goes_on : (past : History) (item : Item) (step : Step) → step.item ≡ item → IsTaken IsLawfulEvent past item → Causes past item step → Ran one joins past → IsRunning (situation past) → step_mark step ≡ None
       → (l : Launched) → launched past ≡ Some l → (run : Heading) → last_run past ≡ Some run → (n : ℕ) → n ≡ unwrap_or (end_of item) (position past) → (run.start ≤ n) × NoneDueUpTo l run n
   goes_on past (Accepted r) step item_is taken causes ran running none l is run run_is n n_is =
       let same : taken.0.run ≡ run = let e = sym taken.0.run_is ∙ run_is in cc in
@@ -82,7 +82,7 @@ module _ (one : OneProgram) (joins : WrittenJoins) where
   goes_on past ReadFailure step item_is taken causes ran running none l is run run_is n n_is = subst (λ m. (run.start ≤ m) × NoneDueUpTo l run m) (sym n_is) (ran.running running l is run run_is)
   goes_on past MemoryFailure step item_is taken causes ran running none l is run run_is n n_is = subst (λ m. (run.start ≤ m) × NoneDueUpTo l run m) (sym n_is) (ran.running running l is run run_is)
 
-  running_more : (past : History) (step : Step) → IsTaken IsLawful past step.item → Causes past step.item step → Ran one joins past → IsRunning (situation (past ++ step ∷ []))
+  running_more : (past : History) (step : Step) → IsTaken IsLawfulEvent past step.item → Causes past step.item step → Ran one joins past → IsRunning (situation (past ++ step ∷ []))
       → (l : Launched) → launched (past ++ step ∷ []) ≡ Some l → (run : Heading) → last_run (past ++ step ∷ []) ≡ Some run
       → (run.start ≤ position (past ++ step ∷ [])) × NoneDueUpTo l run (position (past ++ step ∷ []))
   running_more past step taken causes ran running l is run run_is =
@@ -93,7 +93,7 @@ module _ (one : OneProgram) (joins : WrittenJoins) where
       by_mark none (inl mark) = absurd (runs_not step (answers_only past step.item step causes) none mark)
       by_mark none (inr was) =
           goes_on past step.item step refl taken causes ran was.1 was.0 l
-          (ap (λ o. or_else o (launched past)) (sym (launches_not IsLawful past step.item step taken causes was.1)) ∙ sym (launched-snoc past step) ∙ is)
+          (ap (λ o. or_else o (launched past)) (sym (launches_not IsLawfulEvent past step.item step taken causes was.1)) ∙ sym (launched-snoc past step) ∙ is)
           run (ap (λ o. or_else o (last_run past)) (sym none) ∙ sym (last_run-snoc past step) ∙ run_is) (position (past ++ step ∷ [])) (position-snoc past step)
 
       by_run : (o : Option Heading) → last_such go step.effect.orders ≡ o → BeginsAt (unwrap_or (end_of step.item) (position past)) (last_such go step.effect.orders)
@@ -112,18 +112,18 @@ module _ (one : OneProgram) (joins : WrittenJoins) where
               let there : run.start ≡ position (past ++ step ∷ []) = ap (λ (r : Heading). r.start) (sym same) ∙ from begins ∙ sym (position-snoc past step) in
               (omega (arith, there), λ k above up_to. absurd (omega (arith, there, above, up_to)))
 
-  ran_more : (past : History) (step : Step) → IsTaken IsLawful past step.item → Causes past step.item step → Ran one joins past → Ran one joins (past ++ step ∷ [])
+  ran_more : (past : History) (step : Step) → IsTaken IsLawfulEvent past step.item → Causes past step.item step → Ran one joins past → Ran one joins (past ++ step ∷ [])
   ran_more past step taken causes ran = record {
     so_far = progress_more one joins past step.item step refl taken causes ran.so_far;
     configuring = configuring_more past step taken causes ran;
     running = running_more past step taken causes ran;
   }
 
-  pub ran_kept : IsKept IsLawful (Ran one joins)
+  pub ran_kept : IsKept IsLawfulEvent (Ran one joins)
   ran_kept = record {
     step = λ past item new taken_ taken after here.
         subst (Ran one joins) (sym after.new_is)
-        (ran_more past after.step (subst (IsTaken IsLawful past) (sym after.item_is) taken) (subst (λ i. Causes past i after.step) (sym after.item_is) after.causes) here);
+        (ran_more past after.step (subst (IsTaken IsLawfulEvent past) (sym after.item_is) taken) (subst (λ i. Causes past i after.step) (sym after.item_is) after.causes) here);
   }
 
   pub ran_first : Ran one joins []
@@ -196,7 +196,7 @@ module _ (one : OneProgram) (joins : WrittenJoins) where
   stop_of_effect : (step : Step) (effect : Effect) → step.effect ≡ effect → stop_in step ≡ last_such stop_of_event effect.events
   stop_of_effect step effect is = ap (λ (e : Effect). last_such stop_of_event e.events) is
 
-  step_stops : (past : History) (item : Item) (step : Step) → IsTaken IsLawful past item → Causes past item step → Ran one joins past → (s : StopReason) → stop_in step ≡ Some s
+  step_stops : (past : History) (item : Item) (step : Step) → IsTaken IsLawfulEvent past item → Causes past item step → Ran one joins past → (s : StopReason) → stop_in step ≡ Some s
       → RightStop past s (unwrap_or (end_of item) (position past))
   step_stops past (Content None) step taken is ran s stop_is = let e = sym (stop_of_effect step _ is.effect_is) ∙ stop_is in absurd cc
   step_stops past (Content (Some request)) step taken is ran s stop_is =
@@ -215,8 +215,8 @@ module _ (one : OneProgram) (joins : WrittenJoins) where
       subst (RightStop before reason) (sym (stops_at.position_is ∙ position-snoc before stops_at.step))
       (step_stops before stops_at.step.item stops_at.step was.taken was.causes was.held reason stops_at.stop_is)
     where
-      each : EachTaken IsLawful (Ran one joins) past
-      each = along IsLawful (EachTaken IsLawful (Ran one joins)) (each_kept IsLawful (Ran one joins) ran_kept) (each_first IsLawful (Ran one joins) ran_first) events past rest (lawful_reports events lawful) history
+      each : EachTaken IsLawfulEvent (Ran one joins) past
+      each = along IsLawfulEvent (EachTaken IsLawfulEvent (Ran one joins)) (each_kept IsLawfulEvent (Ran one joins) ran_kept) (each_first IsLawfulEvent (Ran one joins) ran_first) events past rest (lawful_events events lawful) history
 
-      was : WasTaken IsLawful (Ran one joins) before stops_at.step
+      was : WasTaken IsLawfulEvent (Ran one joins) before stops_at.step
       was = each.each before stops_at.step stops_at.after stops_at.past_is
