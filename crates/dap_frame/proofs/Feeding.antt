@@ -58,7 +58,7 @@ fed header bytes piece new front true e is = subst (λ b. IsKept header b front)
 pub frames_one_more : (stream rest more content : List ℕ) (contents : List (List ℕ)) → Frames stream contents rest → IsFrameInFront rest content more → Frames stream (contents ++ content ∷ []) more
 frames_one_more stream rest more content contents h f = frames_join stream rest more contents (content ∷ []) h (more, f, refl)
 
-frame_longer : (bytes content rest piece : List ℕ) → IsFrameInFront bytes content rest → IsFrameInFront (bytes ++ piece) content (rest ++ piece)
+pub frame_longer : (bytes content rest piece : List ℕ) → IsFrameInFront bytes content rest → IsFrameInFront (bytes ++ piece) content (rest ++ piece)
 frame_longer bytes content rest piece f = record {
   header = f.header;
   lawful = f.lawful;

@@ -4,8 +4,9 @@ use Rattle.std.specs.Prelude.{map}
 use Rattle.std.specs.List.{filter_map}
 use Rattle.std.proofs.lemmas.List.{append_assoc, map-append}
 use Rattle.std.proofs.lemmas.List.Elements.{filter_map-append}
-use Rattle.dap_frame.specs.Frame.{IsFrameInFront, Frames}
+use Rattle.dap_frame.specs.Frame.{Frames}
 use Rattle.dap_frame.specs.Laws.{FramesJoin}
+use Rattle.dap_frame.proofs.Feeding.{frames_longer}
 use Rattle.dap_msg.specs.declared.request.Request.{Request}
 use Rattle.dap_msg.specs.declared.command.Command.{Command}
 use Rattle.dap_msg.specs.declared.command.Command.TheVariants as command
@@ -22,19 +23,7 @@ use Rattle.dap_history.specs.Emission.{IsAfter}
 use Rattle.dap_history.specs.Events.{Incoming, Piece, End, ReadFailed, NoMemory, File, Report, Rest, only_bytes, IsInFront, Takes, none, one_more, Rests, closed, open_ended, faulty, waits, TakesAll, MayTake, LeadsByPiece, LeadsByFile, LeadsByReport, Loads, LeadsAll}
 use Rattle.dap_history.specs.Laws.{stream_of, launch_request, read_as, waiting, contents_read, AreRead, ContentsAreOfTheStream}
 
--- ---- frames, and what is read
-
-pub front_more : (bytes content rest more : List ℕ) → IsFrameInFront bytes content rest → IsFrameInFront (bytes ++ more) content (rest ++ more)
-front_more bytes content rest more is = record {
-  header = is.header;
-  lawful = is.lawful;
-  spelled = ap (λ b. b ++ more) is.spelled ∙ append_assoc is.header (content ++ rest) more ∙ ap (λ b. is.header ++ b) (append_assoc content rest more);
-}
-
-frames_more : (bytes : List ℕ) (contents : List (List ℕ)) (rest more : List ℕ) → Frames bytes contents rest → Frames (bytes ++ more) contents (rest ++ more)
-frames_more bytes [] rest more is = ap (λ b. b ++ more) is
-frames_more bytes (content ∷ contents) rest more is =
-    (is.0 ++ more, front_more bytes content is.0 more is.1, frames_more is.0 contents rest more is.2)
+-- ---- what is read
 
 read-append : (cs ds : List (List ℕ)) (rs ss : List (Option Request)) → AreRead cs rs → AreRead ds ss → AreRead (cs ++ ds) (rs ++ ss)
 read-append [] ds [] ss a b = b
@@ -67,7 +56,7 @@ gives_one : (bytes : List ℕ) (request : Option Request) (more : List ℕ) → 
 gives_one bytes request more front = record { contents = front.content ∷ []; framed = (more, front.framed, refl); read = (front.read, tt) }
 
 gives_more : (bytes left : List ℕ) (requests : List (Option Request)) (more : List ℕ) → Gives bytes left requests → Gives (bytes ++ more) (left ++ more) requests
-gives_more bytes left requests more is = record { contents = is.contents; framed = frames_more bytes is.contents left more is.framed; read = is.read }
+gives_more bytes left requests more is = record { contents = is.contents; framed = frames_longer bytes left more is.contents is.framed; read = is.read }
 
 module _ (join : FramesJoin) where
   gives_both : (bytes mid left : List ℕ) (rs ss : List (Option Request)) → Gives bytes mid rs → Gives mid left ss → Gives bytes left (rs ++ ss)

@@ -4,18 +4,18 @@ use Rattle.std.proofs.lemmas.List.{append_assoc, take-append-le}
 use Rattle.dap_frame.specs.declared.fault.FramingFault.{FramingFault}
 use Rattle.dap_frame.specs.declared.fault.FramingFault.TheVariants.{HeaderTooLong, BadField, NoLength, TwoLengths, BadLength, TooLarge, NoMemory as NoRoom}
 use Rattle.dap_frame.specs.Header.{HasFaultyLine, IsTooLong, FaultAt, lines_of, line_of, header_limit}
+use Rattle.dap_frame.proofs.Feeding.{frame_longer}
 use Rattle.dap_msg.specs.declared.request.Request.{Request}
 use Rattle.dap_history.specs.declared.launch.Launch.{Launch}
 use Rattle.dap_history.specs.History.{History, Fault}
 use Rattle.dap_history.specs.Events.{Incoming, Piece, Rest, only_bytes, IsTaking, IsInFront, Takes, none, one_more, Rests, closed, open_ended, faulty, waits, TakesAll, LeadsByPiece, Leads, LeadsAll}
 use Rattle.dap_history.specs.Laws.{CutsChangeNothing}
 use Rattle.dap_history.proofs.Along.{closes_for_good}
-use Rattle.dap_history.proofs.Contents.{front_more}
 
 -- ---- more bytes after those there are
 
 in_front_more : (bytes : List ℕ) (request : Option Request) (left more : List ℕ) → IsInFront bytes request left → IsInFront (bytes ++ more) request (left ++ more)
-in_front_more bytes request left more is = record { content = is.content; framed = front_more bytes is.content left more is.framed; read = is.read }
+in_front_more bytes request left more is = record { content = is.content; framed = frame_longer bytes is.content left more is.framed; read = is.read }
 
 line_more : (bytes more : List ℕ) (k : FramingFault) → HasFaultyLine bytes k → HasFaultyLine (bytes ++ more) k
 line_more bytes more k is = record {
