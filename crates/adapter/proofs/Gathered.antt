@@ -32,6 +32,7 @@ use Rattle.dap_wires.specs.Reading.{IsReadUntil, last_of}
 use Rattle.dap_wires.specs.Senders.{from_client, reports_among}
 use Rattle.dap_wires.specs.Transfer.{Supply, Output, WritesAll}
 use Rattle.dap_wires.specs.Writing.{IsWrittenUntil}
+use Rattle.dap_wires.proofs.Sending.{client_append, frames_append}
 use Rattle.adapter.specs.Jobs.{Drove}
 use Rattle.adapter.specs.Serving.{Streams, input_of, output_of, nothing_sent, Writes, TakesAllSent, TakesAllOrders, IsDriven}
 
@@ -63,11 +64,6 @@ ended_whole (parcel.End ∷ []) [] ended whole = refl
 ended_whole (parcel.End ∷ []) (p ∷ more) ended whole = absurd whole
 ended_whole (parcel.End ∷ p ∷ taken) more ended whole = absurd ended
 
-frames_both : (xs ys : List Parcel) → frames_in (xs ++ ys) ≡ frames_in xs ++ frames_in ys
-frames_both [] ys = refl
-frames_both (parcel.Frame frame ∷ xs) ys = ap (λ l. frame.items ∷ l) (frames_both xs ys)
-frames_both (parcel.End ∷ xs) ys = frames_both xs ys
-
 -- the frames that were put were written, or a beginning of them
 pub writes_frames : (wrote : Result (Unit {0}) WriteFailed) (taken put : List Parcel) (frames : List (List ℕ)) (old later : Output)
     → Begins taken put → frames_in put ≡ frames → (has_end put ≡ false) ⊎ AreEnded put → IsWrittenUntil wrote taken old later → Writes wrote (concat frames) old later
@@ -78,7 +74,7 @@ writes_frames (Ok done) taken put frames old later begins frames_are (inr ended)
     subst (λ f. WritesAll (concat f) old later) same written.1
 writes_frames (Err failed) taken put frames old later begins frames_are ended written =
     let whole : concat frames ≡ concat (frames_in taken) ++ concat (frames_in begins.0) =
-    ap concat (sym frames_are ∙ (ap frames_in (sym begins.1) ∙ frames_both taken begins.0)) ∙ concat-append (frames_in taken) (frames_in begins.0) in
+    ap concat (sym frames_are ∙ (ap frames_in (sym begins.1) ∙ frames_append taken begins.0)) ∙ concat-append (frames_in taken) (frames_in begins.0) in
     let part = written.1.0 in (
       (part.0, part.1, subst (Begins part.0) (sym whole) (begins_more part.0 (concat (frames_in taken)) (concat (frames_in begins.0)) part.2)),
       written.1.1,
@@ -122,15 +118,6 @@ last_sent (p ∷ pieces) last [] ys own one other e =
     let same : Piece p ≡ own = search (e, rules) in
     absurd (other (subst IsPiece same tt))
 last_sent (p ∷ pieces) last (x ∷ xs) ys own one other e = last_sent pieces last xs ys own one other (tail_is e)
-
-client_both : (xs ys : List Incoming) → from_client (xs ++ ys) ≡ from_client xs ++ from_client ys
-client_both [] ys = refl
-client_both (Piece bytes ∷ xs) ys = ap (λ l. Piece bytes ∷ l) (client_both xs ys)
-client_both (End ∷ xs) ys = ap (λ l. End ∷ l) (client_both xs ys)
-client_both (ReadFailed ∷ xs) ys = ap (λ l. ReadFailed ∷ l) (client_both xs ys)
-client_both (NoMemoryCame ∷ xs) ys = ap (λ l. NoMemoryCame ∷ l) (client_both xs ys)
-client_both (File file ∷ xs) ys = ap (λ l. File file ∷ l) (client_both xs ys)
-client_both (Report r ∷ xs) ys = client_both xs ys
 
 -- all that was sent was taken where that has an event that is no piece
 all_taken : (end : ReadEnd) (taken client front back : List Incoming) (own : Incoming) (old later : Supply) → IsReadUntil end client old later
@@ -194,11 +181,11 @@ takes_client (Ok closed.Disconnected) events given client loads sent end old lat
 takes_client (Ok closed.InputEnded) events given client loads sent end old later drives read begins =
     let by = closed_by_end events drives.1.past drives.1.rest drives.1.history drives.1.ending_is in
     let own = interleaved_end events given loads drives.0 by.0 by.1 by.2 in
-    all_taken end (from_client given) client (from_client own.0) (from_client own.1) End old later read begins (λ p. p) (ap from_client own.2 ∙ client_both own.0 (End ∷ own.1))
+    all_taken end (from_client given) client (from_client own.0) (from_client own.1) End old later read begins (λ p. p) (ap from_client own.2 ∙ client_append own.0 (End ∷ own.1))
 takes_client (Ok closed.ReadFailed) events given client loads sent end old later drives read begins =
     let by = closed_by_failure events drives.1.past drives.1.rest drives.1.history drives.1.ending_is in
     let own = interleaved_failure events given loads drives.0 by.0 by.1 by.2 in
-    all_taken end (from_client given) client (from_client own.0) (from_client own.1) ReadFailed old later read begins (λ p. p) (ap from_client own.2 ∙ client_both own.0 (ReadFailed ∷ own.1))
+    all_taken end (from_client given) client (from_client own.0) (from_client own.1) ReadFailed old later read begins (λ p. p) (ap from_client own.2 ∙ client_append own.0 (ReadFailed ∷ own.1))
 takes_client (Err fault) events given client loads sent end old later drives read begins = begins
 
 all_orders : (events : List Incoming) (by : Ending) (sent : Ports) (acts : List Act) → Serves events by nothing_sent sent → Begins (flat_map order_in acts) sent.orders

@@ -13,15 +13,15 @@ abbrev tail_of : History → History
 tail_of [] = []
 tail_of (x ∷ xs) = xs
 
+pub none_first : (front : History) (step : Step) (more : History) → ¬ ([] ≡ front ++ step ∷ more)
+none_first [] step more e = absurd cc
+none_first (x ∷ xs) step more e = absurd cc
+
 -- a list with one more element splits before that element, or at it
 pub splits : (past : History) (s : Step) (front : History) (step : Step) (more : History) → past ++ s ∷ [] ≡ front ++ step ∷ more
     → ((past ≡ front) × (s ≡ step) × (more ≡ [])) ⊎ ((rest : History) × (past ≡ front ++ step ∷ rest))
 splits [] s [] step more is = inl (refl, ap (λ xs. head_of xs s) is, sym (ap tail_of is))
-splits [] s (x ∷ front) step more is = absurd (none front (ap tail_of is))
-  where
-    none : (front : History) → ¬ ([] ≡ front ++ step ∷ more)
-    none [] e = absurd cc
-    none (y ∷ ys) e = absurd cc
+splits [] s (x ∷ front) step more is = absurd (none_first front step more (ap tail_of is))
 splits (p ∷ past) s [] step more is = inr (past, ap (λ x. x ∷ past) (ap (λ xs. head_of xs s) is))
 splits (p ∷ past) s (x ∷ front) step more is = onward (splits past s front step more (ap tail_of is))
   where
@@ -61,10 +61,6 @@ each_kept Q P kept = record {
           taken = subst (IsTaken Q past) (sym after.item_is) taken;
           causes = subst (λ i. Causes past i after.step) (sym after.item_is) after.causes;
         }))
-
-pub none_first : (front : History) (step : Step) (more : History) → ¬ ([] ≡ front ++ step ∷ more)
-none_first [] step more e = absurd cc
-none_first (x ∷ xs) step more e = absurd cc
 
 pub each_first : (Q : Incoming → Type 0) (P : History → Type 0) → P [] → EachTaken Q P []
 each_first Q P first = record { now = first; each = λ front step more is. absurd (none_first front step more is) }

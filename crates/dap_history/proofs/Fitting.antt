@@ -296,10 +296,7 @@ module _ (few : FramesAreFew) where
   resumes_in_fit Running past pace thread reply says = fits_if reply _ (refused_fits _) says
   resumes_in_fit Stopped past pace thread reply says = resumes_fit (launched past) reply pace thread _ (λ l. tt) says
   resumes_in_fit Faulted past pace thread reply says =
-      fits_if reply _ (thread_fits thread _ (record { result = pace_fits pace; events = (small 1 (lit≤ tt), (tt, tt)) })) says
-    where
-      small : (n : ℕ) → n ≤ 1 → n < 2 ^ 64
-      small n is = omega arith
+      fits_if reply _ (thread_fits thread _ (record { result = pace_fits pace; events = (near_small 1 (lit≤ tt), (tt, tt)) })) says
   resumes_in_fit Fresh past pace thread reply says = fits_if reply _ (refused_fits _) says
   resumes_in_fit Ready past pace thread reply says = fits_if reply _ (refused_fits _) says
   resumes_in_fit Configuring past pace thread reply says = fits_if reply _ (refused_fits _) says
@@ -352,10 +349,7 @@ module _ (few : FramesAreFew) where
   report_fits past r slice.More = outputs_fit r.numbers
   report_fits past r (slice.Due reason) = events_fit-append (outputs r) (stops _) (outputs_fit r.numbers) (tt, tt)
   report_fits past r slice.Held = held_fits past r (waiting_pause past)
-  report_fits past r slice.Done = events_fit-append (outputs r) (ends 0) (outputs_fit r.numbers) (small 0 (lit≤ tt), (tt, tt))
-    where
-      small : (n : ℕ) → n ≤ 1 → n < 2 ^ 64
-      small n is = omega arith
+  report_fits past r slice.Done = events_fit-append (outputs r) (ends 0) (outputs_fit r.numbers) (near_small 0 (lit≤ tt), (tt, tt))
   report_fits past r (slice.Fault fault) = events_fit-append (outputs r) (stops _) (outputs_fit r.numbers) (tt, tt)
   report_fits past r slice.NoMemory = tt
 

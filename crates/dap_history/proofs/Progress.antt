@@ -92,18 +92,21 @@ aside_progress past step aside (Some l) is progress = (
   progress.2,
 )
 
+was_early : (past : History) (step : Step) → (IsEarlyMark (step_mark step) → situation past ≡ Fresh) → IsEarly (situation (past ++ step ∷ [])) → IsEarly (situation past)
+was_early past step marks is = by_mark (early_unwrap (step_mark step) (situation past) (subst IsEarly (situation-snoc past step) is))
+  where
+    by_mark : (IsEarlyMark (step_mark step)) ⊎ ((step_mark step ≡ None) × IsEarly (situation past)) → IsEarly (situation past)
+    by_mark (inl m) = subst IsEarly (sym (marks m)) tt
+    by_mark (inr stays) = stays.1
+
 aside_keeps : (past : History) (step : Step) → IsAside past step → (IsEarlyMark (step_mark step) → situation past ≡ Fresh) → Progress past → Progress (past ++ step ∷ [])
 aside_keeps past step aside marks so_far = record {
-  early = λ is. launch_same ∙ so_far.early (was_early (early_unwrap (step_mark step) (situation past) (subst IsEarly (situation-snoc past step) is)));
+  early = λ is. launch_same ∙ so_far.early (was_early past step marks is);
   progress = λ l is. aside_progress past step aside l (sym launch_same ∙ is) (so_far.progress l (sym launch_same ∙ is));
 }
   where
     launch_same : launched (past ++ step ∷ []) ≡ launched past
     launch_same = launched-snoc past step ∙ ap (λ o. or_else o (launched past)) aside.no_launch
-
-    was_early : (IsEarlyMark (step_mark step)) ⊎ ((step_mark step ≡ None) × IsEarly (situation past)) → IsEarly (situation past)
-    was_early (inl m) = subst IsEarly (sym (marks m)) tt
-    was_early (inr is) = is.1
 
 silent_aside : (past : History) (step : Step) (effect : Effect) → step.effect ≡ effect → end_of step.item ≡ None → IsSilent (situation past) past effect → numbers (messages step) ≡ filter_map output (map Event step.effect.events) → IsAside past step
 silent_aside past step effect is stays silent progress = record {
@@ -167,16 +170,12 @@ module _ (one : OneProgram) (joins : WrittenJoins) where
 
   report_keeps : (past : History) (r : PlainReport) (step : Step) → step.item ≡ Accepted r → HasEffect (report_effect past r r.outcome) step → Accepts past r → IsLawful r → Progress past → Progress (past ++ step ∷ [])
   report_keeps past r step is has accepts lawful so_far = record {
-    early = λ e. launch_same ∙ so_far.early (was_early (early_unwrap (step_mark step) (situation past) (subst IsEarly (situation-snoc past step) e)));
+    early = λ e. launch_same ∙ so_far.early (was_early past step (λ m. absurd (unanswered_late step has.answer_is m)) e);
     progress = λ l e. report_progress past r step is has accepts lawful l (so_far.progress l (sym launch_same ∙ e));
   }
     where
       launch_same : launched (past ++ step ∷ []) ≡ launched past
       launch_same = launched-snoc past step ∙ ap (λ (e : Effect). or_else e.launched (launched past)) has.effect_is ∙ ap (λ o. or_else o (launched past)) (report_launches past r r.outcome)
-
-      was_early : (IsEarlyMark (step_mark step)) ⊎ ((step_mark step ≡ None) × IsEarly (situation past)) → IsEarly (situation past)
-      was_early (inl m) = absurd (unanswered_late step has.answer_is m)
-      was_early (inr is) = is.1
 
   -- ---- a launch
 

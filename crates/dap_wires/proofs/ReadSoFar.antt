@@ -1,8 +1,9 @@
 -- What was read and sent so far.
 use Rattle.std.proofs.Common.{◌≡◌, ℕ, false, true≢false, List, [], ◌∷◌, ◌++◌, refl, sym, ◌∙◌, ap, subst, append-nil, Ok, Err, rules}
-use Rattle.std.specs.Prelude.{map, Some, None, unwrap_or, Result, OnOk}
+use Rattle.std.specs.Prelude.{map, Some, None, Result, OnOk}
 use Rattle.std.specs.Result.{is_err}
 use Rattle.std.proofs.lemmas.List.{map-append}
+use Rattle.std.proofs.lemmas.Option.{same_Some}
 use Rattle.dap_history.specs.Events.{Incoming, Piece}
 use Rattle.dap_session.specs.declared.ports.Event.{Event}
 use Rattle.dap_session.specs.declared.ports.Event.TheVariants as event
@@ -29,9 +30,6 @@ are_read-append (first ∷ events) e old mid later before now = (before.0, befor
 
 some_is_no_none : {A : Type 0} {x : ReadEnd} → Some x ≡ None → A
 some_is_no_none e = absurd (search (e, rules))
-
-same_in_some : {x y : ReadEnd} → Some x ≡ Some y → x ≡ y
-same_in_some {x} e = ap (λ o. unwrap_or o x) e
 
 -- where nothing was handed back, it was sent
 pub when_ok : {A B : Type 0} {P : Type 0} (answer : Result A B) → is_err answer ≡ false → OnOk answer P → P
@@ -77,11 +75,11 @@ pub read_ends : (put_old put_mid put_new : List Incoming) (old mid later : Suppl
     → end_by (incoming_of e) ≡ Some end → IsRead (incoming_of e) mid later → put_new ≡ put_mid ++ incoming_of e ∷ [] → Until end put_old put_new old later
 read_ends put_old put_mid put_new old mid later (event.Piece piece) end r is now put_is = some_is_no_none (sym is)
 read_ends put_old put_mid put_new old mid later event.End end r is now put_is =
-    rw (sym (same_in_some is)) (ends_by put_old put_mid put_new old mid later _ _ r refl (λ s. refl) now put_is)
+    rw (sym (same_Some _ _ is)) (ends_by put_old put_mid put_new old mid later _ _ r refl (λ s. refl) now put_is)
 read_ends put_old put_mid put_new old mid later event.ReadFailed end r is now put_is =
-    rw (sym (same_in_some is)) (ends_by put_old put_mid put_new old mid later _ _ r refl (λ s. refl) now put_is)
+    rw (sym (same_Some _ _ is)) (ends_by put_old put_mid put_new old mid later _ _ r refl (λ s. refl) now put_is)
 read_ends put_old put_mid put_new old mid later event.NoMemory end r is now put_is =
-    rw (sym (same_in_some is)) (ends_by put_old put_mid put_new old mid later _ _ r refl (λ s. refl) now put_is)
+    rw (sym (same_Some _ _ is)) (ends_by put_old put_mid put_new old mid later _ _ r refl (λ s. refl) now put_is)
 read_ends put_old put_mid put_new old mid later (event.File (Ok file)) end r is now put_is = absurd now
 read_ends put_old put_mid put_new old mid later (event.File (Err fault)) end r is now put_is = absurd now
 read_ends put_old put_mid put_new old mid later (event.Report x) end r is now put_is = some_is_no_none (sym is)
