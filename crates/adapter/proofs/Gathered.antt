@@ -17,7 +17,7 @@ use Rattle.dap_history.specs.Interleaving.{Load, Interleaves}
 use Rattle.dap_history.proofs.Closings.{closed_by_end, closed_by_failure, interleaved_end, interleaved_failure, quit_is_last}
 use Rattle.dap_session.specs.Ports.{Ports, Ordered}
 use Rattle.dap_session.specs.Sending.{Begins}
-use Rattle.dap_session.specs.Serving.{Drives, Driven, Serves}
+use Rattle.dap_session.specs.Serving.{Serves, Drives, closes}
 use Rattle.dbg_runner.specs.Plain.{PlainOrder, PlainReport, Quit}
 use Rattle.dbg_runner.specs.Queues.{order_in, sent_in, handed_back_in}
 use Rattle.dbg_runner.specs.Runner.{Act, Runner, Idle, Ended, Does, Leads}
@@ -175,16 +175,16 @@ ends_by (act ∷ acts) leads = ends_by_some Idle act acts leads
 -- ---- all together
 
 takes_client : (result : Result Closed SessionFault) (events given client : List Incoming) (loads : List Load) (sent : Ports) (end : ReadEnd) (old later : Supply)
-    → Drives result events given loads nothing_sent sent → IsReadUntil end client old later → Begins (from_client given) client
+    → Drives events given loads nothing_sent sent result → IsReadUntil end client old later → Begins (from_client given) client
     → TakesAllSent result (from_client given) client
 takes_client (Ok closed.Disconnected) events given client loads sent end old later drives read begins = begins
-takes_client (Ok closed.InputEnded) events given client loads sent end old later drives read begins =
-    let by = closed_by_end events drives.1.past drives.1.rest drives.1.history drives.1.ending_is in
-    let own = interleaved_end events given loads drives.0 by.0 by.1 by.2 in
+takes_client (Ok closed.InputEnded) events given client loads sent end old later (closes from serves) read begins =
+    let by = closed_by_end events serves.past serves.rest serves.history serves.ending_is in
+    let own = interleaved_end events given loads from by.0 by.1 by.2 in
     all_taken end (from_client given) client (from_client own.0) (from_client own.1) End old later read begins (λ p. p) (ap from_client own.2 ∙ client_append own.0 (End ∷ own.1))
-takes_client (Ok closed.ReadFailed) events given client loads sent end old later drives read begins =
-    let by = closed_by_failure events drives.1.past drives.1.rest drives.1.history drives.1.ending_is in
-    let own = interleaved_failure events given loads drives.0 by.0 by.1 by.2 in
+takes_client (Ok closed.ReadFailed) events given client loads sent end old later (closes from serves) read begins =
+    let by = closed_by_failure events serves.past serves.rest serves.history serves.ending_is in
+    let own = interleaved_failure events given loads from by.0 by.1 by.2 in
     all_taken end (from_client given) client (from_client own.0) (from_client own.1) ReadFailed old later read begins (λ p. p) (ap from_client own.2 ∙ client_append own.0 (ReadFailed ∷ own.1))
 takes_client (Err fault) events given client loads sent end old later drives read begins = begins
 
@@ -198,9 +198,9 @@ all_orders events by sent acts serves begins (inl quits) =
 all_orders events by sent acts serves begins (inr refused) = inr (begins, refused)
 
 takes_orders : (result : Result Closed SessionFault) (events given : List Incoming) (loads : List Load) (sent : Ports) (acts : List Act)
-    → Drives result events given loads nothing_sent sent → Leads Idle acts Ended → Begins (flat_map order_in acts) sent.orders
+    → Drives events given loads nothing_sent sent result → Leads Idle acts Ended → Begins (flat_map order_in acts) sent.orders
     → TakesAllOrders result acts sent.orders
-takes_orders (Ok by) events given loads sent acts drives leads begins = all_orders events (ending.Closed by) sent acts drives.1 begins (ends_by acts leads)
+takes_orders (Ok by) events given loads sent acts (closes from serves) leads begins = all_orders events (ending.Closed by) sent acts serves begins (ends_by acts leads)
 takes_orders (Err fault) events given loads sent acts drives leads begins = begins
 
 -- Nothing was taken, put or pushed when all began.
@@ -213,7 +213,7 @@ pub gathers : (wrote : Result (Unit {0}) WriteFailed) (result : Result Closed Se
     → IsDriven wrote result loads later_loads old later
 gathers wrote result loads later_loads old later given put pushed end client acts reports orders taken drove read client_taken leads orders_are reports_are orders_taken reports_taken written put_taken =
     let d = drove.driven in
-    let drives : Drives result d.events given d.loads nothing_sent drove.later = subst (λ g. Drives result d.events g d.loads nothing_sent drove.later) (sym d.given_are) d.drives in
+    let drives : Drives d.events given d.loads nothing_sent drove.later result = subst (λ g. Drives d.events g d.loads nothing_sent drove.later result) (sym d.given_are) d.drives in
     let begins : Begins (flat_map order_in acts) drove.later.orders = subst (λ o. Begins o drove.later.orders) orders_are (subst (λ o. Begins orders o) drove.orders_are orders_taken) in
     record {
       events = d.events;

@@ -75,7 +75,7 @@ pub record IsDriven (wrote : Result (Unit {0}) WriteFailed) (result : Result Clo
   pub loaded : List Load
   pub sent : Ports
   pub lawful : AreLawful events
-  pub drives : Drives result events given loaded nothing_sent sent
+  pub drives : Drives events given loaded nothing_sent sent result
   pub loads_are : later_loads ≡ loads ++ loaded
   pub never_gone : sent.runner_gone ≡ 0
   -- the reader

@@ -23,7 +23,7 @@ use Rattle.dap_history.proofs.OneHistory.{IsReadOnce, one_front, rests_here}
 use Rattle.dap_session.specs.Ports.{Ports}
 use Rattle.dap_session.specs.Sending.{Sends, Begins, PushesSome, PutsSome, BreaksOff, TriesQuit}
 use Rattle.dap_session.specs.Taking.{TowardByPiece, LoadsToward, Toward, FailsAt}
-use Rattle.dap_session.specs.Serving.{Serves, StopsShort, Drives}
+use Rattle.dap_session.specs.Serving.{Serves, StopsShort, Drives, closes, ends_at_fault, runs_out_of_memory, gives_up}
 use Rattle.dap_session.specs.Laws.{SendsBeginning, FaultsLeaveBeginnings}
 use Rattle.dap_session.proofs.Joining.{frames_from-append, sends_both}
 
@@ -323,14 +323,11 @@ module _ (once : IsReadOnce) (one : HistoryIsOne) where
     few_begin _ serves.past (begins_same _ _ refl) serves.seqs_fit,
   )
 
-  faults_beginning : (fault : SessionFault) (events given : List Incoming) (loads : List Load) (old later : Ports) → Drives (Err fault) events given loads old later
+  faults_beginning : (fault : SessionFault) (events given : List Incoming) (loads : List Load) (old later : Ports) → Drives events given loads old later (Err fault)
       → (stopped : Ports) × SendsFew events old stopped × TriesQuit stopped later
-  faults_beginning (Frame k) events given loads old later drives = (drives.1.mid, serves_beginning events _ old drives.1.mid drives.1.serves, drives.1.quit)
-  faults_beginning NoMemory events given loads old later drives = (drives.1.stopped, stops_beginning events NoMemory old later drives.1, drives.1.quit)
-  faults_beginning SeqExhausted events given loads old later drives = (drives.1.stopped, stops_beginning events SeqExhausted old later drives.1, drives.1.quit)
-  faults_beginning OrdersFull events given loads old later drives = (drives.1.stopped, stops_beginning events OrdersFull old later drives.1, drives.1.quit)
-  faults_beginning RunnerGone events given loads old later drives = (drives.1.stopped, stops_beginning events RunnerGone old later drives.1, drives.1.quit)
-  faults_beginning WriterGone events given loads old later drives = (drives.1.stopped, stops_beginning events WriterGone old later drives.1, drives.1.quit)
+  faults_beginning fault events given loads old later (ends_at_fault from until) = (until.mid, serves_beginning events _ old until.mid until.serves, until.quit)
+  faults_beginning fault events given loads old later (runs_out_of_memory from short) = (short.stopped, stops_beginning events NoMemory old later short, short.quit)
+  faults_beginning fault events given loads old later (gives_up cannot from short) = (short.stopped, stops_beginning events fault old later short, short.quit)
 
   pub faults_leave_beginnings : FaultsLeaveBeginnings
   faults_leave_beginnings fault given_before given_after loaded_before loaded_after old later driven =
@@ -344,7 +341,7 @@ module _ (once : IsReadOnce) (one : HistoryIsOne) where
     begins = λ past rest history. (sends.0.begins past rest history).0;
   }
 
-  pub drives_few : (result : Result Closed SessionFault) (events given : List Incoming) (loads : List Load) (old later : Ports) → Drives result events given loads old later → PutsFew events old later
-  drives_few (Ok by) events given loads old later drives = puts_few events old later later refl (serves_beginning events (ending.Closed by) old later drives.1)
+  pub drives_few : (result : Result Closed SessionFault) (events given : List Incoming) (loads : List Load) (old later : Ports) → Drives events given loads old later result → PutsFew events old later
+  drives_few (Ok by) events given loads old later (closes from serves) = puts_few events old later later refl (serves_beginning events (ending.Closed by) old later serves)
   drives_few (Err fault) events given loads old later drives =
       let left = faults_beginning fault events given loads old later drives in puts_few events old left.0 later left.2.frames_are left.1

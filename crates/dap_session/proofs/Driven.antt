@@ -14,7 +14,7 @@ use Rattle.dap_history.specs.Readings.{ending_of}
 use Rattle.dap_history.specs.Events.{Incoming, Piece, End, ReadFailed, File, Report, Rest, IsTaking, AreLawful, IsHistoryOf}
 use Rattle.dap_history.specs.Events.{NoMemory as NoMemoryCame}
 use Rattle.dap_history.specs.Output.{frames_from}
-use Rattle.dap_history.specs.Interleaving.{Load, Awaits, AwaitsNone, Interleaves, InterleavesUpTo}
+use Rattle.dap_history.specs.Interleaving.{Load, Awaits, AwaitsNone, Interleaves}
 use Rattle.dap_phase.specs.declared.phase.Phase.{Phase}
 use Rattle.dap_phase.specs.Phases.{launch_of}
 use Rattle.dap_session.specs.declared.want.Want.{Want}
@@ -22,8 +22,8 @@ use Rattle.dap_session.specs.declared.want.Want.TheVariants as want_is
 use Rattle.dap_session.specs.Ports.{Ports, load_of}
 use Rattle.dap_session.specs.Sending.{Sends, RefusesNothing, TriesQuit}
 use Rattle.dap_session.specs.State.{State, StandsFor, Wants, WantsHere, IsOpenEnded}
-use Rattle.dap_session.specs.Taking.{LacksMemory, Comes}
-use Rattle.dap_session.specs.Serving.{Serves, Drives, Driven}
+use Rattle.dap_session.specs.Taking.{LacksMemory, FailsAt, Comes}
+use Rattle.dap_session.specs.Serving.{Serves, StopsShort, no_seq_is_left, orders_are_full, runner_is_gone, writer_is_gone, Drives, closes, ends_at_fault, runs_out_of_memory, gives_up, Driven}
 use Rattle.dap_session.specs.Coming.{Sources, stored, ComesFrom}
 use Rattle.dap_session.proofs.Joining.{sends_both, refuses_both, sends_nothing}
 
@@ -245,31 +245,46 @@ serves events past rest by old later history is sent sure = record {
   refuses_nothing = sure;
 }
 
+stops_short : (events : List Incoming) (past : History) (rest : Rest) (event : Incoming) (old mid later last : Ports) (fault : SessionFault)
+    → IsHistoryOf events past rest → IsTaking past → Sends [] past old mid → RefusesNothing old mid → FailsAt fault past rest event mid later → TriesQuit later last
+    → StopsShort (events ++ event ∷ []) fault old last
+stops_short events past rest event old mid later last fault history taking sent sure fails quit = record {
+  before = events;
+  last = event;
+  events_are = refl;
+  past = past;
+  rest = rest;
+  history = history;
+  taking = taking;
+  mid = mid;
+  sent = sent;
+  refuses_nothing = sure;
+  stopped = later;
+  fails = fails;
+  quit = quit;
+}
+
 -- the result is as the way and its last event lead to
 ends : (events : List Incoming) (past : History) (rest : Rest) (event : Incoming) (after : State) (old mid later last : Ports) (given : List Incoming) (loads : List Load) (fault : SessionFault)
     → IsHistoryOf events past rest → IsTaking past → Sends [] past old mid → RefusesNothing old mid → TriesQuit later last
-    → Comes (Err fault) events past rest event after mid later
-    → Interleaves [] (events ++ event ∷ []) given loads ⊎ ((fault ≡ faults.NoMemory) × InterleavesUpTo (events ++ event ∷ []) given loads)
-    → Drives (Err fault) (events ++ event ∷ []) given loads old last
-ends events past rest event after old mid later last given loads (faults.Frame k) history taking sent sure quit comes (inl all) =
-    (all, record { mid = later; serves = serves (events ++ event ∷ []) comes.new comes.rest (ending.Fault (faults.Frame k)) old later comes.history comes.ending_is (sends_both [] past comes.new old mid later sent comes.sends) (refuses_both old mid later sure comes.refuses_nothing); quit = quit })
-ends events past rest event after old mid later last given loads faults.NoMemory history taking sent sure quit comes (inl all) =
-    (inl all, record { before = events; last = event; events_are = refl; past = past; rest = rest; history = history; taking = taking; mid = mid; sent = sent; refuses_nothing = sure; stopped = later; fails = comes; quit = quit })
-ends events past rest event after old mid later last given loads faults.SeqExhausted history taking sent sure quit comes (inl all) =
-    (all, record { before = events; last = event; events_are = refl; past = past; rest = rest; history = history; taking = taking; mid = mid; sent = sent; refuses_nothing = sure; stopped = later; fails = comes; quit = quit })
-ends events past rest event after old mid later last given loads faults.OrdersFull history taking sent sure quit comes (inl all) =
-    (all, record { before = events; last = event; events_are = refl; past = past; rest = rest; history = history; taking = taking; mid = mid; sent = sent; refuses_nothing = sure; stopped = later; fails = comes; quit = quit })
-ends events past rest event after old mid later last given loads faults.RunnerGone history taking sent sure quit comes (inl all) =
-    (all, record { before = events; last = event; events_are = refl; past = past; rest = rest; history = history; taking = taking; mid = mid; sent = sent; refuses_nothing = sure; stopped = later; fails = comes; quit = quit })
-ends events past rest event after old mid later last given loads faults.WriterGone history taking sent sure quit comes (inl all) =
-    (all, record { before = events; last = event; events_are = refl; past = past; rest = rest; history = history; taking = taking; mid = mid; sent = sent; refuses_nothing = sure; stopped = later; fails = comes; quit = quit })
-ends events past rest event after old mid later last given loads (faults.Frame k) history taking sent sure quit comes (inr up) = absurd (let e = up.0 in cc)
-ends events past rest event after old mid later last given loads faults.NoMemory history taking sent sure quit comes (inr up) =
-    (up.1, record { before = events; last = event; events_are = refl; past = past; rest = rest; history = history; taking = taking; mid = mid; sent = sent; refuses_nothing = sure; stopped = later; fails = comes; quit = quit })
-ends events past rest event after old mid later last given loads faults.SeqExhausted history taking sent sure quit comes (inr up) = absurd (let e = up.0 in cc)
-ends events past rest event after old mid later last given loads faults.OrdersFull history taking sent sure quit comes (inr up) = absurd (let e = up.0 in cc)
-ends events past rest event after old mid later last given loads faults.RunnerGone history taking sent sure quit comes (inr up) = absurd (let e = up.0 in cc)
-ends events past rest event after old mid later last given loads faults.WriterGone history taking sent sure quit comes (inr up) = absurd (let e = up.0 in cc)
+    → Comes (Err fault) events past rest event after mid later → Interleaves [] (events ++ event ∷ []) given loads
+    → Drives (events ++ event ∷ []) given loads old last (Err fault)
+ends events past rest event after old mid later last given loads (faults.Frame k) history taking sent sure quit comes from =
+    ends_at_fault from (record {
+      mid = later;
+      serves = serves (events ++ event ∷ []) comes.new comes.rest (ending.Fault (faults.Frame k)) old later comes.history comes.ending_is (sends_both [] past comes.new old mid later sent comes.sends) (refuses_both old mid later sure comes.refuses_nothing);
+      quit = quit;
+    })
+ends events past rest event after old mid later last given loads faults.NoMemory history taking sent sure quit comes from =
+    runs_out_of_memory (inl from) (stops_short events past rest event old mid later last faults.NoMemory history taking sent sure comes quit)
+ends events past rest event after old mid later last given loads faults.SeqExhausted history taking sent sure quit comes from =
+    gives_up no_seq_is_left from (stops_short events past rest event old mid later last faults.SeqExhausted history taking sent sure comes quit)
+ends events past rest event after old mid later last given loads faults.OrdersFull history taking sent sure quit comes from =
+    gives_up orders_are_full from (stops_short events past rest event old mid later last faults.OrdersFull history taking sent sure comes quit)
+ends events past rest event after old mid later last given loads faults.RunnerGone history taking sent sure quit comes from =
+    gives_up runner_is_gone from (stops_short events past rest event old mid later last faults.RunnerGone history taking sent sure comes quit)
+ends events past rest event after old mid later last given loads faults.WriterGone history taking sent sure quit comes from =
+    gives_up writer_is_gone from (stops_short events past rest event old mid later last faults.WriterGone history taking sent sure comes quit)
 
 -- the session was closed
 pub way_closes : (session after : State) (wanted : Option (List ℕ)) (want : Want) (event : Incoming) (begin now next : Sources) (old mid later : Ports) (by : Closed)
@@ -286,10 +301,9 @@ way_closes session after wanted want event begin now next old mid later by way f
             given_are = adds.given_are ∙ ap (λ l. l ++ adds.given) way.given_are ∙ append_assoc begin.given way.given adds.given;
             loads_are = adds.loads_are ∙ ap (λ l. l ++ adds.loads) way.loads_are ∙ append_assoc begin.loaded way.loads adds.loads;
             lawful = lawful_both way.events (event ∷ []) way.lawful law;
-            drives = (
-              interleaves_both [] way.events (event ∷ []) way.given adds.given way.loads adds.loads way.interleaves adds.one,
-              serves (way.events ++ event ∷ []) well.new well.stands.rest (ending.Closed by) old later well.stands.history (sym well.stands.ending_is ∙ is) (sends_both [] way.past well.new old mid later way.sent well.sends) (refuses_both old mid later way.sure well.refuses_nothing),
-            );
+            drives = closes
+                (interleaves_both [] way.events (event ∷ []) way.given adds.given way.loads adds.loads way.interleaves adds.one)
+                (serves (way.events ++ event ∷ []) well.new well.stands.rest (ending.Closed by) old later well.stands.history (sym well.stands.ending_is ∙ is) (sends_both [] way.past well.new old mid later way.sent well.sends) (refuses_both old mid later way.sure well.refuses_nothing));
           }
       | inr none ↦
           absurd (let e : Ok want ≡ Err faults.NoMemory = step.no_memory (lacking session wanted (launch_of session.phase) event now next way.wanted_is from none.event_is none.given_are) in cc)
@@ -311,7 +325,7 @@ way_fails session after wanted fault event begin now next old mid later last way
         lawful = lawful_both way.events (event ∷ []) way.lawful law;
         drives = ends way.events way.past way.stands.rest event after old mid later last (way.given ++ adds.given) (way.loads ++ adds.loads) fault way.stands.history (sym way.stands.ending_is ∙ way.open_ended) way.sent way.sure quit
             (step.comes way.events way.past way.stands)
-            (inl (interleaves_both [] way.events (event ∷ []) way.given adds.given way.loads adds.loads way.interleaves adds.one));
+            (interleaves_both [] way.events (event ∷ []) way.given adds.given way.loads adds.loads way.interleaves adds.one);
       }
       | inr none ↦
           let e : Err fault ≡ Err faults.NoMemory = step.no_memory (lacking session wanted (launch_of session.phase) event now next way.wanted_is from none.event_is none.given_are) in
@@ -322,9 +336,10 @@ way_fails session after wanted fault event begin now next old mid later last way
             given_are = none.given_are ∙ way.given_are;
             loads_are = none.loads_are ∙ way.loads_are;
             lawful = lawful_both way.events (event ∷ []) way.lawful law;
-            drives = ends way.events way.past way.stands.rest event after old mid later last way.given way.loads fault way.stands.history (sym way.stands.ending_is ∙ way.open_ended) way.sent way.sure quit
-                (step.comes way.events way.past way.stands)
-                (inr (same, inr (record { before = way.events; path = none.path; events_are = ap (λ x. way.events ++ x ∷ []) none.event_is; awaited = none.awaited; interleaves = way.interleaves })));
+            drives = subst (λ f. Drives (way.events ++ event ∷ []) way.given way.loads old last (Err f)) (sym same) (runs_out_of_memory
+                (inr (record { before = way.events; path = none.path; events_are = ap (λ x. way.events ++ x ∷ []) none.event_is; awaited = none.awaited; interleaves = way.interleaves }))
+                (stops_short way.events way.past way.stands.rest event old mid later last faults.NoMemory way.stands.history (sym way.stands.ending_is ∙ way.open_ended) way.sent way.sure
+                (subst (λ f. Comes (Err f) way.events way.past way.stands.rest event after mid later) same (step.comes way.events way.past way.stands)) quit));
           }
     ]
 

@@ -50,15 +50,28 @@ pub record StopsShort (events : List Incoming) (fault : SessionFault) (old later
   pub fails : FailsAt fault past rest last mid stopped
   pub quit : TriesQuit stopped later
 
--- What comes of the events that an inbox and a loader gave, by the answer. The reports among them are lawful.
-abbrev pub Drives : Result Closed SessionFault → List Incoming → List Incoming → List Load → Ports → Ports → Type 0
-Drives (Ok by) events given loads old later = Interleaves [] events given loads × Serves events (ending.Closed by) old later
-Drives (Err (Frame fault)) events given loads old later = Interleaves [] events given loads × ServesUntilFault events fault old later
-Drives (Err NoMemory) events given loads old later = InterleavesUpTo events given loads × StopsShort events NoMemory old later
-Drives (Err SeqExhausted) events given loads old later = Interleaves [] events given loads × StopsShort events SeqExhausted old later
-Drives (Err OrdersFull) events given loads old later = Interleaves [] events given loads × StopsShort events OrdersFull old later
-Drives (Err RunnerGone) events given loads old later = Interleaves [] events given loads × StopsShort events RunnerGone old later
-Drives (Err WriterGone) events given loads old later = Interleaves [] events given loads × StopsShort events WriterGone old later
+-- The faults at which what an event gives can't be sent: no seq is left, the queue of orders is full, or nobody takes orders
+-- or frames any more.
+pub data CannotSend : SessionFault → Type 0 where
+  no_seq_is_left : CannotSend SeqExhausted
+  orders_are_full : CannotSend OrdersFull
+  runner_is_gone : CannotSend RunnerGone
+  writer_is_gone : CannotSend WriterGone
+
+-- What comes of the events that an inbox and a loader gave, and the answer.
+pub data Drives (events given : List Incoming) (loads : List Load) (old later : Ports) : Result Closed SessionFault → Type 0 where
+  -- the session was closed
+  closes : {by : Closed} → Interleaves [] events given loads → Serves events (ending.Closed by) old later
+      → Drives events given loads old later (Ok by)
+  -- a framing fault ended it
+  ends_at_fault : {fault : FramingFault} → Interleaves [] events given loads → ServesUntilFault events fault old later
+      → Drives events given loads old later (Err (Frame fault))
+  -- it ran out of memory; the loader's last answer may be missing then
+  runs_out_of_memory : InterleavesUpTo events given loads → StopsShort events NoMemory old later
+      → Drives events given loads old later (Err NoMemory)
+  -- it couldn't send what the last event gives
+  gives_up : {fault : SessionFault} → CannotSend fault → Interleaves [] events given loads → StopsShort events fault old later
+      → Drives events given loads old later (Err fault)
 
 -- an inbox and a loader gave these events and answers, and this came of them
 pub record Driven (result : Result Closed SessionFault) (given_before given_after : List Incoming) (loaded_before loaded_after : List Load) (old later : Ports) : Type 0 where
@@ -68,4 +81,4 @@ pub record Driven (result : Result Closed SessionFault) (given_before given_afte
   pub given_are : given_after ≡ given_before ++ given
   pub loads_are : loaded_after ≡ loaded_before ++ loads
   pub lawful : AreLawful events
-  pub drives : Drives result events given loads old later
+  pub drives : Drives events given loads old later result
