@@ -1,19 +1,17 @@
 -- When all threads have ended: what each of them knows, put together.
-use Rattle.std.proofs.Common.{◌≡◌, ◌≢◌, ◌⊎◌, inl, inr, ℕ, Bool, true, false, true≢false, List, [], ◌∷◌, ◌++◌, Some, Result, Ok, Err, refl, sym, ap, ◌∙◌, subst, append_assoc, append-nil, rules}
+use Rattle.std.proofs.Common.{◌≡◌, ◌≢◌, ◌⊎◌, inl, inr, ℕ, true, false, true≢false, List, [], ◌∷◌, ◌++◌, Result, Ok, Err, refl, sym, ap, ◌∙◌, subst, append_assoc, append-nil, rules}
 use Rattle.std.specs.Prelude.{map, drop}
 use Rattle.std.specs.List.{concat, flat_map}
-use Rattle.std.proofs.lemmas.Grind.{flat_map-append}
 use Rattle.std.proofs.lemmas.List.Folds.{concat-append}
 use Rattle.dap_history.specs.declared.fault.SessionFault.{SessionFault}
 use Rattle.dap_history.specs.declared.ending.Closed.{Closed}
 use Rattle.dap_history.specs.declared.ending.Closed.TheVariants as closed
 use Rattle.dap_history.specs.declared.ending.Ending.{Ending}
 use Rattle.dap_history.specs.declared.ending.Ending.TheVariants as ending
-use Rattle.dap_history.specs.History.{History, orders_of}
-use Rattle.dap_history.specs.Readings.{ending_of}
-use Rattle.dap_history.specs.Events.{Incoming, Piece, End, ReadFailed, File, Report, Rest, IsHistoryOf}
+use Rattle.dap_history.specs.History.{orders_of}
+use Rattle.dap_history.specs.Events.{Incoming, Piece, End, ReadFailed, File, Report}
 use Rattle.dap_history.specs.Events.{NoMemory as NoMemoryCame}
-use Rattle.dap_history.specs.Interleaving.{Load, Interleaves}
+use Rattle.dap_history.specs.Interleaving.{Load}
 use Rattle.dap_history.proofs.Closings.{closed_by_end, closed_by_failure, interleaved_end, interleaved_failure, quit_is_last}
 use Rattle.dap_session.specs.Ports.{Ports, Ordered}
 use Rattle.dap_session.specs.Sending.{Begins}

@@ -1,8 +1,7 @@
 -- Units of one text: a plan that was made for one of them fits the other.
-use Rattle.std.proofs.Common.{◌≡◌, ℕ, List, length, Option, None, Some, subst, ap, ◌∙◌}
+use Rattle.std.proofs.Common.{◌≡◌, length, Option, None, Some, subst, ap, ◌∙◌}
 use Rattle.std.specs.Coded.{Coded-set, coded_ℕ, coded_list, coded_option}
 use Rattle.std.proofs.Math.Logic.{∥∥₁_elim}
-use Rattle.pl0_tree.specs.Tree.{Block}
 use Rattle.pl0_tree.specs.Tokens.{tokens_of}
 use Rattle.pl0_tree.specs.Reading.{ReadsProgram}
 use Rattle.pl0_tree.specs.Faults.{level_limit}

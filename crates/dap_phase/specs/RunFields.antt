@@ -1,8 +1,8 @@
 -- How the fields of a run stand for it.
-use Rattle.std.specs.Prelude.{ℕ, Option, option_map}
+use Rattle.std.specs.Prelude.{option_map}
 use Rattle.std.specs.Arc.{arc_value}
 use Rattle.dbg_plan.specs.Plans.{Listed, breakpoints_of}
-use Rattle.dbg_plan.specs.Breakpoints.{Breakpoint, plain_breakpoints}
+use Rattle.dbg_plan.specs.Breakpoints.{plain_breakpoints}
 use Rattle.dbg_plan.specs.Counting.{MayBePlanOf}
 use Rattle.dap_phase.specs.declared.run.Run.TheInside.{Inside}
 use Rattle.dap_phase.specs.Runs.{Ordered}

@@ -1,5 +1,5 @@
 -- How the history goes on after a launch with its file.
-use Rattle.std.proofs.Common.{◌≡◌, ℕ, List, [], ◌∷◌, ◌++◌, Option, None, Some, Ok, Err, inl, inr, refl, sym, ◌∙◌, ap, subst, option_map}
+use Rattle.std.proofs.Common.{◌≡◌, ℕ, List, [], ◌∷◌, ◌++◌, Option, Some, Err, inr, refl, sym, ◌∙◌, ap, subst, option_map}
 use Rattle.std.specs.Option.{option_to_list}
 use Rattle.pl0_tree.specs.Faults.{IsTreeOf}
 use Rattle.pl0_tree.specs.Plain.{plain_block}
@@ -15,7 +15,6 @@ use Rattle.dap_history.specs.declared.launch.Launch.{Launch}
 use Rattle.dap_history.specs.History.{Launched, Step, History}
 use Rattle.dap_history.specs.Plans.{Plan}
 use Rattle.dap_history.specs.ReadingLaws.{ReadingsGoOn}
-use Rattle.dap_history.specs.Readings.{position, plan}
 use Rattle.dap_history.specs.Replies.{Reply, refused, causing}
 use Rattle.dap_history.specs.Launching.{Launches, launches}
 use Rattle.dap_phase.specs.declared.phase.Phase.TheVariants as phase

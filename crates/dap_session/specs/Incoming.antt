@@ -1,5 +1,5 @@
 -- What an event is as data.
-use Rattle.std.specs.Prelude.{Result, Ok, Err}
+use Rattle.std.specs.Prelude.{Ok, Err}
 use Rattle.dbg_runner.specs.Reported.{plain_report}
 use Rattle.dap_history.specs.Events.{Incoming, Piece, End, ReadFailed, NoMemory, File, Report}
 use Rattle.dap_session.specs.declared.ports.Event.{Event}

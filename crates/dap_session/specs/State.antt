@@ -1,5 +1,5 @@
 -- What a session keeps, and which lists of events it stands for.
-use Rattle.std.specs.Prelude.{◌≡◌, ◌++◌, ◌∷◌, [], ℕ, List, String, string_bytes, Option, None, Some, Result, Ok, Err}
+use Rattle.std.specs.Prelude.{◌≡◌, ℕ, List, String, string_bytes, Option, None, Some, Result, Ok, Err}
 use Rattle.std.specs.declared.alloc.Global.{Global}
 use Rattle.dap_frame.specs.Stream.{Stream}
 use Rattle.dap_history.specs.declared.launch.Launch.{Launch}

@@ -4,7 +4,7 @@ use Rattle.std.specs.Prelude.{option_and_then}
 use Rattle.std.proofs.lemmas.Option.{slice_get-get_or}
 use Rattle.pl0_tree.specs.Tree.{Block, Expression, Variable, Number, Negate, Binary, Condition, Odd, Compare}
 use Rattle.pl0_tree.specs.Scope.{Meaning, AConstant, AVariable, AProcedure, Home, home}
-use Rattle.pl0_meaning.specs.Values.{Frame, Configuration, frame_at, variable, declared_number, name_number, or_zero, after, checked, operation, comparison, is_odd, value, truth}
+use Rattle.pl0_meaning.specs.Values.{Frame, Configuration, frame_at, declared_number, name_number, or_zero, after, checked, operation, comparison, is_odd, value, truth}
 use Rattle.pl0_unit.specs.Code.{level}
 use Rattle.pl0_meaning.specs.Frames.{AreLinked}
 use Rattle.pl0_meaning.specs.Homes.{home_is}

@@ -1,6 +1,6 @@
 use denote.Exit as Exit
 use denote.Param.Send as Send
-use Rattle.std.proofs.Common.{rules, ◌≡◌, List, [], ◌∷◌, ◌++◌, ap, ◌∙◌, subst}
+use Rattle.std.proofs.Common.{rules, ◌≡◌, [], ◌++◌, ap, ◌∙◌, subst}
 use Rattle.dap_session.specs.Ports.{ports}
 use Rattle.dap_session.specs.Sending.{Begins}
 use Rattle.dap_wires.specs.Inbox.{client_events, received, sent_reports, taken_events}
@@ -11,7 +11,7 @@ use Rattle.dap_wires.specs.Senders.{from_client, reports_among}
 use Rattle.dap_wires.specs.Transfer.{supply, output as output_at}
 use Rattle.dap_wires.specs.Writing.{IsWrittenUntil}
 use Rattle.adapter.specs.Jobs.{Drove}
-use Rattle.adapter.specs.Serving.{streams, outcome_of, nothing_sent, IsDriven, IsServed, drove}
+use Rattle.adapter.specs.Serving.{streams, outcome_of, nothing_sent, IsDriven, drove}
 use Rattle.adapter.proofs.Crossing.{runs_send, ran_send, reads_send, read_send}
 use Rattle.adapter.proofs.Gathered.{gathers}
 use Rattle.adapter.proofs.serving.serve.Goals as goal

@@ -1,6 +1,4 @@
-use Rattle.std.proofs.Common.{◌≡◌, refl, None, Some, Ok, Err, sym, ◌∙◌, ap, subst}
-use Rattle.dap_history.specs.declared.ending.Ending.TheVariants as ending
-use Rattle.dap_session.specs.declared.want.Want.TheVariants as want_is
+use Rattle.std.proofs.Common.{refl, ◌∙◌}
 use Rattle.dap_session.proofs.Driven.{way_goes_on, way_closes, way_fails, not_open_ended}
 use Rattle.dap_session.proofs.driving.take_all.Goals as goal
 

@@ -1,4 +1,4 @@
-use Rattle.std.proofs.Common.{arith, refl, ◌∙◌, ap, sym, ◌≡◌, ◌++◌, ◌∷◌, []}
+use Rattle.std.proofs.Common.{arith, refl, ◌∙◌, ap, sym, ◌≡◌, ◌++◌, ◌∷◌}
 use Rattle.std.proofs.lemmas.Grind.{common_steps}
 use Rattle.dap_session.proofs.Building.{begins_all}
 use Rattle.dap_session.specs.Building.{plain_frames}
