@@ -22,3 +22,5 @@ pub mod ValuesMet
 pub mod BoundFirst
 pub mod BoundWalk
 pub mod ValuesNamed
+pub mod Quiet
+pub mod QuietCounts

@@ -12,3 +12,4 @@ pub mod Values
 pub mod Counting
 pub mod Counts
 pub mod Reads
+pub mod Running

@@ -12,6 +12,8 @@ use crate::counting::{count_position, reason_here};
 use crate::evaluation::{EvalFault, evaluate};
 use crate::mode::{Mode, Reason};
 use crate::plan::Plan;
+use crate::running::{run_on, stays_considered};
+use core::mem::replace_with;
 use pl0_machine::{Machine, StepOutcome};
 use pl0_meaning::RunFault;
 use pl0_tree::Expression;
@@ -70,7 +72,7 @@ fn entered(plan: Arc<Plan>) -> Option<Arc<Plan>>
 }
 
 impl Debuggee {
-    ghost use Rattle.std.specs.Prelude.{◌≡◌, ◌+◌, ◌<◌, ◌++◌, [], option_map, vec_len, vec_capacity};
+    ghost use Rattle.std.specs.Prelude.{◌≡◌, ◌+◌, ◌<◌, ◌≤◌, ◌++◌, [], ℤ, Option, Some, option_map, vec_len, vec_capacity};
     ghost use Rattle.pl0_tree.specs.Plain.{plain_expression};
     ghost use Rattle.pl0_meaning.specs.Runs.{written_by};
     ghost use Rattle.pl0_meaning.specs.Values.{value};
@@ -78,6 +80,8 @@ impl Debuggee {
     ghost use Rattle.dbg_plan.specs.Plans.{IsPlanOf};
     ghost use Rattle.dbg_plan.specs.Debugged.{machine_of, program_of, IsConsidered, IsNext, due_now};
     ghost use Rattle.dbg_plan.specs.Advances.{Advanced};
+    ghost use Rattle.dbg_plan.specs.Running.{RanTo, RanFrom};
+    ghost use Rattle.pl0_machine.specs.declared.outcome.StepOutcome.TheVariants.{Went};
     ghost use Rattle.dbg_plan.specs.Values.{answered};
 
     /// A machine under the empty plan. Its position is the next to be considered.
@@ -185,6 +189,42 @@ impl Debuggee {
                 Advance::Done
             }
             StepOutcome::Fault(fault) => Advance::Fault(fault),
+        }
+    }
+
+    // Takes steps that write nothing and lead to positions without a breakpoint, up to the position `limit`; or up to the
+    // first that doesn't, whose position isn't considered.
+    #[inline(always)]
+    fn run_quietly(&mut self, limit: u64) -> Option<StepOutcome>
+        requires considered { IsConsidered self.old }
+        requires within { self.old.position ≤ limit }
+        ensures ran { RanTo limit self.old result self.new }
+        ensures next { (written : Option ℤ) → result ≡ Some (Went written) → IsNext self.new }
+    {
+        let outcome = replace_with(&mut self.machine, (limit, &self.plan), run_on);
+        self.considered = stays_considered(outcome);
+        outcome
+    }
+
+    /// Advances in the mode `Continue` up to the position `limit`, while the steps write nothing and lead to positions
+    /// without a breakpoint. The first that doesn't is the last, and then the answer says where it led.
+    #[inline(always)]
+    pub fn run(&mut self, limit: u64, numbers: &mut Vec<i64>) -> Option<Advance>
+        requires considered { IsConsidered self.old }
+        requires within { self.old.position ≤ limit }
+        requires room { vec_len numbers.old < vec_capacity numbers.old }
+        ensures ran { RanFrom limit self.old numbers.old.items result self.new numbers.new.items }
+        ensures capacity { vec_capacity numbers.new ≡ vec_capacity numbers.old }
+    {
+        match self.run_quietly(limit)? {
+            StepOutcome::Went(written) => {
+                if let Some(number) = written {
+                    numbers.push_reserved(number);
+                }
+                Some(Advance::To(self.consider(Mode::Continue)))
+            }
+            StepOutcome::Done => Some(Advance::Done),
+            StepOutcome::Fault(fault) => Some(Advance::Fault(fault)),
         }
     }
 

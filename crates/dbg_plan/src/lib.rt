@@ -19,6 +19,7 @@ mod mode;
 mod plan;
 mod resolving;
 mod rule;
+mod running;
 mod same;
 mod table;
 

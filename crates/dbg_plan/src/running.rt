@@ -1,0 +1,86 @@
+// Steps at which nothing is written or counted.
+
+ghost use Rattle.std.specs.Prelude.{◌≡◌, ◌≤◌, IsTrue, Some, None, option_map};
+ghost use Rattle.std.specs.Arc.{arc_value};
+ghost use Rattle.pl0_machine.specs.declared.outcome.StepOutcome.TheVariants.{Went};
+ghost use Rattle.dbg_plan.specs.Debugged.{IsRunning};
+ghost use Rattle.dbg_plan.specs.Counting.{MayBePlanOf};
+ghost use Rattle.dbg_plan.specs.Running.{Uncounted, RanOn, considered_after};
+
+use crate::plan::Plan;
+use pl0_machine::{Machine, StepOutcome};
+use std::sync::Arc;
+
+// Whether no breakpoint stands at the machine's position.
+#[inline(always)]
+fn is_unwatched(machine: &Machine, plan: &Option<Arc<Plan>>) -> bool
+    requires running { IsRunning machine.now }
+    requires fits { MayBePlanOf machine.now.unit (option_map arc_value plan.now) }
+    ensures { IsTrue result → Uncounted (option_map arc_value plan.now) machine.now }
+{
+    match plan {
+        None => true,
+        Some(plan) => !plan.has_breakpoint(machine.address()),
+    }
+}
+
+// Whether a step wrote nothing, and led to a position without a breakpoint.
+#[inline(always)]
+fn is_quiet(outcome: StepOutcome, machine: &Machine, plan: &Option<Arc<Plan>>) -> bool
+    requires running { outcome ≡ Went None → IsRunning machine.now }
+    requires fits { MayBePlanOf machine.now.unit (option_map arc_value plan.now) }
+    ensures { IsTrue result → (outcome ≡ Went None) × Uncounted (option_map arc_value plan.now) machine.now }
+{
+    match outcome {
+        StepOutcome::Went(None) => is_unwatched(machine, plan),
+        _ => false,
+    }
+}
+
+// Takes steps up to the position `limit`, or up to the first that isn't quiet: what that one did. The machine is moved, and
+// not borrowed, so that the compiler keeps its registers in the processor's.
+#[inline(always)]
+fn run_quietly(
+    mut machine: Machine,
+    limit: u64,
+    plan: &Option<Arc<Plan>>,
+) -> (Machine, Option<StepOutcome>)
+    requires running { IsRunning machine }
+    requires within { machine.position ≤ limit }
+    requires fits { MayBePlanOf machine.unit (option_map arc_value plan.now) }
+    ensures { RanOn limit (option_map arc_value plan.now) machine result.1 result.0 }
+{
+    'steps: while machine.position() < limit {
+        let outcome = machine.step();
+        if !is_quiet(outcome, &machine, plan) {
+            return (machine, Some(outcome));
+        }
+    }
+    (machine, None)
+}
+
+/// The same, with a loop of its own where there is no plan.
+#[inline(always)]
+pub fn run_on(machine: Machine, under: (u64, &Option<Arc<Plan>>)) -> (Machine, Option<StepOutcome>)
+    requires { IsRunning machine × (machine.position ≤ under.0) × MayBePlanOf machine.unit (option_map arc_value under.1.now) }
+    ensures { RanOn under.entry.0 (option_map arc_value under.entry.1.now) machine result.1 result.0 }
+{
+    let (limit, plan) = under;
+    match plan {
+        None => run_quietly(machine, limit, &None),
+        Some(_) => run_quietly(machine, limit, plan),
+    }
+}
+
+/// Whether the position is considered where a run stands after this.
+#[inline(always)]
+pub fn stays_considered(outcome: Option<StepOutcome>) -> bool
+    ensures { result ≡ considered_after outcome }
+{
+    match outcome {
+        None => true,
+        Some(StepOutcome::Went(_)) => false,
+        Some(StepOutcome::Done) => false,
+        Some(StepOutcome::Fault(_)) => true,
+    }
+}
