@@ -4,7 +4,7 @@ use Rattle.pl0_meaning.specs.Runs.{written_by}
 use Rattle.pl0_machine.specs.declared.outcome.StepOutcome.{StepOutcome}
 use Rattle.pl0_machine.specs.declared.outcome.StepOutcome.TheVariants.{Went, Done, Fault}
 use Rattle.pl0_machine.specs.Machine.{Standing, program, outcome_of, Stepped}
-use Rattle.dbg_plan.specs.Plans.{Listed, breakpoint_limit, listed_of}
+use Rattle.dbg_plan.specs.Plans.{Listed, IsNumbered, breakpoint_limit, listed_of}
 use Rattle.dbg_plan.specs.Counting.{AreCounts, CountsOn}
 use Rattle.dbg_plan.specs.declared.mode.Mode.TheVariants.{Continue}
 use Rattle.dbg_plan.specs.declared.debuggee.Advance.{Advance}
@@ -23,6 +23,11 @@ Uncounted plan m =
     (first : ℕ) (counts : List ℕ) → length counts ≡ breakpoint_limit → first ≤ m.position
     → AreCounts (program m) (listed_of plan) first m.position counts
     → CountsOn (program m) (listed_of plan) m.position first counts false counts
+
+-- a table of the plan's breakpoints; none, where it has none
+abbrev pub Watches : Option Listed → Option (List Bool) → Type 0
+Watches plan None = listed_of plan ≡ []
+Watches plan (Some watched) = (asked : Listed) × (plan ≡ Some asked) × (watched ≡ asked.watched) × IsNumbered asked.breakpoints
 
 pub record StepsQuietly (plan : Option Listed) (m : Standing) : Type 0 where
   pub silent : written_by (outcome_of m) ≡ []

@@ -218,8 +218,8 @@ impl Debuggee {
     {
         match self.run_quietly(limit)? {
             StepOutcome::Went(written) => {
-                if let Some(number) = written {
-                    numbers.push_reserved(number);
+                if let Some(last) = written {
+                    numbers.push_reserved(last);
                 }
                 Some(Advance::To(self.consider(Mode::Continue)))
             }

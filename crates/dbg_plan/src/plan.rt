@@ -90,6 +90,15 @@ impl Plan {
         self.watched[address]
     }
 
+    // For each address of the code, whether the step that begins there has a breakpoint.
+    #[inline(always)]
+    pub(crate) fn watched(&self) -> &[bool]
+        ensures watched { result.now ≡ self.now.watched }
+        ensures numbered { IsNumbered self.now.breakpoints }
+    {
+        self.watched.as_slice()
+    }
+
     /// The breakpoints of a step, in the order asked.
     pub fn breakpoints_at(&self, step: StepNumber) -> &[Breakpoint]
         requires { step < self.now.steps }

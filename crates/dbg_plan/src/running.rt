@@ -5,7 +5,7 @@ ghost use Rattle.std.specs.Arc.{arc_value};
 ghost use Rattle.pl0_machine.specs.declared.outcome.StepOutcome.TheVariants.{Went};
 ghost use Rattle.dbg_plan.specs.Debugged.{IsRunning};
 ghost use Rattle.dbg_plan.specs.Counting.{MayBePlanOf};
-ghost use Rattle.dbg_plan.specs.Running.{Uncounted, RanOn, considered_after};
+ghost use Rattle.dbg_plan.specs.Running.{Uncounted, Watches, RanOn, considered_after};
 
 use crate::plan::Plan;
 use pl0_machine::{Machine, StepOutcome};
@@ -13,26 +13,37 @@ use std::sync::Arc;
 
 // Whether no breakpoint stands at the machine's position.
 #[inline(always)]
-fn is_unwatched(machine: &Machine, plan: &Option<Arc<Plan>>) -> bool
+fn is_unwatched(
+    machine: &Machine,
+    plan: &Option<Arc<Plan>>,
+    watched: Option<&[bool]>,
+) -> bool
     requires running { IsRunning machine.now }
     requires fits { MayBePlanOf machine.now.unit (option_map arc_value plan.now) }
+    requires table { Watches (option_map arc_value plan.now) (option_map (λ table. table.now) watched) }
     ensures { IsTrue result → Uncounted (option_map arc_value plan.now) machine.now }
 {
-    match plan {
+    match watched {
         None => true,
-        Some(plan) => !plan.has_breakpoint(machine.address()),
+        Some(watched) => !watched[machine.address()],
     }
 }
 
 // Whether a step wrote nothing, and led to a position without a breakpoint.
 #[inline(always)]
-fn is_quiet(outcome: StepOutcome, machine: &Machine, plan: &Option<Arc<Plan>>) -> bool
+fn is_quiet(
+    outcome: StepOutcome,
+    machine: &Machine,
+    plan: &Option<Arc<Plan>>,
+    watched: Option<&[bool]>,
+) -> bool
     requires running { outcome ≡ Went None → IsRunning machine.now }
     requires fits { MayBePlanOf machine.now.unit (option_map arc_value plan.now) }
+    requires table { Watches (option_map arc_value plan.now) (option_map (λ table. table.now) watched) }
     ensures { IsTrue result → (outcome ≡ Went None) × Uncounted (option_map arc_value plan.now) machine.now }
 {
     match outcome {
-        StepOutcome::Went(None) => is_unwatched(machine, plan),
+        StepOutcome::Went(None) => is_unwatched(machine, plan, watched),
         _ => false,
     }
 }
@@ -44,15 +55,17 @@ fn run_quietly(
     mut machine: Machine,
     limit: u64,
     plan: &Option<Arc<Plan>>,
+    watched: Option<&[bool]>,
 ) -> (Machine, Option<StepOutcome>)
     requires running { IsRunning machine }
     requires within { machine.position ≤ limit }
     requires fits { MayBePlanOf machine.unit (option_map arc_value plan.now) }
+    requires table { Watches (option_map arc_value plan.now) (option_map (λ table. table.now) watched) }
     ensures { RanOn limit (option_map arc_value plan.now) machine result.1 result.0 }
 {
     'steps: while machine.position() < limit {
         let outcome = machine.step();
-        if !is_quiet(outcome, &machine, plan) {
+        if !is_quiet(outcome, &machine, plan, watched) {
             return (machine, Some(outcome));
         }
     }
@@ -67,8 +80,8 @@ pub fn run_on(machine: Machine, under: (u64, &Option<Arc<Plan>>)) -> (Machine, O
 {
     let (limit, plan) = under;
     match plan {
-        None => run_quietly(machine, limit, &None),
-        Some(_) => run_quietly(machine, limit, plan),
+        None => run_quietly(machine, limit, plan, None),
+        Some(listed) => run_quietly(machine, limit, plan, Some(listed.watched())),
     }
 }
 
