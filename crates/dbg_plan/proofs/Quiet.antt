@@ -1,15 +1,13 @@
 -- Quiet steps of a machine, and what they leave of the counts.
-use Rattle.std.proofs.Common.{◌≡◌, ◌⊎◌, ⊎_elim, inl, inr, ℕ, zero, suc, ◌+◌, ◌<◌, ◌≤◌, false, List, [], ◌∷◌, length, Option, Some, None, ℤ, refl, sym, ap, ◌∙◌, subst, arith}
+use Rattle.std.proofs.Common.{◌≡◌, ⊎_elim, ℕ, ◌+◌, ◌<◌, ◌≤◌, [], ◌∷◌, Option, Some, None, refl, sym, ap, ◌∙◌, subst, arith}
 use Rattle.std.proofs.lemmas.Bool.{cases_eq}
-use Rattle.pl0_meaning.specs.Values.{Configuration}
 use Rattle.pl0_meaning.specs.Runs.{Outcome, Goes, Faults, Over, written_by}
 use Rattle.pl0_machine.specs.declared.outcome.StepOutcome.{StepOutcome}
-use Rattle.pl0_machine.specs.declared.outcome.StepOutcome.TheVariants.{Went, Done, Fault}
-use Rattle.pl0_machine.specs.Machine.{Standing, outcome_of, told, Stepped}
+use Rattle.pl0_machine.specs.declared.outcome.StepOutcome.TheVariants.{Went, Done}
+use Rattle.pl0_machine.specs.Machine.{Standing, outcome_of, Stepped}
 use Rattle.dbg_plan.specs.Plans.{Listed}
-use Rattle.dbg_plan.specs.Counting.{MayBePlanOf}
 use Rattle.dbg_plan.specs.Debugged.{IsRunning}
-use Rattle.dbg_plan.specs.Running.{ahead, Uncounted, StepsQuietly, Ends, RanOn}
+use Rattle.dbg_plan.specs.Running.{ahead, Uncounted, StepsQuietly, RanOn}
 use Rattle.dbg_plan.proofs.Stepping.{went_on}
 
 -- the step wrote nothing

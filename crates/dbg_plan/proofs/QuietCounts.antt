@@ -1,16 +1,16 @@
 -- A debuggee whose machine took quiet steps, and perhaps one more.
-use Rattle.std.proofs.Common.{◌≡◌, ℕ, zero, suc, ◌+◌, ◌<◌, ◌≤◌, true, false, List, length, Option, Some, None, ℤ, refl, sym, ap, ◌∙◌, subst, arith}
+use Rattle.std.proofs.Common.{◌≡◌, ℕ, zero, suc, ◌+◌, ◌<◌, ◌≤◌, true, false, Option, Some, None, ℤ, refl, sym, ap, ◌∙◌, subst, arith}
 use Rattle.pl0_unit.specs.declared.unit.Unit.{Unit as Compiled}
 use Rattle.pl0_meaning.specs.declared.RunFault.{RunFault}
 use Rattle.pl0_machine.specs.declared.outcome.StepOutcome.{StepOutcome}
 use Rattle.pl0_machine.specs.declared.outcome.StepOutcome.TheVariants.{Went, Done, Fault}
-use Rattle.pl0_machine.specs.Machine.{Standing, outcome_of, Stepped}
+use Rattle.pl0_machine.specs.Machine.{Standing}
 use Rattle.dbg_plan.specs.declared.debuggee.Debuggee.TheInside.{Inside}
 use Rattle.dbg_plan.specs.declared.mode.Mode.TheVariants.{Continue}
 use Rattle.dbg_plan.specs.Plans.{breakpoints_of}
 use Rattle.dbg_plan.specs.Counts.{IsCounting, debugged_of, plan_of, next_at, next_of}
-use Rattle.dbg_plan.specs.Debugged.{Debugged, IsRunning, IsNext}
-use Rattle.dbg_plan.specs.Running.{ahead, forward, Uncounted, StepsQuietly, Ends, EndsAt, RanOn, RanTo, IsQuiet, considered_after}
+use Rattle.dbg_plan.specs.Debugged.{Debugged, IsNext}
+use Rattle.dbg_plan.specs.Running.{ahead, forward, StepsQuietly, Ends, EndsAt, RanOn, RanTo, IsQuiet, considered_after}
 use Rattle.dbg_plan.proofs.Further.{was_considered, stays_counting, led}
 use Rattle.dbg_plan.proofs.Stepping.{same_unit, went_on, stays_there, goes_on, after_fault, not_fault}
 

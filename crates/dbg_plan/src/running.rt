@@ -13,11 +13,7 @@ use std::sync::Arc;
 
 // Whether no breakpoint stands at the machine's position.
 #[inline(always)]
-fn is_unwatched(
-    machine: &Machine,
-    plan: &Option<Arc<Plan>>,
-    watched: Option<&[bool]>,
-) -> bool
+fn is_unwatched(machine: &Machine, plan: &Option<Arc<Plan>>, watched: Option<&[bool]>) -> bool
     requires running { IsRunning machine.now }
     requires fits { MayBePlanOf machine.now.unit (option_map arc_value plan.now) }
     requires table { Watches (option_map arc_value plan.now) (option_map (λ table. table.now) watched) }

@@ -2,9 +2,8 @@ use Rattle.std.proofs.Common.{◌≡◌, ap, sym, ◌∙◌, subst, option_map, 
 use Rattle.std.specs.Arc.{arc_value}
 use Rattle.std.proofs.lemmas.Option.{slice_get_within, get_or_from_slice_get}
 use Rattle.pl0_unit.specs.declared.unit.Unit.{Unit as Compiled}
-use Rattle.pl0_machine.specs.Machine.{program}
 use Rattle.dbg_plan.specs.Plans.{Listed, IsPlanOf}
-use Rattle.dbg_plan.specs.Counting.{MayBePlanOf, CountsOn}
+use Rattle.dbg_plan.specs.Counting.{MayBePlanOf}
 use Rattle.dbg_plan.proofs.Here.{goes_on}
 use Rattle.dbg_plan.proofs.Watching.{there, none_of}
 use Rattle.dbg_plan.specs.Running.{Watches}
