@@ -1,6 +1,6 @@
 -- Quiet steps of a slice.
-use Rattle.std.proofs.Common.{◌≡◌, ◌⊎◌, inl, inr, ℕ, zero, suc, ◌+◌, ◌-◌, ◌<◌, ◌≤◌, List, [], ◌++◌, length, Option, Some, None, ap, sym, ◌∙◌, refl, subst, arith, ℤ, append-nil}
-use Rattle.pl0_meaning.specs.Runs.{Outcome, written_by, written, written_from}
+use Rattle.std.proofs.Common.{◌≡◌, ◌⊎◌, inl, inr, ℕ, zero, suc, ◌+◌, ◌-◌, ◌<◌, ◌≤◌, List, [], ◌++◌, Option, Some, None, ap, sym, ◌∙◌, refl, subst, arith, ℤ, append-nil}
+use Rattle.pl0_meaning.specs.Runs.{written_by, written, written_from}
 use Rattle.pl0_machine.specs.Machine.{outcome_of}
 use Rattle.dbg_plan.specs.declared.mode.Mode.{Mode}
 use Rattle.dbg_plan.specs.declared.mode.Mode.TheVariants.{Continue}
@@ -8,13 +8,12 @@ use Rattle.dbg_plan.specs.declared.debuggee.Advance.{Advance}
 use Rattle.dbg_plan.specs.declared.debuggee.Advance.TheVariants.{To, Done, Fault}
 use Rattle.dbg_plan.specs.Debugged.{Debugged, machine_of, program_of, IsConsidered, due_now}
 use Rattle.dbg_plan.specs.Advances.{Advanced}
-use Rattle.dbg_plan.specs.Running.{forward, IsQuiet, RanFrom}
+use Rattle.dbg_plan.specs.Running.{forward, RanFrom}
 use Rattle.dbg_runner.specs.declared.outcome.SliceOutcome.{SliceOutcome}
 use Rattle.dbg_runner.specs.declared.outcome.SliceOutcome.TheVariants as out
 use Rattle.dbg_runner.specs.Slices.{IsOfSlice, TookSteps}
 use Rattle.dbg_runner.specs.Rooms.{Room, IsRoomOf, slice_limit}
 use Rattle.dbg_runner.specs.Steps.{SteppedOn, IsWritten, RanOn, ending}
-use Rattle.dbg_runner.specs.Reported.{IsKept}
 use Rattle.dbg_runner.specs.ReportFields.{sliced, StandsAtEnd}
 use Rattle.dbg_runner.proofs.SliceSteps.{Underway, goes, ended}
 
