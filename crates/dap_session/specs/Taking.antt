@@ -90,8 +90,4 @@ pub record GoesWell (events : List Incoming) (past : History) (event : Incoming)
 abbrev pub Comes : Result Want SessionFault → List Incoming → History → Rest → Incoming → State → Ports → Ports → Type 0
 Comes (Ok want) events past rest event session old later = GoesWell events past event want session old later
 Comes (Err (Frame fault)) events past rest event session old later = EndsAt fault events past event old later
-Comes (Err NoMemory) events past rest event session old later = FailsAt NoMemory past rest event old later
-Comes (Err SeqExhausted) events past rest event session old later = FailsAt SeqExhausted past rest event old later
-Comes (Err OrdersFull) events past rest event session old later = FailsAt OrdersFull past rest event old later
-Comes (Err RunnerGone) events past rest event session old later = FailsAt RunnerGone past rest event old later
-Comes (Err WriterGone) events past rest event session old later = FailsAt WriterGone past rest event old later
+Comes (Err fault) events past rest event session old later = FailsAt fault past rest event old later
