@@ -1,4 +1,4 @@
-pub mod Jobs
+-- what one must believe: cited by the contracts of public functions
 pub mod Serving
 pub mod ExitReasons
 pub mod Loading
@@ -6,3 +6,5 @@ pub mod Arguments
 pub mod Listing
 pub mod Checking
 pub mod Running
+-- inner ones
+pub mod Jobs

@@ -1,15 +1,17 @@
-pub mod ReadsAs
+-- what one must believe: cited by the contracts of public functions
 pub mod Breakpoints
-pub mod Due
-pub mod Bound
 pub mod Plans
+pub mod ReadsAs
+pub mod Resolutions
+pub mod Due
 pub mod Debugged
 pub mod Advances
-pub mod Resolutions
+pub mod Running
+pub mod Values
+-- inner ones
+pub mod Bound
 pub mod Resolving
 pub mod Table
-pub mod Values
 pub mod Counting
 pub mod Counts
 pub mod Reads
-pub mod Running
