@@ -38,11 +38,11 @@ none_yet limit plan start running within =
     }
 
 module _ (limit : ℕ) (plan : Option Listed) (start m : Standing) (q : Quietly limit plan start m) where
-  pub stops : RanOn limit plan start None m
-  stops =
+  pub stops : limit ≤ m.position → RanOn limit plan start None m
+  stops reached =
       let place = ap (λ (s : Standing). s.position) q.is in
       let w = q.within in
-      record { steps = q.steps; quiet = q.quiet; running = subst (λ s. IsRunning s) q.is q.running; within = omega (arith, place, w); ends = q.is }
+      record { steps = q.steps; quiet = q.quiet; running = subst (λ s. IsRunning s) q.is q.running; within = omega (arith, place, w); ends = (q.is, subst (λ (s : Standing). limit ≤ s.position) q.is reached) }
 
   module _ (result : StepOutcome) (new : Standing) (stepped : Stepped (outcome_of m) m result new) (below : m.position < limit) where
     pub ended : RanOn limit plan start (Some result) new

@@ -58,7 +58,7 @@ module _ (d : Inside) (was : IsCounting d) (behind : next_of d ≡ d.machine.pos
   counting_after = by_outcome outcome ran.ends
     where
       by_outcome : (o : Option StepOutcome) → Ends limit (ahead d.machine ran.steps) o new → IsCounting (record d { machine = new; considered = considered_after o })
-      by_outcome None ends = subst (λ m. IsCounting (record d { machine = m; considered = true })) (sym ends) (subst (λ b. IsCounting (record (at ran.steps) { considered = b })) considered stands)
+      by_outcome None ends = subst (λ m. IsCounting (record d { machine = m; considered = true })) (sym ends.0) (subst (λ b. IsCounting (record (at ran.steps) { considered = b })) considered stands)
       by_outcome (Some (Went written)) ends = not_fault (at ran.steps) stands new (Went written) ends.1 (behind_at ran.steps) (went_goes written)
       by_outcome (Some Done) ends = not_fault (at ran.steps) stands new Done ends.1 (behind_at ran.steps) done_goes
       by_outcome (Some (Fault fault)) ends = after_fault (at ran.steps) stands new (Fault fault) ends.1 (behind_at ran.steps) fault refl ran.running
@@ -76,7 +76,7 @@ module _ (d : Inside) (was : IsCounting d) (behind : next_of d ≡ d.machine.pos
   ran_to = record { steps = ran.steps; quiet = quiet_at; running = ran.running; within = ran.within; ends = by_outcome outcome ran.ends }
     where
       by_outcome : (o : Option StepOutcome) → Ends limit (ahead d.machine ran.steps) o new → EndsAt limit (forward (debugged_of d) ran.steps) o (after o)
-      by_outcome None ends = ap (λ m. debugged_of (record d { machine = m; considered = true })) ends
+      by_outcome None ends = (ap (λ m. debugged_of (record d { machine = m; considered = true })) ends.0, ends.1)
       by_outcome (Some (Went written)) ends =
           (ends.0, ends.1, with_unit d.machine.unit _ _ (same_unit (ahead d.machine ran.steps) new (Went written) ends.1) (goes_on (ahead d.machine ran.steps) new (Went written) ends.1 (went_goes written)))
       by_outcome (Some Done) ends =

@@ -34,9 +34,9 @@ pub record StepsQuietly (plan : Option Listed) (m : Standing) : Type 0 where
   pub running : IsRunning (ahead m 1)
   pub uncounted : Uncounted plan (ahead m 1)
 
--- nothing more, or the step that was the last
+-- nothing more at the limit, or the step that was the last
 abbrev pub Ends : ℕ → Standing → Option StepOutcome → Standing → Type 0
-Ends limit m None new = new ≡ m
+Ends limit m None new = (new ≡ m) × (limit ≤ m.position)
 Ends limit m (Some outcome) new = (m.position < limit) × Stepped (outcome_of m) m outcome new
 
 -- the machine took quiet steps, and perhaps one more
@@ -67,7 +67,7 @@ considered_after (Some Done) = false
 considered_after (Some (Fault fault)) = true
 
 abbrev pub EndsAt : ℕ → Debugged → Option StepOutcome → Debugged → Type 0
-EndsAt limit d None new = new ≡ d
+EndsAt limit d None new = (new ≡ d) × (limit ≤ d.position)
 EndsAt limit d (Some outcome) new =
     (d.position < limit) × Stepped (outcome_of (machine_of d)) (machine_of d) outcome (machine_of new) × (new ≡ record d { position = new.position })
 
@@ -79,9 +79,9 @@ pub record RanTo (limit : ℕ) (old : Debugged) (outcome : Option StepOutcome) (
   pub within : old.position + steps ≤ limit
   pub ends : EndsAt limit (forward old steps) outcome new
 
--- the numbers are the same, or the last step's is added
+-- at the limit the numbers are the same; else the last step's is added
 abbrev pub Closes : ℕ → Debugged → List ℤ → Option Advance → Debugged → List ℤ → Type 0
-Closes limit d before None new after = (new ≡ d) × (after ≡ before)
+Closes limit d before None new after = (new ≡ d) × (after ≡ before) × (limit ≤ d.position)
 Closes limit d before (Some advance) new after =
     (d.position < limit) × Advanced Continue d advance new × (after ≡ before ++ written_by (outcome_of (machine_of d)))
 

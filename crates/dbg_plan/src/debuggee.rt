@@ -207,7 +207,8 @@ impl Debuggee {
     }
 
     /// Advances in the mode `Continue` up to the position `limit`, while the steps write nothing and lead to positions
-    /// without a breakpoint. The first that doesn't is the last, and then the answer says where it led.
+    /// without a breakpoint. The first that doesn't is the last, and then the answer says where it led. At the limit there is
+    /// no answer.
     #[inline(always)]
     pub fn run(&mut self, limit: u64, numbers: &mut Vec<i64>) -> Option<Advance>
         requires considered { IsConsidered self.old }
