@@ -4,7 +4,7 @@ PROGRAM = crates/pl0dap/out/pl0dap
 SPEED = crates/speed/out/speed
 SOURCES = crates.txt $(shell find crates -name out -prune -o -type f \( -name '*.rt' -o -name '*.antt' \) -print)
 
-.PHONY: try build demo rows sessions editors refusals misuse check plants gate-times install bench
+.PHONY: try build demo rows sessions editors refusals last-position misuse check plants gate-times install bench
 
 # A stored session in readable form within a minute or two, from a fresh clone on. All of it is sent at once.
 try:
@@ -63,6 +63,10 @@ misuse:
 # Each allocation, read and write of the program refused in turn, and each allocation of the runs that step a text.
 refusals: $(PROGRAM) $(SPEED)
 	python3 demo/refusals.py $(PROGRAM) $(SPEED)
+
+# A program without end, up to the last position, which is 1,001 in a copy of the crates. That copy is not proved.
+last-position:
+	python3 demo/last_position.py
 
 install: $(PROGRAM)
 	install -D $(PROGRAM) $(DESTDIR)$(PREFIX)/bin/pl0dap
