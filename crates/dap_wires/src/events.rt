@@ -1,6 +1,6 @@
 // The inbox of a session: what a client sends, and the reports of the runner.
 
-ghost use Rattle.std.specs.Prelude.{◌≡◌, ◌++◌, ◌∷◌, [], true, false, IfOk, OnOk, OnErr};
+ghost use Rattle.std.specs.Prelude.{◌≡◌, ◌++◌, ◌∷◌, [], true, false, IfOk, IfErr, OnOk, OnErr};
 ghost use Rattle.dap_session.specs.Incoming.{incoming_of};
 ghost use Rattle.dap_session.specs.Sending.{Begins};
 ghost use Rattle.dap_wires.specs.Ends.{receipt_log, receipt_home};
@@ -63,6 +63,7 @@ impl<R: Wait + Drop> ClientSender<R> {
         requires { is_report event ≡ false }
         ensures sent { OnOk result (client_events self.new ≡ client_events self.old ++ incoming_of event ∷ []) }
         ensures refused { OnErr result (client_events self.new ≡ client_events self.old) }
+        ensures back { IfErr result (λ back. back ≡ event) }
         ensures home { client_home self.new ≡ client_home self.old }
     {
         self.end.send(event)
