@@ -1,9 +1,10 @@
-use Rattle.std.proofs.Common.{◌≡◌, ◌++◌, ◌∷◌, [], length, sym, ap, subst, ◌∙◌, append_assoc, Some, None, OnOk}
+use Rattle.std.proofs.Common.{◌++◌, ◌∷◌, [], length, sym, ap, subst, ◌∙◌, append_assoc, Some, None}
 use Rattle.pl0_tree.specs.Plain.{plain_name, plain_expression}
 use Rattle.pl0_names.specs.Blocks.{blocks_of, found_in}
 use Rattle.pl0_code.specs.Rows.{store_of, expression_rows}
 use Rattle.pl0_code.specs.Usable.{CanBeAssigned, IsFoundTo}
 use Rattle.pl0_code.specs.Lines.{row}
+use Rattle.pl0_code.proofs.Successes.{on_ok}
 use Rattle.pl0_code.proofs.emit.Emitter.assign.Goals as goal
 
 pub store_to-requires : goal.store_to-requires
@@ -11,8 +12,8 @@ store_to-requires c =
     let r = found_in 0 (blocks_of c.args.scopes.now) in
     subst (λ o. IsFoundTo CanBeAssigned o) (sym (c.find-found.ensures ∙ ap r c.as_str.ensures.value)) c.requires.0
 
-pub returns-clause-listing : goal.returns-clause-listing
-returns-clause-listing c =
+pub returns : goal.returns
+returns c =
     let r = found_in 0 (blocks_of c.args.scopes.now) in
     let l0 = c.args.self.now.listing in
     let taken = c.in_ok-step.ensures in
@@ -20,9 +21,14 @@ returns-clause-listing c =
     let value = expression_rows r e (Some (length c.args.self.now.steps.items)) in
     let i = c.store_to.result in
     let store = c.store_to.ensures ∙ ap store_of (c.find-found.ensures ∙ ap r c.as_str.ensures.value) in
-    subst (λ code. OnOk c.put.result (c.put.new.self ≡ code))
-    (ap (λ l. l ++ row i None ∷ []) c.in_ok-emit_expression.ensures ∙
-    ap (λ n. (c.step.new.self.listing ++ expression_rows r e (Some n)) ++ row i None ∷ []) taken.number ∙
-    ap (λ l. (l ++ value) ++ row i None ∷ []) taken.listing ∙
-    ap (λ j. (l0 ++ value) ++ row j None ∷ []) store ∙
-    append_assoc l0 value (row (store_of (r (plain_name c.args.target.now).word)) None ∷ [])) c.put.ensures
+    on_ok c.put.result c.put.ensures (λ put. record {
+      listing =
+          put ∙
+          ap (λ l. l ++ row i None ∷ []) c.in_ok-emit_expression.ensures ∙
+          ap (λ n. (c.step.new.self.listing ++ expression_rows r e (Some n)) ++ row i None ∷ []) taken.number ∙
+          ap (λ l. (l ++ value) ++ row i None ∷ []) taken.listing ∙
+          ap (λ j. (l0 ++ value) ++ row j None ∷ []) store ∙
+          append_assoc l0 value (row (store_of (r (plain_name c.args.target.now).word)) None ∷ []);
+      table = taken.table;
+      ended = taken.ended;
+    })

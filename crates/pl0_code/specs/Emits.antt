@@ -1,0 +1,11 @@
+-- What is made of a tree, with one statement more.
+use Rattle.std.specs.Prelude.{◌≡◌, ◌++◌, length}
+use Rattle.pl0_tree.specs.Tree.{Statement}
+use Rattle.pl0_code.specs.declared.emit.Emitter.{Emitter}
+use Rattle.pl0_code.specs.Rows.{Resolver, statement_rows, statement_table}
+
+-- The code and the steps of a statement, where words mean this, stand after those that were there.
+pub record Emits (words : Resolver) (s : Statement) (old new : Emitter) : Type 0 where
+  pub listing : new.listing ≡ old.listing ++ statement_rows words s (length old.listing) (length old.steps.items)
+  pub table : new.steps.items ≡ old.steps.items ++ statement_table s old.ended
+  pub ended : new.ended ≡ old.ended
