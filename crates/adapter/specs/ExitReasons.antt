@@ -7,8 +7,7 @@ use Rattle.dap_history.specs.declared.fault.SessionFault.TheVariants as session
 use Rattle.adapter.specs.declared.serving.Served.{Served}
 use Rattle.adapter.specs.declared.serving.ServeFault.{ServeFault}
 use Rattle.adapter.specs.declared.serving.ServeFault.TheVariants as serve
-use Rattle.pl0_tree.specs.declared.fault.FaultKind.{FaultKind}
-use Rattle.pl0_tree.specs.declared.fault.FaultKind.TheVariants.{TooLong, NotAscii, BadCharacter, NumberTooLarge, NameTooLong, Expected, TooDeep, TooManyNames, Twice, Unknown, TooEarly, WrongKind}
+use Rattle.pl0_tree.specs.Faults.{fault_number}
 use Rattle.adapter.specs.declared.checking.CheckFault.{CheckFault}
 use Rattle.adapter.specs.declared.checking.CheckFault.TheVariants as check
 use Rattle.adapter.specs.declared.arguments.ArgumentsFault.{ArgumentsFault}
@@ -43,20 +42,6 @@ reason_of_serve (Err (serve.Session fault)) = reason_of_session fault
 reason_of_serve (Err serve.NoThread) = Refused 7
 
 -- faults of a text by their numbers
-abbrev pub fault_number : FaultKind → ℕ
-fault_number TooLong = 1
-fault_number NotAscii = 2
-fault_number BadCharacter = 3
-fault_number NumberTooLarge = 4
-fault_number NameTooLong = 5
-fault_number Expected = 6
-fault_number TooDeep = 7
-fault_number TooManyNames = 8
-fault_number Twice = 9
-fault_number Unknown = 10
-fault_number TooEarly = 11
-fault_number WrongKind = 12
-
 abbrev pub reason_of_check : Result (Unit {0}) CheckFault → ExitReason
 reason_of_check (Ok done) = Success
 reason_of_check (Err check.CannotRead) = CannotRead

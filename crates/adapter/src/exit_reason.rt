@@ -1,14 +1,14 @@
 //! Why a run ends: the exit status, and the last line on standard error.
 
 ghost use Rattle.std.specs.Prelude.{◌≡◌, Some};
-ghost use Rattle.adapter.specs.ExitReasons.{reason_of_serve, reason_of_session, reason_of_framing, reason_of_check, reason_of_arguments, fault_number, status_of};
+ghost use Rattle.adapter.specs.ExitReasons.{reason_of_serve, reason_of_session, reason_of_framing, reason_of_check, reason_of_arguments, status_of};
 
 use crate::arguments::ArgumentsFault;
 use crate::checking::CheckFault;
 use crate::serving::{ServeFault, Served};
 use dap_frame::FramingFault;
 use dap_session::SessionFault;
-use pl0_tree::{FaultKind, Place};
+use pl0_tree::Place;
 use std::fmt;
 
 /// Why a run of the program ends. `Display` writes the last line on standard error, without its line feed; nothing at
@@ -83,31 +83,11 @@ pub fn end_of_check(outcome: &Result<(), CheckFault>) -> ExitReason
         Ok(()) => ExitReason::Success,
         Err(CheckFault::CannotRead) => ExitReason::CannotRead,
         Err(CheckFault::Syntax { kind, place }) => ExitReason::Syntax {
-            number: number_of(*kind),
+            number: kind.number(),
             place: *place,
         },
         Err(CheckFault::WriteFailed) => ExitReason::WriteFailed,
         Err(CheckFault::NoMemory) => ExitReason::NoMemory,
-    }
-}
-
-/// The number of a fault of a text.
-fn number_of(kind: FaultKind) -> u8
-    ensures { result ≡ fault_number kind }
-{
-    match kind {
-        FaultKind::TooLong => 1,
-        FaultKind::NotAscii => 2,
-        FaultKind::BadCharacter => 3,
-        FaultKind::NumberTooLarge => 4,
-        FaultKind::NameTooLong => 5,
-        FaultKind::Expected => 6,
-        FaultKind::TooDeep => 7,
-        FaultKind::TooManyNames => 8,
-        FaultKind::Twice => 9,
-        FaultKind::Unknown => 10,
-        FaultKind::TooEarly => 11,
-        FaultKind::WrongKind => 12,
     }
 }
 

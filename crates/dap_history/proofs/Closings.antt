@@ -28,7 +28,7 @@ use Rattle.dap_history.specs.Replies.{Reply, refused, causing, ordering, OfProgr
 use Rattle.dap_history.specs.Reports.{report_effect, held}
 use Rattle.dap_history.specs.Launching.{initialize_in, Launches}
 use Rattle.dap_history.specs.Breakpoints.{hold_once, effect_in, SetsOf, Sets, SetsIn, is_at}
-use Rattle.dap_history.specs.Running.{Pace, mode_of, body_of, resumes, entry_mode, enters, ConfiguresIn, ResumesIn, pause_in}
+use Rattle.dap_history.specs.Running.{Pace, mode_of, body_of, resumes, first_mode, enters, ConfiguresIn, ResumesIn, pause_in}
 use Rattle.dap_history.specs.Frames.{frame_by_id}
 use Rattle.dap_history.specs.Inspection.{asked_of, scopes, variables, result_reply, EvaluatesIn, RepliesAt, Inspects, InspectsIn}
 use Rattle.dap_history.specs.Emission.{threads_in, RepliesIn, Causes, IsAfter}
@@ -216,7 +216,7 @@ enters_quiet past l (Some r) = tt
 configures_in_quiet : (s : Situation) (past : History) (reply : Reply) → ConfiguresIn s past reply → IsQuiet reply
 configures_in_quiet Configuring past reply is =
     of_program (launched past) _ reply
-    (λ l says. quiet_if reply _ (enters_quiet past l (due l.program (plan past).breakpoints (plan past).counted_from (entry_mode l) 0)) says) is
+    (λ l says. quiet_if reply _ (enters_quiet past l (due l.program (plan past).breakpoints (plan past).counted_from (first_mode l) 0)) says) is
 configures_in_quiet _ past reply is = quiet_if reply _ tt is
 
 resumes_in_quiet : (s : Situation) (past : History) (pace : Pace) (thread : ℕ) (reply : Reply) → ResumesIn s past pace thread reply → IsQuiet reply

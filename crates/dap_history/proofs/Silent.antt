@@ -24,7 +24,7 @@ use Rattle.dap_history.specs.Readings.{go, launched, runs, is_held, plan, situat
 use Rattle.dap_history.specs.Replies.{Reply, nothing, refused, causing, ordering, OfProgram, on_thread, stop_of}
 use Rattle.dap_history.specs.Launching.{initialize_in}
 use Rattle.dap_history.specs.Breakpoints.{effect_in, SetsOf, Sets, SetsIn, is_at}
-use Rattle.dap_history.specs.Running.{Pace, mode_of, body_of, resumes, entry_mode, enters, ConfiguresIn, ResumesIn, pause_in}
+use Rattle.dap_history.specs.Running.{Pace, mode_of, body_of, resumes, first_mode, enters, ConfiguresIn, ResumesIn, pause_in}
 use Rattle.dap_history.specs.Frames.{frame_by_id}
 use Rattle.dap_history.specs.Inspection.{Asked, asked_of, scopes, variables, result_reply, EvaluatesIn, RepliesFrom, RepliesAt, InspectsIn}
 use Rattle.dap_history.specs.Emission.{threads_in, RepliesIn}
@@ -39,7 +39,7 @@ pub data GoesBy (past : History) : Option Heading → Type 0 where
 
 -- why position 0 is due, if it is
 abbrev pub due_first : History → Launched → Option Reason
-due_first past l = due l.program (plan past).breakpoints (plan past).counted_from (entry_mode l) 0
+due_first past l = due l.program (plan past).breakpoints (plan past).counted_from (first_mode l) 0
 
 -- a reply stops the program at position 0 alone, in Configuring, where it is due
 pub data StopsBy (s : Situation) (past : History) : Option StopReason → Type 0 where

@@ -11,8 +11,7 @@ use Rattle.dap_msg.specs.declared.outgoing.EventBody.TheVariants as event
 use Rattle.pl0_tree.specs.Tree.{Block}
 use Rattle.pl0_tree.specs.declared.tree.Place.{Place}
 use Rattle.pl0_tree.specs.declared.fault.FaultKind.{FaultKind}
-use Rattle.pl0_tree.specs.declared.fault.FaultKind.TheVariants.{TooLong, NotAscii, BadCharacter, NumberTooLarge, NameTooLong, Expected, TooDeep, TooManyNames, Twice, Unknown, TooEarly, WrongKind}
-use Rattle.pl0_tree.specs.Faults.{IsFirstFault, IsTreeOf}
+use Rattle.pl0_tree.specs.Faults.{fault_number, IsFirstFault, IsTreeOf}
 use Rattle.dap_history.specs.declared.situation.Situation.{Situation}
 use Rattle.dap_history.specs.declared.situation.Situation.TheVariants.{Fresh, Ready}
 use Rattle.dap_history.specs.declared.launch.Launch.{Launch}
@@ -34,20 +33,6 @@ wanted_by seq _ = None
 abbrev pub wanted_in : Situation → Option Request → Option Launch
 wanted_in Ready (Some request) = wanted_by request.seq request.body
 wanted_in _ _ = None
-
-abbrev pub fault_number : FaultKind → ℕ
-fault_number TooLong = 1
-fault_number NotAscii = 2
-fault_number BadCharacter = 3
-fault_number NumberTooLarge = 4
-fault_number NameTooLong = 5
-fault_number Expected = 6
-fault_number TooDeep = 7
-fault_number TooManyNames = 8
-fault_number Twice = 9
-fault_number Unknown = 10
-fault_number TooEarly = 11
-fault_number WrongKind = 12
 
 abbrev pub syntax : FaultKind → Place → Refusal
 syntax kind place = refusal.Syntax (fault_number kind) place.line place.column

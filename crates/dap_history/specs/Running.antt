@@ -27,8 +27,9 @@ resumes past l m = goes past l (position past) (plan past) m
 
 -- ---- `configurationDone`
 
-abbrev pub entry_mode : Launched → Mode
-entry_mode l = if l.stop_on_entry then mode.Entry else mode.Continue
+-- the mode in which position 0 is considered
+abbrev pub first_mode : Launched → Mode
+first_mode l = if l.stop_on_entry then mode.Entry else mode.Continue
 
 -- position 0 is due, or the first run begins there
 abbrev pub enters : History → Launched → Option Reason → Effect
@@ -37,7 +38,7 @@ enters past l None = ordering (resumes past l mode.Continue)
 
 abbrev pub Configures : History → Reply → Type 0
 Configures past reply = OfProgram (launched past) (λ l. reply
-    ≡ causing body.None (enters past l (due l.program (plan past).breakpoints (plan past).counted_from (entry_mode l) 0)))
+    ≡ causing body.None (enters past l (due l.program (plan past).breakpoints (plan past).counted_from (first_mode l) 0)))
 
 abbrev pub ConfiguresIn : Situation → History → Reply → Type 0
 ConfiguresIn Configuring past reply = Configures past reply

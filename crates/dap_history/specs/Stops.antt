@@ -1,5 +1,5 @@
 -- The law of stops: each is where it has to be, and what is asked there is answered from there.
-use Rattle.std.specs.Prelude.{◌≡◌, ◌++◌, ◌∷◌, [], ℕ, ◌<◌, ◌≤◌, List, if◌then◌else◌, Option, None, Some, Ok, All}
+use Rattle.std.specs.Prelude.{◌≡◌, ◌++◌, ◌∷◌, [], ℕ, ◌<◌, ◌≤◌, List, Option, None, Some, Ok, All}
 use Rattle.dap_msg.specs.Commands.{name_of}
 use Rattle.dap_msg.specs.declared.request.Request.{Request}
 use Rattle.dap_msg.specs.declared.command.Command.{Command}
@@ -12,8 +12,6 @@ use Rattle.dap_msg.specs.declared.outgoing.StopReason.{StopReason}
 use Rattle.dap_msg.specs.declared.outgoing.StopReason.TheVariants as stop
 use Rattle.pl0_meaning.specs.declared.RunFault.{RunFault}
 use Rattle.pl0_meaning.specs.Runs.{at, outcome, Faults}
-use Rattle.dbg_plan.specs.declared.mode.Mode.{Mode}
-use Rattle.dbg_plan.specs.declared.mode.Mode.TheVariants as mode
 use Rattle.dbg_plan.specs.declared.mode.Reason.{Reason}
 use Rattle.dbg_plan.specs.Due.{due}
 use Rattle.dbg_runner.specs.Plain.{Heading}
@@ -23,6 +21,7 @@ use Rattle.dap_history.specs.Last.{last_such}
 use Rattle.dap_history.specs.History.{Launched, Content, Step, History}
 use Rattle.dap_history.specs.Readings.{go, situation, launched, last_run, position, plan}
 use Rattle.dap_history.specs.Replies.{Reply, stop_of, exception_of}
+use Rattle.dap_history.specs.Running.{first_mode}
 use Rattle.dap_history.specs.Inspection.{RepliesAt, asked_of}
 use Rattle.dap_history.specs.Events.{Incoming, Rest, AreLawful, IsHistoryOf}
 
@@ -62,10 +61,6 @@ IsRunsStop l run (stop.Exception x) m =
     (fault : RunFault) × (x ≡ exception_of fault) × (outcome l.program m ≡ Faults fault) × (run.start ≤ m) × NoneDueUpTo l run m
 IsRunsStop l run reason m =
     (r : Reason) × (reason ≡ stop_of r) × (due_in l run m ≡ Some r) × (run.start < m) × NoneDueBefore l run m
-
--- the mode in which position 0 is considered
-abbrev pub first_mode : Launched → Mode
-first_mode l = if l.stop_on_entry then mode.Entry else mode.Continue
 
 -- A stop after these steps: of the last run, or, before any, at position 0.
 abbrev pub IsRightStop : Launched → History → Option Heading → StopReason → ℕ → Type 0

@@ -21,7 +21,7 @@ use Rattle.dap_phase.specs.declared.phase.Phase.{Phase}
 use Rattle.dap_phase.specs.declared.phase.Phase.TheVariants as phase
 use Rattle.dap_phase.specs.Phases.{IsPhase, IsTarget, IsDebuggee, situation_of}
 use Rattle.dap_replies.specs.Answering.{LeadsNowhere}
-use Rattle.dap_replies.specs.Questions.{IsQuestion}
+use Rattle.dap_history.specs.Stops.{IsQuestion}
 
 -- an answer to a question changes no reading
 pub question_leads_nowhere : (command : Command) → IsQuestion command → LeadsNowhere command

@@ -24,7 +24,7 @@ use Rattle.dap_history.specs.History.{Launched, History}
 use Rattle.dap_history.specs.Readings.{situation, launched, runs, position, plan, initialize_arguments, stop_mark}
 use Rattle.dap_history.specs.ReadingLaws.{ReadingsGoOn}
 use Rattle.dap_history.specs.Replies.{Reply, reporting, ordering, causing, refused, stop_of, stops, ends, OfProgram, on_thread}
-use Rattle.dap_history.specs.Running.{goes, resumes, entry_mode, enters, ConfiguresIn, ResumesIn, mode_of, body_of}
+use Rattle.dap_history.specs.Running.{goes, resumes, first_mode, enters, ConfiguresIn, ResumesIn, mode_of, body_of}
 use Rattle.dap_history.specs.Emission.{RepliesIn}
 use Rattle.dap_phase.specs.declared.phase.Phase.{Phase}
 use Rattle.dap_phase.specs.declared.phase.Phase.TheVariants as phase
@@ -56,20 +56,20 @@ next_order t d m past is_t is_d =
     ∙ ap (λ n. goes past (launched_as t d.unit) (position past) (record { breakpoints = (plan past).breakpoints; counted_from = n }) m) is_d.counted_from_is)
 
 -- what is due at position 0, by the definitions
-pub configures : (t : Target) (d : Debugged) (m : Mode) (why : Option Reason) (past : History) → m ≡ entry_mode (launched_as t d.unit) → why ≡ due_now d m → IsPhase (phase.Configuring t d) past
+pub configures : (t : Target) (d : Debugged) (m : Mode) (why : Option Reason) (past : History) → m ≡ first_mode (launched_as t d.unit) → why ≡ due_now d m → IsPhase (phase.Configuring t d) past
     → RepliesIn (situation past) past command.ConfigurationDone (causing body.None (enters past (launched_as t d.unit) why))
 configures t d m why past m_is why_is is =
     let is_d = is.keeps.1 in
     let l = launched_as t d.unit in
     subst (λ s. ConfiguresIn s past (causing body.None (enters past l why))) (sym is.situation_is)
-    (of_program (launched past) l (λ k. causing body.None (enters past l why) ≡ causing body.None (enters past k (due k.program (plan past).breakpoints (plan past).counted_from (entry_mode k) 0)))
+    (of_program (launched past) l (λ k. causing body.None (enters past l why) ≡ causing body.None (enters past k (due k.program (plan past).breakpoints (plan past).counted_from (first_mode k) 0)))
     is.keeps.0.launched_is
     (ap (λ r. causing body.None (enters past l r))
     (why_is
     ∙ ap (λ m. due l.program d.breakpoints d.counted_from m d.position) m_is
-    ∙ ap (λ bs. due l.program bs d.counted_from (entry_mode l) d.position) is_d.breakpoints_are
-    ∙ ap (λ n. due l.program (plan past).breakpoints n (entry_mode l) d.position) is_d.counted_from_is
-    ∙ ap (λ n. due l.program (plan past).breakpoints (plan past).counted_from (entry_mode l) n) is.keeps.2)))
+    ∙ ap (λ bs. due l.program bs d.counted_from (first_mode l) d.position) is_d.breakpoints_are
+    ∙ ap (λ n. due l.program (plan past).breakpoints n (first_mode l) d.position) is_d.counted_from_is
+    ∙ ap (λ n. due l.program (plan past).breakpoints (plan past).counted_from (first_mode l) n) is.keeps.2)))
 
 -- a command that resumes is replied to as its pace says
 pub as_paced : (pace : Pace) (asked : ThreadArguments) (s : Situation) (past : History) (reply : Reply) → ResumesIn s past (pace_of pace) asked.thread_id reply → RepliesIn s past (resumption pace asked) reply
@@ -149,14 +149,14 @@ still_there : (d : Debugged) (past : History) → IsDebuggee d past → IsDebugg
 still_there d past is = record { position_is = is.position_is; breakpoints_are = is.breakpoints_are; counted_from_is = is.counted_from_is }
 
 -- position 0 is due
-pub enters_due : ReadingsGoOn → (t : Target) (d e : Debugged) (m : Mode) (why : Reason) (past : History) (given : Given) → e ≡ considered d → m ≡ entry_mode (launched_as t d.unit) → Some why ≡ due_now d m
+pub enters_due : ReadingsGoOn → (t : Target) (d e : Debugged) (m : Mode) (why : Reason) (past : History) (given : Given) → e ≡ considered d → m ≡ first_mode (launched_as t d.unit) → Some why ≡ due_now d m
     → HasStopped t e why given → IsPhase (phase.Configuring t d) past → HasReplied command.ConfigurationDone past given
 enters_due laws t d e m why past given e_is m_is why_is stopped is =
     stops_there laws command.ConfigurationDone t (considered d) why past given refl is.keeps.0 (still_there d past is.keeps.1)
     (subst (λ e. HasStopped t e why given) e_is stopped) (configures t d m (Some why) past m_is why_is is)
 
 -- the first run begins there
-pub enters_running : ReadingsGoOn → (t : Target) (d e : Debugged) (m : Mode) (past : History) (given : Given) → e ≡ considered d → m ≡ entry_mode (launched_as t d.unit) → None ≡ due_now d m
+pub enters_running : ReadingsGoOn → (t : Target) (d e : Debugged) (m : Mode) (past : History) (given : Given) → e ≡ considered d → m ≡ first_mode (launched_as t d.unit) → None ≡ due_now d m
     → HasGone t e mode.Continue body.None given → IsPhase (phase.Configuring t d) past → HasReplied command.ConfigurationDone past given
 enters_running laws t d e m past given e_is m_is none_due gone is =
     goes_on laws command.ConfigurationDone t (considered d) mode.Continue body.None past given refl is.keeps.0 (still_there d past is.keeps.1)

@@ -6,8 +6,6 @@ pub mod Laws
 -- What only inner contracts cite.
 -- answers after which the phase stays as it is
 pub mod Answering
--- questions about the program where it stands
-pub mod Questions
 -- how the program is to go on
 pub mod Paces
 pub mod Going

@@ -8,7 +8,7 @@ ghost use Rattle.dap_history.specs.Inspection.{RepliesFrom};
 ghost use Rattle.dap_history.specs.Emission.{RepliesIn};
 ghost use Rattle.dap_inspection.specs.Questions.{question_of, replied};
 ghost use Rattle.dap_phase.specs.Phases.{IsPhase, situation_of};
-ghost use Rattle.dap_replies.specs.Questions.{IsQuestion};
+ghost use Rattle.dap_history.specs.Stops.{IsQuestion};
 ghost use Rattle.dap_replies.specs.Replied.{Replies};
 
 use crate::effect::Reply;

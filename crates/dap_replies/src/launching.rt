@@ -50,29 +50,9 @@ fn syntax(kind: FaultKind, place: Place) -> Refusal
     ensures { result ≡ launching.syntax kind place }
 {
     Refusal::Syntax {
-        number: fault_number(kind),
+        number: u32::from(kind.number()),
         line: place.line,
         column: place.column,
-    }
-}
-
-// The number of a fault.
-fn fault_number(kind: FaultKind) -> u32
-    ensures { result ≡ launching.fault_number kind }
-{
-    match kind {
-        FaultKind::TooLong => 1,
-        FaultKind::NotAscii => 2,
-        FaultKind::BadCharacter => 3,
-        FaultKind::NumberTooLarge => 4,
-        FaultKind::NameTooLong => 5,
-        FaultKind::Expected => 6,
-        FaultKind::TooDeep => 7,
-        FaultKind::TooManyNames => 8,
-        FaultKind::Twice => 9,
-        FaultKind::Unknown => 10,
-        FaultKind::TooEarly => 11,
-        FaultKind::WrongKind => 12,
     }
 }
 

@@ -5,8 +5,8 @@
 //!   `configurationDone` after them.
 //! - `refused syntax 6 1 1` stands for the first two requests where that refuses the launch; `launched again` for a launch of the
 //!   smallest program after it.
-//! - `started 4/3` stands for `configurationDone`, which is request 3, orders the first run and is answered by message 4.
-//! - `continue 2 8/6` stands for `continue`, which is request 6, orders run 2 and is answered by message 8. `next`, `stepIn` and
+//! - `started 4/3` stands for `configurationDone` with seq 3, which orders the first run, and for its answer with seq 4.
+//! - `continue 2 8/6` stands for `continue` with seq 6, which orders run 2, and for its answer with seq 8. `next`, `stepIn` and
 //!   `stepOut` go the same way.
 //! - `ended` stands for the end of the input, which closes the session.
 
