@@ -20,12 +20,12 @@ use Rattle.dbg_plan.proofs.Tally.{tally, tally_due}
 le_true : (t m : ℕ) → t ≤ m → nat_le t m ≡ true
 le_true t m le = grind (arith, nat_tests)
 
-any_plain : (hit : PlainBreakpoint → Bool) (bs : List Breakpoint) → list_any hit (plain_breakpoints bs) ≡ list_any (λ b. hit (plain_breakpoint b)) bs
+pub any_plain : (hit : PlainBreakpoint → Bool) (bs : List Breakpoint) → list_any hit (plain_breakpoints bs) ≡ list_any (λ b. hit (plain_breakpoint b)) bs
 any_plain hit [] = refl
 any_plain hit (b ∷ bs) = ap (λ v. hit (plain_breakpoint b) || v) (any_plain hit bs)
 
 -- one position further
-arrivals_rise : (main : Block) (b : PlainBreakpoint) (first m : ℕ) → first ≤ m → arrivals main b first (m + 1) ≡ (if arrives_at main b m then arrivals main b first m + 1 else arrivals main b first m)
+pub arrivals_rise : (main : Block) (b : PlainBreakpoint) (first m : ℕ) → first ≤ m → arrivals main b first (m + 1) ≡ (if arrives_at main b m then arrivals main b first m + 1 else arrivals main b first m)
 arrivals_rise main b first m le = rw add-one (ap (λ (v : Bool). if v && arrives_at main b m then arrivals main b first m + 1 else arrivals main b first m) (le_true first m le))
 
 module _ (m : Standing) (p : ℕ) (here : IsNext (program m) (top_of (frames m)) p) (bs : List Breakpoint) (numbered : IsNumbered bs) (counts : List ℕ) (room : length counts ≡ 256) where

@@ -22,5 +22,6 @@ pub mod ValuesMet
 pub mod BoundFirst
 pub mod BoundWalk
 pub mod ValuesNamed
+pub mod Unwatched
 pub mod Quiet
 pub mod QuietCounts

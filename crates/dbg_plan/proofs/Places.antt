@@ -53,7 +53,7 @@ module _ (all : List StepAt) (ascend : Ascend (map (λ step. step.place) all)) w
 
 -- where the program stands at step p, those of its breakpoints arrive whose condition holds
 module _ (main : Block) (ordered : ∥ Ascend (map (λ step. step.place) (steps main)) ∥₁) where
-  stands_at : (f : Frame) (below : Configuration) (p : ℕ) → StandsBefore main f p → (n : ℕ) → nat_eq p n ≡ is_at main n (f ∷ below)
+  pub stands_at : (f : Frame) (below : Configuration) (p : ℕ) → StandsBefore main f p → (n : ℕ) → nat_eq p n ≡ is_at main n (f ∷ below)
   stands_at f below p before n =
       ∥∥₁_elim ordered (Coded-set coded_bool (nat_eq p n) (is_at main n (f ∷ below))) (λ ascend. by_next ascend (slice_get_cases (steps main) p).1)
     where

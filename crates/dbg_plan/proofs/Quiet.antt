@@ -1,82 +1,111 @@
--- Quiet steps of a machine, and what they leave of the counts.
-use Rattle.std.proofs.Common.{◌≡◌, ⊎_elim, ℕ, ◌+◌, ◌<◌, ◌≤◌, [], ◌∷◌, Option, Some, None, refl, sym, ap, ◌∙◌, subst, arith}
+-- Quiet steps of a machine.
+use Rattle.std.proofs.Common.{◌≡◌, ⊎_elim, ℕ, ◌+◌, ◌<◌, ◌≤◌, false, List, [], ◌∷◌, length, Option, Some, None, ℤ, refl, sym, ap, ◌∙◌, subst, arith}
 use Rattle.std.proofs.lemmas.Bool.{cases_eq}
-use Rattle.pl0_meaning.specs.Runs.{Outcome, Goes, Faults, Over, written_by}
+use Rattle.pl0_meaning.specs.Values.{Configuration}
+use Rattle.pl0_meaning.specs.Runs.{Outcome, Goes, Faults, Over, at, led_to, written_by}
+use Rattle.pl0_meaning.specs.Linking.{at_next}
 use Rattle.pl0_machine.specs.declared.outcome.StepOutcome.{StepOutcome}
 use Rattle.pl0_machine.specs.declared.outcome.StepOutcome.TheVariants.{Went, Done}
-use Rattle.pl0_machine.specs.Machine.{Standing, outcome_of, Stepped}
-use Rattle.dbg_plan.specs.Plans.{Listed}
+use Rattle.pl0_machine.specs.Machine.{Standing, program, frames_of, outcome_of, Stepped}
+use Rattle.dbg_plan.specs.Breakpoints.{Breakpoint}
+use Rattle.dbg_plan.specs.Plans.{Listed, breakpoints_of}
 use Rattle.dbg_plan.specs.Debugged.{IsRunning}
-use Rattle.dbg_plan.specs.Running.{ahead, Uncounted, StepsQuietly, RanOn}
+use Rattle.dbg_plan.specs.Running.{ahead, is_at_breakpoint, IsQuiet, RanQuietly}
+use Rattle.dbg_plan.specs.Quiet.{RanOn}
 use Rattle.dbg_plan.proofs.Stepping.{went_on}
 
--- the step wrote nothing
-silent : (o : Outcome) (old new : Standing) (result : StepOutcome) → Stepped o old result new → result ≡ Went None → written_by o ≡ []
-silent (Goes None c) old new result s is = refl
-silent (Goes (Some v) []) old new result s is = let other : result ≡ Done = s.0 in cc
-silent (Goes (Some v) (f ∷ below)) old new result s is = let other : result ≡ Went (Some v) = s.0 in cc
-silent (Faults fault) old new result s is = refl
-silent Over old new result s is = refl
+-- a step that wrote nothing and led to a position without a breakpoint
+abbrev pub IsQuietly : List Breakpoint → StepOutcome → Standing → Type 0
+IsQuietly breakpoints result new = (result ≡ Went None) × (is_at_breakpoint breakpoints new ≡ false)
 
--- some quiet steps were taken
-pub record Quietly (limit : ℕ) (plan : Option Listed) (start m : Standing) : Type 0 where
-  pub steps : ℕ
-  pub quiet : (k : ℕ) → k < steps → StepsQuietly plan (ahead start k)
-  pub is : m ≡ ahead start steps
-  pub running : IsRunning m
-  pub within : m.position ≤ limit
+module _ (breakpoints : List Breakpoint) (old new : Standing) (result : StepOutcome) (stepped : Stepped (outcome_of old) old result new) where
+  silent : result ≡ Went None → written_by (outcome_of old) ≡ []
+  silent is = by_outcome (outcome_of old) stepped
+    where
+      by_outcome : (o : Outcome) → Stepped o old result new → written_by o ≡ []
+      by_outcome (Goes None c) s = refl
+      by_outcome (Goes (Some v) []) s = let other : result ≡ Done = s.0 in cc
+      by_outcome (Goes (Some v) (f ∷ below)) s = let other : result ≡ Went (Some v) = s.0 in cc
+      by_outcome (Faults fault) s = refl
+      by_outcome Over s = refl
 
-pub none_yet : (limit : ℕ) (plan : Option Listed) (start : Standing) → IsRunning start → start.position ≤ limit → Quietly limit plan start start
-none_yet limit plan start running within =
+  pub is_quiet : IsQuietly breakpoints result new → IsQuiet breakpoints old
+  is_quiet told =
+      let went = went_on old new result stepped None told.0 in
+      record {
+        silent = silent told.0;
+        running = subst (λ m. IsRunning m) went.0 went.1;
+        unwatched = subst (λ m. is_at_breakpoint breakpoints m ≡ false) went.0 told.1;
+      }
+
+  -- where nothing is alive after it, a step isn't quiet
+  ends_run : (o : Option Configuration) → led_to (outcome_of old) ≡ o → length (frames_of o) ≡ 0 → IsQuiet breakpoints old → ⊥
+  ends_run o led none quiet =
+      let there : at (program old) (old.position + 1) ≡ o = at_next (program old) old.position ∙ led in
+      let some : 0 < length (frames_of o) = subst (λ c. 0 < length (frames_of c)) there quiet.running in
+      omega (arith, none, some)
+
+  writes : (v : ℤ) → v ∷ [] ≡ [] → ⊥
+  writes v e = cc
+
+  pub is_told : IsQuiet breakpoints old → IsQuietly breakpoints result new
+  is_told quiet = by_outcome (outcome_of old) refl stepped quiet.silent
+    where
+      by_outcome : (o : Outcome) → outcome_of old ≡ o → Stepped o old result new → written_by o ≡ [] → IsQuietly breakpoints result new
+      by_outcome (Goes None []) e s none = absurd (ends_run (Some []) (ap led_to e) refl quiet)
+      by_outcome (Goes None (f ∷ below)) e s none = (s.0, subst (λ m. is_at_breakpoint breakpoints m ≡ false) (sym s.1) quiet.unwatched)
+      by_outcome (Goes (Some v) c) e s none = absurd (writes v none)
+      by_outcome (Faults fault) e s none = absurd (ends_run None (ap led_to e) refl quiet)
+      by_outcome Over e s none = absurd s
+
+-- quiet steps led to the machine m
+abbrev pub Quietly : ℕ → List Breakpoint → Standing → Standing → Type 0
+Quietly limit breakpoints start m = RanQuietly limit breakpoints start (λ steps. (m ≡ ahead start steps) × IsRunning m × (m.position ≤ limit))
+
+pub none_yet : (limit : ℕ) (breakpoints : List Breakpoint) (start : Standing) → IsRunning start → start.position ≤ limit → Quietly limit breakpoints start start
+none_yet limit breakpoints start running within =
     let e : start.position ≡ start.position + 0 = omega arith in
+    let here : start ≡ ahead start 0 = ap (λ (p : ℕ). record start { position = p }) e in
     record {
       steps = 0;
       quiet = λ k lt. absurd (omega (arith, lt));
-      is = ap (λ (p : ℕ). record start { position = p }) e;
-      running = running;
-      within = within;
+      running = subst (λ m. IsRunning m) here running;
+      within = omega (arith, within);
+      ends = (here, running, within);
     }
 
-module _ (limit : ℕ) (plan : Option Listed) (start m : Standing) (q : Quietly limit plan start m) where
+module _ (limit : ℕ) (plan : Option Listed) (start m : Standing) (q : Quietly limit (breakpoints_of plan) start m) where
+  abbrev breakpoints : List Breakpoint
+  breakpoints = breakpoints_of plan
+
   pub stops : limit ≤ m.position → RanOn limit plan start None m
-  stops reached =
-      let place = ap (λ (s : Standing). s.position) q.is in
-      let w = q.within in
-      record { steps = q.steps; quiet = q.quiet; running = subst (λ s. IsRunning s) q.is q.running; within = omega (arith, place, w); ends = (q.is, subst (λ (s : Standing). limit ≤ s.position) q.is reached) }
+  stops reached = record { steps = q.steps; quiet = q.quiet; running = q.running; within = q.within; ends = (q.ends.0, subst (λ (s : Standing). limit ≤ s.position) q.ends.0 reached) }
 
   module _ (result : StepOutcome) (new : Standing) (stepped : Stepped (outcome_of m) m result new) (below : m.position < limit) where
-    pub ended : RanOn limit plan start (Some result) new
-    ended =
-        let place = ap (λ (s : Standing). s.position) q.is in
-        let w = q.within in
-        record {
-          steps = q.steps;
-          quiet = q.quiet;
-          running = subst (λ s. IsRunning s) q.is q.running;
-          within = omega (arith, place, w);
-          ends = subst (λ (s : Standing). (s.position < limit) × Stepped (outcome_of s) s result new) q.is (below, stepped);
-        }
+    pub ended : (IsQuietly breakpoints result new → ⊥) → RanOn limit plan start (Some result) new
+    ended loud = record {
+      steps = q.steps;
+      quiet = q.quiet;
+      running = q.running;
+      within = q.within;
+      ends = subst (λ (s : Standing). (s.position < limit) × (¬ IsQuiet breakpoints s) × Stepped (outcome_of s) s result new) q.ends.0
+          (below, λ quiet. loud (is_told breakpoints m new result stepped quiet), stepped);
+    }
 
-    pub goes : result ≡ Went None → Uncounted plan new → Quietly limit plan start new
-    goes is free =
-        let on = (went_on m new result stepped None is).0 in
-        let runs = (went_on m new result stepped None is).1 in
-        let place = ap (λ (s : Standing). s.position) q.is in
-        let there = ap (λ (s : Standing). s.position) on in
+    pub goes : IsQuietly breakpoints result new → Quietly limit breakpoints start new
+    goes told =
+        let went = went_on m new result stepped None told.0 in
+        let place = ap (λ (s : Standing). s.position) q.ends.0 in
+        let there = ap (λ (s : Standing). s.position) went.0 in
         let e : m.position + 1 ≡ start.position + (q.steps + 1) = omega (arith, place) in
         let further : new ≡ ahead start (q.steps + 1) =
-        on ∙ ap (λ (s : Standing). record s { position = m.position + 1 }) q.is ∙ ap (λ (p : ℕ). record start { position = p }) e in
-        let one : new ≡ ahead (ahead start q.steps) 1 = on ∙ ap (λ (s : Standing). ahead s 1) q.is in
-        let last : StepsQuietly plan (ahead start q.steps) = record {
-          silent = subst (λ (s : Standing). written_by (outcome_of s) ≡ []) q.is (silent (outcome_of m) m new result stepped is);
-          running = subst (λ s. IsRunning s) one runs;
-          uncounted = subst (λ s. Uncounted plan s) one free;
-        } in
+        went.0 ∙ ap (λ (s : Standing). record s { position = m.position + 1 }) q.ends.0 ∙ ap (λ (p : ℕ). record start { position = p }) e in
+        let last : IsQuiet breakpoints (ahead start q.steps) = subst (λ s. IsQuiet breakpoints s) q.ends.0 (is_quiet breakpoints m new result stepped told) in
         record {
           steps = q.steps + 1;
           quiet = λ k lt.
-              ⊎_elim (λ (same : k ≡ q.steps). subst (λ j. StepsQuietly plan (ahead start j)) (sym same) last) (λ ne. q.quiet k (omega (arith, ne, lt))) (cases_eq k q.steps);
-          is = further;
-          running = runs;
-          within = omega (arith, there, below);
+              ⊎_elim (λ (same : k ≡ q.steps). subst (λ j. IsQuiet breakpoints (ahead start j)) (sym same) last) (λ ne. q.quiet k (omega (arith, ne, lt))) (cases_eq k q.steps);
+          running = subst (λ s. IsRunning s) further went.1;
+          within = omega (arith, place, below);
+          ends = (further, went.1, omega (arith, there, below));
         }

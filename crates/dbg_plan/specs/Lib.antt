@@ -15,3 +15,4 @@ pub mod Table
 pub mod Counting
 pub mod Counts
 pub mod Reads
+pub mod Quiet

@@ -80,7 +80,8 @@ impl Debuggee {
     ghost use Rattle.dbg_plan.specs.Plans.{IsPlanOf};
     ghost use Rattle.dbg_plan.specs.Debugged.{machine_of, program_of, IsConsidered, IsNext, due_now};
     ghost use Rattle.dbg_plan.specs.Advances.{Advanced};
-    ghost use Rattle.dbg_plan.specs.Running.{RanTo, RanFrom};
+    ghost use Rattle.dbg_plan.specs.Running.{RanFrom};
+    ghost use Rattle.dbg_plan.specs.Quiet.{RanTo};
     ghost use Rattle.pl0_machine.specs.declared.outcome.StepOutcome.TheVariants.{Went};
     ghost use Rattle.dbg_plan.specs.Values.{answered};
 

@@ -1,11 +1,13 @@
-// Steps at which nothing is written or counted.
+// Steps that write nothing and lead to positions without a breakpoint.
 
-ghost use Rattle.std.specs.Prelude.{◌≡◌, ◌≤◌, IsTrue, Some, None, option_map};
+ghost use Rattle.std.specs.Prelude.{◌≡◌, ◌≤◌, Decides, not, false, Some, None, option_map};
 ghost use Rattle.std.specs.Arc.{arc_value};
 ghost use Rattle.pl0_machine.specs.declared.outcome.StepOutcome.TheVariants.{Went};
 ghost use Rattle.dbg_plan.specs.Debugged.{IsRunning};
 ghost use Rattle.dbg_plan.specs.Counting.{MayBePlanOf};
-ghost use Rattle.dbg_plan.specs.Running.{Uncounted, Watches, RanOn, considered_after};
+ghost use Rattle.dbg_plan.specs.Plans.{breakpoints_of};
+ghost use Rattle.dbg_plan.specs.Running.{is_at_breakpoint};
+ghost use Rattle.dbg_plan.specs.Quiet.{Watches, RanOn, considered_after};
 
 use crate::plan::Plan;
 use pl0_machine::{Machine, StepOutcome};
@@ -17,7 +19,7 @@ fn is_unwatched(machine: &Machine, plan: &Option<Arc<Plan>>, watched: Option<&[b
     requires running { IsRunning machine.now }
     requires fits { MayBePlanOf machine.now.unit (option_map arc_value plan.now) }
     requires table { Watches (option_map arc_value plan.now) (option_map (λ table. table.now) watched) }
-    ensures { IsTrue result → Uncounted (option_map arc_value plan.now) machine.now }
+    ensures { result ≡ not (is_at_breakpoint (breakpoints_of (option_map arc_value plan.now)) machine.now) }
 {
     match watched {
         None => true,
@@ -36,7 +38,7 @@ fn is_quiet(
     requires running { outcome ≡ Went None → IsRunning machine.now }
     requires fits { MayBePlanOf machine.now.unit (option_map arc_value plan.now) }
     requires table { Watches (option_map arc_value plan.now) (option_map (λ table. table.now) watched) }
-    ensures { IsTrue result → (outcome ≡ Went None) × Uncounted (option_map arc_value plan.now) machine.now }
+    ensures { Decides result ((outcome ≡ Went None) × (is_at_breakpoint (breakpoints_of (option_map arc_value plan.now)) machine.now ≡ false)) }
 {
     match outcome {
         StepOutcome::Went(None) => is_unwatched(machine, plan, watched),

@@ -1,22 +1,20 @@
-use Rattle.std.proofs.Common.{◌≡◌, ap, sym, ◌∙◌, subst, option_map, Option, Some, Bool, true, false, not, List, [], length, slice_get, ◌<◌, refl}
+use Rattle.std.proofs.Common.{◌≡◌, ap, sym, ◌∙◌, subst, option_map, Option, Some, Bool, false, not, List, length, slice_get, ◌<◌}
 use Rattle.std.specs.Arc.{arc_value}
 use Rattle.std.proofs.lemmas.Option.{slice_get_within, get_or_from_slice_get}
 use Rattle.pl0_unit.specs.declared.unit.Unit.{Unit as Compiled}
-use Rattle.dbg_plan.specs.Plans.{Listed, IsPlanOf}
+use Rattle.dbg_plan.specs.Breakpoints.{plain_breakpoints}
+use Rattle.dbg_plan.specs.Plans.{Listed, IsPlanOf, breakpoints_of}
 use Rattle.dbg_plan.specs.Counting.{MayBePlanOf}
-use Rattle.dbg_plan.proofs.Here.{goes_on}
-use Rattle.dbg_plan.proofs.Watching.{there, none_of}
-use Rattle.dbg_plan.specs.Running.{Watches}
+use Rattle.dbg_plan.specs.Running.{is_at_breakpoint}
+use Rattle.dbg_plan.specs.Quiet.{Watches}
+use Rattle.dbg_plan.proofs.Watching.{there}
+use Rattle.dbg_plan.proofs.Unwatched.{told_by_step}
 use Rattle.dbg_plan.proofs.running.is_unwatched.Goals as goal
 use Rattle.dbg_plan.proofs.running.is_unwatched.Goals.{In-Some}
 
 -- what is known of the plan that is asked
 fits : (u : Compiled) (plan : Option Listed) (asked : Listed) → plan ≡ Some asked → MayBePlanOf u plan → IsPlanOf u asked
 fits u plan asked is may = subst (λ o. MayBePlanOf u o) is may
-
-is_false : (b : Bool) → not b ≡ true → b ≡ false
-is_false true h = cc
-is_false false h = refl
 
 table : (c : In-Some) → Watches (option_map arc_value c.args.plan.now) (Some c.in-Some.watched.now)
 table c = subst (λ w. Watches (option_map arc_value c.args.plan.now) (option_map (λ t. t.now) w)) c.in-Some.is c.requires.table
@@ -30,8 +28,13 @@ bounds-watched-address c =
     subst (λ (ws : List Bool). c.address.result < length ws) (sym known.2)
     (slice_get_within asked.watched c.address.result _ (there asked.breakpoints u.begun_steps.items asked.watched c.address.result c.address.ensures.step plan_fits.watched c.address.ensures.begins))
 
+pub returns-in-None : goal.returns-in-None
+returns-in-None c =
+    let none = subst (λ w. Watches (option_map arc_value c.args.plan.now) (option_map (λ t. t.now) w)) c.in-None.is c.requires.table in
+    sym (ap (λ bs. not (is_at_breakpoint (plain_breakpoints bs) c.args.machine.now)) none)
+
 pub returns-in-Some : goal.returns-in-Some
-returns-in-Some c = λ free first counts room le are.
+returns-in-Some c =
     let u = c.args.machine.now.unit in
     let next = c.address.ensures in
     let known = table (goal.at.returns-in-Some c).In-Some in
@@ -39,5 +42,5 @@ returns-in-Some c = λ free first counts room le are.
     let plan_fits = fits u (option_map arc_value c.args.plan.now) asked known.1 c.requires.fits in
     let has_one = there asked.breakpoints u.begun_steps.items asked.watched c.address.result next.step plan_fits.watched next.begins in
     let read = get_or_from_slice_get c.in-Some.watched.now c.address.result _ false (ap (λ (ws : List Bool). slice_get ws c.address.result) known.2 ∙ has_one) in
-    let none = none_of next.step asked.breakpoints (sym read ∙ is_false _ free) in
-    goes_on c.args.machine.now next.step next.next (option_map arc_value c.args.plan.now) asked known.1 known.3 [] (sym none) counts room false counts refl refl first le are
+    ap not (read ∙ sym (told_by_step c.args.machine.now next.step next.next asked.breakpoints)
+    ∙ sym (ap (λ plan. is_at_breakpoint (breakpoints_of plan) c.args.machine.now) known.1))

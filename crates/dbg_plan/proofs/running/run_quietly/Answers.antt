@@ -1,7 +1,11 @@
-use Rattle.std.proofs.Common.{◌<◌, None, refl, arith}
+use Rattle.std.proofs.Common.{◌≡◌, ◌<◌, true, false, option_map, None, refl, arith}
+use Rattle.std.specs.Arc.{arc_value}
 use Rattle.dbg_plan.proofs.Stepping.{went_on}
-use Rattle.dbg_plan.proofs.Quiet.{goes}
+use Rattle.dbg_plan.proofs.Quiet.{none_yet, goes, ended}
 use Rattle.dbg_plan.proofs.running.run_quietly.Goals as goal
+
+pub steps-init : goal.steps-init
+steps-init c = none_yet _ _ _ c.requires.running c.requires.within
 
 pub is_quiet-requires-clause-running : goal.is_quiet-requires-clause-running
 is_quiet-requires-clause-running c = λ is.
@@ -9,6 +13,11 @@ is_quiet-requires-clause-running c = λ is.
 
 pub steps-preserved : goal.steps-preserved
 steps-preserved c =
-    let went = c.if-not-is_quiet.ensures refl in
     let below : c.steps.machine.position < c.args.limit = omega (arith, c.position.ensures.position, c.steps-test.true) in
-    goes _ _ _ c.steps.machine c.steps.invariant c.step-outcome.result c.step-outcome.new.self c.step-outcome.ensures below went.0 went.1
+    goes c.args.limit (option_map arc_value c.args.plan.now) _ c.steps.machine c.steps.invariant c.step-outcome.result c.step-outcome.new.self c.step-outcome.ensures below (c.if-not-is_quiet.ensures.0 refl)
+
+pub returns-then-not-is_quiet : goal.returns-then-not-is_quiet
+returns-then-not-is_quiet c =
+    let below : c.steps.machine.position < c.args.limit = omega (arith, c.position.ensures.position, c.steps-test.true) in
+    ended c.args.limit (option_map arc_value c.args.plan.now) _ c.steps.machine c.steps.invariant c.step-outcome.result c.step-outcome.new.self c.step-outcome.ensures below
+    (λ quietly. let other : false ≡ true = c.if-not-is_quiet.ensures.1 quietly in cc)

@@ -1,7 +1,7 @@
 use Rattle.std.proofs.Common.{◌≡◌, ◌+◌, sym, subst}
 use Rattle.dbg_plan.specs.Counts.{IsCounting, debugged_of}
 use Rattle.dbg_plan.specs.Debugged.{Debugged, IsNext}
-use Rattle.dbg_plan.specs.Running.{RanTo}
+use Rattle.dbg_plan.specs.Quiet.{RanTo}
 use Rattle.dbg_plan.proofs.QuietCounts.{counting_after, ran_to, is_next}
 use Rattle.dbg_plan.proofs.debuggee.Debuggee.run_quietly.Goals as goal
 

@@ -1,0 +1,39 @@
+-- How the quiet steps of a run are taken: first by the machine, and then of the debuggee that has it.
+use Rattle.std.specs.Prelude.{◌≡◌, ℕ, ◌<◌, ◌≤◌, Bool, true, false, List, [], Option, Some, None}
+use Rattle.pl0_machine.specs.declared.outcome.StepOutcome.{StepOutcome}
+use Rattle.pl0_machine.specs.declared.outcome.StepOutcome.TheVariants.{Went, Done, Fault}
+use Rattle.pl0_machine.specs.Machine.{Standing, outcome_of, Stepped}
+use Rattle.dbg_plan.specs.Breakpoints.{Breakpoint}
+use Rattle.dbg_plan.specs.Plans.{Listed, IsNumbered, listed_of, breakpoints_of}
+use Rattle.dbg_plan.specs.Debugged.{Debugged, machine_of}
+use Rattle.dbg_plan.specs.Running.{ahead, forward, IsQuiet, RanQuietly}
+
+-- a table of the plan's breakpoints; none, where it has none
+abbrev pub Watches : Option Listed → Option (List Bool) → Type 0
+Watches plan None = listed_of plan ≡ []
+Watches plan (Some watched) = (asked : Listed) × (plan ≡ Some asked) × (watched ≡ asked.watched) × IsNumbered asked.breakpoints
+
+-- nothing more at the limit, or the first step that isn't quiet
+abbrev pub Ends : ℕ → List Breakpoint → Standing → Option StepOutcome → Standing → Type 0
+Ends limit breakpoints m None new = (new ≡ m) × (limit ≤ m.position)
+Ends limit breakpoints m (Some outcome) new = (m.position < limit) × (¬ IsQuiet breakpoints m) × Stepped (outcome_of m) m outcome new
+
+abbrev pub RanOn : ℕ → Option Listed → Standing → Option StepOutcome → Standing → Type 0
+RanOn limit plan old outcome new =
+    RanQuietly limit (breakpoints_of plan) old (λ steps. Ends limit (breakpoints_of plan) (ahead old steps) outcome new)
+
+-- whether the position is considered where a run stands
+abbrev pub considered_after : Option StepOutcome → Bool
+considered_after None = true
+considered_after (Some (Went written)) = false
+considered_after (Some Done) = false
+considered_after (Some (Fault fault)) = true
+
+-- the same of a debuggee; the position that the last step led to is still to be considered
+abbrev pub EndsAt : ℕ → Debugged → Option StepOutcome → Debugged → Type 0
+EndsAt limit d None new = (new ≡ d) × (limit ≤ d.position)
+EndsAt limit d (Some outcome) new =
+    (d.position < limit) × (¬ IsQuiet d.breakpoints (machine_of d)) × Stepped (outcome_of (machine_of d)) (machine_of d) outcome (machine_of new) × (new ≡ record d { position = new.position })
+
+abbrev pub RanTo : ℕ → Debugged → Option StepOutcome → Debugged → Type 0
+RanTo limit old outcome new = RanQuietly limit old.breakpoints (machine_of old) (λ steps. EndsAt limit (forward old steps) outcome new)
