@@ -18,11 +18,12 @@ use Rattle.serde_json.specs.Written.{outline, items_outline, members_outline, co
 use Rattle.serde_json.proofs.Numbers.{number_of-decimal}
 use Rattle.serde_json.proofs.Texts.{print-outline}
 use Rattle.dap_msg.specs.Laws.{NumbersFit, LineFits, FrameFits, ReferenceFits, MessagesAreReadBack}
-use Rattle.dap_msg.specs.Outgoing.{value_of}
+use Rattle.dap_msg.specs.Outgoing.{value_of, text_of}
 use Rattle.dap_msg.specs.Scopes.{scope}
 use Rattle.dap_msg.specs.SetBreakpoints.{breakpoint}
 use Rattle.dap_msg.specs.StackTrace.{stack_frame}
 use Rattle.dap_msg.specs.Variables.{variable}
+use Rattle.dap_msg.specs.Writing.{Fits, ItemsFit, MembersFit}
 use Rattle.dap_msg.specs.declared.outgoing.BreakpointAnswer.{BreakpointAnswer}
 use Rattle.dap_msg.specs.declared.outgoing.BreakpointAnswer.TheVariants.{At, Unverified}
 use Rattle.dap_msg.specs.declared.outgoing.Outgoing.{Outgoing}
@@ -35,26 +36,7 @@ use Rattle.dap_msg.specs.declared.outgoing.StopReason.TheVariants as reason
 use Rattle.dap_msg.proofs.Names.{says}
 use Rattle.dap_msg.proofs.Shapes.{nests_little}
 
--- ---- values whose numbers fit, with their keys in order
-
-abbrev mutual
-  Fits : Data → Type 0
-  Fits null = Unit {0}
-  Fits (boolean b) = Unit {0}
-  Fits (number (unsigned n)) = n < 2 ^ 64
-  Fits (number (negative z)) = ⊥
-  Fits (number (float x)) = ⊥
-  Fits (string s) = Unit {0}
-  Fits (array ds) = ItemsFit ds
-  Fits (object ms) = MembersFit ms
-
-  ItemsFit : Items → Type 0
-  ItemsFit no_items = Unit {0}
-  ItemsFit (item d ds) = Fits d × ItemsFit ds
-
-  MembersFit : Members → Type 0
-  MembersFit no_members = Unit {0}
-  MembersFit (member k d ms) = Fits d × MembersFit ms
+-- ---- values with their keys in order
 
 abbrev is_greater : Ordering → Bool
 is_greater Less = false
@@ -221,6 +203,9 @@ message_sorted (Event (event.Output v)) seq = refl
 message_sorted (Event (event.Exited code)) seq = refl
 message_sorted (Event event.Terminated) seq = refl
 
+pub text_is_read : (message : Outgoing) (seq : ℕ) → Fits (value_of message seq) → read (text_of message seq) ≡ Some (value_of message seq)
+text_is_read message seq fits = round_trip (value_of message seq) fits (message_sorted message seq) (nests_little message seq)
+
 each_fits : {A : Type 0} (f : A → Data) (P : A → Type 0) → ((x : A) → P x → Fits (f x)) → (xs : List A) → All P xs → ItemsFit (items_of (map f xs))
 each_fits f P fits [] all = tt
 each_fits f P fits (x ∷ xs) all = (fits x (all 0 x (omega arith)), each_fits f P fits xs (λ k d lt. all (suc k) d (omega arith)))
@@ -265,5 +250,4 @@ message_fits (Event (event.Exited code)) seq fits below = ((fits, tt), (tt, (bel
 message_fits (Event event.Terminated) seq fits below = (tt, (below, (tt, tt)))
 
 pub messages_are_read_back : MessagesAreReadBack
-messages_are_read_back message seq fits below =
-    (round_trip (value_of message seq) (message_fits message seq fits below) (message_sorted message seq) (nests_little message seq), says message seq)
+messages_are_read_back message seq fits below = (text_is_read message seq (message_fits message seq fits below), says message seq)

@@ -18,6 +18,7 @@ mod command;
 mod events;
 mod items;
 mod laws;
+mod members;
 mod outgoing;
 mod printable;
 mod reading;

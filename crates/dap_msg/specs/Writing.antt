@@ -1,0 +1,47 @@
+-- For private clauses: what is written of a message.
+use Rattle.std.specs.Prelude.{◌≡◌, ◌<◌, ◌^◌, List, [], ◌∷◌, ◌++◌}
+use Rattle.json.specs.Token.{Token, key}
+use Rattle.json.specs.Tree.{json_tokens}
+use Rattle.json.specs.Written.{Written}
+use Rattle.serde_json.specs.Data.{Data, null, boolean, number, unsigned, negative, float, string, array, object, Items, no_items, item, Members, no_members, member}
+use Rattle.serde_json.specs.Written.{outline}
+
+-- each number is a whole one of 64 bits
+abbrev mutual
+  pub Fits : Data → Type 0
+  Fits null = Unit {0}
+  Fits (boolean b) = Unit {0}
+  Fits (number (unsigned n)) = n < 2 ^ 64
+  Fits (number (negative z)) = ⊥
+  Fits (number (float x)) = ⊥
+  Fits (string s) = Unit {0}
+  Fits (array ds) = ItemsFit ds
+  Fits (object ms) = MembersFit ms
+
+  pub ItemsFit : Items → Type 0
+  ItemsFit no_items = Unit {0}
+  ItemsFit (item d ds) = Fits d × ItemsFit ds
+
+  pub MembersFit : Members → Type 0
+  MembersFit no_members = Unit {0}
+  MembersFit (member k d ms) = Fits d × MembersFit ms
+
+abbrev pub tokens_of : Data → List Token
+tokens_of d = json_tokens (outline d)
+
+-- with no bracket
+abbrev pub members_tokens_of : Members → List Token
+members_tokens_of no_members = []
+members_tokens_of (member k d ms) = key k ∷ (tokens_of d ++ members_tokens_of ms)
+
+-- the value's tokens follow those that were written
+pub record WritesValue (d : Data) (old new : Written) : Type 0 where
+  pub before : new.before ≡ old.before
+  pub tokens : new.tokens ≡ old.tokens ++ tokens_of d
+  pub fits : Fits d
+
+-- the members' tokens, with no bracket, follow those that were written
+pub record WritesMembers (ms : Members) (old new : Written) : Type 0 where
+  pub before : new.before ≡ old.before
+  pub tokens : new.tokens ≡ old.tokens ++ members_tokens_of ms
+  pub fits : MembersFit ms
