@@ -10,19 +10,19 @@ use Rattle.dap_wires.specs.contracts.event_ends.ReportSender as ReportSender
 use Rattle.dap_wires.specs.contracts.order_ends.OrderReceiver as OrderReceiver
 use Rattle.dap_wires.specs.contracts.reading.ReadEnd as ReadEnd
 use Rattle.dap_wires.proofs.Crossing.{client_sender_send, client_sender_field_send, report_sender_send, report_sender_field_send, order_receiver_send, order_receiver_field_send}
-use Rattle.adapter.specs.contracts.jobs.Reads as Reads
-use Rattle.adapter.specs.contracts.jobs.Runs as Runs
+use Rattle.adapter.specs.contracts.jobs.ReaderTask as ReaderTask
+use Rattle.adapter.specs.contracts.jobs.RunnerTask as RunnerTask
 
-pub runs_send : (G R : RattleType) → IsSend G → IsSend R → IsSend (Runs.the_row G R)
-runs_send G R g r =
+pub runner_task_send : (G R : RattleType) → IsSend G → IsSend R → IsSend (RunnerTask.the_row G R)
+runner_task_send G R g r =
     let a = order_receiver_field_send R r in let b = report_sender_field_send R r in search (crosses, sendable) depth 60 fits 20000
 
-pub ran_send : (R : RattleType) → IsSend R → IsSend (Tuple (OrderReceiver.the_row R ∷ ReportSender.the_row R ∷ []))
-ran_send R r =
+pub runner_output_send : (R : RattleType) → IsSend R → IsSend (Tuple (OrderReceiver.the_row R ∷ ReportSender.the_row R ∷ []))
+runner_output_send R r =
     let a = order_receiver_send R r in let b = report_sender_send R r in search (crosses, sendable) depth 60 fits 20000
 
-pub reads_send : (α : NamedLft) (I R : RattleType) → IsSend I → IsSend R → IsSend (Reads.the_row α I R)
-reads_send α I R i r = let a = client_sender_field_send R r in search (crosses, sendable) depth 60 fits 20000
+pub reader_task_send : (α : NamedLft) (I R : RattleType) → IsSend I → IsSend R → IsSend (ReaderTask.the_row α I R)
+reader_task_send α I R i r = let a = client_sender_field_send R r in search (crosses, sendable) depth 60 fits 20000
 
-pub read_send : (α : NamedLft) (I R : RattleType) → IsSend I → IsSend R → IsSend (Tuple (MutRef α.mir α.lft I ∷ ClientSender.the_row R ∷ ReadEnd.the_row ∷ []))
-read_send α I R i r = let a = client_sender_send R r in search (crosses, sendable) depth 60 fits 20000
+pub reader_output_send : (α : NamedLft) (I R : RattleType) → IsSend I → IsSend R → IsSend (Tuple (MutRef α.mir α.lft I ∷ ClientSender.the_row R ∷ ReadEnd.the_row ∷ []))
+reader_output_send α I R i r = let a = client_sender_send R r in search (crosses, sendable) depth 60 fits 20000

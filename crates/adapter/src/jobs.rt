@@ -30,20 +30,25 @@ use std::sync::Wait;
 
 /// Reading the input.
 #[derive(Drop)]
-pub struct Reads<'a, I, R: Wait + Drop> {
+pub struct ReaderTask<'a, I, R: Wait + Drop> {
     rt: R,
     alloc: Global,
     input: &'a mut I,
     inbox: ClientSender<R>,
 }
 
-impl<'a, I, R: Wait + Drop> Reads<'a, I, R> {
-    pub fn new(rt: R, alloc: Global, input: &'a mut I, inbox: ClientSender<R>) -> Reads<'a, I, R>
+impl<'a, I, R: Wait + Drop> ReaderTask<'a, I, R> {
+    pub fn new(
+        rt: R,
+        alloc: Global,
+        input: &'a mut I,
+        inbox: ClientSender<R>,
+    ) -> ReaderTask<'a, I, R>
         ensures same_input { result.input.ghost_name ≡ input.entry.ghost_name }
         ensures input { result.input.now ≡ input.old }
         ensures inbox { result.inbox ≡ inbox }
     {
-        Reads {
+        ReaderTask {
             rt,
             alloc,
             input,
@@ -52,7 +57,7 @@ impl<'a, I, R: Wait + Drop> Reads<'a, I, R> {
     }
 }
 
-impl<'a, I: Source, R: Wait + Drop> Task for Reads<'a, I, R> {
+impl<'a, I: Source, R: Wait + Drop> Task for ReaderTask<'a, I, R> {
     type Output = (&'a mut I, ClientSender<R>, ReadEnd);
 
     ghost can_run = { λ _. ⊤ };
@@ -62,7 +67,7 @@ impl<'a, I: Source, R: Wait + Drop> Task for Reads<'a, I, R> {
         × IsReadUntil r.2 sent (supply (I.left t.input.now) (I.failures t.input.now)) (supply (I.left r.0.now) (I.failures r.0.now))) };
 
     fn run(self) -> (&'a mut I, ClientSender<R>, ReadEnd) {
-        let Reads {
+        let ReaderTask {
             rt,
             alloc,
             input,
@@ -75,23 +80,23 @@ impl<'a, I: Source, R: Wait + Drop> Task for Reads<'a, I, R> {
 
 /// Writing the output.
 #[derive(Drop)]
-pub struct Writes<'a, O, R: Wait + Drop> {
+pub struct WriterTask<'a, O, R: Wait + Drop> {
     rt: R,
     output: &'a mut O,
     outbox: FrameReceiver<R>,
 }
 
-impl<'a, O, R: Wait + Drop> Writes<'a, O, R> {
-    pub fn new(rt: R, output: &'a mut O, outbox: FrameReceiver<R>) -> Writes<'a, O, R>
+impl<'a, O, R: Wait + Drop> WriterTask<'a, O, R> {
+    pub fn new(rt: R, output: &'a mut O, outbox: FrameReceiver<R>) -> WriterTask<'a, O, R>
         ensures same_output { result.output.ghost_name ≡ output.entry.ghost_name }
         ensures output { result.output.now ≡ output.old }
         ensures outbox { result.outbox ≡ outbox }
     {
-        Writes { rt, output, outbox }
+        WriterTask { rt, output, outbox }
     }
 }
 
-impl<'a, O: Sink, R: Wait + Drop> Task for Writes<'a, O, R> {
+impl<'a, O: Sink, R: Wait + Drop> Task for WriterTask<'a, O, R> {
     type Output = (&'a mut O, Receipt<Parcel>, Result<(), WriteFailed>);
 
     ghost can_run = { λ _. ⊤ };
@@ -101,7 +106,7 @@ impl<'a, O: Sink, R: Wait + Drop> Task for Writes<'a, O, R> {
         × IsWrittenUntil r.2 taken (output_at (O.written t.output.now) (O.failures t.output.now)) (output_at (O.written r.0.now) (O.failures r.0.now))) };
 
     fn run(self) -> (&'a mut O, Receipt<Parcel>, Result<(), WriteFailed>) {
-        let Writes {
+        let WriterTask {
             rt,
             output,
             mut outbox,
@@ -140,7 +145,7 @@ impl<G: Gate + Drop> Gate for NotedGate<G> {
 
 /// Running the program that is debugged.
 #[derive(Drop)]
-pub struct Runs<G: Drop, R: Wait + Drop> {
+pub struct RunnerTask<G: Drop, R: Wait + Drop> {
     rt: R,
     alloc: Global,
     orders: OrderReceiver<R>,
@@ -148,18 +153,18 @@ pub struct Runs<G: Drop, R: Wait + Drop> {
     gate: G,
 }
 
-impl<G: Drop, R: Wait + Drop> Runs<G, R> {
+impl<G: Drop, R: Wait + Drop> RunnerTask<G, R> {
     pub fn new(
         rt: R,
         alloc: Global,
         orders: OrderReceiver<R>,
         reports: ReportSender<R>,
         gate: G,
-    ) -> Runs<G, R>
+    ) -> RunnerTask<G, R>
         ensures orders { result.orders ≡ orders }
         ensures reports { result.reports ≡ reports }
     {
-        Runs {
+        RunnerTask {
             rt,
             alloc,
             orders,
@@ -169,7 +174,7 @@ impl<G: Drop, R: Wait + Drop> Runs<G, R> {
     }
 }
 
-impl<G: Gate + Drop, R: Wait + Drop> Task for Runs<G, R> {
+impl<G: Gate + Drop, R: Wait + Drop> Task for RunnerTask<G, R> {
     type Output = (OrderReceiver<R>, ReportSender<R>);
 
     ghost can_run = { λ t. (taken_orders t.orders ≡ []) × (sent_reports t.reports ≡ []) × (refused_reports t.reports ≡ []) };
@@ -179,7 +184,7 @@ impl<G: Gate + Drop, R: Wait + Drop> Task for Runs<G, R> {
         × (taken_orders r.0 ≡ flat_map order_in acts) × (sent_reports r.1 ≡ flat_map sent_in acts)) };
 
     fn run(self) -> (OrderReceiver<R>, ReportSender<R>) {
-        let Runs {
+        let RunnerTask {
             rt,
             alloc,
             orders,
@@ -195,7 +200,7 @@ impl<G: Gate + Drop, R: Wait + Drop> Task for Runs<G, R> {
 
 /// Driving the session, in the thread that joins the others.
 #[derive(Drop)]
-pub struct Drives<'a, L, R: Wait + Drop> {
+pub struct SessionTask<'a, L, R: Wait + Drop> {
     rt: R,
     alloc: Global,
     loader: &'a mut L,
@@ -204,7 +209,7 @@ pub struct Drives<'a, L, R: Wait + Drop> {
     orders: OrderSender<R>,
 }
 
-impl<'a, L, R: Wait + Drop> Drives<'a, L, R> {
+impl<'a, L, R: Wait + Drop> SessionTask<'a, L, R> {
     pub fn new(
         rt: R,
         alloc: Global,
@@ -212,14 +217,14 @@ impl<'a, L, R: Wait + Drop> Drives<'a, L, R> {
         inbox: EventReceiver<R>,
         outbox: FrameSender<R>,
         orders: OrderSender<R>,
-    ) -> Drives<'a, L, R>
+    ) -> SessionTask<'a, L, R>
         ensures same_loader { result.loader.ghost_name ≡ loader.entry.ghost_name }
         ensures loader { result.loader.now ≡ loader.old }
         ensures inbox { result.inbox ≡ inbox }
         ensures outbox { result.outbox ≡ outbox }
         ensures orders { result.orders ≡ orders }
     {
-        Drives {
+        SessionTask {
             rt,
             alloc,
             loader,
@@ -238,7 +243,7 @@ pub struct SessionEnds<R: Wait + Drop> {
     pub orders: OrderSender<R>,
 }
 
-impl<'a, L: Loader, R: Wait + Drop> Task for Drives<'a, L, R> {
+impl<'a, L: Loader, R: Wait + Drop> Task for SessionTask<'a, L, R> {
     type Output = (&'a mut L, SessionEnds<R>, Result<Closed, SessionFault>);
 
     ghost can_run = { λ _. ⊤ };
@@ -251,7 +256,7 @@ impl<'a, L: Loader, R: Wait + Drop> Task for Drives<'a, L, R> {
         (ports (put_frames t.outbox) (pushed_orders t.orders)) (parcels_put r.1.outbox) (pushed_orders r.1.orders) };
 
     fn run(self) -> (&'a mut L, SessionEnds<R>, Result<Closed, SessionFault>) {
-        let Drives {
+        let SessionTask {
             rt,
             alloc,
             loader,
@@ -269,9 +274,9 @@ impl<'a, L: Loader, R: Wait + Drop> Task for Drives<'a, L, R> {
     }
 }
 
-impl<'a, L: Loader, R: Wait + Drop> LastTask for Drives<'a, L, R> {
+impl<'a, L: Loader, R: Wait + Drop> LastTask for SessionTask<'a, L, R> {
     fn give_up(self) {
-        let Drives {
+        let SessionTask {
             outbox,
             mut orders,
             ..

@@ -9,7 +9,7 @@ ghost use Rattle.dap_wires.specs.Outbox.{parcels_put, ended_home, ended_unused_h
 ghost use Rattle.dap_wires.specs.Senders.{from_client, reports_among};
 ghost use Rattle.adapter.specs.Serving.{streams, outcome_of, IsServed};
 
-use crate::jobs::{Drives, Reads, Runs, SessionEnds, Writes};
+use crate::jobs::{ReaderTask, RunnerTask, SessionEnds, SessionTask, WriterTask};
 use crate::tasks::run_beside;
 use dap_session::{Closed, Loader, SessionFault};
 use dap_wires::{
@@ -79,12 +79,12 @@ where
     let (client, reports, events) = inbox(*rt, alloc)?;
     let (frames, parcels) = outbox(*rt, alloc)?;
     let (pushed, taken) = orders(*rt, alloc)?;
-    let writes = Writes::new(*rt, output, parcels);
-    let runs = Runs::new(*rt, alloc, taken, reports, gate);
-    let reads = Reads::new(*rt, alloc, input, client);
-    let drives = Drives::new(*rt, alloc, loader, events, frames, pushed);
+    let writer = WriterTask::new(*rt, output, parcels);
+    let runner = RunnerTask::new(*rt, alloc, taken, reports, gate);
+    let reader = ReaderTask::new(*rt, alloc, input, client);
+    let session = SessionTask::new(*rt, alloc, loader, events, frames, pushed);
     // The reader is started last, since nothing can wake it from a read.
-    let done = run_beside(rt, writes, runs, reads, drives);
+    let done = run_beside(rt, writer, runner, reader, session);
     let Some(((output, written, wrote), (taken, reports), (input, client, _), driven)) = done else {
         return Err(ServeFault::NoThread);
     };

@@ -12,7 +12,7 @@ use Rattle.dap_wires.specs.Transfer.{supply, output as output_at}
 use Rattle.dap_wires.specs.Writing.{IsWrittenUntil}
 use Rattle.adapter.specs.Jobs.{Drove}
 use Rattle.adapter.specs.Serving.{streams, outcome_of, nothing_sent, IsDriven, drove}
-use Rattle.adapter.proofs.Crossing.{runs_send, ran_send, reads_send, read_send}
+use Rattle.adapter.proofs.Crossing.{runner_task_send, runner_output_send, reader_task_send, reader_output_send}
 use Rattle.adapter.proofs.Gathered.{gathers}
 use Rattle.adapter.proofs.serving.serve.Goals as goal
 
@@ -42,22 +42,22 @@ returns g c =
     let r = c.in-Some.ensures.1 in
     let i = c.in-Some.ensures.2 in
     let s = c.in-Some.ensures.3 in
-    let given_to = c.new-drives.ensures in
-    let events : taken_events c.new-drives.result.inbox ≡ [] = ap taken_events given_to.inbox ∙ c.in_ok-client.ensures.events in
-    let frames : put_frames c.new-drives.result.outbox ≡ record { frames = []; refused = [] } = ap put_frames given_to.outbox ∙ c.in_ok-frames.ensures.frames in
-    let orders : pushed_orders c.new-drives.result.orders ≡ record { orders = []; fulls = 0; refusals = 0 } = ap pushed_orders given_to.orders ∙ c.in_ok-pushed.ensures.pushed in
-    let ports_are : ports (put_frames c.new-drives.result.outbox) (pushed_orders c.new-drives.result.orders) ≡ nothing_sent =
-    ap (λ w. ports w (pushed_orders c.new-drives.result.orders)) frames ∙ ap (λ o. ports (record { frames = []; refused = [] }) o) orders in
-    let fresh : Drove closed [] (received ends.inbox) (g.L.Loader.loaded c.new-drives.result.loader.now) (g.L.Loader.loaded c.in-Some.driven.0.now) (ports (put_frames c.new-drives.result.outbox) (pushed_orders c.new-drives.result.orders)) (parcels_put ends.outbox) (pushed_orders ends.orders) =
-    subst (λ given. Drove closed given (received ends.inbox) (g.L.Loader.loaded c.new-drives.result.loader.now) (g.L.Loader.loaded c.in-Some.driven.0.now) (ports (put_frames c.new-drives.result.outbox) (pushed_orders c.new-drives.result.orders)) (parcels_put ends.outbox) (pushed_orders ends.orders)) events s.6 in
-    let lent : Drove closed [] (received ends.inbox) (g.L.Loader.loaded c.args.loader.now) (g.L.Loader.loaded c.in-Some.driven.0.now) (ports (put_frames c.new-drives.result.outbox) (pushed_orders c.new-drives.result.orders)) (parcels_put ends.outbox) (pushed_orders ends.orders) =
-    subst (λ l. Drove closed [] (received ends.inbox) (g.L.Loader.loaded l) (g.L.Loader.loaded c.in-Some.driven.0.now) (ports (put_frames c.new-drives.result.outbox) (pushed_orders c.new-drives.result.orders)) (parcels_put ends.outbox) (pushed_orders ends.orders)) given_to.loader fresh in
+    let given_to = c.new-session.ensures in
+    let events : taken_events c.new-session.result.inbox ≡ [] = ap taken_events given_to.inbox ∙ c.in_ok-client.ensures.events in
+    let frames : put_frames c.new-session.result.outbox ≡ record { frames = []; refused = [] } = ap put_frames given_to.outbox ∙ c.in_ok-frames.ensures.frames in
+    let orders : pushed_orders c.new-session.result.orders ≡ record { orders = []; fulls = 0; refusals = 0 } = ap pushed_orders given_to.orders ∙ c.in_ok-pushed.ensures.pushed in
+    let ports_are : ports (put_frames c.new-session.result.outbox) (pushed_orders c.new-session.result.orders) ≡ nothing_sent =
+    ap (λ w. ports w (pushed_orders c.new-session.result.orders)) frames ∙ ap (λ o. ports (record { frames = []; refused = [] }) o) orders in
+    let fresh : Drove closed [] (received ends.inbox) (g.L.Loader.loaded c.new-session.result.loader.now) (g.L.Loader.loaded c.in-Some.driven.0.now) (ports (put_frames c.new-session.result.outbox) (pushed_orders c.new-session.result.orders)) (parcels_put ends.outbox) (pushed_orders ends.orders) =
+    subst (λ given. Drove closed given (received ends.inbox) (g.L.Loader.loaded c.new-session.result.loader.now) (g.L.Loader.loaded c.in-Some.driven.0.now) (ports (put_frames c.new-session.result.outbox) (pushed_orders c.new-session.result.orders)) (parcels_put ends.outbox) (pushed_orders ends.orders)) events s.6 in
+    let lent : Drove closed [] (received ends.inbox) (g.L.Loader.loaded c.args.loader.now) (g.L.Loader.loaded c.in-Some.driven.0.now) (ports (put_frames c.new-session.result.outbox) (pushed_orders c.new-session.result.orders)) (parcels_put ends.outbox) (pushed_orders ends.orders) =
+    subst (λ l. Drove closed [] (received ends.inbox) (g.L.Loader.loaded l) (g.L.Loader.loaded c.in-Some.driven.0.now) (ports (put_frames c.new-session.result.outbox) (pushed_orders c.new-session.result.orders)) (parcels_put ends.outbox) (pushed_orders ends.orders)) given_to.loader fresh in
     let session : Drove closed [] (received ends.inbox) (g.L.Loader.loaded c.args.loader.now) (g.L.Loader.loaded c.in-Some.driven.0.now) nothing_sent (parcels_put ends.outbox) (pushed_orders ends.orders) =
     subst (λ p. Drove closed [] (received ends.inbox) (g.L.Loader.loaded c.args.loader.now) (g.L.Loader.loaded c.in-Some.driven.0.now) p (parcels_put ends.outbox) (pushed_orders ends.orders)) ports_are lent in
-    let client : client_events c.in-Some.client ≡ i.2.0 = i.2.1 ∙ ap (λ l. l ++ i.2.0) (ap client_events c.new-reads.ensures.inbox ∙ c.in_ok-client.ensures.client) in
-    let taken : parcels_received c.in-Some.written ≡ w.3.0 = w.3.1 ∙ ap (λ l. l ++ w.3.0) (ap parcels_taken c.new-writes.ensures.outbox ∙ c.in_ok-frames.ensures.parcels) in
-    let read = subst (λ x. IsReadUntil c.in-Some.field-0-2-2 i.2.0 (supply (g.I.Source.left x) (g.I.Source.failures x)) (supply (g.I.Source.left c.in-Some.input.now) (g.I.Source.failures c.in-Some.input.now))) c.new-reads.ensures.input i.2.2 in
-    let written = subst (λ x. IsWrittenUntil c.in-Some.wrote w.3.0 (output_at (g.O.Sink.written x) (g.O.Sink.failures x)) (output_at (g.O.Sink.written c.in-Some.output.now) (g.O.Sink.failures c.in-Some.output.now))) c.new-writes.ensures.output w.3.2 in
+    let client : client_events c.in-Some.client ≡ i.2.0 = i.2.1 ∙ ap (λ l. l ++ i.2.0) (ap client_events c.new-reader.ensures.inbox ∙ c.in_ok-client.ensures.client) in
+    let taken : parcels_received c.in-Some.written ≡ w.3.0 = w.3.1 ∙ ap (λ l. l ++ w.3.0) (ap parcels_taken c.new-writer.ensures.outbox ∙ c.in_ok-frames.ensures.parcels) in
+    let read = subst (λ x. IsReadUntil c.in-Some.field-0-2-2 i.2.0 (supply (g.I.Source.left x) (g.I.Source.failures x)) (supply (g.I.Source.left c.in-Some.input.now) (g.I.Source.failures c.in-Some.input.now))) c.new-reader.ensures.input i.2.2 in
+    let written = subst (λ x. IsWrittenUntil c.in-Some.wrote w.3.0 (output_at (g.O.Sink.written x) (g.O.Sink.failures x)) (output_at (g.O.Sink.written c.in-Some.output.now) (g.O.Sink.failures c.in-Some.output.now))) c.new-writer.ensures.output w.3.2 in
     let driven : IsDriven c.in-Some.wrote closed (g.L.Loader.loaded c.args.loader.now) (g.L.Loader.loaded c.in-Some.driven.0.now)
     (streams (g.I.Source.left c.args.input.now) (g.I.Source.failures c.args.input.now) (g.O.Sink.written c.args.output.now) (g.O.Sink.failures c.args.output.now))
     (streams (g.I.Source.left c.in-Some.input.now) (g.I.Source.failures c.in-Some.input.now) (g.O.Sink.written c.in-Some.output.now) (g.O.Sink.failures c.in-Some.output.now)) =
@@ -70,13 +70,13 @@ returns g c =
     drove c.in-Some.wrote closed answer (rw (input, output, loader) at driven)
 
 pub run_beside-done-requires-send-T : goal.run_beside-done-requires-send-T
-run_beside-done-requires-send-T g c κs within = Send.param_send 2 _ (Send.arg_send _ Exit.no _ (runs_send _ _ c.type_bounds.send-G c.type_bounds.send-R))
+run_beside-done-requires-send-T g c κs within = Send.param_send 2 _ (Send.arg_send _ Exit.no _ (runner_task_send _ _ c.type_bounds.send-G c.type_bounds.send-R))
 
 pub run_beside-done-requires-send-U : goal.run_beside-done-requires-send-U
-run_beside-done-requires-send-U g c κs within = Send.param_send 3 _ (Send.arg_send _ Exit.no _ (reads_send _ _ _ c.type_bounds.send-I c.type_bounds.send-R))
+run_beside-done-requires-send-U g c κs within = Send.param_send 3 _ (Send.arg_send _ Exit.no _ (reader_task_send _ _ _ c.type_bounds.send-I c.type_bounds.send-R))
 
 pub run_beside-done-requires-send-B : goal.run_beside-done-requires-send-B
-run_beside-done-requires-send-B g c κs within = Send.param_send 6 _ (Send.arg_send _ Exit.no _ (ran_send _ c.type_bounds.send-R))
+run_beside-done-requires-send-B g c κs within = Send.param_send 6 _ (Send.arg_send _ Exit.no _ (runner_output_send _ c.type_bounds.send-R))
 
 pub run_beside-done-requires-send-C : goal.run_beside-done-requires-send-C
-run_beside-done-requires-send-C g c κs within = Send.param_send 7 _ (Send.arg_send _ Exit.no _ (read_send _ _ _ c.type_bounds.send-I c.type_bounds.send-R))
+run_beside-done-requires-send-C g c κs within = Send.param_send 7 _ (Send.arg_send _ Exit.no _ (reader_output_send _ _ _ c.type_bounds.send-I c.type_bounds.send-R))
