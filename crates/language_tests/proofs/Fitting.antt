@@ -1,7 +1,6 @@
 -- A variable of a frame's block, as the unit's tables show the block, is one of the frame's.
 use Rattle.std.proofs.Common.{◌≡◌, ℕ, ◌<◌, List, [], ◌∷◌, map, length, slice_get, Option, Some, None, refl, sym, ap, ◌∙◌, arith}
 use Rattle.std.proofs.Math.Logic.{∥∥₁_elim}
-use Rattle.std.proofs.Math.Nat.{ℕ_set}
 use Rattle.std.specs.Coded.{le_prop}
 use Rattle.std.proofs.lemmas.List.{length-map}
 use Rattle.std.proofs.lemmas.Option.{slice_get_within}
@@ -11,8 +10,7 @@ use Rattle.pl0_tree.specs.Tree.{Block, variables}
 use Rattle.pl0_tree.specs.Plain.{plain_block, plain_name}
 use Rattle.pl0_tree.specs.PlainParts.{plain_variables}
 use Rattle.pl0_tree.specs.Scope.{Path, block_at}
-use Rattle.pl0_tree.specs.declared.step.Step.{Step}
-use Rattle.pl0_tree.specs.Steps.{StepAt, steps, blocks, AreSteps}
+use Rattle.pl0_tree.specs.Steps.{blocks}
 use Rattle.pl0_tree.specs.Blocks.{AreNestings}
 use Rattle.pl0_meaning.specs.Values.{Frame, Configuration, frame_at}
 use Rattle.pl0_meaning.specs.Frames.{IsFrameOf, AreLinked}
@@ -58,14 +56,3 @@ has_variable main b c i view k linked shows is lt =
         let these = ap (λ x. length (variables x)) same in
         let those = variable_count b in
         omega (arith, lt, count, these, those)
-
--- ---- steps
-
-one_each : (main : Block) (table : List Step) (all : List StepAt) → AreSteps main table all → length table ≡ length all
-one_each main [] [] h = refl
-one_each main [] (s ∷ all) h = absurd h
-one_each main (r ∷ table) [] h = absurd h
-one_each main (r ∷ table) (s ∷ all) h = let more = one_each main table all h.1 in omega (arith, more)
-
-pub unit_length : (u : Compiled) → length u.steps.items ≡ length (steps (program_of u))
-unit_length u = ∥∥₁_elim u.compiled (ℕ_set _ _) (λ h. one_each (program_of u) u.steps.items (steps (program_of u)) h.steps)

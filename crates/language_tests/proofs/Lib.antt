@@ -1,5 +1,1 @@
-pub mod Declared
-pub mod Rows
-pub mod Numbers
-pub mod Taking
-pub mod Fitting
+mod Fitting

@@ -1,0 +1,14 @@
+//! PL/0 programs for tests to run: worked ones, and random ones, each from a seed. Nothing here is installed.
+//!
+//! `worked` has the worked ones, and `writer` writes the random ones, by the numbers of `random`. `compiling` makes the code of any.
+#![tactic(auto)]
+
+mod compiling;
+mod random;
+mod worked;
+mod writer;
+
+pub use compiling::compiled;
+pub use random::Random;
+pub use worked::{NESTED, POWER, RECURSIVE};
+pub use writer::random_program;

@@ -1,0 +1,66 @@
+// Worked programs.
+
+/// A procedure that calls itself, and one in it that is called from two frames of the outer one.
+pub const RECURSIVE: &str = "var n;
+procedure p;
+var k;
+procedure q;
+k := k + n;
+begin
+k := n;
+n := n - 1;
+if n > 0 then call p;
+call q;
+! k
+end;
+begin n := 2; call p end.
+";
+
+/// Three procedures in one another, with a constant.
+pub const NESTED: &str = "var total;
+procedure outer;
+const step = 10;
+var count;
+  procedure inner;
+  var bonus;
+    procedure innermost;
+    begin
+      count := count + 1;
+      bonus := bonus + count;
+      total := total + bonus * step
+    end;
+  begin
+    bonus := 5;
+    call innermost;
+    call innermost
+  end;
+begin
+  count := 0;
+  while count < 4 do call inner
+end;
+begin
+  total := 0;
+  call outer;
+  ! total
+end.
+";
+
+/// A loop with tests in it.
+pub const POWER: &str = "var base, exponent, power;
+procedure raise;
+begin
+  power := 1;
+  while exponent > 0 do
+  begin
+    if odd exponent then power := power * base;
+    exponent := exponent / 2;
+    if exponent > 0 then base := base * base
+  end
+end;
+begin
+  base := 3;
+  exponent := 13;
+  call raise;
+  ! power
+end.
+";
