@@ -1,13 +1,12 @@
 -- How a slice begins: with a run, or with no step.
-use Rattle.std.proofs.Common.{◌≡◌, ℕ, zero, suc, ◌+◌, ◌-◌, ◌<◌, ◌≤◌, List, [], ◌++◌, Option, Some, None, ap, sym, ◌∙◌, refl, subst, arith, ℤ, append-nil}
+use Rattle.std.proofs.Common.{◌≡◌, ℕ, zero, suc, ◌+◌, ◌-◌, ◌≤◌, List, Option, Some, None, ap, sym, ◌∙◌, refl, subst, arith, ℤ}
 use Rattle.std.specs.Prelude.{option_and_then}
-use Rattle.pl0_meaning.specs.Runs.{written_by, written, written_from, last_position}
-use Rattle.pl0_machine.specs.Machine.{outcome_of}
+use Rattle.pl0_meaning.specs.Runs.{written, written_from, last_position}
 use Rattle.dbg_plan.specs.declared.mode.Mode.{Mode}
 use Rattle.dbg_plan.specs.declared.mode.Mode.TheVariants.{Continue}
 use Rattle.dbg_plan.specs.declared.debuggee.Advance.{Advance}
 use Rattle.dbg_plan.specs.declared.debuggee.Advance.TheVariants.{To, Done, Fault}
-use Rattle.dbg_plan.specs.Debugged.{Debugged, machine_of, program_of, IsConsidered}
+use Rattle.dbg_plan.specs.Debugged.{Debugged, program_of, IsConsidered}
 use Rattle.dbg_plan.specs.Advances.{Advanced}
 use Rattle.dbg_plan.specs.Running.{forward, Closes, RanFrom}
 use Rattle.dbg_plan.proofs.Unwatched.{not_due}
@@ -15,20 +14,16 @@ use Rattle.dbg_runner.specs.declared.outcome.SliceOutcome.{SliceOutcome}
 use Rattle.dbg_runner.specs.declared.outcome.SliceOutcome.TheVariants as out
 use Rattle.dbg_runner.specs.Slices.{IsOfSlice, TookSteps}
 use Rattle.dbg_runner.specs.Rooms.{Room, IsRoomOf, slice_limit}
-use Rattle.dbg_runner.specs.Steps.{SteppedOn, IsWritten, RanOn, runs, stays, ending}
+use Rattle.dbg_runner.specs.Steps.{IsWritten, RanOn, runs, stays, ending}
 use Rattle.dbg_runner.specs.ReportFields.{sliced, StandsAtEnd}
-use Rattle.dbg_runner.proofs.SliceSteps.{Underway, goes, ended}
+use Rattle.dbg_runner.proofs.SliceSteps.{Underway, nothing_more, goes, ended}
 
-nothing_more : (d : Debugged) (room : Room) → written_by (outcome_of (machine_of d)) ≡ [] → IsWritten d room room
-nothing_more d room silent = sym (ap (λ (ns : List ℤ). record room { numbers = room.numbers ++ ns }) silent ∙ ap (λ (ns : List ℤ). record room { numbers = ns }) (append-nil room.numbers))
-
--- a step, as the runner sees it
-pub stepped : (mode : Mode) (old : Debugged) (room : Room) (advance : Advance) (new : Debugged) (more : Room) → Advanced mode old advance new → IsWritten old room more → SteppedOn mode old room (ending advance) new more
-stepped mode old room (To None) new more h w = (h.0, h.1, w, sym h.2)
-stepped mode old room (To (Some reason)) new more h w = (h.0, h.1, w, sym h.2)
-stepped mode old room Done new more h w = (h.0, h.1, w)
-stepped mode old room (Fault fault) new more h w =
-    (h.0, w ∙ sym (nothing_more old room (ap written_by h.1)), h.1)
+-- a step ends no slice as one that was held, or had no memory
+pub is_of_slice : (a : Advance) (outcome : SliceOutcome) → ending a ≡ Some outcome → IsOfSlice outcome
+is_of_slice (To None) outcome is = absurd cc
+is_of_slice (To (Some reason)) outcome is = (λ held. cc, λ lacking. cc)
+is_of_slice Done outcome is = (λ held. cc, λ lacking. cc)
+is_of_slice (Fault fault) outcome is = (λ held. cc, λ lacking. cc)
 
 module _ (limit : ℕ) (mode : Mode) (old : Debugged) (room : Room) (continues : mode ≡ Continue) (le : limit ≤ last_position) (new : Debugged) (more : Room) (kept : more ≡ record room { numbers = more.numbers }) where
   pub ran_out : RanFrom limit old room.numbers None new more.numbers → RanOn limit mode old room None new more
@@ -70,13 +65,13 @@ module _ (start : Debugged) (room : Room) (was : IsConsidered start) (of : IsRoo
       let q = r.quiet k (omega (arith, le)) in
       let next = forward (forward start k) 1 in
       subst (λ (p : ℕ). Underway Continue start (record start { position = p; next = p + 1 }) room) e
-      (goes Continue start (forward start k) room (underway k (omega (arith, le))) (omega (arith, le, w)) next room (refl, record { behind = refl; running = q.running }, nothing_more (forward start k) room q.silent, not_due next q.unwatched))
+      (goes Continue start (forward start k) room (underway k (omega (arith, le))) (omega (arith, le, w)) next room (nothing_more (forward start k) room q.silent) (To None) (refl, record { behind = refl; running = q.running }, sym (not_due next q.unwatched)) refl)
 
   abbrev ClosesBy : Option Advance → Type 0
   ClosesBy answer = Closes (start.position + slice_limit) last room.numbers answer new numbers
 
-  last_step : (a : Advance) → ClosesBy (Some a) → SteppedOn Continue last room (ending a) new more
-  last_step a closes = stepped Continue last room a new more closes.2 (ap (λ (ns : List ℤ). record room { numbers = ns }) closes.3)
+  wrote : (a : Advance) → ClosesBy (Some a) → IsWritten last room more
+  wrote a closes = ap (λ (ns : List ℤ). record room { numbers = ns }) closes.3
 
   pub on_its_way : option_and_then ending advance ≡ None → Underway Continue start new more
   on_its_way is = by_answer advance r.ends is
@@ -85,56 +80,45 @@ module _ (start : Debugged) (room : Room) (was : IsConsidered start) (of : IsRoo
       by_answer None closes is =
           subst (λ d. Underway Continue start d more) (sym closes.0) (subst (λ (ns : List ℤ). Underway Continue start last (record room { numbers = ns })) (sym closes.1) (underway r.steps (omega arith)))
       by_answer (Some a) closes is =
-          goes Continue start last room (underway r.steps (omega arith)) closes.0 new more (subst (λ e. SteppedOn Continue last room e new more) is (last_step a closes))
+          goes Continue start last room (underway r.steps (omega arith)) closes.0 new more (wrote a closes) a closes.2 is
 
-  over_there : (outcome : SliceOutcome) → option_and_then ending advance ≡ Some outcome → SteppedOn Continue last room (Some outcome) new more × (last.position < start.position + slice_limit)
-  over_there outcome is = by_answer advance r.ends is
-    where
-      by_answer : (o : Option Advance) → ClosesBy o → option_and_then ending o ≡ Some outcome → SteppedOn Continue last room (Some outcome) new more × (last.position < start.position + slice_limit)
-      by_answer None closes is = absurd cc
-      by_answer (Some a) closes is = (subst (λ e. SteppedOn Continue last room e new more) is (last_step a closes), closes.0)
+  same : (a : Advance) → Advanced Continue last a new → (new.unit ≡ start.unit) × (new.breakpoints ≡ start.breakpoints) × (new.counted_from ≡ start.counted_from)
+  same (To due) led = (ap (λ (d : Debugged). d.unit) led.0, ap (λ (d : Debugged). d.breakpoints) led.0, ap (λ (d : Debugged). d.counted_from) led.0)
+  same Done led = (ap (λ (d : Debugged). d.unit) led.0, ap (λ (d : Debugged). d.breakpoints) led.0, ap (λ (d : Debugged). d.counted_from) led.0)
+  same (Fault fault) led = (ap (λ (d : Debugged). d.unit) led.0, ap (λ (d : Debugged). d.breakpoints) led.0, ap (λ (d : Debugged). d.counted_from) led.0)
 
-  of_step : (outcome : SliceOutcome) → SteppedOn Continue last room (Some outcome) new more → (more.unit ≡ start.unit) × (more.breakpoints ≡ start.breakpoints) × (new.unit ≡ start.unit) × (new.breakpoints ≡ start.breakpoints) × (new.counted_from ≡ start.counted_from)
-  of_step out.More h = absurd h
-  of_step out.Held h = absurd h
-  of_step out.NoMemory h = absurd h
-  of_step (out.Due reason) h = (of.unit, of.breakpoints, ap (λ (d : Debugged). d.unit) h.0, ap (λ (d : Debugged). d.breakpoints) h.0, ap (λ (d : Debugged). d.counted_from) h.0)
-  of_step out.Done h = (of.unit, of.breakpoints, ap (λ (d : Debugged). d.unit) h.0, ap (λ (d : Debugged). d.breakpoints) h.0, ap (λ (d : Debugged). d.counted_from) h.0)
-  of_step (out.Fault fault) h = (of.unit, of.breakpoints, ap (λ (d : Debugged). d.unit) h.0, ap (λ (d : Debugged). d.breakpoints) h.0, ap (λ (d : Debugged). d.counted_from) h.0)
+  -- the debuggee, by what a report of the slice has of it
+  as_reported : (a : Advance) → Advanced Continue last a new → new.next ≡ new.position + 1 → new ≡ record { unit = room.unit; position = new.position; breakpoints = room.breakpoints; counted_from = new.counted_from; next = new.position + 1 }
+  as_reported a led next =
+      let is = same a led in
+      λ i. record { unit = (is.0 ∙ sym of.unit) i; position = new.position; breakpoints = (is.1 ∙ sym of.breakpoints) i; counted_from = new.counted_from; next = next i }
 
-  stands : (run : ℕ) (outcome : SliceOutcome) → SteppedOn Continue last room (Some outcome) new more → StandsAtEnd (sliced run Continue start.position more new outcome) new outcome
-  stands run out.More h = absurd h
-  stands run out.Held h = absurd h
-  stands run out.NoMemory h = absurd h
-  stands run out.Done h = tt
-  stands run (out.Due reason) h =
-      let same = of_step (out.Due reason) h in
-      λ i. record { unit = (same.2 ∙ sym same.0) i; position = new.position; breakpoints = (same.3 ∙ sym same.1) i; counted_from = new.counted_from; next = h.1.behind i }
-  stands run (out.Fault fault) h =
-      let same = of_step (out.Fault fault) h in
-      let next : new.next ≡ new.position + 1 = ap (λ (d : Debugged). d.next) h.0 ∙ sym (ap (λ (d : Debugged). d.position + 1) h.0) in
-      λ i. record { unit = (same.2 ∙ sym same.0) i; position = new.position; breakpoints = (same.3 ∙ sym same.1) i; counted_from = new.counted_from; next = next i }
-
-  is_of_slice : (outcome : SliceOutcome) → SteppedOn Continue last room (Some outcome) new more → IsOfSlice outcome
-  is_of_slice out.More h = absurd h
-  is_of_slice out.Held h = absurd h
-  is_of_slice out.NoMemory h = absurd h
-  is_of_slice out.Done h = tt
-  is_of_slice (out.Due reason) h = tt
-  is_of_slice (out.Fault fault) h = tt
+  stands : (run : ℕ) (a : Advance) → Advanced Continue last a new → (outcome : SliceOutcome) → ending a ≡ Some outcome → StandsAtEnd (sliced run Continue start.position more new outcome) new outcome
+  stands run (To None) led outcome is = absurd cc
+  stands run (To (Some reason)) led outcome is =
+      let same : out.Due reason ≡ outcome = cc in
+      subst (λ o. StandsAtEnd (sliced run Continue start.position more new o) new o) same (as_reported (To (Some reason)) led led.1.behind)
+  stands run Done led outcome is = let same : out.Done ≡ outcome = cc in subst (λ o. StandsAtEnd (sliced run Continue start.position more new o) new o) same tt
+  stands run (Fault fault) led outcome is =
+      let same : out.Fault fault ≡ outcome = cc in
+      let next : new.next ≡ new.position + 1 = ap (λ (d : Debugged). d.next) led.0 ∙ sym (ap (λ (d : Debugged). d.position + 1) led.0) in
+      subst (λ o. StandsAtEnd (sliced run Continue start.position more new o) new o) same (as_reported (Fault fault) led next)
 
   pub took : (outcome : SliceOutcome) → option_and_then ending advance ≡ Some outcome → TookSteps Continue start outcome new more
-  took outcome is =
-      let h = over_there outcome is in
-      let same = of_step outcome h.0 in
-      record {
-        lawful = λ run. ended Continue start last room (underway r.steps (omega arith)) h.1 new more run start.position refl outcome h.0;
-        stands = λ run. stands run outcome h.0;
-        outcome_is = is_of_slice outcome h.0;
-        unit = same.0;
-        breakpoints = same.1;
-        counted_from = same.4;
-      }
+  took outcome is = by_answer advance r.ends is
+    where
+      by_answer : (o : Option Advance) → ClosesBy o → option_and_then ending o ≡ Some outcome → TookSteps Continue start outcome new more
+      by_answer None closes is = absurd cc
+      by_answer (Some a) closes is =
+          let kept = same a closes.2 in
+          record {
+            lawful = λ run. ended Continue start last room (underway r.steps (omega arith)) closes.0 new more (wrote a closes) run start.position refl a closes.2 outcome is;
+            stands = λ run. stands run a closes.2 outcome is;
+            outcome_is = is_of_slice a outcome is;
+            unit = of.unit;
+            breakpoints = of.breakpoints;
+            counted_from = kept.2;
+          }
 
 -- a slice that began with a run, or with no step
 module _ (mode : Mode) (start : Debugged) (room : Room) (was : IsConsidered start) (of : IsRoomOf room start) where
