@@ -18,7 +18,11 @@ pub struct Script {
 }
 
 impl Script {
-    pub fn new(debuggee: Considered, held_at: u64) -> Script {
+    ghost use Rattle.std.specs.Prelude.{◌≡◌, []};
+
+    pub fn new(debuggee: Considered, held_at: u64) -> Script
+        ensures { result.taken.entries ≡ [] }
+    {
         Script {
             debuggee: Some(debuggee),
             looks: 0,
@@ -76,7 +80,12 @@ pub struct Tray<'a, R: Abort> {
 }
 
 impl<'a, R: Abort> Tray<'a, R> {
-    pub fn new(rt: &'a R, alloc: Global, room: usize) -> Tray<'a, R> {
+    ghost use Rattle.std.specs.Prelude.{◌≡◌, []};
+
+    pub fn new(rt: &'a R, alloc: Global, room: usize) -> Tray<'a, R>
+        ensures sent { result.sent.entries ≡ [] }
+        ensures handed_back { result.handed_back.entries ≡ [] }
+    {
         Tray {
             rt,
             reports: Vec::new(alloc),
@@ -121,7 +130,11 @@ pub struct Open<'a, R: Abort> {
 }
 
 impl<'a, R: Abort> Open<'a, R> {
-    pub fn new(rt: &'a R, alloc: Global) -> Open<'a, R> {
+    ghost use Rattle.std.specs.Prelude.{◌≡◌, []};
+
+    pub fn new(rt: &'a R, alloc: Global) -> Open<'a, R>
+        ensures { result.passed.entries ≡ [] }
+    {
         Open {
             rt,
             slices: Vec::new(alloc),
