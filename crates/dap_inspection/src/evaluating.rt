@@ -13,7 +13,7 @@ use dap_msg::{Body, EvaluateArguments, Refusal};
 use dbg_plan::{Debuggee, EvalFault};
 use pl0_machine::Machine;
 use pl0_meaning::configuration_laws;
-use pl0_syntax::{Expression, SyntaxFault, editor_laws, numbering_laws, parse_expression};
+use pl0_syntax::{Expression, Names, SyntaxFault, editor_laws, numbering_laws, parse_expression};
 use pl0_unit::Unit;
 use std::alloc::{AllocError, Global};
 
@@ -32,14 +32,8 @@ fn read_in(
     configuration_laws();
     let unit: &Unit = machine.unit();
     let step = machine.frame(frame).next_step;
-    match parse_expression(
-        alloc,
-        text.as_bytes(),
-        &unit.tree.program,
-        &unit.steps,
-        &unit.nestings,
-        step,
-    ) {
+    let names = Names::new(&unit.tree.program, &unit.nestings);
+    match parse_expression(alloc, text.as_bytes(), &names, &unit.steps, step) {
         Ok(expression) => Ok(Some(expression)),
         Err(SyntaxFault::NoMemory) => Err(AllocError),
         Err(SyntaxFault::InText { .. }) => Ok(None),

@@ -19,8 +19,7 @@ pub mod ValuesUp
 pub mod ValuesLinks
 pub mod ValuesBound
 pub mod ValuesMet
-pub mod BoundFirst
-pub mod BoundWalk
+pub mod BoundHomes
 pub mod ValuesNamed
 pub mod Unwatched
 pub mod Quiet

@@ -2,15 +2,14 @@
 use Rattle.std.proofs.Common.{◌≡◌, ℕ, ◌<◌, [], length, get_or, slice_get, Some, ap, sym, ◌∙◌, subst}
 use Rattle.std.specs.Option.{option_map_or}
 use Rattle.std.proofs.Math.Logic.{∥∥₁_elim}
-use Rattle.std.proofs.lemmas.Option.{slice_get_within}
 use Rattle.pl0_tree.specs.declared.step.Step.{Step}
 use Rattle.pl0_tree.specs.Scope.{Path}
 use Rattle.pl0_tree.specs.Steps.{steps, blocks, step_path, AreSteps}
 use Rattle.pl0_tree.specs.Blocks.{AreNestings}
 use Rattle.pl0_unit.specs.declared.unit.Unit.{Unit as Compiled}
 use Rattle.pl0_machine.specs.Machine.{program_of}
+use Rattle.pl0_syntax.proofs.StepBlocks.{number_within}
 use Rattle.pl0_syntax.specs.Tables.{steps_prop, nestings_prop}
-use Rattle.dbg_plan.proofs.BoundWalk.{nestings_lengths}
 use Rattle.dbg_plan.proofs.StepLines.{tells, unit_length}
 
 pub unit_steps : (u : Compiled) → AreSteps (program_of u) u.steps.items (steps (program_of u))
@@ -29,4 +28,4 @@ pub block_at : (u : Compiled) (n : ℕ) (s : Step) → n < length (steps (progra
 block_at u n s lt is = ap (λ (x : Step). slice_get (blocks (program_of u)) x.block) is ∙ block_of u n s lt
 
 pub block_within : (u : Compiled) (k : ℕ) (q : Path) → slice_get (blocks (program_of u)) k ≡ Some q → k < length u.nestings.items
-block_within u k q at = subst (λ n. k < n) (sym (nestings_lengths (program_of u) u.nestings.items (blocks (program_of u)) (unit_nestings u))) (slice_get_within (blocks (program_of u)) k q at)
+block_within u k q at = number_within (program_of u) u.nestings.items k q (unit_nestings u) at

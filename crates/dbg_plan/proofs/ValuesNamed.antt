@@ -1,13 +1,11 @@
 -- A name that was looked up for a frame's block has its number in that frame.
-use Rattle.std.proofs.Common.{◌≡◌, ℕ, ◌<◌, List, length, slice_get, Option, Some, None, IsSome, Result, Ok, ℤ, refl, sym, ap, subst, ◌∙◌, arith}
+use Rattle.std.proofs.Common.{◌≡◌, ℕ, ◌<◌, List, length, slice_get, Option, Some, None, IsSome, Result, Ok, ℤ, refl, sym, ap, subst, ◌∙◌}
 use Rattle.std.proofs.Math.Logic.{∥∥₁_elim}
 use Rattle.std.specs.Coded.{Coded, Coded-set, codes, ×_prop}
 use Rattle.std.proofs.lemmas.Option.{slice_get_within}
 use Rattle.pl0_tree.specs.Tree.{Block}
-use Rattle.pl0_tree.specs.declared.nesting.Nesting.{Nesting}
 use Rattle.pl0_tree.specs.Scope.{Path, home}
 use Rattle.pl0_tree.specs.Steps.{blocks}
-use Rattle.pl0_tree.specs.Blocks.{AreNestings}
 use Rattle.pl0_meaning.specs.contracts.RunFault as run_fault
 use Rattle.pl0_meaning.specs.declared.RunFault.{RunFault}
 use Rattle.pl0_meaning.specs.Frames.{AreLinked}
@@ -18,17 +16,14 @@ use Rattle.dbg_plan.specs.declared.binding.Located.{Located}
 use Rattle.dbg_plan.specs.declared.binding.Located.TheVariants as at
 use Rattle.dbg_plan.specs.Bound.{IsNameBound}
 use Rattle.dbg_plan.specs.Reads.{number_up, bound_value, bound_of}
-use Rattle.dbg_plan.proofs.BoundWalk.{nestings_lengths}
 use Rattle.dbg_plan.proofs.ValuesBound.{Reads, name_reads}
 use Rattle.dbg_plan.proofs.ValuesMet.{CanRead-prop}
 
 -- ---- the frame's block
 
-pub block_within : (main : Block) (table : List (Option Nesting)) (o : Option Frame) (view : FrameView) → AreNestings main table (blocks main) → Shows main o view → view.block < length table
-block_within main table None view nested shows = absurd shows
-block_within main table (Some f) view nested shows =
-    let inside = slice_get_within (blocks main) view.block f.block shows.0 in
-    omega (arith, inside, nestings_lengths main table (blocks main) nested)
+pub block_within : (main : Block) (o : Option Frame) (view : FrameView) → Shows main o view → view.block < length (blocks main)
+block_within main None view shows = absurd shows
+block_within main (Some f) view shows = slice_get_within (blocks main) view.block f.block shows.0
 
 coded_number : Coded (Result ℤ RunFault)
 coded_number = hlevel (codes, run_fault.the_row.coded)

@@ -1,9 +1,7 @@
 -- What the functions that evaluate and that look names up promise. No public contract cites this file.
-use Rattle.std.specs.Prelude.{ℕ, zero, suc, Bool, Option, Some, IsSome, option_and_then, Result, Ok, ℤ, pos, neg_ℤ}
-use Rattle.pl0_tree.specs.Tree.{Block}
-use Rattle.pl0_tree.specs.Scope.{Meaning, AConstant, AVariable, AProcedure}
+use Rattle.std.specs.Prelude.{ℕ, zero, suc, Bool, Option, Some, IsSome, option_and_then, Result, Ok, ℤ, neg_ℤ}
 use Rattle.pl0_meaning.specs.declared.RunFault.{RunFault}
-use Rattle.pl0_meaning.specs.Values.{Configuration, frame_at, number_of, constant_of, or_zero, after, checked, operation, comparison, is_odd}
+use Rattle.pl0_meaning.specs.Values.{Configuration, frame_at, number_of, or_zero, after, checked, operation, comparison, is_odd}
 use Rattle.pl0_machine.specs.Machine.{parent_of}
 use Rattle.dbg_plan.specs.declared.binding.Located.{Located}
 use Rattle.dbg_plan.specs.declared.binding.Located.TheVariants as at
@@ -42,12 +40,6 @@ CanTest c i (Odd b) = CanRead c i b
 CanTest c i (Compare relation first second) = CanRead c i first × CanRead c i second
 
 -- ---- names by their text
-
--- what a declaration of a block means for the frames of a block this many levels further in; a procedure counts as 0
-abbrev pub located : Block → ℕ → Meaning → Located
-located b level (AConstant k) = at.Number (or_zero (constant_of (Some b) k))
-located b level (AVariable k) = at.Variable level k
-located b level (AProcedure k) = at.Number (pos 0)
 
 abbrev pub bound_of : Located → LocatedExpression
 bound_of (at.Number n) = Number n

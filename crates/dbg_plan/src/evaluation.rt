@@ -15,6 +15,7 @@ use crate::breakpoint::Breakpoint;
 use crate::located::{LocatedCondition, LocatedExpression};
 use pl0_machine::Machine;
 use pl0_meaning::{RunFault, apply, compare, is_odd, negate};
+use pl0_syntax::Names;
 use pl0_tree::Expression;
 use pl0_unit::Unit;
 
@@ -124,7 +125,8 @@ fn name_value(machine: &Machine, frame: usize, text: &str) -> i64
     prove!(frame < depth);
     let unit: &Unit = machine.unit();
     let view = machine.frame(frame);
-    match locate(&unit.tree.program, &unit.nestings, view.block, text) {
+    let names = Names::new(&unit.tree.program, &unit.nestings);
+    match locate(&names, view.block, text) {
         Located::Number(number) => number,
         Located::Variable { level, index } => variable(machine, frame, level, index),
     }

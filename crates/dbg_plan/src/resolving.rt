@@ -15,7 +15,7 @@ use crate::binding::bind_condition;
 use crate::breakpoint::{BoundCondition, Breakpoint};
 use crate::plan::Plan;
 use crate::rule::{BadHitCondition, read_rule};
-use pl0_syntax::{editor_laws, parse_condition};
+use pl0_syntax::{Names, editor_laws, parse_condition};
 use pl0_tree::{Condition, StepNumber, SyntaxFault};
 use pl0_unit::Unit;
 use std::alloc::{AllocError, Global};
@@ -50,18 +50,19 @@ fn first_step(unit: &Unit, line: u32) -> Option<StepNumber>
 fn bind(
     alloc: Global,
     unit: &Unit,
+    names: &Names,
     text: &str,
     step: StepNumber,
     condition: Condition,
 ) -> Result<BoundCondition, AllocError>
+    requires names { names.now ≡ unit.now.tree.program }
     requires within { step < length (steps (program_of unit.now)) }
     requires reads { ∥ ReadsAs text.now (plain_condition condition) ∥₁ }
     ensures text { IfOk result (λ c. text_condition c ≡ record { text = text.now; condition = plain_condition condition }) }
     ensures bound { IfOk result (λ c. IsBoundAt (program_of unit.now) step (Some c)) }
 {
     let number = unit.steps[step].block;
-    let main = &unit.tree.program;
-    let located = bind_condition(alloc, main, &unit.nestings, number, &condition)?;
+    let located = bind_condition(alloc, names, number, &condition)?;
     let text = String::from_str(alloc, text)?;
     Ok(BoundCondition {
         text,
@@ -74,10 +75,12 @@ fn bind(
 fn read_condition(
     alloc: Global,
     unit: &Unit,
+    names: &Names,
     text: &str,
     step: StepNumber,
 ) -> Result<Option<BoundCondition>, SyntaxFault>
-    requires { step < length (steps (program_of unit.now)) }
+    requires names { names.now ≡ unit.now.tree.program }
+    requires within { step < length (steps (program_of unit.now)) }
     ensures condition { IfOk result (IsBoundConditionOf (program_of unit.now) step text.now) }
     ensures fault { IfErr result (FaultIs (λ kind place. ¬ HasConditionAt (program_of unit.now) step text.now)) }
 {
@@ -85,18 +88,11 @@ fn read_condition(
         return Ok(None);
     }
     editor_laws();
-    let condition = match parse_condition(
-        alloc,
-        text.as_bytes(),
-        &unit.tree.program,
-        &unit.steps,
-        &unit.nestings,
-        step,
-    ) {
+    let condition = match parse_condition(alloc, text.as_bytes(), names, &unit.steps, step) {
         Ok(condition) => condition,
         Err(fault) => return Err(fault),
     };
-    match bind(alloc, unit, text, step, condition) {
+    match bind(alloc, unit, names, text, step, condition) {
         Ok(bound) => Ok(Some(bound)),
         Err(_) => Err(SyntaxFault::NoMemory),
     }
@@ -106,16 +102,18 @@ fn read_condition(
 fn resolve_line(
     alloc: Global,
     unit: &Unit,
+    names: &Names,
     asked: &SourceBreakpoint,
     breakpoints: &mut Vec<Breakpoint>,
 ) -> Result<Resolution, AllocError>
+    requires { names.now ≡ unit.now.tree.program }
     ensures { IfOk result (ResolvesLine (program_of unit.now) asked.now breakpoints.old.items breakpoints.new.items) }
 {
     let step = match first_step(unit, asked.line) {
         Some(step) => step,
         None => return Ok(Resolution::NoStep),
     };
-    let condition = match read_condition(alloc, unit, asked.condition.as_str(), step) {
+    let condition = match read_condition(alloc, unit, names, asked.condition.as_str(), step) {
         Ok(condition) => condition,
         Err(SyntaxFault::NoMemory) => return Err(AllocError),
         Err(SyntaxFault::InText { .. }) => return Ok(Resolution::BadCondition),
@@ -134,6 +132,22 @@ fn resolve_line(
     Ok(Resolution::At(step))
 }
 
+// The names of a program, with tables where a condition is asked for.
+fn names_for<'a>(
+    alloc: Global,
+    unit: &'a Unit,
+    asked: &[SourceBreakpoint],
+) -> Result<Names<'a>, AllocError>
+    ensures { IfOk result (λ names. names ≡ unit.now.tree.program) }
+{
+    let main = &unit.tree.program;
+    if asked.iter().any(|line| !line.condition.is_empty()) {
+        Names::with_tables(alloc, main, &unit.nestings)
+    } else {
+        Ok(Names::new(main, &unit.nestings))
+    }
+}
+
 /// The plan of these source breakpoints, and what each of them is resolved to, in order.
 ///
 /// # Errors
@@ -149,10 +163,11 @@ pub fn resolve(
     ensures plan { IfOk result (λ r. IsPlanOf unit.now r.0) }
     ensures breakpoints { IfOk result (λ r. AreBreakpointsOf (program_of unit.now) (plain_breakpoints r.0.breakpoints)) }
 {
+    let names = names_for(alloc, unit, asked)?;
     let mut resolutions = Vec::with_capacity(alloc, asked.len())?;
     let mut breakpoints = Vec::new(alloc);
     for line in asked {
-        let resolution = resolve_line(alloc, unit, line, &mut breakpoints)?;
+        let resolution = resolve_line(alloc, unit, &names, line, &mut breakpoints)?;
         resolutions.push(resolution)?;
     }
     let plan = Plan::new(alloc, unit.steps.len(), &unit.begun_steps, breakpoints)?;

@@ -2,7 +2,7 @@
 
 use crate::shown::write_fault;
 use crate::table::{first_cell, text_of};
-use pl0_syntax::{SyntaxFault, Tree, blocks, parse_condition, parse_expression, steps};
+use pl0_syntax::{Names, SyntaxFault, Tree, blocks, parse_condition, parse_expression, steps};
 use sample_programs::compiled;
 use std::alloc::Global;
 use std::process::Abort;
@@ -15,9 +15,9 @@ procedure q; var z; ! z;
 procedure r; ;
 ! x.";
 
-// A step, a text, and what is found in it as a condition and as an expression. First lawful texts, then names of the step's
-// block and of those around it, then r, which stands after the step and isn't early, then the first of several faults, then
-// faults of tokens and limits.
+// A step, a text, and what is found in it as a condition, with tables of names, and as an expression, without them. First
+// lawful texts, then names of the step's block and of those around it, then r, which stands after the step and isn't early, then
+// the first of several faults, then faults of tokens and limits.
 const TEXTS: &str = "
 0 | x = y + z * c | lawful | Expected 1:3
 0 | odd z | lawful | Expected 1:1
@@ -77,16 +77,9 @@ fn condition_fault(
 ) -> Option<SyntaxFault> {
     let table = steps(alloc, tree).expect(rt, "memory");
     let nestings = blocks(alloc, tree).expect(rt, "memory");
+    let names = Names::with_tables(alloc, &tree.program, &nestings).expect(rt, "memory");
     assert!(rt; step < table.len());
-    parse_condition(
-        alloc,
-        text.as_bytes(),
-        &tree.program,
-        &table,
-        &nestings,
-        step,
-    )
-    .err()
+    parse_condition(alloc, text.as_bytes(), &names, &table, step).err()
 }
 
 fn expression_fault(
@@ -98,16 +91,9 @@ fn expression_fault(
 ) -> Option<SyntaxFault> {
     let table = steps(alloc, tree).expect(rt, "memory");
     let nestings = blocks(alloc, tree).expect(rt, "memory");
+    let names = Names::new(&tree.program, &nestings);
     assert!(rt; step < table.len());
-    parse_expression(
-        alloc,
-        text.as_bytes(),
-        &tree.program,
-        &table,
-        &nestings,
-        step,
-    )
-    .err()
+    parse_expression(alloc, text.as_bytes(), &names, &table, step).err()
 }
 
 /// A text has these faults, with the names of a step.

@@ -1,137 +1,149 @@
--- What the blocks from one outward say of a word.
-use Rattle.std.proofs.Common.{◌≡◌, ℕ, ◌+◌, Bool, true, false, cond, List, [], ◌∷◌, ◌++◌, map, refl, ap, sym, ◌∙◌}
-use Rattle.std.specs.Prelude.{◌||◌, slice_get, find, string_bytes, Option, Some, None, option_map}
-use Rattle.std.specs.List.{list_any}
-use Rattle.std.specs.Bool.{then_some}
-use Rattle.std.specs.Option.{option_or}
-use Rattle.std.specs.Str.{bytes_eq}
-use Rattle.std.proofs.lemmas.List.Folds.{find-append}
-use Rattle.pl0_tree.specs.declared.tree.Name.{Name as DeclaredName}
-use Rattle.pl0_tree.specs.declared.tree.Constant.{Constant as DeclaredConstant}
-use Rattle.pl0_tree.specs.declared.tree.Block.{Block as DeclaredBlock, out-Block}
-use Rattle.pl0_tree.specs.declared.tree.Procedure.{Procedure as DeclaredProcedure, out-Procedure}
+-- The walk from a block outward, to the first that declares a word.
+use Rattle.std.proofs.Common.{◌≡◌, ℕ, zero, suc, ◌+◌, ◌<◌, ◌≤◌, List, [], ◌∷◌, ◌++◌, length, length-append, slice_get, get_or, Option, Some, None, refl, sym, ap, ◌∙◌, subst, arith}
+use Rattle.std.specs.Prelude.{option_map, option_and_then}
+use Rattle.std.proofs.lemmas.Option.{slice_get-get_or}
+use denote.Ref.{Bor}
+use Rattle.pl0_tree.specs.Plain.{plain_block}
+use Rattle.pl0_tree.specs.Tree.{Block, ABlock, Procedures, NoMore, AProcedure as AndProcedure}
 use Rattle.pl0_tree.specs.declared.nesting.Nesting.{Nesting}
-use Rattle.pl0_tree.specs.declared.fault.FaultKind.TheVariants.{Unknown, WrongKind}
-use Rattle.pl0_tree.specs.Tree.{Name, Block, constants, variables, procedures}
-use Rattle.pl0_tree.specs.Plain.{plain_name, plain_constant, plain_block}
-use Rattle.pl0_tree.specs.PlainParts.{plain_procedure, plain_constants, plain_variables, plain_block_procedures}
-use Rattle.pl0_tree.specs.Scope.{Path, block_at, Meaning, AConstant, AVariable, AProcedure, Declaration, declared_as, or_else, IsRead}
-use Rattle.pl0_tree.specs.Steps.{blocks}
-use Rattle.pl0_tree.specs.Blocks.{IsNesting}
-use Rattle.pl0_names.specs.Judging.{Known, known, own, allows, home_names, is_readable, outside_fault}
-use Rattle.pl0_names.proofs.Lookup.{IsNestingAt, main_found, same_path}
-use Rattle.pl0_names.proofs.Members.{around, within_at}
+use Rattle.pl0_tree.specs.declared.tree.Block.{Block as DeclaredBlock}
+use Rattle.pl0_tree.specs.Scope.{Path, block_at, Declaration, first_declaration, or_else, home}
+use Rattle.pl0_tree.specs.Steps.{block_paths, procedures_paths, blocks}
+use Rattle.pl0_tree.specs.Blocks.{IsNesting, AreNestings}
+use Rattle.pl0_names.specs.declared.scope.Meaning.{Meaning as Kept}
+use Rattle.pl0_names.specs.Homes.{meaning_of, IsHomeAnswer}
+use Rattle.pl0_names.specs.Judging.{means}
+use Rattle.pl0_names.proofs.Lookup.{depth, nestings_lengths, read_at, same_path, main_found, outer_shallower, outer_within}
 
--- ---- in a block
+-- ---- a path is shorter than the list of all
 
-module _ (w : List ℕ) where
-  abbrev pub is_word : Name → Bool
-  is_word x = bytes_eq x.word w
+abbrev AreBelow : ℕ → List Path → Type 0
+AreBelow n [] = Unit {0}
+AreBelow n (q ∷ qs) = (length q < n) × AreBelow n qs
 
-  abbrev readable_first : List Declaration → Option Bool
-  readable_first ds = option_map is_readable (option_map known (find (λ d. is_word d.name) ds))
+below_more : (m n : ℕ) (qs : List Path) → m ≤ n → AreBelow m qs → AreBelow n qs
+below_more m n [] le all = tt
+below_more m n (q ∷ qs) le all = let lt = all.0 in (omega arith, below_more m n qs le all.1)
 
-  abbrev pub told_if : Bool → Bool → Option Bool
-  told_if readable found = cond found (Some readable) None
+below_append : (n : ℕ) (ps qs : List Path) → AreBelow n ps → AreBelow n qs → AreBelow n (ps ++ qs)
+below_append n [] qs first second = second
+below_append n (p ∷ ps) qs first second = (first.0, below_append n ps qs first.1 second)
 
-  pub some_if : (readable found : Bool) → then_some found readable ≡ told_if readable found
-  some_if readable true = refl
-  some_if readable false = refl
+mutual
+  block_short : (b : Block) (q : Path) → AreBelow (length q + length (block_paths b q)) (block_paths b q)
+  block_short (ABlock cs xs row body end) q =
+      let ps = procedures_paths row 0 q in
+      let n = length q + length (ps ++ q ∷ []) in
+      below_append n ps (q ∷ []) (below_more (length q + length ps + 1) n ps (omega (arith, length-append ps (q ∷ []))) (row_short row 0 q)) (omega (arith, length-append ps (q ∷ [])), tt)
 
-  -- declarations of one kind
-  readable_of : (means : ℕ → Meaning) (readable : Bool) → ((i : ℕ) → allows (means i) IsRead ≡ readable) → (i : ℕ) (xs : List Name) → readable_first (declared_as means i xs) ≡ told_if readable (list_any is_word xs)
-  readable_of means readable same i [] = refl
-  readable_of means readable same i (x ∷ xs) = here (is_word x) (readable_of means readable same (i + 1) xs)
+  row_short : (row : Procedures) (i : ℕ) (q : Path) → AreBelow (length q + length (procedures_paths row i q) + 1) (procedures_paths row i q)
+  row_short NoMore i q = tt
+  row_short (AndProcedure x b row) i q =
+      let first = block_paths b (i ∷ q) in
+      let rest = procedures_paths row (i + 1) q in
+      let n = length q + length (first ++ rest) + 1 in
+      below_append n first rest
+      (below_more (length (i ∷ q) + length first) n first (omega (arith, length-append first rest)) (block_short b (i ∷ q)))
+      (below_more (length q + length rest + 1) n rest (omega (arith, length-append first rest)) (row_short row (i + 1) q))
+
+below_at : (n : ℕ) (qs : List Path) (k : ℕ) (q : Path) → AreBelow n qs → slice_get qs k ≡ Some q → length q < n
+below_at n [] k q all e = cc
+below_at n (p ∷ qs) zero q all e = let same : p ≡ q = cc in let lt = all.0 in omega (arith, ap length same)
+below_at n (p ∷ qs) (suc k) q all e = below_at n qs k q all.1 e
+
+path_short : (main : Block) (n : ℕ) (q : Path) → slice_get (blocks main) n ≡ Some q → length q < length (blocks main)
+path_short main n q e = let lt = below_at (length {A = ℕ} [] + length (blocks main)) (blocks main) n q (block_short main []) e in omega (arith, lt)
+
+-- ---- the walk
+
+-- the block of a number is so many levels out from the block q, and no block before it declares the word
+pub record Walked (main : Block) (w : List ℕ) (q : Path) (n levels : ℕ) : Type 0 where
+  pub path : Path
+  pub at : slice_get (blocks main) n ≡ Some path
+  pub levels_are : levels + length path ≡ length q
+  pub same : home main q w ≡ home main path w
+
+pub record IsWalk (main : Block) (w : List ℕ) (start n levels : ℕ) : Type 0 where
+  pub within : n < length (blocks main)
+  pub walked : (q : Path) → slice_get (blocks main) start ≡ Some q → Walked main w q n levels
+
+pub walk_begins : (main : Block) (w : List ℕ) (start : ℕ) → start < length (blocks main) → IsWalk main w start start 0
+walk_begins main w start lt = record {
+  within = lt;
+  walked = λ q begins. record { path = q; at = begins; levels_are = omega arith; same = refl };
+}
+
+-- what the block of a number declares the word as
+abbrev pub Says : Block → List ℕ → ℕ → Option Kept → Type 0
+Says main w n said = (q : Path) → slice_get (blocks main) n ≡ Some q → option_map meaning_of said ≡ option_map means (option_and_then (first_declaration w) (block_at main q))
+
+none_of : (o : Option Declaration) → None ≡ option_map means o → o ≡ None
+none_of None e = refl
+none_of (Some d) e = cc
+
+module _ (main : Block) (table : List (Option Nesting)) (nested : AreNestings main table (blocks main)) (w : List ℕ) (start n levels : ℕ) (lt : start < length (blocks main)) (walk : IsWalk main w start n levels) where
+  pub in_table : n < length table
+  in_table = let inside = walk.within in omega (arith, inside, nestings_lengths main table (blocks main) nested)
+
+  -- the levels stay below the number of blocks
+  pub levels_few : levels < length table
+  levels_few =
+      let begins = slice_get-get_or (blocks main) start [] lt in
+      let short = path_short main start (get_or (blocks main) start []) begins in
+      let here = walk.walked (get_or (blocks main) start []) begins in
+      let e = here.levels_are in
+      omega (arith, short, nestings_lengths main table (blocks main) nested, e)
+
+  -- a block that declares the word is its home
+  declared_home : (q : Path) (d : Declaration) → option_and_then (first_declaration w) (block_at main q) ≡ Some d → home main q w ≡ Some (record { path = q; declaration = d })
+  declared_home [] d first = ap (λ o. option_map (λ (e : Declaration). record { path = []; declaration = e }) o) first
+  declared_home (i ∷ q) d first = ap (λ o. or_else (option_map (λ (e : Declaration). record { path = i ∷ q; declaration = e }) o) (home main q w)) first
+
+  pub found_here : (b : Bor DeclaredBlock) (meaning : Kept) → ((r : Path) → slice_get (blocks main) n ≡ Some r → block_at main r ≡ Some (plain_block b.now)) → Says main w n (Some meaning) →
+      (q : Path) → slice_get (blocks main) start ≡ Some q → IsHomeAnswer main q (home main q w) (Some (record { block = b; level = levels; meaning = meaning }))
+  found_here b meaning there said q begins =
+      let here = walk.walked q begins in
+      by_first here (option_and_then (first_declaration w) (block_at main here.path)) refl (said here.path here.at)
     where
-      here : (t : Bool) → readable_first (declared_as means (i + 1) xs) ≡ told_if readable (list_any is_word xs) →
-          option_map is_readable (option_map known (cond t (Some (record { name = x; meaning = means i })) (find (λ d. is_word d.name) (declared_as means (i + 1) xs)))) ≡ told_if readable (t || list_any is_word xs)
-      here true rest = ap Some (same i)
-      here false rest = rest
+      by_first : (here : Walked main w q n levels) (o : Option Declaration) → option_and_then (first_declaration w) (block_at main here.path) ≡ o → Some (meaning_of meaning) ≡ option_map means o →
+          IsHomeAnswer main q (home main q w) (Some (record { block = b; level = levels; meaning = meaning }))
+      by_first here None first e = cc
+      by_first here (Some d) first e =
+          subst (λ o. IsHomeAnswer main q o (Some (record { block = b; level = levels; meaning = meaning }))) (sym (here.same ∙ declared_home here.path d first))
+          (there here.path here.at, here.levels_are, (let same : meaning_of meaning ≡ d.meaning = cc in same))
 
-  or_told : (o r s : Option Declaration) → option_map is_readable (option_map known (option_or o (option_or r s))) ≡
-      option_or (option_map is_readable (option_map known o)) (option_or (option_map is_readable (option_map known r)) (option_map is_readable (option_map known s)))
-  or_told (Some d) r s = refl
-  or_told None (Some d) s = refl
-  or_told None None s = refl
+  -- the main block, which no block is around
+  pub found_nowhere : Says main w n None → get_or table n None ≡ None → (q : Path) → slice_get (blocks main) start ≡ Some q → IsHomeAnswer main q (home main q w) None
+  found_nowhere said outermost q begins =
+      let here = walk.walked q begins in
+      let first = main_found main n here.path (read_at main table n None nested in_table outermost) here.at in
+      let none = none_of (option_and_then (first_declaration w) (block_at main here.path)) (said here.path here.at) in
+      subst (λ o. IsHomeAnswer main q o None) (sym (here.same ∙ ap (λ p. home main p w) first ∙ ap (λ o. option_map (λ (d : Declaration). record { path = []; declaration = d }) o) (ap (λ p. option_and_then (first_declaration w) (block_at main p)) (sym first) ∙ none))) tt
 
-  -- what is found among constants, variables and procedures
-  abbrev pub told : Bool → Bool → Bool → Option Bool
-  told constant variable procedure = option_or (told_if true constant) (option_or (told_if true variable) (told_if false procedure))
-
-  own_told : (b : Block) → option_map is_readable (own b w) ≡ told (list_any is_word (map (λ c. c.name) (constants b))) (list_any is_word (variables b)) (list_any is_word (map (λ p. p.name) (procedures b)))
-  own_told b =
-      let is : Declaration → Bool = λ d. is_word d.name in
-      let cs = declared_as AConstant 0 (map (λ c. c.name) (constants b)) in
-      let vs = declared_as AVariable 0 (variables b) in
-      let ps = declared_as AProcedure 0 (map (λ p. p.name) (procedures b)) in
-      ap (λ o. option_map is_readable (option_map known o)) (find-append is cs (vs ++ ps) ∙ ap (λ o. option_or (find is cs) o) (find-append is vs ps))
-      ∙ or_told (find is cs) (find is vs) (find is ps)
-      ∙ ap (λ o. option_or o (option_or (readable_first vs) (readable_first ps))) (readable_of AConstant true (λ i. refl) 0 (map (λ c. c.name) (constants b)))
-      ∙ ap (λ o. option_or (told_if true (list_any is_word (map (λ c. c.name) (constants b)))) (option_or o (readable_first ps))) (readable_of AVariable true (λ i. refl) 0 (variables b))
-      ∙ ap (λ o. option_or (told_if true (list_any is_word (map (λ c. c.name) (constants b)))) (option_or (told_if true (list_any is_word (variables b))) o)) (readable_of AProcedure false (λ i. refl) 0 (map (λ p. p.name) (procedures b)))
-
-  constant_in : (cs : List DeclaredConstant) → list_any (λ c. bytes_eq (string_bytes c.name.text) w) cs ≡ list_any is_word (map (λ c. c.name) (map plain_constant cs))
-  constant_in [] = refl
-  constant_in (c ∷ cs) = ap (λ t. bytes_eq (string_bytes c.name.text) w || t) (constant_in cs)
-
-  variable_in : (xs : List DeclaredName) → list_any (λ x. bytes_eq (string_bytes x.text) w) xs ≡ list_any is_word (map plain_name xs)
-  variable_in [] = refl
-  variable_in (x ∷ xs) = ap (λ t. bytes_eq (string_bytes x.text) w || t) (variable_in xs)
-
-  procedure_in : (ps : List DeclaredProcedure) → list_any (λ p. bytes_eq (string_bytes (out-Procedure p).name.text) w) ps ≡ list_any is_word (map (λ p. p.name) (map plain_procedure ps))
-  procedure_in [] = refl
-  procedure_in (p ∷ ps) = ap (λ t. bytes_eq (string_bytes (out-Procedure p).name.text) w || t) (procedure_in ps)
-
-  -- what a block, as the code keeps it, says of the word
-  pub block_told : (b : DeclaredBlock) (constant variable procedure : Bool) →
-      constant ≡ list_any (λ c. bytes_eq (string_bytes c.name.text) w) (out-Block b).constants.items →
-      variable ≡ list_any (λ x. bytes_eq (string_bytes x.text) w) (out-Block b).variables.items →
-      procedure ≡ list_any (λ p. bytes_eq (string_bytes (out-Procedure p).name.text) w) (out-Block b).procedures.items →
-      told constant variable procedure ≡ option_map is_readable (own (plain_block b) w)
-  block_told b constant variable procedure c v p =
-      ap (λ t. told t variable procedure) (c ∙ constant_in (out-Block b).constants.items ∙ ap (λ cs. list_any is_word (map (λ c. c.name) cs)) (sym (plain_constants b)))
-      ∙ ap (λ t. told (list_any is_word (map (λ c. c.name) (constants (plain_block b)))) t procedure) (v ∙ variable_in (out-Block b).variables.items ∙ ap (list_any is_word) (sym (plain_variables b)))
-      ∙ ap (λ t. told (list_any is_word (map (λ c. c.name) (constants (plain_block b)))) (list_any is_word (variables (plain_block b))) t)
-      (p ∙ procedure_in (out-Block b).procedures.items ∙ ap (λ ps. list_any is_word (map (λ p. p.name) ps)) (sym (plain_block_procedures b)))
-      ∙ sym (own_told (plain_block b))
-
--- ---- from a block outward
-
-map_nearer : (a o : Option Known) (r : Bool) → option_map is_readable a ≡ Some r → option_map is_readable (or_else a o) ≡ Some r
-map_nearer (Some k) o r is = is
-map_nearer None o r is = absurd (let no = is in cc)
-
-map_farther : (a o : Option Known) → option_map is_readable a ≡ None → option_map is_readable (or_else a o) ≡ option_map is_readable o
-map_farther (Some k) o is = absurd (let no = is in cc)
-map_farther None o is = refl
-
-module _ (main b : Block) (q : Path) (at : block_at main q ≡ Some b) (w : List ℕ) where
-  -- the block declares the word
-  pub nearest : (r : Bool) → option_map is_readable (own b w) ≡ Some r → Some r ≡ option_map is_readable (home_names main q w)
-  nearest r is = sym (map_nearer (own b w) (around main q w) r is) ∙ ap (λ o. option_map is_readable o) (within_at main b q at w)
-
-  beyond : option_map is_readable (own b w) ≡ None → option_map is_readable (around main q w) ≡ option_map is_readable (home_names main q w)
-  beyond is = sym (map_farther (own b w) (around main q w) is) ∙ ap (λ o. option_map is_readable o) (within_at main b q at w)
-
-  -- it doesn't, and no block is around it
-  pub nowhere : (n : ℕ) → IsNestingAt main n None → slice_get (blocks main) n ≡ Some q → option_map is_readable (own b w) ≡ None → None ≡ option_map is_readable (home_names main q w)
-  nowhere n outermost here is = ap (λ p. option_map is_readable (around main p w)) (sym (main_found main n q outermost here)) ∙ beyond is
-
-  -- it doesn't, and the block around it says what is known
-  pub farther : (n : ℕ) (nesting : Nesting) (r : Option Bool) → IsNestingAt main n (Some nesting) → slice_get (blocks main) n ≡ Some q → option_map is_readable (own b w) ≡ None →
-      ((p : Path) → slice_get (blocks main) nesting.outer ≡ Some p → r ≡ option_map is_readable (home_names main p w)) → r ≡ option_map is_readable (home_names main q w)
-  farther n nesting r nested here is outer = by_path nested.path nested.at nested.is ∙ beyond is
+  -- one block further out
+  pub walk_on : (nesting : Nesting) → Says main w n None → get_or table n None ≡ Some nesting → IsWalk main w start nesting.outer (levels + 1) × (depth main nesting.outer < depth main n)
+  walk_on nesting said is =
+      let at = read_at main table n (Some nesting) nested in_table is in
+      let inside = outer_within main table n nesting nested at in (
+        record {
+          within = omega (arith, inside, nestings_lengths main table (blocks main) nested);
+          walked = λ q begins.
+              let here = walk.walked q begins in
+              outward q here here.path refl (subst (λ p. IsNesting main (Some nesting) p) (same_path main n at.path here.path at.at here.at) at.is);
+        },
+        outer_shallower main n nesting at,
+      )
     where
-      by_path : (p : Path) → slice_get (blocks main) n ≡ Some p → IsNesting main (Some nesting) p → r ≡ option_map is_readable (around main q w)
-      by_path [] first is = absurd is
-      by_path (i ∷ p) first is = outer p is.0 ∙ ap (λ s. option_map is_readable (around main s w)) (same_path main n (i ∷ p) q first here)
+      passed : (i : ℕ) (r : Path) → option_and_then (first_declaration w) (block_at main (i ∷ r)) ≡ None → home main (i ∷ r) w ≡ home main r w
+      passed i r none = ap (λ o. or_else (option_map (λ (d : Declaration). record { path = i ∷ r; declaration = d }) o) (home main r w)) none
 
--- ---- an editor's use
-
-pub unknown_read : (o : Option Known) → None ≡ option_map is_readable o → outside_fault o IsRead ≡ Some Unknown
-unknown_read None is = refl
-unknown_read (Some k) is = absurd (let no = is in cc)
-
-pub judged_read : (o : Option Known) (r : Bool) → Some r ≡ option_map is_readable o → outside_fault o IsRead ≡ cond r None (Some WrongKind)
-judged_read None r is = absurd (let no = is in cc)
-judged_read (Some k) r is = ap (λ t. cond t None (Some WrongKind)) (let same : is_readable k ≡ r = cc in same)
+      outward : (q : Path) (here : Walked main w q n levels) (p : Path) → here.path ≡ p → IsNesting main (Some nesting) p → Walked main w q nesting.outer (levels + 1)
+      outward q here [] is at = absurd at
+      outward q here (i ∷ r) is at =
+          let e = here.levels_are in
+          record {
+            path = r;
+            at = at.0;
+            levels_are = omega (arith, e, ap length is);
+            same = here.same ∙ ap (λ p. home main p w) is ∙ passed i r (none_of (option_and_then (first_declaration w) (block_at main (i ∷ r))) (said (i ∷ r) (here.at ∙ ap Some is)));
+          }

@@ -1,6 +1,7 @@
-use Rattle.std.proofs.Common.{rules, ◌≡◌, ◌∙◌, Some, FitsSigned, w64, slice_get, sym, subst}
+use Rattle.std.proofs.Common.{rules, ◌≡◌, ◌∙◌, ◌<◌, length, ap, Some, FitsSigned, w64, slice_get, sym, subst}
 use Rattle.std.proofs.lemmas.Int.{to_z-of_z}
 use Rattle.pl0_tree.specs.Scope.{Path, home}
+use Rattle.pl0_tree.specs.Plain.{plain_block}
 use Rattle.pl0_tree.specs.Steps.{blocks}
 use Rattle.pl0_tree.specs.Blocks.{AreNestings}
 use Rattle.pl0_meaning.specs.Values.{name_number, or_zero}
@@ -11,7 +12,7 @@ use Rattle.dbg_plan.proofs.ValuesBound.{Reads}
 use Rattle.dbg_plan.proofs.UnitBlocks.{unit_nestings}
 use Rattle.dbg_plan.proofs.ValuesNamed.{block_within, located_reads, number_is, variable_up, variable_is}
 use Rattle.dbg_plan.proofs.evaluation.name_value.Goals as goal
-use Rattle.dbg_plan.proofs.evaluation.name_value.Goals.{After-deref, After-locate}
+use Rattle.dbg_plan.proofs.evaluation.name_value.Goals.{After-deref, After-names-1, After-locate}
 
 unit_is : (c : After-deref) → c.deref-unit.result.now ≡ c.args.machine.now.unit
 unit_is c = c.deref-unit.ensures ∙ c.unit.ensures
@@ -21,33 +22,33 @@ table_is c =
     let u = c.deref-unit.result.now in
     subst (λ t. AreNestings (program_of u) t (blocks (program_of u))) (sym c.deref.ensures.value) (unit_nestings u)
 
-pub locate-requires-clause-table : goal.locate-requires-clause-table
-locate-requires-clause-table c = table_is c
+pub new-names-requires : goal.new-names-requires
+new-names-requires c = table_is c
 
-pub locate-requires-clause-within : goal.locate-requires-clause-within
-locate-requires-clause-within c =
+names_are : (c : After-names-1) → c.new-names.result ≡ c.args.machine.now.unit.tree.program
+names_are c = c.new-names.ensures ∙ ap (λ u. u.tree.program) (c.deref-unit.ensures ∙ c.unit.ensures)
+
+pub locate-requires : goal.locate-requires
+locate-requires c =
     let m = c.args.machine.now in
-    let table : AreNestings (program m) c.deref.result.now (blocks (program m)) =
-    subst (λ u. AreNestings (program_of u) c.deref.result.now (blocks (program_of u))) (unit_is c) (table_is c) in
-    block_within (program m) c.deref.result.now (frame_of m c.args.frame) c.frame-view.result table c.frame-view.ensures
+    subst (λ b. c.frame-view.result.block < length (blocks (plain_block b))) (sym (names_are c)) (block_within (program m) (frame_of m c.args.frame) c.frame-view.result c.frame-view.ensures)
 
 -- what was looked up is the name's number
 reads : (c : After-locate) → Reads (frames c.args.machine.now) c.args.frame (bound_of c.locate.result) (or_zero (name_number (program c.args.machine.now) (frames c.args.machine.now) c.args.frame c.args.text.now))
 reads c =
     let m = c.args.machine.now in
-    let same : c.deref-unit.result.now ≡ m.unit = c.deref-unit.ensures ∙ c.unit.ensures in
-    let bound = subst (λ u. (q : Path) → slice_get (blocks (program_of u)) c.frame-view.result.block ≡ Some q → IsNameBound (program_of u) q (home (program_of u) q c.args.text.now) (bound_of c.locate.result)) same c.locate.ensures in
+    let bound = subst (λ b. (q : Path) → slice_get (blocks (plain_block b)) c.frame-view.result.block ≡ Some q → IsNameBound (plain_block b) q (home (plain_block b) q c.args.text.now) (bound_of c.locate.result)) (c.new-names.ensures ∙ ap (λ u. u.tree.program) (c.deref-unit.ensures ∙ c.unit.ensures)) c.locate.ensures in
     located_reads (program m) (frames m) c.args.frame c.frame-view.result c.args.text.now c.locate.result c.depth-depth.ensures.linked c.frame-view.ensures bound
 
 pub variable-requires : goal.variable-requires
 variable-requires c =
     variable_up (frames c.args.machine.now) c.args.frame c.locate.result c.in-Variable.level c.in-Variable.index _ c.in-Variable.is (reads (goal.at.variable-requires c).After-locate)
 
-pub returns-in-Variable : goal.returns-in-Variable
-returns-in-Variable c =
+pub returns : goal.returns
+returns c =
     let fits : FitsSigned w64 c.variable.result = search rules in
     to_z-of_z w64 c.variable.result fits
-    ∙ variable_is (frames c.args.machine.now) c.args.frame c.locate.result c.in-Variable.level c.in-Variable.index c.variable.result _ c.in-Variable.is (reads (goal.at.returns-in-Variable c).After-locate) c.variable.ensures
+    ∙ variable_is (frames c.args.machine.now) c.args.frame c.locate.result c.in-Variable.level c.in-Variable.index c.variable.result _ c.in-Variable.is (reads (goal.at.returns c).After-locate) c.variable.ensures
 
 pub returns-in-Number : goal.returns-in-Number
 returns-in-Number c =

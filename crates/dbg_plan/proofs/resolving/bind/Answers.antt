@@ -1,28 +1,26 @@
-use Rattle.std.proofs.Common.{ℕ, arith, ap, List, sym, subst}
-use Rattle.pl0_tree.specs.Blocks.{AreNestings}
-use Rattle.pl0_tree.specs.Plain.{plain_condition}
+use Rattle.std.proofs.Common.{◌<◌, length, ℕ, arith, ap, List, sym, subst}
+use Rattle.std.proofs.lemmas.Option.{slice_get_within}
+use Rattle.pl0_tree.specs.Plain.{plain_block, plain_condition}
 use Rattle.pl0_tree.specs.Steps.{blocks, step_path}
 use Rattle.pl0_machine.specs.Machine.{program_of}
 use Rattle.dbg_plan.specs.Breakpoints.{TextCondition}
 use Rattle.dbg_plan.specs.ReadsAs.{ReadsAs}
 use Rattle.dbg_plan.proofs.StepLines.{unit_length}
-use Rattle.dbg_plan.proofs.UnitBlocks.{unit_nestings, block_at, block_within}
+use Rattle.dbg_plan.proofs.UnitBlocks.{block_at}
 use Rattle.dbg_plan.proofs.resolving.bind.Goals as goal
 
 pub index-requires : goal.index-requires
 index-requires c = omega (arith, unit_length c.args.unit.now, c.args.unit.now.steps.ok, c.requires.within)
 
-pub bind_condition-requires-clause-table : goal.bind_condition-requires-clause-table
-bind_condition-requires-clause-table c =
-    let main = (program_of c.args.unit.now) in
-    subst (λ l. AreNestings main l (blocks main)) (sym c.deref.ensures.value) (unit_nestings c.args.unit.now)
-
-pub bind_condition-requires-clause-within : goal.bind_condition-requires-clause-within
-bind_condition-requires-clause-within c =
-    rw c.deref.ensures.value (block_within c.args.unit.now c.index.result.now.block _ (block_at c.args.unit.now c.args.step c.index.result.now c.requires.within c.index.ensures))
+pub bind_condition-requires : goal.bind_condition-requires
+bind_condition-requires c =
+    subst (λ b. c.index.result.now.block < length (blocks (plain_block b))) (sym c.requires.names)
+    (slice_get_within (blocks (program_of c.args.unit.now)) c.index.result.now.block _ (block_at c.args.unit.now c.args.step c.index.result.now c.requires.within c.index.ensures))
 
 pub returns-clause-bound : goal.returns-clause-bound
-returns-clause-bound c = c.in_ok-located.ensures (step_path (program_of c.args.unit.now) c.args.step) (block_at c.args.unit.now c.args.step c.index.result.now c.requires.within c.index.ensures)
+returns-clause-bound c =
+    let bound = rw c.requires.names at c.in_ok-located.ensures in
+    bound (step_path (program_of c.args.unit.now) c.args.step) (block_at c.args.unit.now c.args.step c.index.result.now c.requires.within c.index.ensures)
 
 pub returns-clause-text : goal.returns-clause-text
 returns-clause-text c =
