@@ -11,7 +11,7 @@ use Rattle.dbg_plan.specs.Breakpoints.{Breakpoint}
 use Rattle.dbg_plan.specs.Plans.{Listed, breakpoints_of}
 use Rattle.dbg_plan.specs.Debugged.{IsRunning}
 use Rattle.dbg_plan.specs.Running.{ahead, is_at_breakpoint, IsQuiet, RanQuietly}
-use Rattle.dbg_plan.specs.Quiet.{RanOn}
+use Rattle.dbg_plan.specs.Quiet.{RanByMachine}
 use Rattle.dbg_plan.proofs.Stepping.{went_on}
 
 -- a step that wrote nothing and led to a position without a breakpoint
@@ -78,11 +78,11 @@ module _ (limit : ℕ) (plan : Option Listed) (start m : Standing) (q : Quietly 
   abbrev breakpoints : List Breakpoint
   breakpoints = breakpoints_of plan
 
-  pub stops : limit ≤ m.position → RanOn limit plan start None m
+  pub stops : limit ≤ m.position → RanByMachine limit plan start None m
   stops reached = record { steps = q.steps; quiet = q.quiet; running = q.running; within = q.within; ends = (q.ends.0, subst (λ (s : Standing). limit ≤ s.position) q.ends.0 reached) }
 
   module _ (result : StepOutcome) (new : Standing) (stepped : Stepped (outcome_of m) m result new) (below : m.position < limit) where
-    pub ended : (IsQuietly breakpoints result new → ⊥) → RanOn limit plan start (Some result) new
+    pub ended : (IsQuietly breakpoints result new → ⊥) → RanByMachine limit plan start (Some result) new
     ended loud = record {
       steps = q.steps;
       quiet = q.quiet;

@@ -12,7 +12,7 @@ use Rattle.dbg_plan.specs.Plans.{breakpoints_of}
 use Rattle.dbg_plan.specs.Counts.{IsCounting, debugged_of, plan_of, next_at, next_of}
 use Rattle.dbg_plan.specs.Debugged.{Debugged, machine_of, IsNext}
 use Rattle.dbg_plan.specs.Running.{ahead, forward, IsQuiet, RanFrom}
-use Rattle.dbg_plan.specs.Quiet.{Ends, EndsAt, RanOn, RanTo, considered_after}
+use Rattle.dbg_plan.specs.Quiet.{Ends, EndsAt, RanByMachine, RanTo, considered_after}
 use Rattle.dbg_plan.proofs.Unwatched.{uncounted}
 use Rattle.dbg_plan.proofs.Further.{was_considered, stays_counting}
 use Rattle.dbg_plan.proofs.Stepping.{same_unit, went_on, stays_there, goes_on, after_fault, not_fault}
@@ -23,7 +23,7 @@ went_goes written fault e = cc
 done_goes : (fault : RunFault) → Done ≡ Fault fault → ⊥
 done_goes fault e = cc
 
-module _ (d : Inside) (was : IsCounting d) (behind : next_of d ≡ d.machine.position + 1) (limit : ℕ) (outcome : Option StepOutcome) (new : Standing) (ran : RanOn limit (plan_of d) d.machine outcome new) where
+module _ (d : Inside) (was : IsCounting d) (behind : next_of d ≡ d.machine.position + 1) (limit : ℕ) (outcome : Option StepOutcome) (new : Standing) (ran : RanByMachine limit (plan_of d) d.machine outcome new) where
   abbrev at : ℕ → Inside
   at k = record d { machine = ahead d.machine k }
 

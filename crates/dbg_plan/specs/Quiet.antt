@@ -18,8 +18,8 @@ abbrev pub Ends : ℕ → List Breakpoint → Standing → Option StepOutcome �
 Ends limit breakpoints m None new = (new ≡ m) × (limit ≤ m.position)
 Ends limit breakpoints m (Some outcome) new = (m.position < limit) × (¬ IsQuiet breakpoints m) × Stepped (outcome_of m) m outcome new
 
-abbrev pub RanOn : ℕ → Option Listed → Standing → Option StepOutcome → Standing → Type 0
-RanOn limit plan old outcome new =
+abbrev pub RanByMachine : ℕ → Option Listed → Standing → Option StepOutcome → Standing → Type 0
+RanByMachine limit plan old outcome new =
     RanQuietly limit (breakpoints_of plan) old (λ steps. Ends limit (breakpoints_of plan) (ahead old steps) outcome new)
 
 -- whether the position is considered where a run stands

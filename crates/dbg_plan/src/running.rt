@@ -7,7 +7,7 @@ ghost use Rattle.dbg_plan.specs.Debugged.{IsRunning};
 ghost use Rattle.dbg_plan.specs.Counting.{MayBePlanOf};
 ghost use Rattle.dbg_plan.specs.Plans.{breakpoints_of};
 ghost use Rattle.dbg_plan.specs.Running.{is_at_breakpoint};
-ghost use Rattle.dbg_plan.specs.Quiet.{Watches, RanOn, considered_after};
+ghost use Rattle.dbg_plan.specs.Quiet.{Watches, RanByMachine, considered_after};
 
 use crate::plan::Plan;
 use pl0_machine::{Machine, StepOutcome};
@@ -59,7 +59,7 @@ fn run_quietly(
     requires within { machine.position ≤ limit }
     requires fits { MayBePlanOf machine.unit (option_map arc_value plan.now) }
     requires table { Watches (option_map arc_value plan.now) (option_map (λ table. table.now) watched) }
-    ensures { RanOn limit (option_map arc_value plan.now) machine result.1 result.0 }
+    ensures { RanByMachine limit (option_map arc_value plan.now) machine result.1 result.0 }
 {
     'steps: while machine.position() < limit {
         let outcome = machine.step();
@@ -74,7 +74,7 @@ fn run_quietly(
 #[inline(always)]
 pub fn run_on(machine: Machine, under: (u64, &Option<Arc<Plan>>)) -> (Machine, Option<StepOutcome>)
     requires { IsRunning machine × (machine.position ≤ under.0) × MayBePlanOf machine.unit (option_map arc_value under.1.now) }
-    ensures { RanOn under.entry.0 (option_map arc_value under.entry.1.now) machine result.1 result.0 }
+    ensures { RanByMachine under.entry.0 (option_map arc_value under.entry.1.now) machine result.1 result.0 }
 {
     let (limit, plan) = under;
     match plan {
