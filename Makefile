@@ -1,5 +1,7 @@
 # The kit's command `rt` proves, builds and runs: `rt doc` prints its first page.
+SHELL = /bin/bash
 PREFIX ?= /usr/local
+APART = dap_frame dap_msg dbg_runner
 PROGRAM = crates/pl0dap/out/pl0dap
 SPEED = crates/speed/out/speed
 SOURCES = crates.txt $(shell find crates -name out -prune -o -type f \( -name '*.rt' -o -name '*.antt' \) -print)
@@ -13,10 +15,16 @@ try:
 
 build: $(PROGRAM)
 
-# `rt run` proves, builds and runs the program; with no input it serves nobody and ends.
+# Crates that share none below them are proved side by side. Then `rt run` proves the others, builds the program and runs it; with no
+# input it serves nobody and ends.
 $(PROGRAM): $(SOURCES)
+	$(MAKE) --jobs $(APART:%=prove-%)
 	cd crates/pl0dap && rt run < /dev/null
 	touch $@
+
+# Proves a crate and those below it, with the crate's name before each line.
+prove-%:
+	set -o pipefail; cd crates/$* && rt lib 2>&1 | sed --unbuffered 's/^/$*: /'
 
 # Runs a program by the bare machine, in slices or by the runner, and does nothing else.
 $(SPEED): $(SOURCES)
