@@ -466,17 +466,19 @@ def commands(program: str, speed: str | None, folder: str) -> dict[str, list[str
     return given
 
 
-def show_runs(program: str, speed: str | None, folder: str) -> None:
-    longest = FALSE.ljust(KIB)
-    sessions = {
+def loops() -> dict[str, Loop]:
+    return {
         "no breakpoint": Loop([]),
         "a false condition in the loop": Loop(in_the_loop(FALSE)),
         "256 breakpoints elsewhere": Loop(elsewhere("")),
-        "256 elsewhere, conditions of 1,024 bytes": Loop(elsewhere(longest)),
+        "256 elsewhere, conditions of 1,024 bytes": Loop(elsewhere(FALSE.ljust(KIB))),
         "no breakpoint, a text of 64 KiB": Loop([], LIMIT),
         "a false condition in the loop, a text of 64 KiB": Loop(in_the_loop(FALSE), LIMIT),
     }
-    runs = {f"a session, {name}": functools.partial(run.seconds, program, folder) for name, run in sessions.items()}
+
+
+def show_runs(program: str, speed: str | None, folder: str) -> None:
+    runs = {f"a session, {name}": functools.partial(run.seconds, program, folder) for name, run in loops().items()}
     runs |= {
         name: functools.partial(command_seconds, words, folder)
         for name, words in commands(program, speed, folder).items()
