@@ -22,9 +22,9 @@ $(PROGRAM): $(SOURCES)
 	cd crates/pl0dap && rt run < /dev/null
 	touch $@
 
-# Proves a crate and those below it, with the crate's name before each line.
+# Proves a crate and those below it, with the crate's name before each line, which comes as it is written.
 prove-%:
-	set -o pipefail; cd crates/$* && rt lib 2>&1 | sed --unbuffered 's/^/$*: /'
+	@set -o pipefail; cd crates/$* && PYTHONUNBUFFERED=1 rt lib 2>&1 | sed --unbuffered 's/^/$*: /'
 
 # Runs a program by the bare machine, in slices or by the runner, and does nothing else.
 $(SPEED): $(SOURCES)
