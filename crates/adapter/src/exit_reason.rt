@@ -13,7 +13,7 @@ use std::fmt;
 
 /// Why a run of the program ends. `Display` writes the last line on standard error, without its line feed; nothing at
 /// `Success`, nor at `NotUnderstood`, of which standard error gets the usage.
-#[derive(Clone, Copy, Debug, PartialEq, Eq)]
+#[derive(Clone, Copy, Debug)]
 pub enum ExitReason {
     /// All went well.
     Success,

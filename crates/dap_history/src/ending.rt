@@ -12,7 +12,7 @@ pub enum Closed {
 }
 
 /// How a session ended: closed, or given up.
-#[derive(Clone, Copy, Debug, PartialEq, Eq)]
+#[derive(Clone, Copy)]
 pub enum Ending {
     Closed(Closed),
     Fault(SessionFault),

@@ -18,7 +18,7 @@ pub enum SessionFault {
 }
 
 /// Why a file was not loaded.
-#[derive(Clone, Copy, Debug, PartialEq, Eq)]
+#[derive(Clone, Copy, Debug)]
 pub enum LoadFault {
     CannotRead,
     /// An allocation was refused.

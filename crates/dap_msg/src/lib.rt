@@ -49,7 +49,7 @@ pub use text::Text;
 pub use writing::write;
 
 /// Why a content was not read, or a message was not written.
-#[derive(Clone, Copy, Debug, PartialEq, Eq)]
+#[derive(Clone, Copy, Debug)]
 pub enum MsgFault {
     /// An allocation failed.
     NoMemory,

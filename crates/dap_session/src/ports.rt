@@ -21,7 +21,7 @@ pub enum Event {
 }
 
 /// Why an order was not pushed.
-#[derive(Clone, Copy, Debug, PartialEq, Eq)]
+#[derive(Clone, Copy)]
 pub enum OrderFault {
     /// There is no room for it.
     Full,

@@ -1,5 +1,5 @@
 /// What a session asks for next.
-#[derive(Debug, Drop)]
+#[derive(Drop)]
 pub enum Want {
     /// The next event.
     Event,

@@ -6,7 +6,7 @@ use std::io::{self, ErrorKind, Read, Write};
 use std::sync::Wait;
 
 /// Why a read or a write did nothing.
-#[derive(Clone, Copy, Debug, PartialEq, Eq)]
+#[derive(Clone, Copy)]
 pub enum IoFault {
     Failed,
     /// Nothing happened: it may be tried again.

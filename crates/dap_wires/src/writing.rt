@@ -13,7 +13,7 @@ use crate::transfer::write_all;
 use std::sync::Wait;
 
 /// The output failed.
-#[derive(Clone, Copy, Debug, PartialEq, Eq)]
+#[derive(Clone, Copy)]
 pub struct WriteFailed;
 
 /// Writes the frames that come, each whole before it waits for the next, until the end comes.

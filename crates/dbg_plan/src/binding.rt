@@ -13,7 +13,7 @@ use pl0_tree::{Condition, Expression};
 use std::alloc::{AllocError, Global};
 
 /// What a name stands for in the frames of a block.
-#[derive(Clone, Copy, Debug, PartialEq, Eq)]
+#[derive(Clone, Copy)]
 pub enum Located {
     Number(i64),
     /// A variable: how many static links lead to its frame, and its index there.

@@ -11,7 +11,7 @@ use pl0_tree::{Condition, StepNumber};
 pub const BREAKPOINT_LIMIT: usize = 256;
 
 /// Which arrivals at a breakpoint are due. Arrivals count from 1.
-#[derive(Clone, Copy, Debug, PartialEq, Eq)]
+#[derive(Clone, Copy)]
 pub enum Rule {
     /// The one with this number, and each later one.
     From(u32),

@@ -21,7 +21,7 @@ use std::marker::Model;
 use std::sync::Arc;
 
 /// Where a step led.
-#[derive(Clone, Copy, PartialEq, Eq, Debug)]
+#[derive(Clone, Copy)]
 pub enum Advance {
     /// To a position where the program goes on, and why that is due, if it is.
     To(Option<Reason>),

@@ -20,7 +20,7 @@ use pl0_tree::Expression;
 use pl0_unit::Unit;
 
 /// Why an evaluation has no result.
-#[derive(Clone, Copy, Debug, PartialEq, Eq)]
+#[derive(Clone, Copy)]
 pub enum EvalFault {
     /// A number would not fit 64 bits with a sign.
     Overflow,

@@ -1,7 +1,7 @@
 // How a run goes on, and why it stops.
 
 /// What makes a position due besides breakpoints. A depth is the number of frames alive at the stop that was resumed.
-#[derive(Clone, Copy, Debug, PartialEq, Eq)]
+#[derive(Clone, Copy, PartialEq, Eq)]
 pub enum Mode {
     /// Each position.
     Entry,

@@ -9,7 +9,7 @@ use std::collections::HashMap;
 use std::marker::Model;
 
 /// What a word is declared as, and by how many blocks further out than the innermost one.
-#[derive(Clone, Copy, Debug, PartialEq, Eq)]
+#[derive(Clone, Copy)]
 pub struct Found<T> {
     pub level: usize,
     pub declared: T,
