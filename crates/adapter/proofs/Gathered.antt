@@ -28,7 +28,7 @@ use Rattle.dap_wires.specs.declared.writing.WriteFailed.{WriteFailed}
 use Rattle.dap_wires.specs.Parcels.{frames_in, has_end, AreEnded}
 use Rattle.dap_wires.specs.Reading.{IsReadUntil, last_of}
 use Rattle.dap_wires.specs.Senders.{from_client, reports_among}
-use Rattle.dap_wires.specs.Transfer.{Supply, Output, WritesAll}
+use Rattle.byte_streams.specs.Streams.{Supply, Output, WritesAll}
 use Rattle.dap_wires.specs.Writing.{IsWrittenUntil}
 use Rattle.dap_wires.proofs.Sending.{client_append, frames_append}
 use Rattle.adapter.specs.Jobs.{Drove}

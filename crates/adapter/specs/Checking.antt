@@ -10,7 +10,7 @@ use Rattle.dap_history.specs.declared.fault.LoadFault.TheVariants as load
 use Rattle.dap_history.specs.Interleaving.{Load}
 use Rattle.dap_session.specs.Ports.{load_of}
 use Rattle.adapter.specs.Listing.{listing_text}
-use Rattle.dap_wires.specs.Transfer.{Output, WritesAll, FailsIn}
+use Rattle.byte_streams.specs.Streams.{Output, WritesAll, FailsIn}
 use Rattle.adapter.specs.declared.checking.CheckFault.{CheckFault}
 use Rattle.adapter.specs.declared.checking.CheckFault.TheVariants.{CannotRead, Syntax, WriteFailed, NoMemory}
 

@@ -15,7 +15,7 @@ use Rattle.adapter.specs.Checking.{IsChecked}
 use Rattle.adapter.specs.ExitReasons.{reason_of_serve, reason_of_check, last_line}
 use Rattle.adapter.specs.Listing.{line_feed}
 use Rattle.adapter.specs.Serving.{Streams, output_of, IsServed}
-use Rattle.dap_wires.specs.Transfer.{Output, WritesAll, FailsIn, Says}
+use Rattle.byte_streams.specs.Streams.{Output, WritesAll, FailsIn, Says}
 
 -- A client was served, and the reason says how that went.
 pub record EndsServing (reason : ExitReason) (loads later_loads : List Load) (old later : Streams) : Type 0 where

@@ -21,7 +21,7 @@ use Rattle.dap_wires.specs.declared.reading.ReadEnd.{ReadEnd}
 use Rattle.dap_wires.specs.declared.writing.WriteFailed.{WriteFailed}
 use Rattle.dap_wires.specs.Reading.{IsReadUntil}
 use Rattle.dap_wires.specs.Senders.{from_client, reports_among}
-use Rattle.dap_wires.specs.Transfer.{Supply, supply, Output, output, WritesAll, FailsIn}
+use Rattle.byte_streams.specs.Streams.{Supply, supply, Output, output, WritesAll, FailsIn}
 
 -- The input's bytes left and the output's bytes written, where they are known, and how often reading and writing failed.
 pub record Streams : Type 0 where

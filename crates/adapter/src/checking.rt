@@ -3,11 +3,11 @@
 ghost use Rattle.std.specs.Prelude.{string_bytes, IfOk, IfErr};
 ghost use Rattle.pl0_tree.specs.Faults.{IsFirstFault, FaultIs};
 ghost use Rattle.adapter.specs.Checking.{IsChecked, IsListingOf};
-ghost use Rattle.dap_wires.specs.Transfer.{output as output_at};
+ghost use Rattle.byte_streams.specs.Streams.{output as output_at};
 
 use crate::listing::listing;
+use byte_streams::{Sink, write_all};
 use dap_session::{LoadFault, Loader};
-use dap_wires::{Sink, write_all};
 use pl0_code::compile;
 use pl0_syntax::parse;
 use pl0_tree::{FaultKind, Place, SyntaxFault};

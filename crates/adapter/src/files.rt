@@ -3,8 +3,9 @@
 ghost use Rattle.std.specs.Prelude.{◌≡◌, []};
 ghost use Rattle.adapter.specs.Loading.{loads};
 
+use byte_streams::Reading;
 use dap_session::{LoadFault, Loader};
-use dap_wires::{Reading, read_beginning};
+use dap_wires::read_beginning;
 use std::alloc::Global;
 use std::fs;
 use std::io::ErrorKind;

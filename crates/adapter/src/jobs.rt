@@ -13,16 +13,16 @@ ghost use Rattle.dap_wires.specs.Inbox.{client_events, client_home, sent_reports
 ghost use Rattle.dap_wires.specs.Outbox.{put_frames, frame_home, unused_home, parcels_put, ended_home, ended_unused_home, parcels_taken, parcels_received, parcel_home};
 ghost use Rattle.dap_wires.specs.Orders.{pushed_orders, push_home, taken_orders, pop_home};
 ghost use Rattle.dap_wires.specs.Reading.{IsReadUntil};
-ghost use Rattle.dap_wires.specs.Transfer.{supply, output as output_at};
+ghost use Rattle.byte_streams.specs.Streams.{supply, output as output_at};
 ghost use Rattle.dap_wires.specs.Writing.{IsWrittenUntil};
 ghost use Rattle.adapter.specs.Jobs.{Drove};
 
 use crate::tasks::{LastTask, Task};
+use byte_streams::{Sink, Source};
 use dap_session::{Closed, Event, Loader, Order, Orders, SessionFault, drive};
 use dap_wires::{
     ClientSender, EndedSender, EventReceiver, FrameReceiver, FrameSender, OrderReceiver,
-    OrderSender, Parcel, ReadEnd, Receipt, ReportSender, Sink, Source, WriteFailed, read_loop,
-    write_loop,
+    OrderSender, Parcel, ReadEnd, Receipt, ReportSender, WriteFailed, read_loop, write_loop,
 };
 use dbg_runner::{Gate, History, Joined, work};
 use std::alloc::Global;

@@ -6,15 +6,15 @@ ghost use Rattle.adapter.specs.ExitReasons.{last_line};
 ghost use Rattle.adapter.specs.Listing.{line_feed};
 ghost use Rattle.adapter.specs.Running.{Performs, Reports, Executes, Runs, EndsHelping, IsUsage};
 ghost use Rattle.adapter.specs.Serving.{streams};
-ghost use Rattle.dap_wires.specs.Transfer.{Says, output as output_at};
+ghost use Rattle.byte_streams.specs.Streams.{Says, output as output_at};
 
 use crate::arguments::{ArgumentsFault, HELP, Invocation, USAGE, objection, parse_arguments};
 use crate::checking::check;
 use crate::exit_reason::{ExitReason, end_of_arguments, end_of_check, end_of_serve};
 use crate::files::FileLoader;
 use crate::serving::serve;
+use byte_streams::{Sink, Source, say, write_all};
 use dap_session::Loader;
-use dap_wires::{Sink, Source, say, write_all};
 use dbg_runner::{Gate, History};
 use itoa::Buffer;
 use log::sink::Console;

@@ -11,10 +11,11 @@ ghost use Rattle.adapter.specs.Serving.{streams, outcome_of, IsServed};
 
 use crate::jobs::{ReaderTask, RunnerTask, SessionEnds, SessionTask, WriterTask};
 use crate::tasks::run_beside;
+use byte_streams::{Sink, Source};
 use dap_session::{Closed, Loader, SessionFault};
 use dap_wires::{
-    ClientSender, OrderReceiver, Parcel, Receipt, ReportSender, Sink, Source, WriteFailed, inbox,
-    orders, outbox, settle_inbox, settle_orders, settle_outbox,
+    ClientSender, OrderReceiver, Parcel, Receipt, ReportSender, WriteFailed, inbox, orders, outbox,
+    settle_inbox, settle_orders, settle_outbox,
 };
 use dbg_runner::Gate;
 use std::alloc::{AllocError, Global};

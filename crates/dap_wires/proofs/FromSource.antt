@@ -3,7 +3,7 @@ use Rattle.std.proofs.Common.{◌≡◌, ◌<◌, ◌≤◌, ℕ, List, [], ◌+
 use Rattle.std.specs.Io.KnownBytes.{Keeps, Consumes, IsAtEnd}
 use Rattle.std.proofs.lemmas.List.{length-take, take_all}
 use Rattle.dap_wires.specs.Transfer.{BeginsWith}
-use Rattle.dap_wires.proofs.Known.{consumes_after, consumes_both, keeps_consumes}
+use Rattle.byte_streams.proofs.Known.{consumes_after, consumes_both, keeps_consumes}
 
 -- a read that gave nothing, with room for some
 pub read_nothing : (old mid later : Option (List ℕ)) (n : ℕ) (room : List ℕ) → Keeps old mid → Consumes mid later (take n room) × (n ≡ 0 → 0 < length room → IsAtEnd later) → n ≡ 0 → 0 < length room

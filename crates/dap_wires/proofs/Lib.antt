@@ -1,9 +1,7 @@
 pub mod Delivered
 pub mod Growing
-pub mod Known
 pub mod ReadSoFar
 pub mod FromSource
 pub mod Sending
-pub mod Transferring
 pub mod WrittenSoFar
 pub mod Crossing

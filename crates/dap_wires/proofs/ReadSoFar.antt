@@ -12,7 +12,8 @@ use Rattle.dap_wires.specs.declared.reading.ReadEnd.{ReadEnd}
 use Rattle.dap_wires.specs.declared.reading.ReadEnd.TheVariants.{HandedBack}
 use Rattle.dap_wires.specs.Reading.{last_of, Loses, IsReadUntil, end_by}
 use Rattle.dap_wires.specs.Senders.{is_report}
-use Rattle.dap_wires.specs.Transfer.{Supply, IsRead, AreRead}
+use Rattle.byte_streams.specs.Streams.{Supply}
+use Rattle.dap_wires.specs.Transfer.{IsRead, AreRead}
 use Rattle.dap_wires.proofs.Growing.{one_more}
 
 -- pieces were sent, and nothing else was read

@@ -7,9 +7,9 @@ use Rattle.std.proofs.lemmas.List.Folds.{concat-append}
 use Rattle.dap_wires.specs.declared.parcel.Parcel.{Parcel}
 use Rattle.dap_wires.specs.declared.parcel.Parcel.TheVariants as parcel
 use Rattle.dap_wires.specs.Parcels.{frames_in, has_end, AreEnded}
-use Rattle.dap_wires.specs.Transfer.{Output, AppendsPart, WritesAll, FailsIn}
+use Rattle.byte_streams.specs.Streams.{Output, AppendsPart, WritesAll, FailsIn}
 use Rattle.dap_wires.proofs.Growing.{one_more}
-use Rattle.dap_wires.proofs.Known.{appends_none, appends_both}
+use Rattle.byte_streams.proofs.Known.{appends_none, appends_both}
 use Rattle.dap_wires.proofs.Sending.{frames_append, frame_keeps_open, end_ends, frames_end}
 
 -- frames were taken, and written whole

@@ -4,7 +4,8 @@ use Rattle.dap_history.specs.Events.{Incoming, Piece, End, ReadFailed, File, Rep
 use Rattle.dap_history.specs.Events.{NoMemory as NoMemoryCame}
 use Rattle.dap_wires.specs.declared.reading.ReadEnd.{ReadEnd}
 use Rattle.dap_wires.specs.declared.reading.ReadEnd.TheVariants.{Ended, Failed, NoMemory, HandedBack}
-use Rattle.dap_wires.specs.Transfer.{Supply, IsRead, AreRead}
+use Rattle.byte_streams.specs.Streams.{Supply}
+use Rattle.dap_wires.specs.Transfer.{IsRead, AreRead}
 
 -- what is sent last
 abbrev pub last_of : ReadEnd → List Incoming

@@ -4,7 +4,7 @@ use Rattle.std.specs.List.{concat}
 use Rattle.dap_wires.specs.declared.parcel.Parcel.{Parcel}
 use Rattle.dap_wires.specs.declared.writing.WriteFailed.{WriteFailed}
 use Rattle.dap_wires.specs.Parcels.{frames_in, has_end, AreEnded}
-use Rattle.dap_wires.specs.Transfer.{Output, WritesAll, FailsIn}
+use Rattle.byte_streams.specs.Streams.{Output, WritesAll, FailsIn}
 
 -- The end was taken after frames, and these were written whole; or frames alone, and the output failed after a beginning of
 -- them.

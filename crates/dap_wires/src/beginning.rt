@@ -4,8 +4,8 @@ ghost use Rattle.std.specs.Prelude.{◌≡◌, ◌<◌, ◌≤◌, length, Err, 
 ghost use Rattle.dap_history.specs.declared.fault.LoadFault.TheVariants.{CannotRead, NoMemory};
 ghost use Rattle.dap_wires.specs.Transfer.{BeginsWith};
 
-use crate::streams::{IoFault, Source};
 use crate::transfer::PIECE_LIMIT;
+use byte_streams::{IoFault, Source};
 use dap_session::LoadFault;
 use std::alloc::Global;
 use std::sync::Wait;

@@ -4,13 +4,13 @@
 //! The one contract is the rule of the queues (`specs/Delivery`): what was taken and then what is inside is, of each sender,
 //! what it put, in its order, each once. [`inbox`], [`outbox`] and [`orders`] make a queue each; their ends meet the ports of
 //! [`dap_session`] and [`dbg_runner`], and [`settle_inbox`], [`settle_outbox`] and [`settle_orders`] compare them when all
-//! threads have ended. [`read_loop`] and [`write_loop`] stand between a queue and a [`Source`] or a [`Sink`]: what the one
-//! sends is what it read, and what the other wrote is what it took. Each rule and each loop is of use without the others.
+//! threads have ended. [`read_loop`] and [`write_loop`] stand between a queue and a source or a sink of [`byte_streams`]:
+//! what the one sends is what it read, and what the other wrote is what it took. Each rule and each loop is of use without
+//! the others.
 #![tactic(auto)]
 
 mod beginning;
 mod channels;
-mod counting;
 mod end_log;
 mod ends;
 mod event_ends;
@@ -22,7 +22,6 @@ mod order_queue;
 mod parcel;
 mod reading;
 mod rule;
-mod streams;
 mod transfer;
 mod writing;
 
@@ -39,6 +38,5 @@ pub use order_queue::{orders, settle_orders};
 pub use parcel::Parcel;
 pub use reading::{ReadEnd, read_loop};
 pub use rule::{First, InOrder, Puts, Second, Sent, Takes, Whole};
-pub use streams::{IoFault, Reading, Sink, Source, Writing};
-pub use transfer::{PIECE_LIMIT, next_event, say, write_all};
+pub use transfer::{PIECE_LIMIT, next_event};
 pub use writing::{WriteFailed, write_loop};

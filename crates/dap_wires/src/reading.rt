@@ -5,11 +5,11 @@ ghost use Rattle.dap_history.specs.Events.{Incoming};
 ghost use Rattle.dap_session.specs.Incoming.{incoming_of};
 ghost use Rattle.dap_wires.specs.Inbox.{client_events, client_home};
 ghost use Rattle.dap_wires.specs.Reading.{IsReadUntil, end_by};
-ghost use Rattle.dap_wires.specs.Transfer.{supply};
+ghost use Rattle.byte_streams.specs.Streams.{supply};
 
 use crate::event_ends::ClientSender;
-use crate::streams::Source;
 use crate::transfer::{PIECE_LIMIT, next_event};
+use byte_streams::Source;
 use dap_session::Event;
 use std::alloc::Global;
 use std::sync::Wait;

@@ -3,13 +3,12 @@
 ghost use Rattle.std.specs.Prelude.{◌≡◌, ◌++◌, List};
 ghost use Rattle.dap_wires.specs.declared.parcel.Parcel.{Parcel};
 ghost use Rattle.dap_wires.specs.Outbox.{parcels_taken, parcel_home};
-ghost use Rattle.dap_wires.specs.Transfer.{output as output_at};
+ghost use Rattle.byte_streams.specs.Streams.{output as output_at};
 ghost use Rattle.dap_wires.specs.Writing.{IsWrittenUntil};
 
 use crate::frame_ends::FrameReceiver;
 use crate::parcel::Parcel;
-use crate::streams::Sink;
-use crate::transfer::write_all;
+use byte_streams::{Sink, write_all};
 use std::sync::Wait;
 
 /// The output failed.

@@ -1,6 +1,6 @@
 use Rattle.std.proofs.Common.{◌≡◌, List, ℕ, ◌++◌, sym, ap, ◌∙◌, subst, append_assoc, decimal, codes}
 use Rattle.adapter.specs.Listing.{line_feed}
-use Rattle.dap_wires.specs.Transfer.{Says, output}
+use Rattle.byte_streams.specs.Streams.{Says, output}
 use Rattle.adapter.proofs.program.say_syntax.Goals as goal
 
 -- three numbers with spaces between them, and a line feed

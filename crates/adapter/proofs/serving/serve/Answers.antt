@@ -8,7 +8,7 @@ use Rattle.dap_wires.specs.Orders.{pushed_orders, taken_orders}
 use Rattle.dap_wires.specs.Outbox.{put_frames, parcels_put, parcels_received, parcels_taken}
 use Rattle.dap_wires.specs.Reading.{IsReadUntil}
 use Rattle.dap_wires.specs.Senders.{from_client, reports_among}
-use Rattle.dap_wires.specs.Transfer.{supply, output as output_at}
+use Rattle.byte_streams.specs.Streams.{supply, output as output_at}
 use Rattle.dap_wires.specs.Writing.{IsWrittenUntil}
 use Rattle.adapter.specs.Jobs.{Drove}
 use Rattle.adapter.specs.Serving.{streams, outcome_of, nothing_sent, IsDriven, drove}

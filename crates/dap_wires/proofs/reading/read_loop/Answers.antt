@@ -1,6 +1,6 @@
 use Rattle.std.proofs.Common.{sym, ◌∙◌}
 use Rattle.dap_wires.specs.Inbox.{client_events}
-use Rattle.dap_wires.specs.Transfer.{supply}
+use Rattle.byte_streams.specs.Streams.{supply}
 use Rattle.dap_wires.proofs.ReadSoFar.{read_goes_on, read_ends, when_ok}
 use Rattle.dap_wires.proofs.reading.read_loop.Goals as goal
 

@@ -1,6 +1,6 @@
 use Rattle.std.proofs.Common.{◌≡◌}
 use Rattle.dap_wires.specs.Inbox.{client_events, client_home}
-use Rattle.dap_wires.specs.Transfer.{supply}
+use Rattle.byte_streams.specs.Streams.{supply}
 use Rattle.dap_wires.proofs.ReadSoFar.{ReadSoFar}
 use Rattle.dap_wires.proofs.reading.read_loop.Given as goal
 

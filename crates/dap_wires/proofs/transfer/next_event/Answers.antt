@@ -1,5 +1,5 @@
 use Rattle.std.proofs.Common.{◌≡◌, ◌<◌, length, vec_len, vec_capacity, Err, ◌∙◌, ap, refl, arith}
-use Rattle.dap_wires.proofs.Known.{keeps_self, keeps_both, keeps_consumes}
+use Rattle.byte_streams.proofs.Known.{keeps_self, keeps_both, keeps_consumes}
 use Rattle.dap_wires.proofs.FromSource.{read_nothing, read_gives, read_alone, piece_short, piece_some}
 use Rattle.dap_wires.proofs.transfer.next_event.Goals as goal
 

@@ -1,6 +1,6 @@
 use Rattle.std.proofs.Common.{◌∙◌}
 use Rattle.dap_wires.specs.Outbox.{parcels_taken}
-use Rattle.dap_wires.specs.Transfer.{output}
+use Rattle.byte_streams.specs.Streams.{output}
 use Rattle.dap_wires.proofs.WrittenSoFar.{written_ends, written_breaks, written_goes_on}
 use Rattle.dap_wires.proofs.writing.write_loop.Goals as goal
 

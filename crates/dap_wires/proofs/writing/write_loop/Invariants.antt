@@ -1,6 +1,6 @@
 use Rattle.std.proofs.Common.{◌≡◌}
 use Rattle.dap_wires.specs.Outbox.{parcels_taken, parcel_home}
-use Rattle.dap_wires.specs.Transfer.{output}
+use Rattle.byte_streams.specs.Streams.{output}
 use Rattle.dap_wires.proofs.WrittenSoFar.{WrittenSoFar}
 use Rattle.dap_wires.proofs.writing.write_loop.Given as goal
 

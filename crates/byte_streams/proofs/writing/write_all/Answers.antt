@@ -1,6 +1,6 @@
 use Rattle.std.proofs.Common.{◌∙◌, arith}
-use Rattle.dap_wires.proofs.Transferring.{partly_goes_on}
-use Rattle.dap_wires.proofs.transfer.write_all.Goals as goal
+use Rattle.byte_streams.proofs.Transferring.{partly_goes_on}
+use Rattle.byte_streams.proofs.writing.write_all.Goals as goal
 
 pub loop-preserved-in-Ok : goal.loop-preserved-in-Ok
 loop-preserved-in-Ok g c = (

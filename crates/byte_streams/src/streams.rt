@@ -17,7 +17,7 @@ pub enum IoFault {
 pub trait Source {
     ghost use Rattle.std.specs.Prelude.{◌≡◌, ◌<◌, ◌≤◌, ℕ, List, Option, length, Err, IfOk, OnOk};
     ghost use Rattle.std.specs.Io.KnownBytes.{ReadConsumes};
-    ghost use Rattle.dap_wires.specs.declared.streams.IoFault.TheVariants.{Failed, Interrupted};
+    ghost use Rattle.byte_streams.specs.declared.streams.IoFault.TheVariants.{Failed, Interrupted};
 
     /// The bytes that are left to read, where they are known.
     ghost left: { Self → Option (List ℕ) };
@@ -38,7 +38,7 @@ pub trait Source {
 pub trait Sink {
     ghost use Rattle.std.specs.Prelude.{◌≡◌, ◌<◌, ◌≤◌, ℕ, List, Option, length, Ok, Err, IfOk};
     ghost use Rattle.std.specs.Io.KnownBytes.{WriteAppends};
-    ghost use Rattle.dap_wires.specs.declared.streams.IoFault.TheVariants.{Failed, Interrupted};
+    ghost use Rattle.byte_streams.specs.declared.streams.IoFault.TheVariants.{Failed, Interrupted};
 
     /// The bytes written so far, where they are known.
     ghost written: { Self → Option (List ℕ) };
@@ -141,7 +141,7 @@ impl<R: Wait, O: Write + Drop> Sink for Writing<'_, R, O> {
 
 ghost use Rattle.std.specs.IoError.{error_kind};
 ghost use Rattle.std.specs.declared.io.ErrorKind.TheVariants as kind;
-ghost use Rattle.dap_wires.specs.declared.streams.IoFault.TheVariants.{Failed, Interrupted};
+ghost use Rattle.byte_streams.specs.declared.streams.IoFault.TheVariants.{Failed, Interrupted};
 
 /// The fault that an error of std is: an interruption exactly where that is its kind.
 fn io_fault(error: &io::Error) -> IoFault

@@ -6,8 +6,8 @@ use Rattle.std.specs.Io.KnownBytes.{Keeps, Appends}
 use Rattle.std.proofs.Math.Seq.{take-suc}
 use Rattle.std.proofs.lemmas.List.{take-append-drop, map-append}
 use Rattle.std.proofs.lemmas.List.Folds.{concat-append}
-use Rattle.dap_wires.specs.Transfer.{AppendsPart}
-use Rattle.dap_wires.proofs.Known.{appends_none, appends_both, appends_keep}
+use Rattle.byte_streams.specs.Streams.{AppendsPart}
+use Rattle.byte_streams.proofs.Known.{appends_none, appends_both, appends_keep}
 
 -- the front of these bytes was written, and this rest is left
 pub record Partly (whole rest : List ℕ) (old later : Option (List ℕ)) : Type 0 where

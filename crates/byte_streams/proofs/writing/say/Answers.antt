@@ -3,8 +3,8 @@ use Rattle.std.specs.Prelude.{map}
 use Rattle.std.specs.List.{concat}
 use Rattle.std.specs.Io.KnownBytes.{Appends}
 use Rattle.std.proofs.lemmas.List.{get_or_default, take_all}
-use Rattle.dap_wires.proofs.Transferring.{frames_go_on, frames_stop}
-use Rattle.dap_wires.proofs.transfer.say.Goals as goal
+use Rattle.byte_streams.proofs.Transferring.{frames_go_on, frames_stop}
+use Rattle.byte_streams.proofs.writing.say.Goals as goal
 
 pub returns-then-not-write_all : goal.returns-then-not-write_all
 returns-then-not-write_all g c =

@@ -1,6 +1,6 @@
 use Rattle.std.proofs.Common.{◌≡◌}
-use Rattle.dap_wires.proofs.Transferring.{Partly}
-use Rattle.dap_wires.proofs.transfer.write_all.Given as goal
+use Rattle.byte_streams.proofs.Transferring.{Partly}
+use Rattle.byte_streams.proofs.writing.write_all.Given as goal
 
 abbrev pub invariant-loop : goal.invariant-loop
 invariant-loop g l =
