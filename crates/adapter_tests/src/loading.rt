@@ -1,7 +1,6 @@
 //! The beginning of a file, read from a source that is interrupted at each second read.
 
 use crate::fakes::{Input, Progress, Streams};
-use crate::text::repeated;
 use adapter::read_beginning;
 use dap_session::LoadFault;
 use std::test::Fail;
@@ -18,7 +17,7 @@ const LENGTHS: [(usize, usize); 5] = [
 #[test]
 fn gives_the_first_bytes(rt: HostRuntime) -> Result<(), Fail> {
     let alloc = rt.alloc();
-    let text = repeated(alloc, "", "x", 65_538, "")?;
+    let text = "x".repeat(alloc, 65_538)?;
     let progress = Progress::new();
     for (length, given) in LENGTHS.as_slice() {
         for read_step in [1000, usize::MAX] {

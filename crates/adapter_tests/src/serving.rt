@@ -2,7 +2,6 @@
 
 use crate::fakes::{Cut, Hold, Input, OneFile, Output, Progress, SliceGate, Streams};
 use crate::rows::{FAULTS, HELLO, INITIALIZE, ROWS, Row, fault_row};
-use crate::text::repeated;
 use crate::transcript::{ANSWERED, SENT, frames, input};
 use adapter::{Reading, ServeFault, Served, Writing, end_of_serve, serve};
 use std::alloc::Global;
@@ -139,7 +138,8 @@ fn serves_headers_up_to_the_limit(rt: HostRuntime) -> Result<(), Fail> {
         (998, b"".as_slice(), 2, "pl0dap: frame 1"),
     ];
     for (letters, output, status, last_line) in rows {
-        let input = repeated(alloc, front, "a", letters, back)?;
+        let name = "a".repeat(alloc, letters)?;
+        let input = format!(in alloc; "{front}{name}{back}")?;
         let expected = Expected {
             output,
             status,
@@ -163,7 +163,8 @@ fn serves_the_largest_content(rt: HostRuntime) -> Result<(), Fail> {
         "Content-Length: 1048576\r\n\r\n{\"seq\":1,\"type\":\"request\",\"command\":\"initialize\"}";
     let back =
         "Content-Length: 49\r\n\r\n{\"seq\":2,\"type\":\"request\",\"command\":\"disconnect\"}";
-    let input = repeated(alloc, front, " ", 1_048_527, back)?;
+    let spaces = " ".repeat(alloc, 1_048_527)?;
+    let input = format!(in alloc; "{front}{spaces}{back}")?;
     let output = frames(alloc, HELLO, ANSWERED)?;
     let expected = Expected {
         output: output.as_slice(),
