@@ -4,7 +4,7 @@
 //! that ended, and standard error has it in a last line. It cites three others. [`parse_arguments`](arguments::parse_arguments)
 //! says what the arguments ask for; [`serve`], that reader, runner, session and writer, each in a thread, did together what
 //! `specs/Serving` defines; and [`check`], that the listing of a file's text was written, which `specs/Listing` defines. The
-//! hard lemmas are in `proofs/Gathered`: what the ends of the queues tell, when all threads were joined, makes one whole.
+//! hard lemmas are in `proofs/Gathered`: what the ends of the queues say, when all threads were joined, makes one whole.
 #![tactic(auto)]
 
 pub mod arguments;

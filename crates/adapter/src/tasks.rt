@@ -21,7 +21,7 @@ pub trait Task: Drop {
         ensures { gives self result };
 }
 
-/// A task that can tell those who wait for it that it will not be done.
+/// A task that can let those know who wait for it that it will not be done.
 pub trait LastTask: Task {
     fn give_up(self)
         requires { Self.can_run self };

@@ -48,7 +48,7 @@ fn ends_where_a_read_fails(rt: HostRuntime) -> Result<(), Fail> {
     assert_reads_fail(&rt, rt.alloc(), &PROCEDURES)
 }
 
-/// The output takes so many bytes of a session, and fails at the next write.
+/// The output takes the first bytes of a session, and fails at the next write.
 fn assert_write_fails<R: Threads + Wait + Abort + Copy + Drop + Send + Sync>(
     rt: &R,
     alloc: Global,

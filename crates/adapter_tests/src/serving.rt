@@ -66,7 +66,7 @@ fn is_served<R: Threads + Wait + Abort + Copy + Drop + Send + Sync>(
     )
 }
 
-/// The streams of reads and writes of so many bytes each.
+/// The streams of reads and writes of `step` bytes each.
 fn by(step: usize) -> Streams<'static> {
     Streams {
         read_step: step,

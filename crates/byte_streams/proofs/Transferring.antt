@@ -34,7 +34,7 @@ partly_stops whole rest old later p = (p.front, p.written, (rest, sym p.whole_is
 pub partly_ends : (whole rest : List ℕ) (old later : Option (List ℕ)) → Partly whole rest old later → rest ≡ [] → Appends old later whole
 partly_ends whole rest old later p none = subst (Appends old later) (sym (p.whole_is ∙ (ap (λ l. p.front ++ l) none ∙ append-nil p.front))) p.written
 
--- one frame more behind those before
+-- one frame more after those before
 pub part_of_more : (old mid later : Option (List ℕ)) (before bytes behind : List ℕ) → Appends old mid before → AppendsPart mid later bytes → AppendsPart old later (before ++ (bytes ++ behind))
 part_of_more old mid later before bytes behind wrote part = (
   before ++ part.0,

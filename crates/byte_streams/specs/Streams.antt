@@ -1,8 +1,8 @@
--- What inputs and outputs tell of themselves, and what a write leaves.
+-- What inputs and outputs say of themselves, and what a write leaves.
 use Rattle.std.specs.Prelude.{◌++◌, ◌≡◌, ◌⊎◌, ◌<◌, ℕ, List, Option}
 use Rattle.std.specs.Io.KnownBytes.{Appends}
 
--- What an input tells: the bytes left to read, where they are known, and how often reading failed.
+-- What an input says: the bytes left to read, where they are known, and how often reading failed.
 pub record Supply : Type 0 where
   pub left : Option (List ℕ)
   pub failures : ℕ
@@ -10,7 +10,7 @@ pub record Supply : Type 0 where
 abbrev pub supply : Option (List ℕ) → ℕ → Supply
 supply left failures = record { left = left; failures = failures }
 
--- What an output tells: the bytes written so far, where they are known, and how often writing failed.
+-- What an output says: the bytes written so far, where they are known, and how often writing failed.
 pub record Output : Type 0 where
   pub written : Option (List ℕ)
   pub failures : ℕ

@@ -29,7 +29,7 @@ abbrev pub TokensNear : List Token → Type 0
 TokensNear [] = Unit {0}
 TokensNear (t ∷ ts) = IsNear t.place × TokensNear ts
 
--- so many bytes more stay near
+-- this many bytes more stay near
 abbrev HasRoom : Place → ℕ → Type 0
 HasRoom p n = (p.line + n ≤ most) × (p.column + n ≤ most)
 

@@ -155,7 +155,7 @@ abbrev pub output : Outgoing → Option ℤ
 output (Event (event.Output v)) = Some v
 output _ = None
 
--- the numbers that messages tell
+-- the numbers that messages report
 abbrev pub numbers : List Outgoing → List ℤ
 numbers messages = filter_map output messages
 

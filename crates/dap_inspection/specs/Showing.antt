@@ -12,7 +12,7 @@ use Rattle.dap_history.specs.Frames.{Counting, shown_frame, frame_name}
 abbrev pub counting_of : InitializeArguments → Counting
 counting_of settings = record { lines = offset settings.lines_start_at_1; columns = offset settings.columns_start_at_1 }
 
--- how many are asked for where so many are left: at most `levels`, all where that is 0
+-- how many of those that are left are asked for: at most `levels`, all where that is 0
 abbrev pub asked_of : ℕ → ℕ → ℕ
 asked_of zero left = left
 asked_of (suc n) left = min (suc n) left

@@ -17,7 +17,7 @@ pub read_gives : (old mid later : Option (List ℕ)) (n : ℕ) (room piece : Lis
 read_gives old mid later n room piece keeps got is =
     consumes_after old mid later piece keeps (subst (Consumes mid later) (sym is) got.0)
 
--- what was read, put behind nothing
+-- what was read, put after nothing
 pub read_alone : (n : ℕ) (room before piece : List ℕ) → piece ≡ before ++ take n room → before ≡ [] → piece ≡ take n room
 read_alone n room before piece is none = is ∙ ap (λ l. l ++ take n room) none
 

@@ -12,7 +12,7 @@ use Rattle.dbg_plan.specs.Advances.{further}
 use Rattle.dbg_plan.specs.Counting.{AreCounts, CountsOn, MayBePlanOf}
 use Rattle.dbg_plan.specs.Counts.{IsCounting, debugged_of, plan_of, next_at, next_of}
 
--- the next position to be considered tells whether this one was
+-- the next position to be considered says whether this one was
 pub was_considered : (position : ℕ) (considered : Bool) → next_at position considered ≡ position + 1 → considered ≡ true
 was_considered position true h = refl
 was_considered position false h = absurd (omega (arith, h))

@@ -44,7 +44,7 @@ none_below s n (b ∷ bs) lt rises =
     let low = rises.0 in
     ap (λ v. cond v (b ∷ those_of s bs) (those_of s bs)) (is_of_above s b (omega arith)) ∙ none_below s b.step bs (omega arith) rises.1
 
--- what a walk from step i on finds: those of the step, and behind them the later ones
+-- what a walk from step i on finds: those of the step, and after them the later ones
 pub record Splits (i : ℕ) (bs : List Breakpoint) : Type 0 where
   pub here : take (prefix_len (is_of i) bs) bs ≡ those_of i bs
   pub rises : Rises (i + 1) (drop (prefix_len (is_of i) bs) bs)

@@ -1,4 +1,4 @@
--- Which step the program stands at, told by its place.
+-- Which step the program stands at, by its place.
 use Rattle.std.proofs.Common.{◌≡◌, ◌≢◌, ℕ, ◌<◌, ◌≤◌, true, false, nat_eq, List, [], ◌∷◌, length, get_or, map, Option, Some, None, ap, sym, ◌∙◌, refl, arith, inl, inr, ◌⊎◌}
 use Rattle.std.specs.Prelude.{slice_get, option_map, nat_le, ◌&&◌}
 use Rattle.std.proofs.Math.Logic.{∥∥₁_elim}

@@ -23,7 +23,7 @@ use Rattle.pl0_unit.specs.declared.unit.Unit.{Unit as Compiled}
 use Rattle.pl0_machine.specs.Machine.{program_of}
 use Rattle.dbg_plan.specs.Resolutions.{step_from}
 
--- the table tells of each step what the program has there
+-- the table says of each step what the program has there
 pub record Tells (main : Block) (ts : List StepAt) (i : ℕ) (s : Step) : Type 0 where
   pub told : StepAt
   pub there : slice_get ts i ≡ Some told

@@ -18,7 +18,7 @@ unit_steps u = ∥∥₁_elim u.compiled (steps_prop (program_of u) u.steps.item
 pub unit_nestings : (u : Compiled) → AreNestings (program_of u) u.nestings.items (blocks (program_of u))
 unit_nestings u = ∥∥₁_elim u.nested (nestings_prop (program_of u) u.nestings.items (blocks (program_of u))) (λ h. h)
 
--- the table tells the block of a step by its number
+-- the table gives the block of a step by its number
 block_of : (u : Compiled) (n : ℕ) (d : Step) → n < length (steps (program_of u)) → slice_get (blocks (program_of u)) (get_or u.steps.items n d).block ≡ Some (step_path (program_of u) n)
 block_of u n d lt =
     let t = tells (program_of u) u.steps.items (steps (program_of u)) (unit_steps u) n d (subst (λ k. n < k) (sym (unit_length u)) lt) in

@@ -112,7 +112,7 @@ unless_faulty : (r : Result Bool EvalFault) → result_unwrap_or r true ≡ true
 unless_faulty (Ok b) = refl
 unless_faulty (Err fault) = refl
 
--- what is told of the condition is whether it holds
+-- what is reported of the condition is whether it holds
 pub holds_told : (m : Standing) (b : Breakpoint) (guard : BoundCondition) (top : ℕ) (r : Result Bool EvalFault) (result : Bool) → configuration m ≡ Some (frames m) → b.condition ≡ Some guard → IsTested (program m) (frames m) top guard → bound_truth (frames m) top guard.located ≡ answered r → result ≡ result_unwrap_or r true → result ≡ holds_now m b
 holds_told m b guard top r result there is t value e =
     e ∙ unless_faulty r

@@ -28,7 +28,7 @@ link_of c level k i (Some j) e some = record {
     within (suc i) None at e = cc
     within (suc i) (Some f) at e = frame_within c (suc i) f at
 
--- one turn of a walk along so many links
+-- one turn of a walk along this many links
 pub turn : (c : Configuration) (level counter k i start : ℕ) → counter < level → IsSome (number_up c level k start) → number_up c (level - counter) k i ≡ number_up c level k start → HasLink c (level - (counter + 1)) k i
 turn c level counter k i start lt some walked =
     let left : level - counter ≡ suc (level - (counter + 1)) = omega arith in

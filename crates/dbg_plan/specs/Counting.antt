@@ -46,7 +46,7 @@ pub record IsMetHere (m : Standing) (b : Breakpoint) : Type 0 where
 abbrev pub increased_at : List ℕ → Breakpoint → ℕ
 increased_at counts b = increased b.rule (slice_index counts b.number)
 
--- the counts after a breakpoint, of which f tells whether it arrives
+-- the counts after a breakpoint, of which f says whether it arrives
 abbrev pub counted_at : (Breakpoint → Bool) → Breakpoint → List ℕ → List ℕ
 counted_at f b counts = if f b then slice_set counts b.number (increased_at counts b) else counts
 

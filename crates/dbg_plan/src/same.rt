@@ -17,7 +17,7 @@ fn same_rule(left: Option<Rule>, right: Option<Rule>) -> bool
     }
 }
 
-// A text reads as one condition, so that the texts tell.
+// A text reads as one condition, so that the texts decide.
 fn same_condition(left: &Option<BoundCondition>, right: &Option<BoundCondition>) -> bool
     ensures { Decides result (option_map text_condition left.now ≡ option_map text_condition right.now) }
 {

@@ -33,13 +33,13 @@ told (Goes written c) = taken.Went written
 told (Faults fault) = taken.Fault fault
 told Over = taken.Over
 
--- the frames behind a step
+-- the frames after a step
 abbrev pub next_or : Configuration → Outcome → Configuration
 next_or old (Goes written c) = c
 next_or old (Faults fault) = old
 next_or old Over = old
 
--- the step was taken; for want of memory, all is as before
+-- the step was taken; where memory runs out, all is as before
 abbrev pub Did : Outcome → Configuration → Result Told AllocError → Configuration → Type 0
 Did outcome old (Err error) new = new ≡ old
 Did outcome old (Ok result) new = (result ≡ told outcome) × (new ≡ next_or old outcome)

@@ -29,7 +29,8 @@ frames p = frames_of (configuration p)
 abbrev pub outcome_of : Standing → Outcome
 outcome_of p = outcome (plain_block p.program) p.position
 
--- The program did a step as the meaning does it. Where the step faults or is none, and for want of memory, all is as before.
+-- The program did a step as the meaning does it. Where the step faults or is none, and where memory runs out, all is as
+-- before.
 abbrev pub Stepped : Outcome → Standing → Result Told AllocError → Standing → Type 0
 Stepped outcome old (Err error) new = new ≡ old
 Stepped (Goes written c) old (Ok result) new = (result ≡ told.Went written) × (new ≡ record old { position = old.position + 1 })

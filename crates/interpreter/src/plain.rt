@@ -48,7 +48,7 @@ impl<'a> Plain<'a> {
     ghost use Rattle.pl0_tree.specs.Plain.{plain_block, plain_expression, plain_condition};
     ghost use Rattle.interpreter.specs.Standing.{configuration, frames, outcome_of, Stepped, seen};
 
-    /// A program at position 0. It fails for want of memory alone.
+    /// A program at position 0. It fails only where memory runs out.
     pub fn new(alloc: Global, main: &'a Block) -> Result<Plain<'a>, AllocError>
         ensures { IfOk result (λ plain. plain ≡ record { program = main.now; position = 0 }) }
     {
@@ -80,7 +80,7 @@ impl<'a> Plain<'a> {
         self.frames.len()
     }
 
-    /// Takes the next step. Where it faults, is none or fails, all is as before; it fails for want of memory alone.
+    /// Takes the next step. Where it faults, is none or fails, all is as before; it fails only where memory runs out.
     pub fn step(&mut self) -> Result<Outcome, AllocError>
         ensures { Stepped (outcome_of self.old) self.old result self.new }
     {

@@ -160,7 +160,7 @@ fn decide<'a>(
     }
 }
 
-// The test of a loop, which stays behind its body.
+// The test of a loop, which stays after its body.
 fn repeat<'a>(
     alloc: Global,
     main: &Block,

@@ -1,7 +1,7 @@
 //! Texts with a part that is repeated.
 use std::alloc::{AllocError, Global};
 
-/// `first`, then `middle` so many times, then `last`.
+/// `first`, then `middle` as often as `times` says, then `last`.
 pub fn repeated(
     alloc: Global,
     first: &str,

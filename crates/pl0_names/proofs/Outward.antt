@@ -56,7 +56,7 @@ path_short main n q e = let lt = below_at (length {A = ℕ} [] + length (blocks 
 
 -- ---- the walk
 
--- the block of a number is so many levels out from the block q, and no block before it declares the word
+-- the block of a number is this many levels out from the block q, and no block before it declares the word
 pub record Walked (main : Block) (w : List ℕ) (q : Path) (n levels : ℕ) : Type 0 where
   pub path : Path
   pub at : slice_get (blocks main) n ≡ Some path

@@ -5,12 +5,12 @@ use Rattle.std.specs.HashMap.{HashMap, get_by}
 use denote.Ref.{Bor}
 use Rattle.pl0_names.specs.declared.log.Entry.{Entry}
 
--- the declarations of the block that so many are around
+-- the declarations of the block with this many around it
 abbrev pub at_level : {T : Type 0} → ℕ → List (Entry T) → List (List ℕ × T)
 at_level n [] = []
 at_level n (e ∷ es) = if nat_eq e.level n then (e.word.now, e.meaning) ∷ at_level n es else at_level n es
 
--- those of so many open blocks, the innermost first
+-- those of this many open blocks, the innermost first
 abbrev pub blocks : {T : Type 0} → ℕ → List (Entry T) → List (List (List ℕ × T))
 blocks zero es = []
 blocks (suc n) es = at_level n es ∷ blocks n es
@@ -25,7 +25,7 @@ abbrev pub IsLinked : {T : Type 0} → List (Entry T) → Type 0
 IsLinked [] = Unit {0}
 IsLinked (e ∷ es) = (e.hidden ≡ latest es e.word.now) × IsLinked es
 
--- each declaration is of one of so many blocks, and none that is older is of a block further in
+-- each declaration is of one of this many blocks, and none that is older is of a block further in
 abbrev pub IsNested : {T : Type 0} → ℕ → List (Entry T) → Type 0
 IsNested n [] = Unit {0}
 IsNested n (e ∷ es) = (e.level < n) × IsNested (e.level + 1) es
@@ -44,7 +44,7 @@ pub record IsIndexed {S T : Type 0} (m : HashMap (Bor (List ℕ)) ℕ S) (es : L
   pub latest_of : (w : List ℕ) → index_of m w ≡ latest es w
   pub linked : IsLinked es
 
--- a table of so many open blocks
+-- a table of this many open blocks
 pub record IsTable {S T : Type 0} (n : ℕ) (m : HashMap (Bor (List ℕ)) ℕ S) (es : List (Entry T)) : Type 0 where
   pub indexed : IsIndexed m es
   pub nested : IsNested n es

@@ -8,7 +8,7 @@ ghost use Rattle.pl0_names.specs.Logs.{blocks, latest, ends_at, index_of, IsNest
 use std::alloc::AllocError;
 use std::collections::HashMap;
 
-/// A declaration of a block that so many blocks are around, and the index of the one that it hides.
+/// A declaration of a block with this many blocks around it, and the index of the one that it hides.
 #[derive(Clone, Copy)]
 pub(crate) struct Entry<'a, T: Copy> {
     pub(crate) word: &'a str,

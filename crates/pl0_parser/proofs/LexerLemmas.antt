@@ -1,4 +1,4 @@
--- A token's bytes are skipped, and the lexer goes on behind them.
+-- A token's bytes are skipped, and the lexer goes on after them.
 use Rattle.std.proofs.Common.{◌≡◌, ℕ, zero, suc, ◌+◌, ◌<◌, ◌≤◌, Bool, true, false, List, [], ◌∷◌, length, drop, take, get_or, cond, ◌||◌, eqb, refl, ap, sym, ◌∙◌, subst, arith, add-zero, pred}
 use Rattle.std.specs.Prelude.{take_while, nat_le, nat_lt, nat_eq, fold, find, ◌*◌, ◌-◌, ◌^◌, ◌==◌, ◌&&◌, not, Option, Some}
 use Rattle.std.specs.List.{prefix_len, starts_with}

@@ -6,7 +6,7 @@ use Rattle.pl0_tree.specs.Tokens.{Token, behind, is_space, front_piece, tokens_f
 use Rattle.pl0_tree.specs.Scope.{IsBefore}
 use Rattle.pl0_tree.specs.Ascending.{Ascend}
 
--- behind a place, each token stands behind the one before
+-- after a place, each token stands after the one before
 abbrev pub AscendBehind : Place → List Token → Type 0
 AscendBehind p [] = Unit {0}
 AscendBehind p (t ∷ ts) = IsBefore p t.place × AscendBehind t.place ts

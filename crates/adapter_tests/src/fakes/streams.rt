@@ -155,7 +155,7 @@ impl<'a, R: Abort> Output<'a, R> {
         }
     }
 
-    /// How many bytes a write of so many takes.
+    /// How many bytes a write takes of those that it is given.
     fn count(&self, length: usize) -> usize {
         if !self.progress.reaches(self.streams.write_hold) {
             return 0;

@@ -21,7 +21,7 @@ reads a words m file is has passes found = (
       ∙ (ap (first_of (codes "check")) (sym (has (ap is_simple is)).0) ∙ (sym (first_value-rows (found_of m) (codes "check")) ∙ sym found)),
 )
 
--- an error of the command line, but for want of memory, is the one refusal of the words
+-- an error of the command line, but where memory runs out, is the one refusal of the arguments
 refused : (a : App) (words : List Text) (e : Error) → a ≡ command_line → (is_simple_and_free a ≡ true → HasKind (fault_of a words) e)
     → kind_of e ≢ OutOfMemory → refusals words ≡ kind_of e ∷ []
 refused a words e is fails other = only (kind_of e) (refusals words) (of_leaf command_line words refl refl)
