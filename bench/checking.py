@@ -71,7 +71,7 @@ def nested(size: int, levels: int = LEVELS) -> str:
 
 
 def chains(size: int, depth: int = LEVELS - 1) -> str:
-    """Chains of nested blocks, one behind the other."""
+    """Chains of nested blocks, one after the other."""
     chain = "procedure p{};" + "procedure p;" * (depth - 1) + ";" * depth + "\n"
     return fill(size, "", lambda n: chain.format(n), ".\n")
 

@@ -18,10 +18,10 @@ HERE = os.path.dirname(os.path.abspath(__file__))
 RUNS = 4
 
 
-def rate(words: list[str]) -> tuple[int, float]:
+def rate(command: list[str]) -> tuple[int, float]:
     """How many steps the command says that it took, and how many a second that is, the command's start included."""
     begin = time.monotonic()
-    said = subprocess.run(words, capture_output=True, text=True, check=True).stdout
+    said = subprocess.run(command, capture_output=True, text=True, check=True).stdout
     seconds = time.monotonic() - begin
     steps = int(re.search(r"after (\d+) steps", said).group(1))
     return steps, steps / seconds
@@ -32,8 +32,8 @@ def row(name: str, machine: list[str], yardstick: list[str]) -> None:
     best = [0.0, 0.0]
     for _ in range(RUNS):
         taken = []
-        for index, words in enumerate((machine, yardstick)):
-            steps, speed = rate(words)
+        for index, command in enumerate((machine, yardstick)):
+            steps, speed = rate(command)
             taken.append(steps)
             best[index] = max(best[index], speed)
         if taken[0] != taken[1]:

@@ -39,7 +39,7 @@ LIMIT = 64 * KIB
 TURNS = 10_000_000
 STEPS = 2 * TURNS + 2
 FALSE = "x < 0"
-# The requests that are sent at once, and how often so many of them.
+# The requests that are sent at once, and how often that many of them.
 PIPELINED = (25_000, 100_000)
 PIPELINED_TURNS = 5
 # How long a program runs before it is paused.
@@ -51,9 +51,9 @@ PIECE = 1 << 20
 class Client:
     """A process that frames are sent to."""
 
-    def __init__(self, words: list[str], folder: str) -> None:
+    def __init__(self, command: list[str], folder: str) -> None:
         pipe, null = subprocess.PIPE, subprocess.DEVNULL
-        self.process = subprocess.Popen(words, stdin=pipe, stdout=pipe, stderr=null, bufsize=0, cwd=folder)
+        self.process = subprocess.Popen(command, stdin=pipe, stdout=pipe, stderr=null, bufsize=0, cwd=folder)
         self.seq = 0
         self.came = bytearray()
 
@@ -94,7 +94,7 @@ class Client:
         return answer
 
     def seconds(self, command: str, arguments: dict, messages: int = 1) -> float:
-        """The time of a round trip, up to the last of so many messages."""
+        """The time of a round trip, up to the last of that many messages."""
         frame = self.framed(command, arguments)
         begin = time.perf_counter()
         self.send(frame)
@@ -135,10 +135,10 @@ class Stop:
     text: str
     line: int | None = None
 
-    def reach(self, words: list[str], folder: str) -> Client:
+    def reach(self, command: list[str], folder: str) -> Client:
         with open(os.path.join(folder, self.path), "w", encoding="ascii") as file:
             file.write(self.text)
-        client = Client(words, folder)
+        client = Client(command, folder)
         client.launch(self.path, self.line is None)
         if self.line is not None:
             client.ask("setBreakpoints", {"source": {"path": self.path}, "breakpoints": [{"line": self.line}]})
@@ -173,7 +173,7 @@ def wide() -> Stop:
 
 
 def filled(front: str, piece, back: str, size: int) -> str:
-    """The front, pieces numbered from 0 and the back, in so many bytes; the rest of these are spaces."""
+    """The front, pieces numbered from 0 and the back, in that many bytes; the rest of these are spaces."""
     text = front
     number = 0
     while len(text) + len(piece(number)) + len(back) <= size:
@@ -262,10 +262,10 @@ def questions() -> list[Question]:
     ]
 
 
-def started(words: list[str], folder: str) -> float:
+def started(command: list[str], folder: str) -> float:
     """The time from a start to the answer of `initialize`."""
     begin = time.perf_counter()
-    client = Client(words, folder)
+    client = Client(command, folder)
     client.send(client.framed("initialize", {}))
     client.receive()
     taken = time.perf_counter() - begin
@@ -281,14 +281,14 @@ def show(name: str, times: list[float], more: str = "") -> None:
 def show_starts(program: str, answer: str, folder: str) -> None:
     times = {program: [], answer: []}
     for _ in range(STARTS):
-        for words, taken in times.items():
-            taken.append(started([words], folder))
+        for path, taken in times.items():
+            taken.append(started([path], folder))
     show("start to the answer of `initialize`", times[program])
     show("the same of `answer.c`", times[answer])
 
 
 def instructions(program: str, question: Question, count: int, folder: str) -> int:
-    """The instructions of a session with so many of a question."""
+    """The instructions of a session that asks a question that many times."""
     log = os.path.join(folder, "log")
     tool = ["valgrind", "--tool=callgrind", "--callgrind-out-file=/dev/null", f"--log-file={log}", program]
     client = question.stop.reach(tool, folder)
@@ -350,9 +350,9 @@ def show_journeys(program: str, answer: str, folder: str) -> None:
         show("  by `answer.c`", [one for _, one in times])
 
 
-def pipelined_seconds(words: list[str], count: int, folder: str) -> float:
-    """The time of so many requests that are written without waiting, up to the end of the output."""
-    client = Client(words, folder)
+def pipelined_seconds(command: list[str], count: int, folder: str) -> float:
+    """The time of that many requests that are written without waiting, up to the end of the output."""
+    client = Client(command, folder)
     client.send(client.framed("initialize", {}))
     client.receive()
     whole = b"".join(client.framed("threads", {}) for _ in range(count)) + client.framed("disconnect", {})
@@ -372,7 +372,7 @@ def pipelined_seconds(words: list[str], count: int, folder: str) -> float:
     client.process.wait()
     # A header may be cut between two pieces, which is seldom.
     if frames < count * 0.9:
-        sys.exit(f"{words}: {frames} frames for {count} requests")
+        sys.exit(f"{command}: {frames} frames for {count} requests")
     return taken
 
 
@@ -412,7 +412,7 @@ def loop() -> str:
 
 @dataclasses.dataclass
 class Loop:
-    """A run of the loop under breakpoints, each a line and a condition, in a text of at least so many bytes."""
+    """A run of the loop under breakpoints, each a line and a condition, in a text of at least that many bytes."""
 
     breakpoints: list[tuple[int, str]]
     size: int = 0
@@ -432,13 +432,13 @@ class Loop:
         return taken
 
 
-def command_seconds(words: list[str], folder: str) -> float:
+def command_seconds(command: list[str], folder: str) -> float:
     """The time of a command that says how many steps it took."""
     begin = time.perf_counter()
-    said = subprocess.run(words, capture_output=True, text=True, check=True, cwd=folder).stdout
+    said = subprocess.run(command, capture_output=True, text=True, check=True, cwd=folder).stdout
     taken = time.perf_counter() - begin
     if f"after {STEPS} steps" not in said:
-        sys.exit(f"{words}: {said}")
+        sys.exit(f"{command}: {said}")
     return taken
 
 
@@ -480,8 +480,8 @@ def loops() -> dict[str, Loop]:
 def show_runs(program: str, speed: str | None, folder: str) -> None:
     runs = {f"a session, {name}": functools.partial(run.seconds, program, folder) for name, run in loops().items()}
     runs |= {
-        name: functools.partial(command_seconds, words, folder)
-        for name, words in commands(program, speed, folder).items()
+        name: functools.partial(command_seconds, command, folder)
+        for name, command in commands(program, speed, folder).items()
     }
     times = {name: [] for name in runs}
     for _ in range(RUNS):

@@ -33,10 +33,10 @@ def used() -> float:
     return usage.ru_utime + usage.ru_stime
 
 
-def rate(words: list[str]) -> float:
+def rate(command: list[str]) -> float:
     """Steps a second of the processor's time, the command's start included."""
     begin = used()
-    said = subprocess.run(words, capture_output=True, text=True, check=True).stdout
+    said = subprocess.run(command, capture_output=True, text=True, check=True).stdout
     return int(re.search(r"after (\d+) steps", said).group(1)) / (used() - begin)
 
 
@@ -56,8 +56,8 @@ def main() -> int:
         }
         best = dict.fromkeys(commands, 0.0)
         for _ in range(RUNS):
-            for name, words in commands.items():
-                best[name] = max(best[name], rate(words))
+            for name, command in commands.items():
+                best[name] = max(best[name], rate(command))
         machine, free = best["machine alone"], best["slices, no breakpoints"]
         print(f"{'run':32} {'million steps/s':>16} {'of the machine':>15} {'of no breakpoints':>18}")
         for name, found in best.items():

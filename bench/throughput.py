@@ -21,7 +21,7 @@ def frame(content: bytes) -> bytes:
 
 
 def requests(count: int) -> bytes:
-    """`initialize`, so many pipelined `threads`, and `disconnect`."""
+    """`initialize`, that many pipelined `threads`, and `disconnect`."""
     first = frame(b'{"seq":1,"type":"request","command":"initialize"}')
     last = frame(b'{"seq":2,"type":"request","command":"disconnect"}')
     return first + b"".join(
@@ -30,7 +30,7 @@ def requests(count: int) -> bytes:
 
 
 def large(count: int) -> bytes:
-    """So many contents of 1,048,576 bytes each: a request behind spaces."""
+    """That many contents of 1,048,576 bytes each: a request after spaces."""
     content = b'{"seq":1,"type":"request","command":"initialize"}'.rjust(1 << 20)
     return frame(content) * count
 

@@ -27,8 +27,8 @@ def show(name: str, rows: list[list[float]]) -> None:
     print(f"{name:66} {len(rows):5} {'  '.join(cell(list(times)) for times in zip(*rows))}", flush=True)
 
 
-def show_starts(words: list[str], folder: str) -> None:
-    rows = [[session.started([word], folder) for word in words] for _ in range(session.STARTS)]
+def show_starts(paths: list[str], folder: str) -> None:
+    rows = [[session.started([path], folder) for path in paths] for _ in range(session.STARTS)]
     show("start to the answer of `initialize`", rows)
 
 

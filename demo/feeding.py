@@ -14,7 +14,7 @@ import threading
 
 import rows
 
-# A session that has not ended after so many seconds is killed, which shows in its status.
+# A session that has not ended after this many seconds is killed, which shows in its status.
 MOST_SECONDS = 20
 HEADER = re.compile(rb"Content-Length: ([0-9]+)\r\n\r\n")
 # The session's own thread, the reader, the runner and the writer.
@@ -24,16 +24,16 @@ MOMENT = 0.004
 LOOKS = 3
 
 
-class Told:
-    """A pipe on which something is told once."""
+class Notice:
+    """A pipe on which one thing is reported once."""
 
     def __init__(self) -> None:
-        self.fd, self.teller = os.pipe()
+        self.fd, self.write_end = os.pipe()
         os.set_blocking(self.fd, False)
         self.text = b""
 
     def look(self) -> bytes:
-        """What was told so far."""
+        """What was reported so far."""
         try:
             self.text += os.read(self.fd, 64)
         except BlockingIOError:
@@ -42,7 +42,7 @@ class Told:
 
     def close(self) -> None:
         os.close(self.fd)
-        os.close(self.teller)
+        os.close(self.write_end)
 
 
 @dataclasses.dataclass
@@ -116,9 +116,9 @@ def is_refusal(frame: bytes) -> bool:
 class Talk:
     """A process that is fed, and what it wrote."""
 
-    def __init__(self, process: subprocess.Popen, told: Told | None, patience: int):
+    def __init__(self, process: subprocess.Popen, notice: Notice | None, patience: int):
         self.process = process
-        self.told = told
+        self.notice = notice
         self.looks = LOOKS * patience
         self.written = b""
         self.given = 0
@@ -132,7 +132,7 @@ class Talk:
 
     def has_given_up(self) -> bool:
         """Whether a call was refused, and a thread has ended."""
-        if not self.told or not self.told.look():
+        if not self.notice or not self.notice.look():
             return False
         try:
             return len(os.listdir(f"/proc/{self.process.pid}/task")) < THREADS
@@ -178,14 +178,14 @@ def is_whole(frame: bytes) -> bool:
 
 
 def feed(
-    words: list[str], exchanges: list[Exchange], told: Told | None = None, patience: int = 1, **settings
+    command: list[str], exchanges: list[Exchange], notice: Notice | None = None, patience: int = 1, **settings
 ) -> tuple[list[bytes], int, bytes]:
     """The frames that a command writes where it is asked so, its status, and what it says on standard error."""
     pipe = subprocess.PIPE
-    with subprocess.Popen(words, stdin=pipe, stdout=pipe, stderr=pipe, bufsize=0, cwd=rows.TOP, **settings) as process:
+    with subprocess.Popen(command, stdin=pipe, stdout=pipe, stderr=pipe, bufsize=0, cwd=rows.TOP, **settings) as process:
         end = threading.Timer(MOST_SECONDS, process.kill)
         end.start()
-        talk = Talk(process, told, patience)
+        talk = Talk(process, notice, patience)
         talk.converse(exchanges)
         process.stdin.close()
         while talk.take():

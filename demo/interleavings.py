@@ -29,7 +29,7 @@ class Write:
 
 
 def items_of(writes: list[Write], after: int) -> list[Item]:
-    """What the input gives that was written so, and ended after so many messages."""
+    """What the input gives that was written so, and ended after that many messages."""
     frames, items = Frames(), []
     try:
         for write in writes:

@@ -479,9 +479,9 @@ class Session:
             self.waiting_plan, self.is_held = plan, True
         else:
             self.plan, self.plan_number = plan, self.asked_plans
-        return {"breakpoints": [self.told(one) for one in found]}
+        return {"breakpoints": [self.answered(one) for one in found]}
 
-    def told(self, one: Breakpoint | str) -> dict:
+    def answered(self, one: Breakpoint | str) -> dict:
         if isinstance(one, str):
             return {"message": one, "verified": False}
         return {"line": self.outer_line(one.step), "verified": True}

@@ -51,11 +51,11 @@ SESSION_ENDS = {
 LISTING_ENDS = {"allocation": ALLOCATION_ENDS, "read": [(1, "pl0dap: cannot read")], "write": WRITE_ENDS}
 # What a session with a program that can't be read is called.
 UNREAD = "launch refused"
-# In a loop without end a call is asked for again and again. After so many, a few more are refused up to the most.
+# In a loop without end a call is asked for again and again. After EACH, a few more are refused up to MOST.
 EACH, MOST = 500, 20_000
-# After so many runs that ended as they may not, no more are tried.
+# After this many runs that ended as they may not, no more are tried.
 MOST_WRONG = 5
-# Where so many runs in a row ask for no call of that number, there is none.
+# Where this many runs in a row ask for no call of that number, there is none.
 UNASKED = 3
 # How much longer than at first it is waited where a session seemed to have given up.
 PATIENCE = 50
@@ -89,7 +89,7 @@ SLICES_ENDS = WORK_ENDS + [wants_memory("no lines", "memory allocation failed")]
 class Run:
     """A command, the pieces that it writes where nothing is refused, and how it may end where something of a kind is."""
 
-    words: list[str]
+    command: list[str]
     pieces: list[bytes]
     ends: dict[str, list[tuple[int, str]]]
     source: str = os.devnull
@@ -198,14 +198,14 @@ def lines_said(errors: bytes) -> str:
     return " ".join(line.strip() for line in errors.decode().splitlines() if line and not line.startswith("["))
 
 
-def perform(run: Run, told: feeding.Told, patience: int, **settings) -> Outcome:
+def perform(run: Run, notice: feeding.Notice, patience: int, **settings) -> Outcome:
     if run.exchanges:
-        frames, status, errors = feeding.feed(run.words, run.exchanges, told, patience, **settings)
+        frames, status, errors = feeding.feed(run.command, run.exchanges, notice, patience, **settings)
         return Outcome(b"".join(frames), status, lines_said(errors))
     with open(run.source, "rb") as file:
         try:
             limit = feeding.MOST_SECONDS
-            done = subprocess.run(run.words, stdin=file, capture_output=True, cwd=rows.TOP, timeout=limit, **settings)
+            done = subprocess.run(run.command, stdin=file, capture_output=True, cwd=rows.TOP, timeout=limit, **settings)
         except subprocess.TimeoutExpired:
             return Outcome(b"", -signal.SIGKILL, "it hangs")
     return Outcome(done.stdout, done.returncode, lines_said(done.stderr))
@@ -213,12 +213,12 @@ def perform(run: Run, told: feeding.Told, patience: int, **settings) -> Outcome:
 
 def play(run: Run, environment: dict[str, str] | None = None, patience: int = 1) -> Outcome:
     """Runs it, and reads whether a call was refused."""
-    told = feeding.Told()
-    extra = {**environment, "TOLD": str(told.teller)} if environment else {}
-    outcome = perform(run, told, patience, pass_fds=[told.teller], env={**os.environ, **extra})
-    text = told.look()
+    notice = feeding.Notice()
+    extra = {**environment, "NOTICE": str(notice.write_end)} if environment else {}
+    outcome = perform(run, notice, patience, pass_fds=[notice.write_end], env={**os.environ, **extra})
+    text = notice.look()
     outcome.refused, outcome.early = text != b"", text == b"0"
-    told.close()
+    notice.close()
     return outcome
 
 

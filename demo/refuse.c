@@ -1,7 +1,7 @@
 // Stands between a program and the C library (LD_PRELOAD) and refuses one call, once. REFUSES names the kind: allocation
 // (malloc and realloc find no memory), thread (none is started), read or write (an input or output error). REFUSED is the
-// call's number from 1, counted over all threads, and TOLD the descriptor on which a byte is written when it is refused: `!`,
-// or before any thread was asked for `0`.
+// call's number from 1, counted over all threads, and NOTICE the descriptor on which a byte is written when it is refused:
+// `!`, or before any thread was asked for `0`.
 #define _GNU_SOURCE
 #include <dlfcn.h>
 #include <errno.h>
@@ -20,7 +20,7 @@ static atomic_long calls, threads;
 static int is_refused(const char *kind) {
     const char *refuses = getenv("REFUSES");
     if (!refuses || strcmp(refuses, kind) != 0 || ++calls != atol(getenv("REFUSED"))) return 0;
-    syscall(SYS_write, atoi(getenv("TOLD")), threads ? "!" : "0", 1);
+    syscall(SYS_write, atoi(getenv("NOTICE")), threads ? "!" : "0", 1);
     return 1;
 }
 

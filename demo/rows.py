@@ -182,7 +182,7 @@ STOPS = re.compile(rb'"event":"(?:stopped|terminated)"')
 
 
 def wait_for_stops(output, count: int) -> None:
-    """Waits until so many stops or ends were written."""
+    """Waits until that many stops or ends were written."""
     until = time.monotonic() + MOST_SECONDS
     while time.monotonic() < until:
         if len(STOPS.findall(os.pread(output.fileno(), 1 << 20, 0))) >= count:

@@ -154,10 +154,10 @@ def unlawful(following: Following, last: Session | None, end: tuple[bytes, int, 
     numbers = written(following.program, len(messages)) if following.program else []
     broken = breach(following.items, messages, numbers)
     if broken or last is None:
-        told = "\n  ".join(f"{number}: {message!r}" for number, message in enumerate(messages, 1))
+        shown = "\n  ".join(f"{number}: {message!r}" for number, message in enumerate(messages, 1))
         expected = " or ".join(map(repr, following.expected))
         why = broken or f"message {following.farthest + 1} may be {expected}"
-        return f"since {why}; what came, with status {end[1:]}:\n  {told}"
+        return f"since {why}; what came, with status {end[1:]}:\n  {shown}"
     return end_difference(end, last)
 
 

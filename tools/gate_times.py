@@ -25,12 +25,12 @@ def processor_seconds() -> float:
     return used.ru_utime + used.ru_stime
 
 
-def measure(words: list[str], folder: pathlib.Path) -> float:
+def measure(command: list[str], folder: pathlib.Path) -> float:
     """The processor seconds that a command takes; ends the script where it fails."""
     before = processor_seconds()
-    run = subprocess.run(words, cwd=folder, stdout=subprocess.PIPE, stderr=subprocess.STDOUT)
+    run = subprocess.run(command, cwd=folder, stdout=subprocess.PIPE, stderr=subprocess.STDOUT)
     if run.returncode != 0:
-        raise SystemExit(f"{' '.join(words)} in {folder.name}:\n{run.stdout.decode(errors='replace')[-2000:]}")
+        raise SystemExit(f"{' '.join(command)} in {folder.name}:\n{run.stdout.decode(errors='replace')[-2000:]}")
     return processor_seconds() - before
 
 

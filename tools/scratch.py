@@ -39,9 +39,9 @@ def scratch_copy(name: str) -> Iterator[pathlib.Path]:
         yield top
 
 
-def crate_names(words: list[str]) -> list[str]:
-    """The crates that the words name; ends the script where one is none."""
-    unknown = [word for word in words if word not in crate_lines()]
+def crate_names(names: list[str]) -> list[str]:
+    """The crates of these names; ends the script where one names none."""
+    unknown = [name for name in names if name not in crate_lines()]
     if unknown:
         raise SystemExit(f"crates.txt has no crate {unknown[0]}")
-    return words
+    return names
