@@ -41,7 +41,7 @@ LINES = 20
 ALLOCATION_ENDS = [(0, ""), (3, "pl0dap: no memory"), (3, "pl0dap: refused 2")]
 WRITE_ENDS = [(1, "pl0dap: write failed")]
 NO_THREAD = (3, "pl0dap: refused 7")
-# A thread may also be refused for want of memory. The last read of a session, after its `disconnect`, changes nothing.
+# A thread may also be refused where memory runs out. The last read of a session, after its `disconnect`, changes nothing.
 SESSION_ENDS = {
     "allocation": [*ALLOCATION_ENDS, NO_THREAD],
     "thread": [NO_THREAD],

@@ -1,5 +1,5 @@
 #!/usr/bin/env python3
-"""Tries planted bugs: edits that the prover must refuse, and that the merge gate leaves out for want of time.
+"""Tries planted bugs: edits that the prover must refuse, and that the merge gate leaves out to save time.
 
 usage: plants.py [CRATE..]
 
