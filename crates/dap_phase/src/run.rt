@@ -128,10 +128,11 @@ impl Run {
     pub fn expects(&self, number: u64, report: &Report) -> bool
         ensures { Decides result (heading_of (plain_report report.now) ≡ heading_in number self.now) }
     {
-        report.run() == number
-            && report.start() == self.position
-            && report.mode() == self.mode
-            && report.counted_from() == self.counted_from
+        let summary = report.summary();
+        summary.run == number
+            && summary.start == self.position
+            && summary.mode == self.mode
+            && summary.counted_from == self.counted_from
             && self.unit.has_same_text(report.unit())
             && same_plan(&self.plan, report.plan())
     }

@@ -35,7 +35,7 @@ pub fn report(alloc: Global, target: Target, run: Run, report: Report) -> Result
         HasReported (plain_report report) past done) }
     ensures memory { OnOk result (report.outcome ≢ slice.NoMemory) }
 {
-    match report.outcome() {
+    match report.summary().outcome {
         SliceOutcome::More => go_on(alloc, target, run, &report),
         SliceOutcome::Due(reason) => stand(alloc, target, run, report, stop_reason(reason)),
         SliceOutcome::Held => come_back(alloc, target, run, report),
@@ -54,7 +54,7 @@ fn go_on(alloc: Global, target: Target, mut run: Run, report: &Report) -> Result
 {
     reading_laws();
     let events = events(alloc, report.numbers(), &[])?;
-    run.go_on_from(report.end());
+    run.go_on_from(report.summary().end);
     Ok(Effect {
         events,
         order: None,

@@ -100,7 +100,7 @@ fn lawful(event: Event) -> Event
 {
     match event {
         Event::Report(report) => {
-            report.outcome();
+            report.summary();
             Event::Report(report)
         }
         event => event,

@@ -40,13 +40,13 @@ carried_is r out.More d is = absurd cc
 carried_is r out.Done d is = absurd cc
 carried_is r _ d is = (cc, λ over. cc)
 
-outcome_is : (r : Inside) (cargo : Cargo) → (reported_by r cargo).outcome ≡ r.outcome
+outcome_is : (r : Inside) (cargo : Cargo) → (reported_by r cargo).outcome ≡ r.summary.outcome
 outcome_is r (Sliced room d) = refl
 outcome_is r (Unsliced d) = refl
 
 -- the debuggee in a report
 pub carried_considered : (r : Inside) (d : Debugged) → IsReport r → debuggee_in r.cargo ≡ Some d → IsConsidered d
 carried_considered r d report is =
-    let here = carried_is (reported_of r) r.outcome d (sym is ∙ report.carries) in
+    let here = carried_is (reported_of r) r.summary.outcome d (sym is ∙ report.carries) in
     subst (λ (d : Debugged). IsConsidered d) (sym here.0)
     (stopped_considered (reported_of r) report.lawful (λ over. here.1 (sym (outcome_is r r.cargo) ∙ over)))

@@ -7,6 +7,7 @@ use Rattle.dbg_plan.specs.declared.mode.Mode.{Mode}
 use Rattle.dbg_plan.specs.Debugged.{Debugged}
 use Rattle.dbg_runner.specs.declared.outcome.SliceOutcome.{SliceOutcome}
 use Rattle.dbg_runner.specs.declared.outcome.SliceOutcome.TheVariants as out
+use Rattle.dbg_runner.specs.declared.report.Summary.{Summary}
 use Rattle.dbg_runner.specs.Plain.{Heading, PlainReport}
 use Rattle.dbg_runner.specs.Lawful.{IsLawfulFor}
 
@@ -28,6 +29,10 @@ text_of u = u.tree.text.items
 abbrev pub plain_report : Reported → PlainReport
 plain_report r =
     record { run = r.run; text = text_of r.unit; plan = r.plan; counted_from = r.counted_from; mode = r.mode; start = r.start; end = r.end; numbers = r.numbers; outcome = r.outcome }
+
+-- what a report says in numbers
+abbrev pub summary_of : Reported → Summary
+summary_of r = record { run = r.run; counted_from = r.counted_from; mode = r.mode; start = r.start; end = r.end; outcome = r.outcome }
 
 -- the report is what the meaning of its program gives
 abbrev pub IsKept : Reported → Type 0

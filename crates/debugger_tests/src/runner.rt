@@ -34,7 +34,8 @@ fn assert_worked<R: Abort + Wait>(
 fn assert_reports(rt: &impl Abort, reports: &[Report], ends: &[(u64, SliceOutcome)]) {
     assert_eq!(rt; reports.len(), ends.len());
     for (report, end) in reports.iter().zip(ends) {
-        assert_eq!(rt; (report.end(), report.outcome()), *end);
+        let summary = report.summary();
+        assert_eq!(rt; (summary.end, summary.outcome), *end);
     }
 }
 

@@ -32,8 +32,9 @@ fn run_slice(
     let debuggee = debuggee.into_debuggee();
     let outputs = Outputs::new(alloc, &*debuggee).expect(rt, "memory");
     let (report, on) = slice(1, debuggee, mode, outputs);
+    let summary = report.summary();
     seen.ends
-        .push((report.end(), report.outcome()))
+        .push((summary.end, summary.outcome))
         .expect(rt, "memory");
     seen.numbers
         .extend_from_slice(report.numbers())
@@ -252,10 +253,12 @@ fn gives_the_debuggee_back_where_memory_ends(rt: HostRuntime) {
     let line = (3, "x > 3", "%2");
     let (debuggee, _) = begin(&rt, rt.alloc(), LOOP, [line].as_slice(), Mode::Continue);
     let mut report = next_report(rt.alloc(), 1, debuggee.into_debuggee(), Mode::Continue).0;
-    if report.outcome() == SliceOutcome::NoMemory {
-        assert_eq!(rt; report.end(), 0);
+    let summary = report.summary();
+    if summary.outcome == SliceOutcome::NoMemory {
+        assert_eq!(rt; summary.end, 0);
         let debuggee = report.into_debuggee().expect(&rt, "a debuggee");
         report = next_report(rt.alloc(), 1, debuggee, Mode::Continue).0;
     }
-    assert_eq!(rt; (report.end(), report.outcome()), (11, BREAKPOINT));
+    let summary = report.summary();
+    assert_eq!(rt; (summary.end, summary.outcome), (11, BREAKPOINT));
 }

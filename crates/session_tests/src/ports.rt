@@ -88,7 +88,7 @@ impl<'a, R: Abort> Events<'a, R> {
         let (report, running) = report_next(self.alloc, running);
         self.running.set(running);
         if let Some(end) = end.strip_prefix(' ') {
-            assert_eq!(self.rt; Ok(report.end()), end.parse::<u64>(), "{end}");
+            assert_eq!(self.rt; Ok(report.summary().end), end.parse::<u64>(), "{end}");
         }
         Event::Report(report)
     }

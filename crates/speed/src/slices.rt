@@ -4,7 +4,7 @@ ghost use Rattle.std.specs.Prelude.{◌≡◌, ◌≤◌, ◌<◌, length, IfOk}
 
 use anyhow::{Context, Result, anyhow};
 use dbg_plan::{Debuggee, Mode, SourceBreakpoint, resolve};
-use dbg_runner::{Considered, Report, next_report};
+use dbg_runner::{Considered, Report, Summary, next_report};
 use pl0_machine::Machine;
 use pl0_unit::Unit;
 use std::alloc::Global;
@@ -15,7 +15,7 @@ pub fn run(alloc: Global, unit: Unit, lines: &[String]) -> Result<String> {
     let asked = asked_for(alloc, lines).context("no lines")?;
     let debuggee = begun(alloc, unit, asked.as_slice())?;
     let last = slices(alloc, debuggee).context("no end")?;
-    let (outcome, steps) = (last.outcome(), last.end());
+    let Summary { outcome, end: steps, .. } = last.summary();
     format!(in alloc;
         "{outcome:?} after {steps} steps under {} breakpoints",
         asked.len()

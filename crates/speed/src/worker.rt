@@ -35,6 +35,6 @@ pub fn run<R: Wait>(rt: &R, alloc: Global, unit: Unit) -> Result<String> {
     let mut ports = Joined::new(queue, last, gate);
     work(rt, alloc, &mut ports);
     let (_, last, _) = ports.into_ports();
-    let last = last.report.context("no report")?;
-    format!(in alloc; "{:?} after {} steps", last.outcome(), last.end()).context("no line")
+    let last = last.report.context("no report")?.summary();
+    format!(in alloc; "{:?} after {} steps", last.outcome, last.end).context("no line")
 }

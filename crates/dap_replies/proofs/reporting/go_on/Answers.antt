@@ -19,6 +19,6 @@ returns c = λ past is.
       };
       phase_is =
           subst (λ run. IsPhase (phase.Running c.args.target run) (past ++ report_step r (reporting (outputs r)) ∷ []))
-          (sym (c.go_on_from.ensures ∙ ap (λ n. record c.args.run { position = n }) c.end.ensures))
+          (sym (c.go_on_from.ensures ∙ ap (λ n. record c.args.run { position = n }) (ap (λ s. s.end) c.summary.ensures.is)))
           (report_goes_on c.reading_laws.ensures c.args.target c.args.run r past is);
     }
