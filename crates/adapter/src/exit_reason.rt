@@ -92,7 +92,7 @@ pub fn end_of_check(outcome: &Result<(), CheckFault>) -> ExitReason
 }
 
 /// How the program ends where its arguments name no invocation.
-pub fn end_of_arguments(fault: ArgumentsFault) -> ExitReason
+pub(crate) fn end_of_arguments(fault: ArgumentsFault) -> ExitReason
     ensures { result ≡ reason_of_arguments fault }
 {
     match fault {

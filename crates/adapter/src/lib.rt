@@ -20,7 +20,7 @@ mod tasks;
 pub use byte_streams::{IoFault, Reading, Sink, Source, Writing};
 pub use checking::{CheckFault, check};
 pub use dap_wires::read_beginning;
-pub use exit_reason::{ExitReason, end_of_arguments, end_of_check, end_of_serve};
+pub use exit_reason::{ExitReason, end_of_check, end_of_serve};
 pub use files::FileLoader;
 pub use program::{execute, run};
 pub use serving::{ServeFault, Served, serve};

@@ -19,36 +19,67 @@ use pl0_syntax::parse;
 use pl0_unit::Unit;
 use std::alloc::Global;
 use std::io::Write;
-use std::{env, fs};
+use std::rt::Files;
+use std::sync::Wait;
+use std::{env, fs, io};
 
 const USAGE: &str = "usage: speed machine|slices|work|session FILE [FIRST COUNT [CONDITION]]";
 
 fn main(rt: HostRuntime) -> Result<()> {
-    let alloc = rt.alloc();
     let arguments = env::args(&rt)
         .context("no arguments")?
-        .collect::<Vec<String>>(alloc)
+        .collect::<Vec<String>>(rt.alloc())
         .context("no arguments")?;
-    let [_, mode, path, rest @ ..] = arguments.as_slice() else {
+    run(&rt, arguments.as_slice())
+}
+
+/// Does what the arguments ask for, of which the first is the program's name.
+fn run<R: Wait + Files + Print + AllocGlobal>(rt: &R, arguments: &[String]) -> Result<()> {
+    let [_, mode, path, rest @ ..] = arguments else {
         return Err(anyhow!("{USAGE}"));
     };
-    let text = fs::read(&rt, path.as_str()).context("no text")?;
-    if mode.as_str() == "session" {
-        let frames = session::run(&rt, alloc, text.as_slice())?;
-        rt.stdout()
-            .write_all(frames.as_slice())
-            .context("no output")?;
-        return Ok(());
+    let text = fs::read(rt, path.as_str()).context("no text")?;
+    match mode.as_str() {
+        "session" => print_session(rt, text.as_slice()),
+        mode => print_run(rt, mode, text.as_slice(), rest),
     }
-    let unit = compiled(alloc, text.as_slice())?;
-    let line = match mode.as_str() {
-        "machine" => machine::run(alloc, unit)?,
-        "slices" => slices::run(alloc, unit, rest)?,
-        "work" => worker::run(&rt, alloc, unit)?,
-        _ => return Err(anyhow!("{USAGE}")),
-    };
+}
+
+/// Prints the frames that a session puts.
+fn print_session<R: Wait + Files + Print + AllocGlobal>(rt: &R, sent: &[u8]) -> Result<()> {
+    let frames = session::run(rt, rt.alloc(), sent)?;
+    io::writer(rt)
+        .write_all(frames.as_slice())
+        .context("no output")
+}
+
+/// Prints how and where the run of a program ended.
+fn print_run<R: Wait + Print + AllocGlobal>(
+    rt: &R,
+    mode: &str,
+    text: &[u8],
+    rest: &[String],
+) -> Result<()> {
+    let line = line_of_run(rt, mode, text, rest)?;
     println!(rt; "{line}")?;
     Ok(())
+}
+
+/// How and where the run of a program ended.
+fn line_of_run<R: Wait + AllocGlobal>(
+    rt: &R,
+    mode: &str,
+    text: &[u8],
+    rest: &[String],
+) -> Result<String> {
+    let alloc = rt.alloc();
+    let unit = compiled(alloc, text)?;
+    match mode {
+        "machine" => machine::run(alloc, unit),
+        "slices" => slices::run(alloc, unit, rest),
+        "work" => worker::run(rt, alloc, unit),
+        _ => Err(anyhow!("{USAGE}")),
+    }
 }
 
 /// The code of a text.

@@ -4,7 +4,7 @@ ghost use Rattle.std.specs.Prelude.{◌≡◌, ◌≤◌, ◌<◌, length, IfOk}
 
 use anyhow::{Context, Result, anyhow};
 use dbg_plan::{Debuggee, Mode, SourceBreakpoint, resolve};
-use dbg_runner::{Considered, Report, Summary, next_report};
+use dbg_runner::{Considered, Summary, next_report};
 use pl0_machine::Machine;
 use pl0_unit::Unit;
 use std::alloc::Global;
@@ -13,14 +13,20 @@ use std::sync::Arc;
 /// Runs a program in slices under breakpoints, to a stop or to its end: how and where that is, and how many were asked for.
 pub fn run(alloc: Global, unit: Unit, lines: &[String]) -> Result<String> {
     let asked = asked_for(alloc, lines).context("no lines")?;
-    let debuggee = begun(alloc, unit, asked.as_slice())?;
-    let last = slices(alloc, debuggee).context("no end")?;
-    let Summary { outcome, end: steps, .. } = last.summary();
+    let Summary { outcome, end, .. } = run_under(alloc, unit, asked.as_slice())?;
     format!(in alloc;
-        "{outcome:?} after {steps} steps under {} breakpoints",
+        "{outcome:?} after {end} steps under {} breakpoints",
         asked.len()
     )
     .context("no line")
+}
+
+// Runs a program under breakpoints, to a stop or to its end: what its last report says.
+fn run_under(alloc: Global, unit: Unit, asked: &[SourceBreakpoint]) -> Result<Summary>
+    requires { length asked.now ≤ 256 }
+{
+    let debuggee = begun(alloc, unit, asked)?;
+    slices(alloc, debuggee).context("no end")
 }
 
 // The lines asked for: 256 at most, each with the same condition.
@@ -64,12 +70,12 @@ pub fn begun(alloc: Global, unit: Unit, asked: &[SourceBreakpoint]) -> Result<Co
     Ok(Considered::new(debuggee))
 }
 
-// Runs to the end, or to a stop: the last report.
-fn slices(alloc: Global, mut debuggee: Considered) -> Option<Report> {
+// Runs to the end, or to a stop: what the last report says.
+fn slices(alloc: Global, mut debuggee: Considered) -> Option<Summary> {
     for _ in 0..u64::MAX {
         let (report, on) = next_report(alloc, 1, debuggee.into_debuggee(), Mode::Continue);
         match on {
-            None => return Some(report),
+            None => return Some(report.summary()),
             Some(next) => debuggee = Considered::new(next),
         }
     }
