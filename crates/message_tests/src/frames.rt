@@ -3,7 +3,7 @@
 use crate::text::repeated;
 use dap_frame::{Decoder, encode};
 use std::alloc::Global;
-use std::test::Fail;
+use std::process::Abort;
 
 /// A stream, and what comes out of it: each content with a line feed after it, then the fault.
 const STREAMS: [(&str, &str); 29] = [
@@ -45,92 +45,109 @@ const STREAMS: [(&str, &str); 29] = [
 ];
 
 /// Feeds a piece, and takes all contents that are whole then. After a fault a decoder answers it for good.
-fn take_piece(decoder: &mut Decoder, piece: &[u8], seen: &mut Vec<u8>) -> Result<(), Fail> {
+fn take_piece(rt: &impl Abort, decoder: &mut Decoder, piece: &[u8], seen: &mut Vec<u8>) {
     if decoder.feed(piece).is_err() {
-        return Ok(());
+        return;
     }
     for _ in 0..=piece.len() {
         let Ok(Some(content)) = decoder.next_content() else {
             break;
         };
-        seen.extend_from_slice(content.as_slice())?;
-        seen.push(b'\n')?;
+        seen.extend_from_slice(content.as_slice())
+            .expect(rt, "memory");
+        seen.push(b'\n').expect(rt, "memory");
     }
-    Ok(())
 }
 
 /// Whether this comes out of a stream whose first bytes come in one piece, and the others in pieces of `step` bytes.
 fn gives(
+    rt: &impl Abort,
     alloc: Global,
     stream: &str,
     first: usize,
     step: usize,
     expected: &str,
-) -> Result<bool, Fail> {
+) -> bool {
     let bytes = stream.as_bytes();
     let (front, rest) = bytes.split_at(first.min(bytes.len()));
     let mut decoder = Decoder::new(alloc);
     let mut seen = Vec::new(alloc);
-    take_piece(&mut decoder, front, &mut seen)?;
+    take_piece(rt, &mut decoder, front, &mut seen);
     for piece in rest.chunks(step.max(1)) {
-        take_piece(&mut decoder, piece, &mut seen)?;
+        take_piece(rt, &mut decoder, piece, &mut seen);
     }
     if let Err(fault) = decoder.next_content() {
-        seen.extend_from_slice(format!(in alloc; "{fault:?}")?.as_bytes())?;
+        seen.extend_from_slice(
+            format!(in alloc; "{fault:?}")
+                .expect(rt, "memory")
+                .as_bytes(),
+        )
+        .expect(rt, "memory");
     }
-    Ok(seen.as_slice() == expected.as_bytes())
+    seen.as_slice() == expected.as_bytes()
 }
 
 #[test]
-fn decodes_streams_however_cut(rt: HostRuntime) -> Result<(), Fail> {
+fn decodes_streams_however_cut(rt: HostRuntime) {
     for (stream, expected) in STREAMS.as_slice() {
         assert!(rt;
-            gives(rt.alloc(), stream, 0, 1, expected)?,
+            gives(&rt, rt.alloc(), stream, 0, 1, expected),
             "{stream:?} by bytes"
         );
         for cut in 0..=stream.len() {
             assert!(rt;
-                gives(rt.alloc(), stream, cut, stream.len(), expected)?,
+                gives(&rt, rt.alloc(), stream, cut, stream.len(), expected),
                 "{stream:?} cut at {cut}"
             );
         }
     }
-    Ok(())
 }
 
 /// A header part of 1,024 bytes is read; one byte more is a fault.
 #[test]
-fn decodes_headers_up_to_the_limit(rt: HostRuntime) -> Result<(), Fail> {
+fn decodes_headers_up_to_the_limit(rt: HostRuntime) {
     let alloc = rt.alloc();
     for (letters, expected) in [(997, ""), (998, "HeaderTooLong")] {
-        let stream = repeated(alloc, "Content-Length: 49\r\nX: ", "a", letters, "\r\n\r\n")?;
+        let stream = repeated(
+            &rt,
+            alloc,
+            "Content-Length: 49\r\nX: ",
+            "a",
+            letters,
+            "\r\n\r\n",
+        );
         for step in [1, 2, 3, 1024] {
             assert!(rt;
-                gives(alloc, stream.as_str(), 0, step, expected)?,
+                gives(&rt, alloc, stream.as_str(), 0, step, expected),
                 "{letters} by {step}"
             );
         }
     }
-    Ok(())
 }
 
 /// A content of 1,048,576 bytes is given, and not refused as out of memory.
 #[test]
-fn decodes_the_largest_content(rt: HostRuntime) -> Result<(), Fail> {
+fn decodes_the_largest_content(rt: HostRuntime) {
     let alloc = rt.alloc();
-    let stream = repeated(alloc, "Content-Length: 1048576\r\n\r\n", " ", 1_048_576, "")?;
-    let expected = repeated(alloc, "", " ", 1_048_576, "\n")?;
+    let stream = repeated(
+        &rt,
+        alloc,
+        "Content-Length: 1048576\r\n\r\n",
+        " ",
+        1_048_576,
+        "",
+    );
+    let expected = repeated(&rt, alloc, "", " ", 1_048_576, "\n");
     for step in [4096, stream.len()] {
         assert!(rt;
-            gives(alloc, stream.as_str(), 0, step, expected.as_str())?,
+            gives(&rt, alloc, stream.as_str(), 0, step, expected.as_str()),
             "by {step}"
         );
     }
-    Ok(())
 }
 
 #[test]
-fn encodes_contents(rt: HostRuntime) -> Result<(), Fail> {
+fn encodes_contents(rt: HostRuntime) {
     let mut frames = Vec::new(rt.alloc());
     for content in ["{}", "", "0123456789"] {
         assert_eq!(rt; encode(content.as_bytes(), &mut frames), Ok(()));
@@ -138,17 +155,22 @@ fn encodes_contents(rt: HostRuntime) -> Result<(), Fail> {
     let expected =
         b"Content-Length: 2\r\n\r\n{}Content-Length: 0\r\n\r\nContent-Length: 10\r\n\r\n0123456789";
     assert_eq!(rt; frames.as_slice(), expected.as_slice());
-    Ok(())
 }
 
 /// A frame of the largest content is written.
 #[test]
-fn encodes_the_largest_content(rt: HostRuntime) -> Result<(), Fail> {
+fn encodes_the_largest_content(rt: HostRuntime) {
     let alloc = rt.alloc();
-    let content = repeated(alloc, "", " ", 1_048_576, "")?;
-    let expected = repeated(alloc, "Content-Length: 1048576\r\n\r\n", " ", 1_048_576, "")?;
+    let content = repeated(&rt, alloc, "", " ", 1_048_576, "");
+    let expected = repeated(
+        &rt,
+        alloc,
+        "Content-Length: 1048576\r\n\r\n",
+        " ",
+        1_048_576,
+        "",
+    );
     let mut frame = Vec::new(alloc);
     assert_eq!(rt; encode(content.as_bytes(), &mut frame), Ok(()));
     assert!(rt; frame.as_slice() == expected.as_bytes());
-    Ok(())
 }

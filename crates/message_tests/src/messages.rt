@@ -5,11 +5,11 @@ use dap_msg::{
     Body, BreakpointAnswer, BreakpointRefusal, CommandName, EventBody, Exception, Items, Outgoing,
     Refusal, Scope, StackFrame, StopReason, Supported, Text, Variable, write,
 };
-use std::alloc::{AllocError, Global};
-use std::test::Fail;
+use std::alloc::Global;
+use std::process::Abort;
 
-fn text(alloc: Global, text: &str) -> Result<Text, AllocError> {
-    Ok(Text::new(String::from_str(alloc, text)?))
+fn text(rt: &impl Abort, alloc: Global, text: &str) -> Text {
+    Text::new(String::from_str(alloc, text).expect(rt, "memory"))
 }
 
 fn answer(command: Supported, outcome: Result<Body, Refusal>) -> Outgoing {
@@ -21,24 +21,36 @@ fn answer(command: Supported, outcome: Result<Body, Refusal>) -> Outgoing {
 }
 
 /// Whether a message is written as this content, after what stood there.
-fn is_written(alloc: Global, message: &Outgoing, seq: u64, expected: &str) -> Result<bool, Fail> {
-    let mut out = b"> ".to_vec(alloc)?;
-    write(message, seq, &mut out)?;
-    let whole = format!(in alloc; "> {expected}")?;
-    Ok(out.as_slice() == whole.as_bytes())
+fn is_written(
+    rt: &impl Abort,
+    alloc: Global,
+    message: &Outgoing,
+    seq: u64,
+    expected: &str,
+) -> bool {
+    let mut out = b"> ".to_vec(alloc).expect(rt, "memory");
+    write(message, seq, &mut out).expect(rt, "memory");
+    let whole = format!(in alloc; "> {expected}").expect(rt, "memory");
+    out.as_slice() == whole.as_bytes()
 }
 
 /// Whether the answer to a command with this body is written as this content, but for its end.
 fn is_body_written(
+    rt: &impl Abort,
     alloc: Global,
     command: Supported,
     body: Body,
     expected: &str,
-) -> Result<bool, Fail> {
-    let content = format!(in alloc;
-        "{{{expected},\"request_seq\":4,\"seq\":6,\"success\":true,\"type\":\"response\"}}"
-    )?;
-    is_written(alloc, &answer(command, Ok(body)), 6, content.as_str())
+) -> bool {
+    let answer = answer(command, Ok(body));
+    let end = r#""request_seq":4,"seq":6,"success":true,"type":"response""#;
+    is_ended_so(rt, alloc, &answer, expected, end)
+}
+
+/// Whether a message is written as this beginning and this end of a content.
+fn is_ended_so(rt: &impl Abort, alloc: Global, message: &Outgoing, first: &str, end: &str) -> bool {
+    let content = format!(in alloc; "{{{first},{end}}}").expect(rt, "memory");
+    is_written(rt, alloc, message, 6, content.as_str())
 }
 
 /// What an answer to `initialize` begins with.
@@ -46,7 +58,7 @@ const CAPABILITIES: &str =
     r#""body":{"supportsConditionalBreakpoints":true,"supportsConfigurationDoneRequest":true,"supportsHitConditionalBreakpoints":true},"command":"initialize""#;
 
 #[test]
-fn writes_small_bodies(rt: HostRuntime) -> Result<(), Fail> {
+fn writes_small_bodies(rt: HostRuntime) {
     let rows = [
         (Supported::Initialize, Body::Capabilities, CAPABILITIES),
         (
@@ -68,15 +80,14 @@ fn writes_small_bodies(rt: HostRuntime) -> Result<(), Fail> {
     ];
     for (command, body, expected) in rows {
         assert!(rt;
-            is_body_written(rt.alloc(), command, body, expected)?,
+            is_body_written(&rt, rt.alloc(), command, body, expected),
             "{expected}"
         );
     }
-    Ok(())
 }
 
 #[test]
-fn writes_breakpoints(rt: HostRuntime) -> Result<(), Fail> {
+fn writes_breakpoints(rt: HostRuntime) {
     let alloc = rt.alloc();
     let answers = [
         BreakpointAnswer::At(3),
@@ -85,86 +96,87 @@ fn writes_breakpoints(rt: HostRuntime) -> Result<(), Fail> {
         BreakpointAnswer::Unverified(BreakpointRefusal::BadCondition),
         BreakpointAnswer::Unverified(BreakpointRefusal::BadHitCondition),
     ];
-    let body = Body::Breakpoints(Items::new(answers.to_vec(alloc)?));
+    let body = Body::Breakpoints(Items::new(answers.to_vec(alloc).expect(&rt, "memory")));
     let expected =
         r#""body":{"breakpoints":[{"line":3,"verified":true},{"message":"otherSource","verified":false},{"message":"noStep","verified":false},{"message":"badCondition","verified":false},{"message":"badHitCondition","verified":false}]},"command":"setBreakpoints""#;
-    assert!(rt; is_body_written(alloc, Supported::SetBreakpoints, body, expected)?);
-    Ok(())
+    assert!(rt; is_body_written(&rt, alloc, Supported::SetBreakpoints, body, expected));
 }
 
 /// So many frames of the main block.
-fn frames(alloc: Global, count: usize) -> Result<Vec<StackFrame>, Fail> {
+fn frames(rt: &impl Abort, alloc: Global, count: usize) -> Vec<StackFrame> {
     let mut frames = Vec::new(alloc);
     for _ in 0..count {
-        frames.push(StackFrame {
-            id: 1,
-            name: text(alloc, "main")?,
-            line: 1,
-            column: 40,
-        })?;
+        frames
+            .push(StackFrame {
+                id: 1,
+                name: text(rt, alloc, "main"),
+                line: 1,
+                column: 40,
+            })
+            .expect(rt, "memory");
     }
-    Ok(frames)
+    frames
 }
 
 /// One frame, and 1,024 of them: an answer as large isn't refused as out of memory.
 #[test]
-fn writes_frames(rt: HostRuntime) -> Result<(), Fail> {
+fn writes_frames(rt: HostRuntime) {
     let alloc = rt.alloc();
     let frame = r#"{"column":40,"id":1,"line":1,"name":"main","source":{"path":"p.pl0"}}"#;
-    let next = format!(in alloc; ",{frame}")?;
-    let first = format!(in alloc; "\"body\":{{\"stackFrames\":[{frame}")?;
+    let next = format!(in alloc; ",{frame}").expect(&rt, "memory");
+    let first = format!(in alloc; "\"body\":{{\"stackFrames\":[{frame}").expect(&rt, "memory");
     let last = "],\"totalFrames\":1024},\"command\":\"stackTrace\"";
     for count in [1, 1024] {
         let body = Body::StackTrace {
-            path: text(alloc, "p.pl0")?,
-            frames: Items::new(frames(alloc, count)?),
+            path: text(&rt, alloc, "p.pl0"),
+            frames: Items::new(frames(&rt, alloc, count)),
             total: 1024,
         };
         let expected = repeated(
+            &rt,
             alloc,
             first.as_str(),
             next.as_str(),
             count.saturating_sub(1),
             last,
-        )?;
+        );
         assert!(rt;
-            is_body_written(alloc, Supported::StackTrace, body, expected.as_str())?,
+            is_body_written(&rt, alloc, Supported::StackTrace, body, expected.as_str()),
             "{count}"
         );
     }
-    Ok(())
 }
 
 #[test]
-fn writes_scopes(rt: HostRuntime) -> Result<(), Fail> {
+fn writes_scopes(rt: HostRuntime) {
     let alloc = rt.alloc();
     let mut scopes = Vec::new(alloc);
     for (name, reference) in [("p", 3), ("main", 1)] {
-        let name = text(alloc, name)?;
-        scopes.push(Scope { name, reference })?;
+        let name = text(&rt, alloc, name);
+        scopes.push(Scope { name, reference }).expect(&rt, "memory");
     }
     let body = Body::Scopes(Items::new(scopes));
     let expected =
         r#""body":{"scopes":[{"expensive":false,"name":"p","variablesReference":3},{"expensive":false,"name":"main","variablesReference":1}]},"command":"scopes""#;
-    assert!(rt; is_body_written(alloc, Supported::Scopes, body, expected)?);
-    Ok(())
+    assert!(rt; is_body_written(&rt, alloc, Supported::Scopes, body, expected));
 }
 
 #[test]
-fn writes_variables(rt: HostRuntime) -> Result<(), Fail> {
+fn writes_variables(rt: HostRuntime) {
     let alloc = rt.alloc();
     let none = Body::Variables(Items::new(Vec::new(alloc)));
     let expected = r#""body":{"variables":[]},"command":"variables""#;
-    assert!(rt; is_body_written(alloc, Supported::Variables, none, expected)?);
+    assert!(rt; is_body_written(&rt, alloc, Supported::Variables, none, expected));
     let mut variables = Vec::new(alloc);
-    let name = text(alloc, "x")?;
+    let name = text(&rt, alloc, "x");
     let value = i64::MAX;
-    variables.push(Variable { name, value })?;
+    variables
+        .push(Variable { name, value })
+        .expect(&rt, "memory");
     let body = Body::Variables(Items::new(variables));
     let expected =
         r#""body":{"variables":[{"name":"x","value":"9223372036854775807","variablesReference":0}]},"command":"variables""#;
-    assert!(rt; is_body_written(alloc, Supported::Variables, body, expected)?);
-    Ok(())
+    assert!(rt; is_body_written(&rt, alloc, Supported::Variables, body, expected));
 }
 
 /// Refusals, and the message of each.
@@ -191,33 +203,31 @@ const REFUSALS: [(Refusal, &str); 12] = [
 ];
 
 #[test]
-fn writes_refusals(rt: HostRuntime) -> Result<(), Fail> {
+fn writes_refusals(rt: HostRuntime) {
     let alloc = rt.alloc();
     for (refusal, message) in REFUSALS.as_slice() {
         let expected = format!(in alloc;
             "{{\"body\":{{}},\"command\":\"launch\",\"message\":\"{message}\",\"request_seq\":4,\"seq\":9007199254740991,\"success\":false,\"type\":\"response\"}}"
-        )?;
+        ).expect(&rt, "memory");
         let answer = answer(Supported::Launch, Err(*refusal));
         assert!(rt;
-            is_written(alloc, &answer, 9007199254740991, expected.as_str())?,
+            is_written(&rt, alloc, &answer, 9007199254740991, expected.as_str()),
             "{message}"
         );
     }
-    Ok(())
 }
 
 #[test]
-fn writes_names_as_they_came(rt: HostRuntime) -> Result<(), Fail> {
+fn writes_names_as_they_came(rt: HostRuntime) {
     let alloc = rt.alloc();
     let answer = Outgoing::Answer {
         request_seq: 7,
-        command: CommandName::Unsupported(text(alloc, r#"a"b\c"#)?),
+        command: CommandName::Unsupported(text(&rt, alloc, r#"a"b\c"#)),
         result: Err(Refusal::Unsupported),
     };
     let expected =
         r#"{"body":{},"command":"a\"b\\c","message":"unsupported","request_seq":7,"seq":1,"success":false,"type":"response"}"#;
-    assert!(rt; is_written(alloc, &answer, 1, expected)?);
-    Ok(())
+    assert!(rt; is_written(&rt, alloc, &answer, 1, expected));
 }
 
 /// Events, and the beginning of the content of each.
@@ -259,33 +269,31 @@ const STOPS: [(StopReason, &str); 8] = [
 ];
 
 /// Whether an event is written as this content, but for its end.
-fn is_event_written(alloc: Global, event: EventBody, expected: &str) -> Result<bool, Fail> {
-    let content = format!(in alloc; "{{{expected},\"seq\":6,\"type\":\"event\"}}")?;
-    is_written(alloc, &Outgoing::Event(event), 6, content.as_str())
+fn is_event_written(rt: &impl Abort, alloc: Global, event: EventBody, expected: &str) -> bool {
+    let end = r#""seq":6,"type":"event""#;
+    is_ended_so(rt, alloc, &Outgoing::Event(event), expected, end)
 }
 
 #[test]
-fn writes_events(rt: HostRuntime) -> Result<(), Fail> {
+fn writes_events(rt: HostRuntime) {
     for (event, expected) in EVENTS.as_slice() {
         assert!(rt;
-            is_event_written(rt.alloc(), *event, expected)?,
+            is_event_written(&rt, rt.alloc(), *event, expected),
             "{expected}"
         );
     }
-    Ok(())
 }
 
 #[test]
-fn writes_stops(rt: HostRuntime) -> Result<(), Fail> {
+fn writes_stops(rt: HostRuntime) {
     let alloc = rt.alloc();
     for (reason, said) in STOPS.as_slice() {
         let expected = format!(in alloc;
             "\"body\":{{\"allThreadsStopped\":true,{said},\"threadId\":1}},\"event\":\"stopped\""
-        )?;
+        ).expect(&rt, "memory");
         assert!(rt;
-            is_event_written(alloc, EventBody::Stopped(*reason), expected.as_str())?,
+            is_event_written(&rt, alloc, EventBody::Stopped(*reason), expected.as_str()),
             "{said}"
         );
     }
-    Ok(())
 }

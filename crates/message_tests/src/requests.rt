@@ -3,7 +3,7 @@
 use crate::text::repeated;
 use dap_msg::{Request, read};
 use std::alloc::Global;
-use std::test::Fail;
+use std::process::Abort;
 
 const INITIALIZE_1: &str =
     "Some(Request { seq: 1, body: Initialize(InitializeArguments { lines_start_at_1: true, columns_start_at_1: true }) })";
@@ -297,46 +297,47 @@ const EXPRESSIONS: [Row; 6] = [
 ];
 
 /// Whether a content is read as this, a request or none.
-fn reads(alloc: Global, content: &[u8], expected: &str) -> Result<bool, Fail> {
-    let request = read(alloc, content)?;
-    Ok(format!(in alloc; "{request:?}")?.as_str() == expected)
+fn reads(rt: &impl Abort, alloc: Global, content: &[u8], expected: &str) -> bool {
+    let request = read(alloc, content).expect(rt, "memory");
+    format!(in alloc; "{request:?}")
+        .expect(rt, "memory")
+        .as_str()
+        == expected
 }
 
 #[test]
-fn reads_contents(rt: HostRuntime) -> Result<(), Fail> {
+fn reads_contents(rt: HostRuntime) {
     for (content, expected) in CONTENTS.as_slice() {
-        assert!(rt; reads(rt.alloc(), content, expected)?, "{expected}");
+        assert!(rt; reads(&rt, rt.alloc(), content, expected), "{expected}");
     }
-    Ok(())
 }
 
 #[test]
-fn reads_seqs(rt: HostRuntime) -> Result<(), Fail> {
+fn reads_seqs(rt: HostRuntime) {
     let alloc = rt.alloc();
     for (seq, expected) in SEQS.as_slice() {
         let content = format!(in alloc;
             "{{\"command\":\"threads\",\"type\":\"request\",\"seq\":{seq}}}"
-        )?;
-        assert!(rt; reads(alloc, content.as_bytes(), expected)?, "{seq}");
+        ).expect(&rt, "memory");
+        assert!(rt; reads(&rt, alloc, content.as_bytes(), expected), "{seq}");
     }
-    Ok(())
 }
 
 /// Whether a request for a command with these arguments asks for this, and names the command for its answer.
-fn asks(alloc: Global, row: Row) -> Result<bool, Fail> {
+fn asks(rt: &impl Abort, alloc: Global, row: Row) -> bool {
     let (command, arguments, expected) = row;
     let content = format!(in alloc;
         "{{\"seq\":7,\"type\":\"request\",\"command\":\"{command}\",\"arguments\":{arguments}}}"
-    )?;
-    let Some(Request { seq: 7, body }) = read(alloc, content.as_bytes())? else {
-        return Ok(false);
+    ).expect(rt, "memory");
+    let Some(Request { seq: 7, body }) = read(alloc, content.as_bytes()).expect(rt, "memory") else {
+        return false;
     };
-    let asked = format!(in alloc; "{body:?}")?;
-    Ok(asked.as_str() == expected && body.into_name().as_str() == command)
+    let asked = format!(in alloc; "{body:?}").expect(rt, "memory");
+    asked.as_str() == expected && body.into_name().as_str() == command
 }
 
 #[test]
-fn reads_arguments(rt: HostRuntime) -> Result<(), Fail> {
+fn reads_arguments(rt: HostRuntime) {
     let tables = [
         INITIALIZE.as_slice(),
         &LAUNCH,
@@ -346,10 +347,11 @@ fn reads_arguments(rt: HostRuntime) -> Result<(), Fail> {
         &FRAMES,
         &EXPRESSIONS,
     ];
-    for row in tables.as_slice().iter().copied().flatten() {
-        assert!(rt; asks(rt.alloc(), *row)?, "{row:?}");
+    for table in tables.as_slice() {
+        for row in *table {
+            assert!(rt; asks(&rt, rt.alloc(), *row), "{row:?}");
+        }
     }
-    Ok(())
 }
 
 /// Arguments with a part that may stand at most so often.
@@ -400,55 +402,55 @@ const LIMITS: [Limit; 5] = [
 ];
 
 /// Whether the arguments fit with their part so often.
-fn fits(alloc: Global, limit: &Limit, times: usize) -> Result<bool, Fail> {
+fn fits(rt: &impl Abort, alloc: Global, limit: &Limit, times: usize) -> bool {
     let command = limit.command;
     let head = format!(in alloc;
         "{{\"type\":\"request\",\"command\":\"{command}\",\"seq\":1,\"arguments\":"
-    )?;
-    let arguments = repeated(alloc, limit.first, limit.repeated, times, limit.last)?;
-    let content = format!(in alloc; "{head}{arguments}}}")?;
-    let Some(request) = read(alloc, content.as_bytes())? else {
-        return Ok(false);
+    ).expect(rt, "memory");
+    let arguments = repeated(rt, alloc, limit.first, limit.repeated, times, limit.last);
+    let content = format!(in alloc; "{head}{arguments}}}").expect(rt, "memory");
+    let Some(request) = read(alloc, content.as_bytes()).expect(rt, "memory") else {
+        return false;
     };
-    Ok(!format!(in alloc; "{request:?}")?.contains("BadArguments"))
+    let asked = format!(in alloc; "{request:?}").expect(rt, "memory");
+    !asked.contains("BadArguments")
 }
 
 #[test]
-fn reads_arguments_up_to_their_limits(rt: HostRuntime) -> Result<(), Fail> {
+fn reads_arguments_up_to_their_limits(rt: HostRuntime) {
     for limit in LIMITS.as_slice() {
         let first = limit.first;
-        assert!(rt; fits(rt.alloc(), limit, limit.most)?, "{first}");
+        assert!(rt; fits(&rt, rt.alloc(), limit, limit.most), "{first}");
         assert!(rt;
-            !fits(rt.alloc(), limit, limit.most.saturating_add(1))?,
+            !fits(&rt, rt.alloc(), limit, limit.most.saturating_add(1)),
             "one more: {first}"
         );
     }
-    Ok(())
 }
 
 #[test]
-fn reads_names_up_to_64_bytes(rt: HostRuntime) -> Result<(), Fail> {
+fn reads_names_up_to_64_bytes(rt: HostRuntime) {
     let alloc = rt.alloc();
     let first = r#"{"seq":1,"type":"request","command":""#;
     let longest = repeated(
+        &rt,
         alloc,
         r#"Some(Request { seq: 1, body: Unsupported(Text { text: ""#,
         "a",
         64,
         r#"" }) })"#,
-    )?;
+    );
     for (times, expected) in [(64, longest.as_str()), (65, "None"), (0, "None")] {
-        let content = repeated(alloc, first, "a", times, r#""}"#)?;
+        let content = repeated(&rt, alloc, first, "a", times, r#""}"#);
         assert!(rt;
-            reads(alloc, content.as_bytes(), expected)?,
+            reads(&rt, alloc, content.as_bytes(), expected),
             "{times} letters"
         );
     }
-    Ok(())
 }
 
 #[test]
-fn reads_names_of_printable_characters(rt: HostRuntime) -> Result<(), Fail> {
+fn reads_names_of_printable_characters(rt: HostRuntime) {
     let alloc = rt.alloc();
     let rows = [
         (
@@ -462,35 +464,32 @@ fn reads_names_of_printable_characters(rt: HostRuntime) -> Result<(), Fail> {
     for (name, expected) in rows.as_slice() {
         let content = format!(in alloc;
             "{{\"seq\":1,\"type\":\"request\",\"command\":\"{name}\"}}"
-        )?;
-        assert!(rt; reads(alloc, content.as_bytes(), expected)?, "{name}");
+        ).expect(&rt, "memory");
+        assert!(rt; reads(&rt, alloc, content.as_bytes(), expected), "{name}");
     }
-    Ok(())
 }
 
 #[test]
-fn reads_values_up_to_127_deep(rt: HostRuntime) -> Result<(), Fail> {
+fn reads_values_up_to_127_deep(rt: HostRuntime) {
     let alloc = rt.alloc();
     let first = r#"{"seq":1,"type":"request","command":"initialize","x":"#;
     for (arrays, expected) in [(126, INITIALIZE_1), (127, "None")] {
-        let opened = repeated(alloc, first, "[", arrays, "")?;
-        let content = repeated(alloc, opened.as_str(), "]", arrays, "}")?;
+        let opened = repeated(&rt, alloc, first, "[", arrays, "");
+        let content = repeated(&rt, alloc, opened.as_str(), "]", arrays, "}");
         assert!(rt;
-            reads(alloc, content.as_bytes(), expected)?,
+            reads(&rt, alloc, content.as_bytes(), expected),
             "{arrays} arrays"
         );
     }
-    Ok(())
 }
 
 /// A content of 1,048,576 bytes is read, and not refused as out of memory.
 #[test]
-fn reads_the_largest_content(rt: HostRuntime) -> Result<(), Fail> {
+fn reads_the_largest_content(rt: HostRuntime) {
     let alloc = rt.alloc();
     let first = r#"{"seq":1,"type":"request","command":"initialize","x":""#;
     let rest = 1_048_574usize.saturating_sub(first.len());
-    let content = repeated(alloc, first, "x", rest, "\"}")?;
+    let content = repeated(&rt, alloc, first, "x", rest, "\"}");
     assert!(rt; content.len() == 1_048_576);
-    assert!(rt; reads(alloc, content.as_bytes(), INITIALIZE_1)?);
-    Ok(())
+    assert!(rt; reads(&rt, alloc, content.as_bytes(), INITIALIZE_1));
 }

@@ -1,18 +1,20 @@
 //! Texts with a part that is repeated.
-use std::alloc::{AllocError, Global};
+use std::alloc::Global;
+use std::process::Abort;
 
 /// `first`, then `middle` as often as `times` says, then `last`.
 pub fn repeated(
+    rt: &impl Abort,
     alloc: Global,
     first: &str,
     middle: &str,
     times: usize,
     last: &str,
-) -> Result<String, AllocError> {
-    let mut text = String::from_str(alloc, first)?;
+) -> String {
+    let mut text = String::from_str(alloc, first).expect(rt, "memory");
     for _ in 0..times {
-        text.push_str(middle)?;
+        text.push_str(middle).expect(rt, "memory");
     }
-    text.push_str(last)?;
-    Ok(text)
+    text.push_str(last).expect(rt, "memory");
+    text
 }
