@@ -30,7 +30,7 @@ abbrev pub plain_report : Reported → PlainReport
 plain_report r =
     record { run = r.run; text = text_of r.unit; plan = r.plan; counted_from = r.counted_from; mode = r.mode; start = r.start; end = r.end; numbers = r.numbers; outcome = r.outcome }
 
--- what a report says in numbers
+-- the run, the mode, the positions and the outcome of a report
 abbrev pub summary_of : Reported → Summary
 summary_of r = record { run = r.run; counted_from = r.counted_from; mode = r.mode; start = r.start; end = r.end; outcome = r.outcome }
 
