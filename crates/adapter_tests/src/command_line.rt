@@ -1,72 +1,45 @@
 //! What the arguments of a command line ask for.
 
+use adapter::arguments::ArgumentsFault::{Help, NotUnderstood};
+use adapter::arguments::Invocation::{Check, Serve};
 use adapter::arguments::{ArgumentsFault, Invocation, parse_arguments};
 
-/// Arguments, and the file that they ask to judge.
-const CHECKS: [(&[&str], &str); 5] = [
-    (&["pl0dap", "--check", "p.pl0"], "p.pl0"),
-    (&["pl0dap", "--check=p.pl0"], "p.pl0"),
-    (&["pl0dap", "--check", ""], ""),
-    (&["pl0dap", "--check="], ""),
-    (&["pl0dap", "--check=--help"], "--help"),
-];
-
-const SERVES: [&[&str]; 3] = [&[], &["pl0dap"], &["pl0dap", "--"]];
-
-const HELPS: [&[&str]; 4] = [
-    &["pl0dap", "-h"],
-    &["pl0dap", "--help"],
-    &["pl0dap", "--help", "--check", "x"],
-    &["pl0dap", "--check", "x", "--help"],
-];
-
-const OTHERS: [&[&str]; 11] = [
-    &["pl0dap", "--check"],
-    &["pl0dap", "--check", "--help"],
-    &["pl0dap", "--check", "a", "--check", "b"],
-    &["pl0dap", "--chec", "a"],
-    &["pl0dap", "--help=x"],
-    &["pl0dap", "--version"],
-    &["pl0dap", "-V"],
-    &["pl0dap", "-c", "a"],
-    &["pl0dap", "help"],
-    &["pl0dap", "p.pl0"],
-    &["pl0dap", "--", "p.pl0"],
+/// Arguments, and what they ask for.
+const COMMAND_LINES: [(&[&str], Result<Invocation, ArgumentsFault>); 23] = [
+    (&[], Ok(Serve)),
+    (&["pl0dap"], Ok(Serve)),
+    (&["pl0dap", "--"], Ok(Serve)),
+    (&["pl0dap", "--check", "p.pl0"], Ok(Check("p.pl0"))),
+    (&["pl0dap", "--check=p.pl0"], Ok(Check("p.pl0"))),
+    (&["pl0dap", "--check", ""], Ok(Check(""))),
+    (&["pl0dap", "--check="], Ok(Check(""))),
+    (&["pl0dap", "--check=--help"], Ok(Check("--help"))),
+    (&["pl0dap", "-h"], Err(Help)),
+    (&["pl0dap", "--help"], Err(Help)),
+    (&["pl0dap", "--help", "--check", "x"], Err(Help)),
+    (&["pl0dap", "--check", "x", "--help"], Err(Help)),
+    (&["pl0dap", "--check"], Err(NotUnderstood)),
+    (&["pl0dap", "--check", "--help"], Err(NotUnderstood)),
+    (
+        &["pl0dap", "--check", "a", "--check", "b"],
+        Err(NotUnderstood),
+    ),
+    (&["pl0dap", "--chec", "a"], Err(NotUnderstood)),
+    (&["pl0dap", "--help=x"], Err(NotUnderstood)),
+    (&["pl0dap", "--version"], Err(NotUnderstood)),
+    (&["pl0dap", "-V"], Err(NotUnderstood)),
+    (&["pl0dap", "-c", "a"], Err(NotUnderstood)),
+    (&["pl0dap", "help"], Err(NotUnderstood)),
+    (&["pl0dap", "p.pl0"], Err(NotUnderstood)),
+    (&["pl0dap", "--", "p.pl0"], Err(NotUnderstood)),
 ];
 
 #[test]
 fn parses_arguments(rt: HostRuntime) {
-    let alloc = rt.alloc();
-    for arguments in SERVES.as_slice() {
+    for (arguments, asked) in COMMAND_LINES.as_slice() {
         assert_eq!(rt;
-            parse_arguments(alloc, arguments),
-            Ok(Invocation::Serve),
-            "{arguments:?}"
-        );
-    }
-    for (arguments, file) in CHECKS.as_slice() {
-        assert_eq!(rt;
-            parse_arguments(alloc, arguments),
-            Ok(Invocation::Check(file)),
-            "{arguments:?}"
-        );
-    }
-}
-
-#[test]
-fn refuses_other_arguments(rt: HostRuntime) {
-    let alloc = rt.alloc();
-    for arguments in HELPS.as_slice() {
-        assert_eq!(rt;
-            parse_arguments(alloc, arguments),
-            Err(ArgumentsFault::Help),
-            "{arguments:?}"
-        );
-    }
-    for arguments in OTHERS.as_slice() {
-        assert_eq!(rt;
-            parse_arguments(alloc, arguments),
-            Err(ArgumentsFault::NotUnderstood),
+            parse_arguments(rt.alloc(), arguments),
+            *asked,
             "{arguments:?}"
         );
     }

@@ -9,7 +9,6 @@ use std::alloc::{AllocError, Global};
 use std::collections::VecDeque;
 use std::process::Abort;
 use std::sync::Wait;
-use std::test::Fail;
 
 /// What came of a session.
 #[derive(Drop)]
@@ -90,128 +89,141 @@ fn run<R: Abort + Wait>(
     })
 }
 
-/// The session of a row ends as the row says, with its answers and one order to quit.
-fn assert_driven<R: Abort + Wait>(
-    rt: &R,
-    alloc: Global,
-    row: &Row,
-    piece: usize,
-) -> Result<(), Fail> {
-    let name = row.name;
-    let input = input(alloc, row.transcript, row.tail)?;
-    let run = run(rt, alloc, input.as_slice(), Ports { piece, ..AMPLE })?;
-    let expected = frames(alloc, row.transcript, ANSWERED)?;
-    assert_eq!(rt; run.end, row.end, "{name}, by {piece}");
-    assert_eq!(rt; run.quits, 1, "{name}, by {piece}");
-    assert!(rt;
-        run.output.as_slice() == expected.as_slice(),
+/// A session over ports, and what comes of it.
+#[derive(Clone, Copy)]
+struct Driven {
+    name: &'static str,
+    transcript: &'static str,
+    /// Bytes after the frames that are sent.
+    tail: &'static str,
+    ports: Ports,
+    /// The transcript whose answers are put.
+    answered: &'static str,
+    end: Result<Closed, SessionFault>,
+    /// How many orders to quit are pushed.
+    quits: usize,
+}
+
+/// The session of a row, in pieces: all is answered, and one order to quit is pushed.
+fn served(row: &Row, piece: usize) -> Driven {
+    Driven {
+        name: row.name,
+        transcript: row.transcript,
+        tail: row.tail,
+        ports: Ports { piece, ..AMPLE },
+        answered: row.transcript,
+        end: row.end,
+        quits: 1,
+    }
+}
+
+fn assert_driven<R: Abort + Wait>(rt: &R, alloc: Global, session: &Driven) {
+    let name = session.name;
+    let piece = session.ports.piece;
+    let input = input(alloc, session.transcript, session.tail).expect(rt, "memory");
+    let run = run(rt, alloc, input.as_slice(), session.ports).expect(rt, "memory");
+    let answers = frames(alloc, session.answered, ANSWERED).expect(rt, "memory");
+    assert_eq!(rt;
+        (run.end, run.quits),
+        (session.end, session.quits),
         "{name}, by {piece}"
     );
-    Ok(())
+    assert!(rt;
+        run.output.as_slice() == answers.as_slice(),
+        "{name}, by {piece}"
+    );
 }
 
 /// Whole, a byte at a time, and cut within `Content-Length` and between CR and LF.
 const PIECES: [usize; 4] = [usize::MAX, 1, 9, 19];
 
 #[test]
-fn drives_rows_however_cut(rt: HostRuntime) -> Result<(), Fail> {
+fn drives_rows_however_cut(rt: HostRuntime) {
     for row in ROWS.as_slice() {
         for piece in PIECES.as_slice() {
-            assert_driven(&rt, rt.alloc(), row, *piece)?;
+            assert_driven(&rt, rt.alloc(), &served(row, *piece));
         }
     }
-    Ok(())
 }
 
 #[test]
-fn drives_to_faults_however_cut(rt: HostRuntime) -> Result<(), Fail> {
+fn drives_to_faults_however_cut(rt: HostRuntime) {
     for (tail, fault, last_line) in FAULTS.as_slice() {
         for transcript in ["", INITIALIZE] {
             let row = fault_row(transcript, tail, *fault, last_line);
             for piece in PIECES.as_slice() {
-                assert_driven(&rt, rt.alloc(), &row, *piece)?;
+                assert_driven(&rt, rt.alloc(), &served(&row, *piece));
             }
         }
     }
-    Ok(())
 }
 
-/// A session that is not served to its end: its ports, what is answered by then, how it ends, and the orders to quit.
-struct Stop {
-    name: &'static str,
-    ports: Ports,
-    answered: &'static str,
-    end: Result<Closed, SessionFault>,
-    quits: usize,
-}
-
-const STOPS: [Stop; 2] = [
-    Stop {
+/// Sessions that aren't served to their end.
+const STOPS: [Driven; 4] = [
+    Driven {
         name: "no room for the order to quit",
+        transcript: HELLO,
+        tail: "",
         ports: Ports { orders: 0, ..AMPLE },
         answered: INITIALIZE,
         end: Err(SessionFault::OrdersFull),
         quits: 0,
     },
-    Stop {
+    Driven {
         name: "room for one frame",
+        transcript: HELLO,
+        tail: "",
         ports: Ports { frames: 1, ..AMPLE },
         answered: INITIALIZE,
         end: Err(SessionFault::WriterGone),
         quits: 2,
     },
+    Driven {
+        name: "a read fails",
+        transcript: INITIALIZE,
+        tail: "Content-Length: 49\r\n",
+        ports: Ports {
+            last: Last::ReadFailed,
+            ..AMPLE
+        },
+        answered: INITIALIZE,
+        end: Ok(Closed::ReadFailed),
+        quits: 1,
+    },
+    Driven {
+        name: "no memory for a piece",
+        transcript: INITIALIZE,
+        tail: "Content-Length: 49\r\n",
+        ports: Ports {
+            last: Last::NoMemory,
+            ..AMPLE
+        },
+        answered: INITIALIZE,
+        end: Err(SessionFault::NoMemory),
+        quits: 1,
+    },
 ];
 
 #[test]
-fn stops_where_a_port_refuses(rt: HostRuntime) -> Result<(), Fail> {
-    let alloc = rt.alloc();
-    let input = input(alloc, HELLO, "")?;
-    for stop in STOPS.as_slice() {
-        let name = stop.name;
-        let run = run(&rt, alloc, input.as_slice(), stop.ports)?;
-        let expected = frames(alloc, stop.answered, ANSWERED)?;
-        assert_eq!(rt; run.end, stop.end, "{name}");
-        assert_eq!(rt; run.quits, stop.quits, "{name}");
-        assert!(rt; run.output.as_slice() == expected.as_slice(), "{name}");
+fn stops_where_a_port_refuses_or_a_piece_is_missing(rt: HostRuntime) {
+    for session in STOPS.as_slice() {
+        assert_driven(&rt, rt.alloc(), session);
     }
-    Ok(())
-}
-
-#[test]
-fn stops_where_a_piece_is_missing(rt: HostRuntime) -> Result<(), Fail> {
-    let alloc = rt.alloc();
-    let input = input(alloc, INITIALIZE, "Content-Length: 49\r\n")?;
-    let expected = frames(alloc, INITIALIZE, ANSWERED)?;
-    let rows = [
-        (Last::ReadFailed, Ok(Closed::ReadFailed)),
-        (Last::NoMemory, Err(SessionFault::NoMemory)),
-    ];
-    for (last, end) in rows.as_slice() {
-        let ports = Ports {
-            last: *last,
-            ..AMPLE
-        };
-        let run = run(&rt, alloc, input.as_slice(), ports)?;
-        assert_eq!(rt; run.end, *end);
-        assert_eq!(rt; run.quits, 1, "{end:?}");
-        assert!(rt; run.output.as_slice() == expected.as_slice(), "{end:?}");
-    }
-    Ok(())
 }
 
 /// With a refused allocation anywhere, what is put is a beginning of the answers, and only out of memory, or a port
 /// without any, is the reason. Where the test itself finds no memory there is nothing to see.
 #[test]
-fn answers_a_beginning_where_memory_ends(rt: HostRuntime) -> Result<(), Fail> {
+fn answers_a_beginning_where_memory_ends(rt: HostRuntime) {
     let alloc = rt.alloc();
     let Ok(input) = input(alloc, HELLO, "") else {
-        return Ok(());
+        return;
     };
     let Ok(expected) = frames(alloc, HELLO, ANSWERED) else {
-        return Ok(());
+        return;
     };
     let Ok(run) = run(&rt, alloc, input.as_slice(), AMPLE) else {
-        return Ok(());
+        return;
     };
     match run.end {
         Ok(closed) => {
@@ -223,5 +235,4 @@ fn answers_a_beginning_where_memory_ends(rt: HostRuntime) -> Result<(), Fail> {
         }
         Err(fault) => assert!(rt; false, "{fault:?}"),
     }
-    Ok(())
 }

@@ -8,7 +8,6 @@ use adapter::Served;
 use std::alloc::Global;
 use std::process::Abort;
 use std::sync::Wait;
-use std::test::Fail;
 use std::thread::Threads;
 
 /// A session ends so, with the frames of its transcript.
@@ -33,8 +32,8 @@ fn assert_served<R: Threads + Wait + Abort + Copy + Drop + Send + Sync>(
     alloc: Global,
     session: &Debugging,
     end: Served,
-) -> Result<usize, Fail> {
-    let exchange = Exchange::new(alloc, session.transcript)?;
+) -> usize {
+    let exchange = Exchange::new(alloc, session.transcript).expect(rt, "memory");
     let streams = Streams {
         cuts: exchange.reads.as_slice(),
         slice_hold: exchange.slice_hold,
@@ -43,42 +42,42 @@ fn assert_served<R: Threads + Wait + Abort + Copy + Drop + Send + Sync>(
     let sent = exchange.sent.as_slice();
     let run = run(rt, alloc, session.program, sent, streams);
     assert_answered(rt, session, &exchange, &run, end);
-    Ok(run.slices)
+    run.slices
 }
 
 /// Each read after a run began waits for what the run brings.
 #[test]
-fn reports_runs_to_an_editor_that_waits(rt: HostRuntime) -> Result<(), Fail> {
-    let slices = assert_served(&rt, rt.alloc(), &PROCEDURES, Served::Disconnected)?;
+fn reports_runs_to_an_editor_that_waits(rt: HostRuntime) {
+    let slices = assert_served(&rt, rt.alloc(), &PROCEDURES, Served::Disconnected);
     assert_eq!(rt; slices, 3);
-    Ok(())
 }
 
 /// The first slice waits for the answer to the pause, and the end of the input for the stop.
 #[test]
-fn answers_a_pause_while_the_program_runs(rt: HostRuntime) -> Result<(), Fail> {
-    let slices = assert_served(&rt, rt.alloc(), &PAUSED, Served::InputEnded)?;
+fn answers_a_pause_while_the_program_runs(rt: HostRuntime) {
+    let slices = assert_served(&rt, rt.alloc(), &PAUSED, Served::InputEnded);
     assert_eq!(rt; slices, 1);
-    Ok(())
 }
 
 /// The first slice waits for the answer to the breakpoints, and the end of the input for the stop, which a second run brings.
 #[test]
-fn sets_breakpoints_while_the_program_runs(rt: HostRuntime) -> Result<(), Fail> {
-    let slices = assert_served(&rt, rt.alloc(), &BROKEN, Served::InputEnded)?;
+fn sets_breakpoints_while_the_program_runs(rt: HostRuntime) {
+    let slices = assert_served(&rt, rt.alloc(), &BROKEN, Served::InputEnded);
     assert_eq!(rt; slices, 2);
-    Ok(())
 }
 
 /// The input ends when the second slice began, of a program without end.
 #[test]
-fn quits_a_run_where_the_input_ends(rt: HostRuntime) -> Result<(), Fail> {
+fn quits_a_run_where_the_input_ends(rt: HostRuntime) {
     let alloc = rt.alloc();
-    let mut exchange = Exchange::new(alloc, CUT_OFF.transcript)?;
-    exchange.reads.push(Cut {
-        at: exchange.sent.len(),
-        hold: Hold::Passed(2),
-    })?;
+    let mut exchange = Exchange::new(alloc, CUT_OFF.transcript).expect(&rt, "memory");
+    exchange
+        .reads
+        .push(Cut {
+            at: exchange.sent.len(),
+            hold: Hold::Passed(2),
+        })
+        .expect(&rt, "memory");
     let streams = Streams {
         cuts: exchange.reads.as_slice(),
         ..Streams::WELL
@@ -86,14 +85,13 @@ fn quits_a_run_where_the_input_ends(rt: HostRuntime) -> Result<(), Fail> {
     let sent = exchange.sent.as_slice();
     let run = run(&rt, alloc, CUT_OFF.program, sent, streams);
     assert_answered(&rt, &CUT_OFF, &exchange, &run, Served::InputEnded);
-    Ok(())
 }
 
 /// Each write waits until a second piece was asked for.
 #[test]
-fn reads_before_it_has_written(rt: HostRuntime) -> Result<(), Fail> {
+fn reads_before_it_has_written(rt: HostRuntime) {
     let alloc = rt.alloc();
-    let exchange = Exchange::new(alloc, NOTHING.transcript)?;
+    let exchange = Exchange::new(alloc, NOTHING.transcript).expect(&rt, "memory");
     let streams = Streams {
         cuts: exchange.reads.as_slice(),
         write_hold: Hold::Read(2),
@@ -102,14 +100,13 @@ fn reads_before_it_has_written(rt: HostRuntime) -> Result<(), Fail> {
     let sent = exchange.sent.as_slice();
     let run = run(&rt, alloc, "", sent, streams);
     assert_answered(&rt, &NOTHING, &exchange, &run, Served::Disconnected);
-    Ok(())
 }
 
 /// Each read waits until all that the one before it asked for is written.
 #[test]
-fn writes_before_it_reads_again(rt: HostRuntime) -> Result<(), Fail> {
+fn writes_before_it_reads_again(rt: HostRuntime) {
     let alloc = rt.alloc();
-    let mut exchange = Exchange::new(alloc, NOTHING.transcript)?;
+    let mut exchange = Exchange::new(alloc, NOTHING.transcript).expect(&rt, "memory");
     for (read, answered) in exchange
         .reads
         .iter_mut()
@@ -124,5 +121,4 @@ fn writes_before_it_reads_again(rt: HostRuntime) -> Result<(), Fail> {
     let sent = exchange.sent.as_slice();
     let run = run(&rt, alloc, "", sent, streams);
     assert_answered(&rt, &NOTHING, &exchange, &run, Served::Disconnected);
-    Ok(())
 }

@@ -6,7 +6,6 @@ use dap_session::Loader;
 use std::alloc::Global;
 use std::process::Abort;
 use std::sync::Wait;
-use std::test::Fail;
 
 pub const LAWFUL: &[u8] = b"var x;\n\nbegin x := 1;\n! x end.\n";
 
@@ -30,21 +29,17 @@ fn is_judged<R: Abort + Wait, L: Loader>(
     loader: &mut L,
     streams: Streams,
     expected: (&[u8], u8, &str),
-) -> Result<bool, Fail> {
+) -> bool {
     let progress = Progress::new();
     let mut output = Output::new(rt, alloc, streams, &progress);
     let reason = end_of_check(&check(rt, alloc, "p.pl0", loader, &mut output));
-    let line = format!(in alloc; "{reason}")?;
+    let line = format!(in alloc; "{reason}").expect(rt, "memory");
     let (listing, status, last_line) = expected;
-    Ok(
-        output.bytes.as_slice() == listing
-            && reason.status() == status
-            && line.as_str() == last_line,
-    )
+    output.bytes.as_slice() == listing && reason.status() == status && line.as_str() == last_line
 }
 
 #[test]
-fn prints_the_listing(rt: HostRuntime) -> Result<(), Fail> {
+fn prints_the_listing(rt: HostRuntime) {
     let alloc = rt.alloc();
     for write_step in [1, usize::MAX] {
         let file = &mut OneFile::new(alloc, LAWFUL);
@@ -53,34 +48,31 @@ fn prints_the_listing(rt: HostRuntime) -> Result<(), Fail> {
             ..Streams::WELL
         };
         assert!(rt;
-            is_judged(&rt, alloc, file, streams, (LISTING, 0, ""))?,
+            is_judged(&rt, alloc, file, streams, (LISTING, 0, "")),
             "by {write_step}"
         );
     }
-    Ok(())
 }
 
 #[test]
-fn names_the_first_fault(rt: HostRuntime) -> Result<(), Fail> {
+fn names_the_first_fault(rt: HostRuntime) {
     let alloc = rt.alloc();
     let file = &mut OneFile::new(alloc, b"x := 1.");
     let expected: (&[u8], u8, &str) = (b"", 3, "pl0dap: syntax 10 1 1");
-    assert!(rt; is_judged(&rt, alloc, file, Streams::WELL, expected)?);
-    Ok(())
+    assert!(rt; is_judged(&rt, alloc, file, Streams::WELL, expected));
 }
 
 #[test]
-fn says_that_a_file_cannot_be_read(rt: HostRuntime) -> Result<(), Fail> {
+fn says_that_a_file_cannot_be_read(rt: HostRuntime) {
     let alloc = rt.alloc();
     let none = &mut Unreadable::new(alloc);
     let expected: (&[u8], u8, &str) = (b"", 1, "pl0dap: cannot read");
-    assert!(rt; is_judged(&rt, alloc, none, Streams::WELL, expected)?);
-    Ok(())
+    assert!(rt; is_judged(&rt, alloc, none, Streams::WELL, expected));
 }
 
 /// The output fails, or takes nothing, at each byte of the listing.
 #[test]
-fn says_that_a_listing_was_cut(rt: HostRuntime) -> Result<(), Fail> {
+fn says_that_a_listing_was_cut(rt: HostRuntime) {
     let alloc = rt.alloc();
     for room in 0..LISTING.len() {
         let file = &mut OneFile::new(alloc, LAWFUL);
@@ -90,10 +82,6 @@ fn says_that_a_listing_was_cut(rt: HostRuntime) -> Result<(), Fail> {
             ..Streams::WELL
         };
         let expected = (&LISTING[..room], 1, "pl0dap: write failed");
-        assert!(rt;
-            is_judged(&rt, alloc, file, streams, expected)?,
-            "at {room}"
-        );
+        assert!(rt; is_judged(&rt, alloc, file, streams, expected), "at {room}");
     }
-    Ok(())
 }

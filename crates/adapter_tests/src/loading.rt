@@ -3,7 +3,6 @@
 use crate::fakes::{Input, Progress, Streams};
 use adapter::read_beginning;
 use dap_session::LoadFault;
-use std::test::Fail;
 
 /// The lengths of files, and how many bytes of them are given.
 const LENGTHS: [(usize, usize); 5] = [
@@ -15,9 +14,9 @@ const LENGTHS: [(usize, usize); 5] = [
 ];
 
 #[test]
-fn gives_the_first_bytes(rt: HostRuntime) -> Result<(), Fail> {
+fn gives_the_first_bytes(rt: HostRuntime) {
     let alloc = rt.alloc();
-    let text = "x".repeat(alloc, 65_538)?;
+    let text = "x".repeat(alloc, 65_538).expect(&rt, "memory");
     let progress = Progress::new();
     for (length, given) in LENGTHS.as_slice() {
         for read_step in [1000, usize::MAX] {
@@ -27,7 +26,7 @@ fn gives_the_first_bytes(rt: HostRuntime) -> Result<(), Fail> {
                 ..Streams::WELL
             };
             let mut source = Input::new(&rt, bytes, streams, &progress);
-            let read = read_beginning(&rt, alloc, &mut source)?;
+            let read = read_beginning(&rt, alloc, &mut source).expect(&rt, "memory");
             assert!(rt;
                 text.as_bytes().starts_with(read.as_slice()),
                 "{length} by {read_step}"
@@ -35,7 +34,6 @@ fn gives_the_first_bytes(rt: HostRuntime) -> Result<(), Fail> {
             assert_eq!(rt; read.len(), *given, "{length} by {read_step}");
         }
     }
-    Ok(())
 }
 
 /// A read fails at each of some bytes: nothing is given, and that is no end of the file.

@@ -9,7 +9,6 @@ use adapter::{ServeFault, Served};
 use std::alloc::Global;
 use std::process::Abort;
 use std::sync::Wait;
-use std::test::Fail;
 use std::thread::Threads;
 
 /// Each read of a session fails in turn: what came before it is answered, and after a disconnect nothing changes.
@@ -17,9 +16,9 @@ fn assert_reads_fail<R: Threads + Wait + Abort + Copy + Drop + Send + Sync>(
     rt: &R,
     alloc: Global,
     session: &Debugging,
-) -> Result<(), Fail> {
+) {
     let name = session.name;
-    let exchange = Exchange::new(alloc, session.transcript)?;
+    let exchange = Exchange::new(alloc, session.transcript).expect(rt, "memory");
     let sent = exchange.sent.as_slice();
     let reads = exchange.reads.as_slice();
     for (read, answered) in reads.iter().zip(exchange.answered_before.iter()) {
@@ -39,13 +38,12 @@ fn assert_reads_fail<R: Threads + Wait + Abort + Copy + Drop + Send + Sync>(
         let expected = exchange.answered.get(..*answered);
         assert!(rt; Some(run.output.as_slice()) == expected, "{name}, at {at}");
     }
-    Ok(())
 }
 
 #[test]
-fn ends_where_a_read_fails(rt: HostRuntime) -> Result<(), Fail> {
-    assert_reads_fail(&rt, rt.alloc(), &NOTHING)?;
-    assert_reads_fail(&rt, rt.alloc(), &PROCEDURES)
+fn ends_where_a_read_fails(rt: HostRuntime) {
+    assert_reads_fail(&rt, rt.alloc(), &NOTHING);
+    assert_reads_fail(&rt, rt.alloc(), &PROCEDURES);
 }
 
 /// The output takes the first bytes of a session, and fails at the next write.
@@ -80,29 +78,28 @@ fn assert_writes_fail<R: Threads + Wait + Abort + Copy + Drop + Send + Sync>(
     rt: &R,
     alloc: Global,
     session: &Debugging,
-) -> Result<(), Fail> {
-    let exchange = Exchange::new(alloc, session.transcript)?;
+) {
+    let exchange = Exchange::new(alloc, session.transcript).expect(rt, "memory");
     for (begin, end) in exchange.answers.as_slice() {
         for room in [*begin, begin.saturating_add(1), end.saturating_sub(1)] {
             assert_write_fails(rt, alloc, session, &exchange, room);
         }
     }
-    Ok(())
 }
 
 #[test]
-fn ends_where_a_write_fails(rt: HostRuntime) -> Result<(), Fail> {
-    assert_writes_fail(&rt, rt.alloc(), &NOTHING)?;
-    assert_writes_fail(&rt, rt.alloc(), &PROCEDURES)
+fn ends_where_a_write_fails(rt: HostRuntime) {
+    assert_writes_fail(&rt, rt.alloc(), &NOTHING);
+    assert_writes_fail(&rt, rt.alloc(), &PROCEDURES);
 }
 
 /// Reads fail at each byte in turn.
 #[test]
-fn ends_where_a_read_fails_within_a_frame(rt: HostRuntime) -> Result<(), Fail> {
+fn ends_where_a_read_fails_within_a_frame(rt: HostRuntime) {
     let alloc = rt.alloc();
-    let input = frames(alloc, HELLO, SENT)?;
-    let first = frames(alloc, INITIALIZE, SENT)?;
-    let answer = frames(alloc, INITIALIZE, ANSWERED)?;
+    let input = frames(alloc, HELLO, SENT).expect(&rt, "memory");
+    let first = frames(alloc, INITIALIZE, SENT).expect(&rt, "memory");
+    let answer = frames(alloc, INITIALIZE, ANSWERED).expect(&rt, "memory");
     for read_step in [1, first.len()] {
         for read_fails_at in 0..input.len() {
             let streams = Streams {
@@ -120,16 +117,14 @@ fn ends_where_a_read_fails_within_a_frame(rt: HostRuntime) -> Result<(), Fail> {
             assert!(rt; run.output.as_slice() == expected, "at {read_fails_at}");
         }
     }
-    Ok(())
 }
 
 /// Writes fail, or take nothing, after each number of bytes in turn.
 #[test]
-fn ends_where_a_write_fails_within_a_frame(rt: HostRuntime) -> Result<(), Fail> {
+fn ends_where_a_write_fails_within_a_frame(rt: HostRuntime) {
     let alloc = rt.alloc();
-    let exchange = Exchange::new(alloc, HELLO)?;
+    let exchange = Exchange::new(alloc, HELLO).expect(&rt, "memory");
     for room in 0..exchange.answered.len() {
         assert_write_fails(&rt, alloc, &NOTHING, &exchange, room);
     }
-    Ok(())
 }

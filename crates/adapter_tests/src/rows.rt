@@ -3,7 +3,6 @@
 use crate::transcript::{ANSWERED, SENT, frames};
 use dap_frame::FramingFault;
 use dap_session::{Closed, SessionFault};
-use std::test::Fail;
 
 /// A session: what is sent and answered, and how it ends.
 #[derive(Clone, Copy)]
@@ -200,14 +199,13 @@ pub const fn fault_row(
 
 /// The frames of the first row, byte for byte: the other rows compare frames that the tests make.
 #[test]
-fn makes_the_frames_of_a_transcript(rt: HostRuntime) -> Result<(), Fail> {
-    let sent = frames(rt.alloc(), HELLO, SENT)?;
+fn makes_the_frames_of_a_transcript(rt: HostRuntime) {
+    let sent = frames(rt.alloc(), HELLO, SENT).expect(&rt, "memory");
     let expected =
         "Content-Length: 49\r\n\r\n{\"seq\":1,\"type\":\"request\",\"command\":\"initialize\"}Content-Length: 49\r\n\r\n{\"seq\":2,\"type\":\"request\",\"command\":\"disconnect\"}";
     assert_eq!(rt; sent.as_slice(), expected.as_bytes());
-    let answered = frames(rt.alloc(), HELLO, ANSWERED)?;
+    let answered = frames(rt.alloc(), HELLO, ANSWERED).expect(&rt, "memory");
     let expected =
         "Content-Length: 209\r\n\r\n{\"body\":{\"supportsConditionalBreakpoints\":true,\"supportsConfigurationDoneRequest\":true,\"supportsHitConditionalBreakpoints\":true},\"command\":\"initialize\",\"request_seq\":1,\"seq\":1,\"success\":true,\"type\":\"response\"}Content-Length: 81\r\n\r\n{\"command\":\"disconnect\",\"request_seq\":2,\"seq\":2,\"success\":true,\"type\":\"response\"}";
     assert_eq!(rt; answered.as_slice(), expected.as_bytes());
-    Ok(())
 }

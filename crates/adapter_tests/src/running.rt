@@ -10,7 +10,6 @@ use dap_session::Loader;
 use std::alloc::Global;
 use std::process::Abort;
 use std::sync::Wait;
-use std::test::Fail;
 use std::thread::Threads;
 
 /// What a run must come to.
@@ -61,11 +60,11 @@ For more information, try '--help'.
 ";
 
 #[test]
-fn serves_with_no_arguments(rt: HostRuntime) -> Result<(), Fail> {
+fn serves_with_no_arguments(rt: HostRuntime) {
     let alloc = rt.alloc();
     let files = &mut Unreadable::new(alloc);
-    let sent = input(alloc, HELLO, "")?;
-    let answered = frames(alloc, HELLO, ANSWERED)?;
+    let sent = input(alloc, HELLO, "").expect(&rt, "memory");
+    let answered = frames(alloc, HELLO, ANSWERED).expect(&rt, "memory");
     let expected = Expected {
         output: answered.as_slice(),
         errors: "",
@@ -81,15 +80,14 @@ fn serves_with_no_arguments(rt: HostRuntime) -> Result<(), Fail> {
             expected
         )
     );
-    Ok(())
 }
 
 #[test]
-fn says_why_serving_failed(rt: HostRuntime) -> Result<(), Fail> {
+fn says_why_serving_failed(rt: HostRuntime) {
     let alloc = rt.alloc();
     let files = &mut Unreadable::new(alloc);
-    let sent = input(alloc, INITIALIZE, "A b: c\r\n")?;
-    let answered = frames(alloc, INITIALIZE, ANSWERED)?;
+    let sent = input(alloc, INITIALIZE, "A b: c\r\n").expect(&rt, "memory");
+    let answered = frames(alloc, INITIALIZE, ANSWERED).expect(&rt, "memory");
     let expected = Expected {
         output: answered.as_slice(),
         errors: "pl0dap: frame 2\n",
@@ -115,7 +113,6 @@ fn says_why_serving_failed(rt: HostRuntime) -> Result<(), Fail> {
         status: 1,
     };
     assert!(rt; comes_to(&rt, &["pl0dap"], files, sent.as_slice(), full, expected));
-    Ok(())
 }
 
 #[test]

@@ -7,7 +7,6 @@ use adapter::{Reading, ServeFault, Served, Writing, end_of_serve, serve};
 use std::alloc::Global;
 use std::process::Abort;
 use std::sync::Wait;
-use std::test::Fail;
 use std::thread::Threads;
 
 /// What came of a session.
@@ -55,15 +54,13 @@ fn is_served<R: Threads + Wait + Abort + Copy + Drop + Send + Sync>(
     input: &[u8],
     streams: Streams,
     expected: Expected,
-) -> Result<bool, Fail> {
+) -> bool {
     let run = run(rt, alloc, "", input, streams);
     let reason = end_of_serve(&run.end);
-    let line = format!(in alloc; "{reason}")?;
-    Ok(
-        run.output.as_slice() == expected.output
-            && reason.status() == expected.status
-            && line.as_str() == expected.last_line,
-    )
+    let line = format!(in alloc; "{reason}").expect(rt, "memory");
+    run.output.as_slice() == expected.output
+        && reason.status() == expected.status
+        && line.as_str() == expected.last_line
 }
 
 /// The streams of reads and writes of `step` bytes each.
@@ -80,17 +77,17 @@ fn assert_served<R: Threads + Wait + Abort + Copy + Drop + Send + Sync>(
     rt: &R,
     alloc: Global,
     row: &Row,
-) -> Result<(), Fail> {
+) {
     let name = row.name;
-    let input = input(alloc, row.transcript, row.tail)?;
-    let output = frames(alloc, row.transcript, ANSWERED)?;
+    let input = input(alloc, row.transcript, row.tail).expect(rt, "memory");
+    let output = frames(alloc, row.transcript, ANSWERED).expect(rt, "memory");
     let expected = Expected {
         output: output.as_slice(),
         status: row.status,
         last_line: row.last_line,
     };
     assert!(rt;
-        is_served(rt, alloc, input.as_slice(), by(1), expected)?,
+        is_served(rt, alloc, input.as_slice(), by(1), expected),
         "{name}, by bytes"
     );
     for at in 0..input.len() {
@@ -100,46 +97,43 @@ fn assert_served<R: Threads + Wait + Abort + Copy + Drop + Send + Sync>(
             ..Streams::WELL
         };
         assert!(rt;
-            is_served(rt, alloc, input.as_slice(), streams, expected)?,
+            is_served(rt, alloc, input.as_slice(), streams, expected),
             "{name}, cut at {at}"
         );
     }
-    Ok(())
 }
 
 #[test]
-fn serves_rows_however_cut(rt: HostRuntime) -> Result<(), Fail> {
+fn serves_rows_however_cut(rt: HostRuntime) {
     for row in ROWS.as_slice() {
-        assert_served(&rt, rt.alloc(), row)?;
+        assert_served(&rt, rt.alloc(), row);
     }
-    Ok(())
 }
 
 #[test]
-fn serves_to_faults_however_cut(rt: HostRuntime) -> Result<(), Fail> {
+fn serves_to_faults_however_cut(rt: HostRuntime) {
     for (tail, fault, last_line) in FAULTS.as_slice() {
         for transcript in ["", INITIALIZE] {
             let row = fault_row(transcript, tail, *fault, last_line);
-            assert_served(&rt, rt.alloc(), &row)?;
+            assert_served(&rt, rt.alloc(), &row);
         }
     }
-    Ok(())
 }
 
 /// A header part of 1,024 bytes is read, and one of 1,025 is a fault.
 #[test]
-fn serves_headers_up_to_the_limit(rt: HostRuntime) -> Result<(), Fail> {
+fn serves_headers_up_to_the_limit(rt: HostRuntime) {
     let alloc = rt.alloc();
     let front = "Content-Length: 49\r\nX: ";
     let back = "\r\n\r\n{\"seq\":1,\"type\":\"request\",\"command\":\"initialize\"}";
-    let answer = frames(alloc, INITIALIZE, ANSWERED)?;
+    let answer = frames(alloc, INITIALIZE, ANSWERED).expect(&rt, "memory");
     let rows = [
         (997, answer.as_slice(), 0, ""),
         (998, b"".as_slice(), 2, "pl0dap: frame 1"),
     ];
     for (letters, output, status, last_line) in rows {
-        let name = "a".repeat(alloc, letters)?;
-        let input = format!(in alloc; "{front}{name}{back}")?;
+        let name = "a".repeat(alloc, letters).expect(&rt, "memory");
+        let input = format!(in alloc; "{front}{name}{back}").expect(&rt, "memory");
         let expected = Expected {
             output,
             status,
@@ -147,25 +141,24 @@ fn serves_headers_up_to_the_limit(rt: HostRuntime) -> Result<(), Fail> {
         };
         for step in [usize::MAX, 1, 1000] {
             assert!(rt;
-                is_served(&rt, alloc, input.as_bytes(), by(step), expected)?,
+                is_served(&rt, alloc, input.as_bytes(), by(step), expected),
                 "{letters} by {step}"
             );
         }
     }
-    Ok(())
 }
 
 /// A content of 1,048,576 bytes is decoded and answered, and not refused as out of memory.
 #[test]
-fn serves_the_largest_content(rt: HostRuntime) -> Result<(), Fail> {
+fn serves_the_largest_content(rt: HostRuntime) {
     let alloc = rt.alloc();
     let front =
         "Content-Length: 1048576\r\n\r\n{\"seq\":1,\"type\":\"request\",\"command\":\"initialize\"}";
     let back =
         "Content-Length: 49\r\n\r\n{\"seq\":2,\"type\":\"request\",\"command\":\"disconnect\"}";
-    let spaces = " ".repeat(alloc, 1_048_527)?;
-    let input = format!(in alloc; "{front}{spaces}{back}")?;
-    let output = frames(alloc, HELLO, ANSWERED)?;
+    let spaces = " ".repeat(alloc, 1_048_527).expect(&rt, "memory");
+    let input = format!(in alloc; "{front}{spaces}{back}").expect(&rt, "memory");
+    let output = frames(alloc, HELLO, ANSWERED).expect(&rt, "memory");
     let expected = Expected {
         output: output.as_slice(),
         status: 0,
@@ -173,18 +166,17 @@ fn serves_the_largest_content(rt: HostRuntime) -> Result<(), Fail> {
     };
     for step in [usize::MAX, 1000] {
         assert!(rt;
-            is_served(&rt, alloc, input.as_bytes(), by(step), expected)?,
+            is_served(&rt, alloc, input.as_bytes(), by(step), expected),
             "by {step}"
         );
     }
-    Ok(())
 }
 
 #[test]
-fn serves_streams_of_std(rt: HostRuntime) -> Result<(), Fail> {
+fn serves_streams_of_std(rt: HostRuntime) {
     let alloc = rt.alloc();
-    let input = frames(alloc, HELLO, SENT)?;
-    let expected = frames(alloc, HELLO, ANSWERED)?;
+    let input = frames(alloc, HELLO, SENT).expect(&rt, "memory");
+    let expected = frames(alloc, HELLO, ANSWERED).expect(&rt, "memory");
     let mut output = Vec::new(alloc);
     let progress = Progress::new();
     let result = serve(
@@ -197,5 +189,4 @@ fn serves_streams_of_std(rt: HostRuntime) -> Result<(), Fail> {
     );
     assert_eq!(rt; result, Ok(Served::Disconnected));
     assert_eq!(rt; output.as_slice(), expected.as_slice());
-    Ok(())
 }
