@@ -6,10 +6,10 @@
 #include <unistd.h>
 
 static const char usual[] =
-    "Content-Length: 209\r\n\r\n"
+    "Content-Length: 258\r\n\r\n"
     "{\"body\":{\"supportsConditionalBreakpoints\":true,\"supportsConfigurationDoneRequest\":true,"
-    "\"supportsHitConditionalBreakpoints\":true},\"command\":\"initialize\",\"request_seq\":1,\"seq\":1,\"success\":true,"
-    "\"type\":\"response\"}";
+    "\"supportsHitConditionalBreakpoints\":true,\"supportsLogPoints\":true,\"supportsStepBack\":true},"
+    "\"command\":\"initialize\",\"request_seq\":1,\"seq\":1,\"success\":true,\"type\":\"response\"}";
 
 static char answer[1 << 20];
 static char bytes[(1 << 20) + 1];

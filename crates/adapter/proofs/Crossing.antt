@@ -13,12 +13,12 @@ use Rattle.dap_wires.proofs.Crossing.{client_sender_send, client_sender_field_se
 use Rattle.adapter.specs.contracts.jobs.ReaderTask as ReaderTask
 use Rattle.adapter.specs.contracts.jobs.RunnerTask as RunnerTask
 
-pub runner_task_send : (G R : RattleType) → IsSend G → IsSend R → IsSend (RunnerTask.the_row G R)
-runner_task_send G R g r =
+pub runner_task_send : (α : NamedLft) (G R : RattleType) → IsSend G → IsSend R → IsSend (RunnerTask.the_row α G R)
+runner_task_send α G R g r =
     let a = order_receiver_field_send R r in let b = report_sender_field_send R r in search (crosses, sendable) depth 60 fits 20000
 
-pub runner_output_send : (R : RattleType) → IsSend R → IsSend (Tuple (OrderReceiver.the_row R ∷ ReportSender.the_row R ∷ []))
-runner_output_send R r =
+pub runner_output_send : (α : NamedLft) (G R : RattleType) → IsSend G → IsSend R → IsSend (Tuple (OrderReceiver.the_row R ∷ ReportSender.the_row R ∷ MutRef α.mir α.lft G ∷ []))
+runner_output_send α G R g r =
     let a = order_receiver_send R r in let b = report_sender_send R r in search (crosses, sendable) depth 60 fits 20000
 
 pub reader_task_send : (α : NamedLft) (I R : RattleType) → IsSend I → IsSend R → IsSend (ReaderTask.the_row α I R)

@@ -1,9 +1,11 @@
 -- When all threads have ended: what each of them knows, put together.
-use Rattle.std.proofs.Common.{◌≡◌, ◌≢◌, ◌⊎◌, inl, inr, ℕ, true, false, true≢false, List, [], ◌∷◌, ◌++◌, Result, Ok, Err, refl, sym, ap, ◌∙◌, subst, append_assoc, append-nil, rules}
+use Rattle.std.proofs.Common.{◌≡◌, ◌≢◌, ◌<◌, ◌≤◌, ◌⊎◌, inl, inr, ℕ, true, false, true≢false, arith, List, [], ◌∷◌, ◌++◌, Result, Ok, Err, refl, sym, ap, ◌∙◌, subst, append_assoc, append-nil, rules}
 use Rattle.std.specs.Prelude.{map, drop}
+use Rattle.std.specs.Result.{is_err}
 use Rattle.std.specs.List.{concat, flat_map}
 use Rattle.std.proofs.lemmas.List.Folds.{concat-append}
 use Rattle.dap_history.specs.declared.fault.SessionFault.{SessionFault}
+use Rattle.dap_history.specs.declared.fault.SessionFault.TheVariants.{OrdersFull, RunnerGone, WriterGone}
 use Rattle.dap_history.specs.declared.ending.Closed.{Closed}
 use Rattle.dap_history.specs.declared.ending.Closed.TheVariants as closed
 use Rattle.dap_history.specs.declared.ending.Ending.{Ending}
@@ -14,10 +16,10 @@ use Rattle.dap_history.specs.Events.{NoMemory as NoMemoryCame}
 use Rattle.dap_history.specs.Interleaving.{Load}
 use Rattle.dap_history.proofs.Closings.{closed_by_end, closed_by_failure, interleaved_end, interleaved_failure, quit_is_last}
 use Rattle.dap_session.specs.Ports.{Ports, Ordered}
-use Rattle.dap_session.specs.Sending.{Begins}
-use Rattle.dap_session.specs.Serving.{Serves, Drives, closes}
+use Rattle.dap_session.specs.Sending.{Begins, HasTriedQuit, ordered_at}
+use Rattle.dap_session.specs.Serving.{Serves, Drives, closes, gives_up}
 use Rattle.dbg_runner.specs.Plain.{PlainOrder, PlainReport, Quit}
-use Rattle.dbg_runner.specs.Queues.{order_in, sent_in, handed_back_in}
+use Rattle.dbg_runner.specs.Queues.{order_in, sent_in, handed_back_in, passed_in}
 use Rattle.dbg_runner.specs.Runner.{Act, Runner, Idle, Ended, Does, Leads}
 use Rattle.dbg_runner.specs.Runner as runner
 use Rattle.dap_wires.specs.declared.parcel.Parcel.{Parcel}
@@ -25,6 +27,7 @@ use Rattle.dap_wires.specs.declared.parcel.Parcel.TheVariants as parcel
 use Rattle.dap_wires.specs.declared.reading.ReadEnd.{ReadEnd}
 use Rattle.dap_wires.specs.declared.reading.ReadEnd.TheVariants as ends
 use Rattle.dap_wires.specs.declared.writing.WriteFailed.{WriteFailed}
+use Rattle.dap_wires.specs.Orders.{FourWereInside}
 use Rattle.dap_wires.specs.Parcels.{frames_in, has_end, AreEnded}
 use Rattle.dap_wires.specs.Reading.{IsReadUntil, last_of}
 use Rattle.dap_wires.specs.Senders.{from_client, reports_among}
@@ -78,9 +81,52 @@ writes_frames (Err failed) taken put frames old later begins frames_are ended wr
       written.1.1,
     )
 
+-- without the end the writer ended by a failure
+write_fails : (wrote : Result (Unit {0}) WriteFailed) (taken put : List Parcel) (old later : Output) → Begins taken put → has_end put ≡ false → IsWrittenUntil wrote taken old later → is_err wrote ≡ true
+write_fails (Ok done) taken put old later begins without written =
+    absurd (true≢false (sym (ended_has taken begins.0 written.0) ∙ (ap has_end begins.1 ∙ without)))
+write_fails (Err failed) taken put old later begins without written = refl
+
+-- ---- the session's faults
+
+-- The order to quit takes no refusal back.
+keeps_refusals : (old later : Ordered) → HasTriedQuit old later → (old.fulls ≤ later.fulls) × (old.refusals ≤ later.refusals)
+keeps_refusals old later (inl pushed) = let fulls = pushed.1 in let refusals = pushed.2 in (omega (arith, fulls), omega (arith, refusals))
+keeps_refusals old later (inr refused) = by_count refused.1
+  where
+    by_count : ((old.fulls < later.fulls) × (later.refusals ≡ old.refusals)) ⊎ ((old.refusals < later.refusals) × (later.fulls ≡ old.fulls))
+        → (old.fulls ≤ later.fulls) × (old.refusals ≤ later.refusals)
+    by_count (inl full) = let more = full.0 in let same = full.1 in (omega (arith, more), omega (arith, same))
+    by_count (inr gone) = let more = gone.0 in let same = gone.1 in (omega (arith, same), omega (arith, more))
+
+-- Where the session answers that the queue of orders was full, it found it so.
+found_full : (events given : List Incoming) (loads : List Load) (sent : Ports) → Drives events given loads nothing_sent sent (Err OrdersFull) → sent.orders_full ≢ 0
+found_full events given loads sent (gives_up cannot from short) = λ none.
+    let found = short.fails.breaks.1 in
+    let kept = (keeps_refusals (ordered_at short.stopped) (ordered_at sent) short.quit.quit).0 in omega (arith, found, kept, none)
+
+-- Where it answers that the runner is gone, the port had said so.
+pub found_runner_gone : (events given : List Incoming) (loads : List Load) (sent : Ports) → Drives events given loads nothing_sent sent (Err RunnerGone) → sent.runner_gone ≢ 0
+found_runner_gone events given loads sent (gives_up cannot from short) = λ none.
+    let found = short.fails.breaks.1 in
+    let kept = (keeps_refusals (ordered_at short.stopped) (ordered_at sent) short.quit.quit).1 in omega (arith, found, kept, none)
+
+not_empty : {A : Type 0} (xs : List A) (x : A) → xs ++ x ∷ [] ≢ []
+not_empty [] x none = absurd (search (none, rules))
+not_empty (y ∷ xs) x none = absurd (search (none, rules))
+
+-- Where it answers that the writer is gone, a frame was refused.
+found_gone : (events given : List Incoming) (loads : List Load) (sent : Ports) → Drives events given loads nothing_sent sent (Err WriterGone) → sent.refused ≢ []
+found_gone events given loads sent (gives_up cannot from short) = λ none.
+    let broke = short.fails.breaks in
+    not_empty short.fails.between.refused broke.frame (sym broke.refused_are ∙ (sym short.quit.refused_are ∙ none))
+
+pub moved : {xs ys : List PlainOrder} → FourWereInside xs → xs ≡ ys → FourWereInside ys
+moved four same = subst FourWereInside same four
+
 -- ---- the reader
 
-abbrev IsPiece : Incoming → Type 0
+abbrev pub IsPiece : Incoming → Type 0
 IsPiece (Piece bytes) = Unit {0}
 IsPiece End = ⊥
 IsPiece ReadFailed = ⊥
@@ -89,12 +135,12 @@ IsPiece (File file) = ⊥
 IsPiece (Report r) = ⊥
 
 -- at most one event
-abbrev AtMostOne : List Incoming → Type 0
+abbrev pub AtMostOne : List Incoming → Type 0
 AtMostOne [] = Unit {0}
 AtMostOne (e ∷ []) = Unit {0}
 AtMostOne (e ∷ f ∷ events) = ⊥
 
-last_one : (end : ReadEnd) → AtMostOne (last_of end)
+pub last_one : (end : ReadEnd) → AtMostOne (last_of end)
 last_one ends.Ended = tt
 last_one ends.Failed = tt
 last_one ends.NoMemory = tt
@@ -109,7 +155,7 @@ none_after (a ∷ []) (x ∷ z ∷ xs) ys own one e = absurd (search (tail_is e,
 none_after (a ∷ b ∷ last) xs ys own one e = absurd one
 
 -- after pieces comes one event at most: what is no piece is the last
-last_sent : (pieces : List (List ℕ)) (last xs ys : List Incoming) (own : Incoming) → AtMostOne last → ¬ IsPiece own
+pub last_sent : (pieces : List (List ℕ)) (last xs ys : List Incoming) (own : Incoming) → AtMostOne last → ¬ IsPiece own
     → xs ++ own ∷ ys ≡ map Piece pieces ++ last → ys ≡ []
 last_sent [] last xs ys own one other e = none_after last xs ys own one e
 last_sent (p ∷ pieces) last [] ys own one other e =
@@ -141,17 +187,17 @@ finishes : {from next : Runner} {act : Act} → Does from act next → Finishes 
 finishes runner.takes_go = inl (λ e. search (e, rules))
 finishes runner.has_none_to_hold = inl (λ e. search (e, rules))
 finishes runner.quits = inr (inl refl)
-finishes runner.passes = inl (λ e. search (e, rules))
+finishes (runner.passes _) = inl (λ e. search (e, rules))
 finishes (runner.goes_on _ _) = inl (λ e. search (e, rules))
-finishes (runner.stops _ _ _) = inl (λ e. search (e, rules))
-finishes (runner.is_refused _ _) = inr (inr (λ e. search (e, rules)))
+finishes (runner.stops _ _) = inl (λ e. search (e, rules))
+finishes (runner.is_refused _) = inr (inr (λ e. search (e, rules)))
 finishes runner.finds_none = inl (λ e. search (e, rules))
 finishes runner.finds_go = inl (λ e. search (e, rules))
-finishes runner.finds_hold = inl (λ e. search (e, rules))
-finishes (runner.finds_other_hold _) = inl (λ e. search (e, rules))
+finishes (runner.finds_hold _) = inl (λ e. search (e, rules))
+finishes (runner.finds_vain_hold _) = inl (λ e. search (e, rules))
 finishes runner.finds_quit = inr (inl refl)
-finishes (runner.holds _ _) = inl (λ e. search (e, rules))
-finishes (runner.is_refused_held _ _) = inr (inr (λ e. search (e, rules)))
+finishes (runner.holds _) = inl (λ e. search (e, rules))
+finishes (runner.is_refused_held _) = inr (inr (λ e. search (e, rules)))
 
 last_act : (act : Act) (next : Runner) → next ≡ Ended → Finishes act next → EndsBy (act ∷ [])
 last_act act next ended (inl goes_on) = absurd (goes_on ended)
@@ -202,14 +248,15 @@ takes_orders (Ok by) events given loads sent acts (closes from serves) leads beg
 takes_orders (Err fault) events given loads sent acts drives leads begins = begins
 
 -- Nothing was taken, put or pushed when all began.
-pub gathers : (wrote : Result (Unit {0}) WriteFailed) (result : Result Closed SessionFault) (loads later_loads : List Load) (old later : Streams)
+pub gathers : (wrote : Result (Unit {0}) WriteFailed) (result : Result Closed SessionFault) (loads later_loads : List Load) (passed later_passed : List (ℕ × ℕ)) (old later : Streams)
     (given : List Incoming) (put : List Parcel) (pushed : Ordered) (end : ReadEnd) (client : List Incoming) (acts : List Act) (reports : List PlainReport) (orders : List PlainOrder) (taken : List Parcel)
     → Drove result [] given loads later_loads nothing_sent put pushed
     → IsReadUntil end client (input_of old) (input_of later) → Begins (from_client given) client
-    → Leads Idle acts Ended → orders ≡ flat_map order_in acts → reports ≡ flat_map sent_in acts → Begins orders pushed.orders → Begins (reports_among given) reports
+    → Leads Idle acts Ended → orders ≡ flat_map order_in acts → reports ≡ flat_map sent_in acts → Begins orders pushed.orders → (pushed.fulls ≢ 0 → FourWereInside pushed.orders) → Begins (reports_among given) reports
+    → later_passed ≡ passed ++ flat_map passed_in acts
     → IsWrittenUntil wrote taken (output_of old) (output_of later) → Begins taken put
-    → IsDriven wrote result loads later_loads old later
-gathers wrote result loads later_loads old later given put pushed end client acts reports orders taken drove read client_taken leads orders_are reports_are orders_taken reports_taken written put_taken =
+    → IsDriven wrote result loads later_loads passed later_passed old later
+gathers wrote result loads later_loads passed later_passed old later given put pushed end client acts reports orders taken drove read client_taken leads orders_are reports_are orders_taken four reports_taken gate_passed written put_taken =
     let d = drove.driven in
     let drives : Drives d.events given d.loads nothing_sent drove.later result = subst (λ g. Drives d.events g d.loads nothing_sent drove.later result) (sym d.given_are) d.drives in
     let begins : Begins (flat_map order_in acts) drove.later.orders = subst (λ o. Begins o drove.later.orders) orders_are (subst (λ o. Begins orders o) drove.orders_are orders_taken) in
@@ -222,6 +269,10 @@ gathers wrote result loads later_loads old later given put pushed end client act
       drives = drives;
       loads_are = d.loads_are;
       never_gone = drove.never_gone;
+      full = λ is. subst FourWereInside drove.orders_are
+          (four (λ none. found_full d.events given d.loads drove.later (subst (λ r. Drives d.events given d.loads nothing_sent drove.later r) is drives) (sym drove.fulls_are ∙ none)));
+      writer_gone = λ is. write_fails wrote taken put (output_of old) (output_of later) put_taken
+          (drove.refused (found_gone d.events given d.loads drove.later (subst (λ r. Drives d.events given d.loads nothing_sent drove.later r) is drives))) written;
       end = end;
       client = client;
       read = read;
@@ -230,5 +281,6 @@ gathers wrote result loads later_loads old later given put pushed end client act
       worked = leads;
       orders_taken = takes_orders result d.events given d.loads drove.later acts drives leads begins;
       reports_taken = subst (λ r. Begins (reports_among given) r) reports_are reports_taken;
+      gate_passed = gate_passed;
       written = writes_frames wrote taken put drove.later.frames (output_of old) (output_of later) put_taken drove.frames_are drove.ended written;
     }

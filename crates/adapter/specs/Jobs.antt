@@ -1,5 +1,5 @@
 -- What the session's thread leaves.
-use Rattle.std.specs.Prelude.{◌≡◌, ◌⊎◌, false, List, Result}
+use Rattle.std.specs.Prelude.{◌≡◌, ◌≢◌, ◌⊎◌, [], false, List, Result}
 use Rattle.dap_history.specs.declared.fault.SessionFault.{SessionFault}
 use Rattle.dap_history.specs.declared.ending.Closed.{Closed}
 use Rattle.dap_history.specs.Events.{Incoming}
@@ -10,11 +10,13 @@ use Rattle.dap_wires.specs.declared.parcel.Parcel.{Parcel}
 use Rattle.dap_wires.specs.Parcels.{frames_in, has_end, AreEnded}
 
 -- A session was driven over its ends: these parcels were put, and these orders pushed. The end was put after the frames, or
--- refused.
+-- not at all, and where a frame was refused it was not.
 pub record Drove (result : Result Closed SessionFault) (given later_given : List Incoming) (loads later_loads : List Load) (old : Ports) (parcels : List Parcel) (pushed : Ordered) : Type 0 where
   pub later : Ports
   pub driven : Driven result given later_given loads later_loads old later
   pub frames_are : frames_in parcels ≡ later.frames
   pub orders_are : pushed.orders ≡ later.orders
+  pub fulls_are : pushed.fulls ≡ later.orders_full
   pub never_gone : later.runner_gone ≡ 0
   pub ended : (has_end parcels ≡ false) ⊎ AreEnded parcels
+  pub refused : later.refused ≢ [] → has_end parcels ≡ false

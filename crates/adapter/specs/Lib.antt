@@ -1,5 +1,6 @@
 -- what one must believe: cited by the contracts of public functions
 pub mod Serving
+pub mod Laws
 pub mod ExitReasons
 pub mod Loading
 pub mod Arguments

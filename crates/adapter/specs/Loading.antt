@@ -1,9 +1,10 @@
 -- What a loader of files has given, as its contract sees it.
-use Rattle.std.specs.Prelude.{ℕ, List, map, string_bytes, Result, Ok, Err, Vec}
+use Rattle.std.specs.Prelude.{ℕ, List, Option, map, string_bytes, Result, Ok, Err, Vec}
 use Rattle.std.specs.declared.alloc.Global.{Global}
 use Rattle.dap_history.specs.declared.fault.LoadFault.{LoadFault}
 use Rattle.dap_history.specs.Interleaving.{Load}
 use Rattle.dap_session.specs.Ports.{load_of}
+use Rattle.dap_wires.specs.Transfer.{BeginsWith}
 use Rattle.adapter.specs.declared.files.Given.{Given}
 
 abbrev pub bytes_of : Result (Vec ℕ Global) LoadFault → Result (List ℕ) LoadFault
@@ -12,3 +13,8 @@ bytes_of (Err fault) = Err fault
 
 abbrev pub loads : List Given → List Load
 loads given = map (λ g. load_of (string_bytes g.path) (bytes_of g.answer)) given
+
+-- The file was opened, and these are the first bytes that it has left, 65,537 of them where there are more, and else all.
+abbrev pub IsOfFile : {I E : Type 0} → (I → Option (List ℕ)) → Result I E → List ℕ → Type 0
+IsOfFile left (Ok file) bytes = (later : Option (List ℕ)) × BeginsWith bytes (left file) later
+IsOfFile left (Err error) bytes = ⊥

@@ -17,10 +17,11 @@ use Rattle.adapter.specs.Listing.{line_feed}
 use Rattle.adapter.specs.Serving.{Streams, output_of, IsServed}
 use Rattle.byte_streams.specs.Streams.{Output, WritesAll, FailsIn, Says}
 
--- A client was served, and the reason says how that went.
+-- A client was served, through a gate that nothing had passed, and the reason says how that went.
 pub record EndsServing (reason : ExitReason) (loads later_loads : List Load) (old later : Streams) : Type 0 where
   pub outcome : Result Served ServeFault
-  pub served : IsServed outcome loads later_loads old later
+  pub passed : List (ℕ × ℕ)
+  pub served : IsServed outcome loads later_loads [] passed old later
   pub reason_is : reason ≡ reason_of_serve outcome
 
 -- nothing was read

@@ -1,8 +1,9 @@
 -- What a whole run over an input and an output reads and writes.
-use Rattle.std.specs.Prelude.{◌≡◌, ◌≢◌, ◌⊎◌, ◌++◌, [], ℕ, List, Option, Result, Ok, Err}
+use Rattle.std.specs.Prelude.{◌≡◌, ◌≢◌, ◌⊎◌, ◌++◌, [], true, ℕ, List, Option, Result, Ok, Err}
+use Rattle.std.specs.Result.{is_err}
 use Rattle.std.specs.List.{concat, flat_map}
 use Rattle.dap_history.specs.declared.fault.SessionFault.{SessionFault}
-use Rattle.dap_history.specs.declared.fault.SessionFault.TheVariants.{NoMemory}
+use Rattle.dap_history.specs.declared.fault.SessionFault.TheVariants.{NoMemory, OrdersFull, WriterGone}
 use Rattle.dap_history.specs.declared.ending.Closed.{Closed}
 use Rattle.dap_history.specs.declared.ending.Closed.TheVariants as closed
 use Rattle.dap_history.specs.Events.{Incoming, AreLawful}
@@ -11,7 +12,7 @@ use Rattle.dap_session.specs.Ports.{Ports}
 use Rattle.dap_session.specs.Sending.{Begins}
 use Rattle.dap_session.specs.Serving.{Drives}
 use Rattle.dbg_runner.specs.Plain.{PlainOrder}
-use Rattle.dbg_runner.specs.Queues.{order_in, sent_in, handed_back_in}
+use Rattle.dbg_runner.specs.Queues.{order_in, sent_in, handed_back_in, passed_in}
 use Rattle.dbg_runner.specs.Runner.{Act, Idle, Ended, Leads}
 use Rattle.adapter.specs.declared.serving.Served.{Served}
 use Rattle.adapter.specs.declared.serving.Served.TheVariants as served
@@ -19,6 +20,7 @@ use Rattle.adapter.specs.declared.serving.ServeFault.{ServeFault}
 use Rattle.adapter.specs.declared.serving.ServeFault.TheVariants as fault
 use Rattle.dap_wires.specs.declared.reading.ReadEnd.{ReadEnd}
 use Rattle.dap_wires.specs.declared.writing.WriteFailed.{WriteFailed}
+use Rattle.dap_wires.specs.Orders.{FourWereInside}
 use Rattle.dap_wires.specs.Reading.{IsReadUntil}
 use Rattle.dap_wires.specs.Senders.{from_client, reports_among}
 use Rattle.byte_streams.specs.Streams.{Supply, supply, Output, output, WritesAll, FailsIn}
@@ -66,9 +68,9 @@ TakesAllOrders (Err fault) acts pushed = Begins (flat_map order_in acts) pushed
 -- ---- reader, runner, session and writer, side by side
 
 -- Each came to its end. What the session took is, of the reader and of the runner, a beginning of what that sent; what the
--- loader gave is what its launches wanted; the runner took a beginning of the orders that the session pushed; and the frames
--- that it put were written.
-pub record IsDriven (wrote : Result (Unit {0}) WriteFailed) (result : Result Closed SessionFault) (loads later_loads : List Load) (old later : Streams) : Type 0 where
+-- loader gave is what its launches wanted; the runner took a beginning of the orders that the session pushed, and its slices
+-- passed the gate; and the frames that the session put were written.
+pub record IsDriven (wrote : Result (Unit {0}) WriteFailed) (result : Result Closed SessionFault) (loads later_loads : List Load) (passed later_passed : List (ℕ × ℕ)) (old later : Streams) : Type 0 where
   -- the session
   pub events : List Incoming
   pub given : List Incoming
@@ -78,6 +80,9 @@ pub record IsDriven (wrote : Result (Unit {0}) WriteFailed) (result : Result Clo
   pub drives : Drives events given loaded nothing_sent sent result
   pub loads_are : later_loads ≡ loads ++ loaded
   pub never_gone : sent.runner_gone ≡ 0
+  -- it found the queue of orders full only where four were inside together, and the writer gone only where a write failed
+  pub full : result ≡ Err OrdersFull → FourWereInside sent.orders
+  pub writer_gone : result ≡ Err WriterGone → is_err wrote ≡ true
   -- the reader
   pub end : ReadEnd
   pub client : List Incoming
@@ -88,6 +93,8 @@ pub record IsDriven (wrote : Result (Unit {0}) WriteFailed) (result : Result Clo
   pub worked : Leads Idle acts Ended
   pub orders_taken : TakesAllOrders result acts sent.orders
   pub reports_taken : Begins (reports_among given) (flat_map sent_in acts)
+  -- the gate
+  pub gate_passed : later_passed ≡ passed ++ flat_map passed_in acts
   -- the writer
   pub written : Writes wrote (concat sent.frames) (output_of old) (output_of later)
 
@@ -101,8 +108,9 @@ outcome_of (Ok done) (Err f) = Err (fault.Session f)
 
 -- Serving went so. Where there was no memory for the queues, nothing was done; of a thread that can't be started nothing is
 -- said.
-pub data IsServed (outcome : Result Served ServeFault) (loads later_loads : List Load) (old later : Streams) : Type 0 where
+pub data IsServed (outcome : Result Served ServeFault) (loads later_loads : List Load) (passed later_passed : List (ℕ × ℕ)) (old later : Streams) : Type 0 where
   drove : (wrote : Result (Unit {0}) WriteFailed) (result : Result Closed SessionFault) → outcome ≡ outcome_of wrote result
-      → IsDriven wrote result loads later_loads old later → IsServed outcome loads later_loads old later
-  had_no_memory : outcome ≡ Err (fault.Session NoMemory) → later ≡ old → later_loads ≡ loads → IsServed outcome loads later_loads old later
-  had_no_thread : outcome ≡ Err fault.NoThread → IsServed outcome loads later_loads old later
+      → IsDriven wrote result loads later_loads passed later_passed old later → IsServed outcome loads later_loads passed later_passed old later
+  had_no_memory : outcome ≡ Err (fault.Session NoMemory) → later ≡ old → later_loads ≡ loads → later_passed ≡ passed
+      → IsServed outcome loads later_loads passed later_passed old later
+  had_no_thread : outcome ≡ Err fault.NoThread → IsServed outcome loads later_loads passed later_passed old later

@@ -8,7 +8,7 @@ use dap_session::{LoadFault, Loader};
 use dap_wires::read_beginning;
 use std::alloc::Global;
 use std::fs;
-use std::io::ErrorKind;
+use std::io::{self, ErrorKind, Read};
 use std::rt::Files;
 use std::sync::Wait;
 
@@ -49,7 +49,7 @@ impl<R: Files + Wait> Loader for FileLoader<'_, R> {
         let Ok(asked) = String::from_str(self.alloc, path) else {
             return Err(LoadFault::NoMemory);
         };
-        match read_file(self.rt, self.alloc, path) {
+        match read_file(self.rt, self.alloc, fs::open(self.rt, path)) {
             Ok(bytes) => {
                 let Ok(copy) = Vec::from_slice(self.alloc, bytes.as_slice()) else {
                     return Err(LoadFault::NoMemory);
@@ -75,12 +75,18 @@ impl<R: Files + Wait> Loader for FileLoader<'_, R> {
 }
 
 ghost use Rattle.std.specs.Prelude.{◌≤◌, length, IfOk};
+ghost use Rattle.adapter.specs.Loading.{IsOfFile};
 
-/// The first bytes of a file, 65,537 of them where it has more.
-fn read_file<R: Files + Wait>(rt: &R, alloc: Global, path: &str) -> Result<Vec<u8>, LoadFault>
-    ensures { IfOk result (λ bytes. length bytes.items ≤ 65537) }
+/// The first bytes of a file, 65,537 of them where it has more, if it was opened.
+fn read_file<R: Wait, I: Read + Drop>(
+    rt: &R,
+    alloc: Global,
+    opened: io::Result<I>,
+) -> Result<Vec<u8>, LoadFault>
+    ensures bytes { IfOk result (λ bytes. IsOfFile I.remaining opened bytes.items) }
+    ensures short { IfOk result (λ bytes. length bytes.items ≤ 65537) }
 {
-    match fs::open(rt, path) {
+    match opened {
         Ok(file) => read_beginning(rt, alloc, &mut Reading::new(rt, file)),
         Err(error) if error.kind() == ErrorKind::OutOfMemory => Err(LoadFault::NoMemory),
         Err(_) => Err(LoadFault::CannotRead),

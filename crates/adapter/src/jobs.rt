@@ -6,7 +6,7 @@ ghost use Rattle.dap_history.specs.Events.{Incoming};
 ghost use Rattle.dap_session.specs.Ports.{ports};
 ghost use Rattle.dap_session.specs.Serving.{Driven};
 ghost use Rattle.dbg_runner.specs.Runner.{Act, Idle, Ended, Leads};
-ghost use Rattle.dbg_runner.specs.Queues.{order_in, sent_in};
+ghost use Rattle.dbg_runner.specs.Queues.{order_in, sent_in, passed_in};
 ghost use Rattle.dap_wires.specs.declared.parcel.Parcel.{Parcel};
 ghost use Rattle.dap_wires.specs.Ends.{receipt_log, receipt_home};
 ghost use Rattle.dap_wires.specs.Inbox.{client_events, client_home, sent_reports, refused_reports, report_home, taken_events, received, event_home};
@@ -17,6 +17,7 @@ ghost use Rattle.byte_streams.specs.Streams.{supply, output as output_at};
 ghost use Rattle.dap_wires.specs.Writing.{IsWrittenUntil};
 ghost use Rattle.adapter.specs.Jobs.{Drove};
 
+use crate::gates::{Gated, OpenGate};
 use crate::tasks::{LastTask, Task};
 use byte_streams::{Sink, Source};
 use dap_session::{Closed, Event, Loader, Order, Orders, SessionFault, drive};
@@ -24,7 +25,7 @@ use dap_wires::{
     ClientSender, EndedSender, EventReceiver, FrameReceiver, FrameSender, OrderReceiver,
     OrderSender, Parcel, ReadEnd, Receipt, ReportSender, WriteFailed, read_loop, write_loop,
 };
-use dbg_runner::{Gate, History, Joined, work};
+use dbg_runner::{Gate, Joined, work};
 use std::alloc::Global;
 use std::sync::Wait;
 
@@ -116,53 +117,28 @@ impl<'a, O: Sink, R: Wait + Drop> Task for WriterTask<'a, O, R> {
     }
 }
 
-/// A gate with a list of the slices that passed since it was made.
-#[derive(Drop)]
-struct NotedGate<G: Drop> {
-    gate: G,
-    passed: History<(u64, u64)>,
-}
-
-impl<G: Gate + Drop> NotedGate<G> {
-    fn new(gate: G) -> NotedGate<G>
-        ensures { result.passed.entries ≡ [] }
-    {
-        NotedGate {
-            gate,
-            passed: History::new(),
-        }
-    }
-}
-
-impl<G: Gate + Drop> Gate for NotedGate<G> {
-    ghost passed = { λ gate. gate.passed.entries };
-
-    fn pass(&mut self, run: u64, slice: u64) {
-        self.gate.pass(run, slice);
-        self.passed = self.passed.and(&(run, slice));
-    }
-}
-
 /// Running the program that is debugged.
 #[derive(Drop)]
-pub struct RunnerTask<G: Drop, R: Wait + Drop> {
+pub struct RunnerTask<'a, G, R: Wait + Drop> {
     rt: R,
     alloc: Global,
     orders: OrderReceiver<R>,
     reports: ReportSender<R>,
-    gate: G,
+    gate: &'a mut G,
 }
 
-impl<G: Drop, R: Wait + Drop> RunnerTask<G, R> {
+impl<'a, G, R: Wait + Drop> RunnerTask<'a, G, R> {
     pub fn new(
         rt: R,
         alloc: Global,
         orders: OrderReceiver<R>,
         reports: ReportSender<R>,
-        gate: G,
-    ) -> RunnerTask<G, R>
+        gate: &'a mut G,
+    ) -> RunnerTask<'a, G, R>
         ensures orders { result.orders ≡ orders }
         ensures reports { result.reports ≡ reports }
+        ensures same_gate { result.gate.ghost_name ≡ gate.entry.ghost_name }
+        ensures gate { result.gate.now ≡ gate.old }
     {
         RunnerTask {
             rt,
@@ -174,16 +150,17 @@ impl<G: Drop, R: Wait + Drop> RunnerTask<G, R> {
     }
 }
 
-impl<G: Gate + Drop, R: Wait + Drop> Task for RunnerTask<G, R> {
-    type Output = (OrderReceiver<R>, ReportSender<R>);
+impl<'a, G: Gate, R: Wait + Drop> Task for RunnerTask<'a, G, R> {
+    type Output = (OrderReceiver<R>, ReportSender<R>, &'a mut G);
 
     ghost can_run = { λ t. (taken_orders t.orders ≡ []) × (sent_reports t.reports ≡ []) × (refused_reports t.reports ≡ []) };
 
-    ghost gives = { λ t r. (pop_home r.0 ≡ pop_home t.orders) × (report_home r.1 ≡ report_home t.reports)
+    ghost gives = { λ t r. (pop_home r.0 ≡ pop_home t.orders) × (report_home r.1 ≡ report_home t.reports) × (r.2.ghost_name ≡ t.gate.ghost_name)
         × ((acts : List Act) × Leads Idle acts Ended
-        × (taken_orders r.0 ≡ flat_map order_in acts) × (sent_reports r.1 ≡ flat_map sent_in acts)) };
+        × (taken_orders r.0 ≡ flat_map order_in acts) × (sent_reports r.1 ≡ flat_map sent_in acts)
+        × (G.passed r.2.now ≡ G.passed t.gate.now ++ flat_map passed_in acts)) };
 
-    fn run(self) -> (OrderReceiver<R>, ReportSender<R>) {
+    fn run(self) -> (OrderReceiver<R>, ReportSender<R>, &'a mut G) {
         let RunnerTask {
             rt,
             alloc,
@@ -191,10 +168,11 @@ impl<G: Gate + Drop, R: Wait + Drop> Task for RunnerTask<G, R> {
             reports,
             gate,
         } = self;
-        let mut ports = Joined::new(orders, reports, NotedGate::new(gate));
+        let mut ports = Gated::new(Joined::new(orders, reports, OpenGate::new()), gate);
         work(&rt, alloc, &mut ports);
+        let (ports, gate) = ports.into_parts();
         let (orders, reports, _) = ports.into_ports();
-        (orders, reports)
+        (orders, reports, gate)
     }
 }
 

@@ -1,6 +1,8 @@
 //! The program from its arguments to its end.
 
-ghost use Rattle.std.specs.Prelude.{◌≡◌, ◌⊎◌, ◌++◌, ℕ, List, map, decimal};
+ghost use Rattle.std.specs.Prelude.{◌≡◌, ◌≢◌, ◌⊎◌, ◌++◌, ℕ, List, map, decimal};
+ghost use Rattle.std.specs.IoError.{error_kind};
+ghost use Rattle.std.specs.declared.io.ErrorKind.TheVariants as kind;
 ghost use Rattle.adapter.specs.declared.exit_reason.ExitReason.TheVariants.{NoMemory, NotUnderstood, Syntax};
 ghost use Rattle.adapter.specs.ExitReasons.{last_line};
 ghost use Rattle.adapter.specs.Listing.{line_feed};
@@ -12,10 +14,10 @@ use crate::arguments::{ArgumentsFault, HELP, Invocation, USAGE, objection, parse
 use crate::checking::check;
 use crate::exit_reason::{ExitReason, end_of_arguments, end_of_check, end_of_serve};
 use crate::files::FileLoader;
+use crate::gates::OpenGate;
 use crate::serving::serve;
 use byte_streams::{Sink, Source, say, write_all};
 use dap_session::Loader;
-use dbg_runner::{Gate, History};
 use itoa::Buffer;
 use log::sink::Console;
 use log::{Level, Logged, error};
@@ -26,20 +28,6 @@ use std::rt::{Env, Files};
 use std::sync::Wait;
 use std::thread::Threads;
 use std::{env, io};
-
-/// Lets every slice pass at once.
-#[derive(Drop)]
-struct OpenGate {
-    passed: History<(u64, u64)>,
-}
-
-impl Gate for OpenGate {
-    ghost passed = { λ gate. gate.passed.entries };
-
-    fn pass(&mut self, run: u64, slice: u64) {
-        self.passed = self.passed.and(&(run, slice));
-    }
-}
 
 /// Does what the arguments of this process ask for, as [`execute`] does, with the files of the system. What is left to a
 /// `main` is to end with the reason's status.
@@ -81,7 +69,9 @@ fn texts(alloc: Global, arguments: &[String]) -> Result<Vec<&str>, AllocError> {
 
 /// Why the arguments can't be had: there was no memory for them, or one of them is no text.
 fn end_of_reading(error: &io::Error) -> ExitReason
-    ensures { (result ≡ NoMemory) ⊎ (result ≡ NotUnderstood) }
+    ensures reason { (result ≡ NoMemory) ⊎ (result ≡ NotUnderstood) }
+    ensures no_memory { result ≡ NoMemory → error_kind error.now ≡ kind.OutOfMemory }
+    ensures not_understood { result ≡ NotUnderstood → error_kind error.now ≢ kind.OutOfMemory }
 {
     match error.kind() {
         ErrorKind::OutOfMemory => ExitReason::NoMemory,
@@ -150,10 +140,8 @@ where
 {
     match parse_arguments(rt.alloc(), arguments) {
         Ok(Invocation::Serve) => {
-            let gate = OpenGate {
-                passed: History::new(),
-            };
-            end_of_serve(&serve(rt, rt.alloc(), input, output, loader, gate))
+            let served = serve(rt, rt.alloc(), input, output, loader, &mut OpenGate::new());
+            end_of_serve(&served)
         }
         Ok(Invocation::Check(file)) => {
             end_of_check(&check(rt, rt.alloc(), file, loader, output))

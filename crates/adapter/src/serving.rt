@@ -1,10 +1,10 @@
 // A client over an input and an output: reader, runner and writer in threads of their own, the session in this one.
 
-ghost use Rattle.std.specs.Prelude.{◌≡◌, true};
+ghost use Rattle.std.specs.Prelude.{◌≡◌, ◌≢◌, true};
 ghost use Rattle.dap_session.specs.Sending.{Begins};
 ghost use Rattle.dap_wires.specs.Ends.{receipt_log, receipt_home};
 ghost use Rattle.dap_wires.specs.Inbox.{client_events, client_home, sent_reports, report_home, received};
-ghost use Rattle.dap_wires.specs.Orders.{pushed_orders, push_home, taken_orders, pop_home};
+ghost use Rattle.dap_wires.specs.Orders.{FourWereInside, pushed_orders, push_home, taken_orders, pop_home};
 ghost use Rattle.dap_wires.specs.Outbox.{parcels_put, ended_home, ended_unused_home, parcels_received};
 ghost use Rattle.dap_wires.specs.Senders.{from_client, reports_among};
 ghost use Rattle.adapter.specs.Serving.{streams, outcome_of, IsServed};
@@ -65,15 +65,15 @@ pub fn serve<R, I, O, L, G>(
     input: &mut I,
     output: &mut O,
     loader: &mut L,
-    gate: G,
+    gate: &mut G,
 ) -> Result<Served, ServeFault>
 where
     R: Threads + Wait + Copy + Drop + Send,
     I: Source + Send,
     O: Sink + Send,
     L: Loader,
-    G: Gate + Drop + Send,
-    ensures { IsServed result (L.loaded loader.old) (L.loaded loader.new)
+    G: Gate + Send,
+    ensures { IsServed result (L.loaded loader.old) (L.loaded loader.new) (G.passed gate.old) (G.passed gate.new)
         (streams (I.left input.old) (I.failures input.old) (O.written output.old) (O.failures output.old))
         (streams (I.left input.new) (I.failures input.new) (O.written output.new) (O.failures output.new)) }
 {
@@ -86,11 +86,13 @@ where
     let session = SessionTask::new(*rt, alloc, loader, events, frames, pushed);
     // The reader is started last, since nothing can wake it from a read.
     let done = run_beside(rt, writer, runner, reader, session);
-    let Some(((output, written, wrote), (taken, reports), (input, client, _), driven)) = done else {
+    let Some(((output, written, wrote), (taken, reports, gate), (input, client, _), driven)) = done
+    else {
         return Err(ServeFault::NoThread);
     };
     let (loader, ends, closed) = driven;
     take_back(output);
+    take_back(gate);
     take_back(input);
     take_back(loader);
     settle(client, reports, written, taken, ends);
@@ -114,6 +116,7 @@ fn settle<R: Wait + Drop>(
     ensures reports { Begins (reports_among (received ends.inbox)) (sent_reports reports) }
     ensures frames { Begins (parcels_received written) (parcels_put ends.outbox) }
     ensures orders { Begins (taken_orders taken) (pushed_orders ends.orders).orders }
+    ensures full { (pushed_orders ends.orders).fulls ≢ 0 → FourWereInside (pushed_orders ends.orders).orders }
 {
     let SessionEnds {
         inbox,

@@ -1,7 +1,7 @@
 //! Sessions over ports in memory.
 
 use crate::fakes::{FramesPut, OneFile, OrdersPushed, Script};
-use crate::rows::{FAULTS, HELLO, INITIALIZE, ROWS, Row, fault_row};
+use crate::rows::{FAULTS, HELLO, INITIALIZE, LAUNCH, ROWS, Row, STARTED, fault_row};
 use crate::transcript::{ANSWERED, frames, input};
 use dap_session::{Closed, Event, SessionFault, drive};
 use dbg_runner::History;
@@ -16,7 +16,8 @@ struct Outcome {
     end: Result<Closed, SessionFault>,
     /// The frames put, one after another.
     output: Vec<u8>,
-    quits: usize,
+    /// How many orders were pushed.
+    orders: usize,
 }
 
 /// How the pieces come, what comes after them, and for how much the ports have room.
@@ -80,12 +81,12 @@ fn run<R: Abort + Wait>(
         fulls: 0,
         refusals: 0,
     };
-    let files = &mut OneFile::new(alloc, b"");
+    let files = &mut OneFile::new(alloc, b".");
     let end = drive(rt, alloc, &mut script, files, &mut out, &mut orders);
     Ok(Outcome {
         end,
         output: out.frames.as_slice().concat(alloc)?,
-        quits: orders.orders.len(),
+        orders: orders.orders.len(),
     })
 }
 
@@ -100,8 +101,8 @@ struct Driven {
     /// The transcript whose answers are put.
     answered: &'static str,
     end: Result<Closed, SessionFault>,
-    /// How many orders to quit are pushed.
-    quits: usize,
+    /// How many orders are pushed.
+    orders: usize,
 }
 
 /// The session of a row, in pieces: all is answered, and one order to quit is pushed.
@@ -113,7 +114,7 @@ fn served(row: &Row, piece: usize) -> Driven {
         ports: Ports { piece, ..AMPLE },
         answered: row.transcript,
         end: row.end,
-        quits: 1,
+        orders: 1,
     }
 }
 
@@ -124,8 +125,8 @@ fn assert_driven<R: Abort + Wait>(rt: &R, alloc: Global, session: &Driven) {
     let run = run(rt, alloc, input.as_slice(), session.ports).expect(rt, "memory");
     let answers = frames(alloc, session.answered, ANSWERED).expect(rt, "memory");
     assert_eq!(rt;
-        (run.end, run.quits),
-        (session.end, session.quits),
+        (run.end, run.orders),
+        (session.end, session.orders),
         "{name}, by {piece}"
     );
     assert!(rt;
@@ -159,7 +160,7 @@ fn drives_to_faults_however_cut(rt: HostRuntime) {
 }
 
 /// Sessions that aren't served to their end.
-const STOPS: [Driven; 4] = [
+const STOPS: [Driven; 6] = [
     Driven {
         name: "no room for the order to quit",
         transcript: HELLO,
@@ -167,7 +168,25 @@ const STOPS: [Driven; 4] = [
         ports: Ports { orders: 0, ..AMPLE },
         answered: INITIALIZE,
         end: Err(SessionFault::OrdersFull),
-        quits: 0,
+        orders: 0,
+    },
+    Driven {
+        name: "no room for the order to run",
+        transcript: STARTED,
+        tail: "",
+        ports: Ports { orders: 0, ..AMPLE },
+        answered: LAUNCH,
+        end: Err(SessionFault::OrdersFull),
+        orders: 0,
+    },
+    Driven {
+        name: "room for the order to run alone",
+        transcript: STARTED,
+        tail: "",
+        ports: Ports { orders: 1, ..AMPLE },
+        answered: STARTED,
+        end: Err(SessionFault::OrdersFull),
+        orders: 1,
     },
     Driven {
         name: "room for one frame",
@@ -176,7 +195,7 @@ const STOPS: [Driven; 4] = [
         ports: Ports { frames: 1, ..AMPLE },
         answered: INITIALIZE,
         end: Err(SessionFault::WriterGone),
-        quits: 2,
+        orders: 2,
     },
     Driven {
         name: "a read fails",
@@ -188,7 +207,7 @@ const STOPS: [Driven; 4] = [
         },
         answered: INITIALIZE,
         end: Ok(Closed::ReadFailed),
-        quits: 1,
+        orders: 1,
     },
     Driven {
         name: "no memory for a piece",
@@ -200,7 +219,7 @@ const STOPS: [Driven; 4] = [
         },
         answered: INITIALIZE,
         end: Err(SessionFault::NoMemory),
-        quits: 1,
+        orders: 1,
     },
 ];
 

@@ -4,22 +4,15 @@ use crate::fakes::{Cut, Hold, Streams};
 use crate::programs::{BROKEN, CUT_OFF, Debugging, NOTHING, PAUSED, PROCEDURES};
 use crate::serving::{Outcome, run};
 use crate::transcript::Exchange;
-use adapter::Served;
 use std::alloc::Global;
 use std::process::Abort;
 use std::sync::Wait;
 use std::thread::Threads;
 
-/// A session ends so, with the frames of its transcript.
-fn assert_answered(
-    rt: &impl Abort,
-    session: &Debugging,
-    exchange: &Exchange,
-    run: &Outcome,
-    end: Served,
-) {
+/// A session ends as it should, with the frames of its transcript.
+fn assert_answered(rt: &impl Abort, session: &Debugging, exchange: &Exchange, run: &Outcome) {
     let name = session.name;
-    assert_eq!(rt; run.end, Ok(end), "{name}");
+    assert_eq!(rt; run.end, Ok(session.end), "{name}");
     assert!(rt;
         run.output.as_slice() == exchange.answered.as_slice(),
         "{name}"
@@ -31,7 +24,6 @@ fn assert_served<R: Threads + Wait + Abort + Copy + Drop + Send + Sync>(
     rt: &R,
     alloc: Global,
     session: &Debugging,
-    end: Served,
 ) -> usize {
     let exchange = Exchange::new(alloc, session.transcript).expect(rt, "memory");
     let streams = Streams {
@@ -41,28 +33,28 @@ fn assert_served<R: Threads + Wait + Abort + Copy + Drop + Send + Sync>(
     };
     let sent = exchange.sent.as_slice();
     let run = run(rt, alloc, session.program, sent, streams);
-    assert_answered(rt, session, &exchange, &run, end);
+    assert_answered(rt, session, &exchange, &run);
     run.slices
 }
 
 /// Each read after a run began waits for what the run brings.
 #[test]
 fn reports_runs_to_an_editor_that_waits(rt: HostRuntime) {
-    let slices = assert_served(&rt, rt.alloc(), &PROCEDURES, Served::Disconnected);
+    let slices = assert_served(&rt, rt.alloc(), &PROCEDURES);
     assert_eq!(rt; slices, 3);
 }
 
 /// The first slice waits for the answer to the pause, and the end of the input for the stop.
 #[test]
 fn answers_a_pause_while_the_program_runs(rt: HostRuntime) {
-    let slices = assert_served(&rt, rt.alloc(), &PAUSED, Served::InputEnded);
+    let slices = assert_served(&rt, rt.alloc(), &PAUSED);
     assert_eq!(rt; slices, 1);
 }
 
 /// The first slice waits for the answer to the breakpoints, and the end of the input for the stop, which a second run brings.
 #[test]
 fn sets_breakpoints_while_the_program_runs(rt: HostRuntime) {
-    let slices = assert_served(&rt, rt.alloc(), &BROKEN, Served::InputEnded);
+    let slices = assert_served(&rt, rt.alloc(), &BROKEN);
     assert_eq!(rt; slices, 2);
 }
 
@@ -84,7 +76,7 @@ fn quits_a_run_where_the_input_ends(rt: HostRuntime) {
     };
     let sent = exchange.sent.as_slice();
     let run = run(&rt, alloc, CUT_OFF.program, sent, streams);
-    assert_answered(&rt, &CUT_OFF, &exchange, &run, Served::InputEnded);
+    assert_answered(&rt, &CUT_OFF, &exchange, &run);
 }
 
 /// Each write waits until a second piece was asked for.
@@ -99,7 +91,7 @@ fn reads_before_it_has_written(rt: HostRuntime) {
     };
     let sent = exchange.sent.as_slice();
     let run = run(&rt, alloc, "", sent, streams);
-    assert_answered(&rt, &NOTHING, &exchange, &run, Served::Disconnected);
+    assert_answered(&rt, &NOTHING, &exchange, &run);
 }
 
 /// Each read waits until all that the one before it asked for is written.
@@ -120,5 +112,5 @@ fn writes_before_it_reads_again(rt: HostRuntime) {
     };
     let sent = exchange.sent.as_slice();
     let run = run(&rt, alloc, "", sent, streams);
-    assert_answered(&rt, &NOTHING, &exchange, &run, Served::Disconnected);
+    assert_answered(&rt, &NOTHING, &exchange, &run);
 }

@@ -1,6 +1,7 @@
 //! Worked rows of sessions that debug a program, which is whatever file a launch names.
 
 use crate::rows::HELLO;
+use adapter::Served;
 
 /// A session that debugs a program, with an input that ends after it.
 #[derive(Clone, Copy)]
@@ -8,6 +9,7 @@ pub struct Debugging {
     pub name: &'static str,
     pub program: &'static str,
     pub transcript: &'static str,
+    pub end: Served,
 }
 
 /// A first session, without a program.
@@ -15,6 +17,7 @@ pub const NOTHING: Debugging = Debugging {
     name: "a first session",
     program: "",
     transcript: HELLO,
+    end: Served::Disconnected,
 };
 
 /// Two procedures, one in the other, and three runs to a breakpoint and to the end.
@@ -36,7 +39,7 @@ begin n := 2; call p end.
 "#,
     transcript: r#"
 > {"seq":1,"type":"request","command":"initialize"}
-< {"body":{"supportsConditionalBreakpoints":true,"supportsConfigurationDoneRequest":true,"supportsHitConditionalBreakpoints":true},"command":"initialize","request_seq":1,"seq":1,"success":true,"type":"response"}
+< {"body":{"supportsConditionalBreakpoints":true,"supportsConfigurationDoneRequest":true,"supportsHitConditionalBreakpoints":true,"supportsLogPoints":true,"supportsStepBack":true},"command":"initialize","request_seq":1,"seq":1,"success":true,"type":"response"}
 > {"seq":2,"type":"request","command":"launch","arguments":{"program":"p.pl0"}}
 < {"command":"launch","request_seq":2,"seq":2,"success":true,"type":"response"}
 < {"event":"initialized","seq":3,"type":"event"}
@@ -82,6 +85,33 @@ begin n := 2; call p end.
 > {"seq":18,"type":"request","command":"disconnect"}
 < {"command":"disconnect","request_seq":18,"seq":25,"success":true,"type":"response"}
 "#,
+    end: Served::Disconnected,
+};
+
+/// A sum too large, and the end of the program after it.
+pub const OVERFLOW: Debugging = Debugging {
+    name: "a sum too large",
+    program: "var x; begin x := 9223372036854775807; x := x + 1 end.",
+    transcript: r#"
+> {"seq":1,"type":"request","command":"initialize"}
+< {"body":{"supportsConditionalBreakpoints":true,"supportsConfigurationDoneRequest":true,"supportsHitConditionalBreakpoints":true,"supportsLogPoints":true,"supportsStepBack":true},"command":"initialize","request_seq":1,"seq":1,"success":true,"type":"response"}
+> {"seq":2,"type":"request","command":"launch","arguments":{"program":"p.pl0"}}
+< {"command":"launch","request_seq":2,"seq":2,"success":true,"type":"response"}
+< {"event":"initialized","seq":3,"type":"event"}
+> {"seq":3,"type":"request","command":"configurationDone"}
+< {"command":"configurationDone","request_seq":3,"seq":4,"success":true,"type":"response"}
+< {"body":{"allThreadsStopped":true,"reason":"exception","text":"overflow","threadId":1},"event":"stopped","seq":5,"type":"event"}
+- read
+> {"seq":4,"type":"request","command":"stackTrace","arguments":{"threadId":1}}
+< {"body":{"stackFrames":[{"column":40,"id":1,"line":1,"name":"main","source":{"path":"p.pl0"}}],"totalFrames":1},"command":"stackTrace","request_seq":4,"seq":6,"success":true,"type":"response"}
+> {"seq":5,"type":"request","command":"variables","arguments":{"variablesReference":1}}
+< {"body":{"variables":[{"name":"x","value":"9223372036854775807","variablesReference":0}]},"command":"variables","request_seq":5,"seq":7,"success":true,"type":"response"}
+> {"seq":6,"type":"request","command":"continue","arguments":{"threadId":1}}
+< {"body":{"allThreadsContinued":true},"command":"continue","request_seq":6,"seq":8,"success":true,"type":"response"}
+< {"body":{"exitCode":1},"event":"exited","seq":9,"type":"event"}
+< {"event":"terminated","seq":10,"type":"event"}
+"#,
+    end: Served::InputEnded,
 };
 
 const FOREVER: &str = "while 1 = 1 do.";
@@ -92,13 +122,14 @@ pub const CUT_OFF: Debugging = Debugging {
     program: FOREVER,
     transcript: r#"
 > {"seq":1,"type":"request","command":"initialize"}
-< {"body":{"supportsConditionalBreakpoints":true,"supportsConfigurationDoneRequest":true,"supportsHitConditionalBreakpoints":true},"command":"initialize","request_seq":1,"seq":1,"success":true,"type":"response"}
+< {"body":{"supportsConditionalBreakpoints":true,"supportsConfigurationDoneRequest":true,"supportsHitConditionalBreakpoints":true,"supportsLogPoints":true,"supportsStepBack":true},"command":"initialize","request_seq":1,"seq":1,"success":true,"type":"response"}
 > {"seq":2,"type":"request","command":"launch","arguments":{"program":"p.pl0"}}
 < {"command":"launch","request_seq":2,"seq":2,"success":true,"type":"response"}
 < {"event":"initialized","seq":3,"type":"event"}
 > {"seq":3,"type":"request","command":"configurationDone"}
 < {"command":"configurationDone","request_seq":3,"seq":4,"success":true,"type":"response"}
 "#,
+    end: Served::InputEnded,
 };
 
 /// A run that is paused before its first slice is over.
@@ -107,7 +138,7 @@ pub const PAUSED: Debugging = Debugging {
     program: FOREVER,
     transcript: r#"
 > {"seq":1,"type":"request","command":"initialize"}
-< {"body":{"supportsConditionalBreakpoints":true,"supportsConfigurationDoneRequest":true,"supportsHitConditionalBreakpoints":true},"command":"initialize","request_seq":1,"seq":1,"success":true,"type":"response"}
+< {"body":{"supportsConditionalBreakpoints":true,"supportsConfigurationDoneRequest":true,"supportsHitConditionalBreakpoints":true,"supportsLogPoints":true,"supportsStepBack":true},"command":"initialize","request_seq":1,"seq":1,"success":true,"type":"response"}
 > {"seq":2,"type":"request","command":"launch","arguments":{"program":"p.pl0"}}
 < {"command":"launch","request_seq":2,"seq":2,"success":true,"type":"response"}
 < {"event":"initialized","seq":3,"type":"event"}
@@ -119,6 +150,7 @@ pub const PAUSED: Debugging = Debugging {
 < {"body":{"allThreadsStopped":true,"reason":"pause","threadId":1},"event":"stopped","seq":6,"type":"event"}
 - read
 "#,
+    end: Served::InputEnded,
 };
 
 /// A run that gets a breakpoint before its first slice is over: another run goes on with it.
@@ -127,7 +159,7 @@ pub const BROKEN: Debugging = Debugging {
     program: FOREVER,
     transcript: r#"
 > {"seq":1,"type":"request","command":"initialize"}
-< {"body":{"supportsConditionalBreakpoints":true,"supportsConfigurationDoneRequest":true,"supportsHitConditionalBreakpoints":true},"command":"initialize","request_seq":1,"seq":1,"success":true,"type":"response"}
+< {"body":{"supportsConditionalBreakpoints":true,"supportsConfigurationDoneRequest":true,"supportsHitConditionalBreakpoints":true,"supportsLogPoints":true,"supportsStepBack":true},"command":"initialize","request_seq":1,"seq":1,"success":true,"type":"response"}
 > {"seq":2,"type":"request","command":"launch","arguments":{"program":"p.pl0"}}
 < {"command":"launch","request_seq":2,"seq":2,"success":true,"type":"response"}
 < {"event":"initialized","seq":3,"type":"event"}
@@ -139,4 +171,5 @@ pub const BROKEN: Debugging = Debugging {
 < {"body":{"allThreadsStopped":true,"reason":"breakpoint","threadId":1},"event":"stopped","seq":6,"type":"event"}
 - read
 "#,
+    end: Served::InputEnded,
 };

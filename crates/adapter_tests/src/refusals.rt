@@ -1,7 +1,7 @@
 //! Reads and writes that fail in turn. Those that are interrupted are tried again, as each is once.
 
-use crate::fakes::Streams;
-use crate::programs::{Debugging, NOTHING, PROCEDURES};
+use crate::fakes::{Hold, Streams};
+use crate::programs::{BROKEN, Debugging, NOTHING, OVERFLOW, PAUSED, PROCEDURES};
 use crate::rows::{HELLO, INITIALIZE};
 use crate::serving::run;
 use crate::transcript::{ANSWERED, Exchange, SENT, frames};
@@ -10,6 +10,16 @@ use std::alloc::Global;
 use std::process::Abort;
 use std::sync::Wait;
 use std::thread::Threads;
+
+const SESSIONS: [Debugging; 5] = [NOTHING, PROCEDURES, OVERFLOW, PAUSED, BROKEN];
+
+/// What the first slice waits for where so many bytes are answered in all: nothing that doesn't come.
+fn in_reach(hold: Hold, answered: usize) -> Hold {
+    match hold {
+        Hold::Written(least) if answered < least => Hold::Nothing,
+        hold => hold,
+    }
+}
 
 /// Each read of a session fails in turn: what came before it is answered, and after a disconnect nothing changes.
 fn assert_reads_fail<R: Threads + Wait + Abort + Copy + Drop + Send + Sync>(
@@ -26,12 +36,12 @@ fn assert_reads_fail<R: Threads + Wait + Abort + Copy + Drop + Send + Sync>(
         let streams = Streams {
             cuts: reads,
             read_fails_at: at,
+            slice_hold: in_reach(exchange.slice_hold, *answered),
             ..Streams::WELL
         };
-        let end = if at < sent.len() {
-            Err(ServeFault::ReadFailed)
-        } else {
-            Ok(Served::Disconnected)
+        let end = match session.end {
+            Served::Disconnected if at >= sent.len() => Ok(Served::Disconnected),
+            _ => Err(ServeFault::ReadFailed),
         };
         let run = run(rt, alloc, session.program, sent, streams);
         assert_eq!(rt; run.end, end, "{name}, at {at}");
@@ -42,8 +52,9 @@ fn assert_reads_fail<R: Threads + Wait + Abort + Copy + Drop + Send + Sync>(
 
 #[test]
 fn ends_where_a_read_fails(rt: HostRuntime) {
-    assert_reads_fail(&rt, rt.alloc(), &NOTHING);
-    assert_reads_fail(&rt, rt.alloc(), &PROCEDURES);
+    for session in SESSIONS.as_slice() {
+        assert_reads_fail(&rt, rt.alloc(), session);
+    }
 }
 
 /// The output takes the first bytes of a session, and fails at the next write.
@@ -60,6 +71,7 @@ fn assert_write_fails<R: Threads + Wait + Abort + Copy + Drop + Send + Sync>(
             cuts: exchange.reads.as_slice(),
             room,
             takes_nothing,
+            slice_hold: exchange.slice_hold,
             ..Streams::WELL
         };
         let sent = exchange.sent.as_slice();
@@ -89,8 +101,9 @@ fn assert_writes_fail<R: Threads + Wait + Abort + Copy + Drop + Send + Sync>(
 
 #[test]
 fn ends_where_a_write_fails(rt: HostRuntime) {
-    assert_writes_fail(&rt, rt.alloc(), &NOTHING);
-    assert_writes_fail(&rt, rt.alloc(), &PROCEDURES);
+    for session in SESSIONS.as_slice() {
+        assert_writes_fail(&rt, rt.alloc(), session);
+    }
 }
 
 /// Reads fail at each byte in turn.

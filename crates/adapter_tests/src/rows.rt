@@ -21,7 +21,7 @@ pub struct Row {
 /// A first session, without a program.
 pub const HELLO: &str = r#"
 > {"seq":1,"type":"request","command":"initialize"}
-< {"body":{"supportsConditionalBreakpoints":true,"supportsConfigurationDoneRequest":true,"supportsHitConditionalBreakpoints":true},"command":"initialize","request_seq":1,"seq":1,"success":true,"type":"response"}
+< {"body":{"supportsConditionalBreakpoints":true,"supportsConfigurationDoneRequest":true,"supportsHitConditionalBreakpoints":true,"supportsLogPoints":true,"supportsStepBack":true},"command":"initialize","request_seq":1,"seq":1,"success":true,"type":"response"}
 > {"seq":2,"type":"request","command":"disconnect"}
 < {"command":"disconnect","request_seq":2,"seq":2,"success":true,"type":"response"}
 "#;
@@ -29,7 +29,27 @@ pub const HELLO: &str = r#"
 /// Its first request and answer.
 pub const INITIALIZE: &str = r#"
 > {"seq":1,"type":"request","command":"initialize"}
-< {"body":{"supportsConditionalBreakpoints":true,"supportsConfigurationDoneRequest":true,"supportsHitConditionalBreakpoints":true},"command":"initialize","request_seq":1,"seq":1,"success":true,"type":"response"}
+< {"body":{"supportsConditionalBreakpoints":true,"supportsConfigurationDoneRequest":true,"supportsHitConditionalBreakpoints":true,"supportsLogPoints":true,"supportsStepBack":true},"command":"initialize","request_seq":1,"seq":1,"success":true,"type":"response"}
+"#;
+
+/// A launch.
+pub const LAUNCH: &str = r#"
+> {"seq":1,"type":"request","command":"initialize"}
+< {"body":{"supportsConditionalBreakpoints":true,"supportsConfigurationDoneRequest":true,"supportsHitConditionalBreakpoints":true,"supportsLogPoints":true,"supportsStepBack":true},"command":"initialize","request_seq":1,"seq":1,"success":true,"type":"response"}
+> {"seq":2,"type":"request","command":"launch","arguments":{"program":"p.pl0"}}
+< {"command":"launch","request_seq":2,"seq":2,"success":true,"type":"response"}
+< {"event":"initialized","seq":3,"type":"event"}
+"#;
+
+/// The same, and the program begins to run.
+pub const STARTED: &str = r#"
+> {"seq":1,"type":"request","command":"initialize"}
+< {"body":{"supportsConditionalBreakpoints":true,"supportsConfigurationDoneRequest":true,"supportsHitConditionalBreakpoints":true,"supportsLogPoints":true,"supportsStepBack":true},"command":"initialize","request_seq":1,"seq":1,"success":true,"type":"response"}
+> {"seq":2,"type":"request","command":"launch","arguments":{"program":"p.pl0"}}
+< {"command":"launch","request_seq":2,"seq":2,"success":true,"type":"response"}
+< {"event":"initialized","seq":3,"type":"event"}
+> {"seq":3,"type":"request","command":"configurationDone"}
+< {"command":"configurationDone","request_seq":3,"seq":4,"success":true,"type":"response"}
 "#;
 
 const SKIPPED: &str = r#"
@@ -37,7 +57,7 @@ const SKIPPED: &str = r#"
 > [
 >
 > {"seq":1,"type":"request","command":"initialize"}
-< {"body":{"supportsConditionalBreakpoints":true,"supportsConfigurationDoneRequest":true,"supportsHitConditionalBreakpoints":true},"command":"initialize","request_seq":1,"seq":1,"success":true,"type":"response"}
+< {"body":{"supportsConditionalBreakpoints":true,"supportsConfigurationDoneRequest":true,"supportsHitConditionalBreakpoints":true,"supportsLogPoints":true,"supportsStepBack":true},"command":"initialize","request_seq":1,"seq":1,"success":true,"type":"response"}
 > {"seq":2,"type":"request","command":"threads"}
 < {"body":{"threads":[{"id":1,"name":"main"}]},"command":"threads","request_seq":2,"seq":2,"success":true,"type":"response"}
 > {"seq":3,"type":"request","command":"disconnect"}
@@ -50,7 +70,7 @@ const REFUSED: &str = r#"
 > {"seq":2,"type":"request","command":"initialize","arguments":null}
 < {"body":{},"command":"initialize","message":"badArguments","request_seq":2,"seq":2,"success":false,"type":"response"}
 > {"seq":3,"type":"request","command":"initialize"}
-< {"body":{"supportsConditionalBreakpoints":true,"supportsConfigurationDoneRequest":true,"supportsHitConditionalBreakpoints":true},"command":"initialize","request_seq":3,"seq":3,"success":true,"type":"response"}
+< {"body":{"supportsConditionalBreakpoints":true,"supportsConfigurationDoneRequest":true,"supportsHitConditionalBreakpoints":true,"supportsLogPoints":true,"supportsStepBack":true},"command":"initialize","request_seq":3,"seq":3,"success":true,"type":"response"}
 > {"seq":4,"type":"request","command":"completions"}
 < {"body":{},"command":"completions","message":"unsupported","request_seq":4,"seq":4,"success":false,"type":"response"}
 > {"seq":5,"type":"request","command":"continue"}
@@ -77,7 +97,7 @@ const SEQS: &str = r#"
 > {"seq":9007199254740992,"type":"request","command":"initialize"}
 > {"seq":"1","type":"request","command":"initialize"}
 > {"seq":9007199254740991,"type":"request","command":"initialize"}
-< {"body":{"supportsConditionalBreakpoints":true,"supportsConfigurationDoneRequest":true,"supportsHitConditionalBreakpoints":true},"command":"initialize","request_seq":9007199254740991,"seq":1,"success":true,"type":"response"}
+< {"body":{"supportsConditionalBreakpoints":true,"supportsConfigurationDoneRequest":true,"supportsHitConditionalBreakpoints":true,"supportsLogPoints":true,"supportsStepBack":true},"command":"initialize","request_seq":9007199254740991,"seq":1,"success":true,"type":"response"}
 "#;
 
 const TWO_DISCONNECTS: &str = r#"
@@ -206,6 +226,6 @@ fn makes_the_frames_of_a_transcript(rt: HostRuntime) {
     assert_eq!(rt; sent.as_slice(), expected.as_bytes());
     let answered = frames(rt.alloc(), HELLO, ANSWERED).expect(&rt, "memory");
     let expected =
-        "Content-Length: 209\r\n\r\n{\"body\":{\"supportsConditionalBreakpoints\":true,\"supportsConfigurationDoneRequest\":true,\"supportsHitConditionalBreakpoints\":true},\"command\":\"initialize\",\"request_seq\":1,\"seq\":1,\"success\":true,\"type\":\"response\"}Content-Length: 81\r\n\r\n{\"command\":\"disconnect\",\"request_seq\":2,\"seq\":2,\"success\":true,\"type\":\"response\"}";
+        "Content-Length: 258\r\n\r\n{\"body\":{\"supportsConditionalBreakpoints\":true,\"supportsConfigurationDoneRequest\":true,\"supportsHitConditionalBreakpoints\":true,\"supportsLogPoints\":true,\"supportsStepBack\":true},\"command\":\"initialize\",\"request_seq\":1,\"seq\":1,\"success\":true,\"type\":\"response\"}Content-Length: 81\r\n\r\n{\"command\":\"disconnect\",\"request_seq\":2,\"seq\":2,\"success\":true,\"type\":\"response\"}";
     assert_eq!(rt; answered.as_slice(), expected.as_bytes());
 }

@@ -30,8 +30,8 @@ pub fn run<R: Threads + Wait + Abort + Copy + Drop + Send + Sync>(
     let mut input = Input::new(rt, bytes, streams, &progress);
     let mut output = Output::new(rt, alloc, streams, &progress);
     let mut files = OneFile::new(alloc, program.as_bytes());
-    let gate = SliceGate::new(rt, streams, &progress);
-    let end = serve(rt, alloc, &mut input, &mut output, &mut files, gate);
+    let mut gate = SliceGate::new(rt, streams, &progress);
+    let end = serve(rt, alloc, &mut input, &mut output, &mut files, &mut gate);
     Outcome {
         end,
         output: output.bytes,
@@ -185,7 +185,7 @@ fn serves_streams_of_std(rt: HostRuntime) {
         &mut Reading::new(&rt, input.as_slice()),
         &mut Writing::new(&rt, &mut output),
         &mut OneFile::new(alloc, b""),
-        SliceGate::new(&rt, Streams::WELL, &progress),
+        &mut SliceGate::new(&rt, Streams::WELL, &progress),
     );
     assert_eq!(rt; result, Ok(Served::Disconnected));
     assert_eq!(rt; output.as_slice(), expected.as_slice());

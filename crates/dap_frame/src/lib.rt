@@ -1,5 +1,17 @@
 //! Frames of the Debug Adapter Protocol's base protocol: read from a stream that comes in any pieces, and written.
 //!
+//! ```
+//! let mut stream = Vec::new(alloc);
+//! encode(b"{}".as_slice(), &mut stream)?;
+//! let expected = b"Content-Length: 2\r\n\r\n{}";
+//! assert_eq!(rt; stream.as_slice(), expected.as_slice());
+//!
+//! let mut decoder = Decoder::new(alloc);
+//! decoder.feed(stream.as_slice())?;
+//! let content = decoder.next_content()?.expect(&rt, "a content");
+//! assert_eq!(rt; content.as_slice(), b"{}".as_slice());
+//! ```
+//!
 //! The one contract: after any pieces, the contents given so far and the bytes that are left are related by `Frames`
 //! (`specs/Frame.antt`) to the stream; `None` comes only where neither a whole frame nor a fault stands in front, and a
 //! fault only where `FaultAt` gives it. What `encode` appends is read again, whatever follows it.

@@ -1,60 +1,46 @@
--- No step reports a number after a stop; so before a stop stand just the numbers written up to it.
-use Rattle.std.proofs.Common.{◌≡◌, List, [], ◌∷◌, ◌++◌, ℤ, sym, ◌∙◌, ap, subst}
-use Rattle.std.specs.Prelude.{map}
+-- Elements of a list after which a function gives nothing more.
+use Rattle.std.proofs.Common.{◌≡◌, List, [], ◌∷◌, ◌++◌, Option, sym, ◌∙◌, ap, subst}
 use Rattle.std.specs.List.{filter_map}
 use Rattle.std.proofs.lemmas.List.Elements.{filter_map-append}
-use Rattle.dap_msg.specs.declared.outgoing.Outgoing.{Outgoing}
-use Rattle.dap_msg.specs.declared.outgoing.Outgoing.TheVariants.{Event}
-use Rattle.dap_msg.specs.declared.outgoing.EventBody.{EventBody}
-use Rattle.dap_msg.specs.declared.outgoing.EventBody.TheVariants as event
-use Rattle.dap_msg.specs.declared.outgoing.StopReason.{StopReason}
-use Rattle.dap_history.specs.Laws.{output, numbers}
 
-abbrev pub IsStop : Outgoing → Type 0
-IsStop (Event (event.Stopped r)) = Unit {0}
-IsStop _ = ⊥
+none_in_both : {B : Type 0} (xs ys : List B) → xs ++ ys ≡ [] → ys ≡ []
+none_in_both [] ys is = is
+none_in_both (x ∷ xs) ys is = absurd cc
 
--- after a stop no number is reported
-abbrev pub Quiet : List Outgoing → Type 0
-Quiet [] = Unit {0}
-Quiet (m ∷ ms) = (IsStop m → numbers ms ≡ []) × Quiet ms
+module _ (A B : Type 0) (P : A → Type 0) (f : A → Option B) where
+  -- after an element of this kind f gives nothing
+  abbrev pub Quiet : List A → Type 0
+  Quiet [] = Unit {0}
+  Quiet (x ∷ xs) = (P x → filter_map f xs ≡ []) × Quiet xs
 
--- then those reported before the stop are all
-pub all_before : (ms before : List Outgoing) (reason : StopReason) (after : List Outgoing) → Quiet ms → ms ≡ before ++ Event (event.Stopped reason) ∷ after → numbers before ≡ numbers ms
-all_before [] [] reason after quiet is = absurd cc
-all_before [] (b ∷ before) reason after quiet is = absurd cc
-all_before (m ∷ ms) [] reason after quiet is = sym (ap numbers is ∙ behind)
-  where
-    same : m ≡ Event (event.Stopped reason)
-    same = cc
+  -- so what it gives before such an element is all
+  pub all_before : (xs before : List A) (x : A) (after : List A) → P x → filter_map f (x ∷ []) ≡ [] → Quiet xs → xs ≡ before ++ x ∷ after → filter_map f before ≡ filter_map f xs
+  all_before [] [] x after kind none quiet is = absurd cc
+  all_before [] (b ∷ before) x after kind none quiet is = absurd cc
+  all_before (y ∷ xs) [] x after kind none quiet is =
+      sym
+      (filter_map-append f (y ∷ []) xs
+      ∙ ap (λ z. filter_map f (z ∷ []) ++ filter_map f xs) same
+      ∙ ap (λ l. l ++ filter_map f xs) none
+      ∙ quiet.0 (subst P (sym same) kind))
+    where
+      same : y ≡ x
+      same = cc
+  all_before (y ∷ xs) (b ∷ before) x after kind none quiet is =
+      filter_map-append f (b ∷ []) before
+      ∙ ap (λ l. filter_map f (b ∷ []) ++ l) (all_before xs before x after kind none quiet.1 rest)
+      ∙ ap (λ z. filter_map f (z ∷ []) ++ filter_map f xs) (sym same)
+      ∙ sym (filter_map-append f (y ∷ []) xs)
+    where
+      same : y ≡ b
+      same = cc
 
-    rest : ms ≡ after
-    rest = cc
+      rest : xs ≡ before ++ x ∷ after
+      rest = cc
 
-    behind : numbers (Event (event.Stopped reason) ∷ after) ≡ []
-    behind = ap numbers (sym rest) ∙ quiet.0 (subst IsStop (sym same) tt)
-all_before (m ∷ ms) (b ∷ before) reason after quiet is =
-    filter_map-append output (b ∷ []) before
-    ∙ ap (λ n. numbers (b ∷ []) ++ n) (all_before ms before reason after quiet.1 rest)
-    ∙ ap (λ x. numbers (x ∷ []) ++ numbers ms) (sym same)
-    ∙ sym (filter_map-append output (m ∷ []) ms)
-  where
-    same : m ≡ b
-    same = cc
-
-    rest : ms ≡ before ++ Event (event.Stopped reason) ∷ after
-    rest = cc
-
--- where no number is reported at all
-pub silent_quiet : (es : List EventBody) → filter_map output (map Event es) ≡ [] → Quiet (map Event es)
-silent_quiet [] is = tt
-silent_quiet (event.Initialized ∷ es) is = ((λ no. absurd no), silent_quiet es is)
-silent_quiet (event.Stopped r ∷ es) is = ((λ yes. is), silent_quiet es is)
-silent_quiet (event.Output v ∷ es) is = absurd cc
-silent_quiet (event.Exited c ∷ es) is = ((λ no. absurd no), silent_quiet es is)
-silent_quiet (event.Terminated ∷ es) is = ((λ no. absurd no), silent_quiet es is)
-
--- numbers, and then events of which none is a number
-pub outputs_quiet : (vs : List ℤ) (es : List EventBody) → Quiet (map Event es) → Quiet (map Event (map event.Output vs ++ es))
-outputs_quiet [] es quiet = quiet
-outputs_quiet (v ∷ vs) es quiet = ((λ no. absurd no), outputs_quiet vs es quiet)
+  -- where it gives nothing at all
+  pub none_quiet : (xs : List A) → filter_map f xs ≡ [] → Quiet xs
+  none_quiet [] is = tt
+  none_quiet (x ∷ xs) is =
+      let rest = none_in_both (filter_map f (x ∷ [])) (filter_map f xs) (sym (filter_map-append f (x ∷ []) xs) ∙ is) in
+      ((λ kind. rest), none_quiet xs rest)

@@ -145,3 +145,8 @@ module _ (Q : Incoming → Type 0) (P : History → Type 0) (kept : IsKept Q P) 
   pub along : P [] → (events : List Incoming) (past : History) (rest : Rest) → AllEvents Q events → IsHistoryOf events past rest → P past
   along first events past rest good history =
       (along_from [] (only_bytes []) events past rest good history (first, λ taking launch is. absurd cc)).0
+
+  -- a launch waits in Ready alone
+  pub along_waits : P [] → (events : List Incoming) (past : History) (rest : Rest) → AllEvents Q events → IsHistoryOf events past rest → WaitsWell past rest
+  along_waits first events past rest good history =
+      (along_from [] (only_bytes []) events past rest good history (first, λ taking launch is. absurd cc)).1

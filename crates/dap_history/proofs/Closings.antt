@@ -1,5 +1,5 @@
 -- A session that its input's end closed has taken that event, and Quit is the last order.
-use Rattle.std.proofs.Common.{◌≡◌, ◌⊎◌, inl, inr, ℕ, List, [], ◌∷◌, ◌++◌, Bool, true, false, Option, None, Some, Result, Ok, Err, refl, sym, ◌∙◌, ap, subst}
+use Rattle.std.proofs.Common.{◌≡◌, ◌⊎◌, inl, inr, ℕ, List, [], ◌∷◌, ◌++◌, Bool, true, false, ◌||◌, Option, None, Some, Result, Ok, Err, refl, sym, ◌∙◌, ap, subst}
 use Rattle.std.specs.Prelude.{nat_eq, if◌then◌else◌, ℤ}
 use Rattle.dap_msg.specs.declared.command.Command.{Command}
 use Rattle.dap_msg.specs.declared.command.Command.TheVariants as command
@@ -10,6 +10,7 @@ use Rattle.dbg_plan.specs.Breakpoints.{Breakpoint}
 use Rattle.dbg_plan.specs.Due.{due, depth_at}
 use Rattle.dbg_plan.specs.declared.evaluation.EvalFault.{EvalFault}
 use Rattle.dbg_plan.specs.declared.evaluation.EvalFault.TheVariants.{Overflow, DivideByZero}
+use Rattle.dbg_plan.specs.declared.mode.Mode.{Mode}
 use Rattle.dbg_plan.specs.declared.mode.Reason.{Reason}
 use Rattle.dbg_runner.specs.declared.outcome.SliceOutcome.{SliceOutcome}
 use Rattle.dbg_runner.specs.declared.outcome.SliceOutcome.TheVariants as slice
@@ -23,18 +24,18 @@ use Rattle.dap_history.specs.declared.situation.Situation.{Situation}
 use Rattle.dap_history.specs.declared.situation.Situation.TheVariants.{Fresh, Ready, Configuring, Running, Stopped, Faulted, Ended}
 use Rattle.dap_history.specs.Last.{or_else}
 use Rattle.dap_history.specs.History.{Launched, Item, Content, Loaded, Accepted, Fault, InputEnd, ReadFailure, MemoryFailure, Effect, Step, History, orders_of}
-use Rattle.dap_history.specs.Readings.{situation, launched, runs, position, plan, waiting_pause, is_held, closing_command, closing_report, closing, ending_of}
+use Rattle.dap_history.specs.Readings.{situation, launched, runs, is_back, position, plan, waiting_pause, is_held, closing_command, closing_report, closing, ending_of}
 use Rattle.dap_history.specs.Replies.{Reply, refused, causing, ordering, OfProgram, on_thread}
 use Rattle.dap_history.specs.Reports.{report_effect, held}
 use Rattle.dap_history.specs.Launching.{initialize_in, Launches}
 use Rattle.dap_history.specs.Breakpoints.{hold_once, effect_in, SetsOf, Sets, SetsIn, is_at}
-use Rattle.dap_history.specs.Running.{Pace, mode_of, body_of, resumes, first_mode, enters, ConfiguresIn, ResumesIn, pause_in}
+use Rattle.dap_history.specs.Running.{Pace, mode_of, body_of, resumes, first_mode, enters, ConfiguresIn, ResumesIn, RetreatsIn, pause_in}
 use Rattle.dap_history.specs.Frames.{frame_by_id}
 use Rattle.dap_history.specs.Inspection.{asked_of, scopes, variables, result_reply, EvaluatesIn, RepliesAt, Inspects, InspectsIn}
 use Rattle.dap_history.specs.Emission.{threads_in, RepliesIn, Causes, IsAfter}
 use Rattle.dap_history.specs.Interleaving.{Load, IsLoad, Interleaves}
 use Rattle.dap_history.specs.Events.{Incoming, Piece, End, ReadFailed, NoMemory, File, Report, Rest, IsTaking, IsHistoryOf}
-use Rattle.dap_history.specs.Laws.{IsAmong, QuitIsLast}
+use Rattle.dap_history.specs.Laws.{IsAmong, QuitIsLast, EndsWithQuit, QuitCloses}
 use Rattle.dap_history.proofs.Readings.{or_else-none, orders_of-snoc, ending_of-snoc}
 use Rattle.dap_history.proofs.Along.{IsTaken, IsKept, AllEvents, any_events, along}
 
@@ -168,7 +169,7 @@ thread_quiet thread reply quiet = by_test (nat_eq thread 1)
     by_test false = tt
 
 hold_quiet : (past : History) → NoQuit (hold_once past)
-hold_quiet past = by_test (is_held past)
+hold_quiet past = by_test (is_held past || is_back past)
   where
     by_test : (held : Bool) → NoQuit (if held then [] else Hold (runs past) ∷ [])
     by_test true = tt
@@ -226,6 +227,13 @@ resumes_in_quiet Stopped past pace thread reply is =
 resumes_in_quiet Faulted past pace thread reply is = quiet_if reply _ (thread_quiet thread _ tt) is
 resumes_in_quiet _ past pace thread reply is = quiet_if reply _ tt is
 
+retreats_in_quiet : (s : Situation) (past : History) (m : Mode) (thread : ℕ) (reply : Reply) → RetreatsIn s past m thread reply → IsQuiet reply
+retreats_in_quiet Stopped past m thread reply is =
+    of_program (launched past) _ reply (λ l says. quiet_if reply _ (thread_quiet thread (causing body.None (ordering (resumes past l m))) tt) says) is
+retreats_in_quiet Faulted past m thread reply is =
+    of_program (launched past) _ reply (λ l says. quiet_if reply _ (thread_quiet thread (causing body.None (ordering (resumes past l m))) tt) says) is
+retreats_in_quiet _ past m thread reply is = quiet_if reply _ tt is
+
 pause_quiet : (s : Situation) (past : History) (thread : ℕ) → IsQuiet (pause_in s past thread)
 pause_quiet Running past thread = thread_quiet thread (causing body.None (ordering (hold_once past))) (hold_quiet past)
 pause_quiet Stopped past thread = thread_quiet thread _ tt
@@ -271,28 +279,31 @@ inspects_in_quiet Stopped past question reply is = inspects_quiet past question 
 inspects_in_quiet Faulted past question reply is = inspects_quiet past question reply is
 inspects_in_quiet _ past question reply is = quiet_if reply _ tt is
 
--- orders without a Quit; or a Quit alone, by what closes the session
+-- a Quit alone, where the session is closed by no fault; else orders without a Quit
 abbrev QuitsBy : List PlainOrder → Option Ending → Type 0
-QuitsBy orders closes = NoQuit orders ⊎ ((orders ≡ Quit ∷ []) × ((by : Ending) × (closes ≡ Some by)))
+QuitsBy orders (Some (ending.Closed by)) = orders ≡ Quit ∷ []
+QuitsBy orders _ = NoQuit orders
 
 replies_quit : (s : Situation) (past : History) (asked : Command) (reply : Reply) → RepliesIn s past asked reply → QuitsBy reply.effect.orders (closing_command asked)
-replies_quit s past (command.Initialize a) reply is = inl (quiet_if reply _ (initialize_quiet s) is)
-replies_quit s past (command.Launch a) reply is = inl (quiet_if reply _ tt is)
-replies_quit s past (command.SetBreakpoints a) reply is = inl (sets_in_quiet s past a reply is)
-replies_quit s past command.ConfigurationDone reply is = inl (configures_in_quiet s past reply is)
-replies_quit s past command.Threads reply is = inl (quiet_if reply _ (threads_quiet s) is)
-replies_quit s past (command.Continue a) reply is = inl (resumes_in_quiet s past _ a.thread_id reply is)
-replies_quit s past (command.Next a) reply is = inl (resumes_in_quiet s past _ a.thread_id reply is)
-replies_quit s past (command.StepIn a) reply is = inl (resumes_in_quiet s past _ a.thread_id reply is)
-replies_quit s past (command.StepOut a) reply is = inl (resumes_in_quiet s past _ a.thread_id reply is)
-replies_quit s past (command.Pause a) reply is = inl (quiet_if reply _ (pause_quiet s past a.thread_id) is)
-replies_quit s past (command.StackTrace a) reply is = inl (inspects_in_quiet s past _ reply is)
-replies_quit s past (command.Scopes a) reply is = inl (inspects_in_quiet s past _ reply is)
-replies_quit s past (command.Variables a) reply is = inl (inspects_in_quiet s past _ reply is)
-replies_quit s past (command.Evaluate a) reply is = inl (inspects_in_quiet s past _ reply is)
-replies_quit s past command.Disconnect reply is = inr (ap (λ (r : Reply). r.effect.orders) is, (_, refl))
-replies_quit s past (command.Unsupported a) reply is = inl (quiet_if reply _ tt is)
-replies_quit s past (command.BadArguments a) reply is = inl (quiet_if reply _ tt is)
+replies_quit s past (command.Initialize a) reply is = quiet_if reply _ (initialize_quiet s) is
+replies_quit s past (command.Launch a) reply is = quiet_if reply _ tt is
+replies_quit s past (command.SetBreakpoints a) reply is = sets_in_quiet s past a reply is
+replies_quit s past command.ConfigurationDone reply is = configures_in_quiet s past reply is
+replies_quit s past command.Threads reply is = quiet_if reply _ (threads_quiet s) is
+replies_quit s past (command.Continue a) reply is = resumes_in_quiet s past _ a.thread_id reply is
+replies_quit s past (command.Next a) reply is = resumes_in_quiet s past _ a.thread_id reply is
+replies_quit s past (command.StepIn a) reply is = resumes_in_quiet s past _ a.thread_id reply is
+replies_quit s past (command.StepOut a) reply is = resumes_in_quiet s past _ a.thread_id reply is
+replies_quit s past (command.StepBack a) reply is = retreats_in_quiet s past _ a.thread_id reply is
+replies_quit s past (command.ReverseContinue a) reply is = retreats_in_quiet s past _ a.thread_id reply is
+replies_quit s past (command.Pause a) reply is = quiet_if reply _ (pause_quiet s past a.thread_id) is
+replies_quit s past (command.StackTrace a) reply is = inspects_in_quiet s past _ reply is
+replies_quit s past (command.Scopes a) reply is = inspects_in_quiet s past _ reply is
+replies_quit s past (command.Variables a) reply is = inspects_in_quiet s past _ reply is
+replies_quit s past (command.Evaluate a) reply is = inspects_in_quiet s past _ reply is
+replies_quit s past command.Disconnect reply is = ap (λ (r : Reply). r.effect.orders) is
+replies_quit s past (command.Unsupported a) reply is = quiet_if reply _ tt is
+replies_quit s past (command.BadArguments a) reply is = quiet_if reply _ tt is
 
 launches_quiet : (launch : Launch) (file : Option (List ℕ)) (reply : Reply) → Launches launch.arguments file reply → IsQuiet reply
 launches_quiet launch None reply is = quiet_if reply _ tt is
@@ -307,17 +318,23 @@ report_quiet past r slice.Held = by_test (waiting_pause past)
     by_test false = tt
 report_quiet past r _ = tt
 
--- What an item orders has a Quit only where the item closes the session.
+-- a report orders none, also where it closes the session
+report_quits : (past : History) (outcome : SliceOutcome) (orders : List PlainOrder) → NoQuit orders → QuitsBy orders (closing_report outcome)
+report_quits past slice.NoMemory orders quiet = quiet
+report_quits past _ orders quiet = quiet
+
+-- What an item orders has a Quit just where the item closes the session by no fault.
 item_quits : (past : History) (item : Item) (step : Step) → Causes past item step → QuitsBy step.effect.orders (closing item)
-item_quits past (Content None) step is = inl (subst (λ (e : Effect). NoQuit e.orders) (sym is.effect_is) tt)
+item_quits past (Content None) step is = subst (λ (e : Effect). NoQuit e.orders) (sym is.effect_is) tt
 item_quits past (Content (Some request)) step is =
     subst (λ (e : Effect). QuitsBy e.orders (closing_command request.body)) (sym is.2.effect_is) (replies_quit (situation past) past request.body is.0 is.1)
-item_quits past (Loaded launch file) step is = inl (subst (λ (e : Effect). NoQuit e.orders) (sym is.2.effect_is) (launches_quiet launch file is.0 is.1))
-item_quits past (Accepted r) step is = inl (subst (λ (e : Effect). NoQuit e.orders) (sym is.effect_is) (report_quiet past r r.outcome))
-item_quits past (Fault k) step is = inl (subst (λ (e : Effect). NoQuit e.orders) (sym is.effect_is) tt)
-item_quits past InputEnd step is = inr (ap (λ (e : Effect). e.orders) is.effect_is, (_, refl))
-item_quits past ReadFailure step is = inr (ap (λ (e : Effect). e.orders) is.effect_is, (_, refl))
-item_quits past MemoryFailure step is = inl (subst (λ (e : Effect). NoQuit e.orders) (sym is.effect_is) tt)
+item_quits past (Loaded launch file) step is = subst (λ (e : Effect). NoQuit e.orders) (sym is.2.effect_is) (launches_quiet launch file is.0 is.1)
+item_quits past (Accepted r) step is =
+    report_quits past r.outcome step.effect.orders (subst (λ (e : Effect). NoQuit e.orders) (sym is.effect_is) (report_quiet past r r.outcome))
+item_quits past (Fault k) step is = subst (λ (e : Effect). NoQuit e.orders) (sym is.effect_is) tt
+item_quits past InputEnd step is = ap (λ (e : Effect). e.orders) is.effect_is
+item_quits past ReadFailure step is = ap (λ (e : Effect). e.orders) is.effect_is
+item_quits past MemoryFailure step is = subst (λ (e : Effect). NoQuit e.orders) (sym is.effect_is) tt
 
 -- ---- Quit is ordered last
 
@@ -325,31 +342,61 @@ item_quits past MemoryFailure step is = inl (subst (λ (e : Effect). NoQuit e.or
 record Quits (past : History) : Type 0 where
   pub before : IsTaking past → NoQuit (orders_of past)
   pub last : (front more : List PlainOrder) → orders_of past ≡ front ++ Quit ∷ more → more ≡ []
+  pub closes : EndsWithQuit (ending_of past) (orders_of past)
 
+-- how the orders so far end with those of one more item
 quits_more : (past : History) (item : Item) (new : History) → IsTaking past → IsAfter past item new → Quits past → Quits new
-quits_more past item new taking after here = by_item (item_quits past item after.step after.causes)
+quits_more past item new taking after here = by_closing (closing item) refl (item_quits past item after.step after.causes)
   where
     orders_are : orders_of new ≡ orders_of past ++ after.step.effect.orders
     orders_are = ap orders_of after.new_is ∙ orders_of-snoc past after.step
 
-    by_item : QuitsBy after.step.effect.orders (closing item) → Quits new
-    by_item (inl quiet) =
-        let none_yet : NoQuit (orders_of new) = subst NoQuit (sym orders_are) (no_quit-append (orders_of past) after.step.effect.orders (here.before taking) quiet) in
-        record { before = λ still. none_yet; last = λ front more is. absurd (no_quit_in (orders_of new) front more none_yet is) }
-    by_item (inr quits) = record {
-      before = λ still. let e = sym still ∙ ends_by past item new taking after ∙ quits.1.1 in absurd cc;
-      last = λ front more is. quit_ends (orders_of past) front more (here.before taking) (sym (ap (λ l. orders_of past ++ l) quits.0) ∙ sym orders_are ∙ is);
+    ends : ending_of new ≡ closing item
+    ends = ends_by past item new taking after
+
+    none_ordered : NoQuit after.step.effect.orders → NoQuit (orders_of new)
+    none_ordered quiet = subst NoQuit (sym orders_are) (no_quit-append (orders_of past) after.step.effect.orders (here.before taking) quiet)
+
+    if_quiet : NoQuit after.step.effect.orders → EndsWithQuit (ending_of new) (orders_of new) → Quits new
+    if_quiet quiet closes = record {
+      before = λ still. none_ordered quiet;
+      last = λ front more is. absurd (no_quit_in (orders_of new) front more (none_ordered quiet) is);
+      closes = closes;
     }
+
+    by_closing : (closes : Option Ending) → closing item ≡ closes → QuitsBy after.step.effect.orders (closing item) → Quits new
+    by_closing None is quits =
+        let quiet : NoQuit after.step.effect.orders = subst (QuitsBy after.step.effect.orders) is quits in
+        if_quiet quiet (subst (λ e. EndsWithQuit e (orders_of new)) (sym (ends ∙ is)) (λ front back there. no_quit_in (orders_of new) front back (none_ordered quiet) there))
+    by_closing (Some (ending.Fault fault)) is quits =
+        let quiet : NoQuit after.step.effect.orders = subst (QuitsBy after.step.effect.orders) is quits in
+        if_quiet quiet (subst (λ e. EndsWithQuit e (orders_of new)) (sym (ends ∙ is)) (λ front back there. no_quit_in (orders_of new) front back (none_ordered quiet) there))
+    by_closing (Some (ending.Closed by)) is quits =
+        let alone : after.step.effect.orders ≡ Quit ∷ [] = subst (QuitsBy after.step.effect.orders) is quits in
+        let parts : orders_of new ≡ orders_of past ++ Quit ∷ [] = orders_are ∙ ap (λ l. orders_of past ++ l) alone in
+        record {
+          before = λ still. let e = sym still ∙ ends ∙ is in absurd cc;
+          last = λ front more there. quit_ends (orders_of past) front more (here.before taking) (sym parts ∙ there);
+          closes = subst (λ e. EndsWithQuit e (orders_of new)) (sym (ends ∙ is)) (orders_of past, parts);
+        }
 
 quits_kept : IsKept (λ e. Unit {0}) Quits
 quits_kept = record { step = λ past item new taking taken after here. quits_more past item new taking after here }
 
 quits_first : Quits []
-quits_first = record { before = λ taking. tt; last = λ front more is. absurd (no_quit_in [] front more tt is) }
+quits_first = record {
+  before = λ taking. tt;
+  last = λ front more is. absurd (no_quit_in [] front more tt is);
+  closes = λ front back is. no_quit_in [] front back tt is;
+}
 
 -- Nothing is ordered after a Quit.
 pub quit_is_last : QuitIsLast
 quit_is_last events past rest history = (along (λ e. Unit {0}) Quits quits_kept quits_first events past rest (any_events events) history).last
+
+-- A session that was closed by no fault has ordered Quit.
+pub quit_closes : QuitCloses
+quit_closes events past rest history = (along (λ e. Unit {0}) Quits quits_kept quits_first events past rest (any_events events) history).closes
 
 -- ---- what an inbox gave
 

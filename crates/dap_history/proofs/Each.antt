@@ -2,7 +2,7 @@
 use Rattle.std.proofs.Common.{◌≡◌, ◌⊎◌, inl, inr, [], ◌∷◌, ◌++◌, refl, sym, ◌∙◌, ap, subst}
 use Rattle.dap_history.specs.History.{Item, Step, History}
 use Rattle.dap_history.specs.Emission.{Causes, IsAfter}
-use Rattle.dap_history.specs.Events.{Incoming}
+use Rattle.dap_history.specs.Events.{Incoming, IsTaking}
 use Rattle.dap_history.proofs.Along.{IsTaken, IsKept}
 
 abbrev head_of : (xs : History) (first : Step) → Step
@@ -35,6 +35,7 @@ splits (p ∷ past) s (x ∷ front) step more is = onward (splits past s front s
 
 -- the step was taken after these
 pub record WasTaken (Q : Incoming → Type 0) (P : History → Type 0) (front : History) (step : Step) : Type 0 where
+  pub taking : IsTaking front
   pub held : P front
   pub taken : IsTaken Q front step.item
   pub causes : Causes front step.item step
@@ -48,15 +49,16 @@ pub each_kept : (Q : Incoming → Type 0) (P : History → Type 0) → IsKept Q 
 each_kept Q P kept = record {
   step = λ past item new taking taken after here. record {
     now = kept.step past item new taking taken after here.now;
-    each = λ front step more is. one_of past item new taken after here front step more (splits past after.step front step more (sym after.new_is ∙ is));
+    each = λ front step more is. one_of past item new taking taken after here front step more (splits past after.step front step more (sym after.new_is ∙ is));
   };
 }
   where
-    one_of : (past : History) (item : Item) (new : History) → IsTaken Q past item → (after : IsAfter past item new) → EachTaken Q P past → (front : History) (step : Step) (more : History)
+    one_of : (past : History) (item : Item) (new : History) → IsTaking past → IsTaken Q past item → (after : IsAfter past item new) → EachTaken Q P past → (front : History) (step : Step) (more : History)
         → (((past ≡ front) × (after.step ≡ step) × (more ≡ [])) ⊎ ((rest : History) × (past ≡ front ++ step ∷ rest))) → WasTaken Q P front step
-    one_of past item new taken after here front step more (inr e) = here.each front step e.0 e.1
-    one_of past item new taken after here front step more (inl e) =
+    one_of past item new taking taken after here front step more (inr e) = here.each front step e.0 e.1
+    one_of past item new taking taken after here front step more (inl e) =
         subst (λ f. WasTaken Q P f step) e.0 (subst (λ s. WasTaken Q P past s) e.1 (record {
+          taking = taking;
           held = here.now;
           taken = subst (IsTaken Q past) (sym after.item_is) taken;
           causes = subst (λ i. Causes past i after.step) (sym after.item_is) after.causes;

@@ -58,6 +58,7 @@ event_late (event.Stopped reason.Entry) is = is
 event_late (event.Stopped reason.Pause) is = is
 event_late (event.Stopped (reason.Exception x)) is = is
 event_late (event.Output v) is = is
+event_late (event.Log text) is = is
 event_late (event.Exited code) is = is
 event_late event.Terminated is = is
 
@@ -105,6 +106,8 @@ early_reply s past (command.Continue a) reply is early = absurd (result_late (na
 early_reply s past (command.Next a) reply is early = absurd (result_late (name.Supported supported.Next) (λ x. x) reply.result early)
 early_reply s past (command.StepIn a) reply is early = absurd (result_late (name.Supported supported.StepIn) (λ x. x) reply.result early)
 early_reply s past (command.StepOut a) reply is early = absurd (result_late (name.Supported supported.StepOut) (λ x. x) reply.result early)
+early_reply s past (command.StepBack a) reply is early = absurd (result_late (name.Supported supported.StepBack) (λ x. x) reply.result early)
+early_reply s past (command.ReverseContinue a) reply is early = absurd (result_late (name.Supported supported.ReverseContinue) (λ x. x) reply.result early)
 early_reply s past (command.Pause a) reply is early = absurd (result_late (name.Supported supported.Pause) (λ x. x) reply.result early)
 early_reply s past (command.StackTrace a) reply is early = absurd (result_late (name.Supported supported.StackTrace) (λ x. x) reply.result early)
 early_reply s past (command.Scopes a) reply is early = absurd (result_late (name.Supported supported.Scopes) (λ x. x) reply.result early)

@@ -25,11 +25,13 @@ use Rattle.pl0_meaning.specs.Values.{Frame, Configuration, next_step}
 use Rattle.pl0_meaning.specs.Runs.{at, frame_limit}
 use Rattle.pl0_meaning.specs.Laws.{FramesAreFew}
 use Rattle.dbg_plan.specs.Breakpoints.{Breakpoint}
+use Rattle.dbg_plan.specs.Logs.{Log}
+use Rattle.dbg_plan.specs.declared.mode.Mode.{Mode}
 use Rattle.dbg_plan.specs.declared.mode.Reason.{Reason}
 use Rattle.dbg_plan.specs.declared.evaluation.EvalFault.{EvalFault}
 use Rattle.dbg_plan.specs.declared.evaluation.EvalFault.TheVariants.{Overflow, DivideByZero}
 use Rattle.dbg_plan.specs.declared.resolving.Resolution.{Resolution}
-use Rattle.dbg_plan.specs.declared.resolving.Resolution.TheVariants.{At, NoStep, BadCondition, BadHitCondition}
+use Rattle.dbg_plan.specs.declared.resolving.Resolution.TheVariants.{At, NoStep, BadCondition, BadHitCondition, BadLogMessage}
 use Rattle.dbg_runner.specs.Plain.{PlainReport}
 use Rattle.dbg_runner.specs.declared.outcome.SliceOutcome.{SliceOutcome}
 use Rattle.dbg_runner.specs.declared.outcome.SliceOutcome.TheVariants as slice
@@ -38,10 +40,10 @@ use Rattle.dap_history.specs.declared.situation.Situation.TheVariants.{Fresh, Re
 use Rattle.dap_history.specs.Last.{or_else}
 use Rattle.dap_history.specs.History.{Launched, Item, Content, Loaded, Accepted, Fault, InputEnd, ReadFailure, MemoryFailure, Step, History, Effect, with_answer, messages, messages_of}
 use Rattle.dap_history.specs.Readings.{situation, launched, position, waiting_pause}
-use Rattle.dap_history.specs.Replies.{Reply, nothing, ordering, refused, on_thread, OfProgram, stops, ends}
+use Rattle.dap_history.specs.Replies.{Reply, nothing, ordering, refused, on_thread, OfProgram, stops, ends, told_logs}
 use Rattle.dap_history.specs.Launching.{initialize_in, Launches}
 use Rattle.dap_history.specs.Breakpoints.{answer_of, effect_in, SetsOf, SetsIn, is_at}
-use Rattle.dap_history.specs.Running.{Pace, ToStop, ToNext, ToStep, ToReturn, body_of, enters, ConfiguresIn, ResumesIn, pause_in}
+use Rattle.dap_history.specs.Running.{Pace, ToStop, ToNext, ToStep, ToReturn, body_of, resumes, first_logs, enters, ConfiguresIn, ResumesIn, RetreatsIn, pause_in}
 use Rattle.dap_history.specs.Frames.{Counting, line_of, column_of, frame_name, shown_frame, shown_frames, at_most, scopes_from, frame_by_id}
 use Rattle.dap_history.specs.Inspection.{Asked, stack_trace, scopes, variables, result_reply, EvaluatesIn, RepliesFrom, RepliesAt, asked_of, InspectsIn}
 use Rattle.dap_history.specs.Reports.{outputs, held, report_effect}
@@ -74,6 +76,10 @@ EventsFit es = MessagesFit (map Event es)
 events_fit-append : (es fs : List EventBody) → EventsFit es → EventsFit fs → EventsFit (es ++ fs)
 events_fit-append [] fs a b = b
 events_fit-append (e ∷ es) fs a b = (a.0, events_fit-append es fs a.1 b)
+
+logs_fit : (bs : List Breakpoint) (ls : List Log) → EventsFit (told_logs bs ls)
+logs_fit bs [] = tt
+logs_fit bs (l ∷ ls) = (tt, logs_fit bs ls)
 
 -- what a reply says fits, and what it reports
 record ReplyFits (reply : Reply) : Type 0 where
@@ -134,6 +140,7 @@ module _ (main : Block) (near : BlockNear main) where
       one_fits NoStep = tt
       one_fits BadCondition = tt
       one_fits BadHitCondition = tt
+      one_fits BadLogMessage = tt
 
   shown_fit : (counting : Counting) (c : Configuration) → FramesNear c → length c ≤ frame_limit → All FrameFits (shown_frames main counting c)
   shown_fit counting [] frames few = All-nil FrameFits
@@ -265,8 +272,8 @@ module _ (few : FramesAreFew) where
   sets_in_fit Ended past a reply near says = sets_fit (launched past) past a reply near says
 
   enters_fit : (past : History) (l : Launched) (why : Option Reason) → EventsFit (enters past l why).events
-  enters_fit past l None = tt
-  enters_fit past l (Some r) = (tt, tt)
+  enters_fit past l None = logs_fit _ _
+  enters_fit past l (Some r) = events_fit-append (first_logs past l) (stops _) (logs_fit _ _) (tt, tt)
 
   configures_fit : (o : Option Launched) (past : History) (reply : Reply) (why : Launched → Option Reason) → OfProgram o (λ l. reply ≡ record { result = Ok body.None; effect = enters past l (why l) }) → ReplyFits reply
   configures_fit None past reply why says = absurd says
@@ -302,6 +309,20 @@ module _ (few : FramesAreFew) where
   resumes_in_fit Configuring past pace thread reply says = fits_if reply _ (refused_fits _) says
   resumes_in_fit Ended past pace thread reply says = fits_if reply _ (refused_fits _) says
 
+  retreats_fit : (o : Option Launched) (past : History) (m : Mode) (thread : ℕ) (reply : Reply)
+      → OfProgram o (λ l. reply ≡ on_thread thread (record { result = Ok body.None; effect = ordering (resumes past l m) })) → ReplyFits reply
+  retreats_fit None past m thread reply says = absurd says
+  retreats_fit (Some l) past m thread reply says = fits_if reply _ (thread_fits thread _ (record { result = tt; events = tt })) says
+
+  retreats_in_fit : (s : Situation) (past : History) (m : Mode) (thread : ℕ) (reply : Reply) → RetreatsIn s past m thread reply → ReplyFits reply
+  retreats_in_fit Stopped past m thread reply says = retreats_fit (launched past) past m thread reply says
+  retreats_in_fit Faulted past m thread reply says = retreats_fit (launched past) past m thread reply says
+  retreats_in_fit Running past m thread reply says = fits_if reply _ (refused_fits _) says
+  retreats_in_fit Fresh past m thread reply says = fits_if reply _ (refused_fits _) says
+  retreats_in_fit Ready past m thread reply says = fits_if reply _ (refused_fits _) says
+  retreats_in_fit Configuring past m thread reply says = fits_if reply _ (refused_fits _) says
+  retreats_in_fit Ended past m thread reply says = fits_if reply _ (refused_fits _) says
+
   pause_fits : (s : Situation) (past : History) (thread : ℕ) → ReplyFits (pause_in s past thread)
   pause_fits Running past thread = thread_fits thread _ (record { result = tt; events = tt })
   pause_fits Stopped past thread = thread_fits thread _ (record { result = tt; events = tt })
@@ -321,6 +342,8 @@ module _ (few : FramesAreFew) where
   command_fits s past (command.Next a) reply near says = resumes_in_fit s past ToNext a.thread_id reply says
   command_fits s past (command.StepIn a) reply near says = resumes_in_fit s past ToStep a.thread_id reply says
   command_fits s past (command.StepOut a) reply near says = resumes_in_fit s past ToReturn a.thread_id reply says
+  command_fits s past (command.StepBack a) reply near says = retreats_in_fit s past _ a.thread_id reply says
+  command_fits s past (command.ReverseContinue a) reply near says = retreats_in_fit s past _ a.thread_id reply says
   command_fits s past (command.Pause a) reply near says = fits_if reply _ (pause_fits s past a.thread_id) says
   command_fits s past (command.StackTrace a) reply near says = inspects_in_fit s past (command.StackTrace a) reply near says
   command_fits s past (command.Scopes a) reply near says = inspects_in_fit s past (command.Scopes a) reply near says
@@ -337,20 +360,23 @@ module _ (few : FramesAreFew) where
 
   -- ---- reports
 
-  outputs_fit : (vs : List ℤ) → EventsFit (map event.Output vs)
-  outputs_fit [] = tt
-  outputs_fit (v ∷ vs) = (tt, outputs_fit vs)
+  numbers_fit : (vs : List ℤ) → EventsFit (map event.Output vs)
+  numbers_fit [] = tt
+  numbers_fit (v ∷ vs) = (tt, numbers_fit vs)
+
+  outputs_fit : (past : History) (r : PlainReport) → EventsFit (outputs past r)
+  outputs_fit past r = events_fit-append (map event.Output _) (told_logs r.plan r.logs) (numbers_fit _) (logs_fit _ _)
 
   held_fits : (past : History) (r : PlainReport) (pauses : Bool) → EventsFit (held past r pauses).events
-  held_fits past r true = events_fit-append (outputs r) (stops _) (outputs_fit r.numbers) (tt, tt)
-  held_fits past r false = outputs_fit r.numbers
+  held_fits past r true = events_fit-append (outputs past r) (stops _) (outputs_fit past r) (tt, tt)
+  held_fits past r false = outputs_fit past r
 
   report_fits : (past : History) (r : PlainReport) (o : SliceOutcome) → EventsFit (report_effect past r o).events
-  report_fits past r slice.More = outputs_fit r.numbers
-  report_fits past r (slice.Due reason) = events_fit-append (outputs r) (stops _) (outputs_fit r.numbers) (tt, tt)
+  report_fits past r slice.More = outputs_fit past r
+  report_fits past r (slice.Due reason) = events_fit-append (outputs past r) (stops _) (outputs_fit past r) (tt, tt)
   report_fits past r slice.Held = held_fits past r (waiting_pause past)
-  report_fits past r slice.Done = events_fit-append (outputs r) (ends 0) (outputs_fit r.numbers) (near_small 0 (lit≤ tt), (tt, tt))
-  report_fits past r (slice.Fault fault) = events_fit-append (outputs r) (stops _) (outputs_fit r.numbers) (tt, tt)
+  report_fits past r slice.Done = events_fit-append (outputs past r) (ends 0) (outputs_fit past r) (near_small 0 (lit≤ tt), (tt, tt))
+  report_fits past r (slice.Fault fault) = events_fit-append (outputs past r) (stops _) (outputs_fit past r) (tt, tt)
   report_fits past r slice.NoMemory = tt
 
   -- ---- steps

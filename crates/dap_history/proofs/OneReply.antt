@@ -25,22 +25,25 @@ use Rattle.dbg_plan.specs.declared.evaluation.EvalFault.{EvalFault}
 use Rattle.dbg_plan.specs.declared.evaluation.EvalFault.TheVariants.{Overflow, DivideByZero}
 use Rattle.dbg_plan.specs.declared.resolving.SourceBreakpoint.{SourceBreakpoint as AskedLine}
 use Rattle.dbg_plan.specs.declared.resolving.Resolution.{Resolution}
-use Rattle.dbg_plan.specs.declared.resolving.Resolution.TheVariants.{At, NoStep, BadCondition, BadHitCondition}
-use Rattle.dbg_plan.specs.Resolutions.{step_from, ReadsRule, ReadsConditionAt, IsBreakpointOf, IsResolvedTo, AreResolved}
+use Rattle.dbg_plan.specs.declared.resolving.Resolution.TheVariants.{At, NoStep, BadCondition, BadHitCondition, BadLogMessage}
+use Rattle.dbg_plan.specs.Messages.{Message}
+use Rattle.dbg_plan.specs.declared.mode.Mode.{Mode}
+use Rattle.dbg_plan.specs.Resolutions.{step_from, ReadsRule, ReadsConditionAt, ReadsMessageAt, HasRule, HasConditionAt, IsBreakpointOf, IsResolvedTo, AreResolved}
 use Rattle.dbg_plan.specs.Values.{answered as evaluated}
 use Rattle.dbg_plan.specs.Breakpoints.{Breakpoint, TextCondition}
 use Rattle.dap_history.specs.declared.situation.Situation.{Situation}
 use Rattle.dap_history.specs.declared.situation.Situation.TheVariants.{Fresh, Ready, Configuring, Running, Stopped, Faulted, Ended}
 use Rattle.dap_history.specs.History.{Launched, Item, Content, Loaded, Accepted, Fault, InputEnd, ReadFailure, MemoryFailure, Step, History, Effect}
 use Rattle.dap_history.specs.Readings.{situation, launched, position}
-use Rattle.dap_history.specs.Replies.{Reply, refused, causing, OfProgram}
+use Rattle.dap_history.specs.Replies.{Reply, refused, ordering, causing, OfProgram, on_thread}
 use Rattle.dap_history.specs.Launching.{Launches, launches, syntax}
 use Rattle.dap_history.specs.Breakpoints.{IsAskedAs, AreAskedAs, answer_of, effect_in, line_offset, Resolves, SetsOf, Sets, SetsIn, is_at}
-use Rattle.dap_history.specs.Running.{Pace, enters, ConfiguresIn, ResumesIn}
+use Rattle.dap_history.specs.Running.{Pace, enters, resumes, ConfiguresIn, ResumesIn, RetreatsIn}
 use Rattle.dap_history.specs.Frames.{frame_by_id}
 use Rattle.dap_history.specs.Inspection.{Asked as Of, asked_of, result_reply, EvaluatesIn, RepliesFrom, RepliesAt, Inspects, InspectsIn}
 use Rattle.dap_history.specs.Emission.{RepliesIn, Answers, HasEffect, Causes, IsAfter}
 use Rattle.dap_history.proofs.Texts.{one_program}
+use Rattle.dap_history.proofs.MessageParts.{one_parts}
 use Rattle.dap_history.proofs.Silent.{due_first, resuming}
 
 -- a text reads in one way, or has one first fault; so does an editor's
@@ -97,11 +100,21 @@ module _ (once : IsTextOnce) where
       ap (λ s. Some (record { text = s; condition = t.condition })) (x.1 ∙ sym y.1)
       ∙ ap (λ c. Some (record { text = u.text; condition = c })) (once.one_condition main (step_path main n) text t.condition u.condition x.2 y.2)
 
+  one_message : (main : Block) (n : ℕ) (text : List ℕ) (a b : Option Message) → ReadsMessageAt main n text a → ReadsMessageAt main n text b → a ≡ b
+  one_message main n text None None x y = refl
+  one_message main n text None (Some t) x y = absurd (y.0 x)
+  one_message main n text (Some t) None x y = absurd (x.0 y)
+  one_message main n text (Some t) (Some u) x y =
+      ap (λ s. Some (record { text = s; parts = t.parts })) (x.1 ∙ sym y.1)
+      ∙ ap (λ ps. Some (record { text = u.text; parts = ps }))
+      (one_parts (IsExpressionOf main (step_path main n)) (once.one_expression main (step_path main n)) text t.parts u.parts x.2.reads y.2.reads)
+
   -- two lines with the same words
   record SameLine (x y : AskedLine) : Type 0 where
     line : x.line ≡ y.line
     condition : string_bytes x.condition ≡ string_bytes y.condition
     hit : string_bytes x.hit_condition ≡ string_bytes y.hit_condition
+    message : string_bytes x.log_message ≡ string_bytes y.log_message
 
   one_breakpoint : (main : Block) (x y : AskedLine) (n k : ℕ) (a b : Breakpoint) → SameLine x y → n ≡ k → IsBreakpointOf main x n a → IsBreakpointOf main y k b → a ≡ b
   one_breakpoint main x y n k a b same at here there =
@@ -109,9 +122,13 @@ module _ (once : IsTextOnce) where
       one_text main n (string_bytes x.condition) a.condition b.condition here.condition
       (subst (λ t. ReadsConditionAt main n t b.condition) (sym same.condition) (subst (λ i. ReadsConditionAt main i (string_bytes y.condition) b.condition) (sym at) there.condition)) in
       let rule : a.rule ≡ b.rule = one_rule (string_bytes x.hit_condition) a.rule b.rule here.rule (subst (λ t. ReadsRule t b.rule) (sym same.hit) there.rule) in
-      ap (λ s. record { step = s; condition = a.condition; rule = a.rule }) (here.step ∙ at ∙ sym there.step)
-      ∙ ap (λ c. record { step = b.step; condition = c; rule = a.rule }) condition
-      ∙ ap (λ r. record { step = b.step; condition = b.condition; rule = r }) rule
+      let message : a.message ≡ b.message =
+      one_message main n (string_bytes x.log_message) a.message b.message here.message
+      (subst (λ t. ReadsMessageAt main n t b.message) (sym same.message) (subst (λ i. ReadsMessageAt main i (string_bytes y.log_message) b.message) (sym at) there.message)) in
+      ap (λ s. record { step = s; condition = a.condition; rule = a.rule; message = a.message }) (here.step ∙ at ∙ sym there.step)
+      ∙ ap (λ c. record { step = b.step; condition = c; rule = a.rule; message = a.message }) condition
+      ∙ ap (λ r. record { step = b.step; condition = b.condition; rule = r; message = a.message }) rule
+      ∙ ap (λ m. record { step = b.step; condition = b.condition; rule = b.rule; message = m }) message
 
   same_step_from : (main : Block) (x y : AskedLine) (n k : ℕ) → SameLine x y → step_from main x.line ≡ Some n → step_from main y.line ≡ Some k → n ≡ k
   same_step_from main x y n k same here there = let e = sym here ∙ ap (step_from main) same.line ∙ there in cc
@@ -120,13 +137,26 @@ module _ (once : IsTextOnce) where
   no_step_there main x y k same here there = let e = sym here ∙ ap (step_from main) same.line ∙ there in absurd cc
 
   other_way : (x y : AskedLine) → SameLine x y → SameLine y x
-  other_way x y same = record { line = sym same.line; condition = sym same.condition; hit = sym same.hit }
+  other_way x y same = record { line = sym same.line; condition = sym same.condition; hit = sym same.hit; message = sym same.message }
 
   -- what reads there reads here
   condition_there : (main : Block) (x y : AskedLine) (n k : ℕ) → SameLine x y → step_from main x.line ≡ Some n → step_from main y.line ≡ Some k → (c : Option TextCondition)
       → ReadsConditionAt main n (string_bytes x.condition) c → ReadsConditionAt main k (string_bytes y.condition) c
   condition_there main x y n k same here there c reads =
       subst (λ t. ReadsConditionAt main k t c) same.condition (subst (λ i. ReadsConditionAt main i (string_bytes x.condition) c) (same_step_from main x y n k same here there) reads)
+
+  message_there : (main : Block) (x y : AskedLine) (n k : ℕ) → SameLine x y → step_from main x.line ≡ Some n → step_from main y.line ≡ Some k → (m : Option Message)
+      → ReadsMessageAt main n (string_bytes x.log_message) m → ReadsMessageAt main k (string_bytes y.log_message) m
+  message_there main x y n k same here there m reads =
+      subst (λ t. ReadsMessageAt main k t m) same.message (subst (λ i. ReadsMessageAt main i (string_bytes x.log_message) m) (same_step_from main x y n k same here there) reads)
+
+  rule_there : (x y : AskedLine) → SameLine x y → HasRule (string_bytes x.hit_condition) → HasRule (string_bytes y.hit_condition)
+  rule_there x y same has = record { rule = has.rule; reads = subst (λ t. ReadsRule t has.rule) same.hit has.reads }
+
+  has_there : (main : Block) (x y : AskedLine) (n k : ℕ) → SameLine x y → step_from main x.line ≡ Some n → step_from main y.line ≡ Some k
+      → HasConditionAt main n (string_bytes x.condition) → HasConditionAt main k (string_bytes y.condition)
+  has_there main x y n k same here there has =
+      record { condition = has.condition; reads = condition_there main x y n k same here there has.condition has.reads }
 
   abbrev SameAnswer : Resolution → List Breakpoint → Resolution → List Breakpoint → Type 0
   SameAnswer a bs b cs = (a ≡ b) × (bs ≡ cs)
@@ -140,6 +170,19 @@ module _ (once : IsTextOnce) where
       absurd (there.1.2 (record { condition = here.1.0.condition; reads = condition_there main x y n there.1.0 same here.0 there.1.1 here.1.0.condition here.1.2.condition }))
   one_line main x y (At n) BadHitCondition bs cs same here there =
       absurd (there.1 (record { rule = here.1.0.rule; reads = subst (λ t. ReadsRule t here.1.0.rule) same.hit here.1.2.rule }))
+  one_line main x y (At n) BadLogMessage bs cs same here there =
+      absurd (there.2.3 (record { message = here.1.0.message; reads = message_there main x y n there.2.0 same here.0 there.2.1 here.1.0.message here.1.2.message }))
+  one_line main x y NoStep BadLogMessage bs cs same here there = absurd (no_step_there main x y there.2.0 same here.0 there.2.1)
+  one_line main x y BadCondition BadLogMessage bs cs same here there =
+      absurd (here.1.2 (has_there main y x there.2.0 here.1.0 (other_way x y same) there.2.1 here.1.1 there.2.2))
+  one_line main x y BadHitCondition BadLogMessage bs cs same here there = absurd (here.1 (rule_there y x (other_way x y same) there.1))
+  one_line main x y BadLogMessage (At k) bs cs same here there =
+      absurd (here.2.3 (record { message = there.1.0.message; reads = message_there main y x k here.2.0 (other_way x y same) there.0 here.2.1 there.1.0.message there.1.2.message }))
+  one_line main x y BadLogMessage NoStep bs cs same here there = absurd (no_step_there main y x here.2.0 (other_way x y same) there.0 here.2.1)
+  one_line main x y BadLogMessage BadCondition bs cs same here there =
+      absurd (there.1.2 (has_there main x y here.2.0 there.1.0 same here.2.1 there.1.1 here.2.2))
+  one_line main x y BadLogMessage BadHitCondition bs cs same here there = absurd (there.1 (rule_there x y same here.1))
+  one_line main x y BadLogMessage BadLogMessage bs cs same here there = (refl, here.0 ∙ sym there.0)
   one_line main x y NoStep (At k) bs cs same here there = absurd (no_step_there main x y k same here.0 there.0)
   one_line main x y NoStep NoStep bs cs same here there = (refl, here.1 ∙ sym there.1)
   one_line main x y NoStep BadCondition bs cs same here there = absurd (no_step_there main x y there.1.0 same here.0 there.1.1)
@@ -158,7 +201,7 @@ module _ (once : IsTextOnce) where
   one_line main x y BadHitCondition BadHitCondition bs cs same here there = (refl, here.0 ∙ sym there.0)
 
   same_line : (less : ℕ) (b : SourceBreakpoint) (x y : AskedLine) → IsAskedAs less b x → IsAskedAs less b y → SameLine x y
-  same_line less b x y here there = record { line = here.line ∙ sym there.line; condition = here.condition ∙ sym there.condition; hit = here.hit ∙ sym there.hit }
+  same_line less b x y here there = record { line = here.line ∙ sym there.line; condition = here.condition ∙ sym there.condition; hit = here.hit ∙ sym there.hit; message = here.message ∙ sym there.message }
 
   one_lines : (main : Block) (less : ℕ) (lines : List SourceBreakpoint) (xs ys : List AskedLine) (answers bs : List Resolution) (ps qs : List Breakpoint)
       → AreAskedAs less lines xs → AreAskedAs less lines ys → AreResolved main xs answers ps → AreResolved main ys bs qs → (answers ≡ bs) × (ps ≡ qs)
@@ -235,6 +278,15 @@ module _ (once : IsTextOnce) where
   one_resumes_in Configuring past pace thread r t a b = a ∙ sym b
   one_resumes_in Ended past pace thread r t a b = a ∙ sym b
 
+  one_retreats_in : (s : Situation) (past : History) (m : Mode) (thread : ℕ) (r t : Reply) → RetreatsIn s past m thread r → RetreatsIn s past m thread t → r ≡ t
+  one_retreats_in Stopped past m thread r t a b = one_as (launched past) (λ l. on_thread thread (causing body.None (ordering (resumes past l m)))) r t a b
+  one_retreats_in Faulted past m thread r t a b = one_as (launched past) (λ l. on_thread thread (causing body.None (ordering (resumes past l m)))) r t a b
+  one_retreats_in Running past m thread r t a b = a ∙ sym b
+  one_retreats_in Fresh past m thread r t a b = a ∙ sym b
+  one_retreats_in Ready past m thread r t a b = a ∙ sym b
+  one_retreats_in Configuring past m thread r t a b = a ∙ sym b
+  one_retreats_in Ended past m thread r t a b = a ∙ sym b
+
   -- ---- questions
 
   evaluated_once : (a b : Result ℤ EvalFault) → evaluated a ≡ evaluated b → a ≡ b
@@ -294,6 +346,8 @@ module _ (once : IsTextOnce) where
   one_reply s past (command.Next a) r t x y = one_resumes_in s past _ a.thread_id r t x y
   one_reply s past (command.StepIn a) r t x y = one_resumes_in s past _ a.thread_id r t x y
   one_reply s past (command.StepOut a) r t x y = one_resumes_in s past _ a.thread_id r t x y
+  one_reply s past (command.StepBack a) r t x y = one_retreats_in s past _ a.thread_id r t x y
+  one_reply s past (command.ReverseContinue a) r t x y = one_retreats_in s past _ a.thread_id r t x y
   one_reply s past (command.Pause a) r t x y = x ∙ sym y
   one_reply s past (command.StackTrace a) r t x y = one_inspects_in s past (command.StackTrace a) r t x y
   one_reply s past (command.Scopes a) r t x y = one_inspects_in s past (command.Scopes a) r t x y

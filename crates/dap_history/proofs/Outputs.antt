@@ -1,58 +1,148 @@
--- The numbers reported are those that the program wrote.
-use Rattle.std.proofs.Common.{◌≡◌, ℕ, List, [], ◌∷◌, ◌++◌, ℤ, Option, None, Some, refl, sym, ◌∙◌, ap, append-nil}
-use Rattle.std.specs.Prelude.{map, Result, Bool, true, false}
+-- What the events and orders of a report say.
+use Rattle.std.proofs.Common.{◌≡◌, ℕ, ◌-◌, List, [], ◌++◌, ℤ, Option, None, Some, refl, sym, ◌∙◌, ap, append-nil}
+use Rattle.std.specs.Prelude.{map, drop, Result, Bool, true, false}
 use Rattle.std.specs.List.{filter_map}
-use Rattle.std.proofs.lemmas.List.{map-append}
-use Rattle.std.proofs.lemmas.List.Elements.{filter_map-append}
+use Rattle.std.proofs.Math.Seq.{drop-nil}
+use Rattle.std.proofs.lemmas.List.{append_assoc}
 use Rattle.dap_msg.specs.declared.command.CommandName.{CommandName}
 use Rattle.dap_msg.specs.declared.outgoing.Body.{Body}
 use Rattle.dap_msg.specs.declared.outgoing.Refusal.{Refusal}
 use Rattle.dap_msg.specs.declared.outgoing.Outgoing.TheVariants.{Answer, Event}
 use Rattle.dap_msg.specs.declared.outgoing.EventBody.{EventBody}
 use Rattle.dap_msg.specs.declared.outgoing.EventBody.TheVariants as event
+use Rattle.dap_msg.specs.declared.outgoing.StopReason.TheVariants as stop
 use Rattle.dbg_runner.specs.declared.outcome.SliceOutcome.{SliceOutcome}
 use Rattle.dbg_runner.specs.Plain.{PlainReport, Heading}
 use Rattle.dbg_runner.specs.declared.outcome.SliceOutcome.TheVariants as slice
 use Rattle.dap_history.specs.Last.{last_such}
 use Rattle.dap_history.specs.History.{Step, History, Effect, with_answer, messages}
-use Rattle.dap_history.specs.Readings.{go, waiting_pause}
+use Rattle.dap_history.specs.Readings.{go, numbers_told, numbers, message_mark, waiting_pause}
+use Rattle.dap_history.specs.Replies.{stops, ends, stop_of, exception_of, text_of_log, told_logs}
 use Rattle.dap_history.specs.Reports.{outputs, held, report_effect}
-use Rattle.dap_history.specs.Laws.{output, numbers}
+use Rattle.dap_history.specs.Laws.{logs}
+use Rattle.dap_history.specs.Stops.{stop_of_event}
+use Rattle.dap_history.proofs.Silent.{NextRuns, no_runs, next_run}
+use Rattle.dap_history.proofs.Told.{numbers_in, texts_in, numbers_of_numbers, texts_of_numbers, stop_of_numbers, mark_of_numbers, numbers_of_logs, texts_of_logs, stop_of_logs, mark_of_logs}
 
--- ---- the numbers of a step
+-- ---- the numbers and logs of a step
 
--- an answer is no number
-pub answer_aside : (seq : ℕ) (command : CommandName) (result : Result Body Refusal) (step : Step) → step.answer ≡ Some (Answer seq command result) → numbers (messages step) ≡ filter_map output (map Event step.effect.events)
+-- an answer is neither
+pub answer_aside : (seq : ℕ) (command : CommandName) (result : Result Body Refusal) (step : Step) → step.answer ≡ Some (Answer seq command result) → numbers (messages step) ≡ numbers_in step.effect.events
 answer_aside seq command result step is = ap (λ a. numbers (with_answer a (map Event step.effect.events))) is
 
-pub no_answer : (step : Step) → step.answer ≡ None → numbers (messages step) ≡ filter_map output (map Event step.effect.events)
+pub no_answer : (step : Step) → step.answer ≡ None → numbers (messages step) ≡ numbers_in step.effect.events
 no_answer step is = ap (λ a. numbers (with_answer a (map Event step.effect.events))) is
 
--- the numbers of a report are reported as they are
-outputs_numbers : (vs : List ℤ) → filter_map output (map Event (map event.Output vs)) ≡ vs
-outputs_numbers [] = refl
-outputs_numbers (v ∷ vs) = ap (λ l. v ∷ l) (outputs_numbers vs)
+pub answer_unlogged : (seq : ℕ) (command : CommandName) (result : Result Body Refusal) (step : Step) → step.answer ≡ Some (Answer seq command result) → logs (messages step) ≡ texts_in step.effect.events
+answer_unlogged seq command result step is = ap (λ a. logs (with_answer a (map Event step.effect.events))) is
 
-after_outputs : (r : PlainReport) (events : List EventBody) → filter_map output (map Event events) ≡ [] → filter_map output (map Event (outputs r ++ events)) ≡ r.numbers
-after_outputs r events none =
-    ap (filter_map output) (map-append Event (outputs r) events)
-    ∙ filter_map-append output (map Event (outputs r)) (map Event events)
-    ∙ ap (λ l. filter_map output (map Event (outputs r)) ++ l) none
-    ∙ append-nil (filter_map output (map Event (outputs r)))
-    ∙ outputs_numbers r.numbers
+pub no_answer_unlogged : (step : Step) → step.answer ≡ None → logs (messages step) ≡ texts_in step.effect.events
+no_answer_unlogged step is = ap (λ a. logs (with_answer a (map Event step.effect.events))) is
 
--- whatever the report's end, its numbers are those that it reports
-pub report_numbers : (past : History) (r : PlainReport) (e : SliceOutcome) → (e ≡ slice.NoMemory → r.numbers ≡ []) → filter_map output (map Event (report_effect past r e).events) ≡ r.numbers
-report_numbers past r slice.More none = outputs_numbers r.numbers
-report_numbers past r (slice.Due reason) none = after_outputs r _ refl
-report_numbers past r slice.Held none = held_tells (waiting_pause past)
+-- ---- a report's outputs, and what follows them
+
+abbrev pub told_numbers : History → PlainReport → List ℤ
+told_numbers past r = drop (numbers_told past - r.before) r.numbers
+
+abbrev pub told_texts : PlainReport → List (List ℕ)
+told_texts r = map (text_of_log r.plan) r.logs
+
+pub outputs_apart : (past : History) (r : PlainReport) (es : List EventBody) → outputs past r ++ es ≡ map event.Output (told_numbers past r) ++ (told_logs r.plan r.logs ++ es)
+outputs_apart past r es = append_assoc (map event.Output (told_numbers past r)) (told_logs r.plan r.logs) es
+
+pub outputs_numbers : (past : History) (r : PlainReport) (es : List EventBody) → numbers_in (outputs past r ++ es) ≡ told_numbers past r ++ numbers_in es
+outputs_numbers past r es =
+    ap numbers_in (outputs_apart past r es)
+    ∙ numbers_of_numbers (told_numbers past r) (told_logs r.plan r.logs ++ es)
+    ∙ ap (λ l. told_numbers past r ++ l) (numbers_of_logs r.plan r.logs es)
+
+pub outputs_texts : (past : History) (r : PlainReport) (es : List EventBody) → texts_in (outputs past r ++ es) ≡ told_texts r ++ texts_in es
+outputs_texts past r es =
+    ap texts_in (outputs_apart past r es) ∙ texts_of_numbers (told_numbers past r) (told_logs r.plan r.logs ++ es) ∙ texts_of_logs r.plan r.logs es
+
+pub outputs_stop : (past : History) (r : PlainReport) (es : List EventBody) → last_such stop_of_event (outputs past r ++ es) ≡ last_such stop_of_event es
+outputs_stop past r es =
+    ap (last_such stop_of_event) (outputs_apart past r es)
+    ∙ stop_of_numbers (told_numbers past r) (told_logs r.plan r.logs ++ es)
+    ∙ stop_of_logs r.plan r.logs es
+
+pub outputs_mark : (past : History) (r : PlainReport) (es : List EventBody) → last_such message_mark (map Event (outputs past r ++ es)) ≡ last_such message_mark (map Event es)
+outputs_mark past r es =
+    ap (λ l. last_such message_mark (map Event l)) (outputs_apart past r es)
+    ∙ mark_of_numbers (told_numbers past r) (told_logs r.plan r.logs ++ es)
+    ∙ mark_of_logs r.plan r.logs es
+
+abbrev pub if_paused : Bool → List EventBody
+if_paused true = stops stop.Pause
+if_paused false = []
+
+-- what follows a report's outputs
+abbrev pub following : History → SliceOutcome → List EventBody
+following past slice.More = []
+following past (slice.Due reason) = stops (stop_of reason)
+following past slice.Held = if_paused (waiting_pause past)
+following past slice.Done = ends 0
+following past (slice.Fault fault) = stops (stop.Exception (exception_of fault))
+following past slice.NoMemory = []
+
+-- a report for which there was no memory tells nothing
+pub report_events : (past : History) (r : PlainReport) (e : SliceOutcome) → (e ≡ slice.NoMemory → (r.numbers ≡ []) × (r.logs ≡ [])) → (report_effect past r e).events ≡ outputs past r ++ following past e
+report_events past r slice.More none = sym (append-nil (outputs past r))
+report_events past r (slice.Due reason) none = refl
+report_events past r slice.Held none = by_pause (waiting_pause past)
   where
-    held_tells : (pauses : Bool) → filter_map output (map Event (held past r pauses).events) ≡ r.numbers
-    held_tells true = after_outputs r _ refl
-    held_tells false = outputs_numbers r.numbers
-report_numbers past r slice.Done none = after_outputs r _ refl
-report_numbers past r (slice.Fault fault) none = after_outputs r _ refl
-report_numbers past r slice.NoMemory none = sym (none refl)
+    by_pause : (pauses : Bool) → (held past r pauses).events ≡ outputs past r ++ if_paused pauses
+    by_pause true = refl
+    by_pause false = sym (append-nil (outputs past r))
+report_events past r slice.Done none = refl
+report_events past r (slice.Fault fault) none = refl
+report_events past r slice.NoMemory none =
+    sym
+    (append-nil (outputs past r)
+    ∙ ap (λ vs. map event.Output (drop (numbers_told past - r.before) vs) ++ told_logs r.plan r.logs) (none refl).0
+    ∙ ap (λ vs. map event.Output vs ++ told_logs r.plan r.logs) (drop-nil (numbers_told past - r.before))
+    ∙ ap (told_logs r.plan) (none refl).1)
+
+pub following_numbers : (past : History) (e : SliceOutcome) → numbers_in (following past e) ≡ []
+following_numbers past slice.More = refl
+following_numbers past (slice.Due reason) = refl
+following_numbers past slice.Held = by_pause (waiting_pause past)
+  where
+    by_pause : (pauses : Bool) → numbers_in (if_paused pauses) ≡ []
+    by_pause true = refl
+    by_pause false = refl
+following_numbers past slice.Done = refl
+following_numbers past (slice.Fault fault) = refl
+following_numbers past slice.NoMemory = refl
+
+pub following_texts : (past : History) (e : SliceOutcome) → texts_in (following past e) ≡ []
+following_texts past slice.More = refl
+following_texts past (slice.Due reason) = refl
+following_texts past slice.Held = by_pause (waiting_pause past)
+  where
+    by_pause : (pauses : Bool) → texts_in (if_paused pauses) ≡ []
+    by_pause true = refl
+    by_pause false = refl
+following_texts past slice.Done = refl
+following_texts past (slice.Fault fault) = refl
+following_texts past slice.NoMemory = refl
+
+module _ (past : History) (r : PlainReport) (e : SliceOutcome) (none : e ≡ slice.NoMemory → (r.numbers ≡ []) × (r.logs ≡ [])) where
+  -- whatever the report's end, its numbers are reported but for those that were before
+  pub report_numbers : numbers_in (report_effect past r e).events ≡ told_numbers past r
+  report_numbers =
+      ap numbers_in (report_events past r e none)
+      ∙ outputs_numbers past r (following past e)
+      ∙ ap (λ l. told_numbers past r ++ l) (following_numbers past e)
+      ∙ append-nil (told_numbers past r)
+
+  -- and all its logs
+  pub report_texts : texts_in (report_effect past r e).events ≡ told_texts r
+  report_texts =
+      ap texts_in (report_events past r e none)
+      ∙ outputs_texts past r (following past e)
+      ∙ ap (λ l. told_texts r ++ l) (following_texts past e)
+      ∙ append-nil (told_texts r)
 
 pub report_launches : (past : History) (r : PlainReport) (e : SliceOutcome) → (report_effect past r e).launched ≡ None
 report_launches past r slice.More = refl
@@ -85,3 +175,16 @@ report_goes past r slice.Held = held_goes (waiting_pause past)
 report_goes past r slice.Done = no_run
 report_goes past r (slice.Fault fault) = no_run
 report_goes past r slice.NoMemory = no_run
+
+-- it is the next one
+pub report_runs : (past : History) (r : PlainReport) (e : SliceOutcome) → NextRuns past (filter_map go (report_effect past r e).orders)
+report_runs past r slice.More = no_runs
+report_runs past r (slice.Due reason) = no_runs
+report_runs past r slice.Held = held_runs (waiting_pause past)
+  where
+    held_runs : (pauses : Bool) → NextRuns past (filter_map go (held past r pauses).orders)
+    held_runs true = no_runs
+    held_runs false = next_run _ refl
+report_runs past r slice.Done = no_runs
+report_runs past r (slice.Fault fault) = no_runs
+report_runs past r slice.NoMemory = no_runs

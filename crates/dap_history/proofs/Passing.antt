@@ -1,8 +1,7 @@
 -- A run passes no position that is due, and none was ordered before `configurationDone`.
-use Rattle.std.proofs.Common.{◌≡◌, ◌⊎◌, inl, inr, ⊎_elim, ℕ, ◌<◌, ◌≤◌, List, [], ◌∷◌, ◌++◌, Option, None, Some, Ok, Err, refl, sym, ◌∙◌, ap, subst, arith}
+use Rattle.std.proofs.Common.{◌≡◌, ◌⊎◌, inl, inr, ⊎_elim, ℕ, ◌<◌, ◌≤◌, List, [], ◌∷◌, true, Option, None, Some, Ok, Err, refl, sym, ◌∙◌, ap, subst, arith}
 use Rattle.std.specs.Prelude.{map, unwrap_or, Result}
 use Rattle.std.proofs.lemmas.Bool.{cases_lt}
-use Rattle.std.proofs.lemmas.List.{map-append}
 use Rattle.dap_msg.specs.Commands.{name_of}
 use Rattle.dap_msg.specs.declared.command.Command.{Command}
 use Rattle.dap_msg.specs.declared.command.Command.TheVariants as command
@@ -19,9 +18,10 @@ use Rattle.dap_msg.specs.declared.outgoing.StopReason.TheVariants as stop
 use Rattle.pl0_tree.specs.Tree.{Block}
 use Rattle.pl0_meaning.specs.Laws.{WrittenJoins}
 use Rattle.dbg_plan.specs.Due.{due}
+use Rattle.dbg_plan.specs.declared.mode.Reason.{Reason}
 use Rattle.dbg_runner.specs.declared.outcome.SliceOutcome.{SliceOutcome}
-use Rattle.dbg_runner.specs.Plain.{PlainReport, Heading, PlainOrder, Go, Hold, Quit}
-use Rattle.dbg_runner.specs.Lawful.{IsLawful, EndsBy, takes_all, faults, is_held, lacks_memory, due_in as due_of}
+use Rattle.dbg_runner.specs.Plain.{PlainReport, Heading, PlainOrder, Go, Hold, Quit, goes_back}
+use Rattle.dbg_runner.specs.Lawful.{IsLawful, IsPassed, EndsBy, takes_all, faults, is_held, lacks_memory, WentOn, GoesBackBy, is_spent, has_come, has_no_memory, WentBack, due_in as due_of}
 use Rattle.dbg_runner.specs.declared.outcome.SliceOutcome.TheVariants as slice
 use Rattle.dap_history.specs.declared.situation.Situation.{Situation}
 use Rattle.dap_history.specs.declared.situation.Situation.TheVariants.{Configuring, Running, Stopped, Faulted, Ended}
@@ -31,15 +31,14 @@ use Rattle.dap_history.specs.Readings.{go, situation, position, launched, last_r
 use Rattle.dap_history.specs.declared.launch.Launch.{Launch}
 use Rattle.dap_history.specs.Launching.{Launches}
 use Rattle.dap_history.specs.Replies.{Reply, stops, ends, stop_of}
-use Rattle.dap_history.specs.Reports.{Accepts, outputs, report_effect}
+use Rattle.dap_history.specs.Reports.{Accepts, report_effect}
 use Rattle.dap_history.specs.Emission.{RepliesIn, HasEffect, Causes}
 use Rattle.dap_history.specs.Stops.{due_in, NoneDueUpTo, NoneDueBefore}
 use Rattle.dap_history.specs.Events.{Incoming}
 use Rattle.dap_history.proofs.Texts.{OneProgram}
-use Rattle.dap_history.proofs.Readings.{last_such-append}
 use Rattle.dap_history.proofs.Along.{IsTaken}
 use Rattle.dap_history.proofs.Silent.{GoesBy, no_go, of_text, all_silent}
-use Rattle.dap_history.proofs.Outputs.{GoesAs, no_run, as_text, report_goes, report_launches}
+use Rattle.dap_history.proofs.Outputs.{outputs_mark, GoesAs, no_run, as_text, report_goes, report_launches}
 use Rattle.dap_history.proofs.Standing.{MarkIs, mark_else, IsAnswer}
 use Rattle.dap_history.proofs.Progress.{Progress, report_program}
 
@@ -79,6 +78,7 @@ events_not P stopped faulted ended (e ∷ es) is = neither (events_not P stopped
     event_not (event.Stopped stop.Pause) is = stopped is
     event_not (event.Stopped (stop.Exception x)) is = faulted is
     event_not (event.Output v) is = is
+    event_not (event.Log text) is = is
     event_not (event.Exited code) is = ended is
     event_not event.Terminated is = is
 
@@ -120,6 +120,8 @@ reply_not s past (command.Continue a) reply is mark = result_not (name.Supported
 reply_not s past (command.Next a) reply is mark = result_not (name.Supported supported.Next) (λ x. x) reply.result mark
 reply_not s past (command.StepIn a) reply is mark = result_not (name.Supported supported.StepIn) (λ x. x) reply.result mark
 reply_not s past (command.StepOut a) reply is mark = result_not (name.Supported supported.StepOut) (λ x. x) reply.result mark
+reply_not s past (command.StepBack a) reply is mark = result_not (name.Supported supported.StepBack) (λ x. x) reply.result mark
+reply_not s past (command.ReverseContinue a) reply is mark = result_not (name.Supported supported.ReverseContinue) (λ x. x) reply.result mark
 reply_not s past (command.Pause a) reply is mark = result_not (name.Supported supported.Pause) (λ x. x) reply.result mark
 reply_not s past (command.StackTrace a) reply is mark = result_not (name.Supported supported.StackTrace) (λ x. x) reply.result mark
 reply_not s past (command.Scopes a) reply is mark = result_not (name.Supported supported.Scopes) (λ x. x) reply.result mark
@@ -260,20 +262,42 @@ mark_of effect step has =
     ap (λ a. or_else (last_such order_mark step.effect.orders) (last_such message_mark (with_answer a (map Event step.effect.events)))) has.answer_is
     ∙ ap mark_of_effect has.effect_is
 
-last_mark : (r : PlainReport) (es : List EventBody) → last_such message_mark (map Event (outputs r ++ es)) ≡ or_else (last_such message_mark (map Event es)) (last_such message_mark (map Event (outputs r)))
-last_mark r es = ap (last_such message_mark) (map-append Event (outputs r) es) ∙ last_such-append message_mark (map Event (outputs r)) (map Event es)
-
 -- where a report leads nowhere, its end isn't due
 abbrev pub NotDueAtEnd : Block → PlainReport → Type 0
 NotDueAtEnd main r = (r.end ≡ r.start) ⊎ (due_of main r r.end ≡ None)
 
-pub undue_end : (main : Block) (past : History) (r : PlainReport) (e : SliceOutcome) → EndsBy main r e → mark_of_effect (report_effect past r e) ≡ None → NotDueAtEnd main r
-undue_end main past r slice.More (takes_all spent undue runs) none = inr undue
-undue_end main past r (slice.Due reason) is none = let e = sym (last_mark r (stops (stop_of reason))) ∙ none in absurd cc
-undue_end main past r slice.Held (is_held stays runs) none = inl stays
-undue_end main past r slice.Done is none = let e = sym (last_mark r (ends 0)) ∙ none in absurd cc
-undue_end main past r (slice.Fault fault) (faults early undue fails runs) none = undue
-undue_end main past r slice.NoMemory (lacks_memory stays runs) none = inl stays
+abbrev LeadsNowhere : History → PlainReport → SliceOutcome → Type 0
+LeadsNowhere past r e = mark_of_effect (report_effect past r e) ≡ None
+
+stops_somewhere : (past : History) (r : PlainReport) (reason : Reason) → ¬ LeadsNowhere past r (slice.Due reason)
+stops_somewhere past r reason none = let e = sym (outputs_mark past r (stops (stop_of reason))) ∙ none in absurd cc
+
+undue_by : (main : Block) (past : History) (r : PlainReport) (e : SliceOutcome) → EndsBy main r e → LeadsNowhere past r e → NotDueAtEnd main r
+undue_by main past r slice.More (takes_all spent undue runs) none = inr undue
+undue_by main past r (slice.Due reason) is none = absurd (stops_somewhere past r reason none)
+undue_by main past r slice.Held (is_held stays runs) none = inl stays
+undue_by main past r slice.Done is none = let e = sym (outputs_mark past r (ends 0)) ∙ none in absurd cc
+undue_by main past r (slice.Fault fault) (faults early passed fails runs) none = by_end passed
+  where
+    by_end : (r.end ≡ r.start) ⊎ IsPassed main r r.end → NotDueAtEnd main r
+    by_end (inl stays) = inl stays
+    by_end (inr is) = inr is.undue
+undue_by main past r slice.NoMemory (lacks_memory stays runs) none = inl stays
+
+pub undue_end : (main : Block) (past : History) (r : PlainReport) → WentOn main r → LeadsNowhere past r r.outcome → NotDueAtEnd main r
+undue_end main past r went none = undue_by main past r r.outcome went.outcome none
+
+-- a run that goes back and has not stopped stays where it began
+stays_by : (main : Block) (past : History) (r : PlainReport) (e : SliceOutcome) → GoesBackBy main r e → LeadsNowhere past r e → r.end ≡ r.start
+stays_by main past r slice.More (is_spent stays spent) none = stays
+stays_by main past r (slice.Due reason) (has_come comes) none = absurd (stops_somewhere past r reason none)
+stays_by main past r slice.NoMemory (has_no_memory stays) none = stays
+stays_by main past r slice.Held is none = elim is [ ]
+stays_by main past r slice.Done is none = elim is [ ]
+stays_by main past r (slice.Fault fault) is none = elim is [ ]
+
+pub stays_end : (main : Block) (past : History) (r : PlainReport) → WentBack main r → LeadsNowhere past r r.outcome → r.end ≡ r.start
+stays_end main past r went none = stays_by main past r r.outcome went.outcome none
 
 -- ---- along a history
 
@@ -284,6 +308,8 @@ module _ (one : OneProgram) (joins : WrittenJoins) where
     pub configuring : IsConfiguring (situation past) → (last_run past ≡ None) × (position past ≡ 0)
     pub running : IsRunning (situation past) → (l : Launched) → launched past ≡ Some l → (run : Heading) → last_run past ≡ Some run
         → (run.start ≤ position past) × NoneDueUpTo l run (position past)
+    -- one that goes back stands where it began
+    pub back : IsRunning (situation past) → (run : Heading) → last_run past ≡ Some run → goes_back run.mode ≡ true → position past ≡ run.start
 
   -- the report is of the launched program, the last run, and what that run passed
   module _ (past : History) (r : PlainReport) (accepts : Accepts past r) (lawful : IsLawful r) (ran : Ran past) (l : Launched) (is : launched past ≡ Some l) where
@@ -297,29 +323,38 @@ module _ (one : OneProgram) (joins : WrittenJoins) where
         (ap (λ (p : Block). due p r.plan r.counted_from r.mode k) (report_program one joins past r lawful l accepts (ran.so_far.progress (Some l) is))
         ∙ ap (λ (h : Heading). due l.program h.plan h.counted_from h.mode k) same)
 
+    pub starts_here : r.start ≡ position past
+    starts_here = ap (λ (h : Heading). h.start) accepts.expected
+
     was : (run.start ≤ position past) × NoneDueUpTo l run (position past)
     was = ran.running (subst IsRunning (sym accepts.running) tt) l is run accepts.run_is
 
     pub begun_there : run.start ≤ r.start
-    begun_there = subst (λ n. run.start ≤ n) (sym (ap (λ (h : Heading). h.start) accepts.expected)) was.0
+    begun_there = subst (λ n. run.start ≤ n) (sym starts_here) was.0
 
-    pub begun_before : run.start ≤ r.end
-    begun_before = let a = begun_there in let b = lawful.lawful.begun in omega (arith, a, b)
+    -- where the report stays
+    pub still : r.end ≡ r.start → (run.start ≤ r.end) × NoneDueUpTo l run r.end
+    still stays = subst (λ n. (run.start ≤ n) × NoneDueUpTo l run n) (sym (stays ∙ starts_here)) was
 
-    pub none_before : NoneDueBefore l run r.end
-    none_before k above below =
-        ⊎_elim
-        (λ (past_begin : r.start < k). same_due k ∙ lawful.lawful.passed k past_begin below)
-        (λ (up_to : k ≤ r.start). was.1 k above (subst (λ n. k ≤ n) (ap (λ (h : Heading). h.start) accepts.expected) up_to))
-        (cases_lt r.start k)
+    -- where it goes on
+    module _ (went : WentOn lawful.program r) where
+      pub begun_before : run.start ≤ r.end
+      begun_before = let a = begun_there in let b = went.begun in omega (arith, a, b)
 
-    pub none_up_to : NotDueAtEnd lawful.program r → NoneDueUpTo l run r.end
-    none_up_to at_end k above up_to =
-        ⊎_elim
-        (λ (below : k < r.end). none_before k above below)
-        (λ (there : r.end ≤ k). let same : k ≡ r.end = omega (arith, there, up_to) in by_end at_end same)
-        (cases_lt k r.end)
-      where
-        by_end : NotDueAtEnd lawful.program r → k ≡ r.end → due_in l run k ≡ None
-        by_end (inl stays) same = was.1 k above (let b = (ap (λ (h : Heading). h.start) accepts.expected) in omega (arith, stays, same, b))
-        by_end (inr undue) same = same_due k ∙ ap (due_of lawful.program r) same ∙ undue
+      pub none_before : NoneDueBefore l run r.end
+      none_before k above below =
+          ⊎_elim
+          (λ (past_begin : r.start < k). same_due k ∙ (went.passed k past_begin below).undue)
+          (λ (up_to : k ≤ r.start). was.1 k above (subst (λ n. k ≤ n) starts_here up_to))
+          (cases_lt r.start k)
+
+      pub none_up_to : NotDueAtEnd lawful.program r → NoneDueUpTo l run r.end
+      none_up_to at_end k above up_to =
+          ⊎_elim
+          (λ (below : k < r.end). none_before k above below)
+          (λ (there : r.end ≤ k). let same : k ≡ r.end = omega (arith, there, up_to) in by_end at_end same)
+          (cases_lt k r.end)
+        where
+          by_end : NotDueAtEnd lawful.program r → k ≡ r.end → due_in l run k ≡ None
+          by_end (inl stays) same = (still stays).1 k above (omega (arith, same))
+          by_end (inr undue) same = same_due k ∙ ap (due_of lawful.program r) same ∙ undue

@@ -1,43 +1,41 @@
 -- The numbers reported are those that the program wrote, step by step.
-use Rattle.std.proofs.Common.{◌≡◌, ◌⊎◌, inl, inr, ℕ, ◌-◌, ◌≤◌, List, [], ◌∷◌, ◌++◌, Option, None, Some, refl, sym, ◌∙◌, ap, subst, append-nil, arith}
-use Rattle.std.specs.Prelude.{map, unwrap_or}
+use Rattle.std.proofs.Common.{◌≡◌, ◌⊎◌, inl, inr, ℕ, ◌≤◌, List, [], ◌∷◌, ◌++◌, Bool, Option, None, Some, refl, sym, ◌∙◌, ap, subst, append-nil, arith}
+use Rattle.std.specs.Prelude.{map, max, unwrap_or}
 use Rattle.std.specs.List.{filter_map}
-use Rattle.std.proofs.lemmas.List.Elements.{filter_map-append}
 use Rattle.dap_msg.specs.Commands.{name_of}
 use Rattle.dap_msg.specs.declared.outgoing.EventBody.TheVariants as event
 use Rattle.dap_msg.specs.declared.command.CommandName.TheVariants as name
 use Rattle.dap_msg.specs.declared.command.Supported.TheVariants as supported
 use Rattle.dap_msg.specs.declared.outgoing.Outgoing.TheVariants.{Event}
-use Rattle.pl0_tree.specs.Tree.{Block}
 use Rattle.pl0_tree.specs.Faults.{IsTreeOf}
-use Rattle.pl0_meaning.specs.Runs.{written, written_from}
+use Rattle.pl0_meaning.specs.Runs.{written}
 use Rattle.pl0_meaning.specs.Laws.{WrittenJoins}
-use Rattle.dbg_runner.specs.Plain.{PlainReport, Heading, Quit}
-use Rattle.dbg_runner.specs.Lawful.{IsLawful, EndsBy, lacks_memory}
-use Rattle.dbg_runner.specs.declared.outcome.SliceOutcome.TheVariants as slice
+use Rattle.dbg_runner.specs.Plain.{PlainReport, Heading, Quit, goes_back}
+use Rattle.dbg_runner.specs.Lawful.{IsLawful}
 use Rattle.dap_history.specs.declared.launch.Launch.{Launch}
 use Rattle.dap_history.specs.declared.situation.Situation.{Situation}
 use Rattle.dap_history.specs.declared.situation.Situation.TheVariants.{Fresh, Ready, Configuring, Running, Stopped, Faulted, Ended}
 use Rattle.dap_history.specs.Last.{or_else, last_such}
 use Rattle.dap_history.specs.History.{Launched, Item, Content, Loaded, Accepted, Fault, InputEnd, ReadFailure, MemoryFailure, Step, History, Effect, with_answer, messages, messages_of}
-use Rattle.dap_history.specs.Readings.{go, launched, last_run, position, end_of, situation, answer_mark, message_mark, order_mark, step_mark}
+use Rattle.dap_history.specs.Readings.{go, launched, last_run, position, reached, numbers, output, end_of, situation, answer_mark, message_mark, order_mark, step_mark}
 use Rattle.dap_history.specs.Replies.{Reply, nothing, ordering}
 use Rattle.dap_history.specs.Launching.{Launches, launches}
 use Rattle.dap_history.specs.Reports.{Accepts, report_effect}
 use Rattle.dap_history.specs.Emission.{Answers, HasEffect, Causes}
 use Rattle.dap_history.proofs.Texts.{OneProgram}
-use Rattle.dap_history.specs.Laws.{output, numbers, NumbersAreWritten}
-use Rattle.dap_history.proofs.Readings.{messages_of-snoc, launched-snoc, position-snoc, last_run-snoc, situation-snoc}
+use Rattle.dap_history.specs.Laws.{NumbersAreWritten}
+use Rattle.dap_history.proofs.Readings.{numbers-snoc, launched-snoc, position-snoc, reached-snoc, position_reached, last_run-snoc, situation-snoc}
 use Rattle.dap_history.proofs.Along.{IsTaken, IsKept, IsLawfulEvent, lawful_events, along}
 use Rattle.dap_history.proofs.Early.{IsEarly, IsEarlyMark, unanswered_late, answered_late, result_late, early_reply, early_unwrap}
-use Rattle.dap_history.proofs.Silent.{GoesBy, no_go, of_text, no_stop, IsSilent, all_silent}
-use Rattle.dap_history.proofs.Outputs.{answer_aside, no_answer, report_numbers, report_launches, GoesAs, GoesOn, no_run, as_text, report_goes}
+use Rattle.dap_history.proofs.Silent.{GoesBy, no_go, of_text, no_runs, no_stop, no_logs, IsSilent, all_silent}
+use Rattle.dap_history.proofs.Went.{nothing_told, told_joins}
+use Rattle.dap_history.proofs.Outputs.{answer_aside, no_answer, told_numbers, report_numbers, report_launches, GoesAs, GoesOn, no_run, as_text, report_goes}
 
 -- what is reported before a program is launched, and after
 abbrev pub ProgressOf : History → Option Launched → Type 0
-ProgressOf past None = (numbers (messages_of past) ≡ []) × (last_run past ≡ None) × (position past ≡ 0)
+ProgressOf past None = (numbers (messages_of past) ≡ []) × (last_run past ≡ None) × (position past ≡ 0) × (reached past ≡ 0)
 ProgressOf past (Some l) =
-    (numbers (messages_of past) ≡ written l.program 0 (position past))
+    (numbers (messages_of past) ≡ written l.program 0 (reached past))
     × ((run : Heading) → last_run past ≡ Some run → run.text ≡ l.text)
     × ∥ IsTreeOf l.text l.program ∥₁
 
@@ -45,11 +43,8 @@ pub record Progress (past : History) : Type 0 where
   pub early : IsEarly (situation past) → launched past ≡ None
   pub progress : (l : Option Launched) → launched past ≡ l → ProgressOf past l
 
-numbers-snoc : (past : History) (step : Step) → numbers (messages_of (past ++ step ∷ [])) ≡ numbers (messages_of past) ++ numbers (messages step)
-numbers-snoc past step = ap numbers (messages_of-snoc past step) ∙ filter_map-append output (messages_of past) (messages step)
-
 -- whether a mark is early can be decided
-decided : (o : Option Situation) → ¬ (¬ IsEarlyMark o) → IsEarlyMark o
+pub decided : (o : Option Situation) → ¬ (¬ IsEarlyMark o) → IsEarlyMark o
 decided None not = absurd (not (λ x. x))
 decided (Some Fresh) not = tt
 decided (Some Ready) not = tt
@@ -79,15 +74,20 @@ goes_text past (Some other) l (of_text run' k there text begins) is before run e
     let launch : k ≡ l = cc in
     ap (λ (r : Heading). r.text) (sym same) ∙ text ∙ ap (λ (k : Launched). k.text) launch
 
+reached_still : (past : History) (step : Step) → end_of step.item ≡ None → reached (past ++ step ∷ []) ≡ reached past
+reached_still past step stays =
+    reached-snoc past step ∙ ap (λ o. max (reached past) (unwrap_or o 0)) stays ∙ omega arith
+
 aside_progress : (past : History) (step : Step) → IsAside past step → (l : Option Launched) → launched past ≡ l → ProgressOf past l → ProgressOf (past ++ step ∷ []) l
 aside_progress past step aside None is progress = (
   numbers-snoc past step ∙ ap (λ l. numbers (messages_of past) ++ l) aside.no_numbers ∙ append-nil (numbers (messages_of past)) ∙ progress.0,
   last_run-snoc past step ∙ ap (λ o. or_else o (last_run past)) (goes_none past (last_such go step.effect.orders) aside.goes is) ∙ progress.1,
   position-snoc past step ∙ ap (λ o. unwrap_or o (position past)) aside.moves_nothing ∙ progress.2,
+  reached_still past step aside.moves_nothing ∙ progress.3,
 )
 aside_progress past step aside (Some l) is progress = (
   numbers-snoc past step ∙ ap (λ l. numbers (messages_of past) ++ l) aside.no_numbers ∙ append-nil (numbers (messages_of past)) ∙ progress.0
-      ∙ ap (written l.program 0) (sym (position-snoc past step ∙ ap (λ o. unwrap_or o (position past)) aside.moves_nothing)),
+      ∙ ap (written l.program 0) (sym (reached_still past step aside.moves_nothing)),
   λ run e. goes_text past (last_such go step.effect.orders) l aside.goes is progress.1 run (sym (last_run-snoc past step) ∙ e),
   progress.2,
 )
@@ -108,7 +108,7 @@ aside_keeps past step aside marks so_far = record {
     launch_same : launched (past ++ step ∷ []) ≡ launched past
     launch_same = launched-snoc past step ∙ ap (λ o. or_else o (launched past)) aside.no_launch
 
-silent_aside : (past : History) (step : Step) (effect : Effect) → step.effect ≡ effect → end_of step.item ≡ None → IsSilent (situation past) past effect → numbers (messages step) ≡ filter_map output (map Event step.effect.events) → IsAside past step
+silent_aside : {starts : Bool} (past : History) (step : Step) (effect : Effect) → step.effect ≡ effect → end_of step.item ≡ None → IsSilent starts (situation past) past effect → numbers (messages step) ≡ filter_map output (map Event step.effect.events) → IsAside past step
 silent_aside past step effect is stays silent progress = record {
   no_numbers = progress ∙ ap (λ (e : Effect). filter_map output (map Event e.events)) is ∙ silent.no_numbers;
   no_launch = ap (λ (e : Effect). e.launched) is ∙ silent.no_launch;
@@ -116,24 +116,14 @@ silent_aside past step effect is stays silent progress = record {
   goes = subst (λ (e : Effect). GoesBy past (last_such go e.orders)) (sym is) silent.goes;
 }
 
-nothing_aside : (past : History) (item : Item) (step : Step) → step.item ≡ item → end_of item ≡ None → (effect : Effect) → IsSilent (situation past) past effect → HasEffect effect step → Progress past → Progress (past ++ step ∷ [])
+nothing_aside : {starts : Bool} (past : History) (item : Item) (step : Step) → step.item ≡ item → end_of item ≡ None → (effect : Effect) → IsSilent starts (situation past) past effect → HasEffect effect step → Progress past → Progress (past ++ step ∷ [])
 nothing_aside past item step is stays effect silent has so_far =
     aside_keeps past step (silent_aside past step effect has.effect_is (ap end_of is ∙ stays) silent (no_answer step has.answer_is))
     (λ m. absurd (unanswered_late step has.answer_is m)) so_far
 
 -- ---- a report
 
--- a slice for which there was no memory took no step
-took_none : (main : Block) (r : PlainReport) → EndsBy main r slice.NoMemory → r.end ≡ r.start
-took_none main r (lacks_memory stays runs) = stays
-
 module _ (one : OneProgram) (joins : WrittenJoins) where
-  nothing_between : (r : PlainReport) → IsLawful r → r.outcome ≡ slice.NoMemory → r.numbers ≡ []
-  nothing_between r lawful is =
-      let stays = took_none lawful.program r (subst (EndsBy lawful.program r) is lawful.lawful.outcome) in
-      let none : r.start - r.start ≡ 0 = omega arith in
-      lawful.lawful.numbers ∙ ap (written lawful.program r.start) stays ∙ ap (written_from lawful.program r.start) none
-
   pub report_text : (past : History) (r : PlainReport) (l : Launched) → Accepts past r → ProgressOf past (Some l) → r.text ≡ l.text
   report_text past r l accepts progress = ap (λ (h : Heading). h.text) accepts.expected ∙ progress.1 accepts.run accepts.run_is
 
@@ -150,17 +140,18 @@ module _ (one : OneProgram) (joins : WrittenJoins) where
       → (l : Option Launched) → ProgressOf past l → ProgressOf (past ++ step ∷ []) l
   report_progress past r step is has accepts lawful None progress = absurd (let e = sym progress.1 ∙ accepts.run_is in cc)
   report_progress past r step is has accepts lawful (Some l) progress =
-      let here : position (past ++ step ∷ []) ≡ r.end = position-snoc past step ∙ ap (λ i. unwrap_or (end_of i) (position past)) is in
+      let here : reached (past ++ step ∷ []) ≡ max (reached past) r.end = reached-snoc past step ∙ ap (λ i. max (reached past) (unwrap_or (end_of i) 0)) is in
       let text = report_text past r l accepts progress in
-      let so_far : numbers (messages step) ≡ r.numbers =
-      no_answer step has.answer_is ∙ ap (λ (e : Effect). filter_map output (map Event e.events)) has.effect_is ∙ report_numbers past r r.outcome (nothing_between r lawful) in
-      let wrote : r.numbers ≡ written l.program (position past) r.end =
-      lawful.lawful.numbers ∙ ap (λ p. written p r.start r.end) (report_program past r lawful l accepts progress) ∙ ap (λ b. written l.program b r.end) (ap (λ (h : Heading). h.start) accepts.expected) in
-      let later : position past ≤ r.end = subst (λ b. b ≤ r.end) (ap (λ (h : Heading). h.start) accepts.expected) lawful.lawful.begun in (
+      let same = report_program past r lawful l accepts progress in
+      let adds : numbers (messages step) ≡ told_numbers past r =
+      no_answer step has.answer_is ∙ ap (λ (e : Effect). filter_map output (map Event e.events)) has.effect_is
+      ∙ report_numbers past r r.outcome (nothing_told lawful.program r lawful.lawful) in
+      let so_far : numbers (messages_of past) ≡ written lawful.program 0 (reached past) = progress.0 ∙ ap (λ p. written p 0 (reached past)) (sym same) in
+      let begun : r.start ≤ reached past = subst (λ b. b ≤ reached past) (sym (ap (λ (h : Heading). h.start) accepts.expected)) (position_reached past) in (
         numbers-snoc past step
-            ∙ ap (λ n. n ++ numbers (messages step)) progress.0
-            ∙ ap (λ n. written l.program 0 (position past) ++ n) (so_far ∙ wrote)
-            ∙ joins l.program 0 (position past) r.end (omega arith) later
+            ∙ ap (λ n. numbers (messages_of past) ++ n) adds
+            ∙ told_joins joins lawful.program r lawful.lawful.before (numbers (messages_of past)) (reached past) so_far begun (goes_back r.mode) lawful.lawful.went
+            ∙ ap (λ p. written p 0 (max (reached past) r.end)) same
             ∙ ap (written l.program 0) (sym here),
         λ run e. as_run l.text r.end (last_such go step.effect.orders) (last_run past)
             (subst (λ t. GoesAs t r.end (last_such go step.effect.orders)) text (subst (GoesOn r) (sym has.effect_is) (report_goes past r r.outcome)))
@@ -179,7 +170,7 @@ module _ (one : OneProgram) (joins : WrittenJoins) where
 
   -- ---- a launch
 
-  launch_aside : (past : History) (launch : Launch) (file : Option (List ℕ)) (step : Step) → step.item ≡ Loaded launch file → (reply : Reply) (effect : Effect) → reply.effect ≡ effect → IsSilent (situation past) past effect
+  launch_aside : {starts : Bool} (past : History) (launch : Launch) (file : Option (List ℕ)) (step : Step) → step.item ≡ Loaded launch file → (reply : Reply) (effect : Effect) → reply.effect ≡ effect → IsSilent starts (situation past) past effect
       → Answers launch.seq (name.Supported supported.Launch) reply step → Progress past → Progress (past ++ step ∷ [])
   launch_aside past launch file step is reply effect same silent answers so_far =
       aside_keeps past step
@@ -189,20 +180,20 @@ module _ (one : OneProgram) (joins : WrittenJoins) where
   launch_keeps : (past : History) (launch : Launch) (file : Option (List ℕ)) (step : Step) → step.item ≡ Loaded launch file → situation past ≡ Ready
       → (reply : Reply) → Launches launch.arguments file reply → Answers launch.seq (name.Supported supported.Launch) reply step → Progress past → Progress (past ++ step ∷ [])
   launch_keeps past launch None step is ready reply launches answers so_far =
-      launch_aside past launch None step is reply nothing (ap (λ (r : Reply). r.effect) launches) (record { no_numbers = refl; no_launch = refl; goes = no_go; stops = no_stop }) answers so_far
+      launch_aside past launch None step is reply nothing (ap (λ (r : Reply). r.effect) launches) (record { no_numbers = refl; no_launch = refl; goes = no_go; runs_are = no_runs; stops = no_stop; logs = no_logs refl }) answers so_far
   launch_keeps past launch (Some text) step is ready reply (inl refuses) answers so_far =
-      launch_aside past launch (Some text) step is reply nothing (ap (λ (r : Reply). r.effect) refuses.reply_is) (record { no_numbers = refl; no_launch = refl; goes = no_go; stops = no_stop }) answers so_far
+      launch_aside past launch (Some text) step is reply nothing (ap (λ (r : Reply). r.effect) refuses.reply_is) (record { no_numbers = refl; no_launch = refl; goes = no_go; runs_are = no_runs; stops = no_stop; logs = no_logs refl }) answers so_far
   launch_keeps past launch (Some text) step is ready reply (inr launched_) answers so_far =
       let effect : step.effect ≡ launches launch.arguments text launched_.program = answers.effect_is ∙ ap (λ (r : Reply). r.effect) launched_.reply_is in
       let before = so_far.progress None (so_far.early (subst IsEarly (sym ready) tt)) in
       let now : launched (past ++ step ∷ []) ≡ (launches launch.arguments text launched_.program).launched =
       launched-snoc past step ∙ ap (λ (e : Effect). or_else e.launched (launched past)) effect in
-      let stays : position (past ++ step ∷ []) ≡ 0 = position-snoc past step ∙ ap (λ i. unwrap_or (end_of i) (position past)) is ∙ before.2 in
+      let still : reached (past ++ step ∷ []) ≡ 0 = reached_still past step (ap end_of is) ∙ before.3 in
       let runs_ : last_run (past ++ step ∷ []) ≡ None = last_run-snoc past step ∙ ap (λ (e : Effect). or_else (last_such go e.orders) (last_run past)) effect ∙ before.1 in
       let quiet : numbers (messages (step)) ≡ [] = answer_aside _ _ _ step answers.answer_is ∙ ap (λ (e : Effect). filter_map output (map Event e.events)) effect in record {
         early = λ e. absurd (is_late (early_unwrap (step_mark step) (situation past) (subst IsEarly (situation-snoc past step) e)));
         progress = λ l e. subst (λ l. ProgressOf (past ++ step ∷ []) l) (sym now ∙ e) (
-          numbers-snoc past step ∙ ap (λ n. n ++ numbers (messages step)) before.0 ∙ quiet ∙ ap (written launched_.program 0) (sym stays),
+          numbers-snoc past step ∙ ap (λ n. n ++ numbers (messages step)) before.0 ∙ quiet ∙ ap (written launched_.program 0) (sym still),
           λ run e. absurd (let f = sym runs_ ∙ e in cc),
           launched_.reads,
         );
@@ -229,7 +220,7 @@ module _ (one : OneProgram) (joins : WrittenJoins) where
   -- ---- each item
 
   pub progress_more : (past : History) (item : Item) (step : Step) → step.item ≡ item → IsTaken IsLawfulEvent past item → Causes past item step → Progress past → Progress (past ++ step ∷ [])
-  progress_more past (Content None) step is taken causes so_far = nothing_aside past (Content None) step is refl nothing (record { no_numbers = refl; no_launch = refl; goes = no_go; stops = no_stop }) causes so_far
+  progress_more past (Content None) step is taken causes so_far = nothing_aside past (Content None) step is refl nothing (record { no_numbers = refl; no_launch = refl; goes = no_go; runs_are = no_runs; stops = no_stop; logs = no_logs refl }) causes so_far
   progress_more past (Content (Some request)) step is taken causes so_far =
       aside_keeps past step
       (silent_aside past step causes.0.effect causes.2.effect_is (ap end_of is) (all_silent (situation past) past request.body causes.0 causes.1) (answer_aside _ _ _ step causes.2.answer_is))
@@ -239,10 +230,10 @@ module _ (one : OneProgram) (joins : WrittenJoins) where
       by_answer not = early_reply (situation past) past request.body causes.0 causes.1 (decided (answer_mark (name_of request.body) causes.0.result) not)
   progress_more past (Loaded launch file) step is ready causes so_far = launch_keeps past launch file step is ready causes.0 causes.1 causes.2 so_far
   progress_more past (Accepted r) step is taken causes so_far = report_keeps past r step is causes taken.0 taken.1 so_far
-  progress_more past (Fault k) step is taken causes so_far = nothing_aside past (Fault k) step is refl nothing (record { no_numbers = refl; no_launch = refl; goes = no_go; stops = no_stop }) causes so_far
-  progress_more past InputEnd step is taken causes so_far = nothing_aside past InputEnd step is refl (ordering (Quit ∷ [])) (record { no_numbers = refl; no_launch = refl; goes = no_go; stops = no_stop }) causes so_far
-  progress_more past ReadFailure step is taken causes so_far = nothing_aside past ReadFailure step is refl (ordering (Quit ∷ [])) (record { no_numbers = refl; no_launch = refl; goes = no_go; stops = no_stop }) causes so_far
-  progress_more past MemoryFailure step is taken causes so_far = nothing_aside past MemoryFailure step is refl nothing (record { no_numbers = refl; no_launch = refl; goes = no_go; stops = no_stop }) causes so_far
+  progress_more past (Fault k) step is taken causes so_far = nothing_aside past (Fault k) step is refl nothing (record { no_numbers = refl; no_launch = refl; goes = no_go; runs_are = no_runs; stops = no_stop; logs = no_logs refl }) causes so_far
+  progress_more past InputEnd step is taken causes so_far = nothing_aside past InputEnd step is refl (ordering (Quit ∷ [])) (record { no_numbers = refl; no_launch = refl; goes = no_go; runs_are = no_runs; stops = no_stop; logs = no_logs refl }) causes so_far
+  progress_more past ReadFailure step is taken causes so_far = nothing_aside past ReadFailure step is refl (ordering (Quit ∷ [])) (record { no_numbers = refl; no_launch = refl; goes = no_go; runs_are = no_runs; stops = no_stop; logs = no_logs refl }) causes so_far
+  progress_more past MemoryFailure step is taken causes so_far = nothing_aside past MemoryFailure step is refl nothing (record { no_numbers = refl; no_launch = refl; goes = no_go; runs_are = no_runs; stops = no_stop; logs = no_logs refl }) causes so_far
 
   pub progress_kept : IsKept IsLawfulEvent Progress
   progress_kept = record {
@@ -254,7 +245,7 @@ module _ (one : OneProgram) (joins : WrittenJoins) where
   progress_first = record { early = λ e. refl; progress = first_progress }
     where
       first_progress : (l : Option Launched) → launched [] ≡ l → ProgressOf [] l
-      first_progress None is = (refl, refl, refl)
+      first_progress None is = (refl, refl, refl, refl)
       first_progress (Some l) is = absurd cc
 
   pub numbers_written : NumbersAreWritten

@@ -1,6 +1,6 @@
 -- How the readings of a history go on with one more step.
-use Rattle.std.proofs.Common.{◌≡◌, ◌+◌, List, [], ◌∷◌, ◌++◌, length, Option, None, Some, refl, sym, ◌∙◌, ap, append-nil, length-append, arith}
-use Rattle.std.specs.Prelude.{false, unwrap_or}
+use Rattle.std.proofs.Common.{◌≡◌, ℕ, ◌+◌, ◌≤◌, List, [], ◌∷◌, ◌++◌, length, Option, None, Some, refl, sym, ◌∙◌, ap, append-nil, length-append, arith}
+use Rattle.std.specs.Prelude.{false, max, unwrap_or}
 use Rattle.std.specs.List.{filter_map}
 use Rattle.std.proofs.lemmas.List.Elements.{filter_map-append}
 use Rattle.std.proofs.lemmas.Grind.{flat_map-append}
@@ -8,7 +8,7 @@ use Rattle.dap_history.specs.Last.{or_else, last_such}
 use Rattle.dap_history.specs.Plans.{no_plan}
 use Rattle.dap_history.specs.declared.situation.Situation.TheVariants.{Fresh}
 use Rattle.dap_history.specs.History.{Step, History, messages, messages_of, orders_of, next_seq}
-use Rattle.dap_history.specs.Readings.{step_mark, situation, settings_by, from_one, settings, launched, go, last_run, runs, end_of, position, plan, waits_by, waiting_plan, pauses_by, waiting_pause, hold_mark, is_held, closing, ending_of}
+use Rattle.dap_history.specs.Readings.{step_mark, situation, settings_by, from_one, settings, launched, go, last_run, runs, end_of, position, numbers, numbers_told, reached, output, plan, waits_by, waiting_plan, pauses_by, waiting_pause, hold_mark, is_held, closing, ending_of}
 
 pub or_else-none : {A : Type 0} (x : Option A) → or_else x None ≡ x
 or_else-none None = refl
@@ -57,6 +57,25 @@ launched-snoc past step = last_such-snoc (λ (s : Step). s.effect.launched) past
 
 pub position-snoc : (past : History) (step : Step) → position (past ++ step ∷ []) ≡ unwrap_or (end_of step.item) (position past)
 position-snoc past step = reading-snoc (λ (s : Step). end_of s.item) past step 0
+
+pub numbers-snoc : (past : History) (step : Step) → numbers (messages_of (past ++ step ∷ [])) ≡ numbers (messages_of past) ++ numbers (messages step)
+numbers-snoc past step = ap numbers (messages_of-snoc past step) ∙ filter_map-append output (messages_of past) (messages step)
+
+pub numbers_told-snoc : (past : History) (step : Step) → numbers_told (past ++ step ∷ []) ≡ numbers_told past + length (numbers (messages step))
+numbers_told-snoc past step = ap length (numbers-snoc past step) ∙ length-append (numbers (messages_of past)) (numbers (messages step))
+
+pub reached-snoc : (past : History) (step : Step) → reached (past ++ step ∷ []) ≡ max (reached past) (unwrap_or (end_of step.item) 0)
+reached-snoc [] step = grind arith
+reached-snoc (s ∷ past) step = let e = reached-snoc past step in grind (arith, e)
+
+-- where the program stands is no further than it has reached
+pub position_reached : (past : History) → position past ≤ reached past
+position_reached [] = omega arith
+position_reached (step ∷ past) = by_last (last_such (λ (s : Step). end_of s.item) past) (position_reached past)
+  where
+    by_last : (o : Option ℕ) → unwrap_or o 0 ≤ reached past → unwrap_or (or_else o (end_of step.item)) 0 ≤ max (unwrap_or (end_of step.item) 0) (reached past)
+    by_last None so_far = omega arith
+    by_last (Some n) so_far = omega (arith, so_far)
 
 pub plan-snoc : (past : History) (step : Step) → plan (past ++ step ∷ []) ≡ unwrap_or step.effect.put_in (plan past)
 plan-snoc past step = reading-snoc (λ (s : Step). s.effect.put_in) past step no_plan

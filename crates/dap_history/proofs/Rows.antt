@@ -1,6 +1,6 @@
 -- A session that is paused, and one whose breakpoints change, while the program runs: what each item causes, computed from
--- the definitions, for any program whose first slice is followed by a Held report.
-use Rattle.std.proofs.Common.{◌≡◌, ℕ, List, [], ◌∷◌, ◌++◌, None, Some, Ok, refl}
+-- the definitions, for any program whose first slice is followed by a Held report; and one that goes back.
+use Rattle.std.proofs.Common.{◌≡◌, ℕ, pos, List, [], ◌∷◌, ◌++◌, None, Some, Ok, refl}
 use Rattle.std.specs.Prelude.{false}
 use Rattle.dap_msg.specs.declared.command.Command.{Command}
 use Rattle.dap_msg.specs.declared.command.Command.TheVariants as command
@@ -15,12 +15,13 @@ use Rattle.dap_msg.specs.declared.requests.launch.LaunchArguments.{LaunchArgumen
 use Rattle.pl0_tree.specs.Tree.{Block}
 use Rattle.dbg_plan.specs.Breakpoints.{Breakpoint}
 use Rattle.dbg_plan.specs.declared.mode.Mode.TheVariants as mode
+use Rattle.dbg_plan.specs.declared.mode.Reason.TheVariants as reason
 use Rattle.dbg_runner.specs.Plain.{PlainReport, Go, Hold}
 use Rattle.dbg_runner.specs.declared.outcome.SliceOutcome.{SliceOutcome}
 use Rattle.dbg_runner.specs.declared.outcome.SliceOutcome.TheVariants as slice
 use Rattle.dap_history.specs.declared.situation.Situation.TheVariants.{Configuring, Running}
 use Rattle.dap_history.specs.History.{Content, Loaded, Accepted, Step, History, Effect}
-use Rattle.dap_history.specs.Readings.{from_one, situation, runs, position, plan, waiting_plan, waiting_pause, is_held}
+use Rattle.dap_history.specs.Readings.{from_one, situation, runs, position, reached, numbers_told, plan, waiting_plan, waiting_pause, is_held}
 use Rattle.dap_history.specs.Replies.{Reply, nothing, answered}
 use Rattle.dap_history.specs.Launching.{launches}
 use Rattle.dap_history.specs.Breakpoints.{effect_in}
@@ -63,7 +64,7 @@ module _ (text : List ℕ) (program : Block) (path : List ℕ) (bs : List Breakp
   -- a report of run 1 that goes on from 0 to 256, or is held at 256
   abbrev report : ℕ → ℕ → SliceOutcome → PlainReport
   report from to outcome =
-      record { run = 1; text = text; plan = []; counted_from = 0; mode = mode.Continue; start = from; end = to; numbers = []; outcome = outcome }
+      record { run = 1; text = text; plan = []; counted_from = 0; mode = mode.Continue; start = from; end = to; before = 0; again = 0; numbers = []; logs = []; outcome = outcome }
 
   -- a report of this run is accepted
   accepted : Accepts running (report 0 256 slice.More)
@@ -110,3 +111,55 @@ module _ (text : List ℕ) (program : Block) (path : List ℕ) (bs : List Breakp
 
   is_again : (situation again ≡ Running) × (runs again ≡ 2) × (position again ≡ 256) × (plan again ≡ record { breakpoints = bs; counted_from = 257 }) × (waiting_plan again ≡ None) × (is_held again ≡ false)
   is_again = (refl, refl, refl, refl, refl, refl)
+
+  -- ---- going back
+
+  -- a run that stops at position 15, after one number
+  abbrev forward : PlainReport
+  forward =
+      record { run = 1; text = text; plan = []; counted_from = 0; mode = mode.Continue; start = 0; end = 15; before = 0; again = 0; numbers = pos 7 ∷ []; logs = []; outcome = slice.Due reason.Breakpoint }
+
+  abbrev stopped : History
+  stopped = running ++ reported forward (report_effect running forward (slice.Due reason.Breakpoint)) ∷ []
+
+  tells_one : report_effect running forward (slice.Due reason.Breakpoint) ≡ record nothing { events = event.Output (pos 7) ∷ event.Stopped stop.Breakpoint ∷ [] }
+  tells_one = refl
+
+  -- `reverseContinue` orders run 2 in the mode Reverse
+  reverses : (reply : Reply) → RepliesIn (situation stopped) stopped (command.ReverseContinue (record { thread_id = 1 })) reply
+      → reply ≡ record { result = Ok body.None; effect = record nothing { orders = Go (record { run = 2; text = text; plan = []; counted_from = 0; mode = mode.Reverse; start = 15 }) ∷ [] } }
+  reverses reply is = is
+
+  abbrev going_back : History
+  going_back =
+      stopped ++ taken 5 (command.ReverseContinue (record { thread_id = 1 })) (record { result = Ok body.None; effect = record nothing { orders = Go (record { run = 2; text = text; plan = []; counted_from = 0; mode = mode.Reverse; start = 15 }) ∷ [] } }) ∷ []
+
+  -- a pause and breakpoints hold nothing there
+  pauses_not : (reply : Reply) → RepliesIn (situation going_back) going_back (command.Pause (record { thread_id = 1 })) reply → reply ≡ answered body.None
+  pauses_not reply is = is
+
+  waits_alone : effect_in (situation going_back) going_back bs ≡ record nothing { waits = Some bs }
+  waits_alone = refl
+
+  abbrev backward : ℕ → ℕ → SliceOutcome → PlainReport
+  backward to again outcome =
+      record { run = 2; text = text; plan = []; counted_from = 0; mode = mode.Reverse; start = 15; end = to; before = 1; again = again; numbers = []; logs = []; outcome = outcome }
+
+  -- at its stop the plan counts anew
+  stops_back : report_effect going_back (backward 10 24 (slice.Due reason.Breakpoint)) (slice.Due reason.Breakpoint)
+      ≡ record nothing { events = event.Stopped stop.Breakpoint ∷ []; put_in = Some (record { breakpoints = []; counted_from = 11 }) }
+  stops_back = refl
+
+  abbrev back : History
+  back = going_back ++ reported (backward 10 24 (slice.Due reason.Breakpoint)) (report_effect going_back (backward 10 24 (slice.Due reason.Breakpoint)) (slice.Due reason.Breakpoint)) ∷ []
+
+  is_back_there : (position back ≡ 10) × (reached back ≡ 15) × (numbers_told back ≡ 1) × (plan back ≡ record { breakpoints = []; counted_from = 11 })
+  is_back_there = (refl, refl, refl, refl)
+
+  -- what was told isn't told again
+  abbrev once_more : PlainReport
+  once_more =
+      record { run = 3; text = text; plan = []; counted_from = 11; mode = mode.Continue; start = 10; end = 20; before = 0; again = 0; numbers = pos 7 ∷ pos 8 ∷ []; logs = []; outcome = slice.Done }
+
+  tells_the_rest : report_effect back once_more slice.Done ≡ record nothing { events = event.Output (pos 8) ∷ event.Exited 0 ∷ event.Terminated ∷ [] }
+  tells_the_rest = refl

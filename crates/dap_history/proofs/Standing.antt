@@ -102,6 +102,7 @@ event_stops : (e : EventBody) (es : List EventBody) → MarkIs IsStanding (event
 event_stops event.Initialized es is = absurd is
 event_stops (event.Stopped r) es is = stop_first (last_such stop_of_event es) r
 event_stops (event.Output v) es is = absurd is
+event_stops (event.Log text) es is = absurd is
 event_stops (event.Exited code) es is = absurd is
 event_stops event.Terminated es is = absurd is
 
@@ -122,7 +123,7 @@ messages_stop (Some (Answer seq c result)) es answer is = either (mark_else IsSt
     either (inr is) = absurd (answer_not c result is.1)
 messages_stop (Some (Event e)) es answer is = absurd answer
 
-step_stops : (step : Step) → IsAnswer step.answer → MarkIs IsStanding (step_mark step) → ReportsStop step.effect.events
+pub step_stops : (step : Step) → IsAnswer step.answer → MarkIs IsStanding (step_mark step) → ReportsStop step.effect.events
 step_stops step answer is = either (mark_else IsStanding (last_such order_mark step.effect.orders) (last_such message_mark (messages step)) is)
   where
     either : (MarkIs IsStanding (last_such order_mark step.effect.orders) ⊎ ((last_such order_mark step.effect.orders ≡ None) × MarkIs IsStanding (last_such message_mark (messages step)))) → ReportsStop step.effect.events

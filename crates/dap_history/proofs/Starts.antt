@@ -3,13 +3,15 @@ use Rattle.std.proofs.Common.{◌≡◌, ℕ, List, Option, None, Some, refl, sy
 use Rattle.std.specs.Prelude.{unwrap_or}
 use Rattle.pl0_meaning.specs.Laws.{WrittenJoins}
 use Rattle.dbg_runner.specs.Plain.{PlainReport, Heading}
+use Rattle.dap_history.specs.Plans.{Plan}
 use Rattle.dap_history.specs.Last.{last_such}
 use Rattle.dap_history.specs.History.{Launched, Item, Content, Loaded, Accepted, Fault, InputEnd, ReadFailure, MemoryFailure, Step, History, Effect}
-use Rattle.dap_history.specs.Readings.{go, situation, position, launched, end_of}
+use Rattle.dap_history.specs.Readings.{go, situation, position, plan, launched, end_of}
 use Rattle.dap_history.specs.Reports.{Accepts, report_effect}
 use Rattle.dap_history.specs.Emission.{Causes}
 use Rattle.dap_history.specs.Stops.{run_in, EachRunStartsThere}
-use Rattle.dap_history.proofs.Readings.{position-snoc}
+use Rattle.dap_history.specs.GoingBack.{back_in}
+use Rattle.dap_history.proofs.Readings.{position-snoc, plan-snoc}
 use Rattle.dap_history.proofs.Along.{IsTaken, IsLawfulEvent, lawful_events, along}
 use Rattle.dap_history.proofs.Each.{WasTaken, EachTaken, each_kept, each_first}
 use Rattle.dap_history.proofs.Silent.{GoesBy, no_go, of_text, all_silent}
@@ -18,9 +20,11 @@ use Rattle.dap_history.proofs.Progress.{report_text}
 use Rattle.dap_history.proofs.Passing.{BeginsAt, none_begins, begins_at, item_begins, loaded_orders, Ran}
 use Rattle.dap_history.proofs.Stopping.{ran_kept, ran_first}
 use Rattle.dap_history.proofs.Texts.{OneProgram}
+use Rattle.dap_history.proofs.Once.{ordered_last}
+use Rattle.dap_history.proofs.Ordering.{item_ordered, ordered_under}
 
 -- the run is of the launched text
-abbrev OfLaunched : History → Heading → Type 0
+abbrev pub OfLaunched : History → Heading → Type 0
 OfLaunched past run = (l : Launched) × (launched past ≡ Some l) × (run.text ≡ l.text)
 
 by_reply : (past : History) (o : Option Heading) → GoesBy past o → (run : Heading) → o ≡ Some run → OfLaunched past run
@@ -46,7 +50,7 @@ module _ (one : OneProgram) (joins : WrittenJoins) where
   of_report past r accepts ran run text None is = absurd (let e = sym (ran.so_far.progress None is).1 ∙ accepts.run_is in cc)
   of_report past r accepts ran run text (Some l) is = (l, is, text ∙ report_text one joins past r l accepts (ran.so_far.progress (Some l) is))
 
-  of_launched : (past : History) (item : Item) (step : Step) → IsTaken IsLawfulEvent past item → Causes past item step → Ran one joins past → (run : Heading) → run_in step ≡ Some run → OfLaunched past run
+  pub of_launched : (past : History) (item : Item) (step : Step) → IsTaken IsLawfulEvent past item → Causes past item step → Ran one joins past → (run : Heading) → run_in step ≡ Some run → OfLaunched past run
   of_launched past (Content None) step taken is ran run run_is = let e = sym (run_of_effect step _ is.effect_is) ∙ run_is in absurd cc
   of_launched past (Content (Some request)) step taken is ran run run_is =
       by_reply past (last_such go is.0.effect.orders) (all_silent (situation past) past request.body is.0 is.1).goes run (sym (run_of_effect step _ is.2.effect_is) ∙ run_is)
@@ -62,12 +66,14 @@ module _ (one : OneProgram) (joins : WrittenJoins) where
   of_launched past MemoryFailure step taken is ran run run_is = let e = sym (run_of_effect step _ is.effect_is) ∙ run_is in absurd cc
 
   pub each_run_starts : EachRunStartsThere
-  each_run_starts events past rest lawful history before step after run past_is run_is =
+  each_run_starts events past rest lawful history before step after run past_is orders =
       let there = of_launched before step.item step was.taken was.causes was.held run run_is in (
         there.0,
         there.1,
         there.2,
         starts_at (unwrap_or (end_of step.item) (position before)) (run_in step) (item_begins before step.item step was.causes) run run_is ∙ sym (position-snoc before step),
+        under.0 ∙ ap (λ (p : Plan). p.breakpoints) (sym (plan-snoc before step)),
+        under.1 ∙ ap (λ (p : Plan). p.counted_from) (sym (plan-snoc before step)),
       )
     where
       each : EachTaken IsLawfulEvent (Ran one joins) past
@@ -75,3 +81,9 @@ module _ (one : OneProgram) (joins : WrittenJoins) where
 
       was : WasTaken IsLawfulEvent (Ran one joins) before step
       was = each.each before step after past_is
+
+      run_is : run_in step ≡ Some run
+      run_is = ordered_last before step run was.causes orders
+
+      under : (run.plan ≡ (unwrap_or step.effect.put_in (plan before)).breakpoints) × (run.counted_from ≡ (unwrap_or step.effect.put_in (plan before)).counted_from)
+      under = ordered_under before (back_in step.item) step.effect.put_in (run_in step) (item_ordered before step.item step was.taken was.causes) run run_is

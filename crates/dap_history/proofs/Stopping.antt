@@ -1,16 +1,17 @@
 -- Each stop is where it has to be.
-use Rattle.std.proofs.Common.{◌≡◌, ◌⊎◌, inl, inr, ℕ, ◌<◌, ◌≤◌, List, [], ◌∷◌, ◌++◌, Bool, true, false, ℤ, Option, None, Some, refl, sym, ◌∙◌, ap, subst, arith}
-use Rattle.std.specs.Prelude.{map, unwrap_or}
-use Rattle.dap_msg.specs.declared.outgoing.EventBody.TheVariants as event
+use Rattle.std.proofs.Common.{◌≡◌, ◌⊎◌, inl, inr, ℕ, ◌<◌, ◌≤◌, List, [], ◌∷◌, ◌++◌, Bool, true, false, Option, None, Some, refl, sym, ◌∙◌, ap, subst, append-nil, arith}
+use Rattle.std.specs.Prelude.{unwrap_or}
 use Rattle.dap_msg.specs.declared.outgoing.StopReason.{StopReason}
 use Rattle.dap_msg.specs.declared.outgoing.StopReason.TheVariants as stop
+use Rattle.pl0_tree.specs.Tree.{Block}
 use Rattle.pl0_meaning.specs.Runs.{outcome}
 use Rattle.pl0_meaning.specs.Laws.{WrittenJoins}
+use Rattle.dbg_plan.specs.Retreat.{goal_of}
 use Rattle.dbg_plan.specs.declared.mode.Reason.{Reason}
 use Rattle.dbg_plan.specs.declared.mode.Reason.TheVariants as reason
 use Rattle.dbg_runner.specs.declared.outcome.SliceOutcome.{SliceOutcome}
-use Rattle.dbg_runner.specs.Plain.{PlainReport, Heading}
-use Rattle.dbg_runner.specs.Lawful.{IsLawful, EndsBy, is_due, faults, is_held}
+use Rattle.dbg_runner.specs.Plain.{PlainReport, Heading, goes_back}
+use Rattle.dbg_runner.specs.Lawful.{IsLawful, IsPassed, EndsBy, is_due, faults, is_held, WentOn, GoesBackBy, has_come, Went}
 use Rattle.dbg_runner.specs.declared.outcome.SliceOutcome.TheVariants as slice
 use Rattle.dap_history.specs.declared.launch.Launch.{Launch}
 use Rattle.dap_history.specs.declared.situation.Situation.TheVariants.{Ready}
@@ -22,15 +23,17 @@ use Rattle.dap_history.specs.Launching.{Launches}
 use Rattle.dap_history.specs.Reports.{Accepts, outputs, held, report_effect}
 use Rattle.dap_history.specs.Emission.{Causes}
 use Rattle.dap_history.proofs.Texts.{OneProgram}
-use Rattle.dap_history.specs.Stops.{stop_of_event, stop_in, NoneDueUpTo, NoneDueBefore, due_in, IsRunsStop, IsRightStop, EachStopIsRight}
-use Rattle.dap_history.proofs.Readings.{situation-snoc, position-snoc, launched-snoc, last_run-snoc, last_such-append}
+use Rattle.dap_history.specs.Stops.{stop_of_event, stop_in, NoneDueUpTo, NoneDueBefore, due_in, IsRunsStop, IsRetreatsStop, IsStopOf, IsRightStop, EachStopIsRight}
+use Rattle.dap_history.proofs.Readings.{situation-snoc, position-snoc, launched-snoc, last_run-snoc}
 use Rattle.dap_history.proofs.Along.{IsTaken, IsKept, IsLawfulEvent, lawful_events, along}
 use Rattle.dap_history.proofs.Each.{WasTaken, EachTaken, each_kept, each_first}
 use Rattle.dap_history.proofs.Silent.{StopsBy, no_stop, at_first, all_silent}
+use Rattle.dap_history.proofs.Outputs.{outputs_stop}
 use Rattle.dap_history.proofs.Standing.{MarkIs, mark_unwrap, answers_only}
 use Rattle.dap_history.proofs.Progress.{Progress, progress_more, progress_first, report_program}
 use Rattle.dap_history.proofs.Early.{IsEarly}
-use Rattle.dap_history.proofs.Passing.{IsConfiguring, IsRunning, IsLoaded, BeginsAt, begins_at, item_begins, launches_not, loaded_there, loaded_orders, runs_not, none_left, no_mark_no_go, mark_of, undue_end, Ran, same_due, begun_there, begun_before, none_before, none_up_to}
+use Rattle.dap_history.proofs.Once.{stopped_last}
+use Rattle.dap_history.proofs.Passing.{IsConfiguring, IsRunning, IsLoaded, BeginsAt, begins_at, item_begins, launches_not, loaded_there, loaded_orders, runs_not, none_left, no_mark_no_go, mark_of_effect, mark_of, NotDueAtEnd, undue_end, stays_end, Ran, same_due, starts_here, begun_there, still, begun_before, none_before, none_up_to}
 
 module _ (one : OneProgram) (joins : WrittenJoins) where
   -- ---- what is kept
@@ -71,10 +74,17 @@ module _ (one : OneProgram) (joins : WrittenJoins) where
       → (l : Launched) → launched past ≡ Some l → (run : Heading) → last_run past ≡ Some run → (n : ℕ) → n ≡ unwrap_or (end_of item) (position past) → (run.start ≤ n) × NoneDueUpTo l run n
   goes_on past (Accepted r) step item_is taken causes ran running none l is run run_is n n_is =
       let same : taken.0.run ≡ run = let e = sym taken.0.run_is ∙ run_is in cc in
-      let at_end = undue_end taken.1.program past r r.outcome taken.1.lawful.outcome (sym (mark_of (report_effect past r r.outcome) step causes) ∙ none) in
       subst (λ m. (run.start ≤ m) × NoneDueUpTo l run m) (sym n_is)
-      (subst (λ (run : Heading). (run.start ≤ r.end) × NoneDueUpTo l run r.end) same
-      (begun_before one joins past r taken.0 taken.1 ran l is, none_up_to one joins past r taken.0 taken.1 ran l is at_end))
+      (subst (λ (run : Heading). (run.start ≤ r.end) × NoneDueUpTo l run r.end) same (by_went (goes_back r.mode) taken.1.lawful.went))
+    where
+      nowhere : mark_of_effect (report_effect past r r.outcome) ≡ None
+      nowhere = sym (mark_of (report_effect past r r.outcome) step causes) ∙ none
+
+      by_went : (b : Bool) → Went taken.1.program r b → (taken.0.run.start ≤ r.end) × NoneDueUpTo l taken.0.run r.end
+      by_went false went =
+          let at_end = undue_end taken.1.program past r went nowhere in
+          (begun_before one joins past r taken.0 taken.1 ran l is went, none_up_to one joins past r taken.0 taken.1 ran l is went at_end)
+      by_went true went = still one joins past r taken.0 taken.1 ran l is (stays_end taken.1.program past r went nowhere)
   goes_on past (Content request) step item_is taken causes ran running none l is run run_is n n_is = subst (λ m. (run.start ≤ m) × NoneDueUpTo l run m) (sym n_is) (ran.running running l is run run_is)
   goes_on past (Loaded launch file) step item_is taken causes ran running none l is run run_is n n_is = subst (λ m. (run.start ≤ m) × NoneDueUpTo l run m) (sym n_is) (ran.running running l is run run_is)
   goes_on past (Fault k) step item_is taken causes ran running none l is run run_is n n_is = subst (λ m. (run.start ≤ m) × NoneDueUpTo l run m) (sym n_is) (ran.running running l is run run_is)
@@ -112,11 +122,55 @@ module _ (one : OneProgram) (joins : WrittenJoins) where
               let there : run.start ≡ position (past ++ step ∷ []) = ap (λ (r : Heading). r.start) (sym same) ∙ from begins ∙ sym (position-snoc past step) in
               (omega (arith, there), λ k above up_to. absurd (omega (arith, there, above, up_to)))
 
-  ran_more : (past : History) (step : Step) → IsTaken IsLawfulEvent past step.item → Causes past step.item step → Ran one joins past → Ran one joins (past ++ step ∷ [])
+  -- a run that goes back stays where it began, while it runs
+  stays_on : (past : History) (item : Item) (step : Step) → IsTaken IsLawfulEvent past item → Causes past item step → Ran one joins past → step_mark step ≡ None
+      → (run : Heading) → last_run past ≡ Some run → goes_back run.mode ≡ true → position past ≡ run.start → unwrap_or (end_of item) (position past) ≡ run.start
+  stays_on past (Accepted r) step taken causes ran none run run_is back was = by_went (goes_back r.mode) (goes ∙ back) taken.1.lawful.went
+    where
+      same : taken.0.run ≡ run
+      same = let e = sym taken.0.run_is ∙ run_is in cc
+
+      goes : goes_back r.mode ≡ goes_back run.mode
+      goes = ap (λ (h : Heading). goes_back h.mode) taken.0.expected ∙ ap (λ (h : Heading). goes_back h.mode) same
+
+      by_went : (b : Bool) → b ≡ true → Went taken.1.program r b → r.end ≡ run.start
+      by_went false is went = absurd cc
+      by_went true is went =
+          stays_end taken.1.program past r went (sym (mark_of (report_effect past r r.outcome) step causes) ∙ none)
+          ∙ ap (λ (h : Heading). h.start) taken.0.expected ∙ was
+  stays_on past (Content request) step taken causes ran none run run_is back was = was
+  stays_on past (Loaded launch file) step taken causes ran none run run_is back was = was
+  stays_on past (Fault k) step taken causes ran none run run_is back was = was
+  stays_on past InputEnd step taken causes ran none run run_is back was = was
+  stays_on past ReadFailure step taken causes ran none run run_is back was = was
+  stays_on past MemoryFailure step taken causes ran none run run_is back was = was
+
+  back_more : (past : History) (step : Step) → IsTaken IsLawfulEvent past step.item → Causes past step.item step → Ran one joins past → IsRunning (situation (past ++ step ∷ []))
+      → (run : Heading) → last_run (past ++ step ∷ []) ≡ Some run → goes_back run.mode ≡ true → position (past ++ step ∷ []) ≡ run.start
+  back_more past step taken causes ran running run run_is back = position-snoc past step ∙ by_run (last_such go step.effect.orders) refl (item_begins past step.item step causes)
+    where
+      by_mark : last_such go step.effect.orders ≡ None → (MarkIs IsRunning (step_mark step) ⊎ ((step_mark step ≡ None) × IsRunning (situation past))) → unwrap_or (end_of step.item) (position past) ≡ run.start
+      by_mark none (inl mark) = absurd (runs_not step (answers_only past step.item step causes) none mark)
+      by_mark none (inr was) =
+          let before = ap (λ o. or_else o (last_run past)) (sym none) ∙ sym (last_run-snoc past step) ∙ run_is in
+          stays_on past step.item step taken causes ran was.0 run before back (ran.back was.1 run before back)
+
+      by_run : (o : Option Heading) → last_such go step.effect.orders ≡ o → BeginsAt (unwrap_or (end_of step.item) (position past)) (last_such go step.effect.orders) → unwrap_or (end_of step.item) (position past) ≡ run.start
+      by_run None none begins = by_mark none (mark_unwrap IsRunning (step_mark step) (situation past) (subst IsRunning (situation-snoc past step) running))
+      by_run (Some new) goes begins = here (subst (BeginsAt (unwrap_or (end_of step.item) (position past))) goes begins)
+        where
+          same : new ≡ run
+          same = let e = sym (ap (λ o. or_else o (last_run past)) goes) ∙ sym (last_run-snoc past step) ∙ run_is in cc
+
+          here : BeginsAt (unwrap_or (end_of step.item) (position past)) (Some new) → unwrap_or (end_of step.item) (position past) ≡ run.start
+          here (begins_at run' is) = sym is ∙ ap (λ (r : Heading). r.start) same
+
+  pub ran_more : (past : History) (step : Step) → IsTaken IsLawfulEvent past step.item → Causes past step.item step → Ran one joins past → Ran one joins (past ++ step ∷ [])
   ran_more past step taken causes ran = record {
     so_far = progress_more one joins past step.item step refl taken causes ran.so_far;
     configuring = configuring_more past step taken causes ran;
     running = running_more past step taken causes ran;
+    back = back_more past step taken causes ran;
   }
 
   pub ran_kept : IsKept IsLawfulEvent (Ran one joins)
@@ -127,22 +181,15 @@ module _ (one : OneProgram) (joins : WrittenJoins) where
   }
 
   pub ran_first : Ran one joins []
-  ran_first = record { so_far = progress_first one joins; configuring = λ is. absurd is; running = λ is. absurd is }
+  ran_first = record { so_far = progress_first one joins; configuring = λ is. absurd is; running = λ is. absurd is; back = λ is. absurd is }
 
   -- ---- the stop of a step
 
   abbrev RightStop : History → StopReason → ℕ → Type 0
   RightStop before reason m = (l : Launched) × (launched before ≡ Some l) × IsRightStop l before (last_run before) reason m
 
-  outputs_stop_not : (vs : List ℤ) → last_such stop_of_event (map event.Output vs) ≡ None
-  outputs_stop_not [] = refl
-  outputs_stop_not (v ∷ vs) = ap (λ o. or_else o None) (outputs_stop_not vs)
-
-  stop_after : (r : PlainReport) (s : StopReason) → last_such stop_of_event (outputs r ++ stops s) ≡ Some s
-  stop_after r s = last_such-append stop_of_event (outputs r) (stops s)
-
-  end_after : (r : PlainReport) (code : ℕ) → last_such stop_of_event (outputs r ++ ends code) ≡ None
-  end_after r code = last_such-append stop_of_event (outputs r) (ends code) ∙ outputs_stop_not r.numbers
+  outputs_stop_not : (past : History) (r : PlainReport) → last_such stop_of_event (outputs past r) ≡ None
+  outputs_stop_not past r = ap (last_such stop_of_event) (sym (append-nil (outputs past r))) ∙ outputs_stop past r []
 
   due_stop : (l : Launched) (run : Heading) (m : ℕ) (r : Reason) → (due_in l run m ≡ Some r) × (run.start < m) × NoneDueBefore l run m → IsRunsStop l run (stop_of r) m
   due_stop l run m reason.Breakpoint is = (reason.Breakpoint, refl, is.0, is.1, is.2)
@@ -151,34 +198,70 @@ module _ (one : OneProgram) (joins : WrittenJoins) where
 
   -- a report stops its run where it has to
   module _ (past : History) (r : PlainReport) (accepts : Accepts past r) (lawful : IsLawful r) (ran : Ran one joins past) (l : Launched) (is : launched past ≡ Some l) where
-    stops_run : (e : SliceOutcome) → EndsBy lawful.program r e → (s : StopReason) → last_such stop_of_event (report_effect past r e).events ≡ Some s → IsRunsStop l accepts.run s r.end
-    stops_run slice.More ends_by s so_far = let e = sym (outputs_stop_not r.numbers) ∙ so_far in absurd cc
-    stops_run (slice.Due why) (is_due on due_there runs) s so_far =
-        let same : stop_of why ≡ s = let e = sym (stop_after r (stop_of why)) ∙ so_far in cc in
+    abbrev run : Heading
+    run = accepts.run
+
+    stops_on : WentOn lawful.program r → (e : SliceOutcome) → EndsBy lawful.program r e → (s : StopReason) → last_such stop_of_event (report_effect past r e).events ≡ Some s → IsRunsStop l run s r.end
+    stops_on went slice.More ends_by s so_far = let e = sym (outputs_stop_not past r) ∙ so_far in absurd cc
+    stops_on went (slice.Due why) (is_due on due_there runs) s so_far =
+        let same : stop_of why ≡ s = let e = sym (outputs_stop past r (stops (stop_of why))) ∙ so_far in cc in
         let from = begun_there one joins past r accepts lawful ran l is in
-        subst (λ s. IsRunsStop l accepts.run s r.end) same
-        (due_stop l accepts.run r.end why (same_due one joins past r accepts lawful ran l is r.end ∙ due_there, omega (arith, from, on), none_before one joins past r accepts lawful ran l is))
-    stops_run slice.Held (is_held stays runs) s so_far = by_pause (waiting_pause past) so_far
+        subst (λ s. IsRunsStop l run s r.end) same
+        (due_stop l run r.end why (same_due one joins past r accepts lawful ran l is r.end ∙ due_there, omega (arith, from, on), none_before one joins past r accepts lawful ran l is went))
+    stops_on went slice.Held (is_held stays runs) s so_far = by_pause (waiting_pause past) so_far
       where
-        by_pause : (pauses : Bool) → last_such stop_of_event (held past r pauses).events ≡ Some s → IsRunsStop l accepts.run s r.end
+        by_pause : (pauses : Bool) → last_such stop_of_event (held past r pauses).events ≡ Some s → IsRunsStop l run s r.end
         by_pause true so_far =
-            let same : stop.Pause ≡ s = let e = sym (stop_after r stop.Pause) ∙ so_far in cc in
-            subst (λ s. IsRunsStop l accepts.run s r.end) same
-            (begun_before one joins past r accepts lawful ran l is, none_up_to one joins past r accepts lawful ran l is (inl stays))
-        by_pause false so_far = let e = sym (outputs_stop_not r.numbers) ∙ so_far in absurd cc
-    stops_run slice.Done ends_by s so_far = let e = sym (end_after r 0) ∙ so_far in absurd cc
-    stops_run (slice.Fault fault) (faults early undue fails runs) s so_far =
-        let same : stop.Exception (exception_of fault) ≡ s = let e = sym (stop_after r (stop.Exception (exception_of fault))) ∙ so_far in cc in
+            let same : stop.Pause ≡ s = let e = sym (outputs_stop past r (stops stop.Pause)) ∙ so_far in cc in
+            subst (λ s. IsRunsStop l run s r.end) same (still one joins past r accepts lawful ran l is stays)
+        by_pause false so_far = let e = sym (outputs_stop_not past r) ∙ so_far in absurd cc
+    stops_on went slice.Done ends_by s so_far = let e = sym (outputs_stop past r (ends 0)) ∙ so_far in absurd cc
+    stops_on went (slice.Fault fault) (faults early passed fails runs) s so_far =
+        let same : stop.Exception (exception_of fault) ≡ s = let e = sym (outputs_stop past r (stops (stop.Exception (exception_of fault)))) ∙ so_far in cc in
         let fails_there = ap (λ p. outcome p r.end) (sym (report_program one joins past r lawful l accepts (ran.so_far.progress (Some l) is))) ∙ fails in
-        subst (λ s. IsRunsStop l accepts.run s r.end) same
-        (fault, refl, fails_there, begun_before one joins past r accepts lawful ran l is, none_up_to one joins past r accepts lawful ran l is undue)
-    stops_run slice.NoMemory ends_by s so_far = absurd cc
+        subst (λ s. IsRunsStop l run s r.end) same
+        (fault, refl, fails_there, begun_before one joins past r accepts lawful ran l is went, none_up_to one joins past r accepts lawful ran l is went (by_end passed))
+      where
+        by_end : (r.end ≡ r.start) ⊎ IsPassed lawful.program r r.end → NotDueAtEnd lawful.program r
+        by_end (inl stays) = inl stays
+        by_end (inr is) = inr is.undue
+    stops_on went slice.NoMemory ends_by s so_far = absurd cc
+
+    -- a run that goes back stops where it leads
+    leads_there : (why : Reason) → goes_back r.mode ≡ true → goal_of lawful.program r.plan r.mode r.start ≡ Some (record { position = r.end; reason = why }) → IsRetreatsStop l run (stop_of why) r.end
+    leads_there why back comes =
+        let begun : run.start ≡ r.start =
+        sym (ran.back (subst IsRunning (sym accepts.running) tt) run accepts.run_is (sym (ap (λ (h : Heading). goes_back h.mode) accepts.expected) ∙ back)) ∙ sym (starts_here one joins past r accepts lawful ran l is) in
+        let goal : goal_of l.program run.plan run.mode run.start ≡ Some (record { position = r.end; reason = why }) =
+        ap (λ n. goal_of l.program run.plan run.mode n) begun
+        ∙ sym (ap (λ (h : Heading). goal_of l.program h.plan h.mode r.start) accepts.expected)
+        ∙ ap (λ (p : Block). goal_of p r.plan r.mode r.start) (sym (report_program one joins past r lawful l accepts (ran.so_far.progress (Some l) is)))
+        ∙ comes in
+        (record { position = r.end; reason = why }, goal, refl, refl)
+
+    stops_back : goes_back r.mode ≡ true → (e : SliceOutcome) → GoesBackBy lawful.program r e → (s : StopReason) → last_such stop_of_event (report_effect past r e).events ≡ Some s → IsRetreatsStop l run s r.end
+    stops_back back slice.More ends_by s so_far = let e = sym (outputs_stop_not past r) ∙ so_far in absurd cc
+    stops_back back (slice.Due why) (has_come comes) s so_far =
+        let same : stop_of why ≡ s = let e = sym (outputs_stop past r (stops (stop_of why))) ∙ so_far in cc in
+        subst (λ s. IsRetreatsStop l run s r.end) same (leads_there why back comes)
+    stops_back back slice.NoMemory ends_by s so_far = absurd cc
+    stops_back back slice.Held is s so_far = elim is [ ]
+    stops_back back slice.Done is s so_far = elim is [ ]
+    stops_back back (slice.Fault fault) is s so_far = elim is [ ]
+
+    stops_run : (s : StopReason) → last_such stop_of_event (report_effect past r r.outcome).events ≡ Some s → IsStopOf (goes_back run.mode) l run s r.end
+    stops_run s so_far =
+        subst (λ b. IsStopOf b l run s r.end) (ap (λ (h : Heading). goes_back h.mode) accepts.expected) (by_went (goes_back r.mode) refl lawful.lawful.went)
+      where
+        by_went : (b : Bool) → goes_back r.mode ≡ b → Went lawful.program r b → IsStopOf b l run s r.end
+        by_went false mode went = stops_on went r.outcome went.outcome s so_far
+        by_went true mode went = stops_back mode r.outcome went.outcome s so_far
 
   report_stops : (past : History) (r : PlainReport) → Accepts past r → IsLawful r → Ran one joins past → (s : StopReason) → last_such stop_of_event (report_effect past r r.outcome).events ≡ Some s
       → (l : Option Launched) → launched past ≡ l → RightStop past s r.end
   report_stops past r accepts lawful ran s so_far None is = let e = sym (ran.so_far.progress None is).1 ∙ accepts.run_is in absurd cc
   report_stops past r accepts lawful ran s so_far (Some l) is =
-      (l, is, subst (λ o. IsRightStop l past o s r.end) (sym accepts.run_is) (stops_run past r accepts lawful ran l is r.outcome lawful.lawful.outcome s so_far))
+      (l, is, subst (λ o. IsRightStop l past o s r.end) (sym accepts.run_is) (stops_run past r accepts lawful ran l is s so_far))
 
   -- a reply stops the program at position 0
   reply_stops : (past : History) (o : Option StopReason) → StopsBy (situation past) past o → Ran one joins past → (s : StopReason) → o ≡ Some s → RightStop past s (position past)
@@ -213,7 +296,7 @@ module _ (one : OneProgram) (joins : WrittenJoins) where
   pub each_stop_right : EachStopIsRight
   each_stop_right events past rest lawful history before reason m stops_at =
       subst (RightStop before reason) (sym (stops_at.position_is ∙ position-snoc before stops_at.step))
-      (step_stops before stops_at.step.item stops_at.step was.taken was.causes was.held reason stops_at.stop_is)
+      (step_stops before stops_at.step.item stops_at.step was.taken was.causes was.held reason (stopped_last before stops_at.step reason stops_at.front stops_at.back was.causes stops_at.events_are))
     where
       each : EachTaken IsLawfulEvent (Ran one joins) past
       each = along IsLawfulEvent (EachTaken IsLawfulEvent (Ran one joins)) (each_kept IsLawfulEvent (Ran one joins) ran_kept) (each_first IsLawfulEvent (Ran one joins) ran_first) events past rest (lawful_events events lawful) history

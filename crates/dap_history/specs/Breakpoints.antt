@@ -1,5 +1,5 @@
 -- `setBreakpoints`.
-use Rattle.std.specs.Prelude.{◌≡◌, ℕ, ◌+◌, ◌-◌, Bool, true, false, List, [], ◌∷◌, map, slice_get, if◌then◌else◌, Option, Some, string_bytes}
+use Rattle.std.specs.Prelude.{◌≡◌, ℕ, ◌+◌, ◌-◌, Bool, true, false, ◌||◌, List, [], ◌∷◌, map, slice_get, if◌then◌else◌, Option, Some, string_bytes}
 use Rattle.std.specs.Option.{option_map_or}
 use Rattle.std.specs.Str.{bytes_eq}
 use Rattle.dap_msg.specs.declared.requests.set_breakpoints.SetBreakpointsArguments.{SetBreakpointsArguments}
@@ -16,11 +16,11 @@ use Rattle.dbg_plan.specs.Resolutions.{AreResolved}
 use Rattle.dbg_runner.specs.Plain.{PlainOrder, Hold}
 use Rattle.dbg_plan.specs.declared.resolving.SourceBreakpoint.{SourceBreakpoint as AskedLine}
 use Rattle.dbg_plan.specs.declared.resolving.Resolution.{Resolution}
-use Rattle.dbg_plan.specs.declared.resolving.Resolution.TheVariants.{At, NoStep, BadCondition, BadHitCondition}
+use Rattle.dbg_plan.specs.declared.resolving.Resolution.TheVariants.{At, NoStep, BadCondition, BadHitCondition, BadLogMessage}
 use Rattle.dap_history.specs.declared.situation.Situation.{Situation}
 use Rattle.dap_history.specs.declared.situation.Situation.TheVariants.{Fresh, Ready, Configuring, Running, Stopped, Faulted, Ended}
 use Rattle.dap_history.specs.History.{Launched, History, Effect}
-use Rattle.dap_history.specs.Readings.{situation, settings, launched, runs, position, is_held}
+use Rattle.dap_history.specs.Readings.{situation, settings, launched, runs, is_back, position, is_held}
 use Rattle.dap_history.specs.Replies.{Reply, nothing, answered, refused, causing, OfProgram}
 
 -- ---- lines and columns, as the client counts them
@@ -43,6 +43,7 @@ pub record IsAskedAs (less : ℕ) (b : SourceBreakpoint) (asked : AskedLine) : T
   pub line : asked.line ≡ b.line + less
   pub condition : string_bytes asked.condition ≡ b.condition
   pub hit : string_bytes asked.hit_condition ≡ b.hit_condition
+  pub message : string_bytes asked.log_message ≡ b.log_message
 
 abbrev pub AreAskedAs : ℕ → List SourceBreakpoint → List AskedLine → Type 0
 AreAskedAs less [] [] = Unit {0}
@@ -64,6 +65,7 @@ answer_of main less (At n) = answer.At (step_line main n - less)
 answer_of main less NoStep = answer.Unverified why.NoStep
 answer_of main less BadCondition = answer.Unverified why.BadCondition
 answer_of main less BadHitCondition = answer.Unverified why.BadHitCondition
+answer_of main less BadLogMessage = answer.Unverified why.BadLogMessage
 
 -- ---- the answer
 
@@ -71,9 +73,9 @@ answer_of main less BadHitCondition = answer.Unverified why.BadHitCondition
 abbrev pub other_source : List SourceBreakpoint → Reply
 other_source lines = answered (body.Breakpoints (map (λ b. answer.Unverified why.OtherSource) lines))
 
--- Hold of this run, where none was pushed
+-- Hold of this run, where none was pushed. A run that goes back isn't held.
 abbrev pub hold_once : History → List PlainOrder
-hold_once past = if is_held past then [] else Hold (runs past) ∷ []
+hold_once past = if is_held past || is_back past then [] else Hold (runs past) ∷ []
 
 -- A debuggee that the session holds gets the plan at once: before `configurationDone` it counts from position 0, later
 -- from the position after the one where the program stands. In a run it waits.

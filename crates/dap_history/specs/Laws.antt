@@ -1,11 +1,12 @@
 -- Laws of what a session sends, said without the rules of the commands and reports. `Stops` has the one on stops.
-use Rattle.std.specs.Prelude.{◌≡◌, ◌++◌, ◌∷◌, [], ℕ, ◌+◌, ◌^◌, ◌<◌, ℤ, List, map, Option, None, Some, option_map, slice_get, Ok}
+use Rattle.std.specs.Prelude.{◌≡◌, ◌++◌, ◌∷◌, [], ℕ, ◌+◌, ◌^◌, ◌<◌, List, map, Option, None, Some, option_map, slice_get, Ok}
 use Rattle.std.specs.List.{filter_map}
-use Rattle.dap_frame.specs.Frame.{Frames, frame_of}
+use Rattle.dap_frame.specs.Frame.{Frames, IsOpen, frame_of}
 use Rattle.dap_msg.specs.declared.request.Request.{Request}
 use Rattle.dap_msg.specs.Request.{IsRequestOf}
 use Rattle.dap_history.specs.declared.launch.Launch.{Launch}
 use Rattle.dap_msg.specs.Commands.{name_of}
+use Rattle.dap_msg.specs.declared.command.Command.{Command}
 use Rattle.dap_msg.specs.declared.command.Command.TheVariants as command
 use Rattle.dap_msg.specs.declared.command.CommandName.{CommandName}
 use Rattle.dap_msg.specs.declared.command.CommandName.TheVariants as name
@@ -19,12 +20,15 @@ use Rattle.dap_msg.specs.Outgoing.{text_of}
 use Rattle.dap_msg.specs.Laws.{ReadsAsMessage}
 use Rattle.pl0_meaning.specs.Runs.{written}
 use Rattle.dap_history.specs.History.{Launched, Item, Content, Loaded, Accepted, Fault, InputEnd, ReadFailure, MemoryFailure, Step, History, messages, messages_of, orders_of}
-use Rattle.dap_history.specs.Readings.{launched, position, ending_of}
+use Rattle.dap_history.specs.Readings.{situation, launched, reached, numbers, ending_of}
+use Rattle.dap_history.specs.Considered.{logged}
+use Rattle.dap_history.specs.declared.situation.Situation.TheVariants.{Ready}
+use Rattle.dap_history.specs.declared.ending.Ending.{Ending}
 use Rattle.dap_history.specs.declared.ending.Ending.TheVariants as ending
 use Rattle.dap_history.specs.declared.ending.Closed.TheVariants as closed
 use Rattle.dbg_runner.specs.Plain.{PlainOrder, Quit}
 use Rattle.dap_history.specs.Emission.{IsAfter}
-use Rattle.dap_history.specs.Events.{Incoming, Piece, End, ReadFailed, Rest, AreLawful, IsHistoryOf}
+use Rattle.dap_history.specs.Events.{Incoming, Piece, End, ReadFailed, Rest, AreLawful, IsTaking, IsHistoryOf}
 use Rattle.dap_history.specs.Output.{frames_from}
 
 -- ---- One history
@@ -38,6 +42,24 @@ HistoryIsOne =
 -- An item leads from a history to one other: what it is answered with, and what it causes, is settled.
 abbrev pub ItemsLeadToOne : Type 0
 ItemsLeadToOne = (past : History) (item : Item) (new other : History) → IsAfter past item new → IsAfter past item other → new ≡ other
+
+-- a command whose answer needs no reading of a text: neither breakpoints nor an expression
+abbrev pub IsPlain : Command → Type 0
+IsPlain (command.SetBreakpoints asked) = ⊥
+IsPlain (command.Evaluate asked) = ⊥
+IsPlain _ = Unit {0}
+
+-- an item of that kind: no launch with its text
+abbrev pub IsPlainItem : Item → Type 0
+IsPlainItem (Content (Some request)) = IsPlain request.body
+IsPlainItem (Loaded launch (Some text)) = ⊥
+IsPlainItem _ = Unit {0}
+
+-- An item that needs no reading of a text leads from each history to another.
+abbrev pub EachItemLeads : Type 0
+EachItemLeads =
+    (events : List Incoming) (past : History) (rest : Rest) → AreLawful events → IsHistoryOf events past rest
+    → (item : Item) → IsPlainItem item → (new : History) × IsAfter past item new
 
 -- ---- Contents of the stream
 
@@ -82,6 +104,13 @@ abbrev pub CutsChangeNothing : Type 0
 CutsChangeNothing =
     (a b : List ℕ) (before after : List Incoming) (past : History) (rest : Rest)
     → IsHistoryOf (before ++ (Piece a ∷ Piece b ∷ after)) past rest → IsHistoryOf (before ++ (Piece (a ++ b) ∷ after)) past rest
+
+-- While a session takes items, nothing whole is left unread: neither a frame nor a framing fault stands in front of the rest, but
+-- after a launch that waits for its file, and one waits in Ready alone.
+abbrev pub RestIsOpen : Type 0
+RestIsOpen =
+    (events : List Incoming) (past : History) (rest : Rest) → IsHistoryOf events past rest → IsTaking past
+    → (rest.launch ≡ None → IsOpen rest.bytes) × ((launch : Launch) → rest.launch ≡ Some launch → situation past ≡ Ready)
 
 -- ---- Answered once
 
@@ -149,28 +178,66 @@ QuitIsLast =
     (events : List Incoming) (past : History) (rest : Rest) → IsHistoryOf events past rest
     → (front more : List PlainOrder) → orders_of past ≡ front ++ Quit ∷ more → more ≡ []
 
+-- the orders of a session that ended so, or didn't end: Quit is the last of them, or is none of them
+abbrev pub EndsWithQuit : Option Ending → List PlainOrder → Type 0
+EndsWithQuit (Some (ending.Closed by)) orders = (front : List PlainOrder) × (orders ≡ front ++ Quit ∷ [])
+EndsWithQuit _ orders = (front back : List PlainOrder) → ¬ (orders ≡ front ++ Quit ∷ back)
+
+-- A session that `disconnect`, the input's end or a failed read closed ordered Quit last. One that goes on or gave up ordered none.
+abbrev pub QuitCloses : Type 0
+QuitCloses =
+    (events : List Incoming) (past : History) (rest : Rest) → IsHistoryOf events past rest → EndsWithQuit (ending_of past) (orders_of past)
+
 -- ---- Output order
 
-abbrev pub output : Outgoing → Option ℤ
-output (Event (event.Output v)) = Some v
-output _ = None
-
--- the numbers that messages report
-abbrev pub numbers : List Outgoing → List ℤ
-numbers messages = filter_map output messages
-
--- The numbers reported are, in order, those that the program wrote up to its position; there are none before it is launched.
+-- The numbers reported are, in order, those that the program wrote up to the furthest position that it has reached, so none
+-- is reported twice; there are none before it is launched.
 abbrev pub NumbersAreWritten : Type 0
 NumbersAreWritten =
     (events : List Incoming) (past : History) (rest : Rest) → AreLawful events → IsHistoryOf events past rest
-    → ((l : Launched) → launched past ≡ Some l → numbers (messages_of past) ≡ written l.program 0 (position past))
+    → ((l : Launched) → launched past ≡ Some l → numbers (messages_of past) ≡ written l.program 0 (reached past))
     × (launched past ≡ None → numbers (messages_of past) ≡ [])
 
--- Before a stop stand just the numbers of the steps up to where the program stands then.
+-- Before a stop stand just the numbers of the steps up to the furthest position that the program has reached then.
 abbrev pub StopsFollowNumbers : Type 0
 StopsFollowNumbers =
     (events : List Incoming) (past : History) (rest : Rest) → AreLawful events → IsHistoryOf events past rest
     → (front : History) (step : Step) (more : History) → past ≡ front ++ step ∷ more
     → (l : Launched) → launched (front ++ step ∷ []) ≡ Some l
     → (before : List Outgoing) (reason : StopReason) (after : List Outgoing) → messages step ≡ before ++ Event (event.Stopped reason) ∷ after
-    → numbers (messages_of front ++ before) ≡ written l.program 0 (position (front ++ step ∷ []))
+    → numbers (messages_of front ++ before) ≡ written l.program 0 (reached (front ++ step ∷ []))
+
+-- ---- Logs
+
+abbrev pub log_of : Outgoing → Option (List ℕ)
+log_of (Event (event.Log text)) = Some text
+log_of _ = None
+
+-- the logs that messages report
+abbrev pub logs : List Outgoing → List (List ℕ)
+logs messages = filter_map log_of messages
+
+-- The logs reported are, in order, those of the positions considered; there are none before a program is launched.
+abbrev pub LogsAreOfPositions : Type 0
+LogsAreOfPositions =
+    (events : List Incoming) (past : History) (rest : Rest) → AreLawful events → IsHistoryOf events past rest
+    → ((l : Launched) → launched past ≡ Some l → logs (messages_of past) ≡ logged l past)
+    × (launched past ≡ None → logs (messages_of past) ≡ [])
+
+-- Before a log stand just the numbers of the steps up to the furthest position that the program has reached then.
+abbrev pub LogsFollowNumbers : Type 0
+LogsFollowNumbers =
+    (events : List Incoming) (past : History) (rest : Rest) → AreLawful events → IsHistoryOf events past rest
+    → (front : History) (step : Step) (more : History) → past ≡ front ++ step ∷ more
+    → (l : Launched) → launched (front ++ step ∷ []) ≡ Some l
+    → (before : List Outgoing) (text : List ℕ) (after : List Outgoing) → messages step ≡ before ++ Event (event.Log text) ∷ after
+    → numbers (messages_of front ++ before) ≡ written l.program 0 (reached (front ++ step ∷ []))
+
+-- Before a stop stand just the logs of the positions considered then.
+abbrev pub StopsFollowLogs : Type 0
+StopsFollowLogs =
+    (events : List Incoming) (past : History) (rest : Rest) → AreLawful events → IsHistoryOf events past rest
+    → (front : History) (step : Step) (more : History) → past ≡ front ++ step ∷ more
+    → (l : Launched) → launched (front ++ step ∷ []) ≡ Some l
+    → (before : List Outgoing) (reason : StopReason) (after : List Outgoing) → messages step ≡ before ++ Event (event.Stopped reason) ∷ after
+    → logs (messages_of front ++ before) ≡ logged l (front ++ step ∷ [])

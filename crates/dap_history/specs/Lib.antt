@@ -14,6 +14,10 @@ pub mod Emission
 pub mod Events
 pub mod Interleaving
 pub mod Output
+pub mod Considered
 pub mod Laws
 pub mod Stops
+pub mod GoingBack
+pub mod Runs
+pub mod Lines
 pub mod ReadingLaws

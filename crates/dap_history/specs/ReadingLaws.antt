@@ -3,7 +3,7 @@ use Rattle.std.specs.Prelude.{◌≡◌, ◌++◌, ◌∷◌, [], ◌+◌, lengt
 use Rattle.std.specs.List.{filter_map}
 use Rattle.dap_history.specs.Last.{or_else, last_such}
 use Rattle.dap_history.specs.History.{Step, History, messages, messages_of, orders_of, next_seq}
-use Rattle.dap_history.specs.Readings.{step_mark, situation, settings_by, settings, launched, go, last_run, runs, end_of, position, plan, waits_by, waiting_plan, pauses_by, waiting_pause, hold_mark, is_held, closing, ending_of}
+use Rattle.dap_history.specs.Readings.{step_mark, situation, settings_by, settings, launched, go, last_run, runs, end_of, position, numbers, numbers_told, plan, waits_by, waiting_plan, pauses_by, waiting_pause, hold_mark, is_held, closing, ending_of}
 
 pub record ReadingsGoOn : Type 0 where
   pub messages_are : (past : History) (step : Step) → messages_of (past ++ step ∷ []) ≡ messages_of past ++ messages step
@@ -15,6 +15,7 @@ pub record ReadingsGoOn : Type 0 where
   pub last_run_is : (past : History) (step : Step) → last_run (past ++ step ∷ []) ≡ or_else (last_such go step.effect.orders) (last_run past)
   pub runs_are : (past : History) (step : Step) → runs (past ++ step ∷ []) ≡ runs past + length (filter_map go step.effect.orders)
   pub position_is : (past : History) (step : Step) → position (past ++ step ∷ []) ≡ unwrap_or (end_of step.item) (position past)
+  pub numbers_told_is : (past : History) (step : Step) → numbers_told (past ++ step ∷ []) ≡ numbers_told past + length (numbers (messages step))
   pub plan_is : (past : History) (step : Step) → plan (past ++ step ∷ []) ≡ unwrap_or step.effect.put_in (plan past)
   pub waiting_plan_is : (past : History) (step : Step) → waiting_plan (past ++ step ∷ []) ≡ unwrap_or (waits_by step) (waiting_plan past)
   pub waiting_pause_is : (past : History) (step : Step) → waiting_pause (past ++ step ∷ []) ≡ unwrap_or (pauses_by step) (waiting_pause past)

@@ -1,6 +1,7 @@
 -- What a session goes by: each a question for the last such step, message or order of its history.
-use Rattle.std.specs.Prelude.{ℕ, Bool, true, false, List, length, unwrap_or, Option, None, Some, option_map, Result, Ok, Err}
+use Rattle.std.specs.Prelude.{ℕ, ℤ, max, Bool, true, false, List, [], ◌∷◌, length, unwrap_or, Option, None, Some, option_map, Result, Ok, Err}
 use Rattle.std.specs.List.{filter_map}
+use Rattle.std.specs.Option.{option_map_or}
 use Rattle.dap_msg.specs.declared.requests.initialize.InitializeArguments.{InitializeArguments}
 use Rattle.dap_msg.specs.declared.command.Command.{Command}
 use Rattle.dap_msg.specs.declared.command.Command.TheVariants as command
@@ -17,11 +18,11 @@ use Rattle.dap_msg.specs.declared.outgoing.StopReason.{StopReason}
 use Rattle.dap_msg.specs.declared.outgoing.StopReason.TheVariants as reason
 use Rattle.dbg_plan.specs.Breakpoints.{Breakpoint}
 use Rattle.dbg_runner.specs.declared.outcome.SliceOutcome.{SliceOutcome}
-use Rattle.dbg_runner.specs.Plain.{Heading, PlainOrder, Go, Hold, Quit}
+use Rattle.dbg_runner.specs.Plain.{Heading, PlainOrder, Go, Hold, Quit, goes_back}
 use Rattle.dap_history.specs.Plans.{Plan, no_plan}
 use Rattle.dbg_runner.specs.declared.outcome.SliceOutcome.TheVariants as slice
 use Rattle.dap_history.specs.Last.{or_else, last_such}
-use Rattle.dap_history.specs.History.{Launched, Item, Content, Loaded, Accepted, Fault, InputEnd, ReadFailure, MemoryFailure, Step, History, messages, orders_of}
+use Rattle.dap_history.specs.History.{Launched, Item, Content, Loaded, Accepted, Fault, InputEnd, ReadFailure, MemoryFailure, Step, History, messages, messages_of, orders_of}
 use Rattle.dap_history.specs.declared.situation.Situation.{Situation}
 use Rattle.dap_history.specs.declared.situation.Situation.TheVariants.{Fresh, Ready, Configuring, Running, Stopped, Faulted, Ended}
 use Rattle.dap_history.specs.declared.ending.Ending.{Ending}
@@ -51,6 +52,7 @@ event_mark (event.Stopped r) = Some (stop_mark r)
 event_mark (event.Exited code) = Some Ended
 event_mark event.Initialized = None
 event_mark (event.Output v) = None
+event_mark (event.Log text) = None
 event_mark event.Terminated = None
 
 abbrev pub message_mark : Outgoing → Option Situation
@@ -104,6 +106,10 @@ last_run past = last_such go (orders_of past)
 abbrev pub runs : History → ℕ
 runs past = length (filter_map go (orders_of past))
 
+-- that run goes back
+abbrev pub is_back : History → Bool
+is_back past = option_map_or (λ run. goes_back run.mode) (last_run past) false
+
 abbrev pub end_of : Item → Option ℕ
 end_of (Accepted r) = Some r.end
 end_of _ = None
@@ -111,6 +117,23 @@ end_of _ = None
 -- where the program stands: at the end of the last accepted report
 abbrev pub position : History → ℕ
 position past = unwrap_or (last_such (λ step. end_of step.item) past) 0
+
+-- the furthest position that the program has reached: the greatest at which an accepted report ended
+abbrev pub reached : History → ℕ
+reached [] = 0
+reached (step ∷ past) = max (unwrap_or (end_of step.item) 0) (reached past)
+
+abbrev pub output : Outgoing → Option ℤ
+output (Event (event.Output v)) = Some v
+output _ = None
+
+-- the numbers that messages report
+abbrev pub numbers : List Outgoing → List ℤ
+numbers messages = filter_map output messages
+
+-- how many numbers have been reported
+abbrev pub numbers_told : History → ℕ
+numbers_told past = length (numbers (messages_of past))
 
 -- the plan in force: the last that was put in
 abbrev pub plan : History → Plan

@@ -1,5 +1,5 @@
 -- What a command is answered with, and what it causes after the answer.
-use Rattle.std.specs.Prelude.{ℕ, nat_eq, if◌then◌else◌, List, [], ◌∷◌, Option, None, Some, Result, Ok, Err}
+use Rattle.std.specs.Prelude.{ℕ, nat_eq, if◌then◌else◌, List, [], ◌∷◌, map, Option, None, Some, Result, Ok, Err}
 use Rattle.dap_msg.specs.declared.outgoing.Body.{Body}
 use Rattle.dap_msg.specs.declared.outgoing.Refusal.{Refusal}
 use Rattle.dap_msg.specs.declared.outgoing.Refusal.TheVariants as refusal
@@ -11,6 +11,9 @@ use Rattle.dap_msg.specs.declared.outgoing.Exception.{Exception}
 use Rattle.dap_msg.specs.declared.outgoing.Exception.TheVariants as exception
 use Rattle.pl0_meaning.specs.declared.RunFault.{RunFault}
 use Rattle.pl0_meaning.specs.declared.RunFault.TheVariants as run_fault
+use Rattle.dbg_plan.specs.Breakpoints.{Breakpoint}
+use Rattle.dbg_plan.specs.Logs.{Log, log_text}
+use Rattle.dbg_plan.specs.Plans.{parts_at}
 use Rattle.dbg_plan.specs.declared.mode.Reason.{Reason}
 use Rattle.dbg_plan.specs.declared.mode.Reason.TheVariants as reason
 use Rattle.dbg_runner.specs.Plain.{PlainOrder}
@@ -66,6 +69,15 @@ stops r = event.Stopped r ∷ []
 -- the program is over
 abbrev pub ends : ℕ → List EventBody
 ends code = event.Exited code ∷ event.Terminated ∷ []
+
+-- ---- logs
+
+-- the text of a log of these breakpoints
+abbrev pub text_of_log : List Breakpoint → Log → List ℕ
+text_of_log breakpoints log = log_text (parts_at breakpoints log.number) log.values
+
+abbrev pub told_logs : List Breakpoint → List Log → List EventBody
+told_logs breakpoints logs = map (λ log. event.Log (text_of_log breakpoints log)) logs
 
 -- ---- the thread
 

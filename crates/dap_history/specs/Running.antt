@@ -1,12 +1,15 @@
--- What starts a run, resumes one and interrupts it: `configurationDone`, `continue`, `next`, `stepIn`, `stepOut`, `pause`.
-use Rattle.std.specs.Prelude.{◌≡◌, ℕ, ◌+◌, List, [], ◌∷◌, if◌then◌else◌, Option, None, Some}
+-- What starts a run, resumes one, goes back and interrupts a run: `configurationDone`, `continue`, `next`, `stepIn`, `stepOut`,
+-- `stepBack`, `reverseContinue`, `pause`.
+use Rattle.std.specs.Prelude.{◌≡◌, ℕ, ◌+◌, List, [], ◌∷◌, ◌++◌, if◌then◌else◌, Option, None, Some}
 use Rattle.dap_msg.specs.declared.outgoing.Body.{Body}
 use Rattle.dap_msg.specs.declared.outgoing.Body.TheVariants as body
 use Rattle.dap_msg.specs.declared.outgoing.Refusal.TheVariants as refusal
+use Rattle.dap_msg.specs.declared.outgoing.EventBody.{EventBody}
 use Rattle.dbg_plan.specs.declared.mode.Mode.{Mode}
 use Rattle.dbg_plan.specs.declared.mode.Mode.TheVariants as mode
 use Rattle.dbg_plan.specs.declared.mode.Reason.{Reason}
 use Rattle.dbg_plan.specs.Due.{depth_at, due}
+use Rattle.dbg_plan.specs.Logs.{logs}
 use Rattle.dap_history.specs.Plans.{Plan}
 use Rattle.dbg_runner.specs.Plain.{PlainOrder, Go}
 use Rattle.dap_history.specs.declared.situation.Situation.{Situation}
@@ -14,7 +17,7 @@ use Rattle.dap_history.specs.declared.situation.Situation.TheVariants.{Configuri
 use Rattle.dap_history.specs.History.{Launched, History, Effect}
 use Rattle.dap_history.specs.Readings.{launched, runs, position, plan}
 use Rattle.dap_history.specs.Breakpoints.{hold_once}
-use Rattle.dap_history.specs.Replies.{Reply, reporting, ordering, answered, refused, causing, OfProgram, stop_of, stops, ends, on_thread}
+use Rattle.dap_history.specs.Replies.{Reply, nothing, reporting, ordering, answered, refused, causing, OfProgram, stop_of, stops, ends, told_logs, on_thread}
 
 -- the order of the next run, which begins at this position under this plan and in this mode
 abbrev pub goes : History → Launched → ℕ → Plan → Mode → List PlainOrder
@@ -31,10 +34,16 @@ resumes past l m = goes past l (position past) (plan past) m
 abbrev pub first_mode : Launched → Mode
 first_mode l = if l.stop_on_entry then mode.Entry else mode.Continue
 
--- position 0 is due, or the first run begins there
+-- what position 0 logs
+abbrev pub first_logs : History → Launched → List EventBody
+first_logs past l =
+    let now = plan past in
+    told_logs now.breakpoints (logs l.program now.breakpoints now.counted_from 0)
+
+-- position 0 logs, and it is due, or the first run begins there
 abbrev pub enters : History → Launched → Option Reason → Effect
-enters past l (Some r) = reporting (stops (stop_of r))
-enters past l None = ordering (resumes past l mode.Continue)
+enters past l (Some r) = reporting (first_logs past l ++ stops (stop_of r))
+enters past l None = record nothing { events = first_logs past l; orders = resumes past l mode.Continue }
 
 abbrev pub Configures : History → Reply → Type 0
 Configures past reply = OfProgram (launched past) (λ l. reply
@@ -76,9 +85,22 @@ ResumesIn Stopped past pace thread reply = Resumes past pace thread reply
 ResumesIn Faulted past pace thread reply = reply ≡ on_thread thread (causing (body_of pace) (reporting (ends 1)))
 ResumesIn _ past pace thread reply = reply ≡ refused refusal.WrongPhase
 
+-- ---- `stepBack`, `reverseContinue`
+
+abbrev pub Retreats : History → Mode → ℕ → Reply → Type 0
+Retreats past m thread reply = OfProgram (launched past) (λ l. reply
+    ≡ on_thread thread (causing body.None (ordering (resumes past l m))))
+
+-- Going back is possible from a fault too.
+abbrev pub RetreatsIn : Situation → History → Mode → ℕ → Reply → Type 0
+RetreatsIn Running past m thread reply = reply ≡ refused refusal.NotStopped
+RetreatsIn Stopped past m thread reply = Retreats past m thread reply
+RetreatsIn Faulted past m thread reply = Retreats past m thread reply
+RetreatsIn _ past m thread reply = reply ≡ refused refusal.WrongPhase
+
 -- ---- `pause`
 
--- in a run the pause waits
+-- in a run the pause waits; where a run that goes back stops it is forgotten
 abbrev pub pause_in : Situation → History → ℕ → Reply
 pause_in Running past thread = on_thread thread (causing body.None (ordering (hold_once past)))
 pause_in Stopped past thread = on_thread thread (answered body.None)

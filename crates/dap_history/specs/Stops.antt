@@ -1,5 +1,5 @@
 -- The law of stops: each is where it has to be, and what is asked there is answered from there.
-use Rattle.std.specs.Prelude.{◌≡◌, ◌++◌, ◌∷◌, [], ℕ, ◌<◌, ◌≤◌, List, Option, None, Some, Ok, All}
+use Rattle.std.specs.Prelude.{◌≡◌, ◌++◌, ◌∷◌, [], ◌⊎◌, ℕ, ◌<◌, ◌≤◌, Bool, true, false, List, Option, None, Some, Ok, All}
 use Rattle.dap_msg.specs.Commands.{name_of}
 use Rattle.dap_msg.specs.declared.request.Request.{Request}
 use Rattle.dap_msg.specs.declared.command.Command.{Command}
@@ -14,12 +14,15 @@ use Rattle.pl0_meaning.specs.declared.RunFault.{RunFault}
 use Rattle.pl0_meaning.specs.Runs.{at, outcome, Faults}
 use Rattle.dbg_plan.specs.declared.mode.Reason.{Reason}
 use Rattle.dbg_plan.specs.Due.{due}
-use Rattle.dbg_runner.specs.Plain.{Heading}
+use Rattle.dbg_plan.specs.Retreat.{Stop, goal_of}
+use Rattle.dbg_runner.specs.declared.outcome.SliceOutcome.{SliceOutcome}
+use Rattle.dbg_runner.specs.declared.outcome.SliceOutcome.TheVariants as slice
+use Rattle.dbg_runner.specs.Plain.{Heading, PlainReport, PlainOrder, Go, goes_back}
 use Rattle.dap_history.specs.declared.situation.Situation.{Situation}
 use Rattle.dap_history.specs.declared.situation.Situation.TheVariants.{Stopped, Faulted}
 use Rattle.dap_history.specs.Last.{last_such}
-use Rattle.dap_history.specs.History.{Launched, Content, Step, History}
-use Rattle.dap_history.specs.Readings.{go, situation, launched, last_run, position, plan}
+use Rattle.dap_history.specs.History.{Launched, Content, Accepted, Step, History}
+use Rattle.dap_history.specs.Readings.{go, situation, launched, last_run, position, plan, waiting_pause}
 use Rattle.dap_history.specs.Replies.{Reply, stop_of, exception_of}
 use Rattle.dap_history.specs.Running.{first_mode}
 use Rattle.dap_history.specs.Inspection.{RepliesAt, asked_of}
@@ -33,12 +36,14 @@ stop_of_event _ = None
 abbrev pub stop_in : Step → Option StopReason
 stop_in step = last_such stop_of_event step.effect.events
 
--- In this history, after what came before, the program stopped at position m.
+-- In this history, after what came before, the program stopped at position m. Each stop that a step reports is meant.
 pub record StopsAt (past before : History) (reason : StopReason) (m : ℕ) : Type 0 where
   pub step : Step
   pub after : History
   pub past_is : past ≡ before ++ step ∷ after
-  pub stop_is : stop_in step ≡ Some reason
+  pub front : List EventBody
+  pub back : List EventBody
+  pub events_are : step.effect.events ≡ front ++ event.Stopped reason ∷ back
   pub position_is : m ≡ position (before ++ step ∷ [])
 
 -- why a position is due in a run of the program, if it is
@@ -62,9 +67,18 @@ IsRunsStop l run (stop.Exception x) m =
 IsRunsStop l run reason m =
     (r : Reason) × (reason ≡ stop_of r) × (due_in l run m ≡ Some r) × (run.start < m) × NoneDueBefore l run m
 
+-- a run that goes back stopped at m for this reason: where its mode leads
+abbrev pub IsRetreatsStop : Launched → Heading → StopReason → ℕ → Type 0
+IsRetreatsStop l run reason m =
+    (goal : Stop) × (goal_of l.program run.plan run.mode run.start ≡ Some goal) × (m ≡ goal.position) × (reason ≡ stop_of goal.reason)
+
+abbrev pub IsStopOf : Bool → Launched → Heading → StopReason → ℕ → Type 0
+IsStopOf false l run reason m = IsRunsStop l run reason m
+IsStopOf true l run reason m = IsRetreatsStop l run reason m
+
 -- A stop after these steps: of the last run, or, before any, at position 0.
 abbrev pub IsRightStop : Launched → History → Option Heading → StopReason → ℕ → Type 0
-IsRightStop l before (Some run) reason m = IsRunsStop l run reason m
+IsRightStop l before (Some run) reason m = IsStopOf (goes_back run.mode) l run reason m
 IsRightStop l before None reason m =
     (m ≡ 0) × ((r : Reason) × (reason ≡ stop_of r) × (due l.program (plan before).breakpoints (plan before).counted_from (first_mode l) 0 ≡ Some r))
 
@@ -74,16 +88,79 @@ EachStopIsRight =
     → (before : History) (reason : StopReason) (m : ℕ) → StopsAt past before reason m
     → (l : Launched) × (launched before ≡ Some l) × IsRightStop l before (last_run before) reason m
 
+-- ---- what a report tells
+
+-- a number or a log
+abbrev pub IsOutput : EventBody → Type 0
+IsOutput (event.Output v) = Unit {0}
+IsOutput (event.Log text) = Unit {0}
+IsOutput _ = ⊥
+
+-- a run that was held stops where a pause waits
+abbrev pub tells_held : Bool → List EventBody
+tells_held true = event.Stopped stop.Pause ∷ []
+tells_held false = []
+
+-- what a report tells after its numbers and logs: the stop, where it stops its run; or that the program is over
+abbrev pub tells : History → SliceOutcome → List EventBody
+tells past slice.More = []
+tells past (slice.Due reason) = event.Stopped (stop_of reason) ∷ []
+tells past slice.Held = tells_held (waiting_pause past)
+tells past slice.Done = event.Exited 0 ∷ event.Terminated ∷ []
+tells past (slice.Fault fault) = event.Stopped (stop.Exception (exception_of fault)) ∷ []
+tells past slice.NoMemory = []
+
+-- A report that is accepted tells numbers and logs, and then its stop or the program's end.
+abbrev pub EachReportIsTold : Type 0
+EachReportIsTold =
+    (events : List Incoming) (past : History) (rest : Rest) → IsHistoryOf events past rest
+    → (before : History) (step : Step) (after : History) (r : PlainReport) → past ≡ before ++ step ∷ after → step.item ≡ Accepted r
+    → (step.answer ≡ None) × ((outputs : List EventBody) × All IsOutput outputs × (step.effect.events ≡ outputs ++ tells before r.outcome))
+
+-- what the start of the program tells: what position 0 logs, and perhaps a stop after that
+abbrev pub TellsFirst : List EventBody → Type 0
+TellsFirst events =
+    (outputs : List EventBody) × All IsOutput outputs × ((events ≡ outputs) ⊎ ((reason : StopReason) × (events ≡ outputs ++ event.Stopped reason ∷ [])))
+
+-- nothing, or, where the program stands before a fault, that it exited with the code 1
+abbrev pub TellsEnd : Situation → List EventBody → Type 0
+TellsEnd s events = (events ≡ []) ⊎ ((s ≡ Faulted) × (events ≡ event.Exited 1 ∷ event.Terminated ∷ []))
+
+-- what a command tells besides its answer
+abbrev pub TellsBy : Situation → Command → List EventBody → Type 0
+TellsBy s command.ConfigurationDone events = TellsFirst events
+TellsBy s (command.Continue asked) events = TellsEnd s events
+TellsBy s (command.Next asked) events = TellsEnd s events
+TellsBy s (command.StepIn asked) events = TellsEnd s events
+TellsBy s (command.StepOut asked) events = TellsEnd s events
+TellsBy s _ events = events ≡ []
+
+-- A request tells nothing besides its answer, unless it starts the program, or asks one that stands before a fault to go on.
+abbrev pub EachReplyIsTold : Type 0
+EachReplyIsTold =
+    (events : List Incoming) (past : History) (rest : Rest) → IsHistoryOf events past rest
+    → (before : History) (step : Step) (after : History) (request : Request) → past ≡ before ++ step ∷ after → step.item ≡ Content (Some request)
+    → TellsBy (situation before) request.body step.effect.events
+
+-- ---- runs
+
 -- the run that a step orders, if it orders one
 abbrev pub run_in : Step → Option Heading
 run_in step = last_such go step.effect.orders
 
--- Each run is of the launched text, and starts where the program stands.
+-- this run is among those that a step orders
+pub record Orders (step : Step) (run : Heading) : Type 0 where
+  pub front : List PlainOrder
+  pub back : List PlainOrder
+  pub orders_are : step.effect.orders ≡ front ++ Go run ∷ back
+
+-- Each run is of the launched text, under the plan in force, and starts where the program stands.
 abbrev pub EachRunStartsThere : Type 0
 EachRunStartsThere =
     (events : List Incoming) (past : History) (rest : Rest) → AreLawful events → IsHistoryOf events past rest
-    → (before : History) (step : Step) (after : History) (run : Heading) → past ≡ before ++ step ∷ after → run_in step ≡ Some run
+    → (before : History) (step : Step) (after : History) (run : Heading) → past ≡ before ++ step ∷ after → Orders step run
     → (l : Launched) × (launched before ≡ Some l) × (run.text ≡ l.text) × (run.start ≡ position (before ++ step ∷ []))
+    × (run.plan ≡ (plan (before ++ step ∷ [])).breakpoints) × (run.counted_from ≡ (plan (before ++ step ∷ [])).counted_from)
 
 -- ---- what is asked at a stop
 

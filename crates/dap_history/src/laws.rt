@@ -1,9 +1,13 @@
-ghost use Rattle.dap_history.specs.Laws.{HistoryIsOne, ItemsLeadToOne, ContentsAreOfTheStream, CutsChangeNothing, EachIsAnsweredOnce, SeqCountFromOne, FramesAreReadBack, DisconnectIsLast, ClosedByItsEvent, QuitIsLast, NumbersAreWritten, StopsFollowNumbers};
+ghost use Rattle.dap_history.specs.Laws.{HistoryIsOne, ItemsLeadToOne, EachItemLeads, ContentsAreOfTheStream, CutsChangeNothing, EachIsAnsweredOnce, SeqCountFromOne, FramesAreReadBack, DisconnectIsLast, ClosedByItsEvent, QuitIsLast, QuitCloses, RestIsOpen, NumbersAreWritten, StopsFollowNumbers, LogsAreOfPositions, LogsFollowNumbers, StopsFollowLogs};
 ghost use Rattle.dap_history.specs.ReadingLaws.{ReadingsGoOn};
-ghost use Rattle.dap_history.specs.Stops.{EachRunStartsThere, EachStopIsRight, QuestionsAreAnsweredThere};
+ghost use Rattle.dap_history.specs.GoingBack.{EachGoesBackAsAsked, CountsBeginAnew, RetreatsAreNotHeld};
+ghost use Rattle.dap_history.specs.Lines.{PlanIsOfLines, EachRunHasItsLines, EachRunCountsFrom};
+ghost use Rattle.dap_history.specs.Runs.{RunsCountFromOne, EachRunIsAsAsked, GrantedRunsAreOrdered, HeldRunsGoOn, HoldOnce, WaitsAreHeld};
+ghost use Rattle.dap_history.specs.Stops.{EachRunStartsThere, EachStopIsRight, EachReportIsTold, EachReplyIsTold, QuestionsAreAnsweredThere};
 
 use dap_frame::frame_laws;
 use dap_msg::message_laws;
+use dbg_plan::log_laws;
 use pl0_meaning::{configuration_laws, meaning_laws};
 use pl0_syntax::{editor_laws, text_laws};
 
@@ -11,19 +15,28 @@ use pl0_syntax::{editor_laws, text_laws};
 pub fn history_laws()
     ensures one { HistoryIsOne }
     ensures one_effect { ItemsLeadToOne }
+    ensures leads { EachItemLeads }
     ensures contents { ContentsAreOfTheStream }
+    ensures unread { RestIsOpen }
     ensures cuts { CutsChangeNothing }
     ensures answered { EachIsAnsweredOnce }
     ensures numbered { SeqCountFromOne }
     ensures read_back { FramesAreReadBack }
     ensures outputs { NumbersAreWritten }
     ensures order { StopsFollowNumbers }
+    ensures logs { LogsAreOfPositions }
+    ensures logs_follow { LogsFollowNumbers }
+    ensures stops_follow { StopsFollowLogs }
     ensures runs { EachRunStartsThere }
+    ensures back { EachGoesBackAsAsked }
+    ensures anew { CountsBeginAnew }
+    ensures not_held { RetreatsAreNotHeld }
     ensures stops { EachStopIsRight }
     ensures questions { QuestionsAreAnsweredThere }
     ensures last { DisconnectIsLast }
     ensures closed_by { ClosedByItsEvent }
     ensures quits_last { QuitIsLast }
+    ensures quits { QuitCloses }
 {
     frame_laws();
     message_laws();
@@ -31,6 +44,26 @@ pub fn history_laws()
     editor_laws();
     meaning_laws();
     configuration_laws();
+    log_laws();
+}
+
+/// What holds of the runs that a session orders, and of what it tells of them, whatever events come. It does nothing: its
+/// contract is the laws.
+pub fn run_laws()
+    ensures counted { RunsCountFromOne }
+    ensures asked { EachRunIsAsAsked }
+    ensures ordered { GrantedRunsAreOrdered }
+    ensures onward { HeldRunsGoOn }
+    ensures plan { PlanIsOfLines }
+    ensures lines { EachRunHasItsLines }
+    ensures counts { EachRunCountsFrom }
+    ensures held { HoldOnce }
+    ensures waits { WaitsAreHeld }
+    ensures told { EachReportIsTold }
+    ensures replies { EachReplyIsTold }
+{
+    text_laws();
+    meaning_laws();
 }
 
 /// How each reading of a history goes on with one more step.

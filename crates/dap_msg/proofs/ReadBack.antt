@@ -200,6 +200,7 @@ message_sorted (Event (event.Stopped reason.Entry)) seq = refl
 message_sorted (Event (event.Stopped reason.Pause)) seq = refl
 message_sorted (Event (event.Stopped (reason.Exception fault))) seq = refl
 message_sorted (Event (event.Output v)) seq = refl
+message_sorted (Event (event.Log text)) seq = refl
 message_sorted (Event (event.Exited code)) seq = refl
 message_sorted (Event event.Terminated) seq = refl
 
@@ -225,7 +226,7 @@ small n is = omega arith
 
 message_fits : (message : Outgoing) (seq : ℕ) → NumbersFit message → seq < 2 ^ 64 → Fits (value_of message seq)
 message_fits (Answer request_seq command (Ok body.None)) seq fits below = (tt, (fits.0, (below, (tt, (tt, tt)))))
-message_fits (Answer request_seq command (Ok body.Capabilities)) seq fits below = ((tt, (tt, (tt, tt))), (tt, (fits.0, (below, (tt, (tt, tt))))))
+message_fits (Answer request_seq command (Ok body.Capabilities)) seq fits below = ((tt, (tt, (tt, (tt, (tt, tt))))), (tt, (fits.0, (below, (tt, (tt, tt))))))
 message_fits (Answer request_seq command (Ok (body.Breakpoints answers))) seq fits below =
     ((each_fits breakpoint LineFits breakpoint_fits answers fits.1, tt), (tt, (fits.0, (below, (tt, (tt, tt))))))
 message_fits (Answer request_seq command (Ok body.Threads)) seq fits below =
@@ -246,6 +247,7 @@ message_fits (Event (event.Stopped reason.Entry)) seq fits below = ((tt, (tt, (s
 message_fits (Event (event.Stopped reason.Pause)) seq fits below = ((tt, (tt, (small 1 (lit≤ tt), tt))), (tt, (below, (tt, tt))))
 message_fits (Event (event.Stopped (reason.Exception fault))) seq fits below = ((tt, (tt, (tt, (small 1 (lit≤ tt), tt)))), (tt, (below, (tt, tt))))
 message_fits (Event (event.Output v)) seq fits below = ((tt, (tt, tt)), (tt, (below, (tt, tt))))
+message_fits (Event (event.Log text)) seq fits below = ((tt, (tt, tt)), (tt, (below, (tt, tt))))
 message_fits (Event (event.Exited code)) seq fits below = ((fits, tt), (tt, (below, (tt, tt))))
 message_fits (Event event.Terminated) seq fits below = (tt, (below, (tt, tt)))
 

@@ -1,6 +1,21 @@
 //! Messages of the Debug Adapter Protocol: contents read as requests, and answers and events
 //! written as contents.
 //!
+//! ```
+//! let content = br#"{"seq":3,"type":"request","command":"threads"}"#;
+//! let request = read(alloc, content.as_slice())?.expect(&rt, "a request");
+//! let answer = Outgoing::Answer {
+//!     request_seq: request.seq,
+//!     command: request.body.into_name(),
+//!     result: Ok(Body::Threads),
+//! };
+//! let mut text = Vec::new(alloc);
+//! write(&answer, 1, &mut text)?;
+//! let expected =
+//!     br#"{"body":{"threads":[{"id":1,"name":"main"}]},"command":"threads","request_seq":3,"seq":1,"success":true,"type":"response"}"#;
+//! assert_eq!(rt; text.as_slice(), expected.as_slice());
+//! ```
+//!
 //! Its one contract: [`read`] gives exactly the request that a content is, or none, where
 //! `serde_json`'s own definition of reading says what value a content has; [`write`] appends
 //! exactly the defined text of a message.

@@ -12,7 +12,7 @@ use Rattle.dap_history.specs.declared.situation.Situation.{Situation}
 use Rattle.dap_history.specs.declared.situation.Situation.TheVariants as situation_is
 use Rattle.dap_history.specs.Plans.{no_plan}
 use Rattle.dap_history.specs.History.{History}
-use Rattle.dap_history.specs.Readings.{situation, settings, launched, last_run, runs, position, plan, waiting_plan, waiting_pause, is_held}
+use Rattle.dap_history.specs.Readings.{situation, settings, launched, last_run, runs, position, numbers_told, plan, waiting_plan, waiting_pause, is_held}
 use Rattle.dap_phase.specs.declared.phase.Phase.{Phase}
 use Rattle.dap_phase.specs.declared.phase.Phase.TheVariants as phase
 use Rattle.dap_phase.specs.declared.phase.Target.{Target}
@@ -47,6 +47,7 @@ pub record IsUnlaunched (past : History) : Type 0 where
   pub launched_is : launched past ≡ None
   pub runs_are : runs past ≡ 0
   pub position_is : position past ≡ 0
+  pub told_is : numbers_told past ≡ 0
   pub plan_is : plan past ≡ no_plan
 
 -- the program is the launched one
@@ -54,6 +55,7 @@ pub record IsTarget (t : Target) (u : Compiled) (past : History) : Type 0 where
   pub launched_is : launched past ≡ Some (record { path = t.path; stop_on_entry = t.stop_on_entry; text = text_of u; program = program_of u })
   pub settings_are : t.settings ≡ settings past
   pub runs_are : t.runs ≡ runs past
+  pub told_is : t.told ≡ numbers_told past
 
 -- the debuggee is where the program stands, under the plan in force
 pub record IsDebuggee (d : Debugged) (past : History) : Type 0 where

@@ -1,10 +1,10 @@
 -- What contracts see of the run that the runner has.
-use Rattle.std.specs.Prelude.{ℕ, Bool, false, List, Option, None, Some}
+use Rattle.std.specs.Prelude.{ℕ, Bool, false, ◌||◌, not, List, Option, None, Some}
 use Rattle.pl0_unit.specs.declared.unit.Unit.{Unit as Compiled}
 use Rattle.dbg_plan.specs.Breakpoints.{Breakpoint}
 use Rattle.dbg_plan.specs.Debugged.{Debugged}
 use Rattle.dbg_plan.specs.declared.mode.Mode.{Mode}
-use Rattle.dbg_runner.specs.Plain.{Heading}
+use Rattle.dbg_runner.specs.Plain.{Heading, goes_back}
 use Rattle.dbg_runner.specs.Reported.{text_of}
 
 -- A run of a program in a mode, under breakpoints that count from position `counted_from`. Its next report starts at
@@ -28,6 +28,10 @@ begun d mode =
 abbrev pub heading_in : ℕ → Ordered → Heading
 heading_in number run =
     record { run = number; text = text_of run.unit; plan = run.breakpoints; counted_from = run.counted_from; mode = run.mode; start = run.position }
+
+-- after the debuggee was asked for, if it can be: a run that goes back isn't held
+abbrev pub asked_back : Ordered → Ordered
+asked_back run = record run { held = run.held || not (goes_back run.mode) }
 
 -- the debuggee with the breakpoints that waited, which count from the next position to be considered
 abbrev pub with_waiting : Option (List Breakpoint) → Debugged → Debugged

@@ -39,4 +39,6 @@ pub struct Target {
     pub stop_on_entry: bool,
     /// How many runs were ordered, which is the number of the last.
     pub runs: u64,
+    /// How many numbers were reported.
+    pub told: u64,
 }

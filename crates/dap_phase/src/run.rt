@@ -9,7 +9,7 @@ ghost use Rattle.dbg_plan.specs.Plans.{Listed, breakpoints_of};
 ghost use Rattle.dap_phase.specs.Runs.{with_waiting};
 
 use dbg_plan::{Debuggee, Mode, Plan, same_plan};
-use dbg_runner::{Considered, Order, Report};
+use dbg_runner::{Considered, Order, Report, goes_back};
 use pl0_code::code_laws;
 use pl0_unit::Unit;
 use std::alloc::AllocError;
@@ -58,15 +58,15 @@ fn shared_plan(plan: &Option<Arc<Plan>>) -> Result<Option<Arc<Plan>>, AllocError
 }
 
 impl Run {
-    ghost use Rattle.std.specs.Prelude.{◌≡◌, [], ◌∷◌, true, Some, option_map, IfOk, Decides, if◌then◌else◌};
+    ghost use Rattle.std.specs.Prelude.{◌≡◌, [], ◌∷◌, ◌||◌, true, Some, option_map, IfOk, Decides, if◌then◌else◌};
     ghost use Rattle.std.specs.Option.{option_to_list};
     ghost use Rattle.dbg_plan.specs.Plans.{IsPlanOf};
     ghost use Rattle.dbg_plan.specs.Breakpoints.{plain_breakpoints};
     ghost use Rattle.dbg_plan.specs.Debugged.{IsConsidered};
-    ghost use Rattle.dbg_runner.specs.Plain.{Go, Hold, heading_of};
+    ghost use Rattle.dbg_runner.specs.Plain.{Go, Hold, heading_of, goes_back as is_backward};
     ghost use Rattle.dbg_runner.specs.Orders.{plain_order};
     ghost use Rattle.dbg_runner.specs.Reported.{heading, plain_report, text_of};
-    ghost use Rattle.dap_phase.specs.Runs.{begun, heading_in, with_waiting};
+    ghost use Rattle.dap_phase.specs.Runs.{begun, heading_in, asked_back, with_waiting};
 
     /// The run of this number, with its order to the runner. Nothing waits.
     ///
@@ -152,12 +152,12 @@ impl Run {
         self.waiting_pause = true;
     }
 
-    /// The order to give the debuggee of this run back, where none was given.
+    /// The order to give the debuggee of this run back, where none was given, and where the run doesn't go back.
     pub fn hold(&mut self, number: u64) -> Option<Order>
-        ensures order { option_to_list (option_map plain_order result) ≡ (if self.old.held then [] else Hold number ∷ []) }
-        ensures held { self.new ≡ record self.old { held = true } }
+        ensures order { option_to_list (option_map plain_order result) ≡ (if self.old.held || is_backward self.old.mode then [] else Hold number ∷ []) }
+        ensures held { self.new ≡ asked_back self.old }
     {
-        if self.held {
+        if self.held || goes_back(self.mode) {
             return None;
         }
         self.held = true;

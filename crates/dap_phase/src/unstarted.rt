@@ -2,7 +2,7 @@
 
 ghost use Rattle.std.specs.Prelude.{◌≡◌};
 
-use dbg_plan::{Debuggee, Mode, Plan, Reason};
+use dbg_plan::{Debuggee, Logs, Mode, Plan, Reason};
 use dbg_runner::Considered;
 use pl0_machine::Machine;
 use pl0_unit::Unit;
@@ -35,7 +35,8 @@ impl Unstarted {
     ghost use Rattle.std.specs.Prelude.{◌≡◌, ◌+◌, [], IfOk};
     ghost use Rattle.dbg_plan.specs.Plans.{IsPlanOf};
     ghost use Rattle.dbg_plan.specs.Breakpoints.{plain_breakpoints};
-    ghost use Rattle.dbg_plan.specs.Debugged.{due_now};
+    ghost use Rattle.dbg_plan.specs.Debugged.{due_now, logs_now};
+    ghost use Rattle.dbg_plan.specs.Trail.{new_trail};
 
     /// A program before its first step, under the empty plan.
     ///
@@ -43,10 +44,10 @@ impl Unstarted {
     ///
     /// An allocation failed.
     pub fn new(alloc: Global, unit: Arc<Unit>) -> Result<Unstarted, AllocError>
-        ensures { IfOk result (λ d. d ≡ record { unit = unit.value; position = 0; breakpoints = []; counted_from = 0; next = 0 }) }
+        ensures { IfOk result (λ d. d ≡ record { unit = unit.value; position = 0; breakpoints = []; counted_from = 0; next = 0; trail = new_trail }) }
     {
         let machine = Machine::new(alloc, unit)?;
-        let debuggee = Box::new(alloc, Debuggee::new(machine))?;
+        let debuggee = Box::new(alloc, Debuggee::new(alloc, machine))?;
         Ok(Unstarted { debuggee })
     }
 
@@ -65,13 +66,14 @@ impl Unstarted {
         self.debuggee.set_plan(plan);
     }
 
-    /// Considers the position where the program stands: why it is due, if it is.
-    pub fn consider(self, mode: Mode) -> (Option<Reason>, Considered)
+    /// Considers the position where the program stands: why it is due, if it is. What it logs is left in `logs`.
+    pub fn consider(self, mode: Mode, logs: &mut Logs) -> (Option<Reason>, Considered)
         ensures due { result.0 ≡ due_now self mode }
+        ensures logs { logs.new ≡ logs_now self }
         ensures considered { result.1 ≡ record self { next = self.next + 1 } }
     {
         let mut debuggee = self.debuggee;
-        let reason = debuggee.consider(mode);
+        let reason = debuggee.consider(mode, logs);
         (reason, Considered::new(debuggee))
     }
 }

@@ -1,5 +1,5 @@
 -- A step that orders a run of the debuggee leads to Running.
-use Rattle.std.proofs.Common.{◌≡◌, ◌+◌, [], ◌∷◌, ◌++◌, None, Some, sym, ◌∙◌, ap}
+use Rattle.std.proofs.Common.{◌≡◌, ℕ, ◌+◌, [], ◌∷◌, ◌++◌, None, Some, sym, ◌∙◌, ap}
 use Rattle.std.specs.Prelude.{false, unwrap_or, option_map, length}
 use Rattle.std.specs.List.{filter_map}
 use Rattle.dbg_plan.specs.Debugged.{Debugged}
@@ -9,7 +9,7 @@ use Rattle.dbg_runner.specs.Reported.{heading}
 use Rattle.dap_history.specs.Last.{or_else, last_such}
 use Rattle.dap_history.specs.declared.situation.Situation.TheVariants.{Running}
 use Rattle.dap_history.specs.History.{Step, History, messages}
-use Rattle.dap_history.specs.Readings.{step_mark, order_mark, message_mark, situation, settings_by, settings, launched, go, last_run, runs, waiting_plan, is_pause, waiting_pause, hold_mark, is_held}
+use Rattle.dap_history.specs.Readings.{step_mark, order_mark, message_mark, situation, settings_by, settings, launched, go, last_run, runs, numbers_told, waiting_plan, is_pause, waiting_pause, hold_mark, is_held}
 use Rattle.dap_history.specs.ReadingLaws.{ReadingsGoOn}
 use Rattle.dap_phase.specs.declared.phase.Phase.TheVariants as phase
 use Rattle.dap_phase.specs.declared.phase.Target.{Target}
@@ -22,20 +22,21 @@ pub record OrdersRun (t : Target) (d : Debugged) (m : Mode) (step : Step) : Type
   pub launches_nothing : step.effect.launched ≡ None
   pub sets_nothing : settings_by step.item step.answer ≡ None
 
--- the target when one more run is ordered
-abbrev pub with_next_run : Target → Target
-with_next_run t = record t { runs = t.runs + 1 }
+-- the target when one more run is ordered, and so many numbers are reported
+abbrev pub with_next_run : Target → ℕ → Target
+with_next_run t told = record t { runs = t.runs + 1; told = told }
 
 -- The debuggee stands where the step leaves it, under the plan that is in force then.
 pub run_begins : ReadingsGoOn → (t : Target) (d : Debugged) (m : Mode) (past : History) (step : Step) → IsTarget t d.unit past → IsDebuggee d (past ++ step ∷ []) → OrdersRun t d m step
-    → IsPhase (phase.Running (with_next_run t) (begun d m)) (past ++ step ∷ [])
-run_begins laws t d m past step is_t is_d orders = record {
+    → (told : ℕ) → told ≡ numbers_told (past ++ step ∷ []) → IsPhase (phase.Running (with_next_run t told) (begun d m)) (past ++ step ∷ [])
+run_begins laws t d m past step is_t is_d orders told told_is = record {
   situation_is = laws.situation_is past step ∙ ap (λ o. unwrap_or o (situation past)) mark;
   keeps = (
     record {
       launched_is = laws.launched_is past step ∙ ap (λ o. or_else o (launched past)) orders.launches_nothing ∙ is_t.launched_is;
       settings_are = is_t.settings_are ∙ sym (laws.settings_are past step ∙ ap (λ o. unwrap_or o (settings past)) orders.sets_nothing);
       runs_are = sym count;
+      told_is = told_is;
     },
     record {
       first = heading (t.runs + 1) d m;

@@ -23,10 +23,10 @@ use Rattle.dap_replies.specs.declared.effect.Reply.{Reply as Given}
 use Rattle.dap_replies.specs.Answering.{unmoved}
 use Rattle.dap_replies.specs.Launched.{HasBegun, target_of, unstarted}
 use Rattle.dap_replies.specs.Replied.{HasLaunched, launch_step}
-use Rattle.dap_replies.proofs.Stays.{IsQuiet, phase_stays, settings_stay, runs_stay, position_stays, plan_stays}
+use Rattle.dap_replies.proofs.Stays.{IsQuiet, phase_stays, settings_stay, runs_stay, position_stays, told_stays, plan_stays}
 
 quiet_refusal : (launch : Launch) (file : Option (List ℕ)) (why : Refusal) → IsQuiet (launch_step launch file (refused why))
-quiet_refusal launch file why = record { effect_is = refl; no_mark = refl; sets_none = refl; no_pause = refl; no_end = refl }
+quiet_refusal launch file why = record { effect_is = refl; no_mark = refl; sets_none = refl; no_pause = refl; no_end = refl; tells_none = refl }
 
 -- a launch that is refused leaves the session where it waits for one
 pub launch_refused :
@@ -60,6 +60,7 @@ begun_target laws settings_ launch text unit kept past waits = record {
   launched_is = laws.launched_is past (begun_step launch text unit) ∙ ap (λ t. Some (launched_program launch unit t)) (sym kept);
   settings_are = waits.keeps.0 ∙ sym (settings_stay laws past (begun_step launch text unit) refl);
   runs_are = sym (runs_stay laws past (begun_step launch text unit) refl ∙ waits.keeps.1.runs_are);
+  told_is = sym (told_stays laws past (begun_step launch text unit) refl ∙ waits.keeps.1.told_is);
 }
 
 begun_debuggee :

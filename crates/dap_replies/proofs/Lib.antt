@@ -9,3 +9,4 @@ pub mod Refused
 pub mod Resumed
 pub mod Lines
 pub mod SetBreakpoints
+pub mod Fresh

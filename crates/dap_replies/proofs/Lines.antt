@@ -17,7 +17,7 @@ use Rattle.dap_msg.specs.declared.requests.set_breakpoints.SourceBreakpoint.{Sou
 use Rattle.dbg_plan.specs.Breakpoints.{Breakpoint}
 use Rattle.dbg_plan.specs.declared.resolving.SourceBreakpoint.{SourceBreakpoint as AskedLine}
 use Rattle.dbg_plan.specs.declared.resolving.Resolution.{Resolution}
-use Rattle.dbg_plan.specs.declared.resolving.Resolution.TheVariants.{At, NoStep, BadCondition, BadHitCondition}
+use Rattle.dbg_plan.specs.declared.resolving.Resolution.TheVariants.{At, NoStep, BadCondition, BadHitCondition, BadLogMessage}
 use Rattle.dbg_plan.specs.Resolutions.{IsResolvedTo, AreResolved}
 use Rattle.dbg_plan.proofs.StepLines.{unit_length}
 use Rattle.dap_history.specs.Breakpoints.{IsAskedAs, AreAskedAs, step_line}
@@ -60,6 +60,7 @@ at_step main asked (At n) bs is = (position-Some (λ s. nat_le asked.line s.plac
 at_step main asked NoStep bs is = tt
 at_step main asked BadCondition bs is = tt
 at_step main asked BadHitCondition bs is = tt
+at_step main asked BadLogMessage bs is = tt
 
 -- a line that is resolved to a step is resolved to one of the program
 pub at_steps : (main : Block) (asked : List AskedLine) (answers : List Resolution) (bs : List Breakpoint) → AreResolved main asked answers bs → All (IsAtStep main) answers

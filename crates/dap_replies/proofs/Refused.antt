@@ -3,12 +3,13 @@ use Rattle.std.proofs.Common.{◌≡◌, ℕ, refl, rules}
 use Rattle.dap_msg.specs.declared.outgoing.Refusal.TheVariants as refusal
 use Rattle.dap_history.specs.History.{History}
 use Rattle.dap_history.specs.Replies.{Reply, refused, on_thread}
-use Rattle.dap_history.specs.Running.{Pace, ConfiguresIn, ResumesIn}
+use Rattle.dap_history.specs.Running.{Pace, ConfiguresIn, ResumesIn, RetreatsIn}
 use Rattle.dap_phase.specs.declared.phase.Phase.{Phase}
 use Rattle.dap_phase.specs.declared.phase.Phase.TheVariants as phase
 use Rattle.dap_phase.specs.declared.phase.Target.{Target}
 use Rattle.dap_phase.specs.Runs.{Ordered}
 use Rattle.dbg_plan.specs.Debugged.{Debugged}
+use Rattle.dbg_plan.specs.declared.mode.Mode.{Mode}
 use Rattle.dap_phase.specs.Phases.{situation_of}
 
 -- the configuration is over, or didn't begin
@@ -33,6 +34,17 @@ nothing_resumes (phase.Running t run) past pace thread not_running not_stopped n
 nothing_resumes (phase.Stopped t d) past pace thread not_running not_stopped not_faulted = absurd (not_stopped t d refl)
 nothing_resumes (phase.Faulted t d) past pace thread not_running not_stopped not_faulted = absurd (not_faulted t d refl)
 nothing_resumes (phase.Ended t u) past pace thread not_running not_stopped not_faulted = refl
+
+pub nothing_retreats : (p : Phase) (past : History) (m : Mode) (thread : ℕ) → ((t : Target) (run : Ordered) → p ≡ phase.Running t run → ⊥) → ((t : Target) (d : Debugged) → p ≡ phase.Stopped t d → ⊥) → ((t : Target) (d : Debugged) → p ≡ phase.Faulted t d → ⊥)
+    → RetreatsIn (situation_of p) past m thread (refused refusal.WrongPhase)
+nothing_retreats phase.Fresh past m thread not_running not_stopped not_faulted = refl
+nothing_retreats (phase.Ready s) past m thread not_running not_stopped not_faulted = refl
+nothing_retreats (phase.Launching s launch) past m thread not_running not_stopped not_faulted = refl
+nothing_retreats (phase.Configuring t d) past m thread not_running not_stopped not_faulted = refl
+nothing_retreats (phase.Running t run) past m thread not_running not_stopped not_faulted = absurd (not_running t run refl)
+nothing_retreats (phase.Stopped t d) past m thread not_running not_stopped not_faulted = absurd (not_stopped t d refl)
+nothing_retreats (phase.Faulted t d) past m thread not_running not_stopped not_faulted = absurd (not_faulted t d refl)
+nothing_retreats (phase.Ended t u) past m thread not_running not_stopped not_faulted = refl
 
 -- no thread but number 1 is known
 pub unknown_thread : (thread : ℕ) (reply : Reply) → (thread ≡ 1 → ⊥) → refused refusal.UnknownThread ≡ on_thread thread reply

@@ -1,6 +1,7 @@
 -- Where a report leads: the phase afterwards stands for the history with the report's step.
-use Rattle.std.proofs.Common.{◌≡◌, ℕ, ◌+◌, ℤ, List, [], ◌∷◌, ◌++◌, map, Option, None, Some, refl, sym, subst, ◌∙◌, ap}
-use Rattle.std.specs.Prelude.{unwrap_or}
+use Rattle.std.proofs.Common.{◌≡◌, ℕ, ◌+◌, ◌-◌, ℤ, List, [], ◌∷◌, ◌++◌, map, drop, length, Bool, true, false, Option, None, Some, refl, sym, subst, ◌∙◌, ap}
+use Rattle.std.specs.Prelude.{unwrap_or, if◌then◌else◌}
+use Rattle.std.specs.List.{filter_map}
 use Rattle.std.proofs.lemmas.List.{append-nil}
 use Rattle.pl0_unit.specs.declared.unit.Unit.{Unit as Compiled}
 use Rattle.pl0_machine.specs.Machine.{program_of}
@@ -11,47 +12,77 @@ use Rattle.dap_msg.specs.declared.outgoing.StopReason.{StopReason}
 use Rattle.dap_msg.specs.declared.outgoing.StopReason.TheVariants as stop
 use Rattle.dbg_plan.specs.Breakpoints.{Breakpoint}
 use Rattle.dbg_plan.specs.Debugged.{Debugged}
+use Rattle.dbg_plan.specs.Trail.{Trail}
+use Rattle.dbg_runner.specs.declared.outcome.SliceOutcome.{SliceOutcome}
+use Rattle.dbg_runner.specs.declared.outcome.SliceOutcome.TheVariants as slice
 use Rattle.dbg_plan.specs.declared.mode.Mode.{Mode}
-use Rattle.dbg_runner.specs.Plain.{Heading, PlainReport, Go}
-use Rattle.dbg_runner.specs.Reported.{Reported, text_of, plain_report, heading, stopped}
+use Rattle.dbg_runner.specs.Plain.{Heading, PlainReport, Go, goes_back}
+use Rattle.dbg_runner.specs.Reported.{Reported, text_of, plain_report, heading, counts_from, stopped, trail_in, Carries}
 use Rattle.dap_history.specs.Last.{last_such}
 use Rattle.dap_history.specs.Plans.{Plan}
-use Rattle.dap_history.specs.History.{Item, Accepted, Step, History}
+use Rattle.dap_history.specs.History.{Item, Accepted, Step, History, messages}
 use Rattle.dap_history.specs.ReadingLaws.{ReadingsGoOn}
-use Rattle.dap_history.specs.Readings.{stop_mark, message_mark, situation, end_of, position, plan, waiting_plan, runs}
-use Rattle.dap_history.specs.Replies.{reporting, stops, ends}
-use Rattle.dap_history.specs.Reports.{outputs, put_in_at, stands, goes_on}
+use Rattle.dap_history.specs.Readings.{stop_mark, message_mark, situation, settings_by, go, end_of, position, numbers, numbers_told, plan, waiting_plan, runs}
+use Rattle.dap_history.specs.Replies.{reporting, stops, ends, told_logs}
+use Rattle.dap_history.specs.Reports.{outputs, from_next, put_in_at, put_in_by, stands, goes_on}
 use Rattle.dap_history.specs.declared.situation.Situation.TheVariants.{Ended}
-use Rattle.dap_history.proofs.Readings.{or_else-none}
+use Rattle.dap_history.proofs.Told.{numbers_in}
+use Rattle.dap_history.proofs.Outputs.{told_numbers, outputs_numbers, outputs_mark}
 use Rattle.dap_phase.specs.declared.phase.Phase.TheVariants as phase
 use Rattle.dap_phase.specs.declared.phase.Target.{Target}
 use Rattle.dap_phase.specs.Runs.{Ordered, begun, heading_in, with_waiting}
 use Rattle.dap_phase.specs.Phases.{IsTarget, IsDebuggee, IsRun, IsPhase}
 use Rattle.dap_phase.proofs.Units.{one_program}
 use Rattle.dap_replies.specs.Replied.{report_step}
-use Rattle.dap_replies.specs.Reporting.{GoesOnWith, standing}
-use Rattle.dap_replies.proofs.Stays.{situation_stays, last_run_stays, runs_stay, plan_stays, waiting_plan_stays, waiting_pause_stays, held_stays, target_stays}
+use Rattle.dap_replies.specs.Reporting.{fresh, outputs_after, with_told, Stops, GoesOnWith, standing}
+use Rattle.dap_replies.proofs.Stays.{situation_stays, settings_stay, launched_stays, last_run_stays, runs_stay, plan_stays, waiting_plan_stays, waiting_pause_stays, held_stays}
 use Rattle.dap_replies.proofs.Begun.{with_next_run, run_begins}
 
--- ---- numbers mark no situation
+-- ---- what a report tells
 
-mark_of : (vs : List ℤ) (events : List EventBody)
-    → last_such message_mark (map Event (map event.Output vs ++ events)) ≡ last_such message_mark (map Event events)
-mark_of [] events = refl
-mark_of (v ∷ vs) events = or_else-none (last_such message_mark (map Event (map event.Output vs ++ events))) ∙ mark_of vs events
+-- the numbers that are reported are those that the target says
+pub fresh_as : (t : Target) (u : Compiled) (r : Reported) (past : History) → IsTarget t u past → fresh t.told r ≡ told_numbers past (plain_report r)
+fresh_as t u r past is = ap (λ n. drop (n - r.before) r.numbers) is.told_is
 
-no_mark : (r : PlainReport) → last_such message_mark (map Event (outputs r)) ≡ None
-no_mark r = ap (λ es. last_such message_mark (map Event es)) (sym (append-nil (outputs r))) ∙ mark_of r.numbers []
+pub outputs_as : (t : Target) (u : Compiled) (r : Reported) (past : History) → IsTarget t u past → outputs_after t.told r ≡ outputs past (plain_report r)
+outputs_as t u r past is = ap (λ ns. map event.Output ns ++ told_logs r.plan r.logs) (fresh_as t u r past is)
+
+-- the step of a report, with what follows what it tells
+abbrev TellsIn : PlainReport → History → Step → List EventBody → Type 0
+TellsIn r past step more = numbers (messages step) ≡ numbers_in (outputs past r ++ more)
+
+told_after : ReadingsGoOn → (t : Target) (u : Compiled) (r : Reported) (past : History) (step : Step) (more : List EventBody) → IsTarget t u past → TellsIn (plain_report r) past step more → numbers_in more ≡ []
+    → (with_told t r).told ≡ numbers_told (past ++ step ∷ [])
+told_after laws t u r past step more is tells none =
+    ap (λ n. n + length (fresh t.told r)) is.told_is
+    ∙ ap (λ (ns : List ℤ). numbers_told past + length ns)
+    (fresh_as t u r past is
+    ∙ sym (tells ∙ outputs_numbers past (plain_report r) more ∙ ap (λ ns. told_numbers past (plain_report r) ++ ns) none ∙ append-nil (told_numbers past (plain_report r))))
+    ∙ sym (laws.numbers_told_is past step)
+
+-- what a target keeps where a report was told
+target_tells : ReadingsGoOn → (t : Target) (u : Compiled) (r : Reported) (past : History) (step : Step) (more : List EventBody)
+    → step.effect.launched ≡ None → filter_map go step.effect.orders ≡ [] → settings_by step.item step.answer ≡ None
+    → IsTarget t u past → TellsIn (plain_report r) past step more → numbers_in more ≡ [] → IsTarget (with_told t r) u (past ++ step ∷ [])
+target_tells laws t u r past step more launches_none no_go sets_none is tells none = record {
+  launched_is = launched_stays laws past step launches_none ∙ is.launched_is;
+  settings_are = is.settings_are ∙ sym (settings_stay laws past step sets_none);
+  runs_are = is.runs_are ∙ sym (runs_stay laws past step no_go);
+  told_is = told_after laws t u r past step more is tells none;
+}
+
+no_mark : (past : History) (r : PlainReport) → last_such message_mark (map Event (outputs past r)) ≡ None
+no_mark past r = ap (λ es. last_such message_mark (map Event es)) (sym (append-nil (outputs past r))) ∙ outputs_mark past r []
 
 -- ---- the run goes on
 
-pub report_goes_on : ReadingsGoOn → (t : Target) (run : Ordered) (r : PlainReport) (past : History)
+pub report_goes_on : ReadingsGoOn → (t : Target) (run : Ordered) (reported : Reported) (past : History)
     → IsPhase (phase.Running t run) past
-    → IsPhase (phase.Running t (record run { position = r.end })) (past ++ report_step r (reporting (outputs r)) ∷ [])
-report_goes_on laws t run r past is = record {
-  situation_is = situation_stays laws past step (no_mark r) ∙ is.situation_is;
+    → IsPhase (phase.Running (with_told t reported) (record run { position = reported.end })) (past ++ report_step (plain_report reported) (reporting (outputs past (plain_report reported))) ∷ [])
+report_goes_on laws t run reported past is = record {
+  situation_is = situation_stays laws past step (no_mark past r) ∙ is.situation_is;
   keeps = (
-    target_stays laws past step refl refl refl t run.unit is.keeps.0,
+    target_tells laws t run.unit reported past step [] refl refl refl is.keeps.0 (ap numbers_in (sym (append-nil (outputs past r)))) refl,
     record {
       first = was.first;
       ordered = last_run_stays laws past step refl ∙ was.ordered;
@@ -68,24 +99,30 @@ report_goes_on laws t run r past is = record {
   );
 }
   where
+    r : PlainReport
+    r = plain_report reported
+
     step : Step
-    step = report_step r (reporting (outputs r))
+    step = report_step r (reporting (outputs past r))
 
     was : IsRun run past
     was = is.keeps.1
 
 -- ---- the program is over
 
-pub report_ends : ReadingsGoOn → (t : Target) (u : Compiled) (r : PlainReport) (past : History) → IsTarget t u past
-    → (situation (past ++ report_step r (reporting (outputs r ++ ends 0)) ∷ []) ≡ Ended)
-    × IsTarget t u (past ++ report_step r (reporting (outputs r ++ ends 0)) ∷ [])
-report_ends laws t u r past is = (
-  laws.situation_is past step ∙ ap (λ mark. unwrap_or mark (situation past)) (mark_of r.numbers (ends 0)),
-  target_stays laws past step refl refl refl t u is,
+pub report_ends : ReadingsGoOn → (t : Target) (u : Compiled) (reported : Reported) (past : History) → IsTarget t u past
+    → (situation (past ++ report_step (plain_report reported) (reporting (outputs past (plain_report reported) ++ ends 0)) ∷ []) ≡ Ended)
+    × IsTarget (with_told t reported) u (past ++ report_step (plain_report reported) (reporting (outputs past (plain_report reported) ++ ends 0)) ∷ [])
+report_ends laws t u reported past is = (
+  laws.situation_is past step ∙ ap (λ mark. unwrap_or mark (situation past)) (outputs_mark past r (ends 0)),
+  target_tells laws t u reported past step (ends 0) refl refl refl is refl refl,
 )
   where
+    r : PlainReport
+    r = plain_report reported
+
     step : Step
-    step = report_step r (reporting (outputs r ++ ends 0))
+    step = report_step r (reporting (outputs past r ++ ends 0))
 
 -- ---- the debuggee comes back
 
@@ -99,6 +136,7 @@ same_target t u v past same is = record {
       (one_program u v same);
   settings_are = is.settings_are;
   runs_are = is.runs_are;
+  told_is = is.told_is;
 }
 
 -- the debuggee under the plan that is in force then
@@ -108,27 +146,40 @@ pub record Stands (d : Debugged) (r : Reported) (now : Plan) : Type 0 where
   pub breakpoints_are : d.breakpoints ≡ now.breakpoints
   pub counted_from_is : d.counted_from ≡ now.counted_from
 
-put_in_stands : (waits : Option (List Breakpoint)) (r : Reported) (now : Plan)
+-- the plan in force when what waits is put in where a report ends
+abbrev put_in_of : Bool → Option (List Breakpoint) → ℕ → Plan → Option Plan
+put_in_of back waits finish now = if back then Some (from_next finish (unwrap_or waits now.breakpoints)) else put_in_at finish waits
+
+-- the debuggee of a report, where the run goes back or not
+abbrev stopped_by : Bool → Reported → Trail → Debugged
+stopped_by back r trail =
+    record { unit = r.unit; position = r.end; breakpoints = r.plan; counted_from = counts_from back r; next = r.end + 1; trail = trail }
+
+put_in_stands : (back : Bool) (waits : Option (List Breakpoint)) (r : Reported) (trail : Trail) (now : Plan)
     → r.plan ≡ now.breakpoints → r.counted_from ≡ now.counted_from
-    → Stands (with_waiting waits (stopped r)) r (unwrap_or (put_in_at r.end waits) now)
-put_in_stands None r now plan_is counted_is =
+    → Stands (with_waiting waits (stopped_by back r trail)) r (unwrap_or (put_in_of back waits r.end now) now)
+put_in_stands false None r trail now plan_is counted_is =
     record { unit_is = refl; position_is = refl; breakpoints_are = plan_is; counted_from_is = counted_is }
-put_in_stands (Some bs) r now plan_is counted_is =
+put_in_stands false (Some bs) r trail now plan_is counted_is =
+    record { unit_is = refl; position_is = refl; breakpoints_are = refl; counted_from_is = refl }
+put_in_stands true None r trail now plan_is counted_is =
+    record { unit_is = refl; position_is = refl; breakpoints_are = plan_is; counted_from_is = refl }
+put_in_stands true (Some bs) r trail now plan_is counted_is =
     record { unit_is = refl; position_is = refl; breakpoints_are = refl; counted_from_is = refl }
 
 -- the debuggee that came back, with what waited put in
 abbrev pub back : Ordered → Reported → Debugged
-back run r = with_waiting run.waiting_plan (stopped r)
+back run r = with_waiting run.waiting_plan (stopped r (trail_in r.debuggee))
 
 -- the plan in force when what waits is put in where the report ends
 abbrev pub plan_then : History → Reported → Plan
-plan_then past r = unwrap_or (put_in_at r.end (waiting_plan past)) (plan past)
+plan_then past r = unwrap_or (put_in_by past (plain_report r)) (plan past)
 
 pub back_stands : (t : Target) (run : Ordered) (r : Reported) (past : History) → GoesOnWith r t run → IsRun run past
     → Stands (back run r) r (plan_then past r)
 back_stands t run r past goes is =
-    subst (λ waits. Stands (back run r) r (unwrap_or (put_in_at r.end waits) (plan past))) is.waiting_plan_is
-    (put_in_stands run.waiting_plan r (plan past) (ap (λ (h : Heading). h.plan) goes ∙ is.breakpoints_are)
+    subst (λ waits. Stands (back run r) r (unwrap_or (put_in_of (goes_back r.mode) waits r.end (plan past)) (plan past))) is.waiting_plan_is
+    (put_in_stands (goes_back r.mode) run.waiting_plan r (trail_in r.debuggee) (plan past) (ap (λ (h : Heading). h.plan) goes ∙ is.breakpoints_are)
     (ap (λ (h : Heading). h.counted_from) goes ∙ is.counted_from_is))
 
 pub back_target : (t : Target) (run : Ordered) (r : Reported) (past : History) → GoesOnWith r t run
@@ -139,7 +190,7 @@ back_target t run r past goes is =
 
 pub back_debuggee : ReadingsGoOn → (d : Debugged) (r : Reported) (past : History) (step : Step)
     → Stands d r (plan_then past r) → step.item ≡ Accepted (plain_report r)
-    → step.effect.put_in ≡ put_in_at r.end (waiting_plan past) → IsDebuggee d (past ++ step ∷ [])
+    → step.effect.put_in ≡ put_in_by past (plain_report r) → IsDebuggee d (past ++ step ∷ [])
 back_debuggee laws d r past step stood item_is put_in_is = record {
   position_is =
       stood.position_is
@@ -160,12 +211,12 @@ stands_so t d _ past there target_is debuggee_is = record { situation_is = there
 
 pub report_stands : ReadingsGoOn → (t : Target) (run : Ordered) (r : Reported) (reason : StopReason) (past : History)
     → GoesOnWith r t run → IsPhase (phase.Running t run) past
-    → IsPhase (standing t (back run r) reason)
+    → IsPhase (standing (with_told t r) (back run r) reason)
     (past ++ report_step (plain_report r) (stands past (plain_report r) (stops reason)) ∷ [])
 report_stands laws t run r reason past goes is =
-    stands_so t (back run r) reason (past ++ step ∷ [])
-    (laws.situation_is past step ∙ ap (λ mark. unwrap_or mark (situation past)) (mark_of r.numbers (stops reason)))
-    (target_stays laws past step refl refl refl t (back run r).unit (back_target t run r past goes is))
+    stands_so (with_told t r) (back run r) reason (past ++ step ∷ [])
+    (laws.situation_is past step ∙ ap (λ mark. unwrap_or mark (situation past)) (outputs_mark past (plain_report r) (stops reason)))
+    (target_tells laws t (back run r).unit r past step (stops reason) refl refl refl (back_target t run r past goes is) refl refl)
     (back_debuggee laws (back run r) r past step (back_stands t run r past goes is.keeps.1) refl refl)
   where
     step : Step
@@ -193,12 +244,27 @@ back_heading t run r past goes is =
 
 pub report_begins_again : ReadingsGoOn → (t : Target) (run : Ordered) (r : Reported) (past : History)
     → GoesOnWith r t run → IsPhase (phase.Running t run) past
-    → IsPhase (phase.Running (with_next_run t) (begun (back run r) run.mode))
+    → IsPhase (phase.Running (with_next_run t (with_told t r).told) (begun (back run r) run.mode))
     (past ++ report_step (plain_report r) (goes_on past (plain_report r)) ∷ [])
 report_begins_again laws t run r past goes is =
     run_begins laws t (back run r) run.mode past step (back_target t run r past goes is)
     (back_debuggee laws (back run r) r past step (back_stands t run r past goes is.keeps.1) refl refl)
     (record { orders_are = ap (λ h. Go h ∷ []) (sym (back_heading t run r past goes is)); launches_nothing = refl; sets_nothing = refl })
+    (with_told t r).told
+    (told_after laws t run.unit r past step [] is.keeps.0 (ap numbers_in (sym (append-nil (outputs past (plain_report r))))) refl)
   where
     step : Step
     step = report_step (plain_report r) (goes_on past (plain_report r))
+
+-- ---- the debuggee of a report that stops its run
+
+pub stopped_in : (b : Bool) (r : Reported) (o : SliceOutcome) → Stops o → Carries b r o → r.debuggee ≡ Some (stopped r (trail_in r.debuggee))
+stopped_in true r (slice.Due reason) stops is = is
+stopped_in true r slice.Held stops is = is
+stopped_in true r (slice.Fault fault) stops is = is
+stopped_in false r (slice.Due reason) stops is = is
+stopped_in false r slice.Held stops is = is
+stopped_in false r (slice.Fault fault) stops is = is
+stopped_in b r slice.More stops is = absurd stops
+stopped_in b r slice.Done stops is = absurd stops
+stopped_in b r slice.NoMemory stops is = absurd stops

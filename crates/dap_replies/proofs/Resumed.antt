@@ -1,5 +1,5 @@
 -- Runs that begin, go on and end at a request.
-use Rattle.std.proofs.Common.{◌≡◌, ℕ, ◌+◌, ◌∷◌, [], ◌++◌, Option, None, Some, refl, sym, subst, ap, ◌∙◌}
+use Rattle.std.proofs.Common.{◌≡◌, ℕ, ◌+◌, List, ◌∷◌, [], ◌++◌, map, Option, None, Some, Ok, refl, sym, subst, ap, ◌∙◌, append-nil}
 use Rattle.std.specs.Prelude.{unwrap_or, option_map, length}
 use Rattle.std.specs.Option.{option_to_list}
 use Rattle.pl0_unit.specs.declared.unit.Unit.{Unit as Compiled}
@@ -9,22 +9,28 @@ use Rattle.dap_msg.specs.declared.command.Command.TheVariants as command
 use Rattle.dap_msg.specs.declared.outgoing.Body.{Body}
 use Rattle.dap_msg.specs.declared.outgoing.Body.TheVariants as body
 use Rattle.dap_msg.specs.declared.requests.resume.ThreadArguments.{ThreadArguments}
-use Rattle.dbg_plan.specs.Debugged.{Debugged, due_now}
+use Rattle.dap_msg.specs.Commands.{name_of}
+use Rattle.dap_msg.specs.declared.outgoing.Outgoing.TheVariants.{Event}
+use Rattle.dap_msg.specs.declared.outgoing.EventBody.{EventBody}
+use Rattle.dbg_plan.specs.Logs.{Log, logs}
+use Rattle.dbg_plan.specs.Debugged.{Debugged, due_now, logs_now}
 use Rattle.dbg_plan.specs.Due.{due, depth_at}
 use Rattle.dbg_plan.specs.declared.mode.Mode.{Mode}
 use Rattle.dbg_plan.specs.declared.mode.Mode.TheVariants as mode
 use Rattle.dbg_plan.specs.declared.mode.Reason.{Reason}
 use Rattle.dbg_plan.specs.declared.mode.Reason.TheVariants as reason
 use Rattle.dbg_runner.specs.Orders.{plain_order}
-use Rattle.dbg_runner.specs.Plain.{Go}
+use Rattle.dbg_runner.specs.Plain.{PlainOrder, Go}
 use Rattle.dbg_runner.specs.Reported.{heading}
 use Rattle.dap_history.specs.declared.situation.Situation.{Situation}
 use Rattle.dap_history.specs.declared.situation.Situation.TheVariants as situation_is
-use Rattle.dap_history.specs.History.{Launched, History}
-use Rattle.dap_history.specs.Readings.{situation, launched, runs, position, plan, initialize_arguments, stop_mark}
+use Rattle.dap_history.specs.Last.{or_else, last_such}
+use Rattle.dap_history.specs.History.{Launched, History, Effect}
+use Rattle.dap_history.specs.Readings.{situation, launched, runs, position, plan, initialize_arguments, answer_mark, message_mark}
 use Rattle.dap_history.specs.ReadingLaws.{ReadingsGoOn}
-use Rattle.dap_history.specs.Replies.{Reply, reporting, ordering, causing, refused, stop_of, stops, ends, OfProgram, on_thread}
-use Rattle.dap_history.specs.Running.{goes, resumes, first_mode, enters, ConfiguresIn, ResumesIn, mode_of, body_of}
+use Rattle.dap_history.specs.Replies.{Reply, nothing, reporting, ordering, causing, refused, stop_of, stops, ends, told_logs, OfProgram, on_thread}
+use Rattle.dap_history.specs.Running.{goes, resumes, first_mode, first_logs, enters, ConfiguresIn, ResumesIn, Retreats, RetreatsIn, mode_of, body_of}
+use Rattle.dap_history.proofs.Told.{numbers_in, numbers_of_logs, mark_of_logs}
 use Rattle.dap_history.specs.Emission.{RepliesIn}
 use Rattle.dap_phase.specs.declared.phase.Phase.{Phase}
 use Rattle.dap_phase.specs.declared.phase.Phase.TheVariants as phase
@@ -33,14 +39,16 @@ use Rattle.dap_phase.specs.Phases.{IsTarget, IsDebuggee, IsPhase}
 use Rattle.dap_replies.specs.declared.effect.Reply.{Reply as Given}
 use Rattle.dap_replies.specs.declared.running.Pace.{Pace}
 use Rattle.dap_replies.specs.declared.running.Pace.TheVariants as pace
-use Rattle.dap_replies.specs.Paces.{pace_of, resumption}
+use Rattle.dap_replies.specs.declared.retreating.Return.{Return}
+use Rattle.dap_replies.specs.declared.retreating.Return.TheVariants as way
+use Rattle.dap_replies.specs.Paces.{pace_of, resumption, return_by, return_mode}
 use Rattle.dap_replies.specs.Replied.{request_step, HasReplied}
 use Rattle.dap_replies.specs.Going.{HasGone, HasStopped, HasEnded, IsOver}
 use Rattle.dap_replies.proofs.Situations.{launched_as}
 use Rattle.dap_replies.proofs.Begun.{run_begins}
 use Rattle.dap_msg.specs.declared.outgoing.Refusal.TheVariants as refusal
 use Rattle.dap_replies.proofs.Refused.{unknown_thread}
-use Rattle.dap_replies.proofs.Stays.{target_stays, debuggee_stays}
+use Rattle.dap_replies.proofs.Stays.{told_stays, target_stays, debuggee_stays}
 
 -- ---- the definitions
 
@@ -86,37 +94,39 @@ no_settings pace.ToReturn asked = refl
 
 -- ---- what follows an answer
 
--- the debuggee goes on
-pub goes_on : ReadingsGoOn → (command : Command) (t : Target) (d : Debugged) (m : Mode) (body : Body) (past : History) (given : Given) → initialize_arguments command ≡ None → IsTarget t d.unit past → IsDebuggee d past → HasGone t d m body given
-    → RepliesIn (situation past) past command (causing body (ordering (resumes past (launched_as t d.unit) m))) → HasReplied command past given
-goes_on laws command t d m body past given sets_none is_t is_d gone replies =
+-- after these events the debuggee goes on
+abbrev pub goes_after : List EventBody → List PlainOrder → Effect
+goes_after events orders = record nothing { events = events; orders = orders }
+
+pub goes_on : ReadingsGoOn → (command : Command) (t : Target) (d : Debugged) (m : Mode) (body : Body) (events : List EventBody) (past : History) (given : Given) → initialize_arguments command ≡ None → numbers_in events ≡ []
+    → IsTarget t d.unit past → IsDebuggee d past → HasGone t d m body events given
+    → RepliesIn (situation past) past command (causing body (goes_after events (resumes past (launched_as t d.unit) m))) → HasReplied command past given
+goes_on laws command t d m body events past given sets_none tells_none is_t is_d gone replies =
     let next = next_order t d m past is_t is_d in record {
-      reply = causing body (ordering (resumes past (launched_as t d.unit) m));
+      reply = causing body (goes_after events (resumes past (launched_as t d.unit) m));
       replies = replies;
       gives = record { result_is = gone.result_is; effect_is = record { events_are = gone.events_are; orders_are = gone.orders_are ∙ sym next } };
       phase_is = λ seq.
-          let step = request_step (record { seq = seq; body = command }) (causing body (ordering (resumes past (launched_as t d.unit) m))) in
+          let step = request_step (record { seq = seq; body = command }) (causing body (goes_after events (resumes past (launched_as t d.unit) m))) in
           subst (λ p. IsPhase p (past ++ step ∷ [])) (sym gone.phase_is)
-          (run_begins laws t d m past step is_t (debuggee_stays laws past step refl refl d is_d) (record { orders_are = next; launches_nothing = refl; sets_nothing = sets_none }));
+          (run_begins laws t d m past step is_t (debuggee_stays laws past step refl refl d is_d) (record { orders_are = next; launches_nothing = refl; sets_nothing = sets_none })
+          t.told (is_t.told_is ∙ sym (told_stays laws past step tells_none)));
     }
 
-stop_is : (why : Reason) → stop_mark (stop_of why) ≡ situation_is.Stopped
-stop_is reason.Breakpoint = refl
-stop_is reason.Entry = refl
-stop_is reason.Step = refl
-
--- the program stops where it stands
-pub stops_there : ReadingsGoOn → (command : Command) (t : Target) (d : Debugged) (why : Reason) (past : History) (given : Given) → initialize_arguments command ≡ None → IsTarget t d.unit past → IsDebuggee d past → HasStopped t d why given
-    → RepliesIn (situation past) past command (causing body.None (reporting (stops (stop_of why)))) → HasReplied command past given
-stops_there laws command t d why past given sets_none is_t is_d stopped replies = record {
-  reply = causing body.None (reporting (stops (stop_of why)));
+-- after these events the program stops where it stands
+pub stops_there : ReadingsGoOn → (command : Command) (t : Target) (d : Debugged) (why : Reason) (events : List EventBody) (past : History) (given : Given) → initialize_arguments command ≡ None
+    → numbers_in (events ++ stops (stop_of why)) ≡ [] → last_such message_mark (map Event (events ++ stops (stop_of why))) ≡ Some situation_is.Stopped
+    → IsTarget t d.unit past → IsDebuggee d past → HasStopped t d why events given
+    → RepliesIn (situation past) past command (causing body.None (reporting (events ++ stops (stop_of why)))) → HasReplied command past given
+stops_there laws command t d why events past given sets_none tells_none mark is_t is_d stopped replies = record {
+  reply = causing body.None (reporting (events ++ stops (stop_of why)));
   replies = replies;
   gives = record { result_is = stopped.result_is; effect_is = record { events_are = stopped.events_are; orders_are = ap (λ o. option_to_list (option_map plain_order o)) stopped.order_is } };
   phase_is = λ seq.
-      let step = request_step (record { seq = seq; body = command }) (causing body.None (reporting (stops (stop_of why)))) in
+      let step = request_step (record { seq = seq; body = command }) (causing body.None (reporting (events ++ stops (stop_of why)))) in
       subst (λ p. IsPhase p (past ++ step ∷ [])) (sym stopped.phase_is) (record {
-        situation_is = laws.situation_is past step ∙ stop_is why;
-        keeps = (target_stays laws past step refl refl sets_none t d.unit is_t, debuggee_stays laws past step refl refl d is_d);
+        situation_is = laws.situation_is past step ∙ ap (λ mark. unwrap_or (or_else mark (answer_mark (name_of command) (Ok body.None))) (situation past)) mark;
+        keeps = (target_stays laws past step refl refl sets_none tells_none t d.unit is_t, debuggee_stays laws past step refl refl d is_d);
       });
 }
 
@@ -136,7 +146,7 @@ ends_there laws command t u body past given sets_none is_t ended replies = recor
   gives = record { result_is = ended.result_is; effect_is = record { events_are = ended.events_are; orders_are = ap (λ o. option_to_list (option_map plain_order o)) ended.order_is } };
   phase_is = λ seq.
       let step = request_step (record { seq = seq; body = command }) (causing body (reporting (ends 1))) in
-      over t u (past ++ step ∷ []) given.effect.phase (laws.situation_is past step) (target_stays laws past step refl refl sets_none t u is_t) ended.phase_is;
+      over t u (past ++ step ∷ []) given.effect.phase (laws.situation_is past step) (target_stays laws past step refl refl sets_none refl t u is_t) ended.phase_is;
 }
 
 -- ---- `configurationDone`
@@ -148,19 +158,48 @@ considered d = record d { next = d.next + 1 }
 still_there : (d : Debugged) (past : History) → IsDebuggee d past → IsDebuggee (considered d) past
 still_there d past is = record { position_is = is.position_is; breakpoints_are = is.breakpoints_are; counted_from_is = is.counted_from_is }
 
+-- what it logs, by the definitions
+logs_as : (t : Target) (d : Debugged) (past : History) → IsPhase (phase.Configuring t d) past → told_logs d.breakpoints (logs_now d) ≡ first_logs past (launched_as t d.unit)
+logs_as t d past is =
+    let is_d = is.keeps.1 in
+    let main = program_of d.unit in
+    ap (λ n. told_logs d.breakpoints (logs main d.breakpoints d.counted_from n)) is.keeps.2
+    ∙ ap (λ n. told_logs d.breakpoints (logs main d.breakpoints n 0)) is_d.counted_from_is
+    ∙ ap (λ bs. told_logs bs (logs main bs (plan past).counted_from 0)) is_d.breakpoints_are
+
+-- the debuggee's logs, told of where it was considered
+pub told_there : (d e : Debugged) (ls : List Log) (events : List EventBody) → e ≡ considered d → ls ≡ logs_now d → events ≡ told_logs e.breakpoints ls → events ≡ told_logs d.breakpoints (logs_now d)
+told_there d e ls events e_is ls_are is = is ∙ ap (λ (e : Debugged). told_logs e.breakpoints ls) e_is ∙ ap (told_logs d.breakpoints) ls_are
+
+stop_mark_of : (why : Reason) → last_such message_mark (map Event (stops (stop_of why))) ≡ Some situation_is.Stopped
+stop_mark_of reason.Breakpoint = refl
+stop_mark_of reason.Entry = refl
+stop_mark_of reason.Step = refl
+
 -- position 0 is due
-pub enters_due : ReadingsGoOn → (t : Target) (d e : Debugged) (m : Mode) (why : Reason) (past : History) (given : Given) → e ≡ considered d → m ≡ first_mode (launched_as t d.unit) → Some why ≡ due_now d m
-    → HasStopped t e why given → IsPhase (phase.Configuring t d) past → HasReplied command.ConfigurationDone past given
-enters_due laws t d e m why past given e_is m_is why_is stopped is =
-    stops_there laws command.ConfigurationDone t (considered d) why past given refl is.keeps.0 (still_there d past is.keeps.1)
-    (subst (λ e. HasStopped t e why given) e_is stopped) (configures t d m (Some why) past m_is why_is is)
+pub enters_due : ReadingsGoOn → (t : Target) (d e : Debugged) (m : Mode) (why : Reason) (events : List EventBody) (past : History) (given : Given) → e ≡ considered d → m ≡ first_mode (launched_as t d.unit) → Some why ≡ due_now d m
+    → events ≡ told_logs d.breakpoints (logs_now d) → HasStopped t e why events given → IsPhase (phase.Configuring t d) past → HasReplied command.ConfigurationDone past given
+enters_due laws t d e m why events past given e_is m_is why_is events_are stopped is =
+    let bs = (plan past).breakpoints in
+    let ls = logs (program_of d.unit) bs (plan past).counted_from 0 in
+    stops_there laws command.ConfigurationDone t (considered d) why (first_logs past (launched_as t d.unit)) past given refl
+    (numbers_of_logs bs ls (stops (stop_of why)))
+    (mark_of_logs bs ls (stops (stop_of why)) ∙ stop_mark_of why)
+    is.keeps.0 (still_there d past is.keeps.1)
+    (subst (λ es. HasStopped t (considered d) why es given) (events_are ∙ logs_as t d past is) (subst (λ e. HasStopped t e why events given) e_is stopped))
+    (configures t d m (Some why) past m_is why_is is)
 
 -- the first run begins there
-pub enters_running : ReadingsGoOn → (t : Target) (d e : Debugged) (m : Mode) (past : History) (given : Given) → e ≡ considered d → m ≡ first_mode (launched_as t d.unit) → None ≡ due_now d m
-    → HasGone t e mode.Continue body.None given → IsPhase (phase.Configuring t d) past → HasReplied command.ConfigurationDone past given
-enters_running laws t d e m past given e_is m_is none_due gone is =
-    goes_on laws command.ConfigurationDone t (considered d) mode.Continue body.None past given refl is.keeps.0 (still_there d past is.keeps.1)
-    (subst (λ e. HasGone t e mode.Continue body.None given) e_is gone) (configures t d m None past m_is none_due is)
+pub enters_running : ReadingsGoOn → (t : Target) (d e : Debugged) (m : Mode) (events : List EventBody) (past : History) (given : Given) → e ≡ considered d → m ≡ first_mode (launched_as t d.unit) → None ≡ due_now d m
+    → events ≡ told_logs d.breakpoints (logs_now d) → HasGone t e mode.Continue body.None events given → IsPhase (phase.Configuring t d) past → HasReplied command.ConfigurationDone past given
+enters_running laws t d e m events past given e_is m_is none_due events_are gone is =
+    let bs = (plan past).breakpoints in
+    let ls = logs (program_of d.unit) bs (plan past).counted_from 0 in
+    goes_on laws command.ConfigurationDone t (considered d) mode.Continue body.None (first_logs past (launched_as t d.unit)) past given refl
+    (ap numbers_in (sym (append-nil (told_logs bs ls))) ∙ numbers_of_logs bs ls [])
+    is.keeps.0 (still_there d past is.keeps.1)
+    (subst (λ es. HasGone t (considered d) mode.Continue body.None es given) (events_are ∙ logs_as t d past is) (subst (λ e. HasGone t e mode.Continue body.None events given) e_is gone))
+    (configures t d m None past m_is none_due is)
 
 -- ---- `continue`, `next`, `stepIn` and `stepOut`
 
@@ -170,10 +209,10 @@ depth_there m depth there depth_is = depth_is ∙ ap (λ c. unwrap_or (option_ma
 
 -- the program goes on from a stop
 pub resumes_there : ReadingsGoOn → (t : Target) (d : Debugged) (m : Mode) (body : Body) (pace : Pace) (asked : ThreadArguments) (past : History) (given : Given) → asked.thread_id ≡ 1 → body ≡ body_of (pace_of pace)
-    → m ≡ mode_of (pace_of pace) (depth_at (program_of d.unit) d.position) → HasGone t d m body given → IsPhase (phase.Stopped t d) past → HasReplied (resumption pace asked) past given
+    → m ≡ mode_of (pace_of pace) (depth_at (program_of d.unit) d.position) → HasGone t d m body [] given → IsPhase (phase.Stopped t d) past → HasReplied (resumption pace asked) past given
 resumes_there laws t d m body pace asked past given one body_is m_is gone is =
     let l = launched_as t d.unit in
-    goes_on laws (resumption pace asked) t d m body past given (no_settings pace asked) is.keeps.0 is.keeps.1 gone
+    goes_on laws (resumption pace asked) t d m body [] past given (no_settings pace asked) refl is.keeps.0 is.keeps.1 gone
     (as_paced pace asked (situation past) past (causing body (ordering (resumes past l m)))
     (subst (λ s. ResumesIn s past (pace_of pace) asked.thread_id (causing body (ordering (resumes past l m)))) (sym is.situation_is)
     (of_program (launched past) l (λ k. causing body (ordering (resumes past l m)) ≡ on_thread asked.thread_id (causing (body_of (pace_of pace)) (ordering (resumes past k (mode_of (pace_of pace) (depth_at k.program (position past)))))))
@@ -197,3 +236,44 @@ pub stands_refusing : (t : Target) (d : Debugged) (pace : Pace) (asked : ThreadA
 stands_refusing t d pace asked past other is =
     as_paced pace asked situation_is.Stopped past (refused refusal.UnknownThread)
     (of_program (launched past) (launched_as t d.unit) _ is.keeps.0.launched_is (unknown_thread asked.thread_id _ other))
+
+-- ---- `stepBack` and `reverseContinue`
+
+-- such a command is replied to as its mode says
+pub as_returning : (way : Return) (asked : ThreadArguments) (s : Situation) (past : History) (reply : Reply) → RetreatsIn s past (return_mode way) asked.thread_id reply → RepliesIn s past (return_by way asked) reply
+as_returning way.ByStep asked s past reply is = is
+as_returning way.ToStop asked s past reply is = is
+
+return_settings : (way : Return) (asked : ThreadArguments) → initialize_arguments (return_by way asked) ≡ None
+return_settings way.ByStep asked = refl
+return_settings way.ToStop asked = refl
+
+-- the reply of the definitions
+retreats : (t : Target) (d : Debugged) (m : Mode) (thread : ℕ) (past : History) → thread ≡ 1 → IsTarget t d.unit past
+    → Retreats past m thread (causing body.None (goes_after [] (resumes past (launched_as t d.unit) m)))
+retreats t d m thread past one is_t =
+    let l = launched_as t d.unit in
+    of_program (launched past) l (λ k. causing body.None (goes_after [] (resumes past l m)) ≡ on_thread thread (causing body.None (ordering (resumes past k m)))) is_t.launched_is
+    (ap (λ n. on_thread n (causing body.None (ordering (resumes past l m)))) (sym one))
+
+pub returns_there : ReadingsGoOn → (t : Target) (d : Debugged) (way : Return) (asked : ThreadArguments) (past : History) (given : Given) → asked.thread_id ≡ 1
+    → HasGone t d (return_mode way) body.None [] given → IsPhase (phase.Stopped t d) past → HasReplied (return_by way asked) past given
+returns_there laws t d way asked past given one gone is =
+    goes_on laws (return_by way asked) t d (return_mode way) body.None [] past given (return_settings way asked) refl is.keeps.0 is.keeps.1 gone
+    (as_returning way asked (situation past) past _
+    (subst (λ s. RetreatsIn s past (return_mode way) asked.thread_id (causing body.None (goes_after [] (resumes past (launched_as t d.unit) (return_mode way))))) (sym is.situation_is)
+    (retreats t d (return_mode way) asked.thread_id past one is.keeps.0)))
+
+pub returns_faulted : ReadingsGoOn → (t : Target) (d : Debugged) (way : Return) (asked : ThreadArguments) (past : History) (given : Given) → asked.thread_id ≡ 1
+    → HasGone t d (return_mode way) body.None [] given → IsPhase (phase.Faulted t d) past → HasReplied (return_by way asked) past given
+returns_faulted laws t d way asked past given one gone is =
+    goes_on laws (return_by way asked) t d (return_mode way) body.None [] past given (return_settings way asked) refl is.keeps.0 is.keeps.1 gone
+    (as_returning way asked (situation past) past _
+    (subst (λ s. RetreatsIn s past (return_mode way) asked.thread_id (causing body.None (goes_after [] (resumes past (launched_as t d.unit) (return_mode way))))) (sym is.situation_is)
+    (retreats t d (return_mode way) asked.thread_id past one is.keeps.0)))
+
+-- another thread is asked for, where the program stands
+pub returns_refusing : (t : Target) (d : Debugged) (way : Return) (asked : ThreadArguments) (past : History) → (asked.thread_id ≡ 1 → ⊥) → IsTarget t d.unit past
+    → Retreats past (return_mode way) asked.thread_id (refused refusal.UnknownThread)
+returns_refusing t d way asked past other is_t =
+    of_program (launched past) (launched_as t d.unit) _ is_t.launched_is (unknown_thread asked.thread_id _ other)

@@ -1,7 +1,7 @@
 -- What `setBreakpoints` is replied, and the phase afterwards.
-use Rattle.std.proofs.Common.{◌≡◌, ℕ, ◌+◌, Bool, true, false, List, [], ◌∷◌, ◌++◌, map, Option, None, Some, refl, sym, ◌∙◌, ap, subst}
+use Rattle.std.proofs.Common.{◌≡◌, ℕ, ◌+◌, Bool, true, false, ◌||◌, List, [], ◌∷◌, ◌++◌, map, Option, None, Some, refl, sym, ◌∙◌, ap, subst}
 use Rattle.std.specs.Prelude.{not, unwrap_or, option_map, if◌then◌else◌}
-use Rattle.std.specs.Option.{option_to_list}
+use Rattle.std.specs.Option.{option_to_list, option_map_or}
 use Rattle.std.specs.List.{filter_map}
 use Rattle.std.proofs.lemmas.Bool.{not-true}
 use Rattle.pl0_unit.specs.declared.unit.Unit.{Unit as Compiled}
@@ -13,7 +13,7 @@ use Rattle.dap_msg.specs.declared.outgoing.Body.TheVariants as body
 use Rattle.dap_msg.specs.declared.outgoing.BreakpointAnswer.{BreakpointAnswer}
 use Rattle.dbg_plan.specs.Breakpoints.{Breakpoint}
 use Rattle.dbg_plan.specs.Debugged.{Debugged}
-use Rattle.dbg_runner.specs.Plain.{PlainOrder, Hold}
+use Rattle.dbg_runner.specs.Plain.{Heading, PlainOrder, Hold, goes_back}
 use Rattle.dbg_runner.specs.Orders.{plain_order}
 use Rattle.dbg_runner.specs.declared.order.Order.{Order}
 use Rattle.dap_history.specs.Last.{or_else, last_such}
@@ -22,13 +22,13 @@ use Rattle.dap_history.specs.declared.situation.Situation.{Situation}
 use Rattle.dap_history.specs.declared.situation.Situation.TheVariants.{Configuring, Running, Stopped, Faulted}
 use Rattle.dap_history.specs.History.{Step, History}
 use Rattle.dap_history.specs.ReadingLaws.{ReadingsGoOn}
-use Rattle.dap_history.specs.Readings.{order_mark, situation, settings, go, runs, position, waiting_plan, hold_mark, is_held}
+use Rattle.dap_history.specs.Readings.{order_mark, situation, settings, go, runs, is_back, position, waiting_plan, hold_mark, is_held}
 use Rattle.dap_history.specs.Replies.{Reply, nothing, causing, OfProgram}
 use Rattle.dap_history.specs.Breakpoints.{offset, IsResolved, answer_of, other_source, effect_in, is_at, SetsOf, Sets, SetsIn}
 use Rattle.dap_phase.specs.declared.phase.Phase.{Phase}
 use Rattle.dap_phase.specs.declared.phase.Phase.TheVariants as phase
 use Rattle.dap_phase.specs.declared.phase.Target.{Target}
-use Rattle.dap_phase.specs.Runs.{Ordered, heading_in}
+use Rattle.dap_phase.specs.Runs.{Ordered, heading_in, asked_back}
 use Rattle.dap_phase.specs.Phases.{situation_of, IsTarget, IsDebuggee, IsRun, IsPhase}
 use Rattle.dap_replies.specs.Replied.{HasReplied, Replies, request_step}
 use Rattle.dap_replies.specs.Lines.{AreAnswered, is_other, with_order}
@@ -100,7 +100,7 @@ holds_after : ReadingsGoOn → (t : Target) (d : Debugged) (bs : List Breakpoint
     → Holds t (with_plan d bs n) (past ++ set_step seq asked (puts answers bs n) ∷ [])
 holds_after laws t d bs n asked answers past seq is =
     let step = set_step seq asked (puts answers bs n) in (
-      target_stays laws past step refl refl refl t d.unit is.0,
+      target_stays laws past step refl refl refl refl t d.unit is.0,
       record {
         position_is = is.1.position_is ∙ sym (position_stays laws past step refl);
         breakpoints_are = ap (λ (p : Plan). p.breakpoints) (sym (laws.plan_is past step));
@@ -161,15 +161,36 @@ once_no_go : (held : Bool) (n : ℕ) → filter_map go (once held n) ≡ []
 once_no_go true n = refl
 once_no_go false n = refl
 
-once_held : (held : Bool) (n : ℕ) → unwrap_or (last_such hold_mark (once held n)) held ≡ true
-once_held true n = refl
-once_held false n = refl
+-- a run that goes back isn't held
+once_held : (held back : Bool) (n : ℕ) → unwrap_or (last_such hold_mark (once (held || back) n)) held ≡ held || not back
+once_held true true n = refl
+once_held true false n = refl
+once_held false true n = refl
+once_held false false n = refl
+
+-- the last run goes back where its mode does
+pub back_as : (past : History) (run : Ordered) → IsRun run past → is_back past ≡ goes_back run.mode
+back_as past run is =
+    ap (λ (o : Option Heading). option_map_or (λ (h : Heading). goes_back h.mode) o false) is.ordered ∙ ap (λ (h : Heading). goes_back h.mode) is.goes_on
+
+-- the order is asked for as the definitions say
+pub once_as : (past : History) (run : Ordered) → IsRun run past → run.held || goes_back run.mode ≡ is_held past || is_back past
+once_as past run is = ap (λ h. h || goes_back run.mode) is.held_is ∙ ap (λ b. is_held past || b) (sym (back_as past run is))
+
+pub held_after : ReadingsGoOn → (past : History) (step : Step) (run : Ordered) → IsRun run past → step.effect.orders ≡ once (is_held past || is_back past) (runs past)
+    → (asked_back run).held ≡ is_held (past ++ step ∷ [])
+held_after laws past step run is orders_are =
+    ap (λ h. h || not (goes_back run.mode)) is.held_is
+    ∙ ap (λ b. is_held past || not b) (sym (back_as past run is))
+    ∙ sym (once_held (is_held past) (is_back past) (runs past))
+    ∙ ap (λ os. unwrap_or (last_such hold_mark os) (is_held past)) (sym orders_are)
+    ∙ sym (laws.held_is past step)
 
 run_waits : ReadingsGoOn → (past : History) (run : Ordered) (bs : List Breakpoint) (seq : ℕ) (asked : SetBreakpointsArguments) (answers : List BreakpointAnswer) → IsRun run past
-    → IsRun (record run { waiting_plan = Some bs; held = true }) (past ++ set_step seq asked (causing (body.Breakpoints answers) (effect_in Running past bs)) ∷ [])
+    → IsRun (asked_back (record run { waiting_plan = Some bs })) (past ++ set_step seq asked (causing (body.Breakpoints answers) (effect_in Running past bs)) ∷ [])
 run_waits laws past run bs seq asked answers is =
     let step = set_step seq asked (causing (body.Breakpoints answers) (effect_in Running past bs)) in
-    let no_go = once_no_go (is_held past) (runs past) in record {
+    let no_go = once_no_go (is_held past || is_back past) (runs past) in record {
       first = is.first;
       ordered = last_run_stays laws past step no_go ∙ is.ordered;
       goes_on = ap (λ n. record is.first { start = n }) (position_stays laws past step refl) ∙ is.goes_on ∙ ap (λ n. heading_in n run) (sym (runs_stay laws past step no_go));
@@ -177,11 +198,11 @@ run_waits laws past run bs seq asked answers is =
       counted_from_is = is.counted_from_is ∙ ap (λ (p : Plan). p.counted_from) (sym (plan_stays laws past step refl));
       waiting_plan_is = sym (laws.waiting_plan_is past step ∙ ap (λ o. unwrap_or (or_else (option_map (λ run. None) o) (Some (Some bs))) (waiting_plan past)) (no_last go step.effect.orders no_go));
       waiting_pause_is = is.waiting_pause_is ∙ sym (waiting_pause_stays laws past step no_go refl);
-      held_is = sym (laws.held_is past step ∙ once_held (is_held past) (runs past));
+      held_is = held_after laws past step run is refl;
     }
 
 pub waits_in_run : ReadingsGoOn → (t : Target) (run now : Ordered) (asked : SetBreakpointsArguments) (answers : List BreakpointAnswer) (bs : List Breakpoint) (order : Option Order) → AreSet t run.unit asked answers bs
-    → option_to_list (option_map plain_order order) ≡ once run.held t.runs → now ≡ record run { waiting_plan = Some bs; held = true }
+    → option_to_list (option_map plain_order order) ≡ once (run.held || goes_back run.mode) t.runs → now ≡ asked_back (record run { waiting_plan = Some bs })
     → Replies (command.SetBreakpoints asked) (phase.Running t run) (with_order answers order (phase.Running t now))
 waits_in_run laws t run now asked answers bs order are order_is now_is past is =
     let reply = causing (body.Breakpoints answers) (effect_in Running past bs) in record {
@@ -191,12 +212,12 @@ waits_in_run laws t run now asked answers bs order are order_is now_is past is =
         result_is = refl;
         effect_is = record {
           events_are = refl;
-          orders_are = order_is ∙ ap (λ b. once b t.runs) is.keeps.1.held_is ∙ ap (λ n. once (is_held past) n) is.keeps.0.runs_are;
+          orders_are = order_is ∙ ap (λ b. once b t.runs) (once_as past run is.keeps.1) ∙ ap (λ n. once (is_held past || is_back past) n) is.keeps.0.runs_are;
         };
       };
       phase_is = λ seq. let step = set_step seq asked reply in
           subst (λ x. IsPhase (phase.Running t x) (past ++ step ∷ [])) (sym now_is) (record {
-            situation_is = situation_stays laws past step (ap (λ o. or_else o None) (once_no_mark (is_held past) (runs past))) ∙ is.situation_is;
-            keeps = (target_stays laws past step refl (once_no_go (is_held past) (runs past)) refl t run.unit is.keeps.0, run_waits laws past run bs seq asked answers is.keeps.1);
+            situation_is = situation_stays laws past step (ap (λ o. or_else o None) (once_no_mark (is_held past || is_back past) (runs past))) ∙ is.situation_is;
+            keeps = (target_stays laws past step refl (once_no_go (is_held past || is_back past) (runs past)) refl refl t run.unit is.keeps.0, run_waits laws past run bs seq asked answers is.keeps.1);
           });
     }

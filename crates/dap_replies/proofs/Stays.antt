@@ -1,5 +1,5 @@
 -- A step that changes nothing that a phase keeps leaves it a phase of the longer history.
-use Rattle.std.proofs.Common.{◌≡◌, ℕ, ◌+◌, List, [], ◌∷◌, ◌++◌, length, Option, None, Some, Err, refl, sym, ◌∙◌, ap, arith}
+use Rattle.std.proofs.Common.{◌≡◌, ℕ, ◌+◌, ℤ, List, [], ◌∷◌, ◌++◌, length, Option, None, Some, Err, refl, sym, ◌∙◌, ap, arith}
 use Rattle.std.specs.Prelude.{false, unwrap_or, option_map}
 use Rattle.std.specs.List.{filter_map, cons_option}
 use Rattle.pl0_unit.specs.declared.unit.Unit.{Unit as Compiled}
@@ -14,9 +14,9 @@ use Rattle.dbg_plan.specs.Debugged.{Debugged}
 use Rattle.dbg_runner.specs.Plain.{Heading}
 use Rattle.dap_history.specs.Last.{or_else, last_such}
 use Rattle.dap_history.specs.Plans.{Plan}
-use Rattle.dap_history.specs.History.{Effect, Step, History}
+use Rattle.dap_history.specs.History.{Effect, Step, History, messages}
 use Rattle.dap_history.specs.ReadingLaws.{ReadingsGoOn}
-use Rattle.dap_history.specs.Readings.{step_mark, situation, settings_by, settings, launched, go, last_run, runs, end_of, position, plan, waiting_plan, is_pause, waiting_pause, hold_mark, is_held}
+use Rattle.dap_history.specs.Readings.{step_mark, situation, settings_by, settings, launched, go, last_run, runs, end_of, position, numbers, numbers_told, plan, waiting_plan, is_pause, waiting_pause, hold_mark, is_held}
 use Rattle.dap_history.specs.Replies.{nothing, refused}
 use Rattle.dap_phase.specs.declared.phase.Phase.{Phase}
 use Rattle.dap_phase.specs.declared.phase.Phase.TheVariants as phase
@@ -72,21 +72,28 @@ waiting_pause_stays laws past step no_go no_pause =
 pub held_stays : ReadingsGoOn → (past : History) (step : Step) → last_such hold_mark step.effect.orders ≡ None → is_held (past ++ step ∷ []) ≡ is_held past
 held_stays laws past step no_hold = laws.held_is past step ∙ ap (λ o. unwrap_or o (is_held past)) no_hold
 
+pub told_stays : ReadingsGoOn → (past : History) (step : Step) → numbers (messages step) ≡ [] → numbers_told (past ++ step ∷ []) ≡ numbers_told past
+told_stays laws past step tells_none = laws.numbers_told_is past step ∙ ap (λ (ns : List ℤ). numbers_told past + length ns) tells_none ∙ omega arith
+
 -- ---- what a phase keeps
 
-pub unlaunched_stays : ReadingsGoOn → (past : History) (step : Step) → step.effect.launched ≡ None → filter_map go step.effect.orders ≡ [] → step.effect.put_in ≡ None → end_of step.item ≡ None → IsUnlaunched past → IsUnlaunched (past ++ step ∷ [])
-unlaunched_stays laws past step launches_none no_go puts_none no_end is = record {
+pub unlaunched_stays : ReadingsGoOn → (past : History) (step : Step) → step.effect.launched ≡ None → filter_map go step.effect.orders ≡ [] → step.effect.put_in ≡ None → end_of step.item ≡ None → numbers (messages step) ≡ []
+    → IsUnlaunched past → IsUnlaunched (past ++ step ∷ [])
+unlaunched_stays laws past step launches_none no_go puts_none no_end tells_none is = record {
   launched_is = launched_stays laws past step launches_none ∙ is.launched_is;
   runs_are = runs_stay laws past step no_go ∙ is.runs_are;
   position_is = position_stays laws past step no_end ∙ is.position_is;
+  told_is = told_stays laws past step tells_none ∙ is.told_is;
   plan_is = plan_stays laws past step puts_none ∙ is.plan_is;
 }
 
-pub target_stays : ReadingsGoOn → (past : History) (step : Step) → step.effect.launched ≡ None → filter_map go step.effect.orders ≡ [] → settings_by step.item step.answer ≡ None → (t : Target) (u : Compiled) → IsTarget t u past → IsTarget t u (past ++ step ∷ [])
-target_stays laws past step launches_none no_go sets_none t u is = record {
+pub target_stays : ReadingsGoOn → (past : History) (step : Step) → step.effect.launched ≡ None → filter_map go step.effect.orders ≡ [] → settings_by step.item step.answer ≡ None → numbers (messages step) ≡ []
+    → (t : Target) (u : Compiled) → IsTarget t u past → IsTarget t u (past ++ step ∷ [])
+target_stays laws past step launches_none no_go sets_none tells_none t u is = record {
   launched_is = launched_stays laws past step launches_none ∙ is.launched_is;
   settings_are = is.settings_are ∙ sym (settings_stay laws past step sets_none);
   runs_are = is.runs_are ∙ sym (runs_stay laws past step no_go);
+  told_is = is.told_is ∙ sym (told_stays laws past step tells_none);
 }
 
 pub debuggee_stays : ReadingsGoOn → (past : History) (step : Step) → step.effect.put_in ≡ None → end_of step.item ≡ None → (d : Debugged) → IsDebuggee d past → IsDebuggee d (past ++ step ∷ [])
@@ -124,12 +131,13 @@ pub record IsStill (step : Step) : Type 0 where
   pub sets_none : settings_by step.item step.answer ≡ None
   pub no_pause : is_pause step.answer ≡ None
   pub no_end : end_of step.item ≡ None
+  pub tells_none : numbers (messages step) ≡ []
 
 still_unlaunched : ReadingsGoOn → (past : History) (step : Step) → IsStill step → IsUnlaunched past → IsUnlaunched (past ++ step ∷ [])
-still_unlaunched laws past step still = unlaunched_stays laws past step still.launches_none still.no_go still.puts_none still.no_end
+still_unlaunched laws past step still = unlaunched_stays laws past step still.launches_none still.no_go still.puts_none still.no_end still.tells_none
 
 still_target : ReadingsGoOn → (past : History) (step : Step) → IsStill step → (t : Target) (u : Compiled) → IsTarget t u past → IsTarget t u (past ++ step ∷ [])
-still_target laws past step still = target_stays laws past step still.launches_none still.no_go still.sets_none
+still_target laws past step still = target_stays laws past step still.launches_none still.no_go still.sets_none still.tells_none
 
 still_debuggee : ReadingsGoOn → (past : History) (step : Step) → IsStill step → (d : Debugged) → IsDebuggee d past → IsDebuggee d (past ++ step ∷ [])
 still_debuggee laws past step still = debuggee_stays laws past step still.puts_none still.no_end
@@ -167,6 +175,7 @@ pub record IsQuiet (step : Step) : Type 0 where
   pub sets_none : settings_by step.item step.answer ≡ None
   pub no_pause : is_pause step.answer ≡ None
   pub no_end : end_of step.item ≡ None
+  pub tells_none : numbers (messages step) ≡ []
 
 pub quiet_is_still : (step : Step) → IsQuiet step → IsStill step
 quiet_is_still step quiet = record {
@@ -179,6 +188,7 @@ quiet_is_still step quiet = record {
   sets_none = quiet.sets_none;
   no_pause = quiet.no_pause;
   no_end = quiet.no_end;
+  tells_none = quiet.tells_none;
 }
 
 pub phase_stays : ReadingsGoOn → (p : Phase) (past : History) (step : Step) → IsQuiet step → IsPhase p past → IsPhase p (past ++ step ∷ [])
@@ -196,4 +206,5 @@ refusal_is_quiet request why = record {
   sets_none = refl;
   no_pause = refused_pause request.seq (name_of request.body) why;
   no_end = refl;
+  tells_none = refl;
 }

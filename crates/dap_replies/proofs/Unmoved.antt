@@ -56,6 +56,7 @@ leads_nowhere command (Ok body) leads seq = record {
   sets_none = sets_none command leads;
   no_pause = no_pause seq command (Ok body) leads;
   no_end = refl;
+  tells_none = refl;
 }
 leads_nowhere command (Err why) leads seq = record {
   effect_is = refl;
@@ -63,4 +64,5 @@ leads_nowhere command (Err why) leads seq = record {
   sets_none = refl;
   no_pause = no_pause seq command (Err why) leads;
   no_end = refl;
+  tells_none = refl;
 }

@@ -1,33 +1,34 @@
 -- What only inner contracts cite: how the program goes on, stops or ends after an answer.
-use Rattle.std.specs.Prelude.{◌≡◌, ◌+◌, ◌∷◌, [], true, if◌then◌else◌, None, Ok, option_map}
+use Rattle.std.specs.Prelude.{◌≡◌, ◌+◌, List, ◌∷◌, [], ◌++◌, true, ◌||◌, if◌then◌else◌, None, Ok, option_map}
 use Rattle.std.specs.Option.{option_to_list}
 use Rattle.dap_msg.specs.declared.outgoing.Body.{Body}
 use Rattle.dap_msg.specs.declared.outgoing.Body.TheVariants as body
+use Rattle.dap_msg.specs.declared.outgoing.EventBody.{EventBody}
 use Rattle.dbg_plan.specs.Debugged.{Debugged}
 use Rattle.dbg_plan.specs.declared.mode.Mode.{Mode}
 use Rattle.dbg_plan.specs.declared.mode.Reason.{Reason}
 use Rattle.pl0_unit.specs.declared.unit.Unit.{Unit as Compiled}
 use Rattle.dbg_runner.specs.Orders.{plain_order}
-use Rattle.dbg_runner.specs.Plain.{Go, Hold}
+use Rattle.dbg_runner.specs.Plain.{Go, Hold, goes_back}
 use Rattle.dbg_runner.specs.Reported.{heading}
 use Rattle.dap_history.specs.Replies.{ends, stop_of, stops}
-use Rattle.dap_phase.specs.Runs.{Ordered, begun}
+use Rattle.dap_phase.specs.Runs.{Ordered, begun, asked_back}
 use Rattle.dap_phase.specs.declared.phase.Phase.{Phase}
 use Rattle.dap_phase.specs.declared.phase.Phase.TheVariants as phase
 use Rattle.dap_phase.specs.declared.phase.Target.{Target}
 use Rattle.dap_replies.specs.declared.effect.Reply.{Reply}
 
--- the debuggee goes on in a further run
-pub record HasGone (t : Target) (d : Debugged) (m : Mode) (body : Body) (given : Reply) : Type 0 where
+-- after these events the debuggee goes on in a further run
+pub record HasGone (t : Target) (d : Debugged) (m : Mode) (body : Body) (events : List EventBody) (given : Reply) : Type 0 where
   pub result_is : given.result ≡ Ok body
-  pub events_are : given.effect.events ≡ []
+  pub events_are : given.effect.events ≡ events
   pub orders_are : option_to_list (option_map plain_order given.effect.order) ≡ Go (heading (t.runs + 1) d m) ∷ []
   pub phase_is : given.effect.phase ≡ phase.Running (record t { runs = t.runs + 1 }) (begun d m)
 
--- the program stops where it stands
-pub record HasStopped (t : Target) (d : Debugged) (reason : Reason) (given : Reply) : Type 0 where
+-- after these events the program stops where it stands
+pub record HasStopped (t : Target) (d : Debugged) (reason : Reason) (events : List EventBody) (given : Reply) : Type 0 where
   pub result_is : given.result ≡ Ok body.None
-  pub events_are : given.effect.events ≡ stops (stop_of reason)
+  pub events_are : given.effect.events ≡ events ++ stops (stop_of reason)
   pub order_is : given.effect.order ≡ None
   pub phase_is : given.effect.phase ≡ phase.Stopped t d
 
@@ -47,8 +48,8 @@ pub record HasEnded (t : Target) (u : Compiled) (body : Body) (given : Reply) : 
 pub record WaitsToPause (t : Target) (run : Ordered) (given : Reply) : Type 0 where
   pub result_is : given.result ≡ Ok body.None
   pub events_are : given.effect.events ≡ []
-  pub orders_are : option_to_list (option_map plain_order given.effect.order) ≡ (if run.held then [] else Hold t.runs ∷ [])
-  pub phase_is : given.effect.phase ≡ phase.Running t (record run { waiting_pause = true; held = true })
+  pub orders_are : option_to_list (option_map plain_order given.effect.order) ≡ (if run.held || goes_back run.mode then [] else Hold t.runs ∷ [])
+  pub phase_is : given.effect.phase ≡ phase.Running t (asked_back (record run { waiting_pause = true }))
 
 -- the program stands
 abbrev pub Stands : Phase → Type 0

@@ -6,6 +6,7 @@ use Rattle.dap_msg.specs.declared.outgoing.Body.TheVariants as body
 use Rattle.dap_msg.specs.declared.outgoing.EventBody.TheVariants as event
 use Rattle.pl0_tree.specs.declared.program.Tree.{Tree}
 use Rattle.pl0_unit.specs.declared.unit.Unit.{Unit as Compiled}
+use Rattle.dbg_plan.specs.Trail.{new_trail}
 use Rattle.dbg_plan.specs.Debugged.{Debugged}
 use Rattle.dap_phase.specs.declared.phase.Phase.TheVariants as phase
 use Rattle.dap_phase.specs.declared.phase.Target.{Target}
@@ -14,11 +15,11 @@ use Rattle.dap_replies.specs.declared.effect.Reply.{Reply as Given}
 -- a launched program, of which no run was ordered
 abbrev pub target_of : InitializeArguments → LaunchArguments → Target
 target_of settings arguments =
-    record { settings = settings; path = arguments.program; stop_on_entry = arguments.stop_on_entry; runs = 0 }
+    record { settings = settings; path = arguments.program; stop_on_entry = arguments.stop_on_entry; runs = 0; told = 0 }
 
 -- a program at its start, under the empty plan
 abbrev pub unstarted : Compiled → Debugged
-unstarted unit = record { unit = unit; position = 0; breakpoints = []; counted_from = 0; next = 0 }
+unstarted unit = record { unit = unit; position = 0; breakpoints = []; counted_from = 0; next = 0; trail = new_trail }
 
 -- the program of the tree waits for its configuration
 pub record HasBegun (settings : InitializeArguments) (arguments : LaunchArguments) (tree : Tree) (given : Given) : Type 0 where

@@ -1,11 +1,16 @@
 -- What the parts of a report's handler promise.
-use Rattle.std.specs.Prelude.{◌≡◌, ◌++◌, ◌∷◌, []}
+use Rattle.std.specs.Prelude.{◌≡◌, ℕ, ◌+◌, ◌-◌, ℤ, List, ◌++◌, ◌∷◌, [], length, drop, map}
+use Rattle.dap_msg.specs.declared.outgoing.EventBody.{EventBody}
+use Rattle.dap_msg.specs.declared.outgoing.EventBody.TheVariants as event
 use Rattle.dap_msg.specs.declared.outgoing.StopReason.{StopReason}
 use Rattle.dap_msg.specs.declared.outgoing.StopReason.TheVariants as stop
 use Rattle.dbg_plan.specs.Debugged.{Debugged}
 use Rattle.dbg_runner.specs.Plain.{heading_of}
+use Rattle.dbg_runner.specs.declared.outcome.SliceOutcome.{SliceOutcome}
+use Rattle.dbg_runner.specs.declared.outcome.SliceOutcome.TheVariants as slice
 use Rattle.dbg_runner.specs.Reported.{Reported, plain_report}
 use Rattle.dap_history.specs.History.{History, Effect}
+use Rattle.dap_history.specs.Replies.{told_logs}
 use Rattle.dap_phase.specs.declared.phase.Target.{Target}
 use Rattle.dap_phase.specs.declared.phase.Phase.{Phase}
 use Rattle.dap_phase.specs.declared.phase.Phase.TheVariants as phase
@@ -13,6 +18,25 @@ use Rattle.dap_phase.specs.Runs.{Ordered, heading_in}
 use Rattle.dap_phase.specs.Phases.{IsPhase}
 use Rattle.dap_replies.specs.declared.effect.Effect.{Effect as Done}
 use Rattle.dap_replies.specs.Replied.{Does, report_step}
+
+-- the numbers of a report after those that were reported before, where so many were
+abbrev pub fresh : ℕ → Reported → List ℤ
+fresh told r = drop (told - r.before) r.numbers
+
+-- these and the logs, as events
+abbrev pub outputs_after : ℕ → Reported → List EventBody
+outputs_after told r = map event.Output (fresh told r) ++ told_logs r.plan r.logs
+
+-- the target when these are reported
+abbrev pub with_told : Target → Reported → Target
+with_told t r = record t { told = t.told + length (fresh t.told r) }
+
+-- a slice that ended so leaves a debuggee that stands in the report
+abbrev pub Stops : SliceOutcome → Type 0
+Stops (slice.Due reason) = Unit {0}
+Stops slice.Held = Unit {0}
+Stops (slice.Fault fault) = Unit {0}
+Stops _ = ⊥
 
 -- the report goes on with the run
 abbrev pub GoesOnWith : Reported → Target → Ordered → Type 0

@@ -1,6 +1,7 @@
 // `setBreakpoints`.
 
-ghost use Rattle.std.specs.Prelude.{◌≡◌, ◌≤◌, ◌+◌, length, map, true, All, IfOk};
+ghost use Rattle.std.specs.Prelude.{◌≡◌, ◌≤◌, ◌+◌, map, true, All, IfOk};
+ghost use Rattle.dap_msg.specs.Laws.{AreWithin, LineIsWithin};
 ghost use Rattle.dap_msg.specs.declared.command.Command.TheVariants as command;
 ghost use Rattle.dap_msg.specs.declared.outgoing.BreakpointAnswer.TheVariants as answer_is;
 ghost use Rattle.dap_msg.specs.declared.outgoing.BreakpointRefusal.TheVariants as why;
@@ -28,20 +29,23 @@ use std::sync::Arc;
 
 // How much a line of the client's is less than the same one counted from 1.
 fn line_offset(settings: InitializeArguments) -> u32
-    ensures { result ≡ offset settings.lines_start_at_1 }
+    ensures is { result ≡ offset settings.lines_start_at_1 }
+    ensures small { result ≤ 1 }
 {
     if settings.lines_start_at_1 { 0 } else { 1 }
 }
 
-// A line as a plan asks for it. No program has a line of a number that doesn't fit.
+// A line as a plan asks for it.
 fn asked_line(alloc: Global, line: &SourceBreakpoint, less: u32) -> Result<AskedLine, AllocError>
+    requires within { LineIsWithin line.now }
+    requires small { less ≤ 1 }
     ensures { IfOk result (IsAskedAs less line.now) }
 {
-    let number = line.line.checked_add(less).ok_or(AllocError)?;
     Ok(AskedLine {
-        line: number,
+        line: line.line + less,
         condition: String::from_str(alloc, line.condition.as_str())?,
         hit_condition: String::from_str(alloc, line.hit_condition.as_str())?,
+        log_message: String::from_str(alloc, line.log_message.as_str())?,
     })
 }
 
@@ -50,6 +54,8 @@ fn asked_lines(
     lines: &[SourceBreakpoint],
     less: u32,
 ) -> Result<Vec<AskedLine>, AllocError>
+    requires within { All LineIsWithin lines.now }
+    requires small { less ≤ 1 }
     ensures { IfOk result (λ asked. AreAskedAs less lines.now asked.items) }
 {
     let mut asked = Vec::with_capacity(alloc, lines.len())?;
@@ -74,6 +80,7 @@ fn line_answer(unit: &Unit, less: u32, resolution: Resolution) -> BreakpointAnsw
         Resolution::BadHitCondition => BreakpointAnswer::Unverified(
             BreakpointRefusal::BadHitCondition,
         ),
+        Resolution::BadLogMessage => BreakpointAnswer::Unverified(BreakpointRefusal::BadLogMessage),
     }
 }
 
@@ -100,7 +107,7 @@ fn resolved(
     settings: InitializeArguments,
     asked: &SetBreakpointsArguments,
 ) -> Result<(Items<BreakpointAnswer>, Arc<Plan>), AllocError>
-    requires { length asked.now.breakpoints ≤ 256 }
+    requires { AreWithin asked.now }
     ensures answered { IfOk result (λ r. AreAnswered (program_of unit.now) (offset settings.lines_start_at_1) asked.now.breakpoints r.0 (plain_breakpoints r.1.value.breakpoints)) }
     ensures plan { IfOk result (λ r. IsPlanOf unit.now r.1.value) }
 {
@@ -175,7 +182,7 @@ fn before_start(
     mut debuggee: Unstarted,
     asked: &SetBreakpointsArguments,
 ) -> Result<Reply, AllocError>
-    requires few { length asked.now.breakpoints ≤ 256 }
+    requires within { AreWithin asked.now }
     requires same { is_at asked.now.path target.path ≡ true }
     ensures { IfOk result (Replies (command.SetBreakpoints asked.now) (phase_is.Configuring target debuggee)) }
 {
@@ -192,7 +199,7 @@ fn in_run(
     mut run: Run,
     asked: &SetBreakpointsArguments,
 ) -> Result<Reply, AllocError>
-    requires few { length asked.now.breakpoints ≤ 256 }
+    requires within { AreWithin asked.now }
     requires same { is_at asked.now.path target.path ≡ true }
     ensures { IfOk result (Replies (command.SetBreakpoints asked.now) (phase_is.Running target run)) }
 {
@@ -210,7 +217,7 @@ fn put_in(
     settings: InitializeArguments,
     asked: &SetBreakpointsArguments,
 ) -> Result<(Items<BreakpointAnswer>, Considered), AllocError>
-    requires { length asked.now.breakpoints ≤ 256 }
+    requires { AreWithin asked.now }
     ensures answered { IfOk result (λ r. AreAnswered (program_of debuggee.unit) (offset settings.lines_start_at_1) asked.now.breakpoints r.0 r.1.breakpoints) }
     ensures plan { IfOk result (λ r. r.1 ≡ record debuggee { breakpoints = r.1.breakpoints; counted_from = debuggee.position + 1 }) }
 {
@@ -226,7 +233,7 @@ fn at_stop(
     debuggee: Considered,
     asked: &SetBreakpointsArguments,
 ) -> Result<Reply, AllocError>
-    requires few { length asked.now.breakpoints ≤ 256 }
+    requires within { AreWithin asked.now }
     requires same { is_at asked.now.path target.path ≡ true }
     ensures { IfOk result (Replies (command.SetBreakpoints asked.now) (phase_is.Stopped target debuggee)) }
 {
@@ -241,7 +248,7 @@ fn at_fault(
     debuggee: Considered,
     asked: &SetBreakpointsArguments,
 ) -> Result<Reply, AllocError>
-    requires few { length asked.now.breakpoints ≤ 256 }
+    requires within { AreWithin asked.now }
     requires same { is_at asked.now.path target.path ≡ true }
     ensures { IfOk result (Replies (command.SetBreakpoints asked.now) (phase_is.Faulted target debuggee)) }
 {
@@ -257,7 +264,7 @@ fn after_end(
     unit: Arc<Unit>,
     asked: &SetBreakpointsArguments,
 ) -> Result<Reply, AllocError>
-    requires few { length asked.now.breakpoints ≤ 256 }
+    requires within { AreWithin asked.now }
     requires same { is_at asked.now.path target.path ≡ true }
     ensures { IfOk result (Replies (command.SetBreakpoints asked.now) (phase_is.Ended target unit)) }
 {
@@ -273,13 +280,13 @@ fn after_end(
 ///
 /// # Errors
 ///
-/// An allocation failed, or a line counted from 0 is the greatest that a `u32` holds. The phase is gone then.
+/// An allocation failed; the phase is gone then.
 pub(crate) fn set_breakpoints(
     alloc: Global,
     phase: Phase,
     asked: &SetBreakpointsArguments,
 ) -> Result<Reply, AllocError>
-    requires { length asked.now.breakpoints ≤ 256 }
+    requires { AreWithin asked.now }
     ensures { IfOk result (Replies (command.SetBreakpoints asked.now) phase) }
 {
     if is_of_other_source(&phase, &asked.path) {

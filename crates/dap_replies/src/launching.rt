@@ -76,6 +76,7 @@ fn begin(
         path: arguments.program,
         stop_on_entry: arguments.stop_on_entry,
         runs: 0,
+        told: 0,
     };
     Ok(Reply {
         result: Ok(Body::None),

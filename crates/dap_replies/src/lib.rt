@@ -13,10 +13,12 @@ mod initialize;
 mod inspecting;
 mod launching;
 mod laws;
+mod logging;
 mod pausing;
 mod refusing;
 mod replying;
 mod reporting;
+mod retreating;
 mod running;
 mod threads;
 

@@ -12,6 +12,7 @@ use crate::initialize::initialize;
 use crate::inspecting::inspect;
 use crate::pausing::pause;
 use crate::refusing::refuse;
+use crate::retreating::{Return, retreat};
 use crate::running::{Pace, configuration_done, resume};
 use crate::threads::threads;
 use dap_msg::{Command, Refusal};
@@ -38,6 +39,8 @@ pub fn reply(alloc: Global, phase: Phase, command: &Command) -> Result<Reply, Al
         Command::Next(asked) => resume(alloc, phase, Pace::ToNext, *asked),
         Command::StepIn(asked) => resume(alloc, phase, Pace::ToStep, *asked),
         Command::StepOut(asked) => resume(alloc, phase, Pace::ToReturn, *asked),
+        Command::StepBack(asked) => retreat(alloc, phase, Return::ByStep, *asked),
+        Command::ReverseContinue(asked) => retreat(alloc, phase, Return::ToStop, *asked),
         Command::Pause(asked) => Ok(pause(alloc, phase, *asked)),
         Command::StackTrace(_)
         | Command::Scopes(_)

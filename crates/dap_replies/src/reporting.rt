@@ -1,21 +1,21 @@
 // Reports of the runner.
 
-ghost use Rattle.std.specs.Prelude.{◌≡◌, ◌≢◌, ◌++◌, Some, map, IfOk, OnOk};
+ghost use Rattle.std.specs.Prelude.{◌≡◌, ◌≢◌, ◌+◌, ◌<◌, ◌^◌, ◌++◌, length, IfOk, OnOk};
 ghost use Rattle.dbg_runner.specs.declared.outcome.SliceOutcome.TheVariants as slice;
 ghost use Rattle.dbg_runner.specs.Plain.{heading_of};
-ghost use Rattle.dbg_runner.specs.Reported.{carried, plain_report, stopped, text_of};
+ghost use Rattle.dbg_runner.specs.Reported.{plain_report, stopped, text_of, trail_in};
 ghost use Rattle.dap_history.specs.History.{History};
 ghost use Rattle.dap_history.specs.Replies.{ends, exception_of, reporting, stop_of, stops};
 ghost use Rattle.dap_history.specs.Readings.{waiting_pause};
 ghost use Rattle.dap_history.specs.Reports.{goes_on, held, outputs, stands};
-ghost use Rattle.dap_msg.specs.declared.outgoing.EventBody.TheVariants as event;
 ghost use Rattle.dap_phase.specs.Runs.{heading_in, with_waiting};
 ghost use Rattle.dap_phase.specs.Phases.{IsPhase};
 ghost use Rattle.dap_phase.specs.declared.phase.Phase.TheVariants as phase_is;
 ghost use Rattle.dap_replies.specs.Replied.{HasReported};
-ghost use Rattle.dap_replies.specs.Reporting.{GoesOnWith, Leads, standing};
+ghost use Rattle.dap_replies.specs.Reporting.{fresh, outputs_after, with_told, Stops, GoesOnWith, Leads, standing};
 
 use crate::effect::Effect;
+use crate::logging::push_logs;
 use dap_history::reading_laws;
 use dap_msg::{EventBody, Exception, Items, StopReason};
 use dap_phase::{Phase, Run, Target};
@@ -50,13 +50,14 @@ pub fn report(alloc: Global, target: Target, run: Run, report: Report) -> Result
 
 // The run goes on.
 fn go_on(alloc: Global, target: Target, mut run: Run, report: &Report) -> Result<Effect, AllocError>
-    ensures { IfOk result (Leads target run report.now (λ past. reporting (outputs (plain_report report.now)))) }
+    ensures { IfOk result (Leads target run report.now (λ past. reporting (outputs past (plain_report report.now)))) }
 {
     reading_laws();
-    let events = events(alloc, report.numbers(), &[])?;
+    let events = outputs(alloc, target.told, report)?;
+    let target = tell(target, report);
     run.go_on_from(report.summary().end);
     Ok(Effect {
-        events,
+        events: Items::new(events),
         order: None,
         phase: Phase::Running(target, run),
     })
@@ -71,14 +72,16 @@ fn stand(
     reason: StopReason,
 ) -> Result<Effect, AllocError>
     requires goes_on { GoesOnWith report target run }
-    requires carries { carried report report.outcome ≡ Some (stopped report) }
+    requires stops { Stops report.outcome }
     ensures { IfOk result (Leads target run report (λ past. stands past (plain_report report) (stops reason))) }
 {
     reading_laws();
-    let events = events(alloc, report.numbers(), &[EventBody::Stopped(reason)])?;
+    let mut events = outputs(alloc, target.told, &report)?;
+    events.push(EventBody::Stopped(reason))?;
+    let target = tell(target, &report);
     let debuggee = take_back(run, report);
     Ok(Effect {
-        events,
+        events: Items::new(events),
         order: None,
         phase: standing(target, debuggee, reason),
     })
@@ -99,7 +102,7 @@ fn standing(target: Target, debuggee: Considered, reason: StopReason) -> Phase
 // The runner was asked for the debuggee: the program stands if a pause waits, and goes on otherwise.
 fn come_back(alloc: Global, target: Target, run: Run, report: Report) -> Result<Effect, AllocError>
     requires goes_on { GoesOnWith report target run }
-    requires carries { carried report report.outcome ≡ Some (stopped report) }
+    requires stops { Stops report.outcome }
     ensures { IfOk result (Leads target run report (λ past. held past (plain_report report) (waiting_pause past))) }
 {
     if run.waits_to_pause() {
@@ -117,12 +120,13 @@ fn begin_again(
     report: Report,
 ) -> Result<Effect, AllocError>
     requires goes_on { GoesOnWith report target run }
-    requires carries { carried report report.outcome ≡ Some (stopped report) }
+    requires stops { Stops report.outcome }
     ensures { IfOk result (Leads target run report (λ past. goes_on past (plain_report report))) }
 {
     reading_laws();
     let number = target.runs.checked_add(1).ok_or(AllocError)?;
-    let events = events(alloc, report.numbers(), &[])?;
+    let events = outputs(alloc, target.told, &report)?;
+    let target = tell(target, &report);
     let mode = run.mode();
     let debuggee = take_back(run, report);
     let (run, order) = Run::begin(number, debuggee, mode)?;
@@ -131,7 +135,7 @@ fn begin_again(
         ..target
     };
     Ok(Effect {
-        events,
+        events: Items::new(events),
         order: Some(order),
         phase: Phase::Running(target, run),
     })
@@ -139,32 +143,54 @@ fn begin_again(
 
 // The program is over.
 fn end(alloc: Global, target: Target, run: Run, report: &Report) -> Result<Effect, AllocError>
-    ensures { IfOk result (Leads target run report.now (λ past. reporting (outputs (plain_report report.now) ++ ends 0))) }
+    ensures { IfOk result (Leads target run report.now (λ past. reporting (outputs past (plain_report report.now) ++ ends 0))) }
 {
     reading_laws();
-    let last = [EventBody::Exited(0), EventBody::Terminated];
-    let events = events(alloc, report.numbers(), &last)?;
+    let mut events = outputs(alloc, target.told, report)?;
+    events.push(EventBody::Exited(0))?;
+    events.push(EventBody::Terminated)?;
+    let target = tell(target, report);
     Ok(Effect {
-        events,
+        events: Items::new(events),
         order: None,
         phase: Phase::Ended(target, run.into_unit()),
     })
 }
 
-// The numbers as events, and then these events.
-fn events(
-    alloc: Global,
-    numbers: &[i64],
-    last: &[EventBody],
-) -> Result<Items<EventBody>, AllocError>
-    ensures { IfOk result (λ events. events ≡ map event.Output numbers.now ++ last.now) }
+// The numbers of a report after those that were reported before, where so many were.
+fn fresh(told: u64, report: &Report) -> &[i64]
+    ensures is { result.now ≡ fresh told report.now }
+    // At most one number is written in a step.
+    ensures few { told + length result.now < 2 ^ 64 }
 {
-    let mut events = Vec::with_capacity(alloc, numbers.len() + last.len())?;
+    let numbers = report.numbers();
+    let skipped = told.saturating_sub(report.summary().before);
+    if skipped < numbers.len() as u64 {
+        &numbers[skipped as usize..]
+    } else {
+        &[]
+    }
+}
+
+// What a report tells, as events, where so many numbers were reported before.
+fn outputs(alloc: Global, told: u64, report: &Report) -> Result<Vec<EventBody>, AllocError>
+    ensures { IfOk result (λ events. events.items ≡ outputs_after told report.now) }
+{
+    let numbers = fresh(told, report);
+    let mut events = Vec::with_capacity(alloc, numbers.len())?;
     for number in numbers {
         events.push(EventBody::Output(*number))?;
     }
-    events.extend_from_slice(last)?;
-    Ok(Items::new(events))
+    push_logs(alloc, report.plan(), report.logs(), &mut events)?;
+    Ok(events)
+}
+
+// The target when the numbers of a report are reported.
+fn tell(target: Target, report: &Report) -> Target
+    ensures { result ≡ with_told target report.now }
+{
+    let told = target.told + fresh(target.told, report).len() as u64;
+    Target { told, ..target }
 }
 
 /// The reason of a stop, for the client.
@@ -192,9 +218,9 @@ fn exception(fault: RunFault) -> Exception
 
 // The debuggee that the report carries, with the plan that waited put in.
 fn take_back(run: Run, report: Report) -> Considered
-    requires carries { carried report report.outcome ≡ Some (stopped report) }
+    requires stops { Stops report.outcome }
     requires text { text_of report.unit ≡ text_of run.unit }
-    ensures { result ≡ with_waiting run.waiting_plan (stopped report) }
+    ensures { result ≡ with_waiting run.waiting_plan (stopped report (trail_in report.debuggee)) }
 {
     match report.into_debuggee() {
         Some(debuggee) => run.take_back(debuggee),

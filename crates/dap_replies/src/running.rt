@@ -1,20 +1,22 @@
-// What starts a run and resumes one: `configurationDone`, `continue`, `next`, `stepIn` and `stepOut`.
+// What starts a run or resumes one: `configurationDone`, `continue`, `next`, `stepIn` and `stepOut`.
 
 ghost use Rattle.std.specs.Prelude.{◌≡◌, if◌then◌else◌, IfOk};
 ghost use Rattle.dap_msg.specs.declared.command.Command.TheVariants as command_is;
 ghost use Rattle.dbg_plan.specs.declared.mode.Mode.TheVariants as mode_is;
 ghost use Rattle.dap_phase.specs.declared.phase.Phase.TheVariants as phase_is;
+ghost use Rattle.dap_history.specs.Replies.{told_logs};
 ghost use Rattle.dap_replies.specs.Going.{HasGone, HasStopped, HasEnded};
 ghost use Rattle.dap_replies.specs.Paces.{resumption};
 ghost use Rattle.dap_replies.specs.Replied.{Replies};
 
 use crate::effect::{Effect, Reply};
+use crate::logging::push_logs;
 use crate::refusing::refuse;
 use crate::reporting::stop_reason;
 use dap_history::reading_laws;
 use dap_msg::{Body, EventBody, Items, Refusal, ThreadArguments};
 use dap_phase::{Phase, Run, Target, Unstarted};
-use dbg_plan::{Mode, Reason};
+use dbg_plan::{Logs, Mode, Reason};
 use dbg_runner::Considered;
 use std::alloc::{AllocError, Global};
 use std::sync::Arc;
@@ -62,15 +64,19 @@ impl Pace {
     }
 }
 
-// An answer, and the next run of the debuggee.
-fn go(
-    alloc: Global,
+/// An answer, these events, and the next run of the debuggee.
+///
+/// # Errors
+///
+/// An allocation failed, or no run number is left.
+pub(crate) fn go(
     target: Target,
     debuggee: Considered,
     mode: Mode,
     body: Body,
+    events: Vec<EventBody>,
 ) -> Result<Reply, AllocError>
-    ensures { IfOk result (HasGone target debuggee mode body) }
+    ensures { IfOk result (HasGone target debuggee mode body events.items) }
 {
     let number = target.runs.checked_add(1).ok_or(AllocError)?;
     let (run, order) = Run::begin(number, debuggee, mode)?;
@@ -81,23 +87,23 @@ fn go(
     Ok(Reply {
         result: Ok(body),
         effect: Effect {
-            events: Items::new(Vec::new(alloc)),
+            events: Items::new(events),
             order: Some(order),
             phase: Phase::Running(target, run),
         },
     })
 }
 
-// An answer, and the stop where the program stands.
+// An answer, these events, and the stop where the program stands.
 fn stop(
-    alloc: Global,
     target: Target,
     debuggee: Considered,
     reason: Reason,
+    mut events: Vec<EventBody>,
 ) -> Result<Reply, AllocError>
-    ensures { IfOk result (HasStopped target debuggee reason) }
+    ensures { IfOk result (HasStopped target debuggee reason events.items) }
 {
-    let events = vec![in alloc; EventBody::Stopped(stop_reason(reason))]?;
+    events.push(EventBody::Stopped(stop_reason(reason)))?;
     Ok(Reply {
         result: Ok(Body::None),
         effect: Effect {
@@ -119,15 +125,31 @@ fn first_mode(target: &Target) -> Mode
     }
 }
 
+// The logs of a debuggee, as events.
+fn logged(alloc: Global, debuggee: &Considered, logs: &Logs) -> Result<Vec<EventBody>, AllocError>
+    ensures { IfOk result (λ events. events.items ≡ told_logs debuggee.now.breakpoints logs.now) }
+{
+    let mut events = Vec::new(alloc);
+    push_logs(
+        alloc,
+        debuggee.debuggee().plan(),
+        logs.as_slice(),
+        &mut events,
+    )?;
+    Ok(events)
+}
+
 // Considers position 0: the program stops there, or its first run begins.
 fn enter(alloc: Global, target: Target, unstarted: Unstarted) -> Result<Reply, AllocError>
     ensures { IfOk result (Replies command_is.ConfigurationDone (phase_is.Configuring target unstarted)) }
 {
     reading_laws();
-    let (reason, debuggee) = unstarted.consider(first_mode(&target));
+    let mut logs = Logs::new(alloc)?;
+    let (reason, debuggee) = unstarted.consider(first_mode(&target), &mut logs);
+    let events = logged(alloc, &debuggee, &logs)?;
     match reason {
-        Some(reason) => stop(alloc, target, debuggee, reason),
-        None => go(alloc, target, debuggee, Mode::Continue, Body::None),
+        Some(reason) => stop(target, debuggee, reason, events),
+        None => go(target, debuggee, Mode::Continue, Body::None, events),
     }
 }
 
@@ -178,7 +200,7 @@ fn go_on(
         return Ok(refuse(alloc, phase, Refusal::UnknownThread));
     }
     let mode = pace.mode(debuggee.debuggee().machine().depth());
-    go(alloc, target, debuggee, mode, pace.body())
+    go(target, debuggee, mode, pace.body(), Vec::new(alloc))
 }
 
 // Ends the program from a fault, whatever was asked for.

@@ -1,4 +1,4 @@
--- What a session sent that gave up is a beginning of what its events give.
+-- What a session sent is a prefix of what the history gives that it reached.
 use Rattle.std.proofs.Common.{◌≡◌, ◌⊎◌, inl, inr, ℕ, suc, ◌+◌, ◌≤◌, ◌<◌, ◌^◌, List, [], ◌∷◌, ◌++◌, length, Option, None, Some, Result, Ok, Err, refl, sym, ◌∙◌, ap, subst, append_assoc, append-nil, length-append, arith, lit≤}
 use Rattle.std.proofs.lemmas.Grind.{flat_map-append}
 use Rattle.dap_msg.specs.declared.outgoing.Outgoing.{Outgoing}
@@ -13,7 +13,8 @@ use Rattle.dap_history.specs.declared.fault.SessionFault.{SessionFault}
 use Rattle.dap_history.specs.declared.fault.SessionFault.TheVariants.{Frame, NoMemory, SeqExhausted, OrdersFull, RunnerGone, WriterGone}
 use Rattle.dap_history.specs.History.{Item, Content, Loaded, Accepted, InputEnd, ReadFailure, MemoryFailure, History, messages, messages_of, orders_of, next_seq}
 use Rattle.dap_history.specs.Emission.{IsAfter}
-use Rattle.dap_history.specs.Events.{Incoming, Piece, End, ReadFailed, File, Report, Rest, only_bytes, IsTaking, Takes, none, one_more, Rests, closed, open_ended, faulty, waits, TakesAll, MayTake, LeadsByPiece, LeadsByFile, LeadsByReport, Leads, LeadsAll, IsHistoryOf}
+use Rattle.dap_history.specs.ReadingLaws.{ReadingsGoOn}
+use Rattle.dap_history.specs.Events.{Incoming, Piece, End, ReadFailed, File, Report, Rest, only_bytes, IsTaking, AreLawful, Takes, none, one_more, Rests, closed, open_ended, faulty, waits, TakesAll, MayTake, LeadsByPiece, LeadsByFile, LeadsByReport, Leads, LeadsAll, IsHistoryOf}
 use Rattle.dap_history.specs.Events.{NoMemory as NoMemoryCame}
 use Rattle.dap_history.specs.Laws.{HistoryIsOne}
 use Rattle.dap_history.specs.Interleaving.{Load}
@@ -24,8 +25,10 @@ use Rattle.dap_session.specs.Ports.{Ports}
 use Rattle.dap_session.specs.Sending.{Sends, Begins, PushesSome, PutsSome, BreaksOff, TriesQuit}
 use Rattle.dap_session.specs.Taking.{TowardByPiece, LoadsToward, Toward, FailsAt}
 use Rattle.dap_session.specs.Serving.{Serves, StopsShort, Drives, closes, ends_at_fault, runs_out_of_memory, gives_up}
-use Rattle.dap_session.specs.Laws.{SendsBeginning, FaultsLeaveBeginnings}
+use Rattle.dap_session.specs.Laws.{IsOnTheWay, IsReached, FaultsLeavePrefixes}
 use Rattle.dap_session.proofs.Joining.{frames_from-append, sends_both}
+use Rattle.dap_session.proofs.Driven.{lawful_apart}
+use Rattle.dap_session.proofs.Retaken.{retaken, retaken_toward}
 
 -- ---- beginnings
 
@@ -272,18 +275,22 @@ stops_part events fault old later stops =
     broken_part fault fails.mid fails.next old fails.between stops.stopped (mid_next fault stops.past stops.rest stops.last stops.mid stops.stopped fails)
     (sends_both [] stops.past fails.mid old stops.mid fails.between stops.sent fails.sent) fails.breaks
 
--- a beginning, of fewer frames than there are seqs
-abbrev SendsFew : List Incoming → Ports → Ports → Type 0
-SendsFew events old later = (sends : SendsBeginning events old later) × (length sends.frames < 2 ^ 53)
+-- ---- the history that a session reached
 
--- the frames that were put in all
-pub record PutsFew (events : List Incoming) (old later : Ports) : Type 0 where
+-- how it was reached, and what was sent of it
+record Sent (events : List Incoming) (old stopped : Ports) : Type 0 where
+  reached : History
+  is_reached : IsReached events reached
+  part : SendsPart reached old stopped
+
+-- the frames that were put in all are those of a prefix
+pub record PutsFew (reached : History) (old later : Ports) : Type 0 where
   pub frames : List (List ℕ)
   pub frames_are : later.frames ≡ old.frames ++ frames
   pub few : length frames < 2 ^ 53
-  pub begins : (past : History) (rest : Rest) → IsHistoryOf events past rest → Begins frames (frames_from 1 (messages_of past))
+  pub begins : Begins frames (frames_from 1 (messages_of reached))
 
-module _ (once : IsReadOnce) (one : HistoryIsOne) where
+module _ (laws : ReadingsGoOn) (once : IsReadOnce) (one : HistoryIsOne) where
   -- a history of all events goes on with the last one from where the session stood
   last_leads : (events : List Incoming) (last : Incoming) (past : History) (rest : Rest) (new : History) (left : Rest) → IsHistoryOf events past rest → IsHistoryOf (events ++ last ∷ []) new left → Leads past rest last new left
   last_leads events last past rest new left here whole =
@@ -291,57 +298,96 @@ module _ (once : IsReadOnce) (one : HistoryIsOne) where
       let same = one events apart.0 past apart.1 rest apart.2 here in
       subst (λ r. Leads past r last new left) same.1 (subst (λ h. Leads h apart.1 last new left) same.0 apart.3)
 
-  stops_beginning : (events : List Incoming) (fault : SessionFault) (old later : Ports) (stops : StopsShort events fault old later) → SendsFew events old stops.stopped
-  stops_beginning events fault old later stops =
-      let fails = stops.fails in
-      let part = stops_part events fault old later stops in (
+  -- a session reached a history on the way to that of all events
+  reached_toward : (events : List Incoming) (reached : History) → AreLawful events → IsOnTheWay events reached → IsReached events reached
+  reached_toward events reached lawful way =
+      let parts = lawful_apart way.before (way.last ∷ []) (subst AreLawful way.events_are lawful) in
+      let there = retaken_toward laws way.past way.rest way.last reached parts.1 way.taking way.toward (retaken laws way.before way.past way.rest parts.0 way.history) in
+      record {
+        way = inr way;
+        begins = λ new left whole.
+            let leads = last_leads way.before way.last way.past way.rest new left way.history (subst (λ es. IsHistoryOf es new left) way.events_are whole) in
+            event_begins once way.past way.rest way.last reached new left way.taking way.toward leads;
+        taken = there.1.events;
+        rest = there.1.rest;
+        lawful = there.1.lawful;
+        history = there.1.history;
+      }
+
+  -- or that of all events
+  reached_all : (events : List Incoming) (past : History) (rest : Rest) → AreLawful events → IsHistoryOf events past rest → IsReached events past
+  reached_all events past rest lawful history = record {
+    way = inl (rest, history);
+    begins = λ new left whole. begins_same past new (one events past new rest left history whole).0;
+    taken = events;
+    rest = rest;
+    lawful = lawful;
+    history = history;
+  }
+
+  stops_sent : (events : List Incoming) (fault : SessionFault) (old later : Ports) → AreLawful events → (stops : StopsShort events fault old later) → Sent events old stops.stopped
+  stops_sent events fault old later lawful stops = record {
+    reached = stops.fails.next;
+    is_reached = reached_toward events stops.fails.next lawful (record {
+      before = stops.before;
+      last = stops.last;
+      events_are = stops.events_are;
+      past = stops.past;
+      rest = stops.rest;
+      history = stops.history;
+      taking = stops.taking;
+      toward = next_toward fault stops.past stops.rest stops.last stops.mid stops.stopped stops.fails;
+    });
+    part = stops_part events fault old later stops;
+  }
+
+  -- all was sent
+  serves_sent : (events : List Incoming) (ending : Ending) (old later : Ports) → AreLawful events → Serves events ending old later → Sent events old later
+  serves_sent events ending old later lawful serves = record {
+    reached = serves.past;
+    is_reached = reached_all events serves.past serves.rest lawful serves.history;
+    part = record {
+      frames = frames_from 1 (messages_of serves.past);
+      orders = orders_of serves.past;
+      frames_are = serves.frames_are;
+      orders_are = serves.orders_are;
+      frames_begin = begins_same _ _ refl;
+      orders_begin = begins_same _ _ refl;
+      few = few_begin _ serves.past (begins_same _ _ refl) serves.seqs_fit;
+    };
+  }
+
+  fault_sent : (fault : SessionFault) (events given : List Incoming) (loads : List Load) (old later : Ports) → AreLawful events → Drives events given loads old later (Err fault)
+      → (stopped : Ports) × Sent events old stopped × TriesQuit stopped later
+  fault_sent fault events given loads old later lawful (ends_at_fault from until) = (until.mid, serves_sent events _ old until.mid lawful until.serves, until.quit)
+  fault_sent fault events given loads old later lawful (runs_out_of_memory from short) = (short.stopped, stops_sent events NoMemory old later lawful short, short.quit)
+  fault_sent fault events given loads old later lawful (gives_up cannot from short) = (short.stopped, stops_sent events fault old later lawful short, short.quit)
+
+  pub faults_leave_prefixes : FaultsLeavePrefixes
+  faults_leave_prefixes fault given_before given_after loaded_before loaded_after old later driven =
+      let left = fault_sent fault driven.events driven.given driven.loads old later driven.lawful driven.drives in
+      let part = left.1.part in (
+        left.1.reached,
+        left.1.is_reached,
+        left.0,
         record {
           frames = part.frames;
           orders = part.orders;
           frames_are = part.frames_are;
           orders_are = part.orders_are;
-          begins = λ new left whole.
-              let leads = last_leads stops.before stops.last stops.past stops.rest new left stops.history (subst (λ es. IsHistoryOf es new left) stops.events_are whole) in
-              let is = event_begins once stops.past stops.rest stops.last fails.next new left stops.taking (next_toward fault stops.past stops.rest stops.last stops.mid stops.stopped fails) leads in
-              (begins_both part.frames _ _ part.frames_begin (frames_begin fails.next new is), begins_both part.orders _ _ part.orders_begin (orders_begin fails.next new is));
+          frames_begin = part.frames_begin;
+          orders_begin = part.orders_begin;
         },
-        part.few,
+        left.2,
       )
 
-  -- all was sent
-  serves_beginning : (events : List Incoming) (ending : Ending) (old later : Ports) → Serves events ending old later → SendsFew events old later
-  serves_beginning events ending old later serves = (
-    record {
-      frames = frames_from 1 (messages_of serves.past);
-      orders = orders_of serves.past;
-      frames_are = serves.frames_are;
-      orders_are = serves.orders_are;
-      begins = λ new left whole.
-          let same = (one events serves.past new serves.rest left serves.history whole).0 in
-          (begins_same _ _ (ap (λ h. frames_from 1 (messages_of h)) same), begins_same _ _ (ap orders_of same));
-    },
-    few_begin _ serves.past (begins_same _ _ refl) serves.seqs_fit,
-  )
+  -- what is put in the end is what was put then
+  puts_few : (events : List Incoming) (old stopped later : Ports) → later.frames ≡ stopped.frames → Sent events old stopped → (reached : History) × IsReached events reached × PutsFew reached old later
+  puts_few events old stopped later same sent =
+      (sent.reached, sent.is_reached, record { frames = sent.part.frames; frames_are = same ∙ sent.part.frames_are; few = sent.part.few; begins = sent.part.frames_begin })
 
-  faults_beginning : (fault : SessionFault) (events given : List Incoming) (loads : List Load) (old later : Ports) → Drives events given loads old later (Err fault)
-      → (stopped : Ports) × SendsFew events old stopped × TriesQuit stopped later
-  faults_beginning fault events given loads old later (ends_at_fault from until) = (until.mid, serves_beginning events _ old until.mid until.serves, until.quit)
-  faults_beginning fault events given loads old later (runs_out_of_memory from short) = (short.stopped, stops_beginning events NoMemory old later short, short.quit)
-  faults_beginning fault events given loads old later (gives_up cannot from short) = (short.stopped, stops_beginning events fault old later short, short.quit)
-
-  pub faults_leave_beginnings : FaultsLeaveBeginnings
-  faults_leave_beginnings fault given_before given_after loaded_before loaded_after old later driven =
-      let left = faults_beginning fault driven.events driven.given driven.loads old later driven.drives in (left.0, left.1.0, left.2)
-
-  puts_few : (events : List Incoming) (old stopped later : Ports) → later.frames ≡ stopped.frames → SendsFew events old stopped → PutsFew events old later
-  puts_few events old stopped later same sends = record {
-    frames = sends.0.frames;
-    frames_are = same ∙ sends.0.frames_are;
-    few = sends.1;
-    begins = λ past rest history. (sends.0.begins past rest history).0;
-  }
-
-  pub drives_few : (result : Result Closed SessionFault) (events given : List Incoming) (loads : List Load) (old later : Ports) → Drives events given loads old later result → PutsFew events old later
-  drives_few (Ok by) events given loads old later (closes from serves) = puts_few events old later later refl (serves_beginning events (ending.Closed by) old later serves)
-  drives_few (Err fault) events given loads old later drives =
-      let left = faults_beginning fault events given loads old later drives in puts_few events old left.0 later left.2.frames_are left.1
+  pub drives_few : (result : Result Closed SessionFault) (events given : List Incoming) (loads : List Load) (old later : Ports) → AreLawful events → Drives events given loads old later result
+      → (reached : History) × IsReached events reached × PutsFew reached old later
+  drives_few (Ok by) events given loads old later lawful (closes from serves) = puts_few events old later later refl (serves_sent events (ending.Closed by) old later lawful serves)
+  drives_few (Err fault) events given loads old later lawful drives =
+      let left = fault_sent fault events given loads old later lawful drives in puts_few events old left.0 later left.2.frames_are left.1

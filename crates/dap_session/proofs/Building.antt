@@ -1,6 +1,6 @@
 -- Frames that were added one after another.
-use Rattle.std.proofs.Common.{◌≡◌, ℕ, ◌+◌, ◌<◌, List, [], ◌∷◌, ◌++◌, length, map, take, get_or, refl, sym, ◌∙◌, ap, arith, subst, append_assoc, append-nil, length-append, Vec, Global}
-use Rattle.std.proofs.lemmas.List.{map_more, map-append}
+use Rattle.std.proofs.Common.{◌≡◌, ℕ, ◌+◌, List, [], ◌∷◌, ◌++◌, length, map, refl, sym, ◌∙◌, ap, arith, subst, append_assoc, append-nil, length-append, Vec, Global}
+use Rattle.std.proofs.lemmas.List.{map-append}
 use Rattle.dap_msg.specs.declared.outgoing.Outgoing.{Outgoing}
 use Rattle.dap_msg.specs.declared.outgoing.Outgoing.TheVariants.{Event}
 use Rattle.dap_msg.specs.declared.outgoing.EventBody.{EventBody}
@@ -27,12 +27,10 @@ adds_both xs ys a b c first then_ =
       seq_fits = λ fits. then_.seq_fits (first.seq_fits fits);
     }
 
--- one more of some events
-pub adds_event : (events : List EventBody) (i : ℕ) (event : EventBody) (a b c : Built) → i < length events
-    → AddsFrames (map Event (take i events)) a b → AddsFrames (Event (get_or events i event) ∷ []) b c → AddsFrames (map Event (take (i + 1) events)) a c
-adds_event events i event a b c lt first then_ =
-    subst (λ ms. AddsFrames ms a c) (sym (map_more Event events i event lt))
-    (adds_both (map Event (take i events)) (Event (get_or events i event) ∷ []) a b c first then_)
+-- one more event
+pub adds_event : (done : List EventBody) (event : EventBody) (a b c : Built) → AddsFrames (map Event done) a b → AddsFrames (Event event ∷ []) b c → AddsFrames (map Event (done ++ event ∷ [])) a c
+adds_event done event a b c first then_ =
+    subst (λ ms. AddsFrames ms a c) (sym (map-append Event done (event ∷ []))) (adds_both (map Event done) (Event event ∷ []) a b c first then_)
 
 -- frames that were put before one that was refused
 pub begins_all : (put : List (Vec ℕ Global)) (frame : Vec ℕ Global) (rest all : List (Vec ℕ Global)) → put ++ frame ∷ rest ≡ all → Begins (plain_frames put ++ frame.items ∷ []) (plain_frames all)

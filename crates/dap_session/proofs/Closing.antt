@@ -1,5 +1,5 @@
 -- How a session closes where its input does.
-use Rattle.std.proofs.Common.{◌≡◌, inl, inr, [], ◌∷◌, ◌++◌, None, Some, Result, Ok, Err, refl, sym, ◌∙◌, append-nil, arith}
+use Rattle.std.proofs.Common.{◌≡◌, inl, inr, [], ◌∷◌, ◌++◌, None, Some, Result, Ok, Err, refl, sym, ◌∙◌, subst, append-nil, arith}
 use Rattle.std.specs.Prelude.{OnOk}
 use Rattle.dbg_runner.specs.Plain.{Quit}
 use Rattle.dap_history.specs.declared.ending.Closed.{Closed}
@@ -12,9 +12,10 @@ use Rattle.dap_history.specs.Replies.{ordering}
 use Rattle.dap_history.specs.Emission.{IsAfter}
 use Rattle.dap_history.specs.Events.{Incoming, Rest, IsTaking, Leads}
 use Rattle.dap_session.specs.Ports.{Written, Ordered, ports}
+use Rattle.dap_session.specs.Building.{IsNotPushed}
 use Rattle.dap_session.specs.State.{State}
 use Rattle.dap_session.specs.Taking.{Toward}
-use Rattle.dap_session.specs.Handling.{PushesQuit, Handles}
+use Rattle.dap_session.specs.Handling.{PushesQuit, NeededNoMemory, Handles}
 use Rattle.dap_session.proofs.Building.{adds_step, breaks_at_push}
 use Rattle.dap_session.proofs.Items.{ending_after, refuses_none}
 use Rattle.dap_session.proofs.Joining.{sends_nothing}
@@ -29,6 +30,11 @@ pub record EndsInput (past : History) (rest : Rest) (event : Incoming) (item : I
   pub here : Toward past rest event past
   pub toward : (new : History) → IsAfter past item new → Toward past rest event new
   pub leads : (new : History) → IsAfter past item new → Leads past rest event new rest
+
+-- closing fails by the port alone
+pub close_needs_none : (result : Result (Unit {0}) SessionFault) (closed : Closed) (last : State) (old later : Ordered) → PushesQuit result old later → OnOk result (last.ending ≡ Some (ending.Closed closed)) → NeededNoMemory result last
+close_needs_none (Ok u) closed last old later quits ended = λ open_. absurd (let e = sym ended ∙ open_ in cc)
+close_needs_none (Err fault) closed last old later quits ended = λ lost. subst (λ f. IsNotPushed f old later) lost quits
 
 pub closes : ReadingsGoOn → (result : Result (Unit {0}) SessionFault) (past : History) (rest : Rest) (event : Incoming) (item : Item) (closed : Closed) (last : State) (out : Written) (old later : Ordered) → IsTaking past
     → EndsInput past rest event item closed → IsAfter past item (past ++ closing_step item ∷ []) → PushesQuit result old later → OnOk result (last.ending ≡ Some (ending.Closed closed))

@@ -1,5 +1,5 @@
 -- A session that is driven.
-use Rattle.std.proofs.Common.{◌≡◌, ◌⊎◌, inl, inr, ℕ, List, [], ◌∷◌, ◌++◌, Option, None, Some, option_map, Result, Ok, Err, refl, sym, ◌∙◌, ap, subst, append_assoc, append-nil, lit≤}
+use Rattle.std.proofs.Common.{◌≡◌, ◌≢◌, ◌⊎◌, inl, inr, ℕ, List, [], ◌∷◌, ◌++◌, Option, None, Some, option_map, Result, Ok, Err, refl, sym, ◌∙◌, ap, subst, append_assoc, append-nil, lit≤}
 use Rattle.std.specs.Prelude.{string_bytes}
 use Rattle.dap_history.specs.declared.ending.Closed.{Closed}
 use Rattle.dap_history.specs.declared.ending.Ending.{Ending}
@@ -14,6 +14,7 @@ use Rattle.dap_history.specs.Readings.{ending_of}
 use Rattle.dap_history.specs.Events.{Incoming, Piece, End, ReadFailed, File, Report, Rest, IsTaking, AreLawful, IsHistoryOf}
 use Rattle.dap_history.specs.Events.{NoMemory as NoMemoryCame}
 use Rattle.dap_history.specs.Output.{frames_from}
+use Rattle.dap_history.specs.Reports.{Accepts}
 use Rattle.dap_history.specs.Interleaving.{Load, Awaits, AwaitsNone, Interleaves}
 use Rattle.dap_phase.specs.declared.phase.Phase.{Phase}
 use Rattle.dap_phase.specs.Phases.{launch_of}
@@ -22,9 +23,10 @@ use Rattle.dap_session.specs.declared.want.Want.TheVariants as want_is
 use Rattle.dap_session.specs.Ports.{Ports, load_of}
 use Rattle.dap_session.specs.Sending.{Sends, RefusesNothing, TriesQuit}
 use Rattle.dap_session.specs.State.{State, StandsFor, Wants, WantsHere, IsOpenEnded}
-use Rattle.dap_session.specs.Taking.{LacksMemory, FailsAt, Comes}
+use Rattle.dap_session.specs.Taking.{LacksMemory, Expects, NeedsNoMemory, FailsAt, Comes}
 use Rattle.dap_session.specs.Serving.{Serves, StopsShort, no_seq_is_left, orders_are_full, runner_is_gone, writer_is_gone, Drives, closes, ends_at_fault, runs_out_of_memory, gives_up, Driven}
 use Rattle.dap_session.specs.Coming.{Sources, stored, ComesFrom}
+use Rattle.dap_session.proofs.Reports.{accepts_expected}
 use Rattle.dap_session.proofs.Joining.{sends_both, refuses_both, sends_nothing}
 
 -- ---- interleavings, one after another
@@ -53,7 +55,7 @@ interleaves_both before (e ∷ xs) ys given more loads rest (inr first) next =
           (subst (λ b. Interleaves b ys more rest) (sym (append_assoc before (e ∷ []) xs)) next),
     )
 
-lawful_both : (xs ys : List Incoming) → AreLawful xs → AreLawful ys → AreLawful (xs ++ ys)
+pub lawful_both : (xs ys : List Incoming) → AreLawful xs → AreLawful ys → AreLawful (xs ++ ys)
 lawful_both [] ys first next = next
 lawful_both (Report r ∷ xs) ys first next = (first.0, lawful_both xs ys first.1 next)
 lawful_both (Piece p ∷ xs) ys first next = lawful_both xs ys first next
@@ -61,6 +63,15 @@ lawful_both (End ∷ xs) ys first next = lawful_both xs ys first next
 lawful_both (ReadFailed ∷ xs) ys first next = lawful_both xs ys first next
 lawful_both (NoMemoryCame ∷ xs) ys first next = lawful_both xs ys first next
 lawful_both (File f ∷ xs) ys first next = lawful_both xs ys first next
+
+pub lawful_apart : (xs ys : List Incoming) → AreLawful (xs ++ ys) → AreLawful xs × AreLawful ys
+lawful_apart [] ys both = (tt, both)
+lawful_apart (Report r ∷ xs) ys both = let apart = lawful_apart xs ys both.1 in ((both.0, apart.0), apart.1)
+lawful_apart (Piece p ∷ xs) ys both = lawful_apart xs ys both
+lawful_apart (End ∷ xs) ys both = lawful_apart xs ys both
+lawful_apart (ReadFailed ∷ xs) ys both = lawful_apart xs ys both
+lawful_apart (NoMemoryCame ∷ xs) ys both = lawful_apart xs ys both
+lawful_apart (File f ∷ xs) ys both = lawful_apart xs ys both
 
 -- ---- a session on its way
 
@@ -191,6 +202,25 @@ goes_on want session (Some (ending.Fault fault)) is wants not = absurd wants
 pub record Next (session : State) (result : Result Want SessionFault) (event : Incoming) (after : State) (mid later : Ports) : Type 0 where
   pub comes : (events : List Incoming) (past : History) (stands : StandsFor session events past) → Comes result events past stands.rest event after mid later
   pub no_memory : LacksMemory event (launch_of session.phase) → result ≡ Err faults.NoMemory
+  pub enough : NeedsNoMemory (launch_of session.phase) (Expects session.phase) event → result ≢ Err faults.NoMemory
+
+-- what the history says of an event that needs no memory, the session says too
+needs_none : (session : State) (events : List Incoming) (past : History) (stands : StandsFor session events past) → session.ending ≡ None → (event : Incoming)
+    → NeedsNoMemory stands.rest.launch (Accepts past) event → NeedsNoMemory (launch_of session.phase) (Expects session.phase) event
+needs_none session events past stands open_ End needs = tt
+needs_none session events past stands open_ ReadFailed needs = tt
+needs_none session events past stands open_ (File answer) needs = (stands.goes_on (sym stands.ending_is ∙ open_)).launch_is ∙ needs
+needs_none session events past stands open_ (Report r) needs =
+    let on = stands.goes_on (sym stands.ending_is ∙ open_) in
+    (on.launch_is ∙ needs.0, λ expects. needs.1 (accepts_expected session.phase past r on.knows.phase_is expects))
+needs_none session events past stands open_ (Piece piece) needs = absurd needs
+needs_none session events past stands open_ NoMemoryCame needs = absurd needs
+
+-- where the session ran out of memory, the event needs some
+needs_some : (session after : State) (fault : SessionFault) (event : Incoming) (mid later : Ports) (events : List Incoming) (past : History) (stands : StandsFor session events past) → session.ending ≡ None → Next session (Err fault) event after mid later
+    → fault ≡ faults.NoMemory → ¬ NeedsNoMemory stands.rest.launch (Accepts past) event
+needs_some session after fault event mid later events past stands open_ step lost needs =
+    step.enough (needs_none session events past stands open_ event needs) (ap Err lost)
 
 -- the event that comes says that there is no memory only where a launch waits
 lacking : (session : State) (wanted : Option (List ℕ)) (launch : Option Launch) (event : Incoming) (now next : Sources) → wanted ≡ option_map (λ l. l.arguments.program) launch
@@ -246,9 +276,9 @@ serves events past rest by old later history is sent sure = record {
 }
 
 stops_short : (events : List Incoming) (past : History) (rest : Rest) (event : Incoming) (old mid later last : Ports) (fault : SessionFault)
-    → IsHistoryOf events past rest → IsTaking past → Sends [] past old mid → RefusesNothing old mid → FailsAt fault past rest event mid later → TriesQuit later last
+    → IsHistoryOf events past rest → IsTaking past → (fault ≡ faults.NoMemory → ¬ NeedsNoMemory rest.launch (Accepts past) event) → Sends [] past old mid → RefusesNothing old mid → FailsAt fault past rest event mid later → TriesQuit later last
     → StopsShort (events ++ event ∷ []) fault old last
-stops_short events past rest event old mid later last fault history taking sent sure fails quit = record {
+stops_short events past rest event old mid later last fault history taking needs sent sure fails quit = record {
   before = events;
   last = event;
   events_are = refl;
@@ -256,6 +286,7 @@ stops_short events past rest event old mid later last fault history taking sent 
   rest = rest;
   history = history;
   taking = taking;
+  needs = needs;
   mid = mid;
   sent = sent;
   refuses_nothing = sure;
@@ -266,25 +297,25 @@ stops_short events past rest event old mid later last fault history taking sent 
 
 -- the result is as the way and its last event lead to
 ends : (events : List Incoming) (past : History) (rest : Rest) (event : Incoming) (after : State) (old mid later last : Ports) (given : List Incoming) (loads : List Load) (fault : SessionFault)
-    → IsHistoryOf events past rest → IsTaking past → Sends [] past old mid → RefusesNothing old mid → TriesQuit later last
+    → IsHistoryOf events past rest → IsTaking past → (fault ≡ faults.NoMemory → ¬ NeedsNoMemory rest.launch (Accepts past) event) → Sends [] past old mid → RefusesNothing old mid → TriesQuit later last
     → Comes (Err fault) events past rest event after mid later → Interleaves [] (events ++ event ∷ []) given loads
     → Drives (events ++ event ∷ []) given loads old last (Err fault)
-ends events past rest event after old mid later last given loads (faults.Frame k) history taking sent sure quit comes from =
+ends events past rest event after old mid later last given loads (faults.Frame k) history taking needs sent sure quit comes from =
     ends_at_fault from (record {
       mid = later;
       serves = serves (events ++ event ∷ []) comes.new comes.rest (ending.Fault (faults.Frame k)) old later comes.history comes.ending_is (sends_both [] past comes.new old mid later sent comes.sends) (refuses_both old mid later sure comes.refuses_nothing);
       quit = quit;
     })
-ends events past rest event after old mid later last given loads faults.NoMemory history taking sent sure quit comes from =
-    runs_out_of_memory (inl from) (stops_short events past rest event old mid later last faults.NoMemory history taking sent sure comes quit)
-ends events past rest event after old mid later last given loads faults.SeqExhausted history taking sent sure quit comes from =
-    gives_up no_seq_is_left from (stops_short events past rest event old mid later last faults.SeqExhausted history taking sent sure comes quit)
-ends events past rest event after old mid later last given loads faults.OrdersFull history taking sent sure quit comes from =
-    gives_up orders_are_full from (stops_short events past rest event old mid later last faults.OrdersFull history taking sent sure comes quit)
-ends events past rest event after old mid later last given loads faults.RunnerGone history taking sent sure quit comes from =
-    gives_up runner_is_gone from (stops_short events past rest event old mid later last faults.RunnerGone history taking sent sure comes quit)
-ends events past rest event after old mid later last given loads faults.WriterGone history taking sent sure quit comes from =
-    gives_up writer_is_gone from (stops_short events past rest event old mid later last faults.WriterGone history taking sent sure comes quit)
+ends events past rest event after old mid later last given loads faults.NoMemory history taking needs sent sure quit comes from =
+    runs_out_of_memory (inl from) (stops_short events past rest event old mid later last faults.NoMemory history taking needs sent sure comes quit)
+ends events past rest event after old mid later last given loads faults.SeqExhausted history taking needs sent sure quit comes from =
+    gives_up no_seq_is_left from (stops_short events past rest event old mid later last faults.SeqExhausted history taking needs sent sure comes quit)
+ends events past rest event after old mid later last given loads faults.OrdersFull history taking needs sent sure quit comes from =
+    gives_up orders_are_full from (stops_short events past rest event old mid later last faults.OrdersFull history taking needs sent sure comes quit)
+ends events past rest event after old mid later last given loads faults.RunnerGone history taking needs sent sure quit comes from =
+    gives_up runner_is_gone from (stops_short events past rest event old mid later last faults.RunnerGone history taking needs sent sure comes quit)
+ends events past rest event after old mid later last given loads faults.WriterGone history taking needs sent sure quit comes from =
+    gives_up writer_is_gone from (stops_short events past rest event old mid later last faults.WriterGone history taking needs sent sure comes quit)
 
 -- the session was closed
 pub way_closes : (session after : State) (wanted : Option (List ℕ)) (want : Want) (event : Incoming) (begin now next : Sources) (old mid later : Ports) (by : Closed)
@@ -315,6 +346,7 @@ pub way_fails : (session after : State) (wanted : Option (List ℕ)) (fault : Se
     → TriesQuit later last
     → Driven (Err fault) begin.given next.given begin.loaded next.loaded old last
 way_fails session after wanted fault event begin now next old mid later last way from law step quit =
+    let needs = needs_some session after fault event mid later way.events way.past way.stands way.open_ended step in
     elim (adds_event session way.events way.past wanted (launch_of session.phase) event now next way.stands way.open_ended refl way.wanted_is from) [
       | inl adds ↦ record {
         events = way.events ++ event ∷ [];
@@ -323,7 +355,7 @@ way_fails session after wanted fault event begin now next old mid later last way
         given_are = adds.given_are ∙ ap (λ l. l ++ adds.given) way.given_are ∙ append_assoc begin.given way.given adds.given;
         loads_are = adds.loads_are ∙ ap (λ l. l ++ adds.loads) way.loads_are ∙ append_assoc begin.loaded way.loads adds.loads;
         lawful = lawful_both way.events (event ∷ []) way.lawful law;
-        drives = ends way.events way.past way.stands.rest event after old mid later last (way.given ++ adds.given) (way.loads ++ adds.loads) fault way.stands.history (sym way.stands.ending_is ∙ way.open_ended) way.sent way.sure quit
+        drives = ends way.events way.past way.stands.rest event after old mid later last (way.given ++ adds.given) (way.loads ++ adds.loads) fault way.stands.history (sym way.stands.ending_is ∙ way.open_ended) needs way.sent way.sure quit
             (step.comes way.events way.past way.stands)
             (interleaves_both [] way.events (event ∷ []) way.given adds.given way.loads adds.loads way.interleaves adds.one);
       }
@@ -338,7 +370,7 @@ way_fails session after wanted fault event begin now next old mid later last way
             lawful = lawful_both way.events (event ∷ []) way.lawful law;
             drives = subst (λ f. Drives (way.events ++ event ∷ []) way.given way.loads old last (Err f)) (sym same) (runs_out_of_memory
                 (inr (record { before = way.events; path = none.path; events_are = ap (λ x. way.events ++ x ∷ []) none.event_is; awaited = none.awaited; interleaves = way.interleaves }))
-                (stops_short way.events way.past way.stands.rest event old mid later last faults.NoMemory way.stands.history (sym way.stands.ending_is ∙ way.open_ended) way.sent way.sure
+                (stops_short way.events way.past way.stands.rest event old mid later last faults.NoMemory way.stands.history (sym way.stands.ending_is ∙ way.open_ended) (λ _. needs same) way.sent way.sure
                 (subst (λ f. Comes (Err f) way.events way.past way.stands.rest event after mid later) same (step.comes way.events way.past way.stands)) quit));
           }
     ]

@@ -10,5 +10,6 @@ pub mod Closing
 pub mod Files
 pub mod Standing
 pub mod Driven
+pub mod Retaken
 pub mod Beginnings
 pub mod Numbering

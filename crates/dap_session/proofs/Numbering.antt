@@ -10,6 +10,7 @@ use Rattle.dap_history.specs.History.{History, messages_of}
 use Rattle.dap_history.specs.Events.{Incoming, Rest, IsHistoryOf}
 use Rattle.dap_history.specs.Laws.{HistoryIsOne, SeqCountFromOne, FramesAreReadBack}
 use Rattle.dap_history.specs.Output.{frames_from}
+use Rattle.dap_history.specs.ReadingLaws.{ReadingsGoOn}
 use Rattle.dap_history.proofs.OneHistory.{IsReadOnce}
 use Rattle.dap_session.specs.Laws.{FramesAreNumbered}
 use Rattle.dap_session.proofs.Beginnings.{drives_few}
@@ -32,15 +33,20 @@ module _ (count : SeqCountFromOne) (back : FramesAreReadBack) where
       let read = back events past rest history n there.0 there.1 small in
       (there.0, read.0, there.1, same_Some frame (frame_of read.0) (sym is ∙ read.1), read.2)
 
-  pub frames_are_numbered : IsReadOnce → HistoryIsOne → FramesAreNumbered
-  frames_are_numbered once one result given_before given_after loaded_before loaded_after old later driven =
-      let puts = drives_few once one result driven.events driven.given driven.loads old later driven.drives in record {
-        frames = puts.frames;
-        frames_are = puts.frames_are;
-        few = puts.few;
-        read = λ past rest history n frame is.
-            let begins = puts.begins past rest history in
-            let whole = subst (λ fs. slice_get fs n ≡ Some frame) begins.1 (get_begins puts.frames begins.0 n frame is) in
-            let within = slice_get_within puts.frames n frame is in
-            reads_nth driven.events past rest history n frame whole (omega (arith, within, puts.few));
-      }
+  pub frames_are_numbered : ReadingsGoOn → IsReadOnce → HistoryIsOne → FramesAreNumbered
+  frames_are_numbered laws once one result given_before given_after loaded_before loaded_after old later driven =
+      let sent = drives_few laws once one result driven.events driven.given driven.loads old later driven.lawful driven.drives in
+      let reached = sent.1 in
+      let puts = sent.2 in (
+        sent.0,
+        reached,
+        record {
+          frames = puts.frames;
+          frames_are = puts.frames_are;
+          few = puts.few;
+          read = λ n frame is.
+              let whole = subst (λ fs. slice_get fs n ≡ Some frame) puts.begins.1 (get_begins puts.frames puts.begins.0 n frame is) in
+              let within = slice_get_within puts.frames n frame is in
+              reads_nth reached.taken sent.0 reached.rest reached.history n frame whole (omega (arith, within, puts.few));
+        },
+      )

@@ -15,8 +15,8 @@ use Rattle.dap_phase.specs.Runs.{Ordered, heading_in}
 use Rattle.dap_phase.specs.Phases.{launch_of, IsPhase}
 use Rattle.dap_session.specs.Ports.{Ports}
 use Rattle.dap_session.specs.State.{State, GoesOn}
-use Rattle.dap_session.specs.Taking.{Toward}
-use Rattle.dap_session.specs.Handling.{HandlesItem, Handles, Expects}
+use Rattle.dap_session.specs.Taking.{Expects, Toward}
+use Rattle.dap_session.specs.Handling.{HandlesItem, Handles}
 use Rattle.dap_session.proofs.Going.{stops_at_item, arrives_at_once}
 
 -- only a report of a failed allocation ends the session
@@ -66,6 +66,17 @@ accepts_report past t run r is expected =
       run_is = is.keeps.1.ordered;
       expected = expected ∙ sym (heading_is past t run is is.keeps.1.first is.keeps.1.ordered);
     }
+
+-- what the phase expects, the history accepts
+pub accepts_expected : (p : Phase) (past : History) (r : PlainReport) → IsPhase p past → Expects p r → Accepts past r
+accepts_expected (phase.Running t run) past r is expected = accepts_report past t run r is expected
+accepts_expected phase.Fresh past r is expected = absurd expected
+accepts_expected (phase.Ready settings) past r is expected = absurd expected
+accepts_expected (phase.Launching settings launch) past r is expected = absurd expected
+accepts_expected (phase.Configuring t d) past r is expected = absurd expected
+accepts_expected (phase.Stopped t d) past r is expected = absurd expected
+accepts_expected (phase.Faulted t d) past r is expected = absurd expected
+accepts_expected (phase.Ended t u) past r is expected = absurd expected
 
 -- the session that had the run
 pub record HadRun (session : State) (t : Target) (run : Ordered) (r : PlainReport) : Type 0 where

@@ -1,5 +1,5 @@
 -- One event more for a session that stands for some.
-use Rattle.std.proofs.Common.{◌≡◌, ◌⊎◌, inl, inr, ℕ, List, [], ◌∷◌, ◌++◌, Option, None, Some, Result, Ok, Err, refl, sym, ◌∙◌, ap, subst}
+use Rattle.std.proofs.Common.{◌≡◌, ◌≢◌, ◌⊎◌, inl, inr, ℕ, List, [], ◌∷◌, ◌++◌, Option, None, Some, Result, Ok, Err, refl, sym, ◌∙◌, ap, subst}
 use Rattle.std.specs.Prelude.{IfOk, IfErr, String, string_bytes}
 use Rattle.std.specs.declared.alloc.Global.{Global}
 use Rattle.dap_msg.specs.declared.requests.initialize.InitializeArguments.{InitializeArguments}
@@ -36,7 +36,7 @@ leads_one_more past rest (e ∷ events) mid between event new left all leads =
 -- ---- where a session goes on after an event, only items that it takes were taken
 
 -- after an item that ends a session it takes nothing
-ended : ReadingsGoOn → (past : History) (item : Item) (ending : Ending) (new : History) → IsTaking past → closing item ≡ Some ending → IsAfter past item new → ¬ IsTaking new
+pub ended : ReadingsGoOn → (past : History) (item : Item) (ending : Ending) (new : History) → IsTaking past → closing item ≡ Some ending → IsAfter past item new → ¬ IsTaking new
 ended laws past item ending new taking closes after still =
     let e : Some ending ≡ None =
     sym closes ∙ sym (ap closing after.item_is) ∙ sym (ending_after laws past after.step taking) ∙ ap ending_of (sym after.new_is) ∙ still in
@@ -156,3 +156,9 @@ pub wants_file : (session : State) (path : String Global) (settings : Initialize
 wants_file session path settings launch open_ launching spelled =
     subst (λ ending. Wants (want_is.File path) session ending) (sym open_)
     (subst (λ p. WantsHere (want_is.File path) (launch_of p)) (sym launching) (path, refl, spelled))
+
+-- where no launch waits, nothing has to be made to ask for what comes next
+pub want_needs_none : (result : Result Want SessionFault) (session : State) → (session.ending ≡ None → launch_of session.phase ≡ None) → IfErr result (λ fault. (fault ≡ NoMemory) × (session.ending ≡ None)) → IfErr result (λ fault. launch_of session.phase ≢ None)
+    → result ≢ Err NoMemory
+want_needs_none (Ok want) session free lost waits_ = λ e. absurd cc
+want_needs_none (Err fault) session free lost waits_ = λ e. absurd (waits_ (free lost.1))

@@ -1,11 +1,11 @@
 -- What the functions leave that take an event: from the history that the session stood for, how far it came.
-use Rattle.std.specs.Prelude.{◌≡◌, ◌⊎◌, ◌++◌, ◌∷◌, [], ℕ, List, Vec, Option, None, Some, Result, Ok, Err}
+use Rattle.std.specs.Prelude.{◌≡◌, ◌≢◌, ◌⊎◌, ◌++◌, ◌∷◌, [], ℕ, List, Vec, Option, None, Some, Result, Ok, Err}
 use Rattle.std.specs.declared.alloc.Global.{Global}
 use Rattle.dap_frame.specs.declared.fault.FramingFault.{FramingFault}
 use Rattle.dap_msg.specs.declared.request.Request.{Request}
-use Rattle.dbg_runner.specs.Plain.{PlainReport, Quit, heading_of}
+use Rattle.dbg_runner.specs.Plain.{Quit}
 use Rattle.dap_history.specs.declared.fault.SessionFault.{SessionFault}
-use Rattle.dap_history.specs.declared.fault.SessionFault.TheVariants.{Frame}
+use Rattle.dap_history.specs.declared.fault.SessionFault.TheVariants.{Frame, NoMemory}
 use Rattle.dap_history.specs.declared.fault.LoadFault.{LoadFault}
 use Rattle.dap_history.specs.declared.ending.Ending.{Ending}
 use Rattle.dap_history.specs.declared.ending.Ending.TheVariants as ending
@@ -15,9 +15,6 @@ use Rattle.dap_history.specs.Readings.{situation, ending_of}
 use Rattle.dap_history.specs.Launching.{wanted_in}
 use Rattle.dap_history.specs.Emission.{IsAfter}
 use Rattle.dap_history.specs.Events.{Incoming, Rest, IsTaking, TakesAll, Leads}
-use Rattle.dap_phase.specs.declared.phase.Phase.{Phase}
-use Rattle.dap_phase.specs.declared.phase.Phase.TheVariants as phase
-use Rattle.dap_phase.specs.Runs.{heading_in}
 use Rattle.dap_phase.specs.Phases.{launch_of}
 use Rattle.dap_session.specs.Ports.{Ordered, Ports}
 use Rattle.dap_session.specs.Building.{IsNotPushed}
@@ -128,10 +125,10 @@ HandlesContents result past bytes session old later = Goes result (TakesAll past
 abbrev pub Handles : Result (Unit {0}) SessionFault → History → Rest → Incoming → State → Ports → Ports → Type 0
 Handles result past rest event session old later = Goes result (Leads past rest event) (Toward past rest event) past session old later
 
--- the report goes on with the run
-abbrev pub Expects : Phase → PlainReport → Type 0
-Expects (phase.Running t run) r = heading_of r ≡ heading_in t.runs run
-Expects _ r = ⊥
+-- No memory was needed to take the event, and none is needed to ask for the next.
+abbrev pub NeededNoMemory : Result (Unit {0}) SessionFault → State → Type 0
+NeededNoMemory (Ok u) session = session.ending ≡ None → launch_of session.phase ≡ None
+NeededNoMemory (Err fault) session = fault ≢ NoMemory
 
 -- what a file is as data
 abbrev pub plain_file : Result (Vec ℕ Global) LoadFault → Result (List ℕ) LoadFault

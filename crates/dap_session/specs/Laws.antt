@@ -1,5 +1,5 @@
 -- What holds of all that a session sends.
-use Rattle.std.specs.Prelude.{◌≡◌, ◌+◌, ◌<◌, ◌^◌, ◌++◌, ℕ, List, length, slice_get, Some, Result, Err}
+use Rattle.std.specs.Prelude.{◌≡◌, ◌⊎◌, ◌+◌, ◌<◌, ◌^◌, ◌++◌, ◌∷◌, [], ℕ, List, length, slice_get, Some, Result, Err}
 use Rattle.dap_frame.specs.Frame.{frame_of}
 use Rattle.dap_msg.specs.declared.outgoing.Outgoing.{Outgoing}
 use Rattle.dap_msg.specs.Laws.{ReadsAsMessage}
@@ -7,41 +7,64 @@ use Rattle.dbg_runner.specs.Plain.{PlainOrder}
 use Rattle.dap_history.specs.declared.ending.Closed.{Closed}
 use Rattle.dap_history.specs.declared.fault.SessionFault.{SessionFault}
 use Rattle.dap_history.specs.History.{History, messages_of, orders_of}
-use Rattle.dap_history.specs.Events.{Incoming, Rest, IsHistoryOf}
+use Rattle.dap_history.specs.Events.{Incoming, Rest, IsTaking, AreLawful, IsHistoryOf}
 use Rattle.dap_history.specs.Interleaving.{Load}
 use Rattle.dap_history.specs.Output.{frames_from}
 use Rattle.dap_session.specs.Ports.{Ports}
 use Rattle.dap_session.specs.Sending.{Begins, TriesQuit}
+use Rattle.dap_session.specs.Taking.{Toward}
 use Rattle.dap_session.specs.Serving.{Driven}
 
--- The frames and the orders that were sent are a beginning of what the events give.
-pub record SendsBeginning (events : List Incoming) (old later : Ports) : Type 0 where
+-- All events but the last were taken, and of the last one some items, perhaps none.
+pub record IsOnTheWay (events : List Incoming) (reached : History) : Type 0 where
+  pub before : List Incoming
+  pub last : Incoming
+  pub events_are : events ≡ before ++ last ∷ []
+  pub past : History
+  pub rest : Rest
+  pub history : IsHistoryOf before past rest
+  pub taking : IsTaking past
+  pub toward : Toward past rest last reached
+
+-- A session reached this history with the events: it took all of them, or gave up at the last one. A history of all of them,
+-- if there is one, begins with it. It is itself the history of some lawful events, so the laws of histories hold of it.
+pub record IsReached (events : List Incoming) (reached : History) : Type 0 where
+  pub way : ((rest : Rest) × IsHistoryOf events reached rest) ⊎ IsOnTheWay events reached
+  pub begins : (past : History) (rest : Rest) → IsHistoryOf events past rest → Begins reached past
+  pub taken : List Incoming
+  pub rest : Rest
+  pub lawful : AreLawful taken
+  pub history : IsHistoryOf taken reached rest
+
+-- The frames that were put are a prefix of those of the history's messages, and the orders pushed a prefix of its orders.
+pub record SendsPrefix (reached : History) (old later : Ports) : Type 0 where
   pub frames : List (List ℕ)
   pub orders : List PlainOrder
   pub frames_are : later.frames ≡ old.frames ++ frames
   pub orders_are : later.orders ≡ old.orders ++ orders
-  pub begins : (past : History) (rest : Rest) → IsHistoryOf events past rest
-      → Begins frames (frames_from 1 (messages_of past)) × Begins orders (orders_of past)
+  pub frames_begin : Begins frames (frames_from 1 (messages_of reached))
+  pub orders_begin : Begins orders (orders_of reached)
 
--- Whatever fault ends a session, what it sent is a beginning of what all its events give; after that a Quit was tried.
-abbrev pub FaultsLeaveBeginnings : Type 0
-FaultsLeaveBeginnings =
+-- Whatever fault ends a session, what it sent is a prefix of what the history gives that it reached; after that a Quit was
+-- tried.
+abbrev pub FaultsLeavePrefixes : Type 0
+FaultsLeavePrefixes =
     (fault : SessionFault) (given_before given_after : List Incoming) (loaded_before loaded_after : List Load) (old later : Ports)
     → (driven : Driven (Err fault) given_before given_after loaded_before loaded_after old later)
-    → (stopped : Ports) × SendsBeginning driven.events old stopped × TriesQuit stopped later
+    → (reached : History) × IsReached driven.events reached × (stopped : Ports) × SendsPrefix reached old stopped × TriesQuit stopped later
 
--- The frames that were put are fewer than 2^53. The content of the nth is read as the nth message that the events give, whose
--- seq is n.
-pub record PutsNumbered (events : List Incoming) (old later : Ports) : Type 0 where
+-- The frames that were put are fewer than 2^53. The content of the nth is read as the nth message of the history, and says
+-- that its seq is n.
+pub record PutsNumbered (reached : History) (old later : Ports) : Type 0 where
   pub frames : List (List ℕ)
   pub frames_are : later.frames ≡ old.frames ++ frames
   pub few : length frames < 2 ^ 53
-  pub read : (past : History) (rest : Rest) → IsHistoryOf events past rest
-      → (n : ℕ) (frame : List ℕ) → slice_get frames n ≡ Some frame
-      → (message : Outgoing) × (content : List ℕ) × (slice_get (messages_of past) n ≡ Some message) × (frame ≡ frame_of content) × ReadsAsMessage message (n + 1) content
+  pub read : (n : ℕ) (frame : List ℕ) → slice_get frames n ≡ Some frame
+      → (message : Outgoing) × (content : List ℕ) × (slice_get (messages_of reached) n ≡ Some message) × (frame ≡ frame_of content) × ReadsAsMessage message (n + 1) content
 
--- So it is of each session, whatever ends it: seqs count from 1, and none is 2^53 or more.
+-- However a session ends, the frames that it put are numbered so, by the history that it reached.
 abbrev pub FramesAreNumbered : Type 0
 FramesAreNumbered =
     (result : Result Closed SessionFault) (given_before given_after : List Incoming) (loaded_before loaded_after : List Load) (old later : Ports)
-    → (driven : Driven result given_before given_after loaded_before loaded_after old later) → PutsNumbered driven.events old later
+    → (driven : Driven result given_before given_after loaded_before loaded_after old later)
+    → (reached : History) × IsReached driven.events reached × PutsNumbered reached old later

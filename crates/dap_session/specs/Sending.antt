@@ -34,11 +34,11 @@ pub record RefusesNothing (old later : Ports) : Type 0 where
 
 -- ---- where a session gives up
 
--- xs is a beginning of ys
+-- xs is a prefix of ys
 abbrev pub Begins : {A : Type 0} → List A → List A → Type 0
 Begins {A} xs ys = (more : List A) × (xs ++ more ≡ ys)
 
--- The ports gained a beginning of the orders that the history did, and no frame.
+-- The ports gained a prefix of the orders that the history did, and no frame.
 pub record PushesSome (past new : History) (old later : Ports) : Type 0 where
   pub messages : List Outgoing
   pub orders : List PlainOrder
@@ -72,15 +72,19 @@ BreaksOff OrdersFull past new old later = PushesSome past new old later × (old.
 BreaksOff RunnerGone past new old later = PushesSome past new old later × (old.runner_gone < later.runner_gone)
 BreaksOff WriterGone past new old later = PutsSome past new old later
 
--- One Quit was pushed, or the port refused it.
+-- One Quit was pushed, and none refused; or the port refused it, and one count says why.
 abbrev pub HasTriedQuit : Ordered → Ordered → Type 0
 HasTriedQuit old later =
-    (later.orders ≡ old.orders ++ Quit ∷ [])
-    ⊎ ((later.orders ≡ old.orders) × ((old.fulls < later.fulls) ⊎ (old.refusals < later.refusals)))
+    ((later.orders ≡ old.orders ++ Quit ∷ []) × (later.fulls ≡ old.fulls) × (later.refusals ≡ old.refusals))
+    ⊎ ((later.orders ≡ old.orders)
+    × (((old.fulls < later.fulls) × (later.refusals ≡ old.refusals)) ⊎ ((old.refusals < later.refusals) × (later.fulls ≡ old.fulls))))
+
+-- what the port of orders did
+abbrev pub ordered_at : Ports → Ordered
+ordered_at p = record { orders = p.orders; fulls = p.orders_full; refusals = p.runner_gone }
 
 -- So it was, and nothing else was sent.
 pub record TriesQuit (old later : Ports) : Type 0 where
   pub frames_are : later.frames ≡ old.frames
   pub refused_are : later.refused ≡ old.refused
-  pub quit : (later.orders ≡ old.orders ++ Quit ∷ [])
-      ⊎ ((later.orders ≡ old.orders) × ((old.orders_full < later.orders_full) ⊎ (old.runner_gone < later.runner_gone)))
+  pub quit : HasTriedQuit (ordered_at old) (ordered_at later)

@@ -8,12 +8,13 @@ use Rattle.dap_history.specs.declared.ending.Ending.{Ending}
 use Rattle.dap_history.specs.declared.ending.Ending.TheVariants as ending
 use Rattle.dap_history.specs.History.{History, messages_of, orders_of, next_seq}
 use Rattle.dap_history.specs.Readings.{ending_of}
+use Rattle.dap_history.specs.Reports.{Accepts}
 use Rattle.dap_history.specs.Events.{Incoming, Rest, IsTaking, AreLawful, IsHistoryOf}
 use Rattle.dap_history.specs.Output.{frames_from}
 use Rattle.dap_history.specs.Interleaving.{Load, Interleaves, InterleavesUpTo}
 use Rattle.dap_session.specs.Ports.{Ports}
 use Rattle.dap_session.specs.Sending.{Sends, RefusesNothing, TriesQuit}
-use Rattle.dap_session.specs.Taking.{FailsAt}
+use Rattle.dap_session.specs.Taking.{NeedsNoMemory, FailsAt}
 
 -- The events were taken until the session ended so, and all was sent that they give: the frames of the messages with
 -- seq 1, 2, 3 and on, none of them 2^53 or more, and the orders.
@@ -33,8 +34,8 @@ pub record ServesUntilFault (events : List Incoming) (fault : FramingFault) (old
   pub serves : Serves events (ending.Fault (Frame fault)) old mid
   pub quit : TriesQuit mid later
 
--- The session, which the others hadn't ended, gave up at the last event. What the others give was sent, and a beginning of
--- what that one adds, and then a Quit was tried.
+-- The session, which the others hadn't ended, gave up at the last event. What the others give was sent, and a prefix of what
+-- that one adds, and then a Quit was tried. It ran out of memory only at an event that needs some.
 pub record StopsShort (events : List Incoming) (fault : SessionFault) (old later : Ports) : Type 0 where
   pub before : List Incoming
   pub last : Incoming
@@ -43,6 +44,7 @@ pub record StopsShort (events : List Incoming) (fault : SessionFault) (old later
   pub rest : Rest
   pub history : IsHistoryOf before past rest
   pub taking : IsTaking past
+  pub needs : fault ≡ NoMemory → ¬ NeedsNoMemory rest.launch (Accepts past) last
   pub mid : Ports
   pub sent : Sends [] past old mid
   pub refuses_nothing : RefusesNothing old mid

@@ -1,6 +1,7 @@
 -- What comes of one event that a session takes.
 use Rattle.std.specs.Prelude.{◌≡◌, ◌⊎◌, ◌++◌, ◌∷◌, [], ℕ, List, Option, Some, None, Result, Ok, Err}
 use Rattle.dap_frame.specs.declared.fault.FramingFault.{FramingFault}
+use Rattle.dbg_runner.specs.Plain.{PlainReport, heading_of}
 use Rattle.dap_history.specs.declared.fault.SessionFault.{SessionFault}
 use Rattle.dap_history.specs.declared.fault.SessionFault.TheVariants.{Frame, NoMemory, SeqExhausted, OrdersFull, RunnerGone, WriterGone}
 use Rattle.dap_history.specs.declared.fault.LoadFault.{LoadFault}
@@ -13,6 +14,9 @@ use Rattle.dap_history.specs.Reports.{Accepts}
 use Rattle.dap_history.specs.Emission.{IsAfter}
 use Rattle.dap_history.specs.Events.{Incoming, Piece, End, ReadFailed, File, Report, Rest, Takes, IsHistoryOf}
 use Rattle.dap_history.specs.Events.{NoMemory as NoMemoryCame}
+use Rattle.dap_phase.specs.declared.phase.Phase.{Phase}
+use Rattle.dap_phase.specs.declared.phase.Phase.TheVariants as phase
+use Rattle.dap_phase.specs.Runs.{heading_in}
 use Rattle.dap_session.specs.declared.want.Want.{Want}
 use Rattle.dap_session.specs.Ports.{Ports}
 use Rattle.dap_session.specs.Sending.{Sends, RefusesNothing, BreaksOff}
@@ -49,6 +53,22 @@ Toward past rest ReadFailed new = (new ≡ past) ⊎ IsAfter past ReadFailure ne
 Toward past rest NoMemoryCame new = new ≡ past
 Toward past rest (File answer) new = (new ≡ past) ⊎ LoadsToward past rest answer new
 Toward past rest (Report r) new = (new ≡ past) ⊎ (Accepts past r × IsAfter past (Accepted r) new)
+
+-- ---- memory
+
+-- the report goes on with the run
+abbrev pub Expects : Phase → PlainReport → Type 0
+Expects (phase.Running t run) r = heading_of r ≡ heading_in t.runs run
+Expects _ r = ⊥
+
+-- The event is taken without any memory: the input ended or can't be read, or nothing comes of a file or a report, since
+-- no launch waits and the report isn't accepted.
+abbrev pub NeedsNoMemory : Option Launch → (PlainReport → Type 0) → Incoming → Type 0
+NeedsNoMemory launch accepts End = Unit {0}
+NeedsNoMemory launch accepts ReadFailed = Unit {0}
+NeedsNoMemory launch accepts (File answer) = launch ≡ None
+NeedsNoMemory launch accepts (Report r) = (launch ≡ None) × (¬ accepts r)
+NeedsNoMemory launch accepts _ = ⊥
 
 -- There was no memory: for a piece, or for the file that a launch waits for.
 abbrev pub LacksMemory : Incoming → Option Launch → Type 0

@@ -22,8 +22,9 @@ use std::sync::Wait;
 ///
 /// # Errors
 ///
-/// At a framing fault all was sent that the contents before it give. At any other fault what was sent is a beginning of
-/// what the events give. Either way one order to quit is tried after that.
+/// At a framing fault all was sent that the contents before it give. At any other fault what was sent is a prefix of what
+/// the events give. Either way one order to quit is tried after that. `NoMemory` is returned only at an event that needs
+/// memory.
 pub fn drive<I: Inbox, L: Loader, O: Out, D: Orders>(
     rt: &impl Wait,
     alloc: Global,

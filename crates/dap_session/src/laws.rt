@@ -1,18 +1,19 @@
 // The laws of a session.
 
-ghost use Rattle.dap_session.specs.Laws.{FaultsLeaveBeginnings, FramesAreNumbered};
+ghost use Rattle.dap_session.specs.Laws.{FaultsLeavePrefixes, FramesAreNumbered};
 
 use dap_frame::frame_laws;
-use dap_history::history_laws;
+use dap_history::{history_laws, reading_laws};
 use dap_msg::message_laws;
 
 /// What holds of all that a session sends, as the contract of [`drive`](crate::drive) says it. It does nothing: its contract
 /// is the laws.
 pub fn session_laws()
-    ensures beginnings { FaultsLeaveBeginnings }
+    ensures prefixes { FaultsLeavePrefixes }
     ensures numbered { FramesAreNumbered }
 {
     frame_laws();
     message_laws();
     history_laws();
+    reading_laws();
 }

@@ -51,8 +51,8 @@ impl Session {
     ghost use Rattle.dap_session.specs.Incoming.{incoming_of};
     ghost use Rattle.dap_session.specs.Ports.{ports};
     ghost use Rattle.dap_session.specs.State.{StandsFor, GoesOn, IsOpenEnded, Wants, answer_of};
-    ghost use Rattle.dap_session.specs.Taking.{LacksMemory, Comes};
-    ghost use Rattle.dap_session.specs.Handling.{Handles, IsWell};
+    ghost use Rattle.dap_session.specs.Taking.{LacksMemory, Expects, NeedsNoMemory, Comes};
+    ghost use Rattle.dap_session.specs.Handling.{Handles, IsWell, NeededNoMemory};
 
     /// A session that has taken nothing. It takes no memory.
     pub fn new(alloc: Global) -> Session
@@ -81,8 +81,9 @@ impl Session {
     ///
     /// # Errors
     ///
-    /// At a framing fault all was sent that the contents before it give. At any other fault what was sent is a beginning
-    /// of what the event gives. Either way the session has given up: it sends nothing more and returns the same fault.
+    /// At a framing fault all was sent that the contents before it give. At any other fault what was sent is a prefix of
+    /// what the event gives. Either way the session has given up: it sends nothing more and returns the same fault.
+    /// `NoMemory` is returned only at an event that needs memory, and the end of the input and a failed read need none.
     pub fn take<O: Out, D: Orders>(
         &mut self,
         event: Event,
@@ -96,6 +97,8 @@ impl Session {
             (ports (O.seen out.new) (D.seen orders.new)) }
         ensures failed { IfErr result (λ fault. self.new.ending ≡ Some (ending.Fault fault)) }
         ensures no_memory { self.old.ending ≡ None → LacksMemory (incoming_of event) (launch_of self.old.phase) → result ≡ Err NoMemory }
+        // An event that needs no memory never ends in that fault.
+        ensures enough { self.old.ending ≡ None → NeedsNoMemory (launch_of self.old.phase) (Expects self.old.phase) (incoming_of event) → result ≢ Err NoMemory }
         // Once it is closed or gave up, it answers so for good, and nothing changes.
         ensures answer { (over : AnEnding) → self.old.ending ≡ Some over → result ≡ answer_of over }
         ensures quiet { self.old.ending ≢ None → ports (O.seen out.new) (D.seen orders.new) ≡ ports (O.seen out.old) (D.seen orders.old) }
@@ -128,6 +131,7 @@ impl Session {
             (ports (O.seen out.old) (D.seen orders.old))
             (ports (O.seen out.new) (D.seen orders.new)) }
         ensures no_memory { LacksMemory (incoming_of event) (launch_of self.old.phase) → result ≡ Err NoMemory }
+        ensures enough { NeedsNoMemory (launch_of self.old.phase) (Expects self.old.phase) (incoming_of event) → result ≢ Err NoMemory }
         ensures out { O.origin out.new ≡ O.origin out.old }
         ensures orders { D.origin orders.new ≡ D.origin orders.old }
     {
@@ -149,6 +153,7 @@ impl Session {
             (ports (O.seen out.old) (D.seen orders.old))
             (ports (O.seen out.new) (D.seen orders.new)) }
         ensures no_memory { LacksMemory (incoming_of event) (launch_of self.old.phase) → result ≡ Err NoMemory }
+        ensures enough { NeedsNoMemory (launch_of self.old.phase) (Expects self.old.phase) (incoming_of event) → NeededNoMemory result self.new }
         ensures well { OnOk result (IsWell self.new.ending) }
         ensures out { O.origin out.new ≡ O.origin out.old }
         ensures orders { D.origin orders.new ≡ D.origin orders.old }
@@ -169,6 +174,7 @@ impl Session {
         requires { IsWell self.now.ending }
         ensures ok { IfOk result (λ want. Wants want self.now self.now.ending) }
         ensures err { IfErr result (λ fault. (fault ≡ NoMemory) × (self.now.ending ≡ None)) }
+        ensures waits { IfErr result (λ fault. launch_of self.now.phase ≢ None) }
     {
         if self.ending.is_some() {
             return Ok(Want::Closed);

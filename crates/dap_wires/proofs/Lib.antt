@@ -1,4 +1,5 @@
 pub mod Delivered
+pub mod Filling
 pub mod Growing
 pub mod ReadSoFar
 pub mod FromSource

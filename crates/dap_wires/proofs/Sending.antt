@@ -113,6 +113,10 @@ frames_end xs = frames_append xs (parcel.End ∷ []) ∙ append-nil (frames_in x
 pub parcels_begin : (put taken inside : List Parcel) → put ≡ of_first (λ _. false) (taken ++ inside) → Begins taken put
 parcels_begin put taken inside is = (inside, sym (is ∙ all_first (taken ++ inside)))
 
+-- Nothing was refused.
+pub none_mapped : {A B : Type 0} (f : A → B) (xs : List A) → xs ≡ [] → map f xs ≡ []
+none_mapped f xs none = ap (map f) none
+
 -- The end was put, or handed back.
 module _ {A B : Type 0} where
   pub finish_ends : (answer : Result A B) (old new : EndLog Parcel) → OnOk answer (new ≡ put (λ _. false) old parcel.End) → OnErr answer (new ≡ old)

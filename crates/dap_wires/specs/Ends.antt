@@ -1,8 +1,10 @@
 -- What clauses say of the ends of a queue.
+use Rattle.std.specs.Prelude.{ℕ}
 use Rattle.atomic_table.specs.declared.badge.Badge.{Badge}
 use Rattle.atomic_table.specs.Seated.{TableId}
 use Rattle.crossbeam_channel.specs.declared.flavors.array.Key.{Key}
 use Rattle.crossbeam_channel.specs.Claims.{view}
+use Rattle.crossbeam_channel.specs.Ends.{sends_on, receives_on, ruled_capacity}
 use Rattle.dap_wires.specs.declared.end_log.EndLog.{EndLog}
 use Rattle.dap_wires.specs.declared.ends.SendEnd.{SendEnd}
 use Rattle.dap_wires.specs.declared.ends.ReceiveEnd.{ReceiveEnd}
@@ -25,6 +27,13 @@ module _ {M R : Type 0} where
 
   abbrev pub receiver_home : ReceiveEnd M R → Home M
   receiver_home e = (e.pass.table_id, e.pass.me.0.of)
+
+  -- how many messages the queue of an end has room for
+  abbrev pub sender_room : SendEnd M R → ℕ
+  sender_room e = ruled_capacity (sends_on e.sender)
+
+  abbrev pub receiver_room : ReceiveEnd M R → ℕ
+  receiver_room e = ruled_capacity (receives_on e.receiver)
 
 module _ {M : Type 0} where
   abbrev pub receipt_log : Receipt M → EndLog M

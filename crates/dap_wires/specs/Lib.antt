@@ -6,6 +6,7 @@ pub mod Senders
 pub mod Inbox
 pub mod Parcels
 pub mod Outbox
+pub mod Full
 pub mod Orders
 pub mod Reading
 pub mod Writing

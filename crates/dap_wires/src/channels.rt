@@ -2,7 +2,7 @@
 
 ghost use Rattle.std.specs.Prelude.{◌≡◌, ◌<◌, true, false, [], IfOk, IfErr, OnOk, OnErr, IfSome, IfNone, List, ◌++◌};
 ghost use Rattle.dap_wires.specs.Delivery.{log, put, took, May, of_first, of_second};
-ghost use Rattle.dap_wires.specs.Ends.{sender_log, receiver_log, receipt_log, sender_home, receiver_home, receipt_home};
+ghost use Rattle.dap_wires.specs.Ends.{sender_log, receiver_log, receipt_log, sender_home, receiver_home, receipt_home, sender_room, receiver_room};
 
 use crate::ends::{Receipt, ReceiveEnd, SendEnd};
 use crate::rule::{First, Puts, Second, Sent, Takes, Whole};
@@ -15,7 +15,7 @@ use std::sync::Wait;
 const POLLS: usize = 256;
 
 /// A queue with room for `capacity` messages: the ends of the first sender, of the second, and of the receiver.
-pub fn channel<M: Sent + Drop, R: Wait + Copy + Drop>(
+pub(crate) fn channel<M: Sent + Drop, R: Wait + Copy + Drop>(
     rt: R,
     alloc: Global,
     capacity: usize,
@@ -25,6 +25,7 @@ pub fn channel<M: Sent + Drop, R: Wait + Copy + Drop>(
     ensures second { IfOk result (λ r. sender_log r.1 ≡ log false true false [] [] []) }
     ensures receiver { IfOk result (λ r. receiver_log r.2 ≡ log false false true [] [] []) }
     ensures one { IfOk result (λ r. (sender_home r.1 ≡ sender_home r.0) × (receiver_home r.2 ≡ sender_home r.0)) }
+    ensures room { IfOk result (λ r. (sender_room r.0 ≡ capacity) × (sender_room r.1 ≡ capacity) × (receiver_room r.2 ≡ capacity)) }
 {
     let (sender, receiver, mut pass) = bounded_with(alloc, capacity)?;
     let first = sender.another::<First>(&mut pass);
@@ -46,7 +47,7 @@ pub fn channel<M: Sent + Drop, R: Wait + Copy + Drop>(
 }
 
 /// When all have ended: of each sender, what was taken and then what is left inside is what it sent.
-pub fn settle<M: Sent + Drop, R: Wait + Drop>(
+pub(crate) fn settle<M: Sent + Drop, R: Wait + Drop>(
     first: SendEnd<M, R>,
     second: SendEnd<M, R>,
     receipt: Receipt<M>,
@@ -73,12 +74,13 @@ pub fn settle<M: Sent + Drop, R: Wait + Drop>(
 
 impl<M: Sent + Drop, R: Wait + Drop> SendEnd<M, R> {
     /// Sends a message, waiting while the queue is full; or hands it back, where the receiver is gone.
-    pub fn send(&mut self, message: M) -> Result<(), M>
+    pub(crate) fn send(&mut self, message: M) -> Result<(), M>
         requires { May M.by_second (sender_log self.old) message }
         ensures sent { OnOk result (sender_log self.new ≡ put M.by_second (sender_log self.old) message) }
         ensures refused { OnErr result (sender_log self.new ≡ sender_log self.old) }
         ensures back { IfErr result (λ back. back ≡ message) }
         ensures home { sender_home self.new ≡ sender_home self.old }
+        ensures room { sender_room self.new ≡ sender_room self.old }
     {
         let SendEnd { rt, sender, pass } = self;
         match sender.send_as::<Puts, R>(rt, pass, message) {
@@ -92,11 +94,12 @@ impl<M: Sent + Drop, R: Wait + Drop> SendEnd<M, R> {
 
 impl<M: Sent + Drop, R: Wait + Drop> ReceiveEnd<M, R> {
     /// Waits for the next message, and takes it; or none, where the senders are gone or an allocation failed.
-    pub fn receive(&mut self) -> Option<M>
+    pub(crate) fn receive(&mut self) -> Option<M>
         requires { (receiver_log self.old).takes ≡ true }
         ensures some { IfSome result (λ m. receiver_log self.new ≡ took (receiver_log self.old) m) }
         ensures none { IfNone result (receiver_log self.new ≡ receiver_log self.old) }
         ensures home { receiver_home self.new ≡ receiver_home self.old }
+        ensures room { receiver_room self.new ≡ receiver_room self.old }
     {
         let ReceiveEnd { rt, receiver, pass } = self;
         // What comes within microseconds, as the next report of a run, is taken before a thread that sleeps could be woken.
@@ -110,7 +113,7 @@ impl<M: Sent + Drop, R: Wait + Drop> ReceiveEnd<M, R> {
     }
 
     /// Leaves the queue: from now on a send hands its message back.
-    pub fn leave(self) -> Receipt<M>
+    pub(crate) fn leave(self) -> Receipt<M>
         ensures log { receipt_log result ≡ receiver_log self }
         ensures home { receipt_home result ≡ receiver_home self }
     {

@@ -11,7 +11,7 @@ use std::sync::Wait;
 
 /// The end of one sender.
 #[derive(Drop)]
-pub struct SendEnd<M: Sent + Drop, R: Wait + Drop> {
+pub(crate) struct SendEnd<M: Sent + Drop, R: Wait + Drop> {
     pub(crate) rt: R,
     pub(crate) sender: RuledSender<M, EndLog<M>, InOrder>,
     pub(crate) pass: Pass<M, EndLog<M>>,
@@ -20,7 +20,7 @@ pub struct SendEnd<M: Sent + Drop, R: Wait + Drop> {
 
 /// The end of the receiver.
 #[derive(Drop)]
-pub struct ReceiveEnd<M: Sent + Drop, R: Wait + Drop> {
+pub(crate) struct ReceiveEnd<M: Sent + Drop, R: Wait + Drop> {
     pub(crate) rt: R,
     pub(crate) receiver: RuledReceiver<M, EndLog<M>, InOrder>,
     pub(crate) pass: Pass<M, EndLog<M>>,

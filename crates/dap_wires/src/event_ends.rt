@@ -1,7 +1,7 @@
 // The ends of an inbox.
 
 ghost use Rattle.std.specs.Prelude.{◌≡◌, true, false};
-ghost use Rattle.dap_wires.specs.Ends.{sender_log, receiver_log};
+ghost use Rattle.dap_wires.specs.Ends.{sender_log, receiver_log, sender_room, receiver_room};
 ghost use Rattle.dap_wires.specs.Senders.{is_report};
 
 use crate::ends::{ReceiveEnd, SendEnd};
@@ -20,6 +20,7 @@ impl Sent for Event {
 pub struct ClientSender<R: Wait + Drop> {
     pub(crate) end: SendEnd<Event, R>,
     ghost puts: { (sender_log end).first ≡ true },
+    ghost room: { sender_room end ≡ 64 },
 }
 
 /// The end of the runner, which sends reports.
@@ -28,6 +29,7 @@ pub struct ReportSender<R: Wait + Drop> {
     pub(crate) end: SendEnd<Event, R>,
     pub(crate) handed_back: History<Report>,
     ghost puts: { (sender_log end).second ≡ true },
+    ghost room: { sender_room end ≡ 64 },
 }
 
 /// The end of the session, which takes events.
@@ -36,4 +38,5 @@ pub struct EventReceiver<R: Wait + Drop> {
     pub(crate) rt: R,
     pub(crate) end: ReceiveEnd<Event, R>,
     ghost takes: { (receiver_log end).takes ≡ true },
+    ghost room: { receiver_room end ≡ 64 },
 }

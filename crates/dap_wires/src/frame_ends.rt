@@ -1,7 +1,7 @@
 // The ends of an outbox.
 
-ghost use Rattle.std.specs.Prelude.{◌≡◌, true, false};
-ghost use Rattle.dap_wires.specs.Ends.{sender_log, receiver_log};
+ghost use Rattle.std.specs.Prelude.{◌≡◌, true, false, []};
+ghost use Rattle.dap_wires.specs.Ends.{sender_log, receiver_log, sender_room, receiver_room};
 ghost use Rattle.dap_wires.specs.Parcels.{has_end};
 
 use crate::ends::{ReceiveEnd, SendEnd};
@@ -16,9 +16,13 @@ pub struct FrameSender<R: Wait + Drop> {
     // The second sender's end, which nobody uses.
     pub(crate) unused: SendEnd<Parcel, R>,
     pub(crate) refused: History<Vec<u8>>,
+    // A frame was refused.
+    pub(crate) is_gone: bool,
     ghost puts: { (sender_log end).first ≡ true },
     ghost unused_puts: { (sender_log unused).second ≡ true },
+    ghost room: { sender_room end ≡ 64 },
     ghost open: { has_end (sender_log end).put_first ≡ false },
+    ghost gone: { is_gone ≡ false → refused.entries ≡ [] },
 }
 
 /// The end of a session that puts no more.
@@ -35,4 +39,5 @@ pub struct EndedSender<R: Wait + Drop> {
 pub struct FrameReceiver<R: Wait + Drop> {
     pub(crate) end: ReceiveEnd<Parcel, R>,
     ghost takes: { (receiver_log end).takes ≡ true },
+    ghost room: { receiver_room end ≡ 64 },
 }

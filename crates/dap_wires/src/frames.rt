@@ -1,6 +1,6 @@
 // The outbox of a session: the frames that go to a writer.
 
-ghost use Rattle.std.specs.Prelude.{◌≡◌, ◌⊎◌, ◌++◌, ◌∷◌, [], true, false, ℕ, IfOk, IfSome, IfNone};
+ghost use Rattle.std.specs.Prelude.{◌≡◌, ◌≢◌, ◌⊎◌, ◌++◌, ◌∷◌, [], true, false, ℕ, IfOk, IfSome, IfNone};
 ghost use Rattle.dap_session.specs.Sending.{Begins};
 ghost use Rattle.dap_wires.specs.Ends.{receipt_log, receipt_home};
 ghost use Rattle.dap_wires.specs.Outbox.{put_frames, frame_home, unused_home, parcels_put, ended_home, ended_unused_home, parcels_taken, parcel_home, parcels_received};
@@ -37,6 +37,7 @@ pub fn outbox<R: Wait + Copy + Drop>(
             end: frames,
             unused,
             refused: History::new(),
+            is_gone: false,
         },
         FrameReceiver { end: parcels },
     ))
@@ -53,17 +54,22 @@ pub fn settle_outbox<R: Wait + Drop>(frames: EndedSender<R>, receipt: Receipt<Pa
 }
 
 impl<R: Wait + Drop> FrameSender<R> {
-    /// Puts the end after all frames. It is refused only where the writer is gone.
+    /// Puts the end after all frames, unless a frame was refused: where the end was put, every frame was put before it.
     pub fn finish(self) -> EndedSender<R>
         ensures put { (has_end (parcels_put result) ≡ false) ⊎ AreEnded (parcels_put result) }
+        ensures refused { (put_frames self).refused ≢ [] → has_end (parcels_put result) ≡ false }
         ensures frames { frames_in (parcels_put result) ≡ (put_frames self).frames }
         ensures home { (ended_home result ≡ frame_home self) × (ended_unused_home result ≡ unused_home self) }
     {
         let FrameSender {
             mut end,
             unused,
+            is_gone,
             ..
         } = self;
+        if is_gone {
+            return EndedSender { end, unused };
+        }
         let _ = end.send(Parcel::End);
         EndedSender { end, unused }
     }
@@ -85,6 +91,7 @@ impl<R: Wait + Drop> Out for FrameSender<R> {
             Ok(()) => Ok(()),
             Err(Parcel::Frame(back)) => {
                 self.refused = self.refused.and(&back);
+                self.is_gone = true;
                 Err(back)
             }
             Err(Parcel::End) => unreachable!(),

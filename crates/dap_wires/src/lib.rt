@@ -26,9 +26,8 @@ mod transfer;
 mod writing;
 
 pub use beginning::read_beginning;
-pub use channels::{channel, settle};
 pub use end_log::EndLog;
-pub use ends::{Receipt, ReceiveEnd, SendEnd};
+pub use ends::Receipt;
 pub use event_ends::{ClientSender, EventReceiver, ReportSender};
 pub use events::{inbox, settle_inbox};
 pub use frame_ends::{EndedSender, FrameReceiver, FrameSender};
@@ -37,6 +36,4 @@ pub use order_ends::{OrderReceiver, OrderSender};
 pub use order_queue::{orders, settle_orders};
 pub use parcel::Parcel;
 pub use reading::{ReadEnd, read_loop};
-pub use rule::{First, InOrder, Puts, Second, Sent, Takes, Whole};
-pub use transfer::{PIECE_LIMIT, next_event};
 pub use writing::{WriteFailed, write_loop};

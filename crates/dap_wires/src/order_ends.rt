@@ -1,8 +1,9 @@
 // The ends of a queue of orders.
 
-ghost use Rattle.std.specs.Prelude.{◌≡◌, true};
+ghost use Rattle.std.specs.Prelude.{◌≡◌, ◌≢◌, ◌≤◌, length, map, true};
 ghost use Rattle.std.specs.Arc.{arc_value};
 ghost use Rattle.crossbeam_queue.specs.Passes.{view, IsPassOf, ruled_capacity};
+ghost use Rattle.dbg_runner.specs.Orders.{plain_order};
 
 use crate::end_log::EndLog;
 use crate::rule::{InOrder, Sent};
@@ -33,6 +34,7 @@ pub struct OrderSender<R: Wait + Drop> {
     ghost seated: { IsPassOf (arc_value queue) pass },
     ghost four: { ruled_capacity (arc_value queue) ≡ 4 },
     ghost pushes: { (view pass).first ≡ true },
+    ghost full: { length fulls.entries ≢ 0 → 4 ≤ length (map plain_order (view pass).put_first) },
 }
 
 /// The end of the runner, which takes orders.

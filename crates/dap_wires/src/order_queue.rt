@@ -1,13 +1,13 @@
 // The queue of orders, with a parker at which the runner sleeps. Nothing about orders rests on the parker.
 
-ghost use Rattle.std.specs.Prelude.{◌≡◌, ◌∷◌, ◌++◌, [], List, length, map, option_map, true, IfOk, OnOk, OnErr};
+ghost use Rattle.std.specs.Prelude.{◌≡◌, ◌≢◌, ◌≤◌, ◌∷◌, ◌++◌, [], List, length, map, option_map, true, IfOk, OnOk, OnErr};
 ghost use Rattle.std.specs.Option.{option_to_list};
 ghost use Rattle.std.specs.Arc.{arc_value};
 ghost use Rattle.crossbeam_queue.specs.Passes.{view, IsPassOf, ruled_capacity};
 ghost use Rattle.dap_session.specs.Sending.{Begins};
 ghost use Rattle.dbg_runner.specs.Orders.{plain_order};
 ghost use Rattle.dbg_runner.specs.declared.order.Order.{Order};
-ghost use Rattle.dap_wires.specs.Orders.{pushed_orders, taken_orders, push_home, pop_home};
+ghost use Rattle.dap_wires.specs.Orders.{FourWereInside, pushed_orders, taken_orders, push_home, pop_home};
 
 use crate::end_log::EndLog;
 use crate::order_ends::{OrderQueue, OrderReceiver, OrderSender};
@@ -61,7 +61,8 @@ pub fn orders<R: Wait + Copy + Drop>(
 /// When both have ended: the orders that the runner took are a beginning of those that the session pushed.
 pub fn settle_orders<R: Wait + Drop>(session: OrderSender<R>, runner: OrderReceiver<R>)
     requires { pop_home runner ≡ push_home session }
-    ensures { Begins (taken_orders runner) (pushed_orders session).orders }
+    ensures taken { Begins (taken_orders runner) (pushed_orders session).orders }
+    ensures full { (pushed_orders session).fulls ≢ 0 → FourWereInside (pushed_orders session).orders }
 {
     let OrderSender {
         queue,
@@ -89,6 +90,8 @@ fn offer<R: Wait>(
     ensures pushed { OnOk result (map plain_order (view pass.new).put_first ≡ map plain_order (view pass.old).put_first ++ plain_order order ∷ []) }
     ensures refused { OnErr result (view pass.new ≡ view pass.old) }
     ensures full { OnErr result ((taken inside : List Order) × ((view pass.old).put_first ≡ taken ++ inside) × (length inside ≡ 4)) }
+    ensures many { OnErr result (4 ≤ length (map plain_order (view pass.new).put_first)) }
+    ensures grows { 4 ≤ length (map plain_order (view pass.old).put_first) → 4 ≤ length (map plain_order (view pass.new).put_first) }
 {
     match queue.push_as::<Puts, R>(rt, pass, order) {
         Ok(()) => Ok(()),

@@ -5,7 +5,7 @@ use crossbeam_channel::protocol::{Join, Lesson, Outcome, Protocol, Split};
 use crossbeam_queue::protocol as queue;
 
 /// What is sent through a queue by two senders.
-pub trait Sent {
+pub(crate) trait Sent {
     ghost use Rattle.std.specs.Prelude.{Bool};
 
     /// The second sender sends it.
@@ -13,7 +13,7 @@ pub trait Sent {
 }
 
 /// What is taken and then what is inside is, of each sender, what it put.
-pub struct InOrder;
+pub(crate) struct InOrder;
 
 impl<M: Sent> Protocol<M, EndLog<M>> for InOrder {
     ghost use Rattle.std.specs.Prelude.{true, []};
@@ -25,7 +25,7 @@ impl<M: Sent> Protocol<M, EndLog<M>> for InOrder {
 }
 
 /// Puts a message.
-pub struct Puts;
+pub(crate) struct Puts;
 
 impl<M: Sent> Outcome<M, EndLog<M>> for Puts {
     ghost use Rattle.std.specs.Prelude.{◌≡◌};
@@ -41,7 +41,7 @@ impl<M: Sent> Lesson<M, EndLog<M>> for Puts {
 }
 
 /// Takes a message.
-pub struct Takes;
+pub(crate) struct Takes;
 
 impl<M: Sent> Outcome<M, EndLog<M>> for Takes {
     ghost use Rattle.std.specs.Prelude.{◌≡◌};
@@ -58,7 +58,7 @@ impl<M: Sent> Lesson<M, EndLog<M>> for Takes {
 }
 
 /// What is known by who has every right.
-pub struct Whole;
+pub(crate) struct Whole;
 
 impl<M: Sent> Lesson<M, EndLog<M>> for Whole {
     ghost use Rattle.dap_wires.specs.Delivery.{Balances};
@@ -67,7 +67,7 @@ impl<M: Sent> Lesson<M, EndLog<M>> for Whole {
 }
 
 /// The right of the first sender, which goes away and comes back.
-pub struct First;
+pub(crate) struct First;
 
 impl<M> Split<EndLog<M>> for First {
     ghost use Rattle.dap_wires.specs.Delivery.{only_first, without_first};
@@ -86,7 +86,7 @@ impl<M> Join<EndLog<M>> for First {
 }
 
 /// The right of the second sender, which goes away and comes back.
-pub struct Second;
+pub(crate) struct Second;
 
 impl<M> Split<EndLog<M>> for Second {
     ghost use Rattle.dap_wires.specs.Delivery.{only_second, without_second};

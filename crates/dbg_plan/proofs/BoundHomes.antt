@@ -12,7 +12,6 @@ use Rattle.pl0_tree.specs.Scope.{Path, block_at, Meaning, AConstant, AVariable, 
 use Rattle.pl0_meaning.specs.Values.{constant_of}
 use Rattle.pl0_meaning.specs.Homes.{IsDeclaredBy, home_is}
 use Rattle.pl0_names.specs.declared.names.Home.{Home as Answer}
-use Rattle.pl0_names.specs.declared.scope.Meaning.TheVariants as kept
 use Rattle.pl0_names.specs.Homes.{IsHomeAnswer, meaning_of}
 use Rattle.dbg_plan.specs.declared.located.LocatedExpression.{LocatedExpression}
 use Rattle.dbg_plan.specs.declared.located.LocatedExpression.TheVariants as bound

@@ -7,7 +7,8 @@ use Rattle.dbg_plan.specs.declared.mode.Mode.{Mode}
 use Rattle.dbg_plan.specs.declared.mode.Reason.{Reason}
 use Rattle.dbg_plan.specs.declared.mode.Reason.TheVariants as reason
 use Rattle.dbg_plan.specs.Due.{reason_of, depth_at}
-use Rattle.dbg_plan.specs.Debugged.{IsRunning, IsConsidered, due_now}
+use Rattle.dbg_plan.specs.Debugged.{IsRunning, IsConsidered, due_now, logs_now}
+use Rattle.dbg_plan.specs.Logs.{Log}
 use Rattle.dbg_plan.specs.Advances.{further}
 use Rattle.dbg_plan.specs.Counting.{AreCounts, CountsOn, MayBePlanOf}
 use Rattle.dbg_plan.specs.Counts.{IsCounting, debugged_of, plan_of, next_at, next_of}
@@ -18,7 +19,7 @@ was_considered position true h = refl
 was_considered position false h = absurd (omega (arith, h))
 
 -- the machine took a step, and the position that it led to is counted
-module _ (d : Inside) (was : IsCounting d) (behind : next_of d ≡ d.machine.position + 1) (machine : Standing) (on : machine ≡ record d.machine { position = d.machine.position + 1 }) (running : IsRunning machine) (counts : List ℕ) (hit : Bool) (counting : (first : ℕ) → first ≤ machine.position → AreCounts (program machine) (listed_of (plan_of d)) first machine.position d.counts → CountsOn (program machine) (listed_of (plan_of d)) machine.position first d.counts hit counts) where
+module _ (d : Inside) (was : IsCounting d) (behind : next_of d ≡ d.machine.position + 1) (machine : Standing) (on : machine ≡ record d.machine { position = d.machine.position + 1 }) (running : IsRunning machine) (counts : List ℕ) (hit : Bool) (logs : List Log) (counting : (first : ℕ) → first ≤ machine.position → AreCounts (program machine) (listed_of (plan_of d)) first machine.position d.counts → CountsOn (program machine) (listed_of (plan_of d)) machine.position first hit logs counts) where
   abbrev pub now : Inside
   now = record d { machine = machine; counts = counts }
 
@@ -28,7 +29,7 @@ module _ (d : Inside) (was : IsCounting d) (behind : next_of d ≡ d.machine.pos
   same : program machine ≡ program d.machine
   same = ap (λ (m : Standing). program m) on
 
-  counts_on : CountsOn (program machine) (listed_of (plan_of d)) machine.position d.counted_from d.counts hit counts
+  counts_on : CountsOn (program machine) (listed_of (plan_of d)) machine.position d.counted_from hit logs counts
   counts_on =
       let place : machine.position ≡ next_of d = ap (λ (m : Standing). m.position) on ∙ sym behind in
       let begun = was.begun in
@@ -46,11 +47,13 @@ module _ (d : Inside) (was : IsCounting d) (behind : next_of d ≡ d.machine.pos
         counts = subst (λ n. AreCounts (program machine) (listed_of (plan_of d)) d.counted_from n counts) (sym next) counts_on.counts;
         begun = omega (arith, begun, behind, place, next);
         stands = rw (considered) running;
+        trail = rw (on) was.trail;
       }
 
-  pub led : (mode : Mode) (due : Option Reason) → due ≡ (if hit then Some reason.Breakpoint else reason_of mode (depth_at (program machine) machine.position)) → (debugged_of now ≡ further (debugged_of d)) × IsConsidered (debugged_of now) × (due ≡ due_now (debugged_of now) mode)
+  pub led : (mode : Mode) (due : Option Reason) → due ≡ (if hit then Some reason.Breakpoint else reason_of mode (depth_at (program machine) machine.position)) → (debugged_of now ≡ further (debugged_of d)) × IsConsidered (debugged_of now) × (due ≡ due_now (debugged_of now) mode) × (logs ≡ logs_now (debugged_of now))
   led mode due told = (
     rw (on, considered) refl,
     record { behind = rw (considered) refl; running = running },
     told ∙ ap (λ b. if b then Some reason.Breakpoint else reason_of mode (depth_at (program machine) machine.position)) counts_on.due_is,
+    counts_on.logs_are,
   )

@@ -11,11 +11,13 @@ use Rattle.dbg_plan.specs.declared.breakpoint.Rule.TheVariants.{From, Every}
 use Rattle.std.proofs.lemmas.Nat.{mod-mul-add}
 use Rattle.std.proofs.lemmas.List.Elements.{All-cons, All-filter}
 use Rattle.dbg_plan.specs.Breakpoints.{Breakpoint as PlainBreakpoint, plain_breakpoint, plain_breakpoints}
-use Rattle.dbg_plan.specs.Due.{arrives_at, arrivals, is_hit}
-use Rattle.dbg_plan.specs.Plans.{Listed, IsNumbered, AreNumbered, AreAtSteps, IsBoundAt, those_of, is_of, IsRule, listed_of}
-use Rattle.dbg_plan.specs.Counting.{holds_now, IsMetHere, counted, any_due, AreCounts, CountFrom, CountsOn, reduced}
+use Rattle.dbg_plan.specs.Due.{arrives_at, arrivals}
+use Rattle.dbg_plan.specs.Plans.{Listed, IsNumbered, AreNumbered, AreAtSteps, IsBoundAt, IsMessageBoundAt, those_of, is_of, IsRule, listed_of}
+use Rattle.dbg_plan.specs.Logs.{Log}
+use Rattle.dbg_plan.specs.Counting.{holds_now, IsMetHere, counted, those_due, any_stops, logged, AreCounts, CountFrom, CountsOn, reduced}
 use Rattle.dbg_plan.proofs.Places.{arrives_here}
 use Rattle.dbg_plan.proofs.Tally.{tally, tally_due}
+use Rattle.dbg_plan.proofs.Doings.{stops_are, logs_are}
 
 le_true : (t m : ℕ) → t ≤ m → nat_le t m ≡ true
 le_true t m le = grind (arith, nat_tests)
@@ -29,7 +31,7 @@ pub arrivals_rise : (main : Block) (b : PlainBreakpoint) (first m : ℕ) → fir
 arrivals_rise main b first m le = rw add-one (ap (λ (v : Bool). if v && arrives_at main b m then arrivals main b first m + 1 else arrivals main b first m) (le_true first m le))
 
 module _ (m : Standing) (p : ℕ) (here : IsNext (program m) (top_of (frames m)) p) (bs : List Breakpoint) (numbered : IsNumbered bs) (counts : List ℕ) (room : length counts ≡ 256) where
-  pub counts_on : (first : ℕ) → first ≤ m.position → AreCounts (program m) bs first m.position counts → CountsOn (program m) bs m.position first counts (any_due (holds_now m) (those_of p bs) counts) (counted (holds_now m) (those_of p bs) counts)
+  pub counts_on : (first : ℕ) → first ≤ m.position → AreCounts (program m) bs first m.position counts → CountsOn (program m) bs m.position first (any_stops (those_due (holds_now m) (those_of p bs) counts)) (logged m (those_due (holds_now m) (those_of p bs) counts)) (counted (holds_now m) (those_of p bs) counts)
   counts_on first le h =
       let main = (program m) in
       let few = numbered.few in
@@ -38,23 +40,26 @@ module _ (m : Standing) (p : ℕ) (here : IsNext (program m) (top_of (frames m))
       let new : Breakpoint → ℕ = λ b. arrivals main (plain_breakpoint b) first (m.position + 1) in
       let agree = arrives_here main m.unit.tree.in_order (configuration m) p here in
       let rises : (b : Breakpoint) → new b ≡ (if a b then old b + 1 else old b) = λ b. arrivals_rise main (plain_breakpoint b) first m.position le in
+      let due = tally_due (is_of p) (holds_now m) a old new agree rises bs 0 counts numbered.numbers (omega arith) h in
       record {
         counts = tally (is_of p) (holds_now m) a old new agree rises bs 0 counts numbered.numbers (omega arith) h;
-        due_is = tally_due (is_of p) (holds_now m) a old new agree rises bs 0 counts numbered.numbers (omega arith) h ∙ sym (any_plain (is_hit main first m.position) bs);
+        due_is = ap any_stops due ∙ stops_are m first bs;
+        logs_are = ap (logged m) due ∙ logs_are m first bs 0 numbered.numbers;
       }
 
 -- what the code's walk leaves, by what it knows of the plan and its entry
-pub goes_on : (m : Standing) (p : ℕ) → IsNext (program m) (top_of (frames m)) p → (plan : Option Listed) (listed : Listed) → plan ≡ Some listed → IsNumbered listed.breakpoints → (entry : List Breakpoint) → entry ≡ those_of p listed.breakpoints → (counts : List ℕ) → length counts ≡ 256 → (due : Bool) (new : List ℕ) → due ≡ any_due (holds_now m) entry counts → new ≡ counted (holds_now m) entry counts → (first : ℕ) → first ≤ m.position → AreCounts (program m) (listed_of plan) first m.position counts → CountsOn (program m) (listed_of plan) m.position first counts due new
-goes_on m p here plan listed is numbered entry entry_is counts room due new due_is new_is first le h =
+pub goes_on : (m : Standing) (p : ℕ) → IsNext (program m) (top_of (frames m)) p → (plan : Option Listed) (listed : Listed) → plan ≡ Some listed → IsNumbered listed.breakpoints → (entry : List Breakpoint) → entry ≡ those_of p listed.breakpoints → (counts : List ℕ) → length counts ≡ 256 → (due : Bool) (logs : List Log) (new : List ℕ) → due ≡ any_stops (those_due (holds_now m) entry counts) → logs ≡ logged m (those_due (holds_now m) entry counts) → new ≡ counted (holds_now m) entry counts → (first : ℕ) → first ≤ m.position → AreCounts (program m) (listed_of plan) first m.position counts → CountsOn (program m) (listed_of plan) m.position first due logs new
+goes_on m p here plan listed is numbered entry entry_is counts room due logs new due_is logs_are new_is first le h =
     let main = (program m) in
     let f = holds_now m in
     let bs = listed.breakpoints in
     let old : AreCounts main bs first m.position counts = subst (λ q. AreCounts main (listed_of q) first m.position counts) is h in
     let on = counts_on m p here bs numbered counts room first le old in
-    let at_plan : CountsOn main (listed_of plan) m.position first counts (any_due f (those_of p bs) counts) (counted f (those_of p bs) counts) = subst (λ q. CountsOn main (listed_of q) m.position first counts (any_due f (those_of p bs) counts) (counted f (those_of p bs) counts)) (sym is) on in
-    let at_entry : CountsOn main (listed_of plan) m.position first counts (any_due f entry counts) (counted f entry counts) = subst (λ es. CountsOn main (listed_of plan) m.position first counts (any_due f es counts) (counted f es counts)) (sym entry_is) at_plan in
-    let at_due : CountsOn main (listed_of plan) m.position first counts due (counted f entry counts) = subst (λ d. CountsOn main (listed_of plan) m.position first counts d (counted f entry counts)) (sym due_is) at_entry in
-    subst (λ cs. CountsOn main (listed_of plan) m.position first counts due cs) (sym new_is) at_due
+    let at_plan = subst (λ q. CountsOn main (listed_of q) m.position first (any_stops (those_due f (those_of p bs) counts)) (logged m (those_due f (those_of p bs) counts)) (counted f (those_of p bs) counts)) (sym is) on in
+    let at_entry = subst (λ es. CountsOn main (listed_of plan) m.position first (any_stops (those_due f es counts)) (logged m (those_due f es counts)) (counted f es counts)) (sym entry_is) at_plan in
+    let at_due = subst (λ d. CountsOn main (listed_of plan) m.position first d (logged m (those_due f entry counts)) (counted f entry counts)) (sym due_is) at_entry in
+    let at_logs = subst (λ l. CountsOn main (listed_of plan) m.position first due l (counted f entry counts)) (sym logs_are) at_due in
+    subst (λ cs. CountsOn main (listed_of plan) m.position first due logs cs) (sym new_is) at_logs
 
 -- ---- each number is that of a count
 
@@ -64,24 +69,33 @@ are_below (b ∷ bs) n limit h room =
     let mine : b.number < limit = omega (arith, h.0) in
     All-cons (λ x. x.number < limit) b bs mine (are_below bs (n + 1) limit h.2 (omega arith))
 
+-- a step has at most all of them
+pub few_of : (p : ℕ) (bs : List Breakpoint) → length (those_of p bs) ≤ length bs
+few_of p [] = omega arith
+few_of p (b ∷ bs) = by_test (is_of p b) (few_of p bs)
+  where
+    by_test : (v : Bool) → length (those_of p bs) ≤ length bs → length (cond v (b ∷ those_of p bs) (those_of p bs)) ≤ length (b ∷ bs)
+    by_test true le = omega arith
+    by_test false le = omega arith
+
 pub within : (bs : List Breakpoint) → IsNumbered bs → (p : ℕ) (counts : List ℕ) → length counts ≡ 256 → All (λ b. b.number < length counts) (those_of p bs)
 within bs numbered p counts room =
     let few = numbered.few in
     All-filter (is_of p) (λ b. b.number < length counts) bs (are_below bs 0 (length counts) numbered.numbers (omega arith))
 
-met_here : (m : Standing) (p : ℕ) → IsNext (program m) (top_of (frames m)) p → (b : Breakpoint) (bs : List Breakpoint) → IsBoundAt (program m) b.step b.condition → All (IsMetHere m) (those_of p bs) → All (IsMetHere m) (those_of p (b ∷ bs))
-met_here m p next b bs bound rest = by_step (eqb_tells p b.step)
+met_here : (m : Standing) (p : ℕ) → IsNext (program m) (top_of (frames m)) p → (b : Breakpoint) (bs : List Breakpoint) → IsBoundAt (program m) b.step b.condition → IsMessageBoundAt (program m) b.step b.message → All (IsMetHere m) (those_of p bs) → All (IsMetHere m) (those_of p (b ∷ bs))
+met_here m p next b bs bound message rest = by_step (eqb_tells p b.step)
   where
     by_step : ((nat_eq p b.step ≡ true) × (p ≡ b.step)) ⊎ ((nat_eq p b.step ≡ false) × (p ≢ b.step)) → All (IsMetHere m) (those_of p (b ∷ bs))
     by_step (inl same) =
         subst (λ v. All (IsMetHere m) (cond v (b ∷ those_of p bs) (those_of p bs))) (sym same.0)
-        (All-cons (IsMetHere m) b (those_of p bs) (record { next = subst (λ n. IsNext (program m) (top_of (frames m)) n) same.1 next; bound = bound }) rest)
+        (All-cons (IsMetHere m) b (those_of p bs) (record { next = subst (λ n. IsNext (program m) (top_of (frames m)) n) same.1 next; bound = bound; message = message }) rest)
     by_step (inr other) = subst (λ v. All (IsMetHere m) (cond v (b ∷ those_of p bs) (those_of p bs))) (sym other.0) rest
 
 -- the machine stands at the step of each of its breakpoints, whose conditions are bound there
 pub are_met : (m : Standing) (p : ℕ) → IsNext (program m) (top_of (frames m)) p → (bs : List Breakpoint) → AreAtSteps (program m) bs → All (IsMetHere m) (those_of p bs)
 are_met m p next [] bound = λ k d lt. absurd (omega arith)
-are_met m p next (b ∷ bs) bound = met_here m p next b bs bound.1 (are_met m p next bs bound.2)
+are_met m p next (b ∷ bs) bound = met_here m p next b bs bound.1 bound.2 (are_met m p next bs bound.3)
 
 -- ---- a new plan
 

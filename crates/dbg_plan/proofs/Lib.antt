@@ -1,11 +1,13 @@
 pub mod Walk
 pub mod Tally
+pub mod Doings
 pub mod Places
 pub mod Here
 pub mod Fresh
 pub mod Further
 pub mod Stepping
 pub mod Sameness
+pub mod SameMessages
 pub mod HitNumbers
 pub mod Parts
 pub mod Lines
@@ -14,6 +16,9 @@ pub mod StepLines
 pub mod Texts
 pub mod UnitBlocks
 pub mod Conditions
+pub mod MessageParts
+pub mod MessageTexts
+pub mod LogValues
 pub mod ByNumber
 pub mod ValuesUp
 pub mod ValuesLinks
@@ -24,3 +29,7 @@ pub mod ValuesNamed
 pub mod Unwatched
 pub mod Quiet
 pub mod QuietCounts
+pub mod Trails
+pub mod Backward
+pub mod Retreats
+pub mod Said

@@ -4,11 +4,12 @@ use Rattle.std.proofs.lemmas.List.{take_more, length-append, length-map, map-app
 use Rattle.std.proofs.lemmas.List.Elements.{All-cons}
 use Rattle.pl0_tree.specs.Tree.{Block}
 use Rattle.pl0_machine.specs.Machine.{program_of}
+use Rattle.dbg_plan.specs.declared.breakpoint.Rule.{Rule}
 use Rattle.dbg_plan.specs.declared.breakpoint.Breakpoint.{Breakpoint}
 use Rattle.dbg_plan.specs.declared.resolving.SourceBreakpoint.{SourceBreakpoint}
 use Rattle.dbg_plan.specs.declared.breakpoint.BoundCondition.{BoundCondition}
 use Rattle.dbg_plan.specs.declared.resolving.Resolution.{Resolution}
-use Rattle.dbg_plan.specs.declared.resolving.Resolution.TheVariants.{BadCondition, BadHitCondition}
+use Rattle.dbg_plan.specs.declared.resolving.Resolution.TheVariants.{BadCondition, BadHitCondition, BadLogMessage}
 use Rattle.pl0_tree.specs.declared.tree.Place.{Place}
 use Rattle.pl0_tree.specs.declared.fault.FaultKind.{FaultKind}
 use Rattle.pl0_tree.specs.declared.fault.SyntaxFault.{SyntaxFault}
@@ -19,7 +20,7 @@ use Rattle.pl0_tree.specs.Steps.{steps}
 use Rattle.pl0_unit.specs.declared.unit.Unit.{Unit as Compiled}
 use Rattle.dbg_plan.specs.Breakpoints.{Breakpoint as PlainBreakpoint, text_condition, plain_breakpoint, plain_breakpoints}
 use Rattle.dbg_plan.specs.Plans.{Listed, IsRule, AreNumbered, AreAtSteps, IsPlanOf, AreBreakpointsOf, breakpoint_limit, watched_lines}
-use Rattle.dbg_plan.specs.Resolutions.{step_from, HasConditionAt, HasRule, IsResolvedTo, AreResolved}
+use Rattle.dbg_plan.specs.Resolutions.{step_from, ReadsRule, HasConditionAt, HasRule, HasMessageAt, IsResolvedTo, AreResolved}
 use Rattle.dbg_plan.specs.Resolving.{IsBoundConditionOf, ResolvesLine}
 
 -- the first i lines are answered
@@ -40,7 +41,7 @@ more_numbered n m (b ∷ bs) mine e old new = (old.0, old.1, more_numbered (n + 
 
 more_placed : (main : Block) (bs mine : List Breakpoint) → AreAtSteps main bs → AreAtSteps main mine → AreAtSteps main (bs ++ mine)
 more_placed main [] mine old new = new
-more_placed main (b ∷ bs) mine old new = (old.0, old.1, more_placed main bs mine old.2 new)
+more_placed main (b ∷ bs) mine old new = (old.0, old.1, old.2, more_placed main bs mine old.3 new)
 
 more_answered : (main : Block) (lines : List SourceBreakpoint) (answers : List Resolution) (bs mine : List PlainBreakpoint) (line : SourceBreakpoint) (answer : Resolution) →
     AreResolved main lines answers bs → IsResolvedTo main line answer mine → AreResolved main (lines ++ line ∷ []) (answers ++ answer ∷ []) (bs ++ mine)
@@ -73,7 +74,7 @@ plan_is u n bs lines plan is beside all placed =
 
 all_at_steps : (main : Block) (bs : List Breakpoint) → AreAtSteps main bs → All (λ b. b.step < length (steps main)) (plain_breakpoints bs)
 all_at_steps main [] placed = λ k d lt. absurd (omega arith)
-all_at_steps main (b ∷ bs) placed = All-cons (λ b. b.step < length (steps main)) (plain_breakpoint b) (plain_breakpoints bs) placed.0 (all_at_steps main bs placed.2)
+all_at_steps main (b ∷ bs) placed = All-cons (λ b. b.step < length (steps main)) (plain_breakpoint b) (plain_breakpoints bs) placed.0 (all_at_steps main bs placed.3)
 
 all_rules : (n : ℕ) (bs : List Breakpoint) → AreNumbered n bs → All (λ b. IsRule b.rule) (plain_breakpoints bs)
 all_rules n [] numbered = λ k d lt. absurd (omega arith)
@@ -105,3 +106,10 @@ pub bad_hit_condition : (main : Block) (asked : SourceBreakpoint) (old : List Br
 bad_hit_condition main asked old n text hit condition there same is same_hit none =
     let has : HasConditionAt main n text = record { condition = option_map text_condition condition; reads = is.reads } in
     refused main asked old BadHitCondition (refl, subst (λ t. ¬ HasRule t) same_hit none, (n, there, subst (λ t. HasConditionAt main n t) same has))
+
+pub bad_log_message : (main : Block) (asked : SourceBreakpoint) (old : List Breakpoint) (n : ℕ) (text hit message : List ℕ) (condition : Option BoundCondition) (rule : Option Rule) → step_from main asked.line ≡ Some n → text ≡ string_bytes asked.condition →
+    IsBoundConditionOf main n text condition → hit ≡ string_bytes asked.hit_condition → ReadsRule hit rule → message ≡ string_bytes asked.log_message → ¬ HasMessageAt main n message → ResolvesLine main asked old old BadLogMessage
+bad_log_message main asked old n text hit message condition rule there same is same_hit read same_message none =
+    let has : HasConditionAt main n text = record { condition = option_map text_condition condition; reads = is.reads } in
+    let has_rule : HasRule hit = record { rule = rule; reads = read } in
+    refused main asked old BadLogMessage (refl, subst (λ t. HasRule t) same_hit has_rule, (n, there, subst (λ t. HasConditionAt main n t) same has, subst (λ t. ¬ HasMessageAt main n t) same_message none))

@@ -10,13 +10,13 @@ use Rattle.pl0_machine.specs.Machine.{Standing, program, frames_of, outcome_of, 
 use Rattle.dbg_plan.specs.Breakpoints.{Breakpoint}
 use Rattle.dbg_plan.specs.Plans.{Listed, breakpoints_of}
 use Rattle.dbg_plan.specs.Debugged.{IsRunning}
-use Rattle.dbg_plan.specs.Running.{ahead, is_at_breakpoint, IsQuiet, RanQuietly}
+use Rattle.dbg_plan.specs.Running.{ahead, has_arrival, IsQuiet, RanQuietly}
 use Rattle.dbg_plan.specs.Quiet.{RanByMachine}
 use Rattle.dbg_plan.proofs.Stepping.{went_on}
 
 -- a step that wrote nothing and led to a position without a breakpoint
 abbrev pub IsQuietly : List Breakpoint → StepOutcome → Standing → Type 0
-IsQuietly breakpoints result new = (result ≡ Went None) × (is_at_breakpoint breakpoints new ≡ false)
+IsQuietly breakpoints result new = (result ≡ Went None) × (has_arrival breakpoints new ≡ false)
 
 module _ (breakpoints : List Breakpoint) (old new : Standing) (result : StepOutcome) (stepped : Stepped (outcome_of old) old result new) where
   silent : result ≡ Went None → written_by (outcome_of old) ≡ []
@@ -35,7 +35,7 @@ module _ (breakpoints : List Breakpoint) (old new : Standing) (result : StepOutc
       record {
         silent = silent told.0;
         running = subst (λ m. IsRunning m) went.0 went.1;
-        unwatched = subst (λ m. is_at_breakpoint breakpoints m ≡ false) went.0 told.1;
+        unmet = subst (λ m. has_arrival breakpoints m ≡ false) went.0 told.1;
       }
 
   -- where nothing is alive after it, a step isn't quiet
@@ -53,7 +53,7 @@ module _ (breakpoints : List Breakpoint) (old new : Standing) (result : StepOutc
     where
       by_outcome : (o : Outcome) → outcome_of old ≡ o → Stepped o old result new → written_by o ≡ [] → IsQuietly breakpoints result new
       by_outcome (Goes None []) e s none = absurd (ends_run (Some []) (ap led_to e) refl quiet)
-      by_outcome (Goes None (f ∷ below)) e s none = (s.0, subst (λ m. is_at_breakpoint breakpoints m ≡ false) (sym s.1) quiet.unwatched)
+      by_outcome (Goes None (f ∷ below)) e s none = (s.0, subst (λ m. has_arrival breakpoints m ≡ false) (sym s.1) quiet.unmet)
       by_outcome (Goes (Some v) c) e s none = absurd (writes v none)
       by_outcome (Faults fault) e s none = absurd (ends_run None (ap led_to e) refl quiet)
       by_outcome Over e s none = absurd s

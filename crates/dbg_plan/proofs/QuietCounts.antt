@@ -10,6 +10,7 @@ use Rattle.dbg_plan.specs.declared.debuggee.Debuggee.TheInside.{Inside}
 use Rattle.dbg_plan.specs.declared.debuggee.Advance.TheVariants as advance
 use Rattle.dbg_plan.specs.Plans.{breakpoints_of}
 use Rattle.dbg_plan.specs.Counts.{IsCounting, debugged_of, plan_of, next_at, next_of}
+use Rattle.dbg_plan.specs.Kept.{trail_of}
 use Rattle.dbg_plan.specs.Debugged.{Debugged, machine_of, IsNext}
 use Rattle.dbg_plan.specs.Running.{ahead, forward, IsQuiet, RanFrom}
 use Rattle.dbg_plan.specs.Quiet.{Ends, EndsAt, RanByMachine, RanTo, considered_after}
@@ -36,7 +37,7 @@ module _ (d : Inside) (was : IsCounting d) (behind : next_of d ≡ d.machine.pos
   counts_on : (k : ℕ) → IsCounting (at k) → IsQuiet (breakpoints_of (plan_of d)) (ahead d.machine k) → IsCounting (record d { machine = ahead (ahead d.machine k) 1 })
   counts_on k now q =
       let next = ahead (ahead d.machine k) 1 in
-      stays_counting (at k) now (behind_at k) next refl q.running d.counts false (λ first le are. uncounted next first le (plan_of d) d.counts q.unwatched are) was.room
+      stays_counting (at k) now (behind_at k) next refl q.running d.counts false [] (λ first le are. uncounted next first le (plan_of d) d.counts q.unmet are) was.room
 
   counting_at : (k : ℕ) → k ≤ ran.steps → IsCounting (at k)
   counting_at zero le =
@@ -63,7 +64,7 @@ module _ (d : Inside) (was : IsCounting d) (behind : next_of d ≡ d.machine.pos
   after o = debugged_of (record d { machine = new; considered = considered_after o })
 
   abbrev seen : Compiled → ℕ → Debugged
-  seen u n = record { unit = u; position = new.position; breakpoints = breakpoints_of (plan_of d); counted_from = d.counted_from; next = n }
+  seen u n = record { unit = u; position = new.position; breakpoints = breakpoints_of (plan_of d); counted_from = d.counted_from; next = n; trail = trail_of d.trail }
 
   with_unit : (u : Compiled) (n m : ℕ) → new.unit ≡ u → n ≡ m → seen new.unit n ≡ seen u m
   with_unit u n m is same = ap (λ (v : Compiled). seen v n) is ∙ ap (λ (k : ℕ). seen u k) same
@@ -95,7 +96,7 @@ fault_is (Goes written (f ∷ below)) old new fault s = let other : Fault fault 
 fault_is (Faults other) old new fault s = let same : Fault fault ≡ Fault other = s.0 in cc
 fault_is Over old new fault s = absurd s
 
-pub faulted : (limit : ℕ) (old new : Debugged) (numbers : List ℤ) (fault : RunFault) → RanTo limit old (Some (Fault fault)) new → RanFrom limit old numbers (Some (advance.Fault fault)) new numbers
+pub faulted : (limit : ℕ) (old new : Debugged) (numbers : List ℤ) (fault : RunFault) → RanTo limit old (Some (Fault fault)) new → RanFrom limit old numbers (Some (advance.Fault fault)) new numbers []
 faulted limit old new numbers fault ran =
     let d = forward old ran.steps in
     let stays = stays_there (machine_of d) (machine_of new) (Fault fault) ran.ends.2 fault refl in
@@ -108,7 +109,7 @@ faulted limit old new numbers fault ran =
       ends = (
         ran.ends.0,
         ran.ends.1,
-        (ran.ends.3 ∙ ap (λ (m : Standing). record d { position = m.position }) stays, is),
+        (ran.ends.3 ∙ ap (λ (m : Standing). record d { position = m.position }) stays, is, refl),
         sym (ap (λ o. numbers ++ written_by o) is ∙ append-nil numbers),
       );
     }

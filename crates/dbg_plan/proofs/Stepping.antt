@@ -11,6 +11,7 @@ use Rattle.dbg_plan.specs.Plans.{listed_of}
 use Rattle.dbg_plan.specs.declared.debuggee.Debuggee.TheInside.{Inside}
 use Rattle.dbg_plan.specs.Debugged.{IsRunning}
 use Rattle.dbg_plan.specs.Counting.{AreCounts, MayBePlanOf}
+use Rattle.dbg_plan.specs.Kept.{AreOf}
 use Rattle.dbg_plan.specs.Counts.{IsCounting, plan_of, next_at, next_of, StandsBy}
 
 module _ (old new : Standing) (result : StepOutcome) (stepped : Stepped (outcome_of old) old result new) where
@@ -75,6 +76,7 @@ module _ (d : Inside) (was : IsCounting d) (machine : Standing) (result : StepOu
               (subst (λ n. AreCounts (program d.machine) (listed_of (plan_of d)) d.counted_from n d.counts) (sym next) was.counts);
           begun = omega (arith, begun, next);
           stands = stands;
+          trail = subst (λ u. AreOf u d.trail.checkpoints) (sym (same_unit d.machine machine result stepped)) was.trail;
         }
 
   pub after_fault : (fault : RunFault) → result ≡ Fault fault → IsRunning d.machine → IsCounting (record d { machine = machine; considered = true })

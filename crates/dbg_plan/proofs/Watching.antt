@@ -83,7 +83,7 @@ pub are_within : (main : Block) (n : ℕ) (bs : List Breakpoint) → n ≡ lengt
 are_within main n [] e at = λ k d lt. absurd (omega arith)
 are_within main n (b ∷ bs) e at =
     let mine : b.step < n = omega (arith, at.0) in
-    All-cons (λ x. x.step < n) b bs mine (are_within main n bs e at.2)
+    All-cons (λ x. x.step < n) b bs mine (are_within main n bs e at.3)
 
 -- ---- the table, filled line by line
 

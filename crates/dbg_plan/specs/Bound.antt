@@ -1,9 +1,12 @@
 -- Expressions and conditions whose names were looked up once.
-use Rattle.std.specs.Prelude.{◌≡◌, Option, Some, None, ℤ, pos}
+use Rattle.std.specs.Prelude.{◌≡◌, List, [], ◌∷◌, Option, Some, None, ℤ, pos}
 use Rattle.pl0_tree.specs.Tree.{Block, Expression, Variable, Number, Negate, Binary, Condition, Odd, Compare}
 use Rattle.pl0_tree.specs.Scope.{Path, block_at, Meaning, AConstant, AVariable, AProcedure, Home, home}
 use Rattle.pl0_meaning.specs.Values.{constant_of}
+use Rattle.pl0_tree.specs.Plain.{plain_expression}
 use Rattle.pl0_unit.specs.Code.{level}
+use Rattle.dbg_plan.specs.declared.message.Part.{Part}
+use Rattle.dbg_plan.specs.declared.message.Part.TheVariants as part
 use Rattle.dbg_plan.specs.declared.located.LocatedExpression.{LocatedExpression}
 use Rattle.dbg_plan.specs.declared.located.LocatedExpression.TheVariants as bound
 use Rattle.dbg_plan.specs.declared.located.LocatedCondition.{LocatedCondition}
@@ -36,3 +39,9 @@ IsConditionBound main q (Odd e) (bound_condition.Odd b) = IsExpressionBound main
 IsConditionBound main q (Compare relation left right) (bound_condition.Compare relation' first second) =
     (relation' ≡ relation) × IsExpressionBound main q left first × IsExpressionBound main q right second
 IsConditionBound main q condition b = ⊥
+
+-- each expression of a message is bound
+abbrev pub ArePartsBound : Block → Path → List Part → Type 0
+ArePartsBound main q [] = Unit {0}
+ArePartsBound main q (part.Text text ∷ parts) = ArePartsBound main q parts
+ArePartsBound main q (part.Value e ∷ parts) = IsExpressionBound main q (plain_expression e.expression) e.located × ArePartsBound main q parts

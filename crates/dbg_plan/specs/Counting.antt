@@ -1,5 +1,5 @@
 -- How arrivals are counted: of each breakpoint only what its rule needs to know.
-use Rattle.std.specs.Prelude.{◌≡◌, ℕ, ◌+◌, ◌-◌, ◌%◌, min, Bool, true, false, ◌&&◌, ◌||◌, nat_eq, nat_lt, if◌then◌else◌, List, [], ◌∷◌, slice_index, slice_set, Option, Some, None}
+use Rattle.std.specs.Prelude.{◌≡◌, ℕ, ◌+◌, ◌-◌, ◌%◌, min, Bool, true, false, ◌&&◌, nat_eq, nat_lt, is_none, if◌then◌else◌, List, [], ◌∷◌, ◌++◌, option_to_list, slice_index, slice_set, Option, Some, None}
 use Rattle.pl0_tree.specs.Tree.{Block}
 use Rattle.pl0_meaning.specs.Values.{Configuration}
 use Rattle.pl0_unit.specs.declared.unit.Unit.{Unit as Compiled}
@@ -8,9 +8,10 @@ use Rattle.dbg_plan.specs.declared.breakpoint.Rule.{Rule}
 use Rattle.dbg_plan.specs.declared.breakpoint.Rule.TheVariants.{From, Every}
 use Rattle.dbg_plan.specs.declared.breakpoint.Breakpoint.{Breakpoint}
 use Rattle.dbg_plan.specs.Breakpoints.{TextCondition, plain_breakpoint, plain_breakpoints}
-use Rattle.std.specs.List.{list_any}
-use Rattle.dbg_plan.specs.Due.{holds, arrivals, is_hit}
-use Rattle.dbg_plan.specs.Plans.{Listed, IsPlanOf, IsBoundAt}
+use Rattle.std.specs.List.{list_any, filter_map}
+use Rattle.dbg_plan.specs.Due.{holds, arrivals, stops}
+use Rattle.dbg_plan.specs.Logs.{Log, log_in, logs}
+use Rattle.dbg_plan.specs.Plans.{Listed, IsPlanOf, IsBoundAt, IsMessageBoundAt}
 
 -- what is kept of a number of arrivals
 abbrev pub reduced : Option Rule → ℕ → ℕ
@@ -38,10 +39,11 @@ holds_in main (Some c) condition = holds main c condition
 abbrev pub holds_now : Standing → Breakpoint → Bool
 holds_now m b = holds_in (program m) (configuration m) (plain_breakpoint b).condition
 
--- the machine stands at the breakpoint's step, and the condition is bound there
+-- the machine stands at the breakpoint's step, and the condition and the message are bound there
 pub record IsMetHere (m : Standing) (b : Breakpoint) : Type 0 where
   pub next : IsNext (program m) (top_of (frames m)) b.step
   pub bound : IsBoundAt (program m) b.step b.condition
+  pub message : IsMessageBoundAt (program m) b.step b.message
 
 abbrev pub increased_at : List ℕ → Breakpoint → ℕ
 increased_at counts b = increased b.rule (slice_index counts b.number)
@@ -59,10 +61,28 @@ counted f (b ∷ bs) counts = counted f bs (counted_at f b counts)
 abbrev pub due_at : (Breakpoint → Bool) → Breakpoint → List ℕ → Bool
 due_at f b counts = f b && is_due b.rule (increased_at counts b)
 
--- one of them is due
-abbrev pub any_due : (Breakpoint → Bool) → List Breakpoint → List ℕ → Bool
-any_due f [] counts = false
-any_due f (b ∷ bs) counts = due_at f b counts || any_due f bs (counted_at f b counts)
+-- those of these breakpoints that arrive and are due, in order
+abbrev pub those_due : (Breakpoint → Bool) → List Breakpoint → List ℕ → List Breakpoint
+those_due f [] counts = []
+those_due f (b ∷ bs) counts =
+    if due_at f b counts then b ∷ those_due f bs (counted_at f b counts) else those_due f bs (counted_at f b counts)
+
+-- ---- what those do that are due
+
+-- one of them stops the program
+abbrev pub any_stops : List Breakpoint → Bool
+any_stops bs = list_any (λ b. is_none b.message) bs
+
+-- what a breakpoint logs where the machine stands
+abbrev pub log_now : Standing → Breakpoint → Option Log
+log_now m b = log_in (program m) (configuration m) b.number (plain_breakpoint b).message
+
+-- the logs after a breakpoint, of which it is said whether it is due
+abbrev pub logged_after : Standing → Bool → Breakpoint → List Log → List Log
+logged_after m due b logs = logs ++ (if due then option_to_list (log_now m b) else [])
+
+abbrev pub logged : Standing → List Breakpoint → List Log
+logged m bs = filter_map (log_now m) bs
 
 -- ---- the counts of a plan
 
@@ -79,7 +99,8 @@ CountFrom number n (b ∷ bs) counts = (slice_index counts n ≡ reduced b.rule 
 abbrev pub AreCounts : Block → List Breakpoint → ℕ → ℕ → List ℕ → Type 0
 AreCounts main breakpoints first next counts = CountFrom (λ b. arrivals main (plain_breakpoint b) first next) 0 breakpoints counts
 
--- one more position was considered, and whether a breakpoint is due there
-pub record CountsOn (main : Block) (breakpoints : List Breakpoint) (position first : ℕ) (old : List ℕ) (due : Bool) (new : List ℕ) : Type 0 where
+-- one more position was considered, with whether a breakpoint stops there, and what is logged there
+pub record CountsOn (main : Block) (breakpoints : List Breakpoint) (position first : ℕ) (due : Bool) (logged : List Log) (new : List ℕ) : Type 0 where
   pub counts : AreCounts main breakpoints first (position + 1) new
-  pub due_is : due ≡ list_any (is_hit main first position) (plain_breakpoints breakpoints)
+  pub due_is : due ≡ list_any (stops main first position) (plain_breakpoints breakpoints)
+  pub logs_are : logged ≡ logs main (plain_breakpoints breakpoints) first position

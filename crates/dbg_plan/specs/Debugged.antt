@@ -8,15 +8,18 @@ use Rattle.dbg_plan.specs.Breakpoints.{Breakpoint}
 use Rattle.dbg_plan.specs.declared.mode.Mode.{Mode}
 use Rattle.dbg_plan.specs.declared.mode.Reason.{Reason}
 use Rattle.dbg_plan.specs.Due.{due}
+use Rattle.dbg_plan.specs.Trail.{Trail}
+use Rattle.dbg_plan.specs.Logs.{Log, logs}
 
 -- A program at a position, and its breakpoints in force, which count from position `counted_from`. The positions below
--- `next` were considered.
+-- `next` were considered. The trail says to which positions it can go back at once.
 pub record Debugged : Type 0 where
   pub unit : Compiled
   pub position : ℕ
   pub breakpoints : List Breakpoint
   pub counted_from : ℕ
   pub next : ℕ
+  pub trail : Trail
 
 abbrev pub machine_of : Debugged → Standing
 machine_of d = record { unit = d.unit; position = d.position }
@@ -41,3 +44,7 @@ pub record IsNext (d : Debugged) : Type 0 where
 -- why the position is due, if it is
 abbrev pub due_now : Debugged → Mode → Option Reason
 due_now d mode = due (program_of d) d.breakpoints d.counted_from mode d.position
+
+-- what the position logs
+abbrev pub logs_now : Debugged → List Log
+logs_now d = logs (program_of d) d.breakpoints d.counted_from d.position

@@ -1,5 +1,5 @@
 -- Breakpoints, their arrivals, and when a position is due.
-use Rattle.std.specs.Prelude.{ℕ, zero, suc, ◌+◌, ◌-◌, ◌%◌, Bool, true, false, ◌&&◌, nat_eq, nat_le, nat_lt, if◌then◌else◌, List, [], ◌∷◌, length, slice_get, Option, Some, None, unwrap_or, option_map, Result, Ok, Err}
+use Rattle.std.specs.Prelude.{ℕ, zero, suc, ◌+◌, ◌-◌, ◌%◌, Bool, true, false, ◌&&◌, nat_eq, nat_le, nat_lt, if◌then◌else◌, List, [], ◌∷◌, length, slice_get, Option, Some, None, is_none, unwrap_or, option_map, Result, Ok, Err}
 use Rattle.std.specs.List.{list_any}
 use Rattle.pl0_tree.specs.declared.tree.Place.{Place}
 use Rattle.pl0_tree.specs.Tree.{Block}
@@ -11,7 +11,7 @@ use Rattle.dbg_plan.specs.declared.breakpoint.Rule.{Rule}
 use Rattle.dbg_plan.specs.declared.breakpoint.Rule.TheVariants.{From, Every}
 use Rattle.dbg_plan.specs.Breakpoints.{TextCondition, Breakpoint}
 use Rattle.dbg_plan.specs.declared.mode.Mode.{Mode}
-use Rattle.dbg_plan.specs.declared.mode.Mode.TheVariants.{Entry, Continue, In, Over, Out}
+use Rattle.dbg_plan.specs.declared.mode.Mode.TheVariants.{Entry, Continue, In, Over, Out, StepBack, Reverse}
 use Rattle.dbg_plan.specs.declared.mode.Reason.{Reason}
 use Rattle.dbg_plan.specs.declared.mode.Reason.TheVariants as reason
 
@@ -63,9 +63,13 @@ accepts None n = true
 accepts (Some (From k)) n = nat_le k n
 accepts (Some (Every k)) n = nat_eq (n % k) 0
 
--- the breakpoint, counted from position t, is due at m
+-- the breakpoint, counted from position t, is met at m
 abbrev pub is_hit : Block → ℕ → ℕ → Breakpoint → Bool
 is_hit main t m b = arrives_at main b m && accepts b.rule (arrivals main b t (m + 1))
+
+-- the same of a breakpoint that stops the program: it has no message
+abbrev pub stops : Block → ℕ → ℕ → Breakpoint → Bool
+stops main t m b = is_none b.message && is_hit main t m b
 
 -- the reason that the mode alone gives at a depth
 abbrev pub reason_of : Mode → ℕ → Option Reason
@@ -74,6 +78,8 @@ reason_of Continue depth = None
 reason_of In depth = Some reason.Step
 reason_of (Over d) depth = if nat_le depth d then Some reason.Step else None
 reason_of (Out d) depth = if nat_lt depth d then Some reason.Step else None
+reason_of StepBack depth = None
+reason_of Reverse depth = None
 
 abbrev pub depth_at : Block → ℕ → ℕ
 depth_at main m = unwrap_or (option_map length (at main m)) 0
@@ -81,4 +87,4 @@ depth_at main m = unwrap_or (option_map length (at main m)) 0
 -- Why position m is due under breakpoints that are counted from position t, if it is.
 abbrev pub due : Block → List Breakpoint → ℕ → Mode → ℕ → Option Reason
 due main breakpoints t mode m =
-    if list_any (is_hit main t m) breakpoints then Some reason.Breakpoint else reason_of mode (depth_at main m)
+    if list_any (stops main t m) breakpoints then Some reason.Breakpoint else reason_of mode (depth_at main m)

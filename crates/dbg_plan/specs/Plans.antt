@@ -1,5 +1,6 @@
 -- Plans: breakpoints in the order asked.
-use Rattle.std.specs.Prelude.{◌≡◌, ℕ, ◌+◌, ◌<◌, ◌≤◌, Bool, false, nat_eq, All, List, [], ◌∷◌, length, map, filter, Option, Some, None}
+use Rattle.std.specs.Prelude.{◌≡◌, ℕ, ◌+◌, ◌<◌, ◌≤◌, Bool, false, nat_eq, All, List, [], ◌∷◌, length, map, filter, slice_get, Option, Some, None, option_and_then}
+use Rattle.std.specs.Option.{option_map_or}
 use Rattle.std.specs.List.{list_any}
 use Rattle.pl0_tree.specs.Tree.{Block}
 use Rattle.pl0_tree.specs.Steps.{steps, step_path}
@@ -10,8 +11,10 @@ use Rattle.dbg_plan.specs.declared.breakpoint.Rule.{Rule}
 use Rattle.dbg_plan.specs.declared.breakpoint.Rule.TheVariants.{From, Every}
 use Rattle.dbg_plan.specs.declared.breakpoint.BoundCondition.{BoundCondition}
 use Rattle.dbg_plan.specs.declared.breakpoint.Breakpoint.{Breakpoint}
+use Rattle.dbg_plan.specs.declared.message.LogMessage.{LogMessage}
+use Rattle.dbg_plan.specs.Messages.{Part, Message}
 use Rattle.dbg_plan.specs.Breakpoints.{Breakpoint as PlainBreakpoint, plain_breakpoints}
-use Rattle.dbg_plan.specs.Bound.{IsConditionBound}
+use Rattle.dbg_plan.specs.Bound.{IsConditionBound, ArePartsBound}
 
 -- What contracts see of a plan: for how many steps it was made, its breakpoints in the order asked, and for each address
 -- of the code whether the step that begins there has one.
@@ -59,10 +62,15 @@ abbrev pub IsBoundAt : Block → ℕ → Option BoundCondition → Type 0
 IsBoundAt main n None = Unit {0}
 IsBoundAt main n (Some c) = IsConditionBound main (step_path main n) (plain_condition c.condition) c.located
 
--- each breakpoint stands at a step of the program, and its condition is bound there
+-- so are the expressions of a message
+abbrev pub IsMessageBoundAt : Block → ℕ → Option LogMessage → Type 0
+IsMessageBoundAt main n None = Unit {0}
+IsMessageBoundAt main n (Some m) = ArePartsBound main (step_path main n) m.parts.items
+
+-- each breakpoint stands at a step of the program, and its condition and its message are bound there
 abbrev pub AreAtSteps : Block → List Breakpoint → Type 0
 AreAtSteps main [] = Unit {0}
-AreAtSteps main (b ∷ bs) = (b.step < length (steps main)) × IsBoundAt main b.step b.condition × AreAtSteps main bs
+AreAtSteps main (b ∷ bs) = (b.step < length (steps main)) × IsBoundAt main b.step b.condition × IsMessageBoundAt main b.step b.message × AreAtSteps main bs
 
 -- the plan was made for a program, beside whose instructions stand these steps
 pub record IsPlanFor (main : Block) (lines : List (Option ℕ)) (plan : Listed) : Type 0 where
@@ -82,6 +90,11 @@ listed_of (Some plan) = plan.breakpoints
 
 abbrev pub breakpoints_of : Option Listed → List PlainBreakpoint
 breakpoints_of plan = plain_breakpoints (listed_of plan)
+
+-- the parts of the message of the breakpoint with this number; none without one
+abbrev pub parts_at : List PlainBreakpoint → ℕ → List Part
+parts_at breakpoints number =
+    option_map_or (λ (m : Message). m.parts) (option_and_then (λ (b : PlainBreakpoint). b.message) (slice_get breakpoints number)) []
 
 -- they are few, each at a step of the program, and their rules count from 1
 pub record AreBreakpointsOf (main : Block) (breakpoints : List PlainBreakpoint) : Type 0 where

@@ -1,8 +1,12 @@
 -- What the functions that evaluate and that look names up promise. No public contract cites this file.
-use Rattle.std.specs.Prelude.{ℕ, zero, suc, Bool, Option, Some, IsSome, option_and_then, Result, Ok, ℤ, neg_ℤ}
+use Rattle.std.specs.Prelude.{◌≡◌, ℕ, zero, suc, Bool, Option, IsSome, option_and_then, Result, Ok, ℤ, neg_ℤ}
+use Rattle.pl0_tree.specs.Plain.{plain_expression}
+use Rattle.pl0_tree.specs.Tree.{Block}
 use Rattle.pl0_meaning.specs.declared.RunFault.{RunFault}
-use Rattle.pl0_meaning.specs.Values.{Configuration, frame_at, number_of, or_zero, after, checked, operation, comparison, is_odd}
+use Rattle.pl0_meaning.specs.Values.{Configuration, frame_at, number_of, or_zero, after, checked, operation, comparison, is_odd, value}
 use Rattle.pl0_machine.specs.Machine.{parent_of}
+use Rattle.dbg_plan.specs.declared.message.Part.{Part}
+use Rattle.dbg_plan.specs.declared.message.Part.TheVariants as part
 use Rattle.dbg_plan.specs.declared.binding.Located.{Located}
 use Rattle.dbg_plan.specs.declared.binding.Located.TheVariants as at
 use Rattle.dbg_plan.specs.declared.located.LocatedExpression.{LocatedExpression}
@@ -38,6 +42,12 @@ CanRead c i (Binary' op p first q second) = CanRead c i first × CanRead c i sec
 abbrev pub CanTest : Configuration → ℕ → LocatedCondition → Type 0
 CanTest c i (Odd b) = CanRead c i b
 CanTest c i (Compare relation first second) = CanRead c i first × CanRead c i second
+
+-- the expression of a part can be read, and has its value
+abbrev pub ReadsPart : Block → Configuration → ℕ → Part → Type 0
+ReadsPart main c i (part.Text text) = Unit {0}
+ReadsPart main c i (part.Value e) =
+    CanRead c i e.located × (bound_value c i e.located ≡ value main c i (plain_expression e.expression))
 
 -- ---- names by their text
 

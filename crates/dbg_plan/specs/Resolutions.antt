@@ -8,15 +8,16 @@ use Rattle.pl0_tree.specs.Steps.{steps, step_path}
 use Rattle.dbg_plan.specs.declared.breakpoint.Rule.{Rule}
 use Rattle.dbg_plan.specs.declared.breakpoint.Rule.TheVariants.{From, Every}
 use Rattle.dbg_plan.specs.Breakpoints.{TextCondition, Breakpoint}
+use Rattle.dbg_plan.specs.Messages.{Message, IsMessageOf}
 use Rattle.dbg_plan.specs.declared.resolving.SourceBreakpoint.{SourceBreakpoint}
 use Rattle.dbg_plan.specs.declared.resolving.Resolution.{Resolution}
-use Rattle.dbg_plan.specs.declared.resolving.Resolution.TheVariants.{At, NoStep, BadCondition, BadHitCondition}
+use Rattle.dbg_plan.specs.declared.resolving.Resolution.TheVariants.{At, NoStep, BadCondition, BadHitCondition, BadLogMessage}
 
 -- The step of a line: the first, in source order, at this line or after it.
 abbrev pub step_from : Block → ℕ → Option ℕ
 step_from main line = position (λ s. nat_le line s.place.line) (steps main)
 
--- ---- conditions and hit texts, either of which may be absent: an empty text
+-- ---- conditions, hit texts and messages, each of which may be absent: an empty text
 
 -- the text reads as a condition in the block of step n
 abbrev pub ReadsConditionAt : Block → ℕ → List ℕ → Option TextCondition → Type 0
@@ -36,6 +37,11 @@ abbrev pub ReadsRule : List ℕ → Option Rule → Type 0
 ReadsRule text None = text ≡ []
 ReadsRule text (Some rule) = (text ≡ rule_text rule) × (0 < rule_number rule) × (rule_number rule < 2 ^ 31)
 
+-- the text reads as a message in the block of step n
+abbrev pub ReadsMessageAt : Block → ℕ → List ℕ → Option Message → Type 0
+ReadsMessageAt main n text None = text ≡ []
+ReadsMessageAt main n text (Some m) = (text ≢ []) × (m.text ≡ text) × IsMessageOf main (step_path main n) text m.parts
+
 -- ---- answers
 
 -- the text reads as a condition at step n, or is empty
@@ -48,11 +54,17 @@ pub record HasRule (text : List ℕ) : Type 0 where
   pub rule : Option Rule
   pub reads : ReadsRule text rule
 
+-- the text reads as a message at step n, or is empty
+pub record HasMessageAt (main : Block) (n : ℕ) (text : List ℕ) : Type 0 where
+  pub message : Option Message
+  pub reads : ReadsMessageAt main n text message
+
 -- the breakpoint of a line that is answered with a step
 pub record IsBreakpointOf (main : Block) (asked : SourceBreakpoint) (n : ℕ) (b : Breakpoint) : Type 0 where
   pub step : b.step ≡ n
   pub condition : ReadsConditionAt main n (string_bytes asked.condition) b.condition
   pub rule : ReadsRule (string_bytes asked.hit_condition) b.rule
+  pub message : ReadsMessageAt main n (string_bytes asked.log_message) b.message
 
 -- What a line is resolved to, and the breakpoints that it gives, one or none. Of several refusals the first is answered.
 abbrev pub IsResolvedTo : Block → SourceBreakpoint → Resolution → List Breakpoint → Type 0
@@ -63,6 +75,8 @@ IsResolvedTo main asked BadCondition bs =
     (bs ≡ []) × ((n : ℕ) × (step_from main asked.line ≡ Some n) × (¬ HasConditionAt main n (string_bytes asked.condition)))
 IsResolvedTo main asked BadHitCondition bs =
     (bs ≡ []) × (¬ HasRule (string_bytes asked.hit_condition)) × ((n : ℕ) × (step_from main asked.line ≡ Some n) × HasConditionAt main n (string_bytes asked.condition))
+IsResolvedTo main asked BadLogMessage bs =
+    (bs ≡ []) × HasRule (string_bytes asked.hit_condition) × ((n : ℕ) × (step_from main asked.line ≡ Some n) × HasConditionAt main n (string_bytes asked.condition) × (¬ HasMessageAt main n (string_bytes asked.log_message)))
 
 -- Each line is resolved, in order, and the breakpoints are those that the lines give, in order.
 abbrev pub AreResolved : Block → List SourceBreakpoint → List Resolution → List Breakpoint → Type 0

@@ -2,11 +2,12 @@
 use Rattle.std.specs.Prelude.{◌≡◌, ℕ, ◌+◌, ◌<◌, ◌≤◌, ◌++◌, ℤ, Bool, false, List, [], Option, Some, None}
 use Rattle.std.specs.List.{list_any}
 use Rattle.pl0_meaning.specs.Runs.{written_by}
-use Rattle.pl0_machine.specs.Machine.{Standing, program, frames, outcome_of}
+use Rattle.pl0_machine.specs.Machine.{Standing, program, configuration, outcome_of}
 use Rattle.dbg_plan.specs.Breakpoints.{Breakpoint}
-use Rattle.dbg_plan.specs.Due.{is_at}
+use Rattle.dbg_plan.specs.Due.{arrives_in}
 use Rattle.dbg_plan.specs.declared.mode.Mode.TheVariants.{Continue}
 use Rattle.dbg_plan.specs.declared.debuggee.Advance.{Advance}
+use Rattle.dbg_plan.specs.Logs.{Log}
 use Rattle.dbg_plan.specs.Debugged.{Debugged, machine_of, IsRunning}
 use Rattle.dbg_plan.specs.Advances.{Advanced}
 
@@ -16,15 +17,15 @@ use Rattle.dbg_plan.specs.Advances.{Advanced}
 abbrev pub ahead : Standing → ℕ → Standing
 ahead m n = record m { position = m.position + n }
 
--- the program stands at the step of one of these breakpoints, whether that is due there or not
-abbrev pub is_at_breakpoint : List Breakpoint → Standing → Bool
-is_at_breakpoint breakpoints m = list_any (λ b. is_at (program m) b.step (frames m)) breakpoints
+-- the program has arrived at one of these breakpoints, whether that is due there or not
+abbrev pub has_arrival : List Breakpoint → Standing → Bool
+has_arrival breakpoints m = list_any (λ b. arrives_in (program m) b (configuration m)) breakpoints
 
--- The step writes nothing, the program goes on, and no breakpoint stands at the step that it leads to.
+-- The step writes nothing, the program goes on, and where it leads to is no arrival at a breakpoint.
 pub record IsQuiet (breakpoints : List Breakpoint) (m : Standing) : Type 0 where
   pub silent : written_by (outcome_of m) ≡ []
   pub running : IsRunning (ahead m 1)
-  pub unwatched : is_at_breakpoint breakpoints (ahead m 1) ≡ false
+  pub unmet : has_arrival breakpoints (ahead m 1) ≡ false
 
 -- Quiet steps were taken, up to the position `limit` at most. `Ends` says of their number how the run ended there.
 pub record RanQuietly (limit : ℕ) (breakpoints : List Breakpoint) (old : Standing) (Ends : ℕ → Type 0) : Type 0 where
@@ -40,13 +41,13 @@ pub record RanQuietly (limit : ℕ) (breakpoints : List Breakpoint) (old : Stand
 abbrev pub forward : Debugged → ℕ → Debugged
 forward d n = record d { position = d.position + n; next = d.position + n + 1 }
 
--- At the limit there is no answer, and the numbers are the same. Before it one more step was taken, which isn't quiet.
-abbrev pub Closes : ℕ → Debugged → List ℤ → Option Advance → Debugged → List ℤ → Type 0
-Closes limit d before None new after = (new ≡ d) × (after ≡ before) × (limit ≤ d.position)
-Closes limit d before (Some advance) new after =
-    (d.position < limit) × (¬ IsQuiet d.breakpoints (machine_of d)) × Advanced Continue d advance new × (after ≡ before ++ written_by (outcome_of (machine_of d)))
+-- At the limit there is no answer, the numbers are the same, and nothing is logged. Before it one more step was taken, which isn't quiet.
+abbrev pub Closes : ℕ → Debugged → List ℤ → Option Advance → Debugged → List ℤ → List Log → Type 0
+Closes limit d before None new after logged = (new ≡ d) × (after ≡ before) × (limit ≤ d.position) × (logged ≡ [])
+Closes limit d before (Some advance) new after logged =
+    (d.position < limit) × (¬ IsQuiet d.breakpoints (machine_of d)) × Advanced Continue d advance new logged × (after ≡ before ++ written_by (outcome_of (machine_of d)))
 
 -- Quiet steps were taken in the mode Continue, and before the limit one more, as `advance` takes it.
-abbrev pub RanFrom : ℕ → Debugged → List ℤ → Option Advance → Debugged → List ℤ → Type 0
-RanFrom limit old before advance new after =
-    RanQuietly limit old.breakpoints (machine_of old) (λ steps. Closes limit (forward old steps) before advance new after)
+abbrev pub RanFrom : ℕ → Debugged → List ℤ → Option Advance → Debugged → List ℤ → List Log → Type 0
+RanFrom limit old before advance new after logged =
+    RanQuietly limit old.breakpoints (machine_of old) (λ steps. Closes limit (forward old steps) before advance new after logged)

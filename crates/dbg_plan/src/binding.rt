@@ -48,7 +48,8 @@ fn expression_of(located: Located) -> LocatedExpression
     }
 }
 
-fn bind_expression(
+/// An expression with its names looked up for the block of a number. It fails only where memory runs out.
+pub fn bind_expression(
     alloc: Global,
     names: &Names,
     number: u32,

@@ -5,6 +5,7 @@ ghost use Rattle.pl0_tree.specs.Plain.{plain_condition};
 ghost use Rattle.dbg_plan.specs.ReadsAs.{ReadsAs};
 
 use crate::located::LocatedCondition;
+use crate::message::LogMessage;
 use pl0_tree::{Condition, StepNumber};
 
 /// The most breakpoints that a plan may have.
@@ -29,11 +30,13 @@ pub struct BoundCondition {
     pub ghost reads: { ∥ ReadsAs (string_bytes text) (plain_condition condition) ∥₁ },
 }
 
-/// A breakpoint: its number in its plan, its step, and what an arrival has to meet.
+/// A breakpoint: its number in its plan, its step, and what an arrival has to meet. One with a message logs that, and doesn't
+/// stop the program.
 #[derive(Drop)]
 pub struct Breakpoint {
     pub number: usize,
     pub step: StepNumber,
     pub condition: Option<BoundCondition>,
     pub rule: Option<Rule>,
+    pub message: Option<LogMessage>,
 }

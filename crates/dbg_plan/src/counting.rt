@@ -1,16 +1,18 @@
 // Counts arrivals.
 
-ghost use Rattle.std.specs.Prelude.{◌≡◌, ◌<◌, ◌≤◌, ℕ, length, All, option_map, if◌then◌else◌, Some};
+ghost use Rattle.std.specs.Prelude.{◌≡◌, ◌+◌, ◌<◌, ◌≤◌, ◌++◌, ◌&&◌, ℕ, [], is_none, length, All, option_map, if◌then◌else◌, Some};
 ghost use Rattle.std.specs.Arc.{arc_value};
 ghost use Rattle.pl0_machine.specs.Machine.{program, frames, top_of, IsNext};
 ghost use Rattle.dbg_plan.specs.Plans.{breakpoint_limit, listed_of};
 ghost use Rattle.dbg_plan.specs.declared.mode.Reason.TheVariants as reason;
 ghost use Rattle.dbg_plan.specs.Due.{reason_of, depth_at};
 ghost use Rattle.dbg_plan.specs.Debugged.{IsRunning};
-ghost use Rattle.dbg_plan.specs.Counting.{increased, is_due, holds_now, counted, counted_at, any_due, due_at, AreCounts, CountsOn, MayBePlanOf, IsMetHere};
+ghost use Rattle.dbg_plan.specs.Counting.{increased, is_due, holds_now, counted, counted_at, those_due, any_stops, logged, logged_after, due_at, AreCounts, CountsOn, MayBePlanOf, IsMetHere};
 
 use crate::breakpoint::{Breakpoint, Rule};
 use crate::evaluation::is_met;
+use crate::logging::stops_or_logs;
+use crate::logs::Logs;
 use crate::mode::{Mode, Reason};
 use crate::plan::Plan;
 use pl0_machine::Machine;
@@ -61,31 +63,60 @@ fn count_arrival(machine: &Machine, breakpoint: &Breakpoint, counts: &mut [u32])
     is_accepted(breakpoint.rule, count)
 }
 
-/// Counts the arrivals at these breakpoints, which are those of the machine's step: whether one is due.
-pub fn count_arrivals(machine: &Machine, breakpoints: &[Breakpoint], counts: &mut [u32]) -> bool
+// Counts an arrival, and logs what is to be logged: whether the breakpoint stops the program.
+#[inline(always)]
+fn meet(machine: &Machine, breakpoint: &Breakpoint, counts: &mut [u32], logs: &mut Logs) -> bool
+    requires running { IsRunning machine.now }
+    requires here { IsMetHere machine.now breakpoint.now }
+    requires within { breakpoint.now.number < length counts.old }
+    requires room { length logs.old < breakpoint_limit }
+    ensures counts { counts.new ≡ counted_at (holds_now machine.now) breakpoint.now counts.old }
+    ensures stops { result ≡ (due_at (holds_now machine.now) breakpoint.now counts.old && is_none breakpoint.now.message) }
+    ensures logs { logs.new ≡ logged_after machine.now (due_at (holds_now machine.now) breakpoint.now counts.old) breakpoint.now logs.old }
+{
+    count_arrival(machine, breakpoint, counts) && stops_or_logs(machine, breakpoint, logs)
+}
+
+/// Counts the arrivals at these breakpoints, which are those of the machine's step, and appends what they log: whether one
+/// stops the program.
+pub fn count_arrivals(
+    machine: &Machine,
+    breakpoints: &[Breakpoint],
+    counts: &mut [u32],
+    logs: &mut Logs,
+) -> bool
     requires running { IsRunning machine.now }
     requires here { All (IsMetHere machine.now) breakpoints.now }
     requires within { All (λ b. b.number < length counts.old) breakpoints.now }
+    requires room { length logs.old + length breakpoints.now ≤ breakpoint_limit }
     ensures counts { counts.new ≡ counted (holds_now machine.now) breakpoints.now counts.old }
-    ensures due { result ≡ any_due (holds_now machine.now) breakpoints.now counts.old }
+    ensures stops { result ≡ any_stops (those_due (holds_now machine.now) breakpoints.now counts.old) }
+    ensures logs { logs.new ≡ logs.old ++ logged machine.now (those_due (holds_now machine.now) breakpoints.now counts.old) }
 {
-    let mut due = false;
+    let mut stops = false;
     for breakpoint in breakpoints {
-        due |= count_arrival(machine, breakpoint, counts);
+        stops |= meet(machine, breakpoint, counts, logs);
     }
-    due
+    stops
 }
 
-/// Counts the arrivals at the machine's position: whether a breakpoint is due there.
+/// Counts the arrivals at the machine's position: whether a breakpoint stops the program there. What the position logs is left
+/// in `logs`.
 #[inline(always)]
-pub fn count_position(machine: &Machine, plan: &Option<Arc<Plan>>, counts: &mut [u32]) -> bool
+pub fn count_position(
+    machine: &Machine,
+    plan: &Option<Arc<Plan>>,
+    counts: &mut [u32],
+    logs: &mut Logs,
+) -> bool
     requires running { IsRunning machine.now }
     requires fits { MayBePlanOf machine.now.unit (option_map arc_value plan.now) }
     requires room { length counts.old ≡ breakpoint_limit }
+    requires empty { logs.old ≡ [] }
     // Whatever position the counts begin at, they go on, and say what is due.
     ensures { (first : ℕ) → first ≤ machine.now.position
         → AreCounts (program machine.now) (listed_of (option_map arc_value plan.now)) first machine.now.position counts.old
-        → CountsOn (program machine.now) (listed_of (option_map arc_value plan.now)) machine.now.position first counts.old result counts.new }
+        → CountsOn (program machine.now) (listed_of (option_map arc_value plan.now)) machine.now.position first result logs.new counts.new }
 {
     match plan {
         None => false,
@@ -93,7 +124,7 @@ pub fn count_position(machine: &Machine, plan: &Option<Arc<Plan>>, counts: &mut 
             if !plan.has_breakpoint(machine.address()) {
                 return false;
             }
-            count_arrivals(machine, plan.breakpoints_at(machine.next_step()), counts)
+            count_arrivals(machine, plan.entry(machine.next_step()), counts, logs)
         }
     }
 }
@@ -117,5 +148,6 @@ pub fn reason_here(machine: &Machine, hit: bool, mode: Mode) -> Option<Reason>
         Mode::In => Some(Reason::Step),
         Mode::Over(limit) => (depth <= limit).then_some(Reason::Step),
         Mode::Out(limit) => (depth < limit).then_some(Reason::Step),
+        Mode::StepBack | Mode::Reverse => None,
     }
 }

@@ -10,13 +10,16 @@ ghost use Rattle.dbg_plan.specs.Counting.{MayBePlanOf};
 use crate::breakpoint::BREAKPOINT_LIMIT;
 use crate::counting::{count_position, reason_here};
 use crate::evaluation::{EvalFault, evaluate};
+use crate::logs::Logs;
 use crate::mode::{Mode, Reason};
 use crate::plan::Plan;
 use crate::running::{run_on, stays_considered};
+use crate::trail::Trail;
 use core::mem::replace_with;
 use pl0_machine::{Machine, StepOutcome};
 use pl0_meaning::RunFault;
 use pl0_tree::Expression;
+use std::alloc::Global;
 use std::marker::Model;
 use std::sync::Arc;
 
@@ -34,12 +37,13 @@ pub enum Advance {
 /// A machine with the plan that is in force, and what was counted under it.
 #[derive(Drop)]
 pub struct Debuggee {
-    machine: Machine,
+    pub(crate) machine: Machine,
     plan: Option<Arc<Plan>>,
-    counts: [u32; BREAKPOINT_LIMIT],
-    counted_from: u64,
+    pub(crate) counts: [u32; BREAKPOINT_LIMIT],
+    pub(crate) counted_from: u64,
     // Whether the machine's position was considered. A flag, and no position, so that `advance` has nothing to store.
-    considered: bool,
+    pub(crate) considered: bool,
+    pub(crate) trail: Trail,
 }
 
 impl Model for Debuggee {
@@ -78,16 +82,17 @@ impl Debuggee {
     ghost use Rattle.pl0_meaning.specs.Values.{value};
     ghost use Rattle.pl0_machine.specs.Machine.{Stepped, outcome_of, frames, depth_of};
     ghost use Rattle.dbg_plan.specs.Plans.{IsPlanOf};
-    ghost use Rattle.dbg_plan.specs.Debugged.{machine_of, program_of, IsConsidered, IsNext, due_now};
+    ghost use Rattle.dbg_plan.specs.Debugged.{machine_of, program_of, IsConsidered, IsNext, due_now, logs_now};
     ghost use Rattle.dbg_plan.specs.Advances.{Advanced};
     ghost use Rattle.dbg_plan.specs.Running.{RanFrom};
     ghost use Rattle.dbg_plan.specs.Quiet.{RanTo};
     ghost use Rattle.pl0_machine.specs.declared.outcome.StepOutcome.TheVariants.{Went};
+    ghost use Rattle.dbg_plan.specs.Trail.{new_trail};
     ghost use Rattle.dbg_plan.specs.Values.{answered};
 
-    /// A machine under the empty plan. Its position is the next to be considered.
-    pub fn new(machine: Machine) -> Debuggee
-        ensures { result ≡ record { unit = machine.unit; position = machine.position; breakpoints = []; counted_from = machine.position; next = machine.position } }
+    /// A machine under the empty plan. Its position is the next to be considered. It allocates nothing.
+    pub fn new(alloc: Global, machine: Machine) -> Debuggee
+        ensures { result ≡ record { unit = machine.unit; position = machine.position; breakpoints = []; counted_from = machine.position; next = machine.position; trail = new_trail } }
     {
         let position = machine.position();
         Debuggee {
@@ -96,6 +101,7 @@ impl Debuggee {
             counts: [0; BREAKPOINT_LIMIT],
             counted_from: position,
             considered: false,
+            trail: Trail::new(alloc),
         }
     }
 
@@ -121,7 +127,7 @@ impl Debuggee {
     }
 
     // The next position to be considered.
-    fn next(&self) -> u64
+    pub(crate) fn next(&self) -> u64
         ensures { result ≡ self.now.next }
     {
         if self.considered {
@@ -154,26 +160,40 @@ impl Debuggee {
         self.counted_from = counted_from;
     }
 
-    /// Considers the position where the machine stands: whether it is due.
-    #[inline(always)]
-    pub fn consider(&mut self, mode: Mode) -> Option<Reason>
+    /// Considers the position where the machine stands: whether it is due. What it logs is left in `logs`.
+    pub fn consider(&mut self, mode: Mode, logs: &mut Logs) -> Option<Reason>
         requires { IsNext self.old }
         ensures due { result ≡ due_now self.old mode }
+        ensures logs { logs.new ≡ logs_now self.old }
+        ensures kept { self.new ≡ record self.old { next = self.old.next + 1 } }
+    {
+        logs.clear();
+        self.consider_on(mode, logs)
+    }
+
+    // The same with an empty room.
+    #[inline(always)]
+    fn consider_on(&mut self, mode: Mode, logs: &mut Logs) -> Option<Reason>
+        requires next { IsNext self.old }
+        requires empty { logs.old ≡ [] }
+        ensures due { result ≡ due_now self.old mode }
+        ensures logs { logs.new ≡ logs_now self.old }
         ensures kept { self.new ≡ record self.old { next = self.old.next + 1 } }
     {
         self.considered = true;
-        let hit = count_position(&self.machine, &self.plan, &mut self.counts);
+        let hit = count_position(&self.machine, &self.plan, &mut self.counts, logs);
         reason_here(&self.machine, hit, mode)
     }
 
     /// Takes the machine's next step, and considers the position that it leads to, if the program goes on there: what
-    /// `step` does, and then `consider`. The number that the step writes is appended to `numbers`,
-    /// which has room for it.
+    /// `step` does, and then `consider`. The number that the step writes is appended to `numbers`, which has room for it, and
+    /// what the position logs is left in `logs`.
     #[inline(always)]
-    pub fn advance(&mut self, mode: Mode, numbers: &mut Vec<i64>) -> Advance
+    pub fn advance(&mut self, mode: Mode, numbers: &mut Vec<i64>, logs: &mut Logs) -> Advance
         requires considered { IsConsidered self.old }
         requires room { vec_len numbers.old < vec_capacity numbers.old }
-        ensures led { Advanced mode self.old result self.new }
+        requires empty { logs.old ≡ [] }
+        ensures led { Advanced mode self.old result self.new logs.new }
         ensures written { numbers.new.items ≡ numbers.old.items ++ written_by (outcome_of (machine_of self.old)) }
         ensures capacity { vec_capacity numbers.new ≡ vec_capacity numbers.old }
     {
@@ -182,7 +202,7 @@ impl Debuggee {
                 if let Some(number) = written {
                     numbers.push_reserved(number);
                 }
-                let hit = count_position(&self.machine, &self.plan, &mut self.counts);
+                let hit = count_position(&self.machine, &self.plan, &mut self.counts, logs);
                 Advance::To(reason_here(&self.machine, hit, mode))
             }
             StepOutcome::Done => {
@@ -209,13 +229,14 @@ impl Debuggee {
 
     /// Advances in the mode `Continue` up to the position `limit`, while the steps write nothing and lead to positions
     /// without a breakpoint. The first that doesn't is the last, and then the answer says where it led. At the limit there is
-    /// no answer.
+    /// no answer. What the position logs is left in `logs`.
     #[inline(always)]
-    pub fn run(&mut self, limit: u64, numbers: &mut Vec<i64>) -> Option<Advance>
+    pub fn run(&mut self, limit: u64, numbers: &mut Vec<i64>, logs: &mut Logs) -> Option<Advance>
         requires considered { IsConsidered self.old }
         requires within { self.old.position ≤ limit }
         requires room { vec_len numbers.old < vec_capacity numbers.old }
-        ensures ran { RanFrom limit self.old numbers.old.items result self.new numbers.new.items }
+        requires empty { logs.old ≡ [] }
+        ensures ran { RanFrom limit self.old numbers.old.items result self.new numbers.new.items logs.new }
         ensures capacity { vec_capacity numbers.new ≡ vec_capacity numbers.old }
     {
         match self.run_quietly(limit)? {
@@ -223,7 +244,7 @@ impl Debuggee {
                 if let Some(last) = written {
                     numbers.push_reserved(last);
                 }
-                Some(Advance::To(self.consider(Mode::Continue)))
+                Some(Advance::To(self.consider_on(Mode::Continue, logs)))
             }
             StepOutcome::Done => Some(Advance::Done),
             StepOutcome::Fault(fault) => Some(Advance::Fault(fault)),

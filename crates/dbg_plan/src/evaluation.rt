@@ -57,8 +57,8 @@ fn variable(machine: &Machine, frame: usize, level: usize, index: usize) -> i64
     machine.value(found, index)
 }
 
-// The value of a bound expression in a frame of its block, the left operand first.
-fn value_of(
+/// The value of a bound expression in a frame of its block, the left operand first.
+pub fn value_of(
     machine: &Machine,
     frame: usize,
     expression: &LocatedExpression,

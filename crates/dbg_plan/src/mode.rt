@@ -13,6 +13,10 @@ pub enum Mode {
     Over(usize),
     /// Where fewer frames are alive.
     Out(usize),
+    /// None: the run goes back by one position.
+    StepBack,
+    /// None: the run goes back to the last position before it where a breakpoint is due.
+    Reverse,
 }
 
 /// Why a position is due.

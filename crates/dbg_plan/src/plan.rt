@@ -2,15 +2,29 @@
 
 ghost use Rattle.std.specs.Prelude.{◌≡◌, ◌+◌, ◌<◌, ◌^◌, [], All, Decides, option_map, length, slice_get, Some, IfOk};
 ghost use Rattle.std.specs.Arc.{arc_value};
+ghost use Rattle.std.specs.Option.{option_map_or};
+ghost use Rattle.dbg_plan.specs.Breakpoints.{plain_breakpoint};
+ghost use Rattle.dbg_plan.specs.PlainParts.{plain_parts};
 ghost use Rattle.dbg_plan.specs.Plans.{breakpoints_of};
 
 use crate::breakpoint::Breakpoint;
+use crate::message::Part;
 use crate::same::same_breakpoints;
 use crate::table::{starts_of, watched_of};
 use pl0_tree::StepNumber;
 use std::alloc::{AllocError, Global};
 use std::marker::Model;
 use std::sync::Arc;
+
+// The parts of a breakpoint's message; none without one.
+fn parts_of(breakpoint: &Breakpoint) -> &[Part]
+    ensures { plain_parts result.now ≡ option_map_or (λ m. m.parts) (plain_breakpoint breakpoint.now).message [] }
+{
+    match &breakpoint.message {
+        None => &[],
+        Some(message) => message.parts.as_slice(),
+    }
+}
 
 /// The breakpoints of a program. Those of step s stand in `ordered` from `starts[s]` up to `starts[s + 1]`.
 #[derive(Drop)]
@@ -40,7 +54,8 @@ impl Model for Plan {
 impl Plan {
     ghost use Rattle.std.specs.Prelude.{Decides};
     ghost use Rattle.dbg_plan.specs.Breakpoints.{plain_breakpoints};
-    ghost use Rattle.dbg_plan.specs.Plans.{those_of, watched_lines, IsNumbered};
+    ghost use Rattle.dbg_plan.specs.PlainParts.{plain_parts};
+    ghost use Rattle.dbg_plan.specs.Plans.{those_of, watched_lines, parts_at, IsNumbered};
 
     /// The plan of these breakpoints, for a program of `steps` steps, beside whose instructions stand `lines`.
     pub(crate) fn new(
@@ -100,12 +115,26 @@ impl Plan {
     }
 
     /// The breakpoints of a step, in the order asked.
-    pub fn breakpoints_at(&self, step: StepNumber) -> &[Breakpoint]
+    pub fn entry(&self, step: StepNumber) -> &[Breakpoint]
         requires { step < self.now.steps }
         ensures breakpoints { result.now ≡ those_of step self.now.breakpoints }
         ensures numbered { IsNumbered self.now.breakpoints }
     {
         &self.ordered[self.starts[step]..self.starts[step + 1]]
+    }
+
+    /// The parts of the message of the breakpoint with this number, from 0; none without one.
+    pub fn message(&self, number: usize) -> &[Part]
+        ensures { plain_parts result.now ≡ parts_at (plain_breakpoints self.now.breakpoints) number }
+    {
+        match self
+            .ordered
+            .iter()
+            .find(|breakpoint| breakpoint.number == number)
+        {
+            Some(breakpoint) => parts_of(breakpoint),
+            None => &[],
+        }
     }
 }
 

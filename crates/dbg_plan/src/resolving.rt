@@ -13,6 +13,7 @@ ghost use Rattle.dbg_plan.specs.Resolving.{IsBoundConditionOf, ResolvesLine};
 
 use crate::binding::bind_condition;
 use crate::breakpoint::{BoundCondition, Breakpoint};
+use crate::messages::{MessageFault, read_message};
 use crate::plan::Plan;
 use crate::rule::{BadHitCondition, read_rule};
 use pl0_syntax::{Names, editor_laws, parse_condition};
@@ -20,13 +21,14 @@ use pl0_tree::{Condition, StepNumber, SyntaxFault};
 use pl0_unit::Unit;
 use std::alloc::{AllocError, Global};
 
-/// A breakpoint as an editor asks for it: a line, with the texts of a condition and of a hit condition. An empty text is an
-/// absent one.
+/// A breakpoint as an editor asks for it: a line, with the texts of a condition, of a hit condition and of a log message. An
+/// empty text is an absent one.
 #[derive(Drop)]
 pub struct SourceBreakpoint {
     pub line: u32,
     pub condition: String,
     pub hit_condition: String,
+    pub log_message: String,
 }
 
 /// What a source breakpoint is resolved to: the step of its line, or why it has no breakpoint.
@@ -36,6 +38,7 @@ pub enum Resolution {
     NoStep,
     BadCondition,
     BadHitCondition,
+    BadLogMessage,
 }
 
 // The first step at a line or after it.
@@ -122,17 +125,23 @@ fn resolve_line(
         Ok(rule) => rule,
         Err(BadHitCondition) => return Ok(Resolution::BadHitCondition),
     };
+    let message = match read_message(alloc, unit, names, asked.log_message.as_str(), step) {
+        Ok(message) => message,
+        Err(MessageFault::NoMemory) => return Err(AllocError),
+        Err(MessageFault::Bad) => return Ok(Resolution::BadLogMessage),
+    };
     let number = breakpoints.len();
     breakpoints.push(Breakpoint {
         number,
         step,
         condition,
         rule,
+        message,
     })?;
     Ok(Resolution::At(step))
 }
 
-// The names of a program, with tables where a condition is asked for.
+// The names of a program, with tables where names are to be looked up.
 fn names_for<'a>(
     alloc: Global,
     unit: &'a Unit,
@@ -141,7 +150,7 @@ fn names_for<'a>(
     ensures { IfOk result (λ names. names ≡ unit.now.tree.program) }
 {
     let main = &unit.tree.program;
-    if asked.iter().any(|line| !line.condition.is_empty()) {
+    if asked.iter().any(|line| !line.condition.is_empty() || !line.log_message.is_empty()) {
         Names::with_tables(alloc, main, &unit.nestings)
     } else {
         Ok(Names::new(main, &unit.nestings))

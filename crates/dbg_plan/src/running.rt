@@ -1,17 +1,59 @@
-// Steps that write nothing and lead to positions without a breakpoint.
+// Steps that write nothing and lead to no arrival at a breakpoint.
 
-ghost use Rattle.std.specs.Prelude.{◌≡◌, ◌≤◌, Decides, not, false, Some, None, option_map};
+ghost use Rattle.std.specs.Prelude.{◌≡◌, ◌≤◌, All, Decides, IsTrue, false, Some, None, option_map};
 ghost use Rattle.std.specs.Arc.{arc_value};
 ghost use Rattle.pl0_machine.specs.declared.outcome.StepOutcome.TheVariants.{Went};
+ghost use Rattle.std.specs.List.{list_any};
 ghost use Rattle.dbg_plan.specs.Debugged.{IsRunning};
-ghost use Rattle.dbg_plan.specs.Counting.{MayBePlanOf};
+ghost use Rattle.dbg_plan.specs.Counting.{holds_now, IsMetHere, MayBePlanOf};
 ghost use Rattle.dbg_plan.specs.Plans.{breakpoints_of};
-ghost use Rattle.dbg_plan.specs.Running.{is_at_breakpoint};
+ghost use Rattle.dbg_plan.specs.Running.{has_arrival};
 ghost use Rattle.dbg_plan.specs.Quiet.{Watches, RanByMachine, considered_after};
 
+use crate::breakpoint::Breakpoint;
+use crate::evaluation::is_met;
 use crate::plan::Plan;
 use pl0_machine::{Machine, StepOutcome};
 use std::sync::Arc;
+
+// Whether the condition of one of these breakpoints holds, which are those of the machine's step.
+fn any_met(machine: &Machine, breakpoints: &[Breakpoint]) -> bool
+    requires running { IsRunning machine.now }
+    requires here { All (IsMetHere machine.now) breakpoints.now }
+    ensures { result ≡ list_any (holds_now machine.now) breakpoints.now }
+{
+    breakpoints
+        .iter()
+        .any(|breakpoint| is_met(machine, breakpoint))
+}
+
+// Whether the program has arrived at a breakpoint.
+fn has_arrival(machine: &Machine, plan: &Option<Arc<Plan>>) -> bool
+    requires running { IsRunning machine.now }
+    requires fits { MayBePlanOf machine.now.unit (option_map arc_value plan.now) }
+    ensures { result ≡ has_arrival (breakpoints_of (option_map arc_value plan.now)) machine.now }
+{
+    match plan {
+        None => false,
+        Some(plan) => any_met(machine, plan.entry(machine.next_step())),
+    }
+}
+
+// Whether a step wrote nothing, and led to a position without an arrival. It stands apart, and moves the machine, so that
+// the loop may keep the machine's registers in the processor's.
+#[inline(never)]
+fn settles(machine: Machine, outcome: StepOutcome, plan: &Option<Arc<Plan>>) -> (Machine, bool)
+    requires running { outcome ≡ Went None → IsRunning machine }
+    requires fits { MayBePlanOf machine.unit (option_map arc_value plan.now) }
+    ensures machine { result.0 ≡ machine }
+    ensures quiet { Decides result.1 ((outcome ≡ Went None) × (has_arrival (breakpoints_of (option_map arc_value plan.now)) machine ≡ false)) }
+{
+    let quiet = match outcome {
+        StepOutcome::Went(None) => !has_arrival(&machine, plan),
+        _ => false,
+    };
+    (machine, quiet)
+}
 
 // Whether no breakpoint stands at the machine's position.
 #[inline(always)]
@@ -19,7 +61,7 @@ fn is_unwatched(machine: &Machine, plan: &Option<Arc<Plan>>, watched: Option<&[b
     requires running { IsRunning machine.now }
     requires fits { MayBePlanOf machine.now.unit (option_map arc_value plan.now) }
     requires table { Watches (option_map arc_value plan.now) (option_map (λ table. table.now) watched) }
-    ensures { result ≡ not (is_at_breakpoint (breakpoints_of (option_map arc_value plan.now)) machine.now) }
+    ensures { IsTrue result → has_arrival (breakpoints_of (option_map arc_value plan.now)) machine.now ≡ false }
 {
     match watched {
         None => true,
@@ -38,7 +80,7 @@ fn is_quiet(
     requires running { outcome ≡ Went None → IsRunning machine.now }
     requires fits { MayBePlanOf machine.now.unit (option_map arc_value plan.now) }
     requires table { Watches (option_map arc_value plan.now) (option_map (λ table. table.now) watched) }
-    ensures { Decides result ((outcome ≡ Went None) × (is_at_breakpoint (breakpoints_of (option_map arc_value plan.now)) machine.now ≡ false)) }
+    ensures { IsTrue result → (outcome ≡ Went None) × (has_arrival (breakpoints_of (option_map arc_value plan.now)) machine.now ≡ false) }
 {
     match outcome {
         StepOutcome::Went(None) => is_unwatched(machine, plan, watched),
@@ -64,7 +106,11 @@ fn run_quietly(
     'steps: while machine.position() < limit {
         let outcome = machine.step();
         if !is_quiet(outcome, &machine, plan, watched) {
-            return (machine, Some(outcome));
+            let (moved, quiet) = settles(machine, outcome, plan);
+            machine = moved;
+            if !quiet {
+                return (machine, Some(outcome));
+            }
         }
     }
     (machine, None)

@@ -1,10 +1,11 @@
 // Whether breakpoints are the same, whoever made them.
 
 ghost use Rattle.std.specs.Prelude.{◌≡◌, Decides, map, option_map};
-ghost use Rattle.dbg_plan.specs.Breakpoints.{text_condition};
+ghost use Rattle.dbg_plan.specs.Breakpoints.{text_condition, plain_message};
 ghost use Rattle.dbg_plan.specs.Table.{numbered_of};
 
 use crate::breakpoint::{BoundCondition, Breakpoint, Rule};
+use crate::message::LogMessage;
 
 fn same_rule(left: Option<Rule>, right: Option<Rule>) -> bool
     ensures { Decides result (left ≡ right) }
@@ -28,6 +29,17 @@ fn same_condition(left: &Option<BoundCondition>, right: &Option<BoundCondition>)
     }
 }
 
+// A text reads as one message, so that the texts decide.
+fn same_message(left: &Option<LogMessage>, right: &Option<LogMessage>) -> bool
+    ensures { Decides result (option_map plain_message left.now ≡ option_map plain_message right.now) }
+{
+    match (left, right) {
+        (Some(left), Some(right)) => left.text.as_str() == right.text.as_str(),
+        (None, None) => true,
+        _ => false,
+    }
+}
+
 fn same_breakpoint(left: &Breakpoint, right: &Breakpoint) -> bool
     ensures { Decides result (numbered_of left.now ≡ numbered_of right.now) }
 {
@@ -35,6 +47,7 @@ fn same_breakpoint(left: &Breakpoint, right: &Breakpoint) -> bool
         && left.step == right.step
         && same_rule(left.rule, right.rule)
         && same_condition(&left.condition, &right.condition)
+        && same_message(&left.message, &right.message)
 }
 
 /// Whether these are the same breakpoints with the same numbers, in the same order.

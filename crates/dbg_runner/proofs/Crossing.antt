@@ -6,10 +6,12 @@ use Rattle.pl0_tree.proofs.tree.Block.TheLaws.TheKnot as block
 use Rattle.pl0_tree.proofs.tree.Expression.TheLaws.TheKnot as expression
 use Rattle.pl0_tree.proofs.tree.Statement.TheLaws.TheKnot as statement
 use Rattle.pl0_unit.specs.contracts.unit.Unit as Compiled
-use Rattle.pl0_machine.specs.contracts.machine.Machine as Machine
+use Rattle.pl0_machine.proofs.Crossing.{machine_send}
+use Rattle.pl0_machine.specs.contracts.checkpoint.Checkpoint as Checkpoint
+use Rattle.dbg_plan.specs.contracts.trail.Trail as Trail
 use Rattle.dbg_plan.specs.contracts.plan.Plan as Plan
 use Rattle.dbg_plan.specs.contracts.debuggee.Debuggee as Debuggee
-use Rattle.dbg_runner.specs.contracts.outputs.Outputs as Outputs
+use Rattle.dbg_runner.specs.contracts.produced.Produced as Produced
 use Rattle.dbg_runner.specs.contracts.report.Report as Report
 use Rattle.dbg_runner.specs.contracts.order.Considered as Considered
 use Rattle.dbg_runner.specs.contracts.order.Order as Order
@@ -26,17 +28,20 @@ plan_send = search (crosses, located.crosses, expression.crosses, sendable) dept
 plan_sync : IsSync Plan.the_row
 plan_sync = search (crosses, located.crosses, expression.crosses, sendable) depth 60 fits 20000
 
-machine_send : IsSend Machine.the_field.row
-machine_send = let a = unit_send in let b = unit_sync in search (crosses, sendable) depth 60 fits 20000
+checkpoint_send : IsSend Checkpoint.the_field.row
+checkpoint_send = let a = unit_send in let b = unit_sync in search (crosses, sendable) depth 60 fits 20000
+
+trail_send : IsSend Trail.the_field.row
+trail_send = let a = checkpoint_send in search (crosses, sendable) depth 60 fits 20000
 
 debuggee_send : IsSend Debuggee.the_row
-debuggee_send = let a = machine_send in let c = plan_send in let d = plan_sync in search (crosses, sendable) depth 60 fits 20000
+debuggee_send = let a = machine_send in let b = trail_send in let c = plan_send in let d = plan_sync in search (crosses, sendable) depth 60 fits 20000
 
-outputs_send : IsSend Outputs.the_field.row
-outputs_send = let a = unit_send in let b = unit_sync in let c = plan_send in let d = plan_sync in search (crosses, sendable) depth 60 fits 20000
+produced_send : IsSend Produced.the_field.row
+produced_send = let a = unit_send in let b = unit_sync in let c = plan_send in let d = plan_sync in search (crosses, sendable) depth 60 fits 20000
 
 pub report_send : IsSend Report.the_field.row
-report_send = let a = debuggee_send in let b = outputs_send in search (crosses, sendable) depth 60 fits 20000
+report_send = let a = debuggee_send in let b = produced_send in search (crosses, sendable) depth 60 fits 20000
 
 considered_send : IsSend Considered.the_field.row
 considered_send = let a = debuggee_send in search (crosses, sendable) depth 60 fits 20000

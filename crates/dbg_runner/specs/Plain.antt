@@ -1,8 +1,20 @@
 -- Reports and orders as data, without addresses. All that is said of runs is said of these.
-use Rattle.std.specs.Prelude.{ℕ, List, ℤ}
+use Rattle.std.specs.Prelude.{ℕ, Bool, true, false, List, ℤ}
 use Rattle.dbg_plan.specs.Breakpoints.{Breakpoint}
+use Rattle.dbg_plan.specs.Logs.{Log}
 use Rattle.dbg_plan.specs.declared.mode.Mode.{Mode}
+use Rattle.dbg_plan.specs.declared.mode.Mode.TheVariants.{Entry, Continue, In, Over, Out, StepBack, Reverse}
 use Rattle.dbg_runner.specs.declared.outcome.SliceOutcome.{SliceOutcome}
+
+-- a run in this mode goes back
+abbrev pub goes_back : Mode → Bool
+goes_back StepBack = true
+goes_back Reverse = true
+goes_back Entry = false
+goes_back Continue = false
+goes_back In = false
+goes_back (Over d) = false
+goes_back (Out d) = false
 
 -- What fixes the next report of a run: the run's number, its program's text, its plan with the first position that it
 -- counts, its mode, and the position from which it goes on.
@@ -14,7 +26,8 @@ pub record Heading : Type 0 where
   pub mode : Mode
   pub start : ℕ
 
--- A report: it goes from position `start` to position `end`, wrote these numbers, and ended so.
+-- A report: it goes from position `start`, up to which the program wrote `before` numbers, to position `end`. In a run that
+-- goes back, `again` steps were run again so far. It wrote these numbers, logged this where it ends, and ended so.
 pub record PlainReport : Type 0 where
   pub run : ℕ
   pub text : List ℕ
@@ -23,7 +36,10 @@ pub record PlainReport : Type 0 where
   pub mode : Mode
   pub start : ℕ
   pub end : ℕ
+  pub before : ℕ
+  pub again : ℕ
   pub numbers : List ℤ
+  pub logs : List Log
   pub outcome : SliceOutcome
 
 abbrev pub heading_of : PlainReport → Heading

@@ -1,17 +1,19 @@
 -- What contracts see of a report, and what it is as data.
-use Rattle.std.specs.Prelude.{ℕ, ◌+◌, List, Option, Some, None, ℤ}
+use Rattle.std.specs.Prelude.{◌≡◌, ℕ, ◌+◌, ◌≤◌, Bool, true, false, [], List, Option, Some, None, ℤ}
 use Rattle.pl0_unit.specs.declared.unit.Unit.{Unit as Compiled}
 use Rattle.pl0_machine.specs.Machine.{program_of}
 use Rattle.dbg_plan.specs.Breakpoints.{Breakpoint}
+use Rattle.dbg_plan.specs.Logs.{Log}
 use Rattle.dbg_plan.specs.declared.mode.Mode.{Mode}
-use Rattle.dbg_plan.specs.Debugged.{Debugged}
+use Rattle.dbg_plan.specs.Trail.{Trail, new_trail}
+use Rattle.dbg_plan.specs.Debugged.{Debugged, IsConsidered}
 use Rattle.dbg_runner.specs.declared.outcome.SliceOutcome.{SliceOutcome}
 use Rattle.dbg_runner.specs.declared.outcome.SliceOutcome.TheVariants as out
 use Rattle.dbg_runner.specs.declared.report.Summary.{Summary}
-use Rattle.dbg_runner.specs.Plain.{Heading, PlainReport}
+use Rattle.dbg_runner.specs.Plain.{Heading, PlainReport, goes_back}
 use Rattle.dbg_runner.specs.Lawful.{IsLawfulFor}
 
--- A report with its program's code.
+-- A report with its program's code, and the debuggee that it carries.
 pub record Reported : Type 0 where
   pub run : ℕ
   pub unit : Compiled
@@ -20,19 +22,23 @@ pub record Reported : Type 0 where
   pub mode : Mode
   pub start : ℕ
   pub end : ℕ
+  pub before : ℕ
+  pub again : ℕ
   pub numbers : List ℤ
+  pub logs : List Log
   pub outcome : SliceOutcome
+  pub debuggee : Option Debugged
 
 abbrev pub text_of : Compiled → List ℕ
 text_of u = u.tree.text.items
 
 abbrev pub plain_report : Reported → PlainReport
 plain_report r =
-    record { run = r.run; text = text_of r.unit; plan = r.plan; counted_from = r.counted_from; mode = r.mode; start = r.start; end = r.end; numbers = r.numbers; outcome = r.outcome }
+    record { run = r.run; text = text_of r.unit; plan = r.plan; counted_from = r.counted_from; mode = r.mode; start = r.start; end = r.end; before = r.before; again = r.again; numbers = r.numbers; logs = r.logs; outcome = r.outcome }
 
 -- the run, the mode, the positions and the outcome of a report
 abbrev pub summary_of : Reported → Summary
-summary_of r = record { run = r.run; counted_from = r.counted_from; mode = r.mode; start = r.start; end = r.end; outcome = r.outcome }
+summary_of r = record { run = r.run; counted_from = r.counted_from; mode = r.mode; start = r.start; end = r.end; before = r.before; again = r.again; outcome = r.outcome }
 
 -- the report is what the meaning of its program gives
 abbrev pub IsKept : Reported → Type 0
@@ -42,9 +48,17 @@ IsKept r = IsLawfulFor (program_of r.unit) (plain_report r)
 abbrev pub heading : ℕ → Debugged → Mode → Heading
 heading run d mode = record { run = run; text = text_of d.unit; plan = d.breakpoints; counted_from = d.counted_from; mode = mode; start = d.position }
 
+-- ---- the debuggee after a report
+
+-- The first position that its plan counts. Where a run that goes back stops, counts begin anew at the next position.
+abbrev pub counts_from : Bool → Reported → ℕ
+counts_from false r = r.counted_from
+counts_from true r = r.end + 1
+
 -- the debuggee where the report ends, which was considered there
-abbrev pub stopped : Reported → Debugged
-stopped r = record { unit = r.unit; position = r.end; breakpoints = r.plan; counted_from = r.counted_from; next = r.end + 1 }
+abbrev pub stopped : Reported → Trail → Debugged
+stopped r trail =
+    record { unit = r.unit; position = r.end; breakpoints = r.plan; counted_from = counts_from (goes_back r.mode) r; next = r.end + 1; trail = trail }
 
 -- Where the debuggee is once its slice is reported.
 pub data Whereabouts : Type 0 where
@@ -68,10 +82,23 @@ abbrev pub beside_report : Whereabouts → Debugged → Option Debugged
 beside_report BesideReport d = Some d
 beside_report _ d = None
 
--- the debuggee that the report carries
-abbrev pub carried : Reported → SliceOutcome → Option Debugged
-carried r outcome = in_report (whereabouts outcome) (stopped r)
+-- the trail of a debuggee, if there is one
+abbrev pub trail_in : Option Debugged → Trail
+trail_in None = new_trail
+trail_in (Some d) = d.trail
 
--- the debuggee that goes on beside the report
-abbrev pub left : Reported → SliceOutcome → Option Debugged
-left r outcome = beside_report (whereabouts outcome) (stopped r)
+-- what a report carries, where its debuggee stands at its end
+abbrev pub carried : Reported → SliceOutcome → Option Debugged
+carried r outcome = in_report (whereabouts outcome) (stopped r (trail_in r.debuggee))
+
+-- A debuggee of the report's program and plan that a run which goes back came to, considered there.
+pub record IsOnItsWay (r : Reported) (d : Debugged) : Type 0 where
+  pub unit : d.unit ≡ r.unit
+  pub breakpoints : d.breakpoints ≡ r.plan
+  pub before : d.position ≤ r.start
+  pub considered : IsConsidered d
+
+-- What a report carries: the debuggee where it ends. A run that goes back and finds no memory gives it up on its way.
+abbrev pub Carries : Bool → Reported → SliceOutcome → Type 0
+Carries true r out.NoMemory = (d : Debugged) × (r.debuggee ≡ Some d) × IsOnItsWay r d
+Carries back r outcome = r.debuggee ≡ carried r outcome

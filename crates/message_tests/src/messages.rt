@@ -55,7 +55,7 @@ fn is_ended_so(rt: &impl Abort, alloc: Global, message: &Outgoing, first: &str, 
 
 /// What an answer to `initialize` begins with.
 const CAPABILITIES: &str =
-    r#""body":{"supportsConditionalBreakpoints":true,"supportsConfigurationDoneRequest":true,"supportsHitConditionalBreakpoints":true},"command":"initialize""#;
+    r#""body":{"supportsConditionalBreakpoints":true,"supportsConfigurationDoneRequest":true,"supportsHitConditionalBreakpoints":true,"supportsLogPoints":true,"supportsStepBack":true},"command":"initialize""#;
 
 #[test]
 fn writes_small_bodies(rt: HostRuntime) {
@@ -276,12 +276,20 @@ fn is_event_written(rt: &impl Abort, alloc: Global, event: EventBody, expected: 
 
 #[test]
 fn writes_events(rt: HostRuntime) {
-    for (event, expected) in EVENTS.as_slice() {
+    for (event, expected) in EVENTS {
         assert!(rt;
-            is_event_written(&rt, rt.alloc(), *event, expected),
+            is_event_written(&rt, rt.alloc(), event, expected),
             "{expected}"
         );
     }
+}
+
+#[test]
+fn writes_logs(rt: HostRuntime) {
+    let alloc = rt.alloc();
+    let event = EventBody::Log(text(&rt, alloc, "x is 0, \"é\"\n"));
+    let expected = r#""body":{"category":"console","output":"x is 0, \"é\"\n"},"event":"output""#;
+    assert!(rt; is_event_written(&rt, alloc, event, expected));
 }
 
 #[test]

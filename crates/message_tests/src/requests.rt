@@ -128,7 +128,7 @@ const LAUNCH: [Row; 11] = [
     ),
 ];
 
-const SET_BREAKPOINTS: [Row; 12] = [
+const SET_BREAKPOINTS: [Row; 13] = [
     (
         "setBreakpoints",
         r#"{"source":{}}"#,
@@ -136,8 +136,8 @@ const SET_BREAKPOINTS: [Row; 12] = [
     ),
     (
         "setBreakpoints",
-        r#"{"source":{"path":"p.pl0"},"breakpoints":[{"line":2},{"line":0,"condition":"x > 2","hitCondition":"%2"},{"line":2147483647,"condition":""}]}"#,
-        r#"SetBreakpoints(SetBreakpointsArguments { path: Some(Text { text: "p.pl0" }), breakpoints: Items { items: [SourceBreakpoint { line: 2, condition: Text { text: "" }, hit_condition: Text { text: "" } }, SourceBreakpoint { line: 0, condition: Text { text: "x > 2" }, hit_condition: Text { text: "%2" } }, SourceBreakpoint { line: 2147483647, condition: Text { text: "" }, hit_condition: Text { text: "" } }] } })"#,
+        r#"{"source":{"path":"p.pl0"},"breakpoints":[{"line":2},{"line":0,"condition":"x > 2","hitCondition":"%2","logMessage":"x is {x}"},{"line":2147483647,"condition":""}]}"#,
+        r#"SetBreakpoints(SetBreakpointsArguments { path: Some(Text { text: "p.pl0" }), breakpoints: Items { items: [SourceBreakpoint { line: 2, condition: Text { text: "" }, hit_condition: Text { text: "" }, log_message: Text { text: "" } }, SourceBreakpoint { line: 0, condition: Text { text: "x > 2" }, hit_condition: Text { text: "%2" }, log_message: Text { text: "x is {x}" } }, SourceBreakpoint { line: 2147483647, condition: Text { text: "" }, hit_condition: Text { text: "" }, log_message: Text { text: "" } }] } })"#,
     ),
     ("setBreakpoints", "{}", "BadArguments(SetBreakpoints)"),
     (
@@ -185,6 +185,11 @@ const SET_BREAKPOINTS: [Row; 12] = [
         r#"{"source":{},"breakpoints":[{"line":1,"hitCondition":2}]}"#,
         "BadArguments(SetBreakpoints)",
     ),
+    (
+        "setBreakpoints",
+        r#"{"source":{},"breakpoints":[{"line":1,"logMessage":null}]}"#,
+        "BadArguments(SetBreakpoints)",
+    ),
 ];
 
 const WITHOUT_ARGUMENTS: [Row; 3] = [
@@ -193,7 +198,7 @@ const WITHOUT_ARGUMENTS: [Row; 3] = [
     ("disconnect", "null", "Disconnect"),
 ];
 
-const THREADS: [Row; 11] = [
+const THREADS: [Row; 15] = [
     (
         "continue",
         r#"{"threadId":1}"#,
@@ -215,6 +220,16 @@ const THREADS: [Row; 11] = [
         "StepOut(ThreadArguments { thread_id: 9007199254740991 })",
     ),
     (
+        "stepBack",
+        r#"{"threadId":1,"granularity":"line"}"#,
+        "StepBack(ThreadArguments { thread_id: 1 })",
+    ),
+    (
+        "reverseContinue",
+        r#"{"threadId":1}"#,
+        "ReverseContinue(ThreadArguments { thread_id: 1 })",
+    ),
+    (
         "pause",
         r#"{"threadId":1,"granularity":"line"}"#,
         "Pause(ThreadArguments { thread_id: 1 })",
@@ -228,6 +243,8 @@ const THREADS: [Row; 11] = [
         r#"{"threadId":9007199254740992}"#,
         "BadArguments(StepOut)",
     ),
+    ("stepBack", "{}", "BadArguments(StepBack)"),
+    ("reverseContinue", "[]", "BadArguments(ReverseContinue)"),
     ("pause", "null", "BadArguments(Pause)"),
 ];
 
@@ -363,7 +380,7 @@ struct Limit {
     last: &'static str,
 }
 
-const LIMITS: [Limit; 5] = [
+const LIMITS: [Limit; 6] = [
     Limit {
         command: "launch",
         first: r#"{"program":""#,
@@ -390,6 +407,13 @@ const LIMITS: [Limit; 5] = [
         first: r#"{"source":{},"breakpoints":[{"line":1,"hitCondition":""#,
         repeated: "a",
         most: 1024,
+        last: r#""}]}"#,
+    },
+    Limit {
+        command: "setBreakpoints",
+        first: r#"{"source":{},"breakpoints":[{"line":1,"logMessage":""#,
+        repeated: "é",
+        most: 512,
         last: r#""}]}"#,
     },
     Limit {

@@ -45,9 +45,13 @@ fn of_event(alloc: Global, seq: &str, event: &str, shown: &str) -> Result<String
         "output" => format!(in alloc;
             "\"body\":{{\"category\":\"stdout\",\"output\":\"{shown}\\n\"}},"
         )?,
+        "console" => format!(in alloc;
+            "\"body\":{{\"category\":\"console\",\"output\":\"{shown}\\n\"}},"
+        )?,
         "exited" => format!(in alloc; "\"body\":{{\"exitCode\":{shown}}},")?,
         _ => String::new(alloc),
     };
+    let event = if event == "console" { "output" } else { event };
     format!(in alloc; "{{{body}\"event\":\"{event}\",\"seq\":{seq},\"type\":\"event\"}}")
 }
 
@@ -68,7 +72,7 @@ fn body(alloc: Global, command: &str, shown: &str) -> Result<String, AllocError>
     match command {
         "initialize" => String::from_str(
             alloc,
-            r#""body":{"supportsConditionalBreakpoints":true,"supportsConfigurationDoneRequest":true,"supportsHitConditionalBreakpoints":true},"#,
+            r#""body":{"supportsConditionalBreakpoints":true,"supportsConfigurationDoneRequest":true,"supportsHitConditionalBreakpoints":true,"supportsLogPoints":true,"supportsStepBack":true},"#,
         ),
         "threads" => String::from_str(alloc, r#""body":{"threads":[{"id":1,"name":"main"}]},"#),
         "continue" => String::from_str(alloc, r#""body":{"allThreadsContinued":true},"#),

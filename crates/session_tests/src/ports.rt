@@ -1,7 +1,7 @@
 //! Ports over memory. Each notes after how many events something came; out of memory ends the test.
 
 use crate::reports::described;
-use crate::runner::{Running, obey, report_next};
+use crate::runner::{Running, obey, report_next, report_no_memory};
 use crate::text::{framed, unescaped};
 use dap_session::{Event, Inbox, LoadFault, Loader, Order, OrderFault, Orders, Out};
 use dbg_runner::History;
@@ -93,6 +93,22 @@ impl<'a, R: Abort> Events<'a, R> {
         Event::Report(report)
     }
 
+    /// What the runner reports where it has no memory.
+    fn report_no_memory(&mut self) -> Event {
+        let running = self.running.replace(None).expect(self.rt, "a run");
+        let report = report_no_memory(running);
+        Event::Report(report.expect(self.rt, "a run that goes on"))
+    }
+
+    /// A file of this text, or what came in its place.
+    fn file(&self, text: &str) -> Event {
+        Event::File(match text {
+            "cannotRead" => Err(LoadFault::CannotRead),
+            "noMemory" => Err(LoadFault::NoMemory),
+            text => Ok(Vec::from_slice(self.alloc, text.as_bytes()).expect(self.rt, "memory")),
+        })
+    }
+
     fn next_event(&mut self) -> Event {
         if self.sent < self.bytes.len() {
             return self.next_piece();
@@ -104,8 +120,14 @@ impl<'a, R: Abort> Events<'a, R> {
             self.join_lines();
             return self.next_piece();
         }
+        if line == "S noMemory" {
+            return self.report_no_memory();
+        }
         if let Some(end) = line.strip_prefix("S") {
             return self.next_report(end);
+        }
+        if let Some(text) = line.strip_prefix("F ") {
+            return self.file(text);
         }
         if let Some(description) = line.strip_prefix("R ") {
             let report = described(self.rt, self.alloc, description, self.program);

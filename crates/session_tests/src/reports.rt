@@ -1,8 +1,11 @@
 //! Reports that no run of the session gives.
 
+ghost use Rattle.std.specs.Prelude.{◌≡◌, false};
+ghost use Rattle.dbg_runner.specs.Plain.{goes_back};
+
 use dap_session::Report;
-use dbg_plan::{Debuggee, Mode, SourceBreakpoint, resolve};
-use dbg_runner::{Considered, next_report};
+use dbg_plan::{Debuggee, Logs, Mode, SourceBreakpoint, resolve};
+use dbg_runner::{Buffers, Considered, next_report};
 use pl0_code::compile;
 use pl0_machine::Machine;
 use pl0_syntax::parse;
@@ -21,10 +24,19 @@ pub fn described(rt: &impl Abort, alloc: Global, description: &str, program: &st
     let start = start.parse::<u64>().expect(rt, "a number");
     let mode = mode_of(mode);
     let debuggee = debuggee_at(rt, alloc, text, lines, start);
-    next_report(alloc, run, debuggee.into_debuggee(), mode).0
+    next_report(
+        alloc,
+        run,
+        debuggee.into_debuggee(),
+        mode,
+        &mut Buffers::new(),
+    )
+    .0
 }
 
-fn mode_of(name: &str) -> Mode {
+fn mode_of(name: &str) -> Mode
+    ensures { goes_back result ≡ false }
+{
     match name {
         "Entry" => Mode::Entry,
         "In" => Mode::In,
@@ -43,6 +55,7 @@ fn asked(rt: &impl Abort, alloc: Global, lines: &str) -> Vec<SourceBreakpoint> {
                     line,
                     condition: String::new(alloc),
                     hit_condition: String::new(alloc),
+                    log_message: String::new(alloc),
                 })
                 .expect(rt, "memory");
         }
@@ -73,15 +86,22 @@ fn begun(
     let (plan, _) = resolve(alloc, machine.unit(), asked).expect(rt, "memory");
     let plan = Arc::new(alloc, plan).expect(rt, "memory");
     assert!(rt; machine.depth() > 0);
-    let mut debuggee = Debuggee::new(machine);
+    let mut debuggee = Debuggee::new(alloc, machine);
     debuggee.set_plan(plan);
-    debuggee.consider(Mode::Continue);
+    let mut logs = Logs::new(alloc).expect(rt, "memory");
+    debuggee.consider(Mode::Continue, &mut logs);
     Considered::new(Box::new(alloc, debuggee).expect(rt, "memory"))
 }
 
 /// The program a step later.
 fn stepped(rt: &impl Abort, alloc: Global, debuggee: Considered) -> Considered {
-    let (report, _) = next_report(alloc, 0, debuggee.into_debuggee(), Mode::In);
+    let (report, _) = next_report(
+        alloc,
+        0,
+        debuggee.into_debuggee(),
+        Mode::In,
+        &mut Buffers::new(),
+    );
     let debuggee = report.into_debuggee().map(Considered::new);
     debuggee.expect(rt, "a step")
 }

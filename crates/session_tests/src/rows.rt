@@ -1,8 +1,10 @@
 //! Worked sessions.
 
 mod breakpoints;
+mod going_back;
 mod holding;
 mod launching;
+mod logging;
 mod running;
 mod sizes;
 mod stale;
@@ -61,4 +63,14 @@ fn stale_reports_are_passed_over(rt: HostRuntime) {
 #[test]
 fn the_largest_sizes_are_served(rt: HostRuntime) {
     assert_sessions(&rt, rt.alloc(), sizes::SESSIONS);
+}
+
+#[test]
+fn log_points_speak(rt: HostRuntime) {
+    assert_sessions(&rt, rt.alloc(), logging::SESSIONS);
+}
+
+#[test]
+fn programs_go_back(rt: HostRuntime) {
+    assert_sessions(&rt, rt.alloc(), going_back::SESSIONS);
 }

@@ -23,18 +23,26 @@ fn push_numbered(
     }
 }
 
+/// The first and the last number of `6..261`, or of `256`, which counts from 1.
+fn bounds(rt: &impl Abort, times: &str) -> (u32, u32) {
+    let (first, last) = times.split_once("..").unwrap_or(("1", times));
+    let first = first.parse::<u32>().expect(rt, "a number");
+    let last = last.parse::<u32>().expect(rt, "a number");
+    (first, last)
+}
+
 /// The text, where `~256 PIECE~` stands for 256 times the piece, with 1 to 256 in the place of `%`, and 257 to 2 in that
-/// of `&`.
+/// of `&`; and `~6..261 PIECE~` for as many, with 6 to 261 in the place of `%`.
 pub fn expanded(rt: &impl Abort, alloc: Global, text: &str) -> String {
     let mut whole = String::new(alloc);
     let mut repeats = false;
     for part in text.split('~') {
         if repeats {
             let (times, piece) = part.split_once(' ').expect(rt, "a piece that is repeated");
-            let times = times.parse::<u32>().expect(rt, "a number");
-            for up in 0..times {
-                let from = times.saturating_sub(up).saturating_add(1);
-                push_numbered(rt, alloc, &mut whole, piece, up.saturating_add(1), from);
+            let (first, last) = bounds(rt, times);
+            for up in first..=last {
+                let down = last.saturating_sub(up).saturating_add(2);
+                push_numbered(rt, alloc, &mut whole, piece, up, down);
             }
         } else {
             whole.push_str(part).expect(rt, "memory");

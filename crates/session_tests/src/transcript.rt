@@ -6,7 +6,9 @@
 //! - `> COMMAND ARGUMENTS`, a request of the client, numbered from 1, or `+ ..`, one in the same piece as the line before;
 //! - `>> CONTENT`, a frame of any content, and `>>> BYTES` or `+> BYTES`, bytes that needn't be a frame (`text`);
 //! - `S 10`, the runner's next report, which ends at position 10, or `S`, one that ends anywhere;
+//! - `S noMemory`, the report that the runner has no memory for its next slice;
 //! - `R ..`, a report that is handed in besides (`reports`);
+//! - `F TEXT`, a file of this text that nobody asked for, or `F cannotRead` or `F noMemory` in its place;
 //! - `end`, `read failed` and `no memory`, after which nothing comes.
 //!
 //! What comes of an event are messages, as `4: ok configurationDone/3` (`expected`), and orders, as `! Go 1`. The last line, as
@@ -55,7 +57,7 @@ fn transcript_of(rt: &impl Abort, alloc: Global, session: &str) -> String {
 /// Whether a line of a transcript is an event.
 fn is_event(line: &str) -> bool {
     matches!(line, "end" | "read failed" | "no memory")
-        || line.starts_with(|c: char| matches!(c, '>' | '+' | 'S' | 'R'))
+        || line.starts_with(|c: char| matches!(c, '>' | '+' | 'S' | 'R' | 'F'))
 }
 
 /// The events of a transcript.

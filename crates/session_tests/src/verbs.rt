@@ -6,8 +6,8 @@
 //! - `refused syntax 6 1 1` stands for the first two requests where that refuses the launch; `launched again` for a launch of the
 //!   smallest program after it.
 //! - `started 4/3` stands for `configurationDone` with seq 3, which orders the first run, and for its answer with seq 4.
-//! - `continue 2 8/6` stands for `continue` with seq 6, which orders run 2, and for its answer with seq 8. `next`, `stepIn` and
-//!   `stepOut` go the same way.
+//! - `continue 2 8/6` stands for `continue` with seq 6, which orders run 2, and for its answer with seq 8. `next`, `stepIn`,
+//!   `stepOut`, `stepBack` and `reverseContinue` go the same way.
 //! - `ended` stands for the end of the input, which closes the session.
 
 use crate::text::in_two;
@@ -90,7 +90,9 @@ fn with_words(alloc: Global, line: &str) -> Result<String, AllocError> {
     match verb {
         "refused" => refused(alloc, words),
         "started" => started(alloc, words),
-        "continue" | "next" | "stepIn" | "stepOut" => resumed(alloc, verb, words),
+        "continue" | "next" | "stepIn" | "stepOut" | "stepBack" | "reverseContinue" => {
+            resumed(alloc, verb, words)
+        }
         _ => format!(in alloc; "{line}\n"),
     }
 }

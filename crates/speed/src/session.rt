@@ -1,9 +1,12 @@
 // A session over memory, in one thread: what a client sends byte by byte, and a run before the next byte.
 
+ghost use Rattle.std.specs.Prelude.{◌≡◌, false};
+ghost use Rattle.dbg_runner.specs.Plain.{goes_back};
+
 use anyhow::{Result, anyhow};
 use dap_session::{Event, Inbox, LoadFault, Loader, Order, OrderFault, Orders, Out, drive};
 use dbg_plan::Mode;
-use dbg_runner::{Considered, History, Report, next_report};
+use dbg_runner::{Buffers, Considered, History, Report, Retreat, next_report};
 use std::alloc::Global;
 use std::cell::Cell;
 use std::fs;
@@ -49,37 +52,89 @@ pub fn run<R: Wait + Files + AllocGlobal>(rt: &R, alloc: Global, sent: &[u8]) ->
     Ok(frames.bytes)
 }
 
+/// A run that goes on.
+#[derive(Drop)]
+struct Onward {
+    debuggee: Considered,
+    mode: Mode,
+    ghost onward: { goes_back mode ≡ false },
+}
+
+/// Which way a run goes.
+#[derive(Drop)]
+enum Course {
+    On(Onward),
+    Back(Retreat),
+}
+
 /// A run that is on.
 #[derive(Drop)]
 struct Running {
     run: u64,
-    debuggee: Considered,
-    mode: Mode,
+    course: Course,
     begun: bool,
     held: bool,
 }
 
-/// The next report of a run, and the run if it goes on. A run is held after a slice, and never before its first.
+/// The next report of a run, and the run if it goes on. A run is held after a slice, and never before its first; one that
+/// goes back is never held.
 fn report_next(alloc: Global, running: Running) -> (Report, Option<Running>) {
     let Running {
         run,
-        debuggee,
-        mode,
+        course,
         begun,
         held,
     } = running;
-    if held && begun {
-        return (Report::held(run, mode, debuggee.into_debuggee()), None);
+    match course {
+        Course::On(Onward { debuggee, mode }) => {
+            if held && begun {
+                return (Report::held(run, mode, debuggee.into_debuggee()), None);
+            }
+            let (report, on) = next_report(
+                alloc,
+                run,
+                debuggee.into_debuggee(),
+                mode,
+                &mut Buffers::new(),
+            );
+            let running = match on {
+                None => None,
+                Some(debuggee) => Some(Running {
+                    run,
+                    course: Course::On(Onward {
+                        debuggee: Considered::new(debuggee),
+                        mode,
+                    }),
+                    begun: true,
+                    held,
+                }),
+            };
+            (report, running)
+        }
+        Course::Back(retreat) => {
+            let (report, on) = retreat.next_report(alloc, run, &mut Buffers::new());
+            let running = on.map(|retreat| Running {
+                run,
+                course: Course::Back(retreat),
+                begun: true,
+                held,
+            });
+            (report, running)
+        }
     }
-    let (report, on) = next_report(alloc, run, debuggee.into_debuggee(), mode);
-    let running = on.map(|debuggee| Running {
-        run,
-        debuggee: Considered::new(debuggee),
-        mode,
-        begun: true,
-        held,
-    });
-    (report, running)
+}
+
+/// Which way a run in a mode goes.
+fn course_of(debuggee: Considered, mode: Mode) -> Course {
+    match mode {
+        Mode::Entry => Course::On(Onward { debuggee, mode }),
+        Mode::Continue => Course::On(Onward { debuggee, mode }),
+        Mode::In => Course::On(Onward { debuggee, mode }),
+        Mode::Over(_) => Course::On(Onward { debuggee, mode }),
+        Mode::Out(_) => Course::On(Onward { debuggee, mode }),
+        Mode::StepBack => Course::Back(Retreat::new(debuggee.into_debuggee(), mode)),
+        Mode::Reverse => Course::Back(Retreat::new(debuggee.into_debuggee(), mode)),
+    }
 }
 
 /// The next report of the run that is on, or else the next byte.
@@ -226,8 +281,7 @@ fn obey(running: Option<Running>, order: Order) -> Option<Running> {
             mode,
         } => Some(Running {
             run,
-            debuggee,
-            mode,
+            course: course_of(debuggee, mode),
             begun: false,
             held: false,
         }),

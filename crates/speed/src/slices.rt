@@ -3,8 +3,8 @@
 ghost use Rattle.std.specs.Prelude.{◌≡◌, ◌≤◌, ◌<◌, length, IfOk};
 
 use anyhow::{Context, Result, anyhow};
-use dbg_plan::{Debuggee, Mode, SourceBreakpoint, resolve};
-use dbg_runner::{Considered, Summary, next_report};
+use dbg_plan::{Debuggee, Logs, Mode, SourceBreakpoint, resolve};
+use dbg_runner::{Buffers, Considered, Summary, next_report};
 use pl0_machine::Machine;
 use pl0_unit::Unit;
 use std::alloc::Global;
@@ -48,6 +48,7 @@ fn asked_for(alloc: Global, lines: &[String]) -> Result<Vec<SourceBreakpoint>>
             line: first.saturating_add(index),
             condition,
             hit_condition: String::new(alloc),
+            log_message: String::new(alloc),
         })?;
     }
     Ok(asked)
@@ -60,20 +61,28 @@ pub fn begun(alloc: Global, unit: Unit, asked: &[SourceBreakpoint]) -> Result<Co
     let (plan, _) = resolve(alloc, &unit, asked).context("no plan")?;
     let unit = Arc::new(alloc, unit).context("no share of the code")?;
     let machine = Machine::new(alloc, unit).context("no machine")?;
-    let mut debuggee = Debuggee::new(machine);
+    let mut debuggee = Debuggee::new(alloc, machine);
     debuggee.set_plan(Arc::new(alloc, plan).context("no share of the plan")?);
     if debuggee.machine().depth() == 0 {
         return Err(anyhow!("no step"));
     }
-    let _ = debuggee.consider(Mode::Continue);
+    let mut logs = Logs::new(alloc).context("no room for logs")?;
+    let _ = debuggee.consider(Mode::Continue, &mut logs);
     let debuggee = Box::new(alloc, debuggee).context("no room for the debuggee")?;
     Ok(Considered::new(debuggee))
 }
 
 // Runs to the end, or to a stop: what the last report says.
 fn slices(alloc: Global, mut debuggee: Considered) -> Option<Summary> {
+    let mut buffers = Buffers::new();
     for _ in 0..u64::MAX {
-        let (report, on) = next_report(alloc, 1, debuggee.into_debuggee(), Mode::Continue);
+        let (report, on) = next_report(
+            alloc,
+            1,
+            debuggee.into_debuggee(),
+            Mode::Continue,
+            &mut buffers,
+        );
         match on {
             None => return Some(report.summary()),
             Some(next) => debuggee = Considered::new(next),

@@ -24,7 +24,7 @@ impl Session {
     ghost use Rattle.dap_phase.specs.Phases.{IsPhase, launch_of};
     ghost use Rattle.dap_session.specs.Ports.{ports};
     ghost use Rattle.dap_session.specs.State.{GoesOn};
-    ghost use Rattle.dap_session.specs.Handling.{IsWell, HandlesItem, Handles, plain_file};
+    ghost use Rattle.dap_session.specs.Handling.{IsWell, NeededNoMemory, HandlesItem, Handles, plain_file};
 
     /// Takes a file. One that no launch waits for is passed over.
     pub(super) fn take_file<O: Out, D: Orders>(
@@ -39,6 +39,7 @@ impl Session {
             (ports (O.seen out.old) (D.seen orders.old))
             (ports (O.seen out.new) (D.seen orders.new)) }
         ensures no_memory { LacksMemory (File (plain_file file)) (launch_of self.old.phase) → result ≡ Err NoMemory }
+        ensures enough { launch_of self.old.phase ≡ None → NeededNoMemory result self.new }
         ensures well { OnOk result (IsWell self.new.ending) }
         ensures out { O.origin out.new ≡ O.origin out.old }
         ensures orders { D.origin orders.new ≡ D.origin orders.old }

@@ -14,11 +14,12 @@ impl Session {
     ghost use Rattle.dap_history.specs.History.{Accepted, History, next_seq};
     ghost use Rattle.dap_history.specs.Events.{Rest, IsTaking, Report as Reports};
     ghost use Rattle.dap_phase.specs.Runs.{heading_in};
-    ghost use Rattle.dap_phase.specs.Phases.{IsPhase};
+    ghost use Rattle.dap_phase.specs.Phases.{IsPhase, launch_of};
     ghost use Rattle.dap_phase.specs.declared.phase.Phase.TheVariants as phase_is;
     ghost use Rattle.dap_session.specs.Ports.{ports};
     ghost use Rattle.dap_session.specs.State.{GoesOn};
-    ghost use Rattle.dap_session.specs.Handling.{IsWell, HandlesItem, Handles, Expects};
+    ghost use Rattle.dap_session.specs.Taking.{Expects};
+    ghost use Rattle.dap_session.specs.Handling.{IsWell, NeededNoMemory, HandlesItem, Handles};
 
     /// Takes a report. One that doesn't go on with the run is passed over.
     pub(super) fn take_report<O: Out, D: Orders>(
@@ -32,6 +33,7 @@ impl Session {
             Handles result past rest (Reports (plain_report report)) self.new
             (ports (O.seen out.old) (D.seen orders.old))
             (ports (O.seen out.new) (D.seen orders.new)) }
+        ensures enough { launch_of self.old.phase ≡ None → (¬ Expects self.old.phase (plain_report report)) → NeededNoMemory result self.new }
         ensures well { OnOk result (IsWell self.new.ending) }
         ensures out { O.origin out.new ≡ O.origin out.old }
         ensures orders { D.origin orders.new ≡ D.origin orders.old }

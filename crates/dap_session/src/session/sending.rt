@@ -106,7 +106,7 @@ impl Frames {
             next_seq: seq,
         };
         all.add_answer(answer)?;
-        all.add_events(events.as_slice())?;
+        all.add_events(events.into_vec())?;
         Ok(all)
     }
 
@@ -122,12 +122,12 @@ impl Frames {
     }
 
     /// Adds the frames of events.
-    fn add_events(&mut self, events: &[EventBody]) -> Result<(), SessionFault>
-        ensures ok { OnOk result (AddsFrames (map Event events.now) self.old self.new) }
-        ensures err { IfErr result (λ fault. IsNotBuilt fault self.old.next_seq (map Event events.now)) }
+    fn add_events(&mut self, events: Vec<EventBody>) -> Result<(), SessionFault>
+        ensures ok { OnOk result (AddsFrames (map Event events.items) self.old self.new) }
+        ensures err { IfErr result (λ fault. IsNotBuilt fault self.old.next_seq (map Event events.items)) }
     {
         for event in events {
-            self.add(&Outgoing::Event(*event))?;
+            self.add(&Outgoing::Event(event))?;
         }
         Ok(())
     }

@@ -186,4 +186,26 @@ ended
 launched
 started 4/3
 ended
+
+# the runner has no memory for its first slice
+| ! 7.
+launched
+started 4/3
+S noMemory
+! Quit
+= NoMemory
+
+# the runner has no memory for a later slice, while a pause and breakpoints wait
+| while 1 = 1 do.
+launched
+started 4/3
+S 256
+> pause {"threadId":1}
+! Hold 1
+5: ok pause/4
+> setBreakpoints {"source":{"path":"p.pl0"},"breakpoints":[{"line":1}]}
+6: ok setBreakpoints/5 1
+S noMemory
+! Quit
+= NoMemory
 "#;

@@ -51,4 +51,35 @@ entered
 > evaluate {"expression":"~511 1+~123"}
 7: no evaluate/5 badArguments
 ended
+
+# 256 log points of 8 expressions
+| var x;
+| begin x := 7;
+| x := 8 end.
+launched
+> setBreakpoints {"source":{"path":"p.pl0"},"breakpoints":[~6..260 {"line":3,"logMessage":"{%}{x}{x + 1}{x * x}{1 / (x - 7)}{9223372036854775807 + x}{- x}{x / 2}"},~{"line":3,"logMessage":"{261}{x}{x + 1}{x * x}{1 / (x - 7)}{9223372036854775807 + x}{- x}{x / 2}"}]}
+4: ok setBreakpoints/3 ~255 3 ~3
+started 5/4
+S 1
+~6..261 %: console %7849divideByZerooverflow-73
+~S 3
+262: exited 0
+263: terminated
+ended
+
+# a log message of 1,024 bytes, and one of 1,025
+| .
+launched
+> setBreakpoints {"source":{"path":"p.pl0"},"breakpoints":[{"line":1,"logMessage":"~1025 a~"}]}
+4: no setBreakpoints/3 badArguments
+> setBreakpoints {"source":{"path":"p.pl0"},"breakpoints":[{"line":1,"logMessage":"~1024 a~"}]}
+5: ok setBreakpoints/4 1
+> configurationDone
+! Go 1
+6: ok configurationDone/5
+7: console ~1024 a~
+S 1
+8: exited 0
+9: terminated
+ended
 "#;

@@ -1,4 +1,5 @@
-//! Reports that don't go on with a run are passed over, and the next report of the run is accepted.
+//! Reports that don't go on with a run are passed over, and the next report of the run is accepted; so are files that no launch
+//! waits for.
 
 pub const SESSIONS: &str = r#"
 # reports before a run and after it
@@ -161,5 +162,27 @@ R run 1, Continue, from 256, lines -
 R run 2, Continue, from 256, lines -
 R run 2, Continue, from 0, lines -
 S 512
+ended
+
+# files that no launch waits for
+| ! 7.
+F .
+> initialize
+1: ok initialize/1
+F noMemory
+F cannotRead
+F var x; x := 1.
+> launch {"program":"p.pl0"}
+2: ok launch/2
+3: initialized
+F .
+F noMemory
+started 4/3
+F .
+S 2
+5: output 7
+6: exited 0
+7: terminated
+F cannotRead
 ended
 "#;

@@ -1,10 +1,12 @@
 use denote.Exit as Exit
 use denote.Param.Send as Send
-use Rattle.std.proofs.Common.{rules, ◌≡◌, [], ◌++◌, ap, ◌∙◌, subst}
+use Rattle.std.proofs.Common.{rules, ◌≡◌, ◌≢◌, [], ◌++◌, ap, ◌∙◌, subst}
+use Rattle.std.specs.List.{flat_map}
 use Rattle.dap_session.specs.Ports.{ports}
+use Rattle.dbg_runner.specs.Queues.{passed_in}
 use Rattle.dap_session.specs.Sending.{Begins}
 use Rattle.dap_wires.specs.Inbox.{client_events, received, sent_reports, taken_events}
-use Rattle.dap_wires.specs.Orders.{pushed_orders, taken_orders}
+use Rattle.dap_wires.specs.Orders.{FourWereInside, pushed_orders, taken_orders}
 use Rattle.dap_wires.specs.Outbox.{put_frames, parcels_put, parcels_received, parcels_taken}
 use Rattle.dap_wires.specs.Reading.{IsReadUntil}
 use Rattle.dap_wires.specs.Senders.{from_client, reports_among}
@@ -13,14 +15,14 @@ use Rattle.dap_wires.specs.Writing.{IsWrittenUntil}
 use Rattle.adapter.specs.Jobs.{Drove}
 use Rattle.adapter.specs.Serving.{streams, outcome_of, nothing_sent, IsDriven, drove}
 use Rattle.adapter.proofs.Crossing.{runner_task_send, runner_output_send, reader_task_send, reader_output_send}
-use Rattle.adapter.proofs.Gathered.{gathers}
+use Rattle.adapter.proofs.Gathered.{gathers, moved}
 use Rattle.adapter.proofs.serving.serve.Goals as goal
 
 pub returns : goal.returns
 returns g c =
     let ends = c.in-Some.driven.1 in
     let closed = c.in-Some.driven.2 in
-    let facts : (Begins (reports_among (received ends.inbox)) (sent_reports c.in-Some.reports)) × (Begins (from_client (received ends.inbox)) (client_events c.in-Some.client)) × (Begins (parcels_received c.in-Some.written) (parcels_put ends.outbox)) × (Begins (taken_orders c.in-Some.taken) (pushed_orders ends.orders).orders) × (c.outcome.result ≡ outcome_of c.in-Some.wrote closed) × (c.in-Some.input.now ≡ c.input-2-1.given.0) × (c.in-Some.output.now ≡ c.output-2-1.given.0) × (c.in-Some.driven.0.now ≡ c.loader-2-1.given.0) = (
+    let facts : (Begins (reports_among (received ends.inbox)) (sent_reports c.in-Some.reports)) × (Begins (from_client (received ends.inbox)) (client_events c.in-Some.client)) × (Begins (parcels_received c.in-Some.written) (parcels_put ends.outbox)) × (Begins (taken_orders c.in-Some.taken) (pushed_orders ends.orders).orders) × (c.outcome.result ≡ outcome_of c.in-Some.wrote closed) × (c.in-Some.input.now ≡ c.input-2-1.given.0) × (c.in-Some.output.now ≡ c.output-2-1.given.0) × (c.in-Some.driven.0.now ≡ c.loader-2-1.given.0) × (c.in-Some.gate.now ≡ c.gate-2-1.given.0) × ((pushed_orders ends.orders).fulls ≢ 0 → FourWereInside (pushed_orders ends.orders).orders) = (
       (c.settle.ensures.reports.0, search (rules, c.settle.ensures.reports.1)),
       (c.settle.ensures.client.0, search (rules, c.settle.ensures.client.1)),
       (c.settle.ensures.frames.0, search (rules, c.settle.ensures.frames.1)),
@@ -29,6 +31,8 @@ returns g c =
       search rules,
       search rules,
       search rules,
+      search rules,
+      λ some. moved (c.settle.ensures.full (λ none. some (search (rules, none)))) (search rules),
     ) in
     let inbox_reports : Begins (reports_among (received ends.inbox)) (sent_reports c.in-Some.reports) = facts.0 in
     let inbox_client : Begins (from_client (received ends.inbox)) (client_events c.in-Some.client) = facts.1 in
@@ -38,6 +42,7 @@ returns g c =
     let input : c.in-Some.input.now ≡ c.input-2-1.given.0 = facts.5 in
     let output : c.in-Some.output.now ≡ c.output-2-1.given.0 = facts.6 in
     let loader : c.in-Some.driven.0.now ≡ c.loader-2-1.given.0 = facts.7 in
+    let gate : c.in-Some.gate.now ≡ c.gate-2-1.given.0 = facts.8 in
     let w = c.in-Some.ensures.0 in
     let r = c.in-Some.ensures.1 in
     let i = c.in-Some.ensures.2 in
@@ -58,25 +63,28 @@ returns g c =
     let taken : parcels_received c.in-Some.written ≡ w.3.0 = w.3.1 ∙ ap (λ l. l ++ w.3.0) (ap parcels_taken c.new-writer.ensures.outbox ∙ c.in_ok-frames.ensures.parcels) in
     let read = subst (λ x. IsReadUntil c.in-Some.field-0-2-2 i.2.0 (supply (g.I.Source.left x) (g.I.Source.failures x)) (supply (g.I.Source.left c.in-Some.input.now) (g.I.Source.failures c.in-Some.input.now))) c.new-reader.ensures.input i.2.2 in
     let written = subst (λ x. IsWrittenUntil c.in-Some.wrote w.3.0 (output_at (g.O.Sink.written x) (g.O.Sink.failures x)) (output_at (g.O.Sink.written c.in-Some.output.now) (g.O.Sink.failures c.in-Some.output.now))) c.new-writer.ensures.output w.3.2 in
-    let driven : IsDriven c.in-Some.wrote closed (g.L.Loader.loaded c.args.loader.now) (g.L.Loader.loaded c.in-Some.driven.0.now)
+    let four : (pushed_orders ends.orders).fulls ≢ 0 → FourWereInside (pushed_orders ends.orders).orders = facts.9 in
+    let passed : g.G.Gate.passed c.in-Some.gate.now ≡ g.G.Gate.passed c.args.gate.now ++ flat_map passed_in r.3.0 =
+    r.3.4 ∙ ap (λ x. g.G.Gate.passed x ++ flat_map passed_in r.3.0) c.new-runner.ensures.gate in
+    let driven : IsDriven c.in-Some.wrote closed (g.L.Loader.loaded c.args.loader.now) (g.L.Loader.loaded c.in-Some.driven.0.now) (g.G.Gate.passed c.args.gate.now) (g.G.Gate.passed c.in-Some.gate.now)
     (streams (g.I.Source.left c.args.input.now) (g.I.Source.failures c.args.input.now) (g.O.Sink.written c.args.output.now) (g.O.Sink.failures c.args.output.now))
     (streams (g.I.Source.left c.in-Some.input.now) (g.I.Source.failures c.in-Some.input.now) (g.O.Sink.written c.in-Some.output.now) (g.O.Sink.failures c.in-Some.output.now)) =
-    gathers c.in-Some.wrote closed _ _ _ _ (received ends.inbox) (parcels_put ends.outbox) (pushed_orders ends.orders) _ i.2.0 r.2.0 _ (taken_orders c.in-Some.taken) w.3.0
+    gathers c.in-Some.wrote closed _ _ _ _ _ _ (received ends.inbox) (parcels_put ends.outbox) (pushed_orders ends.orders) _ i.2.0 r.3.0 _ (taken_orders c.in-Some.taken) w.3.0
     session read
     (subst (λ l. Begins (from_client (received ends.inbox)) l) client inbox_client)
-    r.2.1 r.2.2 r.2.3
-    orders_taken inbox_reports written
+    r.3.1 r.3.2 r.3.3
+    orders_taken four inbox_reports passed written
     (subst (λ l. Begins l (parcels_put ends.outbox)) taken outbox_taken) in
-    drove c.in-Some.wrote closed answer (rw (input, output, loader) at driven)
+    drove c.in-Some.wrote closed answer (rw (input, output, loader, gate) at driven)
 
 pub run_beside-done-requires-send-T : goal.run_beside-done-requires-send-T
-run_beside-done-requires-send-T g c κs within = Send.param_send 2 _ (Send.arg_send _ Exit.no _ (runner_task_send _ _ c.type_bounds.send-G c.type_bounds.send-R))
+run_beside-done-requires-send-T g c κs within = Send.param_send 2 _ (Send.arg_send _ Exit.no _ (runner_task_send _ _ _ c.type_bounds.send-G c.type_bounds.send-R))
 
 pub run_beside-done-requires-send-U : goal.run_beside-done-requires-send-U
 run_beside-done-requires-send-U g c κs within = Send.param_send 3 _ (Send.arg_send _ Exit.no _ (reader_task_send _ _ _ c.type_bounds.send-I c.type_bounds.send-R))
 
 pub run_beside-done-requires-send-B : goal.run_beside-done-requires-send-B
-run_beside-done-requires-send-B g c κs within = Send.param_send 6 _ (Send.arg_send _ Exit.no _ (runner_output_send _ c.type_bounds.send-R))
+run_beside-done-requires-send-B g c κs within = Send.param_send 6 _ (Send.arg_send _ Exit.no _ (runner_output_send _ _ _ c.type_bounds.send-G c.type_bounds.send-R))
 
 pub run_beside-done-requires-send-C : goal.run_beside-done-requires-send-C
 run_beside-done-requires-send-C g c κs within = Send.param_send 7 _ (Send.arg_send _ Exit.no _ (reader_output_send _ _ _ c.type_bounds.send-I c.type_bounds.send-R))

@@ -3,11 +3,15 @@ use Rattle.dap_history.specs.Events.{only_bytes}
 use Rattle.dap_history.proofs.Contents.{contents_of_stream}
 use Rattle.dap_history.proofs.Cuts.{cuts_change_nothing}
 use Rattle.dap_history.proofs.Starts.{each_run_starts}
+use Rattle.dap_history.proofs.GoingBack.{each_goes_back, counts_begin_anew, retreats_not_held}
 use Rattle.dap_history.proofs.Answered.{each_answered}
 use Rattle.dap_history.proofs.Last.{disconnect_last}
-use Rattle.dap_history.proofs.Closings.{closed_by_end, closed_by_failure, quit_is_last}
+use Rattle.dap_history.proofs.Closings.{closed_by_end, closed_by_failure, quit_is_last, quit_closes}
+use Rattle.dap_history.proofs.Leading.{each_item_leads}
+use Rattle.dap_history.proofs.Unread.{rest_is_open}
 use Rattle.dap_history.proofs.Numbered.{numbers_count, frames_read_back}
-use Rattle.dap_history.proofs.StopOrder.{stops_follow}
+use Rattle.dap_history.proofs.StopOrder.{stops_follow, logs_follow}
+use Rattle.dap_history.proofs.Logging.{logs_of_positions, stops_follow_logs}
 use Rattle.dap_history.proofs.Progress.{numbers_written}
 use Rattle.dap_history.proofs.Stopping.{each_stop_right}
 use Rattle.dap_history.proofs.Standing.{questions_answered}
@@ -51,6 +55,15 @@ returns-clause-outputs c = numbers_written (one_program c.text_laws.ensures.prog
 pub returns-clause-order : goal.returns-clause-order
 returns-clause-order c = stops_follow (one_program c.text_laws.ensures.program) c.meaning_laws.ensures.joins
 
+pub returns-clause-logs : goal.returns-clause-logs
+returns-clause-logs c = logs_of_positions (one_program c.text_laws.ensures.program) c.meaning_laws.ensures.joins c.log_laws.ensures.said
+
+pub returns-clause-stops_follow : goal.returns-clause-stops_follow
+returns-clause-stops_follow c = stops_follow_logs (one_program c.text_laws.ensures.program) c.meaning_laws.ensures.joins c.log_laws.ensures.said
+
+pub returns-clause-logs_follow : goal.returns-clause-logs_follow
+returns-clause-logs_follow c = logs_follow (one_program c.text_laws.ensures.program) c.meaning_laws.ensures.joins
+
 pub returns-clause-stops : goal.returns-clause-stops
 returns-clause-stops c = each_stop_right (one_program c.text_laws.ensures.program) c.meaning_laws.ensures.joins
 
@@ -69,8 +82,26 @@ returns-clause-cuts c = cuts_change_nothing
 pub returns-clause-runs : goal.returns-clause-runs
 returns-clause-runs c = each_run_starts (one_program c.text_laws.ensures.program) c.meaning_laws.ensures.joins
 
+pub returns-clause-back : goal.returns-clause-back
+returns-clause-back c = each_goes_back
+
+pub returns-clause-anew : goal.returns-clause-anew
+returns-clause-anew c = counts_begin_anew (one_program c.text_laws.ensures.program) c.meaning_laws.ensures.joins
+
+pub returns-clause-not_held : goal.returns-clause-not_held
+returns-clause-not_held c = retreats_not_held
+
 pub returns-clause-closed_by : goal.returns-clause-closed_by
 returns-clause-closed_by c = λ events past rest history. (closed_by_end events past rest history, closed_by_failure events past rest history)
 
 pub returns-clause-quits_last : goal.returns-clause-quits_last
 returns-clause-quits_last c = quit_is_last
+
+pub returns-clause-quits : goal.returns-clause-quits
+returns-clause-quits c = quit_closes
+
+pub returns-clause-unread : goal.returns-clause-unread
+returns-clause-unread c = rest_is_open
+
+pub returns-clause-leads : goal.returns-clause-leads
+returns-clause-leads c = each_item_leads (one_program c.text_laws.ensures.program) c.meaning_laws.ensures.joins c.meaning_laws.ensures.no_gaps

@@ -1,4 +1,4 @@
-use Rattle.std.proofs.Common.{subst, sym, ap, ◌∙◌, true}
+use Rattle.std.proofs.Common.{subst, sym, ap, ◌∙◌, ◌||◌}
 use Rattle.pl0_unit.specs.declared.unit.Unit.{Unit as Compiled}
 use Rattle.pl0_machine.specs.Machine.{program_of}
 use Rattle.dbg_plan.specs.Breakpoints.{plain_breakpoints}
@@ -7,7 +7,8 @@ use Rattle.dap_replies.specs.Lines.{AreAnswered}
 use Rattle.dap_msg.specs.declared.command.Command.TheVariants as command
 use Rattle.dap_phase.specs.declared.phase.Phase.TheVariants as phase_is
 use Rattle.dap_replies.specs.Replied.{Replies}
-use Rattle.dap_phase.specs.Runs.{Ordered}
+use Rattle.dap_phase.specs.Runs.{Ordered, asked_back}
+use Rattle.dbg_runner.specs.Plain.{goes_back}
 use Rattle.dap_replies.proofs.SetBreakpoints.{once, waits_in_run}
 use Rattle.dap_replies.proofs.breakpoints.in_run.Goals as goal
 
@@ -20,5 +21,5 @@ returns c =
       same = c.requires.same;
       answered = subst (λ (u : Compiled). AreAnswered (program_of u) (offset c.args.target.settings.lines_start_at_1) c.args.asked.now.breakpoints c.in_ok-answers.answers (plain_breakpoints c.in_ok-answers.plan.value.breakpoints)) (c.deref.ensures ∙ c.unit.ensures) c.in_ok-answers.ensures.answered;
     })
-    (c.hold-order.ensures.order ∙ ap (λ (r : Ordered). once r.held c.args.target.runs) c.wait_for.ensures)
-    (c.hold-order.ensures.held ∙ ap (λ (r : Ordered). record r { held = true }) c.wait_for.ensures))
+    (c.hold-order.ensures.order ∙ ap (λ (r : Ordered). once (r.held || goes_back r.mode) c.args.target.runs) c.wait_for.ensures)
+    (c.hold-order.ensures.held ∙ ap asked_back c.wait_for.ensures))

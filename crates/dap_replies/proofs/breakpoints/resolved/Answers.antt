@@ -1,13 +1,17 @@
 use Rattle.std.proofs.Common.{All, ap, arith, length, subst, sym}
 use Rattle.pl0_machine.specs.Machine.{program_of}
 use Rattle.dbg_plan.specs.Breakpoints.{plain_breakpoints}
+use Rattle.dap_msg.specs.Laws.{LineIsWithin}
 use Rattle.dap_replies.specs.Lines.{IsAtStep}
 use Rattle.dap_replies.proofs.Lines.{asked_length, at_steps}
 use Rattle.dap_replies.proofs.breakpoints.resolved.Goals as goal
 
 pub resolve-requires : goal.resolve-requires
 resolve-requires c =
-    omega (arith, c.requires, ap length c.as_slice.ensures, ap length c.deref.ensures.value, asked_length c.line_offset-less.result c.as_slice.result.now c.in_ok-lines.lines.items c.in_ok-lines.ensures)
+    omega (arith, c.requires.0, ap length c.as_slice.ensures, ap length c.deref.ensures.value, asked_length c.line_offset-less.result c.as_slice.result.now c.in_ok-lines.lines.items c.in_ok-lines.ensures)
+
+pub asked_lines-requires-clause-within : goal.asked_lines-requires-clause-within
+asked_lines-requires-clause-within c = subst (All LineIsWithin) (sym c.as_slice.ensures) c.requires.1
 
 pub line_answers-requires : goal.line_answers-requires
 line_answers-requires c =

@@ -1,15 +1,15 @@
-use Rattle.std.proofs.Common.{◌≡◌, ◌+◌, ◌++◌, ◌∷◌, [], map, subst, sym, ap, ◌∙◌, arith}
-use Rattle.std.proofs.lemmas.List.{append-nil}
-use Rattle.dap_msg.specs.declared.outgoing.EventBody.TheVariants as event
+use Rattle.std.proofs.Common.{◌≡◌, ◌+◌, ◌++◌, ◌∷◌, [], subst, sym, ap, ◌∙◌, arith}
 use Rattle.dbg_runner.specs.Plain.{Go}
 use Rattle.dbg_runner.specs.Reported.{plain_report, heading}
 use Rattle.dap_history.specs.Reports.{goes_on}
 use Rattle.dap_phase.specs.declared.phase.Phase.TheVariants as phase
+use Rattle.dap_phase.specs.declared.phase.Target.{Target}
 use Rattle.dap_phase.specs.Phases.{IsPhase}
 use Rattle.dap_phase.specs.Runs.{begun}
 use Rattle.dap_replies.specs.Replied.{report_step}
+use Rattle.dap_replies.specs.Reporting.{with_told}
 use Rattle.dap_replies.proofs.Begun.{with_next_run}
-use Rattle.dap_replies.proofs.ReportSteps.{back, report_begins_again, back_heading}
+use Rattle.dap_replies.proofs.ReportSteps.{back, outputs_as, report_begins_again, back_heading}
 use Rattle.dap_replies.proofs.reporting.begin_again.Goals as goal
 
 pub returns : goal.returns
@@ -26,11 +26,13 @@ returns c = λ past is.
     rw (c.in_ok-run.ensures.run, c.take_back-debuggee.ensures, c.mode-mode.ensures) in
     record {
       does = record {
-        events_are = c.in_ok-events.ensures ∙ append-nil (map event.Output c.numbers.result.now) ∙ ap (map event.Output) c.numbers.ensures;
+        events_are = c.new.ensures ∙ c.in_ok-events.ensures ∙ outputs_as t c.args.run.unit c.args.report past is.keeps.0;
         orders_are = ap (λ o. o ∷ []) (c.in_ok-run.ensures.order ∙ ap Go (ordered ∙ back_heading t c.args.run c.args.report past c.requires.goes_on is));
       };
       phase_is =
           subst (λ p. IsPhase p (past ++ report_step r (goes_on past r) ∷ []))
-          (sym (ap (λ n. phase.Running (record t { runs = n }) c.in_ok-run.run') number ∙ ap (phase.Running (with_next_run t)) begins))
+          (sym (ap (λ (u : Target). phase.Running (record u { runs = c.in_ok-number.number }) c.in_ok-run.run') c.tell-target.ensures
+          ∙ ap (λ n. phase.Running (record t { runs = n; told = (with_told t c.args.report).told }) c.in_ok-run.run') number
+          ∙ ap (phase.Running (with_next_run t (with_told t c.args.report).told)) begins))
           (report_begins_again c.reading_laws.ensures t c.args.run c.args.report past c.requires.goes_on is);
     }

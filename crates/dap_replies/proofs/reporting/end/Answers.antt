@@ -1,19 +1,33 @@
-use Rattle.std.proofs.Common.{◌++◌, map, subst, sym, refl, ap, ◌∙◌}
+use Rattle.std.proofs.Common.{◌++◌, ◌∷◌, [], subst, sym, refl, ap, ◌∙◌}
+use Rattle.std.proofs.lemmas.List.{append_assoc}
 use Rattle.dap_msg.specs.declared.outgoing.EventBody.TheVariants as event
 use Rattle.dbg_runner.specs.Reported.{plain_report}
-use Rattle.dap_history.specs.Replies.{ends}
-use Rattle.dap_phase.specs.Phases.{IsTarget}
-use Rattle.dap_replies.proofs.ReportSteps.{report_ends}
+use Rattle.dap_history.specs.Replies.{reporting, ends}
+use Rattle.dap_history.specs.Reports.{outputs}
+use Rattle.dap_phase.specs.declared.phase.Phase.TheVariants as phase
+use Rattle.dap_phase.specs.Phases.{IsTarget, IsPhase}
+use Rattle.dap_replies.specs.Replied.{report_step}
+use Rattle.dap_replies.specs.Reporting.{with_told}
+use Rattle.dap_replies.proofs.ReportSteps.{outputs_as, report_ends}
 use Rattle.dap_replies.proofs.reporting.end.Goals as goal
 
 pub returns : goal.returns
 returns c = λ past is.
-    let over = report_ends c.reading_laws.ensures c.args.target c.into_unit.result.value (plain_report c.args.report.now) past
+    let r = plain_report c.args.report.now in
+    let over = report_ends c.reading_laws.ensures c.args.target c.into_unit.result.value c.args.report.now past
     (subst (λ u. IsTarget c.args.target u past) (sym c.into_unit.ensures) is.keeps.0) in
     record {
       does = record {
-        events_are = c.in_ok-events.ensures ∙ ap (λ ns. map event.Output ns ++ ends 0) c.numbers.ensures;
+        events_are =
+            c.new.ensures
+            ∙ c.in_ok-push-2.ensures.items
+            ∙ ap (λ es. es ++ event.Terminated ∷ []) c.in_ok-push.ensures.items
+            ∙ append_assoc c.in_ok-events.events.items (event.Exited 0 ∷ []) (event.Terminated ∷ [])
+            ∙ ap (λ es. es ++ ends 0) (c.in_ok-events.ensures ∙ outputs_as c.args.target c.args.run.unit c.args.report.now past is.keeps.0);
         orders_are = refl;
       };
-      phase_is = record { situation_is = over.0; keeps = over.1 };
+      phase_is =
+          subst (λ p. IsPhase p (past ++ report_step r (reporting (outputs past r ++ ends 0)) ∷ []))
+          (sym (ap (λ t. phase.Ended t c.into_unit.result) c.tell-target.ensures))
+          (record { situation_is = over.0; keeps = over.1 });
     }

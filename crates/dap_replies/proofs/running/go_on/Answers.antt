@@ -1,4 +1,4 @@
-use Rattle.std.proofs.Common.{◌≡◌, ap, ◌∙◌}
+use Rattle.std.proofs.Common.{◌≡◌, ap, ◌∙◌, subst}
 use Rattle.std.proofs.lemmas.Result.{IfOk-weaker}
 use Rattle.dbg_plan.specs.Due.{depth_at}
 use Rattle.dbg_plan.specs.Debugged.{machine_of}
@@ -22,6 +22,6 @@ returns c =
     let d = c.args.debuggee in
     let standing : c.machine.result.now ≡ machine_of d = c.machine.ensures ∙ ap machine_of c.debuggee.ensures.same in
     let depth = depth_there c.machine.result.now c.depth.result c.depth.ensures.there c.depth.ensures.depth ∙ ap (λ (m : Standing). depth_at (program_of m.unit) m.position) standing in
-    IfOk-weaker c.go.result (HasGone t d c.mode-mode.result c.body.result) (Replies (resumption c.args.pace c.args.asked) (phase.Stopped t d))
-    (λ given gone past is. resumes_there c.reading_laws.ensures t d c.mode-mode.result c.body.result c.args.pace c.args.asked past given c.if-asked-ne1.false c.body.ensures (c.mode-mode.ensures ∙ ap (mode_of (pace_of c.args.pace)) depth) gone is)
+    IfOk-weaker c.go.result (HasGone t d c.mode-mode.result c.body.result c.new.result.items) (Replies (resumption c.args.pace c.args.asked) (phase.Stopped t d))
+    (λ given gone past is. resumes_there c.reading_laws.ensures t d c.mode-mode.result c.body.result c.args.pace c.args.asked past given c.if-asked-ne1.false c.body.ensures (c.mode-mode.ensures ∙ ap (mode_of (pace_of c.args.pace)) depth) (subst (λ es. HasGone t d c.mode-mode.result c.body.result es given) c.new.ensures.items gone) is)
     c.go.ensures

@@ -1,9 +1,9 @@
-use Rattle.dap_session.proofs.Beginnings.{faults_leave_beginnings}
+use Rattle.dap_session.proofs.Beginnings.{faults_leave_prefixes}
 use Rattle.dap_session.proofs.Numbering.{frames_are_numbered}
 use Rattle.dap_session.proofs.laws.session_laws.Goals as goal
 
-pub returns-clause-beginnings : goal.returns-clause-beginnings
-returns-clause-beginnings c = faults_leave_beginnings (record {
+pub returns-clause-prefixes : goal.returns-clause-prefixes
+returns-clause-prefixes c = faults_leave_prefixes c.reading_laws.ensures (record {
   one_frame = c.frame_laws.ensures.frames;
   one_fault = c.frame_laws.ensures.faults;
   not_both = c.frame_laws.ensures.both;
@@ -12,7 +12,7 @@ returns-clause-beginnings c = faults_leave_beginnings (record {
 }) c.history_laws.ensures.one
 
 pub returns-clause-numbered : goal.returns-clause-numbered
-returns-clause-numbered c = frames_are_numbered c.history_laws.ensures.numbered c.history_laws.ensures.read_back (record {
+returns-clause-numbered c = frames_are_numbered c.history_laws.ensures.numbered c.history_laws.ensures.read_back c.reading_laws.ensures (record {
   one_frame = c.frame_laws.ensures.frames;
   one_fault = c.frame_laws.ensures.faults;
   not_both = c.frame_laws.ensures.both;

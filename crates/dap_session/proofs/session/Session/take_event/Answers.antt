@@ -3,7 +3,7 @@ use Rattle.dap_history.specs.History.{InputEnd, ReadFailure}
 use Rattle.dap_history.specs.Events.{End, ReadFailed, NoMemory}
 use Rattle.dap_history.specs.declared.ending.Closed.TheVariants as closed
 use Rattle.dap_session.specs.Taking.{Toward}
-use Rattle.dap_session.proofs.Closing.{closes, closing_step}
+use Rattle.dap_session.proofs.Closing.{closes, closing_step, close_needs_none}
 use Rattle.dap_session.proofs.Files.{incoming_file}
 use Rattle.dap_session.proofs.Going.{stops_at_once}
 use Rattle.dap_session.proofs.session.Session.take_event.Goals as goal
@@ -42,3 +42,18 @@ returns-in-Report-clause-comes g c = λ past rest taking on.
 pub returns-in-File-clause-no_memory : goal.returns-in-File-clause-no_memory
 returns-in-File-clause-no_memory g c = λ lacks.
     c.take_file.ensures.no_memory (rw (c.in-File.is, incoming_file c.in-File.file) at lacks)
+
+pub returns-in-End-clause-enough : goal.returns-in-End-clause-enough
+returns-in-End-clause-enough g c = λ needs. close_needs_none c.close.result closed.InputEnded _ _ _ c.close.ensures.quits c.close.ensures.ending
+
+pub returns-in-ReadFailed-clause-enough : goal.returns-in-ReadFailed-clause-enough
+returns-in-ReadFailed-clause-enough g c = λ needs.
+    let close = c.close-in-ReadFailed in close_needs_none close.result closed.ReadFailed _ _ _ close.ensures.quits close.ensures.ending
+
+pub returns-in-File-clause-enough : goal.returns-in-File-clause-enough
+returns-in-File-clause-enough g c = λ needs.
+    c.take_file.ensures.enough (rw (c.in-File.is, incoming_file c.in-File.file) at needs)
+
+pub returns-in-Report-clause-enough : goal.returns-in-Report-clause-enough
+returns-in-Report-clause-enough g c = λ needs.
+    let none = rw c.in-Report.is at needs in c.take_report.ensures.enough none.0 none.1

@@ -43,3 +43,15 @@ returns-in_err-load-clause-no_memory g c = λ lacks. absurd (not_lacking (plain_
 
 pub returns-clause-no_memory : goal.returns-clause-no_memory
 returns-clause-no_memory g c = λ lacks. absurd (not_lacking (plain_file c.args.file) _ _ c.in_ok-file.ensures.ok lacks)
+
+pub returns-in_default-clause-enough : goal.returns-in_default-clause-enough
+returns-in_default-clause-enough g c = λ free open_. ap (λ s. launch_of s.phase) c.in_default.ensures.same ∙ free
+
+pub returns-in_err-file-clause-enough : goal.returns-in_err-file-clause-enough
+returns-in_err-file-clause-enough g c = λ free. absurd (let e = sym (ap launch_of c.in-Some.ensures.found) ∙ free in cc)
+
+pub returns-in_err-load-clause-enough : goal.returns-in_err-load-clause-enough
+returns-in_err-load-clause-enough g c = λ free. absurd (let e = sym (ap launch_of c.in-Some.ensures.found) ∙ free in cc)
+
+pub returns-clause-enough : goal.returns-clause-enough
+returns-clause-enough g c = λ free. absurd (let e = sym (ap launch_of c.in-Some.ensures.found) ∙ free in cc)

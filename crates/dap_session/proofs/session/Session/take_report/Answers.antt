@@ -1,6 +1,7 @@
-use Rattle.std.proofs.Common.{◌∙◌, ap, subst}
+use Rattle.std.proofs.Common.{sym, ◌∙◌, ap, subst}
 use Rattle.dbg_runner.specs.Reported.{plain_report}
-use Rattle.dap_phase.specs.Phases.{IsPhase}
+use Rattle.dap_phase.specs.Phases.{IsPhase, launch_of}
+use Rattle.dap_session.specs.Taking.{Expects}
 use Rattle.dap_session.proofs.Reports.{report_passed, report_taken}
 use Rattle.dap_session.proofs.session.Session.take_report.Goals as goal
 
@@ -16,3 +17,10 @@ returns-clause-comes g c = λ past rest taking on.
     (record { phase_was = was; expected = c.in-Some.ensures.found.1 })
     (c.accept.ensures.stream ∙ ap (λ s. s.stream) rest_is) taking on
     (c.accept.ensures.comes past taking (subst (λ p. IsPhase p past) was on.knows.phase_is) (ap (λ s. s.next_seq) rest_is ∙ on.knows.seq_is))
+
+pub returns-in_default-clause-enough : goal.returns-in_default-clause-enough
+returns-in_default-clause-enough g c = λ free other open_. ap (λ s. launch_of s.phase) c.in_default.ensures.same ∙ free
+
+pub returns-clause-enough : goal.returns-clause-enough
+returns-clause-enough g c = λ free other.
+    let found = c.in-Some.ensures.found in absurd (other (subst (λ p. Expects p (plain_report c.args.report)) (sym found.0) found.1))

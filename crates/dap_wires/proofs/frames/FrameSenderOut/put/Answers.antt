@@ -11,7 +11,9 @@ invariant_of-self g c =
     record {
       puts = ap (λ v. v.first) sent ∙ c.args.self.now.puts;
       unused_puts = c.args.self.now.unused_puts;
+      room = c.in-Ok.ensures.room ∙ c.args.self.now.room;
       «open» = ap (λ v. has_end v.put_first) sent ∙ frame_keeps_open (sender_log c.args.self.now.end).put_first c.args.frame c.args.self.now.«open»;
+      gone = c.args.self.now.gone;
     }
 
 pub returns-in-Ok-clause-ok : goal.returns-in-Ok-clause-ok

@@ -16,14 +16,14 @@ count_position-hit-requires-clause-running c =
 pub invariant_of-self : goal.invariant_of-self
 invariant_of-self c =
     let behind = subst (λ (d : Debugged). d.next ≡ d.position + 1) (sym c.self.view_is) c.requires.considered.behind in
-    stays_counting c.self.inside c.self.invariant behind c.step.new.self (went_on c.self.inside.machine c.step.new.self c.step.result c.step.ensures _ c.in-Went.is).0 (went_on c.self.inside.machine c.step.new.self c.step.result c.step.ensures _ c.in-Went.is).1 c.count_position-hit.new.counts c.count_position-hit.result c.count_position-hit.ensures
+    stays_counting c.self.inside c.self.invariant behind c.step.new.self (went_on c.self.inside.machine c.step.new.self c.step.result c.step.ensures _ c.in-Went.is).0 (went_on c.self.inside.machine c.step.new.self c.step.result c.step.ensures _ c.in-Went.is).1 c.count_position-hit.new.counts c.count_position-hit.result c.count_position-hit.new.logs c.count_position-hit.ensures
     (c.count_position-hit.auto.counts ∙ c.self.invariant.room)
 
 pub returns-after-written-clause-led : goal.returns-after-written-clause-led
 returns-after-written-clause-led c =
     let behind = subst (λ (d : Debugged). d.next ≡ d.position + 1) (sym c.self.view_is) c.requires.considered.behind in
-    let there = led c.self.inside c.self.invariant behind c.step.new.self (went_on c.self.inside.machine c.step.new.self c.step.result c.step.ensures _ c.in-Went.is).0 (went_on c.self.inside.machine c.step.new.self c.step.result c.step.ensures _ c.in-Went.is).1 c.count_position-hit.new.counts c.count_position-hit.result c.count_position-hit.ensures c.args.mode c.reason_here.result c.reason_here.ensures in
-    (there.0 ∙ ap (λ (d : Debugged). further d) c.self.view_is, there.1, there.2)
+    let there = led c.self.inside c.self.invariant behind c.step.new.self (went_on c.self.inside.machine c.step.new.self c.step.result c.step.ensures _ c.in-Went.is).0 (went_on c.self.inside.machine c.step.new.self c.step.result c.step.ensures _ c.in-Went.is).1 c.count_position-hit.new.counts c.count_position-hit.result c.count_position-hit.new.logs c.count_position-hit.ensures c.args.mode c.reason_here.result c.reason_here.ensures in
+    (there.0 ∙ ap (λ (d : Debugged). further d) c.self.view_is, there.1, there.2, there.3)
 
 pub invariant_of-self-in-Done : goal.invariant_of-self-in-Done
 invariant_of-self-in-Done c =

@@ -9,3 +9,4 @@ invariant_of-self c =
     fresh c.self.inside c.self.invariant _ refl refl (c.next-counted_from.ensures ∙ ap (λ (d : Debugged). d.next) (sym c.self.view_is)) refl
     (subst (λ bs. IsNumbered bs) (sym c.entered.ensures.breakpoints) c.entered.ensures.numbered)
     (c.entered.ensures.fits c.self.inside.machine.unit (subst (λ (d : Debugged). IsPlanOf d.unit c.args.plan.value) (sym c.self.view_is) c.requires))
+    refl

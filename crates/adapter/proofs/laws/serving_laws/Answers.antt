@@ -1,0 +1,19 @@
+use Rattle.adapter.proofs.InputTaken.{input_taken_whole, first_disconnect_closes}
+use Rattle.adapter.proofs.RunsEnd.{runs_end_once}
+use Rattle.adapter.proofs.SessionFaults.{nobody_is_gone, full_is_four}
+use Rattle.adapter.proofs.laws.serving_laws.Goals as goal
+
+pub returns-clause-input : goal.returns-clause-input
+returns-clause-input c = input_taken_whole
+
+pub returns-clause-disconnect : goal.returns-clause-disconnect
+returns-clause-disconnect c = first_disconnect_closes c.history_laws.ensures.last
+
+pub returns-clause-gone : goal.returns-clause-gone
+returns-clause-gone c = nobody_is_gone
+
+pub returns-clause-full : goal.returns-clause-full
+returns-clause-full c = full_is_four
+
+pub returns-clause-runs : goal.returns-clause-runs
+returns-clause-runs c = runs_end_once c.runner_laws.ensures.one_last c.runner_laws.ensures.runs

@@ -1,0 +1,102 @@
+-- Laws of a whole run: what `Serving` says, in the form in which one looks for it.
+use Rattle.std.specs.Prelude.{◌≡◌, ◌≢◌, ◌⊎◌, ◌++◌, ◌∷◌, [], ℕ, List, Some, Result, Ok, Err}
+use Rattle.std.specs.Io.KnownBytes.{Consumes, IsAtEnd}
+use Rattle.dap_msg.specs.declared.command.Command.TheVariants as command
+use Rattle.dbg_runner.specs.Laws.{taken_by, reports_of_run, AllButLastGoOn, HasLast, KeepsOn}
+use Rattle.dbg_runner.specs.Plain.{Heading, PlainReport, Go, Quit}
+use Rattle.dbg_runner.specs.Runner.{Act, Looked, HandedBack}
+use Rattle.dap_history.specs.declared.ending.Closed.{Closed}
+use Rattle.dap_history.specs.declared.ending.Closed.TheVariants as closed
+use Rattle.dap_history.specs.declared.fault.SessionFault.TheVariants.{OrdersFull, RunnerGone, WriterGone}
+use Rattle.dap_history.specs.History.{Item, Content, Step, History}
+use Rattle.dap_history.specs.Events.{Incoming, End, Rest, IsHistoryOf}
+use Rattle.dap_history.specs.Interleaving.{Load}
+use Rattle.dap_history.specs.Laws.{stream_of}
+use Rattle.dap_session.specs.Sending.{Begins}
+use Rattle.dap_wires.specs.declared.writing.WriteFailed.{WriteFailed}
+use Rattle.dap_wires.specs.Orders.{FourWereInside}
+use Rattle.byte_streams.specs.Streams.{Supply}
+use Rattle.adapter.specs.declared.serving.Served.{Served}
+use Rattle.adapter.specs.declared.serving.ServeFault.{ServeFault}
+use Rattle.adapter.specs.declared.serving.ServeFault.TheVariants.{Session}
+use Rattle.adapter.specs.Serving.{Streams, input_of, IsDriven, IsServed}
+
+-- ---- The input
+
+-- The pieces before the input's end, joined, are all the bytes that were left of the input. No bytes come after it.
+pub record TakesWholeInput (events : List Incoming) (old later : Supply) : Type 0 where
+  pub front : List Incoming
+  pub back : List Incoming
+  pub events_are : events ≡ front ++ End ∷ back
+  pub whole : Consumes old.left later.left (stream_of front)
+  pub at_end : IsAtEnd later.left
+  pub nothing_after : stream_of back ≡ []
+
+-- A session that the input's end closed has taken the whole input.
+abbrev pub InputIsTakenWhole : Type 0
+InputIsTakenWhole =
+    (wrote : Result (Unit {0}) WriteFailed) (loads later_loads : List Load) (passed later_passed : List (ℕ × ℕ)) (old later : Streams)
+    → (driven : IsDriven wrote (Ok closed.InputEnded) loads later_loads passed later_passed old later)
+    → TakesWholeInput driven.events (input_of old) (input_of later)
+
+-- a request to disconnect
+abbrev pub AsksToDisconnect : Item → Type 0
+AsksToDisconnect item = (seq : ℕ) × (item ≡ Content (Some (record { seq = seq; body = command.Disconnect })))
+
+-- The pieces, joined, are a prefix of what was read of the input, and hold the first `disconnect`: it is the last item taken.
+pub record TakesFirstDisconnect (events : List Incoming) (old later : Supply) : Type 0 where
+  pub read : List ℕ
+  pub consumed : Consumes old.left later.left read
+  pub begins : Begins (stream_of events) read
+  pub before : History
+  pub step : Step
+  pub rest : Rest
+  pub history : IsHistoryOf events (before ++ step ∷ []) rest
+  pub asks : AsksToDisconnect step.item
+  pub first : (front : History) (other : Step) (back : History) → before ≡ front ++ other ∷ back → ¬ AsksToDisconnect other.item
+
+-- A session that a `disconnect` closed has taken the input up to the first one.
+abbrev pub FirstDisconnectCloses : Type 0
+FirstDisconnectCloses =
+    (wrote : Result (Unit {0}) WriteFailed) (loads later_loads : List Load) (passed later_passed : List (ℕ × ℕ)) (old later : Streams)
+    → (driven : IsDriven wrote (Ok closed.Disconnected) loads later_loads passed later_passed old later)
+    → TakesFirstDisconnect driven.events (input_of old) (input_of later)
+
+-- ---- Runs
+
+-- A run is cut short: before a report said that it doesn't go on, Quit was taken, or a report was handed back.
+pub data IsCutShort : List Act → Type 0 where
+  by_quit : {acts : List Act} → IsCutShort (Looked (Some Quit) ∷ acts)
+  by_refusal : {r : PlainReport} {acts : List Act} → IsCutShort (HandedBack r ∷ acts)
+  later : {act : Act} {acts : List Act} → KeepsOn act → IsCutShort acts → IsCutShort (act ∷ acts)
+
+-- Where something closed the session, each run that the runner took has one report that says that it doesn't go on, its last,
+-- unless it was cut short. No run cuts another.
+abbrev pub RunsEndOnce : Type 0
+RunsEndOnce =
+    (by : Closed) (wrote : Result (Unit {0}) WriteFailed) (loads later_loads : List Load) (passed later_passed : List (ℕ × ℕ)) (old later : Streams)
+    → (driven : IsDriven wrote (Ok by) loads later_loads passed later_passed old later)
+    → (before : List Act) (act : Act) (after : List Act) (h : Heading) → driven.acts ≡ before ++ act ∷ after → taken_by act ≡ Some (Go h)
+    → AllButLastGoOn (reports_of_run after) × (HasLast (reports_of_run after) ⊎ IsCutShort after)
+
+-- ---- Faults of the session
+
+-- `serve` never answers that nobody takes frames or orders any more.
+abbrev pub NobodyIsGone : Type 0
+NobodyIsGone =
+    (outcome : Result Served ServeFault) (loads later_loads : List Load) (passed later_passed : List (ℕ × ℕ)) (old later : Streams)
+    → IsServed outcome loads later_loads passed later_passed old later
+    → (outcome ≢ Err (Session WriterGone)) × (outcome ≢ Err (Session RunnerGone))
+
+-- the session gave up since the queue of orders was full, and four of the orders that it pushed had been inside together
+pub record FindsFour (loads later_loads : List Load) (passed later_passed : List (ℕ × ℕ)) (old later : Streams) : Type 0 where
+  pub wrote : Result (Unit {0}) WriteFailed
+  pub driven : IsDriven wrote (Err OrdersFull) loads later_loads passed later_passed old later
+  pub four : FourWereInside driven.sent.orders
+
+-- `serve` answers that the queue of orders was full only where four orders were inside together.
+abbrev pub FullIsFour : Type 0
+FullIsFour =
+    (loads later_loads : List Load) (passed later_passed : List (ℕ × ℕ)) (old later : Streams)
+    → IsServed (Err (Session OrdersFull)) loads later_loads passed later_passed old later
+    → FindsFour loads later_loads passed later_passed old later

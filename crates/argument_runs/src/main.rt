@@ -1,0 +1,12 @@
+//! The program `pl0dap` again, for a stored run with arguments.
+#![tactic(auto)]
+
+use adapter::{Reading, Writing, run};
+use std::process::ExitCode;
+
+fn main(rt: HostRuntime) -> ExitCode {
+    let input = &mut Reading::new(&rt, rt.stdin());
+    let output = &mut Writing::new(&rt, rt.stdout());
+    let errors = &mut Writing::new(&rt, rt.stderr());
+    ExitCode::from(run(&rt, input, output, errors).status())
+}

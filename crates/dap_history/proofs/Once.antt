@@ -1,0 +1,166 @@
+-- A step orders at most one run and reports at most one stop, so what is so of the last is so of each.
+use Rattle.std.proofs.Common.{◌≡◌, inl, inr, ℕ, List, [], ◌∷◌, ◌++◌, true, false, Bool, Option, None, Some, refl, sym, ◌∙◌, ap, subst, append-nil}
+use Rattle.std.specs.Prelude.{map, ℤ}
+use Rattle.std.specs.List.{cons_option, filter_map}
+use Rattle.std.proofs.lemmas.List.Elements.{filter_map-append}
+use Rattle.dap_msg.specs.declared.command.Command.{Command}
+use Rattle.dap_msg.specs.declared.outgoing.EventBody.{EventBody}
+use Rattle.dap_msg.specs.declared.outgoing.EventBody.TheVariants as event
+use Rattle.dap_msg.specs.declared.outgoing.StopReason.{StopReason}
+use Rattle.dap_msg.specs.declared.outgoing.StopReason.TheVariants as stop
+use Rattle.dbg_plan.specs.Breakpoints.{Breakpoint}
+use Rattle.dbg_plan.specs.Logs.{Log}
+use Rattle.dbg_plan.specs.declared.mode.Reason.{Reason}
+use Rattle.dbg_runner.specs.declared.outcome.SliceOutcome.{SliceOutcome}
+use Rattle.dbg_runner.specs.declared.outcome.SliceOutcome.TheVariants as slice
+use Rattle.dbg_runner.specs.Plain.{PlainReport, Heading}
+use Rattle.dap_history.specs.declared.launch.Launch.{Launch}
+use Rattle.dap_history.specs.declared.situation.Situation.{Situation}
+use Rattle.dap_history.specs.declared.situation.Situation.TheVariants.{Fresh, Ready, Configuring, Running, Stopped, Faulted, Ended}
+use Rattle.dap_history.specs.Last.{or_else, last_such}
+use Rattle.dap_history.specs.History.{Launched, Item, Content, Loaded, Accepted, Fault, InputEnd, ReadFailure, MemoryFailure, Step, History, Effect}
+use Rattle.dap_history.specs.Readings.{go, situation, plan, waiting_pause}
+use Rattle.dap_history.specs.Replies.{Reply, stops, ends, stop_of, exception_of, told_logs}
+use Rattle.dap_history.specs.Launching.{Launches}
+use Rattle.dap_history.specs.Breakpoints.{effect_in}
+use Rattle.dap_history.specs.Running.{first_logs, enters}
+use Rattle.dap_history.specs.Reports.{outputs, held, report_effect}
+use Rattle.dap_history.specs.Emission.{Causes}
+use Rattle.dap_history.specs.Stops.{stop_of_event, stop_in, run_in, Orders}
+use Rattle.dap_history.proofs.Readings.{or_else-none}
+use Rattle.dap_history.proofs.Silent.{NextRuns, no_runs, next_run, first_at, due_first}
+use Rattle.dap_history.proofs.Outputs.{told_numbers, outputs_apart}
+use Rattle.dap_history.proofs.Counted.{next_runs}
+use Rattle.dap_history.proofs.Shapes.{Shape, refuses, is_calm, sets, begins, resumes_by, is_over, retreats, interrupts, quits, shaped}
+
+-- ---- one of a kind
+
+abbrev pub AtMostOne : {A : Type 0} → List A → Type 0
+AtMostOne [] = Unit {0}
+AtMostOne (x ∷ []) = Unit {0}
+AtMostOne (x ∷ y ∷ ys) = ⊥
+
+abbrev pub rest_of : {A : Type 0} → List A → List A
+rest_of [] = []
+rest_of (x ∷ xs) = xs
+
+pub none_within : {A : Type 0} (front back : List A) (x : A) → ¬ ([] ≡ front ++ x ∷ back)
+none_within [] back x is = absurd cc
+none_within (y ∷ front) back x is = absurd cc
+
+only : {A : Type 0} (xs front back : List A) (x : A) → AtMostOne xs → xs ≡ front ++ x ∷ back → xs ≡ x ∷ []
+only [] front back x one is = absurd (none_within front back x is)
+only (y ∷ []) [] back x one is = cc
+only (y ∷ []) (z ∷ front) back x one is = absurd (none_within front back x (ap rest_of is))
+only (y ∷ z ∷ ys) front back x one is = absurd one
+
+module _ (A B : Type 0) (f : A → Option B) where
+  last_kept-cons : (o : Option B) (ys : List B) → last_such (λ (y : B). Some y) (cons_option o ys) ≡ or_else (last_such (λ (y : B). Some y) ys) o
+  last_kept-cons None ys = sym (or_else-none (last_such (λ (y : B). Some y) ys))
+  last_kept-cons (Some y) ys = refl
+
+  last_kept : (xs : List A) → last_such f xs ≡ last_such (λ (y : B). Some y) (filter_map f xs)
+  last_kept [] = refl
+  last_kept (x ∷ xs) = ap (λ o. or_else o (f x)) (last_kept xs) ∙ sym (last_kept-cons (f x) (filter_map f xs))
+
+  -- where there is at most one such, one that stands among them is the last
+  pub each_is_last : (xs front back : List A) (x : A) (y : B) → AtMostOne (filter_map f xs) → xs ≡ front ++ x ∷ back → f x ≡ Some y → last_such f xs ≡ Some y
+  each_is_last xs front back x y one is gives =
+      let parts : filter_map f xs ≡ filter_map f front ++ y ∷ filter_map f back =
+      ap (filter_map f) is ∙ filter_map-append f front (x ∷ back) ∙ ap (λ o. filter_map f front ++ cons_option o (filter_map f back)) gives in
+      last_kept xs ∙ ap (last_such (λ (y : B). Some y)) (only (filter_map f xs) (filter_map f front) (filter_map f back) y one parts)
+
+-- ---- runs
+
+at_most_one_run : (past : History) (runs : List Heading) → NextRuns past runs → AtMostOne runs
+at_most_one_run past [] no_runs = tt
+at_most_one_run past (run ∷ rest) (next_run run' is) = tt
+
+-- each run that a step orders is the last
+pub ordered_last : (past : History) (step : Step) (run : Heading) → Causes past step.item step → Orders step run → run_in step ≡ Some run
+ordered_last past step run causes orders =
+    each_is_last _ _ go step.effect.orders orders.front orders.back _ run
+    (at_most_one_run past (filter_map go step.effect.orders) (next_runs past step.item step causes)) orders.orders_are refl
+
+-- ---- stops
+
+-- the stops that events report
+abbrev pub stops_in : List EventBody → List StopReason
+stops_in es = filter_map stop_of_event es
+
+stops_of_numbers : (vs : List ℤ) (es : List EventBody) → stops_in (map event.Output vs ++ es) ≡ stops_in es
+stops_of_numbers [] es = refl
+stops_of_numbers (v ∷ vs) es = stops_of_numbers vs es
+
+stops_of_logs : (bs : List Breakpoint) (ls : List Log) (es : List EventBody) → stops_in (told_logs bs ls ++ es) ≡ stops_in es
+stops_of_logs bs [] es = refl
+stops_of_logs bs (l ∷ ls) es = stops_of_logs bs ls es
+
+outputs_stops : (past : History) (r : PlainReport) (es : List EventBody) → stops_in (outputs past r ++ es) ≡ stops_in es
+outputs_stops past r es =
+    ap stops_in (outputs_apart past r es) ∙ stops_of_numbers (told_numbers past r) (told_logs r.plan r.logs ++ es) ∙ stops_of_logs r.plan r.logs es
+
+abbrev StopsOnce : Effect → Type 0
+StopsOnce effect = AtMostOne (stops_in effect.events)
+
+report_stops_once : (past : History) (r : PlainReport) (e : SliceOutcome) → StopsOnce (report_effect past r e)
+report_stops_once past r slice.More = subst AtMostOne (sym (ap stops_in (sym (append-nil (outputs past r))) ∙ outputs_stops past r [])) tt
+report_stops_once past r (slice.Due reason) = subst AtMostOne (sym (outputs_stops past r (stops (stop_of reason)))) tt
+report_stops_once past r slice.Held = by_pause (waiting_pause past)
+  where
+    by_pause : (pauses : Bool) → StopsOnce (held past r pauses)
+    by_pause true = subst AtMostOne (sym (outputs_stops past r (stops stop.Pause))) tt
+    by_pause false = subst AtMostOne (sym (ap stops_in (sym (append-nil (outputs past r))) ∙ outputs_stops past r [])) tt
+report_stops_once past r slice.Done = subst AtMostOne (sym (outputs_stops past r (ends 0))) tt
+report_stops_once past r (slice.Fault fault) = subst AtMostOne (sym (outputs_stops past r (stops (stop.Exception (exception_of fault))))) tt
+report_stops_once past r slice.NoMemory = tt
+
+enters_stop_once : (past : History) (l : Launched) (why : Option Reason) → StopsOnce (enters past l why)
+enters_stop_once past l None = subst AtMostOne (sym (ap stops_in (sym (append-nil (first_logs past l))) ∙ stops_of_logs (plan past).breakpoints (first_at past l) [])) tt
+enters_stop_once past l (Some r) = subst AtMostOne (sym (stops_of_logs (plan past).breakpoints (first_at past l) (stops (stop_of r)))) tt
+
+pub quiet_in : (s : Situation) (past : History) (bs : List Breakpoint) → (effect_in s past bs).events ≡ []
+quiet_in Fresh past bs = refl
+quiet_in Ready past bs = refl
+quiet_in Configuring past bs = refl
+quiet_in Running past bs = refl
+quiet_in Stopped past bs = refl
+quiet_in Faulted past bs = refl
+quiet_in Ended past bs = refl
+
+if_events : (effect : Effect) (es : List EventBody) → effect.events ≡ es → AtMostOne (stops_in es) → StopsOnce effect
+if_events effect es is once = subst (λ l. AtMostOne (stops_in l)) (sym is) once
+
+reply_stops_once : (past : History) (s : Situation) (asked : Command) (reply : Reply) → Shape past s asked reply → StopsOnce reply.effect
+reply_stops_once past s asked reply (refuses why is) = if_events reply.effect _ (ap (λ (r : Reply). r.effect.events) is) tt
+reply_stops_once past s asked reply (is_calm calm is) = if_events reply.effect _ (ap (λ (e : Effect). e.events) is) tt
+reply_stops_once past s asked reply (sets a l by there same resolves) =
+    if_events reply.effect _ (ap (λ (r : Reply). r.effect.events) resolves.reply_is ∙ quiet_in (situation past) past resolves.breakpoints) tt
+reply_stops_once past s asked reply (begins l by here there is) =
+    if_events reply.effect _ (ap (λ (r : Reply). r.effect.events) is) (enters_stop_once past l (due_first past l))
+reply_stops_once past s asked reply (resumes_by pace l by here there is) = if_events reply.effect _ (ap (λ (r : Reply). r.effect.events) is) tt
+reply_stops_once past s asked reply (is_over pace by here is) = if_events reply.effect _ (ap (λ (r : Reply). r.effect.events) is) tt
+reply_stops_once past s asked reply (retreats m l by back stands there is) = if_events reply.effect _ (ap (λ (r : Reply). r.effect.events) is) tt
+reply_stops_once past s asked reply (interrupts a by here is) = if_events reply.effect _ (ap (λ (r : Reply). r.effect.events) is) tt
+reply_stops_once past s asked reply (quits by is) = if_events reply.effect _ (ap (λ (r : Reply). r.effect.events) is) tt
+
+launch_stops_once : (launch : Launch) (file : Option (List ℕ)) (reply : Reply) → Launches launch.arguments file reply → StopsOnce reply.effect
+launch_stops_once launch None reply is = if_events reply.effect _ (ap (λ (r : Reply). r.effect.events) is) tt
+launch_stops_once launch (Some text) reply (inl is) = if_events reply.effect _ (ap (λ (r : Reply). r.effect.events) is.reply_is) tt
+launch_stops_once launch (Some text) reply (inr is) = if_events reply.effect _ (ap (λ (r : Reply). r.effect.events) is.reply_is) tt
+
+step_stops_once : (past : History) (item : Item) (step : Step) → Causes past item step → StopsOnce step.effect
+step_stops_once past (Content None) step is = subst StopsOnce (sym is.effect_is) tt
+step_stops_once past (Content (Some request)) step is =
+    subst StopsOnce (sym is.2.effect_is) (reply_stops_once past (situation past) request.body is.0 (shaped past is.0 (situation past) request.body is.1))
+step_stops_once past (Loaded launch file) step is = subst StopsOnce (sym is.2.effect_is) (launch_stops_once launch file is.0 is.1)
+step_stops_once past (Accepted r) step is = subst StopsOnce (sym is.effect_is) (report_stops_once past r r.outcome)
+step_stops_once past (Fault k) step is = subst StopsOnce (sym is.effect_is) tt
+step_stops_once past InputEnd step is = subst StopsOnce (sym is.effect_is) tt
+step_stops_once past ReadFailure step is = subst StopsOnce (sym is.effect_is) tt
+step_stops_once past MemoryFailure step is = subst StopsOnce (sym is.effect_is) tt
+
+-- each stop that a step reports is the last
+pub stopped_last : (past : History) (step : Step) (reason : StopReason) (front back : List EventBody) → Causes past step.item step → step.effect.events ≡ front ++ event.Stopped reason ∷ back → stop_in step ≡ Some reason
+stopped_last past step reason front back causes is =
+    each_is_last _ _ stop_of_event step.effect.events front back _ reason (step_stops_once past step.item step causes) is refl

@@ -1,0 +1,63 @@
+-- What a report tells after its numbers and logs.
+use Rattle.std.proofs.Common.{◌≡◌, List, [], ◌∷◌, ◌++◌, Bool, true, false, refl, sym, subst, append-nil}
+use Rattle.std.specs.Prelude.{map, ℤ, All}
+use Rattle.std.proofs.lemmas.List.Elements.{All-nil, All-cons, All-append}
+use Rattle.dap_msg.specs.declared.outgoing.EventBody.{EventBody}
+use Rattle.dap_msg.specs.declared.outgoing.EventBody.TheVariants as event
+use Rattle.dbg_plan.specs.Breakpoints.{Breakpoint}
+use Rattle.dbg_plan.specs.Logs.{Log}
+use Rattle.dbg_runner.specs.declared.outcome.SliceOutcome.{SliceOutcome}
+use Rattle.dbg_runner.specs.declared.outcome.SliceOutcome.TheVariants as slice
+use Rattle.dbg_runner.specs.Plain.{PlainReport}
+use Rattle.dap_history.specs.History.{Accepted, History, Effect}
+use Rattle.dap_history.specs.Readings.{waiting_pause}
+use Rattle.dap_history.specs.Replies.{told_logs}
+use Rattle.dap_history.specs.Reports.{outputs, held, report_effect}
+use Rattle.dap_history.specs.Emission.{Causes}
+use Rattle.dap_history.specs.Stops.{IsOutput, tells_held, tells, EachReportIsTold}
+use Rattle.dap_history.proofs.Along.{any_events, along}
+use Rattle.dap_history.proofs.Each.{WasTaken, EachTaken, each_kept, each_first}
+use Rattle.dap_history.proofs.Outputs.{told_numbers}
+use Rattle.dap_history.proofs.GoingBack.{Anything, anything_kept}
+
+numbers_output : (vs : List ℤ) → All IsOutput (map event.Output vs)
+numbers_output [] = All-nil IsOutput
+numbers_output (v ∷ vs) = All-cons IsOutput (event.Output v) (map event.Output vs) tt (numbers_output vs)
+
+pub logs_output : (bs : List Breakpoint) (ls : List Log) → All IsOutput (told_logs bs ls)
+logs_output bs [] = All-nil IsOutput
+logs_output bs (l ∷ ls) = All-cons IsOutput _ (told_logs bs ls) tt (logs_output bs ls)
+
+outputs_output : (past : History) (r : PlainReport) → All IsOutput (outputs past r)
+outputs_output past r = All-append IsOutput (map event.Output (told_numbers past r)) (told_logs r.plan r.logs) (numbers_output (told_numbers past r)) (logs_output r.plan r.logs)
+
+-- the events are numbers and logs, and then these
+abbrev EndsIn : List EventBody → List EventBody → Type 0
+EndsIn events last = (front : List EventBody) × All IsOutput front × (events ≡ front ++ last)
+
+report_tells : (past : History) (r : PlainReport) (e : SliceOutcome) → EndsIn (report_effect past r e).events (tells past e)
+report_tells past r slice.More = (outputs past r, outputs_output past r, sym (append-nil (outputs past r)))
+report_tells past r (slice.Due reason) = (outputs past r, outputs_output past r, refl)
+report_tells past r slice.Held = by_pause (waiting_pause past)
+  where
+    by_pause : (pauses : Bool) → EndsIn (held past r pauses).events (tells_held pauses)
+    by_pause true = (outputs past r, outputs_output past r, refl)
+    by_pause false = (outputs past r, outputs_output past r, sym (append-nil (outputs past r)))
+report_tells past r slice.Done = (outputs past r, outputs_output past r, refl)
+report_tells past r (slice.Fault fault) = (outputs past r, outputs_output past r, refl)
+report_tells past r slice.NoMemory = ([], All-nil IsOutput, refl)
+
+pub each_report_told : EachReportIsTold
+each_report_told events past rest history before step after r past_is item_is =
+    (is.answer_is, subst (λ (e : Effect). EndsIn e.events (tells before r.outcome)) (sym is.effect_is) (report_tells before r r.outcome))
+  where
+    each : EachTaken (λ e. Unit {0}) (Anything (λ e. Unit {0})) past
+    each =
+        along (λ e. Unit {0}) (EachTaken (λ e. Unit {0}) (Anything (λ e. Unit {0}))) (each_kept (λ e. Unit {0}) (Anything (λ e. Unit {0})) (anything_kept (λ e. Unit {0}))) (each_first (λ e. Unit {0}) (Anything (λ e. Unit {0})) tt)
+        events past rest (any_events events) history
+
+    was : WasTaken (λ e. Unit {0}) (Anything (λ e. Unit {0})) before step
+    was = each.each before step after past_is
+
+    is : Causes before (Accepted r) step
+    is = subst (λ i. Causes before i step) item_is was.causes

@@ -1,0 +1,59 @@
+-- What numbers and logs say among events.
+use Rattle.std.proofs.Common.{◌≡◌, ℕ, List, [], ◌∷◌, ◌++◌, ℤ, refl, ◌∙◌, ap}
+use Rattle.std.specs.Prelude.{map}
+use Rattle.std.specs.List.{filter_map}
+use Rattle.dap_msg.specs.declared.outgoing.Outgoing.TheVariants.{Event}
+use Rattle.dap_msg.specs.declared.outgoing.EventBody.{EventBody}
+use Rattle.dap_msg.specs.declared.outgoing.EventBody.TheVariants as event
+use Rattle.dbg_plan.specs.Breakpoints.{Breakpoint}
+use Rattle.dbg_plan.specs.Logs.{Log}
+use Rattle.dap_history.specs.Last.{last_such}
+use Rattle.dap_history.specs.Readings.{message_mark, output}
+use Rattle.dap_history.specs.Replies.{text_of_log, told_logs}
+use Rattle.dap_history.specs.Laws.{log_of}
+use Rattle.dap_history.specs.Stops.{stop_of_event}
+use Rattle.dap_history.proofs.Readings.{or_else-none}
+
+-- the numbers, and the texts of the logs, that events report
+abbrev pub numbers_in : List EventBody → List ℤ
+numbers_in es = filter_map output (map Event es)
+
+abbrev pub texts_in : List EventBody → List (List ℕ)
+texts_in es = filter_map log_of (map Event es)
+
+-- ---- numbers in front
+
+pub numbers_of_numbers : (vs : List ℤ) (es : List EventBody) → numbers_in (map event.Output vs ++ es) ≡ vs ++ numbers_in es
+numbers_of_numbers [] es = refl
+numbers_of_numbers (v ∷ vs) es = ap (λ l. v ∷ l) (numbers_of_numbers vs es)
+
+pub texts_of_numbers : (vs : List ℤ) (es : List EventBody) → texts_in (map event.Output vs ++ es) ≡ texts_in es
+texts_of_numbers [] es = refl
+texts_of_numbers (v ∷ vs) es = texts_of_numbers vs es
+
+pub stop_of_numbers : (vs : List ℤ) (es : List EventBody) → last_such stop_of_event (map event.Output vs ++ es) ≡ last_such stop_of_event es
+stop_of_numbers [] es = refl
+stop_of_numbers (v ∷ vs) es = or_else-none _ ∙ stop_of_numbers vs es
+
+pub mark_of_numbers : (vs : List ℤ) (es : List EventBody) → last_such message_mark (map Event (map event.Output vs ++ es)) ≡ last_such message_mark (map Event es)
+mark_of_numbers [] es = refl
+mark_of_numbers (v ∷ vs) es = or_else-none _ ∙ mark_of_numbers vs es
+
+-- ---- logs in front
+
+module _ (bs : List Breakpoint) where
+  pub numbers_of_logs : (ls : List Log) (es : List EventBody) → numbers_in (told_logs bs ls ++ es) ≡ numbers_in es
+  numbers_of_logs [] es = refl
+  numbers_of_logs (l ∷ ls) es = numbers_of_logs ls es
+
+  pub texts_of_logs : (ls : List Log) (es : List EventBody) → texts_in (told_logs bs ls ++ es) ≡ map (text_of_log bs) ls ++ texts_in es
+  texts_of_logs [] es = refl
+  texts_of_logs (l ∷ ls) es = ap (λ ts. text_of_log bs l ∷ ts) (texts_of_logs ls es)
+
+  pub stop_of_logs : (ls : List Log) (es : List EventBody) → last_such stop_of_event (told_logs bs ls ++ es) ≡ last_such stop_of_event es
+  stop_of_logs [] es = refl
+  stop_of_logs (l ∷ ls) es = or_else-none _ ∙ stop_of_logs ls es
+
+  pub mark_of_logs : (ls : List Log) (es : List EventBody) → last_such message_mark (map Event (told_logs bs ls ++ es)) ≡ last_such message_mark (map Event es)
+  mark_of_logs [] es = refl
+  mark_of_logs (l ∷ ls) es = or_else-none _ ∙ mark_of_logs ls es

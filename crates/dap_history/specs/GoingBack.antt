@@ -1,0 +1,57 @@
+-- The laws of going back: what a run that goes back was asked for, and how it is ordered.
+use Rattle.std.specs.Prelude.{◌≡◌, ◌++◌, ◌∷◌, ℕ, ◌+◌, true, if◌then◌else◌, List, Option, None, Some, IsSome, Ok}
+use Rattle.dap_msg.specs.declared.command.Command.{Command}
+use Rattle.dap_msg.specs.declared.command.Command.TheVariants as command
+use Rattle.dap_msg.specs.declared.command.CommandName.{CommandName}
+use Rattle.dap_msg.specs.declared.outgoing.Outgoing.TheVariants.{Answer}
+use Rattle.dap_msg.specs.declared.outgoing.Body.{Body}
+use Rattle.dbg_plan.specs.declared.mode.Mode.{Mode}
+use Rattle.dbg_plan.specs.declared.mode.Mode.TheVariants as mode
+use Rattle.dbg_runner.specs.Plain.{Heading, PlainOrder, Hold, goes_back}
+use Rattle.dap_history.specs.Last.{last_such}
+use Rattle.dap_history.specs.History.{Item, Content, Step, History}
+use Rattle.dap_history.specs.Readings.{is_back}
+use Rattle.dap_history.specs.Events.{Incoming, Rest, AreLawful, IsHistoryOf}
+use Rattle.dap_history.specs.Stops.{run_in, Orders}
+
+-- the mode in which a command goes back, if it does
+abbrev pub back_by : Command → Option Mode
+back_by (command.StepBack asked) = Some mode.StepBack
+back_by (command.ReverseContinue asked) = Some mode.Reverse
+back_by _ = None
+
+-- the mode in which an item asks to go back, if it does
+abbrev pub back_in : Item → Option Mode
+back_in (Content (Some request)) = back_by request.body
+back_in _ = None
+
+-- the mode of a run, if it goes back
+abbrev pub back_of : Heading → Option Mode
+back_of run = if goes_back run.mode then Some run.mode else None
+
+-- A run goes back just where `stepBack` or `reverseContinue` asks for it, and as that asks. Where that is granted, a run is ordered.
+abbrev pub EachGoesBackAsAsked : Type 0
+EachGoesBackAsAsked =
+    (events : List Incoming) (past : History) (rest : Rest) → AreLawful events → IsHistoryOf events past rest
+    → (before : History) (step : Step) (after : History) → past ≡ before ++ step ∷ after
+    → ((run : Heading) → Orders step run → back_of run ≡ back_in step.item)
+    × ((m : Mode) (seq : ℕ) (name : CommandName) (b : Body) → back_in step.item ≡ Some m → step.answer ≡ Some (Answer seq name (Ok b)) → IsSome (run_in step))
+
+-- A run that follows one that went back counts from the position after the one where it begins.
+abbrev pub CountsBeginAnew : Type 0
+CountsBeginAnew =
+    (events : List Incoming) (past : History) (rest : Rest) → AreLawful events → IsHistoryOf events past rest
+    → (before : History) (step : Step) (after : History) (run : Heading) → past ≡ before ++ step ∷ after → Orders step run
+    → is_back before ≡ true → run.counted_from ≡ run.start + 1
+
+-- the run that an order holds, if it holds one
+abbrev pub held_by : PlainOrder → Option ℕ
+held_by (Hold run) = Some run
+held_by _ = None
+
+-- No run that goes back is ordered to hold.
+abbrev pub RetreatsAreNotHeld : Type 0
+RetreatsAreNotHeld =
+    (events : List Incoming) (past : History) (rest : Rest) → IsHistoryOf events past rest
+    → (before : History) (step : Step) (after : History) → past ≡ before ++ step ∷ after
+    → is_back before ≡ true → last_such held_by step.effect.orders ≡ None

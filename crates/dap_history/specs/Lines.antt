@@ -1,0 +1,92 @@
+-- The laws of breakpoints: each run is under those of the lines that were set last, and counts from where that was.
+use Rattle.std.specs.Prelude.{◌≡◌, ◌++◌, ◌∷◌, [], ℕ, ◌+◌, Bool, true, false, ◌||◌, if◌then◌else◌, is_some, List, Option, None, Some, option_map, unwrap_or, Ok}
+use Rattle.std.specs.Option.{option_map_or}
+use Rattle.dap_msg.specs.declared.command.Command.{Command}
+use Rattle.dap_msg.specs.declared.command.Command.TheVariants as command
+use Rattle.dap_msg.specs.declared.outgoing.Outgoing.{Outgoing}
+use Rattle.dap_msg.specs.declared.outgoing.Outgoing.TheVariants.{Answer}
+use Rattle.dap_msg.specs.declared.requests.set_breakpoints.SourceBreakpoint.{SourceBreakpoint}
+use Rattle.dbg_plan.specs.Breakpoints.{Breakpoint}
+use Rattle.dbg_plan.specs.declared.resolving.Resolution.{Resolution}
+use Rattle.dbg_runner.specs.Plain.{Heading}
+use Rattle.dap_history.specs.declared.situation.Situation.{Situation}
+use Rattle.dap_history.specs.declared.situation.Situation.TheVariants.{Configuring, Stopped, Faulted}
+use Rattle.dap_history.specs.Last.{last_such}
+use Rattle.dap_history.specs.History.{Launched, Item, Content, Step, History}
+use Rattle.dap_history.specs.Readings.{situation, launched, last_run, is_back, plan}
+use Rattle.dap_history.specs.Breakpoints.{line_offset, IsResolved, is_at}
+use Rattle.dap_history.specs.Considered.{starts_by}
+use Rattle.dap_history.specs.Events.{Incoming, Rest, AreLawful, IsHistoryOf}
+use Rattle.dap_history.specs.Stops.{run_in, Orders}
+
+-- ---- lines
+
+-- the lines that a command sets at this path, if it sets any
+abbrev pub lines_at : List ℕ → Command → Option (List SourceBreakpoint)
+lines_at path (command.SetBreakpoints asked) = if is_at asked.path path then Some asked.breakpoints else None
+lines_at path _ = None
+
+-- those that an item sets, where it is granted
+abbrev pub lines_by : List ℕ → Item → Option Outgoing → Option (List SourceBreakpoint)
+lines_by path (Content (Some request)) (Some (Answer seq command (Ok body))) = lines_at path request.body
+lines_by path _ _ = None
+
+-- those that were set last
+abbrev pub lines_set : List ℕ → History → Option (List SourceBreakpoint)
+lines_set path past = last_such (λ step. lines_by path step.item step.answer) past
+
+-- the breakpoints of lines; there are none where no lines were set
+abbrev pub AreOfLines : Launched → ℕ → Option (List SourceBreakpoint) → List Breakpoint → Type 0
+AreOfLines l less None breakpoints = breakpoints ≡ []
+AreOfLines l less (Some lines) breakpoints = (answers : List Resolution) × IsResolved l.program less lines answers breakpoints
+
+-- the session has the debuggee: before the program is started, and where it stands
+abbrev pub HasDebuggee : Situation → Type 0
+HasDebuggee Configuring = Unit {0}
+HasDebuggee Stopped = Unit {0}
+HasDebuggee Faulted = Unit {0}
+HasDebuggee _ = ⊥
+
+-- Where the session has the debuggee, the plan in force is the breakpoints of the lines that were set last at the launched
+-- path. Before the program is started it counts from position 0.
+abbrev pub PlanIsOfLines : Type 0
+PlanIsOfLines =
+    (events : List Incoming) (past : History) (rest : Rest) → AreLawful events → IsHistoryOf events past rest
+    → HasDebuggee (situation past) → (l : Launched) → launched past ≡ Some l
+    → AreOfLines l (line_offset past) (lines_set l.path past) (plan past).breakpoints × (situation past ≡ Configuring → (plan past).counted_from ≡ 0)
+
+-- Each run is under the breakpoints of the lines that were set last at the launched path.
+abbrev pub EachRunHasItsLines : Type 0
+EachRunHasItsLines =
+    (events : List Incoming) (past : History) (rest : Rest) → AreLawful events → IsHistoryOf events past rest
+    → (before : History) (step : Step) (after : History) (run : Heading) → past ≡ before ++ step ∷ after → Orders step run
+    → (l : Launched) × (launched before ≡ Some l) × AreOfLines l (line_offset before) (lines_set l.path before) run.plan
+
+-- ---- counting
+
+-- A run that is ordered, and the start of the program, end what was set anew; lines that are set begin it.
+abbrev pub anew_mark : List ℕ → Step → Option Bool
+anew_mark path step =
+    if is_some (run_in step) || starts_by step.answer then Some false else option_map (λ lines. true) (lines_by path step.item step.answer)
+
+-- lines were set since the program was started, and since the last run was ordered
+abbrev pub are_anew : List ℕ → History → Bool
+are_anew path past = unwrap_or (last_such (anew_mark path) past) false
+
+-- from where a later run counts: anew, from the position after its beginning, or as the run before it, or from 0
+abbrev pub next_counted : Bool → Option Heading → ℕ → ℕ
+next_counted true last start = start + 1
+next_counted false last start = option_map_or (λ run. run.counted_from) last 0
+
+-- from where a run that begins at this position counts
+abbrev pub counts_from : History → Launched → Option Outgoing → ℕ → ℕ
+counts_from past l answer start =
+    if starts_by answer then 0 else next_counted (are_anew l.path past || is_back past) (last_run past) start
+
+-- The run that starts the program counts from position 0. Another counts from the position after the one where it begins, if
+-- lines were set since the run before it, or if that went back; else from where that counts, or from 0 if there was none.
+abbrev pub EachRunCountsFrom : Type 0
+EachRunCountsFrom =
+    (events : List Incoming) (past : History) (rest : Rest) → AreLawful events → IsHistoryOf events past rest
+    → (before : History) (step : Step) (after : History) (run : Heading) → past ≡ before ++ step ∷ after → Orders step run
+    → (l : Launched) × (launched before ≡ Some l) × (run.counted_from ≡ counts_from before l step.answer run.start)

@@ -1,0 +1,121 @@
+-- The laws of runs: each has the next number, goes as it was asked to, and is held once.
+use Rattle.std.specs.Prelude.{◌≡◌, ◌++◌, ◌∷◌, [], ◌⊎◌, ℕ, ◌+◌, true, false, List, length, Option, None, Some, IsSome, option_map, Ok}
+use Rattle.std.specs.List.{filter_map}
+use Rattle.dap_msg.specs.declared.command.Command.{Command}
+use Rattle.dap_msg.specs.declared.command.Command.TheVariants as command
+use Rattle.dap_msg.specs.declared.request.Request.{Request}
+use Rattle.dap_msg.specs.Commands.{name_of}
+use Rattle.dap_msg.specs.declared.outgoing.Outgoing.TheVariants.{Answer}
+use Rattle.dap_msg.specs.declared.outgoing.Body.{Body}
+use Rattle.dap_msg.specs.declared.outgoing.EventBody.{EventBody}
+use Rattle.dap_msg.specs.declared.outgoing.EventBody.TheVariants as event
+use Rattle.pl0_tree.specs.Tree.{Block}
+use Rattle.dbg_plan.specs.Due.{depth_at}
+use Rattle.dbg_plan.specs.declared.mode.Mode.{Mode}
+use Rattle.dbg_plan.specs.declared.mode.Mode.TheVariants as mode
+use Rattle.dbg_runner.specs.declared.outcome.SliceOutcome.{SliceOutcome}
+use Rattle.dbg_runner.specs.declared.outcome.SliceOutcome.TheVariants as slice
+use Rattle.dbg_runner.specs.Plain.{Heading, PlainOrder, PlainReport, Go, Hold, goes_back}
+use Rattle.dap_history.specs.declared.situation.Situation.{Situation}
+use Rattle.dap_history.specs.declared.situation.Situation.TheVariants.{Running, Faulted}
+use Rattle.dap_history.specs.Last.{last_such}
+use Rattle.dap_history.specs.History.{Launched, Item, Content, Accepted, Step, History, orders_of}
+use Rattle.dap_history.specs.Readings.{go, situation, launched, last_run, position, waiting_pause}
+use Rattle.dap_history.specs.Breakpoints.{is_at}
+use Rattle.dap_history.specs.Events.{Incoming, Rest, AreLawful, IsHistoryOf}
+use Rattle.dap_history.specs.Stops.{stop_of_event, run_in, Orders}
+
+-- ---- numbers
+
+-- The run numbered n is the nth that is ordered.
+abbrev pub RunsCountFromOne : Type 0
+RunsCountFromOne =
+    (events : List Incoming) (past : History) (rest : Rest) → IsHistoryOf events past rest
+    → (front back : List PlainOrder) (run : Heading) → orders_of past ≡ front ++ Go run ∷ back → run.run ≡ length (filter_map go front) + 1
+
+-- ---- modes
+
+-- the step grants a request
+pub record Grants (step : Step) (request : Request) : Type 0 where
+  pub item_is : step.item ≡ Content (Some request)
+  pub body : Body
+  pub answer_is : step.answer ≡ Some (Answer request.seq (name_of request.body) (Ok body))
+
+-- the mode of the run that a command asks for, if it asks for one where this many frames are alive
+abbrev pub mode_by : ℕ → Command → Option Mode
+mode_by depth command.ConfigurationDone = Some mode.Continue
+mode_by depth (command.Continue asked) = Some mode.Continue
+mode_by depth (command.Next asked) = Some (mode.Over depth)
+mode_by depth (command.StepIn asked) = Some mode.In
+mode_by depth (command.StepOut asked) = Some (mode.Out depth)
+mode_by depth (command.StepBack asked) = Some mode.StepBack
+mode_by depth (command.ReverseContinue asked) = Some mode.Reverse
+mode_by depth _ = None
+
+-- a run that was held goes on in its mode
+abbrev pub held_mode : SliceOutcome → Option Heading → Option Mode
+held_mode slice.Held last = option_map (λ run. run.mode) last
+held_mode _ last = None
+
+-- the mode of the run that an item asks for, if it asks for one
+abbrev pub mode_asked : History → Block → Item → Option Mode
+mode_asked past main (Content (Some request)) = mode_by (depth_at main (position past)) request.body
+mode_asked past main (Accepted r) = held_mode r.outcome (last_run past)
+mode_asked past main _ = None
+
+-- Each run is in the mode of the command that asks for it; one that follows a held run is in that run's mode.
+abbrev pub EachRunIsAsAsked : Type 0
+EachRunIsAsAsked =
+    (events : List Incoming) (past : History) (rest : Rest) → AreLawful events → IsHistoryOf events past rest
+    → (before : History) (step : Step) (after : History) (run : Heading) → past ≡ before ++ step ∷ after → Orders step run
+    → (l : Launched) × (launched before ≡ Some l) × (mode_asked before l.program step.item ≡ Some run.mode)
+
+-- A granted command that asks for a run needn't order one where position 0 is due, or where the program stands before a fault.
+abbrev pub IsExcused : Situation → Command → List EventBody → Type 0
+IsExcused s command.ConfigurationDone events = IsSome (last_such stop_of_event events)
+IsExcused s _ events = (s ≡ Faulted) × (events ≡ event.Exited 1 ∷ event.Terminated ∷ [])
+
+-- Where a command that asks for a run is granted, one is ordered, unless the program stops at position 0 or is over.
+abbrev pub GrantedRunsAreOrdered : Type 0
+GrantedRunsAreOrdered =
+    (events : List Incoming) (past : History) (rest : Rest) → IsHistoryOf events past rest
+    → (before : History) (step : Step) (after : History) (request : Request) → past ≡ before ++ step ∷ after
+    → Grants step request → IsSome (mode_by 0 request.body) → IsSome (run_in step) ⊎ IsExcused (situation before) request.body step.effect.events
+
+-- A run that was held goes on where no pause waits.
+abbrev pub HeldRunsGoOn : Type 0
+HeldRunsGoOn =
+    (events : List Incoming) (past : History) (rest : Rest) → IsHistoryOf events past rest
+    → (before : History) (step : Step) (after : History) (r : PlainReport) → past ≡ before ++ step ∷ after
+    → step.item ≡ Accepted r → r.outcome ≡ slice.Held → waiting_pause before ≡ false → IsSome (run_in step)
+
+-- ---- holding
+
+-- what waits in a run until that is held: a pause, or breakpoints at the launched path
+abbrev pub IsToWait : History → Command → Type 0
+IsToWait past (command.Pause asked) = Unit {0}
+IsToWait past (command.SetBreakpoints asked) = (l : Launched) × (launched past ≡ Some l) × (is_at asked.path l.path ≡ true)
+IsToWait past _ = ⊥
+
+-- after these steps a request of that kind is granted
+pub record GrantsWait (past : History) (step : Step) : Type 0 where
+  pub request : Request
+  pub granted : Grants step request
+  pub to_wait : IsToWait past request.body
+
+-- A Hold is ordered where a pause or breakpoints that wait are granted, and directly after the Go of the run that it names, so
+-- once for a run. That run doesn't go back.
+abbrev pub HoldOnce : Type 0
+HoldOnce =
+    (events : List Incoming) (past : History) (rest : Rest) → IsHistoryOf events past rest
+    → (before : History) (step : Step) (after : History) → past ≡ before ++ step ∷ after
+    → (front back : List PlainOrder) (n : ℕ) → step.effect.orders ≡ front ++ Hold n ∷ back
+    → GrantsWait before step × ((earlier : List PlainOrder) × (run : Heading) × (orders_of before ++ front ≡ earlier ++ Go run ∷ []) × (n ≡ run.run) × (goes_back run.mode ≡ false))
+
+-- Where a pause or breakpoints are granted in a run that doesn't go back, its Hold is the last order then.
+abbrev pub WaitsAreHeld : Type 0
+WaitsAreHeld =
+    (events : List Incoming) (past : History) (rest : Rest) → IsHistoryOf events past rest
+    → (before : History) (step : Step) (after : History) → past ≡ before ++ step ∷ after
+    → situation before ≡ Running → (run : Heading) → last_run before ≡ Some run → goes_back run.mode ≡ false → GrantsWait before step
+    → (earlier : List PlainOrder) × (orders_of (before ++ step ∷ []) ≡ earlier ++ Hold run.run ∷ [])

@@ -1,0 +1,42 @@
+// What positions log, as events.
+
+ghost use Rattle.std.specs.Prelude.{◌≡◌, ◌++◌, OnOk, option_map};
+ghost use Rattle.std.specs.Arc.{arc_value};
+ghost use Rattle.dbg_plan.specs.PlainParts.{plain_parts};
+ghost use Rattle.dbg_plan.specs.Plans.{breakpoints_of, parts_at};
+ghost use Rattle.dap_history.specs.Replies.{told_logs};
+
+use dap_msg::{EventBody, Text};
+use dbg_plan::{Log, Part, Plan, log_text};
+use std::alloc::{AllocError, Global};
+use std::sync::Arc;
+
+// The parts of a breakpoint's message, by the breakpoint's number; none where there is no plan.
+fn parts(plan: &Option<Arc<Plan>>, number: usize) -> &[Part]
+    ensures { plain_parts result.now ≡ parts_at (breakpoints_of (option_map arc_value plan.now)) number }
+{
+    match plan {
+        None => &[],
+        Some(plan) => plan.message(number),
+    }
+}
+
+/// Appends the logs of this plan.
+///
+/// # Errors
+///
+/// An allocation failed.
+pub(crate) fn push_logs(
+    alloc: Global,
+    plan: &Option<Arc<Plan>>,
+    logs: &[Log],
+    events: &mut Vec<EventBody>,
+) -> Result<(), AllocError>
+    ensures { OnOk result (events.new.items ≡ events.old.items ++ told_logs (breakpoints_of (option_map arc_value plan.now)) logs.now) }
+{
+    for log in logs {
+        let text = log_text(alloc, parts(plan, log.number()), log)?;
+        events.push(EventBody::Log(Text::new(text)))?;
+    }
+    Ok(())
+}

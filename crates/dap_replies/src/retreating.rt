@@ -1,0 +1,101 @@
+// What goes back: `stepBack` and `reverseContinue`.
+
+ghost use Rattle.std.specs.Prelude.{IfOk};
+ghost use Rattle.dap_phase.specs.declared.phase.Phase.TheVariants as phase_is;
+ghost use Rattle.dap_replies.specs.Paces.{return_by};
+ghost use Rattle.dap_replies.specs.Replied.{Replies};
+
+use crate::effect::Reply;
+use crate::refusing::refuse;
+use crate::running::go;
+use dap_history::reading_laws;
+use dap_msg::{Body, Refusal, ThreadArguments};
+use dap_phase::{Phase, Target};
+use dbg_plan::Mode;
+use dbg_runner::Considered;
+use std::alloc::{AllocError, Global};
+
+/// How the program is to go back.
+#[derive(Clone, Copy)]
+pub(crate) enum Return {
+    /// By one step: `stepBack`.
+    ByStep,
+    /// To where it would have stopped last: `reverseContinue`.
+    ToStop,
+}
+
+impl Return {
+    ghost use Rattle.std.specs.Prelude.{◌≡◌};
+    ghost use Rattle.dap_replies.specs.Paces.{return_mode};
+
+    // The mode of the run.
+    fn mode(self) -> Mode
+        ensures { result ≡ return_mode self }
+    {
+        match self {
+            Return::ByStep => Mode::StepBack,
+            Return::ToStop => Mode::Reverse,
+        }
+    }
+}
+
+// Goes back from a stop.
+fn go_back(
+    alloc: Global,
+    target: Target,
+    debuggee: Considered,
+    way: Return,
+    asked: ThreadArguments,
+) -> Result<Reply, AllocError>
+    ensures { IfOk result (Replies (return_by way asked) (phase_is.Stopped target debuggee)) }
+{
+    reading_laws();
+    if asked.thread_id != 1 {
+        let phase = Phase::Stopped(target, debuggee);
+        return Ok(refuse(alloc, phase, Refusal::UnknownThread));
+    }
+    go(target, debuggee, way.mode(), Body::None, Vec::new(alloc))
+}
+
+// Goes back from a fault.
+fn go_back_faulted(
+    alloc: Global,
+    target: Target,
+    debuggee: Considered,
+    way: Return,
+    asked: ThreadArguments,
+) -> Result<Reply, AllocError>
+    ensures { IfOk result (Replies (return_by way asked) (phase_is.Faulted target debuggee)) }
+{
+    reading_laws();
+    if asked.thread_id != 1 {
+        let phase = Phase::Faulted(target, debuggee);
+        return Ok(refuse(alloc, phase, Refusal::UnknownThread));
+    }
+    go(target, debuggee, way.mode(), Body::None, Vec::new(alloc))
+}
+
+/// Replies to `stepBack` and `reverseContinue`.
+///
+/// # Errors
+///
+/// An allocation failed, or no run number is left.
+pub(crate) fn retreat(
+    alloc: Global,
+    phase: Phase,
+    way: Return,
+    asked: ThreadArguments,
+) -> Result<Reply, AllocError>
+    ensures { IfOk result (Replies (return_by way asked) phase) }
+{
+    reading_laws();
+    match phase {
+        Phase::Running(target, run) => {
+            let phase = Phase::Running(target, run);
+            Ok(refuse(alloc, phase, Refusal::NotStopped))
+        }
+        Phase::Stopped(target, debuggee) => go_back(alloc, target, debuggee, way, asked),
+        Phase::Faulted(target, debuggee) => go_back_faulted(alloc, target, debuggee, way, asked),
+        phase => Ok(refuse(alloc, phase, Refusal::WrongPhase)),
+    }
+}

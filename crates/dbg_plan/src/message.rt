@@ -1,0 +1,37 @@
+// The messages of log points.
+
+ghost use Rattle.std.specs.Prelude.{◌≤◌, length, string_bytes};
+ghost use Rattle.dbg_plan.specs.PlainParts.{plain_parts};
+ghost use Rattle.dbg_plan.specs.Messages.{expressions, expression_limit, ReadsAsParts};
+
+use crate::located::LocatedExpression;
+use pl0_tree::Expression;
+
+/// The most expressions that a message may have.
+pub const EXPRESSION_LIMIT: usize = 8;
+
+/// An expression, with what its names mean at a breakpoint's step.
+#[derive(Drop)]
+pub struct BoundExpression {
+    pub expression: Expression,
+    pub located: LocatedExpression,
+}
+
+/// A part of a message.
+#[derive(Drop)]
+pub enum Part {
+    /// What stands for itself.
+    Text(String),
+    /// An expression, which is replaced by its value.
+    Value(BoundExpression),
+}
+
+/// A message, and the parts that its text reads as.
+#[derive(Drop)]
+pub struct LogMessage {
+    pub text: String,
+    pub parts: Vec<Part>,
+    // The parts are what the text reads as.
+    pub ghost reads: { ∥ ReadsAsParts (string_bytes text) (plain_parts parts.items) ∥₁ },
+    pub ghost few: { length (expressions (plain_parts parts.items)) ≤ expression_limit },
+}

@@ -1,0 +1,108 @@
+-- The reports of a run that goes back.
+use Rattle.std.proofs.Common.{Box, Global, ◌≡◌, ℕ, ◌+◌, ◌*◌, ◌<◌, ◌≤◌, Bool, true, [], length, Option, Some, None, box_value, refl, ap, sym, ◌∙◌, subst, arith}
+use Rattle.pl0_meaning.specs.Runs.{written}
+use Rattle.dbg_plan.specs.declared.mode.Reason.{Reason}
+use Rattle.dbg_plan.specs.declared.debuggee.Debuggee.{Debuggee}
+use Rattle.dbg_plan.specs.Debugged.{Debugged, program_of, IsConsidered}
+use Rattle.dbg_plan.specs.Retreat.{Stop, goal_of}
+use Rattle.dbg_runner.specs.declared.outcome.SliceOutcome.{SliceOutcome}
+use Rattle.dbg_runner.specs.declared.outcome.SliceOutcome.TheVariants as out
+use Rattle.dbg_runner.specs.declared.report.Summary.{Summary}
+use Rattle.dbg_runner.specs.declared.report.Cargo.TheVariants.{Sliced, Unsliced}
+use Rattle.dbg_runner.specs.declared.retreat.Way.{Way}
+use Rattle.dbg_runner.specs.declared.retreat.Way.TheVariants.{Searches, Returns}
+use Rattle.dbg_runner.specs.declared.retreat.Retreat.TheInside.{Inside}
+use Rattle.dbg_runner.specs.Rooms.{Room, slice_limit}
+use Rattle.dbg_runner.specs.Plain.{goes_back}
+use Rattle.dbg_runner.specs.Lawful.{GoesBackBy, is_spent, has_come, has_no_memory, Went}
+use Rattle.dbg_runner.specs.Reported.{Reported, IsKept, plain_report, counts_from, stopped, Carries}
+use Rattle.dbg_runner.specs.ReportFields.{reported_with, IsReportWith}
+use Rattle.dbg_runner.specs.Retreating.{Retreating, IsRoomFor, summary_back}
+use Rattle.dbg_runner.specs.Courses.{IsOn, IsAt, retreating_of, IsRetreat}
+
+few_by : (n : ℕ) (d : Debugged) (again : ℕ) (w : Way) → IsOn n d again w → again ≤ 2 * n
+few_by n d again (Searches found) on = let before = on.1 in omega (arith, on.2)
+few_by n d again (Returns to why) on = let before = on.0 in omega (arith, on.2)
+
+before_by : (n : ℕ) (d : Debugged) (again : ℕ) (w : Way) → IsOn n d again w → d.position ≤ n
+before_by n d again (Searches found) on = omega (arith, on.1)
+before_by n d again (Returns to why) on = let within = on.1 in omega (arith, on.0)
+
+module _ (r : Inside) (inv : IsRetreat r) where
+  few_in : (w : Option Way) → IsAt r.mode r.start r.debuggee.value r.again w → r.again ≤ 2 * r.start
+  few_in None at = omega (arith, at.1)
+  few_in (Some w) at = few_by r.start r.debuggee.value r.again w at.0
+
+  -- no more steps are run again than that
+  pub few : r.again ≤ 2 * r.start
+  few = few_in r.way inv.at
+
+  before_in : (w : Option Way) → IsAt r.mode r.start r.debuggee.value r.again w → r.debuggee.value.position ≤ r.start
+  before_in None at = omega (arith, at.0)
+  before_in (Some w) at = before_by r.start r.debuggee.value r.again w at.0
+
+  pub stands_before : r.debuggee.value.position ≤ r.start
+  stands_before = before_in r.way inv.at
+
+  module _ (run end : ℕ) where
+    abbrev of : SliceOutcome → Summary
+    of outcome = summary_back run (retreating_of r) end outcome
+
+    abbrev room : Room
+    room = record { unit = r.debuggee.value.unit; breakpoints = r.debuggee.value.breakpoints; numbers = []; logs = [] }
+
+    abbrev report_with : SliceOutcome → Option Debugged → Reported
+    report_with outcome d =
+        record { run = run; unit = r.debuggee.value.unit; plan = r.debuggee.value.breakpoints; counted_from = r.counted_from; mode = r.mode; start = r.start; end = end; before = length (written (program_of r.debuggee.value) 0 r.start); again = r.again; numbers = []; logs = []; outcome = outcome; debuggee = d }
+
+    kept : (outcome : SliceOutcome) (d : Option Debugged) → GoesBackBy (program_of r.debuggee.value) (plain_report (report_with outcome d)) outcome → IsKept (report_with outcome d)
+    kept outcome d by = record {
+      before = refl;
+      went = subst (λ b. Went (program_of r.debuggee.value) (plain_report (report_with outcome d)) b) (sym inv.goes_back)
+          (record { begun = inv.begun; numbers = refl; logs = refl; again = few; outcome = by });
+    }
+
+    -- there was no memory for a slice
+    pub gives_up : end ≡ r.start → IsReportWith (of out.NoMemory) (Unsliced r.debuggee)
+    gives_up stays = record {
+      lawful = kept out.NoMemory (Some r.debuggee.value) (has_no_memory stays);
+      carries = subst (λ b. Carries b (report_with out.NoMemory (Some r.debuggee.value)) out.NoMemory) (sym inv.goes_back)
+          (r.debuggee.value, refl, record { unit = refl; breakpoints = refl; before = stands_before; considered = inv.considered });
+    }
+
+    -- it goes on
+    pub goes_on : end ≡ r.start → slice_limit ≤ r.again → IsReportWith (of out.More) (Sliced room None)
+    goes_on stays all = record {
+      lawful = kept out.More None (is_spent stays all);
+      carries = subst (λ b. Carries b (report_with out.More None) out.More) (sym inv.goes_back) refl;
+    }
+
+    -- it has come to where it stops
+    module _ (why : Reason) (box : Box Debuggee Global) (box_is : box.value ≡ record r.debuggee.value { counted_from = r.debuggee.value.next }) (there : end ≡ r.debuggee.value.position) (come : goal_of (program_of r.debuggee.value) r.debuggee.value.breakpoints r.mode r.start ≡ Some (record { position = r.debuggee.value.position; reason = why })) where
+      here : goal_of (program_of r.debuggee.value) r.debuggee.value.breakpoints r.mode r.start ≡ Some (record { position = end; reason = why })
+      here = come ∙ ap (λ n. Some (record { position = n; reason = why })) (sym there)
+
+      next_is : r.debuggee.value.next ≡ end + 1
+      next_is = inv.considered.behind ∙ ap (λ n. n + 1) (sym there)
+
+      abbrev report : Reported
+      report = report_with (out.Due why) (Some box.value)
+
+      -- its plan counts from the next position
+      counts : r.debuggee.value.next ≡ counts_from (goes_back r.mode) report
+      counts = next_is ∙ ap (λ b. counts_from b report) (sym inv.goes_back)
+
+      stands : box.value ≡ stopped report box.value.trail
+      stands =
+          box_is
+          ∙ (λ i. record { unit = r.debuggee.value.unit; position = sym there i; breakpoints = r.debuggee.value.breakpoints; counted_from = counts i; next = next_is i; trail = ap (λ (d : Debugged). d.trail) (sym box_is) i })
+
+      pub arrives : IsReportWith (of (out.Due why)) (Sliced room (Some box))
+      arrives = record {
+        lawful = kept (out.Due why) (Some box.value) (has_come here);
+        carries = subst (λ b. Carries b report (out.Due why)) (sym inv.goes_back) (ap (λ (d : Debugged). Some d) stands);
+      }
+
+-- the room, if it is of this run
+pub room_is : (given : Room) (b : Retreating) → IsRoomFor given b → given ≡ record { unit = b.unit; breakpoints = b.breakpoints; numbers = []; logs = [] }
+room_is given b of = λ i. record { unit = of.unit i; breakpoints = of.breakpoints i; numbers = of.numbers i; logs = of.logs i }

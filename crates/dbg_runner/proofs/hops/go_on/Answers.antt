@@ -1,0 +1,17 @@
+use Rattle.std.proofs.Common.{◌+◌, ◌-◌, sym, ◌∙◌, ap, subst, arith}
+use Rattle.std.proofs.Math.Nat.{min-le_right}
+use Rattle.pl0_machine.specs.Machine.{Standing}
+use Rattle.dbg_plan.specs.Debugged.{Debugged, program_of}
+use Rattle.dbg_runner.specs.Lawful.{RunsAt}
+use Rattle.dbg_runner.proofs.Alive.{runs_before}
+use Rattle.dbg_runner.proofs.hops.go_on.Goals as goal
+
+pub hop-requires-clause-runs : goal.hop-requires-clause-runs
+hop-requires-clause-runs c =
+    let p = c.position.ensures.position ∙ ap (λ (m : Standing). m.position) c.machine.ensures in
+    let q = c.position-2.ensures.position ∙ ap (λ (m : Standing). m.position) c.machine-2.ensures in
+    let least = min-le_right c.args.most (c.args.to - c.position.result) in
+    let within = c.requires.within in
+    let is = c.min-steps.ensures in
+    subst (λ (d : Debugged). RunsAt (program_of d) (c.position-2.result + c.min-steps.result)) (sym c.loop-debuggee.invariant.0)
+    (runs_before (program_of c.args.debuggee.now) (c.position-2.result + c.min-steps.result) c.args.to (omega (arith, p, q, is, least, within)) c.requires.runs)

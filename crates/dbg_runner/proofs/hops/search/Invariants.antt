@@ -1,0 +1,13 @@
+use Rattle.std.proofs.Common.{◌≡◌, ◌+◌, ◌-◌, ◌≤◌}
+use Rattle.dbg_plan.specs.Debugged.{program_of, IsConsidered}
+use Rattle.dbg_plan.specs.Retreat.{last_due}
+use Rattle.dbg_runner.specs.Hops.{standing}
+use Rattle.dbg_runner.proofs.hops.search.Given as goal
+
+abbrev pub invariant-loop-debuggee : goal.invariant-loop-debuggee
+invariant-loop-debuggee l =
+    (l.debuggee ≡ standing l.fn.debuggee l.debuggee.position) × IsConsidered l.debuggee × (l.debuggee.position ≤ l.limit) × (l.outputs ≡ l.fn.outputs)
+    × (l.found ≡ last_due (program_of l.debuggee) l.debuggee.breakpoints (l.debuggee.position + 1))
+
+abbrev pub decreases-loop-debuggee : goal.decreases-loop-debuggee
+decreases-loop-debuggee l = l.limit - l.debuggee.position

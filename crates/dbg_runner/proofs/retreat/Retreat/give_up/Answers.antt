@@ -1,0 +1,13 @@
+use Rattle.std.proofs.Common.{◌∙◌, ap, sym, refl, subst}
+use Rattle.dbg_runner.specs.declared.report.Summary.{Summary}
+use Rattle.dbg_runner.specs.declared.report.Cargo.TheVariants.{Unsliced}
+use Rattle.dbg_runner.specs.declared.outcome.SliceOutcome.TheVariants as out
+use Rattle.dbg_runner.specs.ReportFields.{IsReportWith}
+use Rattle.dbg_runner.specs.Retreating.{Retreating, summary_back}
+use Rattle.dbg_runner.proofs.Retreats.{gives_up}
+use Rattle.dbg_runner.proofs.retreat.Retreat.give_up.Goals as goal
+
+pub with_summary-requires : goal.with_summary-requires
+with_summary-requires c =
+    let is = c.summary-summary.ensures ∙ ap (λ (b : Retreating). summary_back c.args.run b c.self.inside.start out.NoMemory) (sym c.self.view_is) in
+    subst (λ (s : Summary). IsReportWith s (Unsliced c.self.inside.debuggee)) (sym is) (gives_up c.self.inside c.self.invariant c.args.run c.self.inside.start refl)

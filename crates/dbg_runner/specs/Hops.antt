@@ -1,0 +1,27 @@
+-- The steps that a run which goes back runs again.
+use Rattle.std.specs.Prelude.{◌≡◌, ℕ, ◌+◌, ◌<◌, ◌≤◌, Bool, is_some, List, None}
+use Rattle.dbg_plan.specs.declared.mode.Mode.TheVariants.{Continue}
+use Rattle.dbg_plan.specs.Due.{due}
+use Rattle.dbg_plan.specs.Debugged.{Debugged, program_of, IsConsidered, due_now}
+use Rattle.dbg_plan.specs.Trail.{floor_of}
+
+-- the debuggee at position p, considered there, with a plan that counts from position t
+abbrev pub moved : Debugged → ℕ → ℕ → Debugged
+moved d p t = record d { position = p; counted_from = t; next = p + 1 }
+
+-- the same, under the plan as it counted before
+abbrev pub standing : Debugged → ℕ → Debugged
+standing d p = moved d p d.counted_from
+
+-- the debuggee where going back to position `to` leads, considered there, and counted from there
+abbrev pub gone_back : Debugged → ℕ → Debugged
+gone_back d to = moved d (floor_of d.trail.kept to) (floor_of d.trail.kept to)
+
+-- The debuggee went on to a position up to `limit`, and was due at none in between. The answer says whether it is due there.
+pub record Hopped (limit : ℕ) (old : Debugged) (result : Bool) (new : Debugged) : Type 0 where
+  pub is : new ≡ standing old new.position
+  pub considered : IsConsidered new
+  pub more : old.position < new.position
+  pub within : new.position ≤ limit
+  pub passed : (m : ℕ) → old.position < m → m < new.position → due (program_of old) old.breakpoints old.counted_from Continue m ≡ None
+  pub due_is : result ≡ is_some (due_now new Continue)

@@ -1,0 +1,78 @@
+-- What contracts see of a run that goes back.
+use Rattle.std.specs.Prelude.{◌≡◌, ℕ, ◌+◌, ◌≤◌, List, [], length, Option, Some, None}
+use Rattle.pl0_unit.specs.declared.unit.Unit.{Unit as Compiled}
+use Rattle.pl0_meaning.specs.Runs.{written}
+use Rattle.pl0_machine.specs.Machine.{program_of}
+use Rattle.dbg_plan.specs.Breakpoints.{Breakpoint}
+use Rattle.dbg_plan.specs.declared.mode.Reason.{Reason}
+use Rattle.dbg_plan.specs.Retreat.{Stop, goal_of}
+use Rattle.dbg_plan.specs.Trail.{Trail}
+use Rattle.dbg_plan.specs.Debugged.{Debugged}
+use Rattle.dbg_plan.specs.declared.mode.Mode.{Mode}
+use Rattle.dbg_runner.specs.declared.outcome.SliceOutcome.{SliceOutcome}
+use Rattle.dbg_runner.specs.declared.outcome.SliceOutcome.TheVariants as out
+use Rattle.dbg_runner.specs.declared.report.Summary.{Summary}
+use Rattle.dbg_runner.specs.Rooms.{Room, slice_limit}
+use Rattle.dbg_runner.specs.Plain.{Heading}
+use Rattle.dbg_runner.specs.Reported.{text_of}
+
+-- A run that goes back in this mode, from position `start`, under a plan that counted from position `counted_from` there. So
+-- far it ran `again` steps again, and its debuggee stands at `position`.
+pub record Retreating : Type 0 where
+  pub unit : Compiled
+  pub breakpoints : List Breakpoint
+  pub counted_from : ℕ
+  pub mode : Mode
+  pub start : ℕ
+  pub again : ℕ
+  pub position : ℕ
+  pub trail : Trail
+
+-- such a run of this debuggee, which begins
+abbrev pub turned : Debugged → Mode → Retreating
+turned d mode =
+    record { unit = d.unit; breakpoints = d.breakpoints; counted_from = d.counted_from; mode = mode; start = d.position; again = 0; position = d.position; trail = d.trail }
+
+-- what fixes each report of the run
+abbrev pub heading_back : ℕ → Retreating → Heading
+heading_back run b =
+    record { run = run; text = text_of b.unit; plan = b.breakpoints; counted_from = b.counted_from; mode = b.mode; start = b.start }
+
+-- the summary of its report where it ends so
+abbrev pub summary_back : ℕ → Retreating → ℕ → SliceOutcome → Summary
+summary_back run b end outcome =
+    record { run = run; counted_from = b.counted_from; mode = b.mode; start = b.start; end = end; before = length (written (program_of b.unit) 0 b.start); again = b.again; outcome = outcome }
+
+-- the run's debuggee, wherever its plan counts from
+pub record IsDebuggeeOf (b : Retreating) (d : Debugged) : Type 0 where
+  pub unit : d.unit ≡ b.unit
+  pub breakpoints : d.breakpoints ≡ b.breakpoints
+  pub position : d.position ≡ b.position
+  pub before : d.position ≤ b.start
+  pub trail : d.trail ≡ b.trail
+
+-- the room is empty, and made of this run's debuggee
+pub record IsRoomFor (room : Room) (b : Retreating) : Type 0 where
+  pub unit : room.unit ≡ b.unit
+  pub breakpoints : room.breakpoints ≡ b.breakpoints
+  pub numbers : room.numbers ≡ []
+  pub logs : room.logs ≡ []
+
+-- the run after it ran more steps again, so many in all
+abbrev pub further : Retreating → ℕ → ℕ → Retreating
+further b again position = record b { again = again; position = position }
+
+-- At most a slice's steps were run again, up to where the run stops, for this reason. Where it doesn't stop, all of them were.
+abbrev pub RanBack : Retreating → Option Reason → Retreating → Type 0
+RanBack old None new = new ≡ further old (old.again + slice_limit) new.position
+RanBack old (Some reason) new =
+    (new ≡ further old new.again new.position)
+    × (old.again ≤ new.again)
+    × (new.again ≤ old.again + slice_limit)
+    × (goal_of (program_of old.unit) old.breakpoints old.mode old.start ≡ Some (record { position = new.position; reason = reason }))
+
+-- The run after a slice, if it goes on. Then the slice ran all its steps again, wherever they led.
+abbrev pub GoesOnBack : Retreating → SliceOutcome → Option Retreating → Type 0
+GoesOnBack b out.More (Some on) = on ≡ further b (b.again + slice_limit) on.position
+GoesOnBack b out.More None = ⊥
+GoesOnBack b outcome on = on ≡ None

@@ -1,0 +1,74 @@
+// Buffers for what slices write and log.
+
+use crate::slicing::SLICE_LIMIT;
+use dbg_plan::Logs;
+use std::alloc::{AllocError, Global};
+
+/// The buffers that no report carries. A slice takes them, and keeps those that it doesn't use for the next one.
+#[derive(Drop)]
+pub struct Buffers {
+    numbers: Option<Vec<i64>>,
+    logs: Option<Logs>,
+}
+
+impl Buffers {
+    ghost use Rattle.std.specs.Prelude.{◌≡◌, ◌≤◌, [], IfOk, vec_capacity};
+    ghost use Rattle.dbg_runner.specs.Rooms.{slice_limit};
+    ghost use Rattle.dbg_runner.specs.Buffers.{numbers_in, logs_in};
+
+    /// No buffer so far. It takes no memory.
+    pub fn new() -> Buffers {
+        Buffers {
+            numbers: None,
+            logs: None,
+        }
+    }
+
+    // A buffer for the numbers that a slice can write. It is made where none is kept.
+    pub(crate) fn take_numbers(&mut self, alloc: Global) -> Result<Vec<i64>, AllocError>
+        ensures empty { IfOk result (λ numbers. numbers.items ≡ []) }
+        ensures room { IfOk result (λ numbers. slice_limit ≤ vec_capacity numbers) }
+    {
+        let mut numbers = self.numbers.take().unwrap_or(Vec::new(alloc));
+        numbers.clear();
+        numbers.reserve(SLICE_LIMIT as usize)?;
+        Ok(numbers)
+    }
+
+    // A buffer for logs. It is made where none is kept.
+    pub(crate) fn take_logs(&mut self, alloc: Global) -> Result<Logs, AllocError>
+        ensures { IfOk result (λ logs. logs ≡ []) }
+    {
+        match self.logs.take() {
+            Some(mut logs) => {
+                logs.clear();
+                Ok(logs)
+            }
+            None => Logs::new(alloc),
+        }
+    }
+
+    // Keeps a buffer that holds no number, and returns one that does.
+    #[inline]
+    pub(crate) fn keep_numbers(&mut self, numbers: Vec<i64>) -> Option<Vec<i64>>
+        ensures { numbers_in result ≡ numbers.items }
+    {
+        if numbers.is_empty() {
+            self.numbers = Some(numbers);
+            return None;
+        }
+        Some(numbers)
+    }
+
+    // Keeps a buffer that holds no log, and returns one that does.
+    #[inline]
+    pub(crate) fn keep_logs(&mut self, logs: Logs) -> Option<Logs>
+        ensures { logs_in result ≡ logs }
+    {
+        if logs.is_empty() {
+            self.logs = Some(logs);
+            return None;
+        }
+        Some(logs)
+    }
+}

@@ -1,0 +1,99 @@
+// The steps that a run which goes back runs again.
+
+ghost use Rattle.std.specs.Prelude.{◌≡◌, ◌+◌, ◌-◌, ◌<◌, ◌≤◌, [], is_some, min};
+ghost use Rattle.dbg_plan.specs.Debugged.{program_of, IsConsidered, due_now};
+ghost use Rattle.dbg_plan.specs.declared.mode.Mode.TheVariants.{Continue};
+ghost use Rattle.dbg_plan.specs.Retreat.{last_due};
+ghost use Rattle.dbg_plan.specs.Trail.{floor_of};
+ghost use Rattle.dbg_runner.specs.Lawful.{RunsAt};
+ghost use Rattle.dbg_runner.specs.Rooms.{IsRoomOf};
+ghost use Rattle.dbg_runner.specs.Hops.{Hopped, standing, gone_back};
+
+use crate::outputs::Outputs;
+use dbg_plan::{Advance, Debuggee, Mode};
+use pl0_meaning::meaning_laws;
+
+/// Goes back to the position `to`, or to one before it, and considers where the debuggee then stands: whether a breakpoint is
+/// due there, counted from there.
+pub fn go_back(debuggee: &mut Debuggee, outputs: &mut Outputs, to: u64) -> bool
+    requires within { to ≤ debuggee.old.position }
+    requires considered { IsConsidered debuggee.old }
+    requires room { IsRoomOf outputs.old debuggee.old }
+    ensures gone { debuggee.new ≡ gone_back debuggee.old to }
+    ensures considered { IsConsidered debuggee.new }
+    ensures due { result ≡ is_some (due_now debuggee.new Continue) }
+    ensures room { outputs.new ≡ outputs.old }
+{
+    debuggee.back(to);
+    let due = outputs.consider(debuggee, Mode::Continue);
+    outputs.clear();
+    due.is_some()
+}
+
+/// Goes on to the next breakpoint or number, and no further than to the position `limit`: whether a breakpoint is due there. The
+/// program runs at the limit.
+fn hop(debuggee: &mut Debuggee, outputs: &mut Outputs, limit: u64) -> bool
+    requires considered { IsConsidered debuggee.old }
+    requires within { debuggee.old.position < limit }
+    requires runs { RunsAt (program_of debuggee.old) limit }
+    requires room { IsRoomOf outputs.old debuggee.old }
+    ensures hopped { Hopped limit debuggee.old result debuggee.new }
+    ensures room { outputs.new ≡ outputs.old }
+{
+    meaning_laws();
+    let advance = outputs.run(debuggee, limit);
+    outputs.clear();
+    match advance {
+        None => false,
+        Some(led) => match led {
+            Advance::To(due) => due.is_some(),
+            Advance::Done => unreachable!(),
+            Advance::Fault(_) => unreachable!(),
+        },
+    }
+}
+
+/// Goes on to the position `limit`: the last due position there and before, if there is one. That before is given.
+pub fn search(
+    debuggee: &mut Debuggee,
+    outputs: &mut Outputs,
+    limit: u64,
+    mut found: Option<u64>,
+) -> Option<u64>
+    requires considered { IsConsidered debuggee.old }
+    requires within { debuggee.old.position ≤ limit }
+    requires runs { RunsAt (program_of debuggee.old) limit }
+    requires room { IsRoomOf outputs.old debuggee.old }
+    requires counted { debuggee.old.counted_from ≡ 0 }
+    requires found { found ≡ last_due (program_of debuggee.old) debuggee.old.breakpoints (debuggee.old.position + 1) }
+    ensures went { debuggee.new ≡ standing debuggee.old limit }
+    ensures considered { IsConsidered debuggee.new }
+    ensures found { result ≡ last_due (program_of debuggee.new) debuggee.new.breakpoints (limit + 1) }
+    ensures room { outputs.new ≡ outputs.old }
+{
+    while debuggee.machine().position() < limit {
+        if hop(debuggee, outputs, limit) {
+            found = Some(debuggee.machine().position());
+        }
+    }
+    found
+}
+
+/// Goes on towards the position `to` by at most so many steps: by how many.
+pub fn go_on(debuggee: &mut Debuggee, outputs: &mut Outputs, to: u64, most: u64) -> u64
+    requires considered { IsConsidered debuggee.old }
+    requires within { debuggee.old.position ≤ to }
+    requires runs { RunsAt (program_of debuggee.old) to }
+    requires room { IsRoomOf outputs.old debuggee.old }
+    ensures steps { result ≡ min most (to - debuggee.old.position) }
+    ensures went { debuggee.new ≡ standing debuggee.old (debuggee.old.position + result) }
+    ensures considered { IsConsidered debuggee.new }
+    ensures room { outputs.new ≡ outputs.old }
+{
+    let steps = most.min(to - debuggee.machine().position());
+    let limit = debuggee.machine().position() + steps;
+    while debuggee.machine().position() < limit {
+        hop(debuggee, outputs, limit);
+    }
+    steps
+}

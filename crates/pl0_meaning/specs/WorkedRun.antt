@@ -1,0 +1,107 @@
+-- A worked example: the run of a text with nested procedures, computed from the definitions of `Values` and `Runs`. Each line
+-- that ends in `refl` was checked by computing both of its sides.
+--
+--      1  var n;
+--      2  procedure p;
+--      3  var k;
+--      4  procedure q;
+--      5  k := k + n;
+--      6  begin
+--      7  k := n;
+--      8  n := n - 1;
+--      9  if n > 0 then call p;
+--     10  call q;
+--     11  ! k
+--     12  end;
+--     13  begin n := 2; call p end.
+use Rattle.std.specs.Prelude.{◌≡◌, ℕ, zero, suc, ◌+◌, ◌++◌, List, [], ◌∷◌, length, Option, Some, None, ℤ, pos, refl, map, codes}
+use Rattle.pl0_tree.specs.declared.tree.Place.{Place}
+use Rattle.pl0_tree.specs.declared.tree.Operator.TheVariants.{Add, Subtract}
+use Rattle.pl0_tree.specs.declared.tree.Relation.TheVariants.{Greater}
+use Rattle.pl0_tree.specs.Tree.{Name, Variable, Number, Binary, Compare, Empty, Then, Assign, Call, Write, If, Block, ABlock, NoMore, AProcedure}
+use Rattle.pl0_tree.specs.Steps.{StepAt}
+use Rattle.pl0_meaning.specs.Values.{Configuration, next_step}
+use Rattle.pl0_meaning.specs.Runs.{at, written}
+
+abbrev line_and_column : Option StepAt → ℕ × ℕ
+line_and_column None = (0, 0)
+line_and_column (Some s) = (s.place.line, s.place.column)
+
+-- a row of the table of a run: the depth, and where the next step stands
+abbrev row : Block → Option Configuration → List (ℕ × (ℕ × ℕ))
+row main None = []
+row main (Some []) = []
+row main (Some (f ∷ below)) = (suc (length below), line_and_column (next_step main f)) ∷ []
+
+abbrev table : Block → ℕ → ℕ → List (ℕ × (ℕ × ℕ))
+table main n zero = []
+table main n (suc count) = row main (at main n) ++ table main (n + 1) count
+
+-- the frames' links, the newest frame's first
+abbrev links : Option Configuration → List ℕ
+links None = []
+links (Some c) = map (λ f. f.link) c
+
+abbrev numbers : Option Configuration → List (List ℤ)
+numbers None = []
+numbers (Some c) = map (λ f. f.numbers) c
+
+abbrev place : ℕ → ℕ → Place
+place l c = record { line = l; column = c }
+
+abbrev called : List ℕ → ℕ → ℕ → Name
+called word l c = record { word = word; place = place l c }
+
+abbrev k : ℕ → ℕ → Name
+k l c = called (codes "k") l c
+
+abbrev n : ℕ → ℕ → Name
+n l c = called (codes "n") l c
+
+abbrev p : ℕ → ℕ → Name
+p l c = called (codes "p") l c
+
+abbrev q : ℕ → ℕ → Name
+q l c = called (codes "q") l c
+
+abbrev inner : Block
+inner = ABlock [] [] NoMore (Assign (k 5 1) (Binary Add (Variable (k 5 6)) (Variable (n 5 10)))) (place 5 11)
+
+abbrev outer : Block
+outer = ABlock [] (k 3 5 ∷ []) (AProcedure (q 4 11) inner NoMore)
+    (Then (Assign (k 7 1) (Variable (n 7 6)))
+    (Then (Assign (n 8 1) (Binary Subtract (Variable (n 8 6)) (Number (pos 1))))
+    (Then (If (place 9 1) (Compare Greater (Variable (n 9 4)) (Number (pos 0))) (Call (place 9 15) (p 9 20)))
+    (Then (Call (place 10 1) (q 10 6))
+    (Then (Write (place 11 1) (Variable (k 11 3))) Empty)))))
+    (place 12 4)
+
+-- the text as a tree; its two procedures are `outer` and `inner` above
+abbrev main : Block
+main = ABlock [] (n 1 5 ∷ []) (AProcedure (p 2 11) outer NoMore)
+    (Then (Assign (n 13 7) (Number (pos 2))) (Then (Call (place 13 15) (p 13 20)) Empty)) (place 13 25)
+
+-- The run has 20 steps. Before each, so many frames are alive, and the next step stands at this line and column.
+first_half : table main 0 10 ≡
+    (1, (13, 7)) ∷ (1, (13, 15)) ∷ (2, (7, 1)) ∷ (2, (8, 1)) ∷ (2, (9, 1)) ∷ (2, (9, 15)) ∷ (3, (7, 1)) ∷ (3, (8, 1)) ∷ (3, (9, 1)) ∷ (3, (10, 1)) ∷ []
+first_half = refl
+
+second_half : table main 10 10 ≡
+    (4, (5, 1)) ∷ (4, (5, 11)) ∷ (3, (11, 1)) ∷ (3, (12, 4)) ∷ (2, (10, 1)) ∷ (3, (5, 1)) ∷ (3, (5, 11)) ∷ (2, (11, 1)) ∷ (2, (12, 4)) ∷ (1, (13, 25)) ∷ []
+second_half = refl
+
+ends_at_twenty : at main 20 ≡ Some []
+ends_at_twenty = refl
+
+-- At position 10 four frames are alive: of q, p, p and the main block. The frame of q is linked to that of the p which called it, and
+-- both frames of p to the main block's, though one p was called by the other.
+links_at_ten : links (at main 10) ≡ 2 ∷ 0 ∷ 0 ∷ 0 ∷ []
+links_at_ten = refl
+
+-- the variables of these frames: none, k, k and n
+numbers_at_ten : numbers (at main 10) ≡ [] ∷ (pos 1 ∷ []) ∷ (pos 2 ∷ []) ∷ (pos 0 ∷ []) ∷ []
+numbers_at_ten = refl
+
+-- it writes two numbers
+all_written : written main 0 20 ≡ pos 1 ∷ pos 2 ∷ []
+all_written = refl

@@ -1,0 +1,512 @@
+//! Whether a position is due, and what it logs, counted anew from the definition at each one, beside [`Debuggee::consider`].
+
+ghost use Rattle.std.specs.Prelude.{◌≡◌};
+
+use crate::debugged::{add_log, debuggee_of, goes, logged, put_in};
+use crate::machines::{machine_of, step_of};
+use dbg_plan::{Debuggee, EvalFault, Logs, Mode, Reason, Resolution, Rule, SourceBreakpoint};
+use pl0_machine::Machine;
+use pl0_syntax::{Condition, Expression, Place, Relation, Statement, parse};
+use sample_programs::{Random, random_program};
+use std::alloc::Global;
+use std::process::Abort;
+
+/// How many programs are tried.
+const PROGRAMS: u64 = 600;
+
+/// How many positions of each are considered, at most.
+const POSITIONS: u64 = 300;
+
+/// Conditions, of which some read names that are not declared at a step, some fault, and one is none.
+const CONDITIONS: [&str; 16] = [
+    "",
+    "",
+    "",
+    "",
+    "a > 2",
+    "a = 0",
+    "b <= a",
+    "odd a",
+    "odd b + 1",
+    "a * a < 1",
+    "1 / 0 = 1",
+    "1 / a = 0",
+    "six # c",
+    "d < most",
+    "0 = 1",
+    "a >",
+];
+
+/// Expressions of log messages, of which some read names that are not declared at a step, some fault, and one is none.
+const EXPRESSIONS: [&str; 10] = [
+    "",
+    "",
+    "",
+    "",
+    "a",
+    "b - a * a",
+    "1 / a",
+    "a * a * a * a * a * a * a",
+    "d + six",
+    "a +",
+];
+
+/// A line that is asked for, the rule that its hit condition writes, and the expression of its log message, if it has one.
+#[derive(Clone, Copy)]
+struct Wish {
+    line: u32,
+    condition: &'static str,
+    rule: Option<Rule>,
+    expression: &'static str,
+}
+
+/// No rule, or one with a small number, which may be 0: then its text is bad.
+fn random_rule(random: &mut Random) -> Option<Rule> {
+    let number = u32::try_from(random.below(5)).unwrap_or(0);
+    match random.below(3) {
+        0 => None,
+        1 => Some(Rule::From(number)),
+        _ => Some(Rule::Every(number)),
+    }
+}
+
+/// Six lines of a text that has this many, often one of them more than once.
+fn random_wishes(random: &mut Random, lines: usize) -> [Wish; 6] {
+    let mut line = 0;
+    let none = Wish {
+        line,
+        condition: "",
+        rule: None,
+        expression: "",
+    };
+    let mut wishes = [none; 6];
+    for (index, wish) in wishes.iter_mut().enumerate() {
+        if index == 0 || random.percent(60) {
+            line = u32::try_from(random.below(lines.saturating_add(2))).unwrap_or(0);
+        }
+        wish.line = line;
+        wish.rule = random_rule(random);
+        wish.condition = CONDITIONS[random.below(CONDITIONS.len())];
+        wish.expression = EXPRESSIONS[random.below(EXPRESSIONS.len())];
+    }
+    wishes
+}
+
+fn random_mode(random: &mut Random) -> Mode {
+    let depth = random.below(4);
+    match random.below(8) {
+        0 => Mode::Entry,
+        1 => Mode::In,
+        2 => Mode::Over(depth),
+        3 => Mode::Out(depth),
+        _ => Mode::Continue,
+    }
+}
+
+/// A breakpoint, and the positions where the run arrived at it.
+#[derive(Drop)]
+struct Watched {
+    place: Place,
+    condition: Option<Condition>,
+    rule: Option<Rule>,
+    expression: Option<Expression>,
+    arrivals: Vec<u64>,
+}
+
+impl Watched {
+    /// Whether the next step stands at the place, and the condition is true there or faults.
+    fn is_met(&self, debuggee: &Debuggee, place: Option<Place>) -> bool {
+        if place != Some(self.place) {
+            return false;
+        }
+        match &self.condition {
+            None => true,
+            Some(condition) => truth(debuggee, condition).unwrap_or(true),
+        }
+    }
+
+    /// Whether the rule accepts the last arrival, by how many there are from a position on.
+    fn is_due(&self, first: u64) -> bool {
+        let arrivals = self.arrivals.iter();
+        let count = arrivals.filter(|arrival| first <= **arrival).count();
+        match self.rule {
+            None => true,
+            Some(Rule::From(number)) => number as usize <= count,
+            Some(Rule::Every(number)) => count.checked_rem(number as usize) == Some(0),
+        }
+    }
+}
+
+/// The value of an expression in the newest frame.
+fn value(debuggee: &Debuggee, expression: &Expression) -> Result<i64, EvalFault> {
+    match debuggee.machine().depth().checked_sub(1) {
+        Some(newest) => debuggee.evaluate(newest, expression),
+        None => Ok(0),
+    }
+}
+
+/// Whether a condition is true in the newest frame.
+fn truth(debuggee: &Debuggee, condition: &Condition) -> Result<bool, EvalFault> {
+    match condition {
+        Condition::Odd(expression) => Ok(value(debuggee, expression)? & 1 == 1),
+        Condition::Compare(relation, left, right) => {
+            let left = value(debuggee, left)?;
+            let right = value(debuggee, right)?;
+            Ok(match relation {
+                Relation::Equal => left == right,
+                Relation::Unequal => left != right,
+                Relation::Less => left < right,
+                Relation::AtMost => left <= right,
+                Relation::Greater => left > right,
+                Relation::AtLeast => left >= right,
+            })
+        }
+    }
+}
+
+/// The condition of a text, none where it is empty. It is read as that of a program's `if`.
+fn condition_of(rt: &impl Abort, alloc: Global, text: &str) -> Option<Condition> {
+    if text.is_empty() {
+        return None;
+    }
+    let text = format!(in alloc;
+        "const most = 1, six = 1; var a, b, c, d; if {text} then a := 0."
+    ).expect(rt, "memory");
+    let tree = parse(alloc, text.as_bytes()).expect(rt, "a lawful text");
+    let program = tree.program;
+    let body = program.body;
+    match body {
+        Statement::If { condition, .. } => Some(condition),
+        _ => None,
+    }
+}
+
+/// The expression of a text, none where it is empty. It is read as that of a program's assignment.
+fn expression_of(rt: &impl Abort, alloc: Global, text: &str) -> Option<Expression> {
+    if text.is_empty() {
+        return None;
+    }
+    let text = format!(in alloc; "const most = 1, six = 1; var a, b, c, d; a := {text}.").expect(
+        rt, "memory",
+    );
+    let tree = parse(alloc, text.as_bytes()).expect(rt, "a lawful text");
+    let program = tree.program;
+    let body = program.body;
+    match body {
+        Statement::Assign { value, .. } => Some(value),
+        _ => None,
+    }
+}
+
+/// The message with this expression, none where that is empty.
+fn log_message(rt: &impl Abort, alloc: Global, expression: &str) -> String {
+    if expression.is_empty() {
+        String::new(alloc)
+    } else {
+        format!(in alloc; "<{{{expression}}}>").expect(rt, "memory")
+    }
+}
+
+fn hit_condition(rt: &impl Abort, alloc: Global, rule: Option<Rule>) -> String {
+    match rule {
+        None => String::new(alloc),
+        Some(Rule::From(number)) => format!(in alloc; "{number}").expect(rt, "memory"),
+        Some(Rule::Every(number)) => format!(in alloc; "%{number}").expect(rt, "memory"),
+    }
+}
+
+fn breakpoint_of(rt: &impl Abort, alloc: Global, wish: Wish) -> SourceBreakpoint {
+    SourceBreakpoint {
+        line: wish.line,
+        condition: String::from_str(alloc, wish.condition).expect(rt, "memory"),
+        hit_condition: hit_condition(rt, alloc, wish.rule),
+        log_message: log_message(rt, alloc, wish.expression),
+    }
+}
+
+/// The breakpoint that a line is answered with, if it is one.
+fn watch(
+    rt: &impl Abort,
+    alloc: Global,
+    machine: &Machine,
+    wish: Wish,
+    answer: Resolution,
+) -> Option<Watched> {
+    let Resolution::At(step) = answer else {
+        return None;
+    };
+    Some(Watched {
+        place: machine.unit().steps.get(step)?.place,
+        condition: condition_of(rt, alloc, wish.condition),
+        rule: wish.rule,
+        expression: expression_of(rt, alloc, wish.expression),
+        arrivals: Vec::new(alloc),
+    })
+}
+
+fn breakpoints_of(rt: &impl Abort, alloc: Global, wishes: &[Wish]) -> Vec<SourceBreakpoint> {
+    let mut all = Vec::new(alloc);
+    for wish in wishes {
+        all.push(breakpoint_of(rt, alloc, *wish))
+            .expect(rt, "memory");
+    }
+    all
+}
+
+/// The breakpoints of answered lines, at which no arrival is noted. The others drop out.
+fn all_watched(
+    rt: &impl Abort,
+    alloc: Global,
+    machine: &Machine,
+    wishes: &[Wish],
+    answers: &[Resolution],
+) -> Vec<Watched> {
+    let mut all = Vec::new(alloc);
+    for (wish, answer) in wishes.iter().zip(answers) {
+        if let Some(breakpoint) = watch(rt, alloc, machine, *wish, *answer) {
+            all.push(breakpoint).expect(rt, "memory");
+        }
+    }
+    all
+}
+
+/// Puts a plan in: the breakpoints that its lines are answered with.
+fn put_in_wishes(
+    rt: &impl Abort,
+    alloc: Global,
+    debuggee: &mut Debuggee,
+    wishes: &[Wish],
+) -> Vec<Watched>
+    ensures unit { debuggee.new.unit ≡ debuggee.old.unit }
+    ensures position { debuggee.new.position ≡ debuggee.old.position }
+    ensures next { debuggee.new.next ≡ debuggee.old.next }
+{
+    let breakpoints = breakpoints_of(rt, alloc, wishes);
+    let answers = put_in(rt, alloc, debuggee, &breakpoints);
+    all_watched(rt, alloc, debuggee.machine(), wishes, &answers)
+}
+
+/// The slow side of a run: a bare machine, which takes the steps that the debuggee takes.
+#[derive(Drop)]
+struct Counted {
+    machine: Machine,
+    watched: Vec<Watched>,
+    /// The first position whose arrivals count.
+    first: u64,
+}
+
+impl Counted {
+    /// The place of the step that comes next.
+    fn place(&self) -> Option<Place> {
+        if self.machine.depth() == 0 {
+            return None;
+        }
+        let step = step_of(&self.machine, self.machine.next_step())?;
+        Some(step.place)
+    }
+
+    /// Why the position where the machine stands is due, if it is, and what it logs. All arrivals from the first counted
+    /// position on are counted again.
+    fn due(
+        &mut self,
+        rt: &impl Abort,
+        alloc: Global,
+        mode: Mode,
+        debuggee: &Debuggee,
+    ) -> (Option<Reason>, String) {
+        let (position, depth, place) = (
+            self.machine.position(),
+            self.machine.depth(),
+            self.place(),
+        );
+        let mut due = false;
+        let mut logged = String::new(alloc);
+        for (number, breakpoint) in self.watched.iter_mut().enumerate() {
+            if breakpoint.is_met(debuggee, place) {
+                breakpoint.arrivals.push(position).expect(rt, "memory");
+                if breakpoint.is_due(self.first) {
+                    match &breakpoint.expression {
+                        None => due = true,
+                        Some(expression) => {
+                            let text = value_text(rt, alloc, debuggee, expression);
+                            add_log(rt, alloc, &mut logged, number, text.as_str());
+                        }
+                    }
+                }
+            }
+        }
+        if due {
+            return (Some(Reason::Breakpoint), logged);
+        }
+        (reason_of(mode, depth), logged)
+    }
+}
+
+/// A log's text, with the value of its expression.
+fn value_text(
+    rt: &impl Abort,
+    alloc: Global,
+    debuggee: &Debuggee,
+    expression: &Expression,
+) -> String {
+    match value(debuggee, expression) {
+        Ok(number) => format!(in alloc; "<{number}>\n").expect(rt, "memory"),
+        Err(EvalFault::Overflow) => String::from_str(alloc, "<overflow>\n").expect(rt, "memory"),
+        Err(_) => String::from_str(alloc, "<divideByZero>\n").expect(rt, "memory"),
+    }
+}
+
+/// The reason that a mode gives at a depth.
+fn reason_of(mode: Mode, depth: usize) -> Option<Reason> {
+    match mode {
+        Mode::Entry => Some(Reason::Entry),
+        Mode::In => Some(Reason::Step),
+        Mode::Over(limit) if depth <= limit => Some(Reason::Step),
+        Mode::Out(limit) if depth < limit => Some(Reason::Step),
+        _ => None,
+    }
+}
+
+/// After which position a plan is put in again while a program runs, and whether it is another one.
+#[derive(Clone, Copy)]
+struct Change {
+    position: Option<u64>,
+    is_other: bool,
+}
+
+fn random_change(random: &mut Random) -> Change {
+    let position = random.below(40) as u64;
+    match random.below(4) {
+        0 => Change {
+            position: Some(position),
+            is_other: false,
+        },
+        1 => Change {
+            position: Some(position),
+            is_other: true,
+        },
+        _ => Change {
+            position: None,
+            is_other: false,
+        },
+    }
+}
+
+/// Why a position is due, and what it logs.
+type Considered = (Option<Reason>, String);
+
+/// A position, by the debuggee and by the definition.
+type Seen = (Considered, Considered);
+
+/// Runs both sides to the end, or to the last position: what is found of each position. The wishes are those of another plan.
+fn run_beside(
+    rt: &impl Abort,
+    alloc: Global,
+    debuggee: &mut Debuggee,
+    counted: &mut Counted,
+    mode: Mode,
+    change: Change,
+    wishes: &[Wish],
+) -> Vec<Seen>
+    requires { debuggee.old.next ≡ debuggee.old.position }
+{
+    let mut seen = Vec::new(alloc);
+    let mut logs = Logs::new(alloc).expect(rt, "memory");
+    for position in 0..POSITIONS {
+        if debuggee.machine().depth() == 0 {
+            break;
+        }
+        let due = debuggee.consider(mode, &mut logs);
+        let found = (due, logged(rt, alloc, debuggee, &logs));
+        seen.push((found, counted.due(rt, alloc, mode, debuggee)))
+            .expect(rt, "memory");
+        if change.position == Some(position) {
+            let watched = put_in_wishes(rt, alloc, debuggee, wishes);
+            counted.first = position + 1;
+            if change.is_other {
+                counted.watched = watched;
+            }
+        }
+        if !goes(debuggee) {
+            break;
+        }
+        assert!(rt; counted.machine.depth() > 0);
+        let _ = counted.machine.step();
+    }
+    seen
+}
+
+/// Runs a debuggee that stands at the start of a program under random plans.
+fn run_program(
+    rt: &impl Abort,
+    alloc: Global,
+    debuggee: &mut Debuggee,
+    machine: Machine,
+    mut random: Random,
+    lines: usize,
+) -> Vec<Seen>
+    requires { debuggee.old.next ≡ debuggee.old.position }
+{
+    let mode = random_mode(&mut random);
+    let change = random_change(&mut random);
+    let wishes = random_wishes(&mut random, lines);
+    let others = random_wishes(&mut random, lines);
+    let others = if change.is_other { others } else { wishes };
+    let mut counted = Counted {
+        machine,
+        watched: put_in_wishes(rt, alloc, debuggee, wishes.as_slice()),
+        first: 0,
+    };
+    run_beside(
+        rt,
+        alloc,
+        debuggee,
+        &mut counted,
+        mode,
+        change,
+        others.as_slice(),
+    )
+}
+
+fn run_text(rt: &impl Abort, alloc: Global, text: &str, random: Random) -> Vec<Seen> {
+    let mut debuggee = debuggee_of(rt, alloc, text);
+    let machine = machine_of(rt, alloc, text);
+    let lines = text.lines().count();
+    run_program(rt, alloc, &mut debuggee, machine, random, lines)
+}
+
+const REASONS: [Option<Reason>; 4] = [
+    None,
+    Some(Reason::Breakpoint),
+    Some(Reason::Entry),
+    Some(Reason::Step),
+];
+
+/// Runs a random program. The counts are those of the reasons that were found so far, and of the positions that logged.
+fn assert_due(rt: &impl Abort, alloc: Global, seed: u64, counts: &mut [u32; 5]) {
+    let text = random_program(alloc, seed).expect(rt, "memory");
+    let seen = run_text(rt, alloc, text.as_str(), Random { state: !seed });
+    for (position, (found, wanted)) in seen.iter().enumerate() {
+        assert_eq!(rt; found, wanted, "seed {seed}, position {position}\n{text}");
+        for (reason, count) in REASONS.iter().zip(counts.iter_mut()) {
+            if *reason == found.0 {
+                *count = count.saturating_add(1);
+            }
+        }
+        if !found.1.is_empty() {
+            counts[4] = counts[4].saturating_add(1);
+        }
+    }
+}
+
+#[test]
+fn a_position_is_due_as_all_arrivals_show(rt: HostRuntime) {
+    let mut counts = [0; 5];
+    for seed in 0..PROGRAMS {
+        assert_due(&rt, rt.alloc(), seed, &mut counts);
+    }
+    for (reason, count) in REASONS.iter().zip(counts.iter()) {
+        assert!(rt; 1_000 <= *count, "{reason:?} only {count} times");
+    }
+    assert!(rt; 1_000 <= counts[4], "only {} positions logged", counts[4]);
+}

@@ -1,0 +1,167 @@
+//! Log points: which messages are refused, and what positions log.
+
+ghost use Rattle.std.specs.Prelude.{◌≡◌};
+
+use crate::debugged::{LOOP, LogPoint, debuggee_of, goes, log_points_at, logged, put_in};
+use dbg_plan::{Debuggee, Logs, Mode, Reason, Resolution};
+use std::alloc::Global;
+use std::process::Abort;
+
+/// How many positions are considered, at most.
+const POSITIONS: u64 = 100;
+
+/// A text under log points, at position 0, and how these are answered.
+fn asked(
+    rt: &impl Abort,
+    alloc: Global,
+    text: &str,
+    points: &[LogPoint],
+) -> (Debuggee, Vec<Resolution>)
+    ensures { result.0.next ≡ result.0.position }
+{
+    let mut debuggee = debuggee_of(rt, alloc, text);
+    let breakpoints = log_points_at(rt, alloc, points);
+    let answers = put_in(rt, alloc, &mut debuggee, &breakpoints);
+    (debuggee, answers)
+}
+
+/// What a position did, after its number.
+fn note(rt: &impl Abort, alloc: Global, notes: &mut String, position: u64, what: &str) {
+    let line = format!(in alloc; "{position}: {what}\n").expect(rt, "memory");
+    notes.push_str(line.as_str()).expect(rt, "memory");
+}
+
+/// What a text does in the mode `Continue` under log points: of each position that logs or is due its number, the logs with
+/// their breakpoints' numbers, and `stop`.
+fn notes_of(rt: &impl Abort, alloc: Global, text: &str, points: &[LogPoint]) -> String {
+    let (mut debuggee, _) = asked(rt, alloc, text, points);
+    let mut logs = Logs::new(alloc).expect(rt, "memory");
+    let mut notes = String::new(alloc);
+    for position in 0..POSITIONS {
+        if debuggee.machine().depth() == 0 {
+            break;
+        }
+        let due = debuggee.consider(Mode::Continue, &mut logs);
+        let told = logged(rt, alloc, &debuggee, &logs);
+        for line in told.lines() {
+            note(rt, alloc, &mut notes, position, line);
+        }
+        if due == Some(Reason::Breakpoint) {
+            note(rt, alloc, &mut notes, position, "stop");
+        }
+        if !goes(&mut debuggee) {
+            break;
+        }
+    }
+    notes
+}
+
+const MESSAGE: &str = "x is {x}, {10 / (x - 2)}";
+
+const POINTS: [LogPoint; 4] = [
+    (3, "", "", "first {x}"),
+    (3, "x = 4", "", ""),
+    (2, "x > 4", "", "test {x}"),
+    (3, "x > 3", "", "second }{x}{x}"),
+];
+
+/// Of the loop log points, and what is noted of it.
+const NOTED: [(&[LogPoint], &str); 6] = [
+    (
+        &[(3, "", "", MESSAGE)],
+        "1: 0 x is 0, -5\n3: 0 x is 1, -10\n5: 0 x is 2, divideByZero\n7: 0 x is 3, 10\n9: 0 x is 4, 5\n11: 0 x is 5, 3\n",
+    ),
+    (
+        &[(3, "", "%3", MESSAGE)],
+        "5: 0 x is 2, divideByZero\n11: 0 x is 5, 3\n",
+    ),
+    (&[(3, "odd x", "2", "odd {x}")], "7: 0 odd 3\n11: 0 odd 5\n"),
+    (&[(3, "x = 0", "", "}")], "1: 0 }\n"),
+    (
+        &[(
+            3,
+            "x = 1",
+            "",
+            "{9223372036854775807 + x} {-9223372036854775807 - x}",
+        )],
+        "3: 0 overflow -9223372036854775808\n",
+    ),
+    (
+        &POINTS,
+        "1: 0 first 0\n3: 0 first 1\n5: 0 first 2\n7: 0 first 3\n9: 0 first 4\n9: 3 second }44\n9: stop\n10: 2 test 5\n11: 0 first 5\n11: 3 second }55\n12: 2 test 6\n",
+    ),
+];
+
+#[test]
+fn logs_as_asked(rt: HostRuntime) {
+    for (points, wanted) in NOTED {
+        let notes = notes_of(&rt, rt.alloc(), LOOP, points);
+        assert_eq!(rt; notes.as_str(), wanted);
+    }
+}
+
+const NESTED: &str =
+    "var n;\nprocedure p;\nvar k;\nbegin k := n * n;\nn := n - 1;\nif n > 0 then call p;\n! k\nend;\nbegin n := 3; call p end.";
+
+#[test]
+fn logs_in_the_newest_frame(rt: HostRuntime) {
+    let notes = notes_of(&rt, rt.alloc(), NESTED, &[(7, "", "", "k {k} n {n}")]);
+    assert_eq!(rt;
+        notes.as_str(),
+        "13: 0 k 1 n 0\n15: 0 k 4 n 0\n17: 0 k 9 n 0\n"
+    );
+}
+
+/// Of the loop a line, the texts of a condition, a hit condition and a message, and the answer.
+const ANSWERS: [(u32, &str, &str, &str, Resolution); 20] = [
+    (3, "", "", "{x", Resolution::BadLogMessage),
+    (3, "", "", "{}", Resolution::BadLogMessage),
+    (3, "", "", "{ {x} }", Resolution::BadLogMessage),
+    (3, "", "", "}", Resolution::At(1)),
+    (3, "", "", "{", Resolution::BadLogMessage),
+    (3, "", "", "a}{x}b", Resolution::At(1)),
+    (3, "", "", "{y}", Resolution::BadLogMessage),
+    (3, "", "", "{x} {y}", Resolution::BadLogMessage),
+    (3, "", "", "{x < 1}", Resolution::BadLogMessage),
+    (3, "", "", "{ x }", Resolution::At(1)),
+    (3, "", "", " ", Resolution::At(1)),
+    (3, "", "", "{x}{x}{x}{x}{x}{x}{x}{x}", Resolution::At(1)),
+    (
+        3,
+        "",
+        "",
+        "{x}{x}{x}{x}{x}{x}{x}{x}{x}",
+        Resolution::BadLogMessage,
+    ),
+    (3, "", "", "é😀 {x}", Resolution::At(1)),
+    (3, "", "", "{é}", Resolution::BadLogMessage),
+    (4, "x", "0", "{", Resolution::NoStep),
+    (3, "x", "0", "{", Resolution::BadCondition),
+    (3, "", "0", "{", Resolution::BadHitCondition),
+    (3, "x > 1", "1", "{", Resolution::BadLogMessage),
+    (3, "x > 1", "1", "{x}", Resolution::At(1)),
+];
+
+#[test]
+fn answers_messages(rt: HostRuntime) {
+    for (line, condition, hit, message, wanted) in ANSWERS {
+        let points = [(line, condition, hit, message)];
+        let (_, answers) = asked(&rt, rt.alloc(), LOOP, points.as_slice());
+        assert_eq!(rt; answers.as_slice(), [wanted].as_slice(), "{message}");
+    }
+}
+
+/// As many log points as may be asked for, at one step, each with as many expressions as it may have.
+#[test]
+fn fills_the_room(rt: HostRuntime) {
+    let points = [(1, "", "", "{1}{2}{3}{4}{5}{6}{7}{x}"); 256];
+    let (mut debuggee, _) = asked(&rt, rt.alloc(), "var x; x := 1.", points.as_slice());
+    let mut logs = Logs::new(rt.alloc()).expect(&rt, "memory");
+    assert!(rt; debuggee.machine().depth() > 0);
+    let _ = debuggee.consider(Mode::Continue, &mut logs);
+    assert_eq!(rt; logs.as_slice().len(), 256);
+    for (number, log) in logs.as_slice().iter().enumerate() {
+        assert_eq!(rt; log.number(), number);
+        assert_eq!(rt; log.values().len(), 8);
+    }
+}

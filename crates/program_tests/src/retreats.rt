@@ -1,0 +1,226 @@
+//! Slices that end at logs, and runs that go back.
+
+use crate::debugged::{
+    BREAKPOINT, ENTRY, LONG_LOOP, LOOP, STEP, begin, begun, log_points_at, onward,
+};
+use crate::ports::{Last, Open, Script};
+use dbg_plan::{Log, Mode, Plan, log_text};
+use dbg_runner::{
+    Buffers, Considered, Joined, Report, Retreat, SliceOutcome, Summary, goes_back, work,
+};
+use sample_programs::RECURSIVE;
+use std::alloc::Global;
+use std::process::Abort;
+use std::sync::{Arc, Wait};
+
+/// The text of the logs of a report, one after the other.
+fn text_of(rt: &impl Abort, alloc: Global, plan: &Option<Arc<Plan>>, logs: &[Log]) -> String {
+    let mut all = String::new(alloc);
+    if let Some(plan) = plan {
+        for log in logs {
+            let parts = plan.message(log.number());
+            let text = log_text(alloc, parts, log).expect(rt, "memory");
+            all.push_str(text.as_str()).expect(rt, "memory");
+        }
+    }
+    all
+}
+
+/// What a report says: where it ends, how, the numbers written before it starts, and what it logs.
+fn assert_report(
+    rt: &impl Abort,
+    alloc: Global,
+    report: &Report,
+    wanted: (u64, SliceOutcome, &str),
+) {
+    let summary = report.summary();
+    let text = text_of(rt, alloc, report.plan(), report.logs());
+    assert_eq!(rt; (summary.end, summary.outcome, text.as_str()), wanted);
+    assert_eq!(rt; summary.again, 0);
+}
+
+/// The slices of the loop under a log point: where each ends, how, and what it logs.
+fn assert_logs(rt: &impl Abort, alloc: Global, hit: &str, wanted: &[(u64, SliceOutcome, &str)]) {
+    let point = (3, "", hit, "x is {x}, {10 / (x - 2)}");
+    let breakpoints = log_points_at(rt, alloc, [point].as_slice());
+    let (debuggee, reason) = begun(rt, alloc, LOOP, &breakpoints, Mode::Continue);
+    assert_eq!(rt; reason, None);
+    let mut next = Some(debuggee);
+    for here in wanted {
+        let debuggee = next.take().expect(rt, "a run that goes on");
+        let (report, on) = onward(rt, alloc, debuggee);
+        assert_report(rt, alloc, &report, *here);
+        next = on;
+    }
+    assert!(rt; next.is_none());
+}
+
+#[test]
+fn ends_slices_at_logs(rt: HostRuntime) {
+    let all = [
+        (1u64, SliceOutcome::More, "x is 0, -5\n"),
+        (3, SliceOutcome::More, "x is 1, -10\n"),
+        (5, SliceOutcome::More, "x is 2, divideByZero\n"),
+        (7, SliceOutcome::More, "x is 3, 10\n"),
+        (9, SliceOutcome::More, "x is 4, 5\n"),
+        (11, SliceOutcome::More, "x is 5, 3\n"),
+        (14, SliceOutcome::Done, ""),
+    ];
+    assert_logs(&rt, rt.alloc(), "", all.as_slice());
+    let each_third = [
+        (5u64, SliceOutcome::More, "x is 2, divideByZero\n"),
+        (11, SliceOutcome::More, "x is 5, 3\n"),
+        (14, SliceOutcome::Done, ""),
+    ];
+    assert_logs(&rt, rt.alloc(), "%3", each_third.as_slice());
+}
+
+/// More slices than any run here has.
+const SLICES: u64 = 10_000;
+
+/// Runs a debuggee back in this mode, or on in the mode `Continue`: the last report.
+fn run(rt: &impl Abort, alloc: Global, debuggee: Considered, mode: Mode) -> Report {
+    if goes_back(mode) {
+        return run_back(rt, alloc, Retreat::new(debuggee.into_debuggee(), mode));
+    }
+    let mut next = debuggee;
+    for _ in 0..SLICES {
+        let (report, on) = onward(rt, alloc, next);
+        match on {
+            None => return report,
+            Some(on) => next = on,
+        }
+    }
+    panic!(rt; "no end")
+}
+
+/// The last report of a run that goes back. Before it each slice ran 256 steps again.
+fn run_back(rt: &impl Abort, alloc: Global, retreat: Retreat) -> Report {
+    let mut next = retreat;
+    let mut buffers = Buffers::new();
+    for slices in 0..SLICES {
+        let (report, on) = next.next_report(alloc, 1, &mut buffers);
+        let summary = report.summary();
+        match on {
+            None => return report,
+            Some(on) => next = on,
+        }
+        assert_eq!(rt;
+            (summary.outcome, summary.end),
+            (SliceOutcome::More, summary.start)
+        );
+        assert_eq!(rt; summary.again, slices.saturating_add(1).saturating_mul(256));
+    }
+    panic!(rt; "no end")
+}
+
+/// A mode; then of the run's last report its end, its outcome, the numbers written before it starts, the numbers that it tells,
+/// and the steps run again.
+type Run<'a> = (Mode, u64, SliceOutcome, u64, &'a [i64], u64);
+
+/// Runs a debuggee in one mode after the other.
+fn assert_runs(rt: &impl Abort, alloc: Global, debuggee: Considered, wanted: &[Run]) {
+    let mut next = Some(debuggee);
+    for (mode, end, outcome, before, numbers, again) in wanted {
+        let report = run(rt, alloc, next.take().expect(rt, "a stop"), *mode);
+        let summary: Summary = report.summary();
+        assert_eq!(rt; (summary.end, summary.outcome), (*end, *outcome));
+        assert_eq!(rt; (summary.before, summary.again), (*before, *again));
+        assert_eq!(rt; report.numbers(), *numbers);
+        next = report.into_debuggee().map(Considered::new);
+    }
+}
+
+/// How the nested procedures run under a breakpoint at line 5, back to the last stop and on again.
+const BACK_TO_STOPS: [Run; 7] = [
+    (Mode::Continue, 10, BREAKPOINT, 0, &[], 0),
+    (Mode::Continue, 15, BREAKPOINT, 0, &[1], 0),
+    (Mode::Reverse, 10, BREAKPOINT, 1, &[], 24),
+    (Mode::Reverse, 0, ENTRY, 0, &[], 9),
+    (Mode::Continue, 10, BREAKPOINT, 0, &[], 0),
+    (Mode::Continue, 15, BREAKPOINT, 0, &[1], 0),
+    (Mode::Continue, 20, SliceOutcome::Done, 1, &[2], 0),
+];
+
+/// How they run back by a step, and at position 0.
+const BACK_BY_STEPS: [Run; 8] = [
+    (Mode::Continue, 10, BREAKPOINT, 0, &[], 0),
+    (Mode::StepBack, 9, STEP, 0, &[], 9),
+    (Mode::Continue, 10, BREAKPOINT, 0, &[], 0),
+    (Mode::StepBack, 9, STEP, 0, &[], 9),
+    (Mode::Reverse, 0, ENTRY, 0, &[], 8),
+    (Mode::Reverse, 0, ENTRY, 0, &[], 0),
+    (Mode::StepBack, 0, STEP, 0, &[], 0),
+    (Mode::Continue, 10, BREAKPOINT, 0, &[], 0),
+];
+
+#[test]
+fn goes_back_and_forth(rt: HostRuntime) {
+    for runs in [BACK_TO_STOPS.as_slice(), BACK_BY_STEPS.as_slice()] {
+        let lines = [(5, "", "")];
+        let (debuggee, _) = begin(&rt, rt.alloc(), RECURSIVE, lines.as_slice(), Mode::Continue);
+        assert_runs(&rt, rt.alloc(), debuggee, runs);
+    }
+}
+
+#[test]
+fn counts_begin_anew_after_a_stop(rt: HostRuntime) {
+    let lines = [(3u32, "", "%2")];
+    let (debuggee, _) = begin(&rt, rt.alloc(), LOOP, lines.as_slice(), Mode::Continue);
+    let runs: [Run; 6] = [
+        (Mode::Continue, 3, BREAKPOINT, 0, [].as_slice(), 0),
+        (Mode::Continue, 7, BREAKPOINT, 0, [].as_slice(), 0),
+        (Mode::Reverse, 3, BREAKPOINT, 0, [].as_slice(), 9),
+        (Mode::StepBack, 2, STEP, 0, [].as_slice(), 2),
+        (Mode::Continue, 5, BREAKPOINT, 0, [].as_slice(), 0),
+        (Mode::Reverse, 3, BREAKPOINT, 0, [].as_slice(), 7),
+    ];
+    assert_runs(&rt, rt.alloc(), debuggee, runs.as_slice());
+}
+
+/// What a runner makes of an order to run this debuggee: its last report, and how many it sent.
+fn ordered<R: Abort + Wait>(
+    rt: &R,
+    alloc: Global,
+    debuggee: Considered,
+    mode: Mode,
+) -> (Report, u64) {
+    let mut ports = Joined::new(
+        Script::in_mode(debuggee, mode, 0),
+        Last::new(),
+        Open::new(rt, alloc),
+    );
+    work(rt, alloc, &mut ports);
+    let (_, last, _) = ports.into_ports();
+    let count = last.count;
+    (last.report.expect(rt, "a report"), count)
+}
+
+#[test]
+fn steps_back_from_a_checkpoint(rt: HostRuntime) {
+    let lines = [(1u32, "x = 200000", "")];
+    let (debuggee, _) = begin(&rt, rt.alloc(), LONG_LOOP, lines.as_slice(), Mode::Continue);
+    let (report, count) = ordered(&rt, rt.alloc(), debuggee, Mode::Continue);
+    let summary = report.summary();
+    assert_eq!(rt;
+        (summary.end, summary.outcome, count),
+        (400_000, BREAKPOINT, 1_563)
+    );
+    let debuggee = Considered::new(report.into_debuggee().expect(&rt, "a debuggee"));
+    let (report, count) = ordered(&rt, rt.alloc(), debuggee, Mode::StepBack);
+    let summary = report.summary();
+    assert_eq!(rt; (summary.end, summary.outcome), (399_999, STEP));
+    assert_eq!(rt; (summary.again, count), (2_687, 11));
+}
+
+/// Without checkpoints, as slices alone run the program, all is run again.
+#[test]
+fn steps_back_without_checkpoints(rt: HostRuntime) {
+    let lines = [(1u32, "x = 200000", "")];
+    let (debuggee, _) = begin(&rt, rt.alloc(), LONG_LOOP, lines.as_slice(), Mode::Continue);
+    let runs: [Run; 2] = [
+        (Mode::Continue, 400_000, BREAKPOINT, 0, [].as_slice(), 0),
+        (Mode::StepBack, 399_999, STEP, 0, [].as_slice(), 399_999),
+    ];
+    assert_runs(&rt, rt.alloc(), debuggee, runs.as_slice());
+}
