@@ -6,12 +6,16 @@ PROGRAM = crates/pl0dap/out/pl0dap
 SPEED = crates/speed/out/speed
 SOURCES = crates.txt $(shell find crates -name out -prune -o -type f \( -name '*.rt' -o -name '*.antt' \) -print)
 
-.PHONY: try build demo rows sessions editors refusals last-position misuse check plants gate-times install bench
+.PHONY: try build demo rows sessions editors refusals last-position misuse check plants gate-times pages install bench
 
-# A stored session in readable form within a minute or two, from a fresh clone on. All of it is sent at once.
+# A debug session in short form, a few minutes after a fresh clone. `rt try` takes only an input that ends, so all is sent at once:
+# a stop on entry needs no run, which the end of the input would end.
 try:
-	@echo "rt try proves nothing: this run is not proved. 'make check' proves the program."
-	python3 demo/session.py demo/hello.session env -C crates/pl0dap rt try
+	@echo "This builds the program in about two minutes, or more where the computer is busy, and proves nothing. 'make build' proves it."
+	@python3 demo/session.py --short --waiting "building, not proving" demo/entry.session \
+	  env -C crates/pl0dap rt try --data factorial.pl0=../../examples/factorial.pl0
+	@echo "The lines 'checked', 'races' and 'run' are of rt try: the program ended by itself, no data races were looked for, and"
+	@echo "nothing was proved (proved=no). For the whole session, with runs and stops at breakpoints: make demo."
 
 build: $(PROGRAM)
 
@@ -31,15 +35,20 @@ $(SPEED): $(SOURCES)
 	cd crates/speed && rt run -- work data/count.pl0
 	touch $@
 
-# A debug session on examples/factorial.pl0 in readable form: a breakpoint with a condition, a stop, questions, a step, the end.
+# Two debug sessions on examples/factorial.pl0, message by message: a breakpoint with a condition, a stop, questions, a step, the end;
+# and a log point, a stop, steps back, and on again.
 demo: $(PROGRAM)
 	python3 demo/session.py demo/factorial.session $(PROGRAM)
+	python3 demo/session.py demo/back.session $(PROGRAM)
 
-# Worked inputs, whole, a byte at a time and cut at many places, with what must come out; that the session of docs/PROTOCOL.md is
-# the demo's; and that the examples are those whose listings the gate compares.
+# Worked inputs, whole, a byte at a time and cut at many places, with what must come out; that the sessions of docs/PROTOCOL.md
+# are the demo's; that the examples are those whose listings the gate compares; and that the programs whose stored runs the gate
+# compares have one `main`.
 rows: $(PROGRAM)
 	python3 demo/rows.py $(PROGRAM)
 	diff -r -x fault.pl0 -x procedures.pl0 examples crates/check_runs/data
+	diff <(sed '/^\/\//d' crates/pl0dap/src/main.rt) <(sed '/^\/\//d' crates/fault_runs/src/main.rt)
+	diff <(sed '/^\/\//d' crates/pl0dap/src/main.rt) <(sed '/^\/\//d' crates/argument_runs/src/main.rt)
 
 # Random sessions, each message compared with what a plain model of the adapter says; and others, whose bytes are compared with what
 # the session puts over memory, in one thread.
@@ -63,6 +72,10 @@ plants:
 # What CRATE costs the gate, in processor seconds, and whether it is within its budget.
 gate-times:
 	python3 tools/gate_times.py $(CRATE)
+
+# That the files and headings that the pages name are there.
+pages:
+	python3 tools/pages.py
 
 # Programs that the compiler must refuse, which the gate can't judge.
 misuse:

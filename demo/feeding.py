@@ -200,6 +200,8 @@ CAPABILITIES = {
     "supportsConditionalBreakpoints": True,
     "supportsConfigurationDoneRequest": True,
     "supportsHitConditionalBreakpoints": True,
+    "supportsLogPoints": True,
+    "supportsStepBack": True,
 }
 
 
@@ -232,6 +234,10 @@ def printed(value: int) -> dict:
     return event("output", {"category": "stdout", "output": f"{value}\n"})
 
 
+def logged(message: str) -> dict:
+    return event("output", {"category": "console", "output": f"{message}\n"})
+
+
 def over(status: int) -> tuple[dict, dict]:
     return event("exited", {"exitCode": status}), event("terminated")
 
@@ -261,6 +267,28 @@ FACTORIAL_SESSION = session(
     ("variables", {"variablesReference": 1}, variables(n=8, product=1)),
     ("evaluate", {"expression": "k * (k - 1) + n", "frameId": 4}, result(64)),
     ("continue", {"threadId": 1}, {"allThreadsContinued": True}, printed(3628800), *over(0)),
+    DISCONNECT,
+)
+
+# It logs in each call up to that stop, goes back to the beginning, and comes by again.
+BACK_LOGS = [logged("k is 10"), logged("k is 9"), logged("k is 8")]
+BACK_SESSION = session(
+    INITIALIZE,
+    ("launch", {"program": FACTORIAL}, None, event("initialized")),
+    (
+        "setBreakpoints",
+        {
+            "source": {"path": FACTORIAL},
+            "breakpoints": [{"line": 9, "condition": "k = 8"}, {"line": 9, "logMessage": "k is {k}"}],
+        },
+        {"breakpoints": [{"line": 9, "verified": True}, {"line": 9, "verified": True}]},
+    ),
+    ("configurationDone", {}, None, *BACK_LOGS, stopped("breakpoint")),
+    ("stepBack", {"threadId": 1}, None, stopped("step")),
+    ("evaluate", {"expression": "k", "frameId": 4}, result(8)),
+    ("reverseContinue", {"threadId": 1}, None, stopped("entry")),
+    ("stackTrace", {"threadId": 1}, stack(FACTORIAL, ("main", 15, 3))),
+    ("continue", {"threadId": 1}, {"allThreadsContinued": True}, *BACK_LOGS, stopped("breakpoint")),
     DISCONNECT,
 )
 

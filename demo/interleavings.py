@@ -127,7 +127,8 @@ def breach(items: list[Item], messages: list[bytes], numbers: list[int]) -> str 
     answered = [(one["request_seq"], one["command"]) for one in sent if one["type"] == "response"]
     if answered != asked:
         return f"{asked} was asked, and {answered} answered"
-    written = [int(one["body"]["output"]) for one in sent if one.get("event") == "output"]
+    outputs = [one["body"] for one in sent if one.get("event") == "output"]
+    written = [int(one["output"]) for one in outputs if one["category"] == "stdout"]
     if written != numbers[:len(written)]:
         return f"{written} was written, and not {numbers}"
     if leaves and (not sent or sent[-1].get("command") != "disconnect"):

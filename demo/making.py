@@ -22,6 +22,10 @@ STRANGE = ["(", ")", ";", ".", "?", ":", "é", "end", "begin", "odd", "=", ":=",
            "N" * 65, "(" * 65, "begin " * 65, "\x00", "1x", "call", "!"]
 HITS = ["", "1", "2", "3", "%1", "%2", "%2", "%3", "%3", "%7", "10", "2147483647", "%2147483647"]
 BAD_HITS = ["0", "%0", "03", " 2", "2 ", "+2", "%", "2147483648", "%%2", "x", "²", "1\n"]
+# The parts of log messages, with expressions and without, and messages that can't be read.
+MESSAGE_TEXTS = ["", "x is ", " ", ", ", "}", "}}", "k", "\\", "\"", "\n", "é", "\u2028", "\x7f", "\x00", "100 %", "log"]
+BAD_MESSAGES = ["{", "{}", "{x", "x {", "{ }", "{ {1} }", "{1}{", "{1 +}", "{1}}{", "{call p}", "{1 = 1}", "{é}", "{1}" * 9, "{zz}",
+                "{1}" + "x" * 1022, "é" * 513]
 BAD_TEXTS = [" ", "x >", "(x = 1", "x = 1.", "x = é", "zz + 1", "call p", "1 +", "- - 1", "odd", "x := 1",
              "(" * 64 + "1" + ")" * 64,
              "(" * 65 + "1" + ")" * 65, "9223372036854775808", "1;", "p", "\x00", "é" * 513, "1" + " " * 1023,
@@ -82,19 +86,19 @@ if x / {rare} * {rare} = x then
 end."""
 PATHS = {"p.pl0": 20, "deep.pl0": 3, "bad.pl0": 6, "worse.pl0": 6, "missing.pl0": 1, ".": 1, "p.pl0/": 1,
          "./p.pl0": 1, "x" * 255: 1}
-COMMANDS = [*FITTING, "attach", "restart", "terminate", "cancel", "source", "completions", "stepBack", "setVariable", "goto"]
+COMMANDS = [*FITTING, "attach", "restart", "terminate", "cancel", "source", "completions", "stepback", "setVariable", "goto"]
 # What is asked in a situation, and how often.
 LIKELY = {
     "Fresh": {"initialize": 20, "threads": 1, "launch": 1},
     "Ready": {"launch": 20, "threads": 1, "setBreakpoints": 1},
     "Configuring": {"setBreakpoints": 10, "configurationDone": 8, "threads": 1, "evaluate": 1},
-    "Running": {"pause": 6, "setBreakpoints": 8, "threads": 1, "continue": 1, "stackTrace": 1, "evaluate": 1,
+    "Running": {"pause": 6, "setBreakpoints": 8, "threads": 1, "continue": 1, "stepBack": 1, "stackTrace": 1, "evaluate": 1,
                 "configurationDone": 1},
-    "Stopped": {"continue": 5, "next": 9, "stepIn": 9, "stepOut": 4, "setBreakpoints": 4, "stackTrace": 4, "scopes": 4,
-                "variables": 5, "evaluate": 6, "pause": 1, "threads": 1},
-    "Faulted": {"continue": 2, "next": 1, "stepIn": 1, "stepOut": 1, "setBreakpoints": 2, "stackTrace": 3, "scopes": 3,
-                "variables": 3, "evaluate": 4, "pause": 1, "threads": 1},
-    "Ended": {"setBreakpoints": 3, "threads": 2, "continue": 1, "stackTrace": 1, "disconnect": 4},
+    "Stopped": {"continue": 5, "next": 9, "stepIn": 9, "stepOut": 4, "stepBack": 5, "reverseContinue": 5, "setBreakpoints": 4,
+                "stackTrace": 4, "scopes": 4, "variables": 5, "evaluate": 6, "pause": 1, "threads": 1},
+    "Faulted": {"continue": 2, "next": 1, "stepIn": 1, "stepOut": 1, "stepBack": 2, "reverseContinue": 2, "setBreakpoints": 2,
+                "stackTrace": 3, "scopes": 3, "variables": 3, "evaluate": 4, "pause": 1, "threads": 1},
+    "Ended": {"setBreakpoints": 3, "threads": 2, "continue": 1, "reverseContinue": 1, "stackTrace": 1, "disconnect": 4},
 }
 
 
@@ -366,9 +370,19 @@ class Maker:
             one["condition"] = self.often(text, [f"{edge} < 0" for edge in EDGES], 0.05)
         if self.chance.random() < 0.6:
             one["hitCondition"] = self.often(self.chance.choice(HITS), BAD_HITS)
-        if self.chance.random() < 0.05:
-            one["logMessage"] = "x is {x}"
+        if self.chance.random() < 0.3:
+            one["logMessage"] = self.often(self.message(self.names(step.block if step else None)), BAD_MESSAGES, 0.05)
         return one
+
+    def message(self, names: dict[str, str]) -> str:
+        """A log message of texts and expressions."""
+        parts = []
+        for _ in range(self.chance.randrange(1, 5)):
+            parts.append(self.chance.choice(MESSAGE_TEXTS))
+            if self.chance.random() < 0.6:
+                words = self.texts.spaced(self.texts.expression(names), SPACES)
+                parts.append("{%s}" % self.often(words, EDGES, 0.05))
+        return "".join(parts)
 
     def breakpoints(self) -> list[dict]:
         count = self.often(self.chance.choice([0, 1, 1, 2, 3, 4]), [0, 5, 20, 256, 257])
@@ -417,7 +431,8 @@ class Maker:
         name = self.chance.choice(list(arguments))
         if name == "breakpoints" and arguments[name] and self.chance.random() < 0.6:
             one = self.chance.choice(arguments[name])
-            one[self.chance.choice(["line", "condition", "hitCondition", "column"])] = self.chance.choice(STRANGE_VALUES)
+            name = self.chance.choice(["line", "condition", "hitCondition", "logMessage", "column"])
+            one[name] = self.chance.choice(STRANGE_VALUES)
         elif self.chance.random() < 0.3:
             del arguments[name]
         else:

@@ -8,7 +8,7 @@ import json
 import os
 import re
 
-from plain_pl0 import Machine, Program, RunFault, Statement, TextFault, read_alone, read_program
+from plain_pl0 import Block, Machine, Program, RunFault, Statement, TextFault, read_alone, read_program
 
 LARGEST_SEQ = 2**53 - 1
 LARGEST_LINE = 2**31 - 1
@@ -23,13 +23,17 @@ LENGTH = re.compile(rb"0|[1-9][0-9]{0,6}")
 PRINTABLE = re.compile(r"[\x20-\x7e]+")
 HIT = re.compile(r"(%?)([1-9][0-9]*)")
 HEADER_TOO_LONG, BAD_FIELD, NO_LENGTH, TWO_LENGTHS, BAD_LENGTH, TOO_LARGE = range(1, 7)
+MOST_EXPRESSIONS = 8
 RESUMING = ("continue", "next", "stepIn", "stepOut")
+GOING_BACK = ("stepBack", "reverseContinue")
 ASKING = ("stackTrace", "scopes", "variables", "evaluate")
 UNLOOKED = ("configurationDone", "threads", "disconnect")
 CAPABILITIES = {
     "supportsConditionalBreakpoints": True,
     "supportsConfigurationDoneRequest": True,
     "supportsHitConditionalBreakpoints": True,
+    "supportsLogPoints": True,
+    "supportsStepBack": True,
 }
 
 
@@ -186,11 +190,13 @@ class Asked:
     line: int
     condition: str
     hits: str
+    message: str
 
 
 def asked(value: object) -> Asked:
     one = Arguments(value)
-    return Asked(one.whole("line", most=LARGEST_LINE), one.text("condition", ""), one.text("hitCondition", ""))
+    texts = [one.text(name, "") for name in ("condition", "hitCondition", "logMessage")]
+    return Asked(one.whole("line", most=LARGEST_LINE), *texts)
 
 
 def fit_launch(arguments: Arguments) -> dict:
@@ -217,7 +223,7 @@ FITTING = {
     "initialize": lambda given: {"lines": given.truth("linesStartAt1", True), "columns": given.truth("columnsStartAt1", True)},
     "launch": fit_launch,
     "setBreakpoints": fit_breakpoints,
-    **{command: fit_thread for command in (*RESUMING, "pause")},
+    **{command: fit_thread for command in (*RESUMING, *GOING_BACK, "pause")},
     "stackTrace": lambda given: {**fit_thread(given), "start": given.whole("startFrame", 0), "levels": given.whole("levels", 0)},
     "scopes": lambda given: {"frame": given.whole("frameId")},
     "variables": lambda given: {"reference": given.whole("variablesReference")},
@@ -236,18 +242,52 @@ def fitted(request: Request) -> dict:
         raise Refusal("badArguments") from None
 
 
+def read_message(text: str, block: Block) -> list[str | tuple]:
+    """The texts and expressions of a log message, which are read in a block; a refusal where it can't be read."""
+    parts: list[str | tuple] = []
+    while text:
+        plain, brace, rest = text.partition("{")
+        parts.append(plain)
+        expression, closing, text = rest.partition("}")
+        tree = read_alone(expression, block, "expression") if closing else None
+        if brace and tree is None:
+            raise Refusal("badLogMessage")
+        if tree is not None:
+            parts.append(tree)
+    if sum(isinstance(part, tuple) for part in parts) > MOST_EXPRESSIONS:
+        raise Refusal("badLogMessage")
+    return parts
+
+
+def value_text(machine: Machine, tree: tuple) -> str:
+    """The value of an expression in the newest frame, or why it has none."""
+    try:
+        return str(machine.value(machine.depth() - 1, tree))
+    except RunFault as fault:
+        return fault.args[0]
+
+
 @dataclasses.dataclass
 class Breakpoint:
-    """A breakpoint in force, with the number of its arrivals so far."""
+    """A breakpoint in force, with the number of its arrivals so far; one with a message is a log point."""
 
     step: Statement
     condition: tuple | None
     every: bool
     hits: int | None
+    message: list[str | tuple] | None
     arrivals: int = 0
 
-    def is_due(self, machine: Machine) -> bool:
-        """Counts an arrival, if the machine's position is one, and tells whether it is due."""
+    def anew(self) -> "Breakpoint":
+        """The same breakpoint with no arrival."""
+        return dataclasses.replace(self, arrivals=0)
+
+    def log(self, machine: Machine) -> str:
+        """What a log point says where the machine stands."""
+        return "".join(part if isinstance(part, str) else value_text(machine, part) for part in self.message)
+
+    def is_met(self, machine: Machine) -> bool:
+        """Counts an arrival, if the machine's position is one, and tells whether the hit rule accepts it."""
         if machine.top() is not self.step or not self.holds(machine):
             return False
         self.arrivals += 1
@@ -273,7 +313,38 @@ def resolved(program: Program, one: Asked) -> Breakpoint | str:
     hits = HIT.fullmatch(one.hits)
     if one.hits and (not hits or int(hits[2]) > LARGEST_LINE):
         return "badHitCondition"
-    return Breakpoint(step, condition, bool(hits and hits[1]), int(hits[2]) if hits else None)
+    try:
+        message = read_message(one.message, step.block) if one.message else None
+    except Refusal as refusal:
+        return refusal.args[0]
+    return Breakpoint(step, condition, bool(hits and hits[1]), int(hits[2]) if hits else None, message)
+
+
+def met(plan: list[Breakpoint], machine: Machine) -> list[Breakpoint]:
+    """Considers the machine's position, and returns the breakpoints that are met there."""
+    return [one for one in plan if one.is_met(machine)]
+
+
+def stops(found: list[Breakpoint]) -> bool:
+    """Whether breakpoints that are met stop the program."""
+    return any(one.message is None for one in found)
+
+
+def machine_at(program: Program, position: int) -> tuple[Machine, int]:
+    """A machine that has come to a position, and how many numbers were written on its way."""
+    machine = Machine(program)
+    numbers = [machine.step() for _ in range(position)]
+    return machine, sum(number is not None for number in numbers)
+
+
+def last_stop(program: Program, plan: list[Breakpoint], end: int) -> int | None:
+    """The greatest position below the end at which breakpoints, counted from position 0, stop the program."""
+    machine, plan, found = Machine(program), [one.anew() for one in plan], None
+    for position in range(end):
+        if stops(met(plan, machine)):
+            found = position
+        machine.step()
+    return found
 
 
 @dataclasses.dataclass
@@ -287,8 +358,11 @@ class Mode:
         """Why it stops at a depth where no breakpoint is due."""
         if self.name == "entry":
             return "entry"
-        stops = {"continue": False, "stepIn": True, "next": depth <= self.depth, "stepOut": depth < self.depth}
-        return "step" if stops[self.name] else None
+        is_due = {"continue": False, "stepIn": True, "next": depth <= self.depth, "stepOut": depth < self.depth}
+        return "step" if is_due[self.name] else None
+
+    def goes_back(self) -> bool:
+        return self.name in GOING_BACK
 
 
 class Session:
@@ -317,6 +391,8 @@ class Session:
         self.waiting_pause = False
         self.is_held = False
         self.slices = 0
+        # How many numbers the steps up to the machine's position write, and how many were sent.
+        self.written = self.numbers_sent = 0
         # After how many slices each run was held that was.
         self.held: list[int] = []
         # Requests to set breakpoints so far, and the one whose plan is in force.
@@ -339,7 +415,7 @@ class Session:
         return (
             self.situation, self.machine and self.machine.position, self.slices > 0, self.is_held, self.waiting_pause,
             self.waiting_plan is None, self.asked_plans, self.plan_number, tuple(one.arrivals for one in self.plan),
-            dataclasses.astuple(self.mode),
+            dataclasses.astuple(self.mode), self.numbers_sent,
         )
 
     def is_closed(self) -> bool:
@@ -392,7 +468,7 @@ class Session:
         self.check_situation(request.command)
         if arguments.get("thread", 1) != 1:
             raise Refusal("unknownThread")
-        if request.command in RESUMING:
+        if request.command in RESUMING + GOING_BACK:
             return {"allThreadsContinued": True} if request.command == "continue" else None
         answer = getattr(self, "answer_" + request.command, None)
         return answer(**{name: value for name, value in arguments.items() if name != "thread"}) if answer else None
@@ -401,7 +477,7 @@ class Session:
         """Refuses what isn't allowed in the situation."""
         if command == "disconnect":
             return
-        if self.situation == "Running" and command in RESUMING + ASKING:
+        if self.situation == "Running" and command in RESUMING + GOING_BACK + ASKING:
             raise Refusal("notStopped")
         allowed = {
             "initialize": ("Fresh",),
@@ -425,9 +501,12 @@ class Session:
             self.begin()
         elif request.command in RESUMING:
             self.resume(request.command)
+        elif request.command in GOING_BACK:
+            self.go(Mode(request.command))
 
     def begin(self) -> None:
-        reason = self.due(Mode("entry" if self.entry else "continue"))
+        reason, logs = self.consider(Mode("entry" if self.entry else "continue"))
+        self.tell(logs)
         if reason:
             self.stop(reason)
         else:
@@ -476,7 +555,7 @@ class Session:
         plan = [one for one in found if isinstance(one, Breakpoint)]
         self.asked_plans += 1
         if self.situation == "Running":
-            self.waiting_plan, self.is_held = plan, True
+            self.waiting_plan, self.is_held = plan, not self.mode.goes_back()
         else:
             self.plan, self.plan_number = plan, self.asked_plans
         return {"breakpoints": [self.answered(one) for one in found]}
@@ -491,7 +570,7 @@ class Session:
 
     def answer_pause(self) -> None:
         if self.situation == "Running":
-            self.waiting_pause = self.is_held = True
+            self.waiting_pause, self.is_held = True, not self.mode.goes_back()
 
     def answer_stackTrace(self, start: int, levels: int) -> dict:
         depth = self.machine.depth()
@@ -539,10 +618,11 @@ class Session:
         except RunFault as fault:
             raise Refusal(fault.args[0]) from None
 
-    def due(self, mode: Mode) -> str | None:
-        """Considers the position, and tells why it is due."""
-        due = [one.is_due(self.machine) for one in self.plan]
-        return "breakpoint" if any(due) else mode.reason(self.machine.depth())
+    def consider(self, mode: Mode) -> tuple[str | None, tuple[str, ...]]:
+        """Considers the position, and returns why it is due, and what it logs."""
+        found = met(self.plan, self.machine)
+        logs = tuple(one.log(self.machine) for one in found if one.message is not None)
+        return "breakpoint" if stops(found) else mode.reason(self.machine.depth()), logs
 
     def run(self) -> None:
         """Runs the program to where it stops, and holds it as soon as may be."""
@@ -556,7 +636,10 @@ class Session:
         return self.situation == "Running" and self.is_held and self.slices > 0
 
     def slice(self) -> None:
+        """Accepts the report of a slice; a run that goes back reports nothing that is seen before its stop."""
         self.slices += 1
+        if self.mode.goes_back():
+            return self.go_back()
         numbers: list[int] = []
         for _ in range(SLICE):
             try:
@@ -566,22 +649,43 @@ class Session:
             numbers += [] if number is None else [number]
             if self.machine.is_done():
                 return self.report(numbers, "end")
-            if reason := self.due(self.mode):
-                return self.report(numbers, reason)
+            reason, logs = self.consider(self.mode)
+            if reason or logs:
+                return self.report(numbers, reason, logs=logs)
         return self.report(numbers)
 
-    def report(self, numbers: list[int], reason: str | None = None, text: str | None = None) -> None:
+    def go_back(self) -> None:
+        position, reason = max(self.machine.position - 1, 0), "step"
+        if self.mode.name == "reverseContinue":
+            found = last_stop(self.program, self.plan, self.machine.position)
+            position, reason = (0, "entry") if found is None else (found, "breakpoint")
+        self.machine, self.written = machine_at(self.program, position)
+        self.plan = [one.anew() for one in self.plan]
+        self.report([], reason)
+
+    def report(self, numbers: list[int], reason: str | None = None, text: str | None = None, logs: tuple[str, ...] = ()) -> None:
         for number in numbers:
-            self.event("output", {"category": "stdout", "output": "%d\n" % number})
+            self.written += 1
+            if self.written > self.numbers_sent:
+                self.numbers_sent = self.written
+                self.output("stdout", str(number))
+        self.tell(logs)
         if reason == "end":
             self.end(0)
         elif reason:
             self.stop(reason, text)
             self.put_plan_in()
 
+    def output(self, category: str, text: str) -> None:
+        self.event("output", {"category": category, "output": text + "\n"})
+
+    def tell(self, logs: tuple[str, ...]) -> None:
+        for log in logs:
+            self.output("console", log)
+
     def put_plan_in(self) -> None:
         if self.waiting_plan is not None:
-            self.plan = [dataclasses.replace(one) for one in self.waiting_plan]
+            self.plan = [one.anew() for one in self.waiting_plan]
             self.plan_number = self.asked_plans
 
     def give_back(self) -> None:

@@ -155,6 +155,7 @@ def runs(program: str) -> dict[str, Run]:
         "a session": stored_session(program),
         "a debug session without a stop": fed_session(program, feeding.TWO_SESSION),
         "a debug session with a stop": fed_session(program, feeding.FACTORIAL_SESSION),
+        "a debug session that logs and goes back": fed_session(program, feeding.BACK_SESSION),
         "a debug session with a fault": fed_session(program, feeding.OVERFLOW_SESSION),
         "a debug session with pauses": fed_session(program, feeding.ENDLESS_SESSION, is_endless=True),
         "a listing": Run([program, "--check", procedures], by_bytes(listing("procedures")), LISTING_ENDS),

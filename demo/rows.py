@@ -5,9 +5,9 @@ usage: rows.py PROGRAM
 
 Each input goes in whole and cut in two at a number of places, and one of at most 4,096 bytes a byte at a time. Between two parts
 of an input the client waits until the program that is debugged stopped or ended. Then the worked sessions are played, each
-request after the messages that are due before it. At last the messages of the session in docs/PROTOCOL.md are compared with
-those of demo/factorial.session as it is played. Prints a line for each input and each session, and ends with status 1 where one
-differs.
+request after the messages that are due before it. At last the messages of the sessions in docs/PROTOCOL.md are compared with
+those of demo/factorial.session and demo/back.session as they are played. Prints a line for each input and each session, and ends
+with status 1 where one differs.
 """
 import os
 import re
@@ -24,7 +24,8 @@ INITIALIZE = b'{"seq":1,"type":"request","command":"initialize"}'
 DISCONNECT = b'{"seq":2,"type":"request","command":"disconnect"}'
 CAPABILITIES = (
     b'{"body":{"supportsConditionalBreakpoints":true,"supportsConfigurationDoneRequest":true,'
-    b'"supportsHitConditionalBreakpoints":true},"command":"initialize","request_seq":1,"seq":1,"success":true,"type":"response"}'
+    b'"supportsHitConditionalBreakpoints":true,"supportsLogPoints":true,"supportsStepBack":true},'
+    b'"command":"initialize","request_seq":1,"seq":1,"success":true,"type":"response"}'
 )
 
 
@@ -219,13 +220,18 @@ def cuts(parts: list[bytes]):
             yield [[one] if other != number else [part[:at], part[at:]] for other, one in enumerate(parts)]
 
 
-def is_on_the_page(program: str) -> bool:
-    """Whether the session of the page is the one that `make demo` plays."""
-    script = [os.path.join(TOP, "demo", name) for name in ("session.py", "factorial.session")]
-    played = subprocess.run([sys.executable, *script, program], cwd=TOP, stdout=subprocess.PIPE, text=True, timeout=60)
+def played(program: str, session: str) -> list[str]:
+    """The messages of a stored session as it is played."""
+    script = [os.path.join(TOP, "demo", name) for name in ("session.py", session)]
+    run = subprocess.run([sys.executable, *script, program], cwd=TOP, stdout=subprocess.PIPE, text=True, timeout=60)
+    return [line.strip() for line in run.stdout.splitlines() if line.startswith("  ")]
+
+
+def are_on_the_page(program: str) -> bool:
+    """Whether the sessions of the page are those that `make demo` plays."""
     with open(os.path.join(TOP, "docs", "PROTOCOL.md"), encoding="utf-8") as file:
         page = [line for line in file.read().splitlines() if line.startswith(("-> ", "<- "))]
-    return page == [line.strip() for line in played.stdout.splitlines() if line.startswith("  ")]
+    return page == played(program, "factorial.session") + played(program, "back.session")
 
 
 def main() -> int:
@@ -239,9 +245,9 @@ def main() -> int:
     for name, found in differences(os.path.abspath(program)):
         failed += found is not None
         print(f"{name}: {'as it must be' if found is None else f'differs: {found}'}")
-    on_page = is_on_the_page(program)
+    on_page = are_on_the_page(program)
     failed += not on_page
-    print(f"the session of the page: {'as it must be' if on_page else 'differs from what was played'}")
+    print(f"the sessions of the page: {'as they must be' if on_page else 'differ from what was played'}")
     return 1 if failed else 0
 
 

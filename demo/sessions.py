@@ -23,7 +23,7 @@ from collections.abc import Callable
 from interleavings import Following, Item, Write, breach, items_of
 from making import Part, Story, ending, make
 from plain_pl0 import Machine, Program, RunFault
-from plain_session import RESUMING, FrameFault, Frames, Session, request_of
+from plain_session import GOING_BACK, RESUMING, FrameFault, Frames, Session, request_of
 from playing import Adapter, put_files
 
 WORD = re.compile(rb"\s+|[A-Za-z0-9]+|[^\sA-Za-z0-9]+")
@@ -31,7 +31,7 @@ WORD = re.compile(rb"\s+|[A-Za-z0-9]+|[^\sA-Za-z0-9]+")
 TIMES = 5
 # How long a moment is.
 MOMENT = 0.0005
-BEGINNING = ("configurationDone", *RESUMING)
+BEGINNING = ("configurationDone", *RESUMING, *GOING_BACK)
 
 
 @dataclasses.dataclass
@@ -232,7 +232,8 @@ def kinds(messages: list[bytes]) -> collections.Counter[str]:
     for content in messages:
         message = json.loads(content)
         kind = message["event"] if message["type"] == "event" else message.get("message", "granted").split()[0]
-        counts[f"{kind} {message.get('body', {}).get('reason', '')}".strip()] += 1
+        body = message.get("body", {})
+        counts[f"{kind} {body.get('reason', body.get('category', ''))}".strip()] += 1
     return counts
 
 

@@ -1,7 +1,7 @@
 """Worked debug sessions: what is asked, and the messages that must come before the next thing is asked.
 
 In a session `> COMMAND ARGUMENTS` is a request, numbered from 1, and `&` joins requests that are sent by one write. `< SEQ: ...`
-is a message in short, and `< {...}` one as it is.
+is a message in short, a message of a log point with `log` before it, and `< {...}` one as it is.
 """
 import json
 import tempfile
@@ -330,6 +330,151 @@ SESSIONS = [
 > disconnect
 < 7: ok disconnect/5
 """),
+    ("a log point", LOOP, PRELUDE + """
+> setBreakpoints {"source":{"path":"p.pl0"},"breakpoints":[{"line":3,"logMessage":"x is {x}, {10 / (x - 2)}"}]}
+< 4: ok setBreakpoints/3 3
+> configurationDone
+< 5: ok configurationDone/4
+< {"body":{"category":"console","output":"x is 0, -5\\n"},"event":"output","seq":6,"type":"event"}
+< 7: output log x is 1, -10
+< 8: output log x is 2, divideByZero
+< 9: output log x is 3, 10
+< 10: output log x is 4, 5
+< 11: output log x is 5, 3
+< 12: exited 0
+< 13: terminated
+> disconnect
+< 14: ok disconnect/5
+"""),
+    ("a log point at each third arrival", LOOP, PRELUDE + """
+> setBreakpoints {"source":{"path":"p.pl0"},"breakpoints":[{"line":3,"hitCondition":"%3","logMessage":"x is {x}"}]}
+< 4: ok setBreakpoints/3 3
+> configurationDone
+< 5: ok configurationDone/4
+< 6: output log x is 2
+< 7: output log x is 5
+< 8: exited 0
+< 9: terminated
+> disconnect
+< 10: ok disconnect/5
+"""),
+    ("a log point where another breakpoint stops", LOOP, ENTRY + """
+> setBreakpoints {"source":{"path":"p.pl0"},"breakpoints":[{"line":2,"logMessage":"}"},{"line":2,"condition":"x = 1"},{"line":2,"logMessage":"{x}"}]}
+< 4: ok setBreakpoints/3 2, 2, 2
+> configurationDone
+< 5: ok configurationDone/4
+< 6: output log }
+< 7: output log 0
+< 8: stopped entry
+> continue {"threadId":1}
+< 9: ok continue/5
+< 10: output log }
+< 11: output log 1
+< 12: stopped breakpoint
+> disconnect
+< 13: ok disconnect/6
+"""),
+    ("log messages that can't be read", LOOP, PRELUDE + """
+> setBreakpoints {"source":{"path":"p.pl0"},"breakpoints":[{"line":3,"logMessage":"{x"},{"line":3,"logMessage":"{}"},{"line":3,"logMessage":"{ {x} }"}]}
+< 4: ok setBreakpoints/3 badLogMessage, badLogMessage, badLogMessage
+> setBreakpoints {"source":{"path":"p.pl0"},"breakpoints":[{"line":3,"condition":"x = 0","logMessage":"{x}{x}{x}{x}{x}{x}{x}{x}"},{"line":3,"logMessage":"{x}{x}{x}{x}{x}{x}{x}{x}{x}"}]}
+< 5: ok setBreakpoints/4 3, badLogMessage
+> configurationDone
+< 6: ok configurationDone/5
+< 7: output log 00000000
+< 8: exited 0
+< 9: terminated
+> disconnect
+< 10: ok disconnect/6
+"""),
+    ("back to breakpoints and on again", RECURSION, PRELUDE + """
+> setBreakpoints {"source":{"path":"p.pl0"},"breakpoints":[{"line":5}]}
+< 4: ok setBreakpoints/3 5
+> configurationDone
+< 5: ok configurationDone/4
+< 6: stopped breakpoint
+> continue {"threadId":1}
+< 7: ok continue/5
+< 8: output 1
+< 9: stopped breakpoint
+> reverseContinue {"threadId":1}
+< 10: ok reverseContinue/6
+< 11: stopped breakpoint
+> reverseContinue {"threadId":1}
+< 12: ok reverseContinue/7
+< 13: stopped entry
+> continue {"threadId":1}
+< 14: ok continue/8
+< 15: stopped breakpoint
+> continue {"threadId":1}
+< 16: ok continue/9
+< 17: stopped breakpoint
+> continue {"threadId":1}
+< 18: ok continue/10
+< 19: output 2
+< 20: exited 0
+< 21: terminated
+> disconnect
+< 22: ok disconnect/11
+"""),
+    ("a step back out of a call", RECURSION, PRELUDE + """
+> setBreakpoints {"source":{"path":"p.pl0"},"breakpoints":[{"line":5}]}
+< 4: ok setBreakpoints/3 5
+> configurationDone
+< 5: ok configurationDone/4
+< 6: stopped breakpoint
+> stepBack {"threadId":1}
+< 7: ok stepBack/5
+< 8: stopped step
+> stackTrace {"threadId":1}
+< 9: ok stackTrace/6 p 10:1 id 3, p 9:15 id 2, main 13:15 id 1, of 3
+> variables {"variablesReference":3}
+< 10: ok variables/7 k 1
+> variables {"variablesReference":2}
+< 11: ok variables/8 k 2
+> disconnect
+< 12: ok disconnect/9
+"""),
+    ("steps back from a fault", b"var x; begin x := 9223372036854775807; x := x + 1 end.", PRELUDE + """
+> stepBack {"threadId":1}
+< 4: no stepBack/3 wrongPhase
+> configurationDone
+< 5: ok configurationDone/4
+< 6: stopped exception overflow
+> stepBack {"threadId":2}
+< 7: no stepBack/5 unknownThread
+> stepBack {"threadId":1}
+< 8: ok stepBack/6
+< 9: stopped step
+> stackTrace {"threadId":1}
+< 10: ok stackTrace/7 main 1:14 id 1, of 1
+> variables {"variablesReference":1}
+< 11: ok variables/8 x 0
+> stepBack {"threadId":1}
+< 12: ok stepBack/9
+< 13: stopped step
+> reverseContinue {"threadId":1}
+< 14: ok reverseContinue/10
+< 15: stopped entry
+> disconnect
+< 16: ok disconnect/11
+"""),
+    ("a step back in a long run", b"var x; while x < 200000 do x := x + 1.", PRELUDE + """
+> setBreakpoints {"source":{"path":"p.pl0"},"breakpoints":[{"line":1,"condition":"x = 200000"}]}
+< 4: ok setBreakpoints/3 1
+> configurationDone
+< 5: ok configurationDone/4
+< 6: stopped breakpoint
+> stepBack {"threadId":1}
+< 7: ok stepBack/5
+< 8: stopped step
+> stackTrace {"threadId":1}
+< 9: ok stackTrace/6 main 1:28 id 1, of 1
+> variables {"variablesReference":1}
+< 10: ok variables/7 x 199999
+> disconnect
+< 11: ok disconnect/8
+"""),
 ]
 
 # The texts of programs with a mistake, and the message of the refusal.
@@ -358,6 +503,8 @@ def detail(body: dict) -> str:
         return ", ".join(f"{one['name']} {one['value']}" for one in body["variables"])
     if "breakpoints" in body:
         return ", ".join(str(one.get("line", one.get("message"))) for one in body["breakpoints"])
+    if body.get("category") == "console":
+        return "log " + body["output"].removesuffix("\n")
     named = [str(body[name]) for name in ("reason", "text", "output", "exitCode", "result") if name in body]
     return " ".join(named).removesuffix("\n")
 

@@ -4,7 +4,7 @@
 usage: gate_times.py CRATE..
 
 Prints a row of docs/GATE.md for each crate: processor seconds, user and system, of its proof from nothing, of its proof
-with its tests from nothing, of the run of the tests, of its must-fail edits and their number, of building and running a
+with its tests from nothing and the run of these, of its must-fail edits and their number, of building and running a
 program, and of all together. Each is measured with one job on a copy of the crate, over what is kept of the crates below,
 which are proved first where they are not. The first edit costs a proof of its own. The gate builds a program by a second
 compiler too, which is not measured. The status is 1 where a part fails, or where a crate takes over 10 minutes in all.
@@ -59,25 +59,25 @@ def times(name: str) -> tuple[list[float], int]:
         program = build_program(crate) if is_program else 0.0
         edits = len(list(crate.glob("must-fail/*.edit")))
         tried = measure(["rt", "must-fail", name], top) if edits else 0.0
-        proof_with_tests = run_of_tests = 0.0
+        tests = 0.0
         if has_tests(crate):
             forget(crate)
-            proof_with_tests = measure(["rt", "check", "--test", "--jobs", "1"], crate)
-            run_of_tests = measure(["rt", "test", "--jobs", "1"], crate)
-    return [proof, proof_with_tests, run_of_tests, tried, program], edits
+            tests = measure(["rt", "check", "--test", "--jobs", "1"], crate)
+            tests += measure(["rt", "test", "--jobs", "1"], crate)
+    return [proof, tests, tried, program], edits
 
 
 def main() -> int:
     names = crate_names(sys.argv[1:])
     if not names:
         raise SystemExit(__doc__)
-    print("| Crate | Proof | Proof with tests | Tests run | Edits | Number of edits | Program | All |")
-    print("|---|---|---|---|---|---|---|---|")
+    print("| Crate | Proof | Tests | Edits | Number of edits | Program | All |")
+    print("|---|---|---|---|---|---|---|")
     is_within = True
     for name in names:
         seconds, edits = times(name)
         cells = [f"{one:.0f}" if one else "" for one in seconds]
-        cells.insert(4, str(edits) if edits else "")
+        cells.insert(3, str(edits) if edits else "")
         print(f"| `{name}` | {' | '.join(cells)} | {sum(seconds):.0f} |", flush=True)
         if sum(seconds) > BUDGET:
             print(f"{name} takes over {BUDGET:.0f} processor seconds", file=sys.stderr)

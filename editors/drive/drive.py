@@ -24,7 +24,7 @@ HAS_DAP_MODE = "(progn (require 'package) (package-initialize) (require 'dap-ui)
 
 def replay(program: list[str]) -> bool:
     """Whether the adapter sends what the sessions say."""
-    written = [os.path.join(DRIVE, name) for name in ("vscode.txt", "neovim.txt", "from_zero.txt")]
+    written = [os.path.join(DRIVE, name) for name in ("vscode.txt", "vscode_back.txt", "neovim.txt", "from_zero.txt")]
     recorded = [os.path.join(TRANSCRIPTS, name) for name in ("emacs.txt", "emacs_endless.txt", "kate.txt", "kate_endless.txt")]
     sessions = [session for session in written + recorded if os.path.exists(session)]
     shifted = [session for session in sessions if os.path.basename(session) in FROM_ZERO]
