@@ -6,8 +6,8 @@ usage: refusals.py PROGRAM [SPEED]
 PROGRAM is pl0dap; SPEED is the program `speed`, which runs a text by the machine alone, in slices under a plan, and by the
 runner. Each allocation is refused in turn, up to the first run that asks for none more, and then each thread, read and write of
 PROGRAM. What is written may differ from the whole answer only by what is missing at its end, of a session by whole frames,
-and the program must say why. But a run in slices may also end by the report that there was no memory for one, and must for
-each slice; and where the file of a launch can't be read, the launch must be refused, and the session goes on.
+and the program must say why. But a run in slices may also end by the report that there was no memory for its first one, and
+must at least once; and where the file of a launch can't be read, the launch must be refused, and the session goes on.
 
 The threads of a session take turns as they like, so which call is the Nth differs from one time to the next: each end must be
 one that is allowed, and none must hang. Before a thread was asked for nothing may be written where the session gives up. It
@@ -29,11 +29,10 @@ import rows
 HERE = os.path.dirname(os.path.abspath(__file__))
 CRATES = os.path.join(HERE, "..", "crates")
 RECURSION = os.path.join(HERE, "recursion.pl0")
-# What the text takes: its steps, those up to where the condition first holds at a breakpoint, and those of a slice.
+# What the text takes: its steps, and those up to where the condition first holds at a breakpoint.
 STEPS = 924
 CONDITION = "total > 2000"
 STOP = 893
-SLICE = 256
 LINES = 20
 
 # How a run of pl0dap may end in which something of a kind was refused: the status, and what stands on standard error. An
@@ -79,6 +78,7 @@ MACHINE_ENDS = [
 WORK_ENDS = MACHINE_ENDS + [
     wants_memory("no plan", "memory allocation failed"),
     wants_memory("no share of the plan", "memory allocation failed"),
+    wants_memory("no room for logs", "memory allocation failed"),
     wants_memory("no room for the debuggee", "memory allocation failed"),
     wants_memory("no room for an order", "memory allocation failed"),
 ]
@@ -131,10 +131,10 @@ def by_bytes(text: bytes) -> list[bytes]:
     return [bytes([byte]) for byte in text]
 
 
-def no_memory(last: int, after: str) -> dict[str, dict[bytes, str]]:
-    """What a run in slices writes where there is no memory for one of them, up to the one with the last step."""
-    texts = [f"NoMemory after {steps} steps{after}" for steps in range(0, last, SLICE)]
-    return {"allocation": {f"{text}\n".encode(): text for text in texts}}
+def no_memory(after: str) -> dict[str, dict[bytes, str]]:
+    """What a run writes where there is no memory for its first slice. The others take its room, as it wrote nothing."""
+    text = f"NoMemory after 0 steps{after}"
+    return {"allocation": {f"{text}\n".encode(): text}}
 
 
 def stored_session(program: str) -> Run:
@@ -172,13 +172,13 @@ def runs_of_texts(speed: str) -> dict[str, Run]:
             [speed, "slices", RECURSION, "1", str(LINES), CONDITION],
             [f"Due(Breakpoint) after {STOP} steps{under}\n".encode()],
             {"allocation": SLICES_ENDS},
-            instead=no_memory(STOP, under),
+            instead=no_memory(under),
         ),
         "a run by the runner": Run(
             [speed, "work", RECURSION],
             [f"Done after {STEPS} steps\n".encode()],
             {"allocation": WORK_ENDS},
-            instead=no_memory(STEPS, ""),
+            instead=no_memory(""),
         ),
     }
 
