@@ -9,7 +9,7 @@ ghost use Rattle.dbg_runner.specs.Runner.{Act, Idle, Ended, Leads};
 ghost use Rattle.dbg_runner.specs.Queues.{order_in, sent_in, passed_in};
 ghost use Rattle.dap_wires.specs.declared.parcel.Parcel.{Parcel};
 ghost use Rattle.dap_wires.specs.Ends.{receipt_log, receipt_home};
-ghost use Rattle.dap_wires.specs.Inbox.{client_events, client_home, sent_reports, refused_reports, report_home, taken_events, received, event_home};
+ghost use Rattle.dap_wires.specs.Inbox.{client_events, client_home, sent_reports, refused_reports, report_home, taken_events, received, left_home, event_home};
 ghost use Rattle.dap_wires.specs.Outbox.{put_frames, frame_home, unused_home, parcels_put, ended_home, ended_unused_home, parcels_taken, parcels_received, parcel_home};
 ghost use Rattle.dap_wires.specs.Orders.{pushed_orders, push_home, taken_orders, pop_home};
 ghost use Rattle.dap_wires.specs.Reading.{IsReadUntil};
@@ -20,10 +20,11 @@ ghost use Rattle.adapter.specs.Jobs.{Drove};
 use crate::gates::{Gated, OpenGate};
 use crate::tasks::{LastTask, Task};
 use byte_streams::{Sink, Source};
-use dap_session::{Closed, Event, Loader, Order, Orders, SessionFault, drive};
+use dap_session::{Closed, Loader, Order, Orders, SessionFault, drive};
 use dap_wires::{
-    ClientSender, EndedSender, EventReceiver, FrameReceiver, FrameSender, OrderReceiver,
-    OrderSender, Parcel, ReadEnd, Receipt, ReportSender, WriteFailed, read_loop, write_loop,
+    ClientSender, EndedSender, EventReceiver, FrameReceiver, FrameSender, InboxReceipt,
+    OrderReceiver, OrderSender, Parcel, ReadEnd, Receipt, ReportSender, WriteFailed, read_loop,
+    write_loop,
 };
 use dbg_runner::{Gate, Joined, work};
 use std::alloc::Global;
@@ -216,7 +217,7 @@ impl<'a, L, R: Wait + Drop> SessionTask<'a, L, R> {
 /// The ends of a session that is over.
 #[derive(Drop)]
 pub struct SessionEnds<R: Wait + Drop> {
-    pub inbox: Receipt<Event>,
+    pub inbox: InboxReceipt,
     pub outbox: EndedSender<R>,
     pub orders: OrderSender<R>,
 }
@@ -227,7 +228,7 @@ impl<'a, L: Loader, R: Wait + Drop> Task for SessionTask<'a, L, R> {
     ghost can_run = { λ _. ⊤ };
 
     ghost gives = { λ t r. (r.0.ghost_name ≡ t.loader.ghost_name)
-        × (receipt_home r.1.inbox ≡ event_home t.inbox) × ((receipt_log r.1.inbox).takes ≡ true)
+        × (left_home r.1.inbox ≡ event_home t.inbox)
         × (ended_home r.1.outbox ≡ frame_home t.outbox) × (ended_unused_home r.1.outbox ≡ unused_home t.outbox)
         × (push_home r.1.orders ≡ push_home t.orders)
         × Drove r.2 (taken_events t.inbox) (received r.1.inbox) (L.loaded t.loader.now) (L.loaded r.0.now)

@@ -3,7 +3,7 @@
 ghost use Rattle.std.specs.Prelude.{◌≡◌, ◌≢◌, true};
 ghost use Rattle.dap_session.specs.Sending.{Begins};
 ghost use Rattle.dap_wires.specs.Ends.{receipt_log, receipt_home};
-ghost use Rattle.dap_wires.specs.Inbox.{client_events, client_home, sent_reports, report_home, received};
+ghost use Rattle.dap_wires.specs.Inbox.{client_events, client_home, sent_reports, report_home, received, left_home};
 ghost use Rattle.dap_wires.specs.Orders.{FourWereInside, pushed_orders, push_home, taken_orders, pop_home};
 ghost use Rattle.dap_wires.specs.Outbox.{parcels_put, ended_home, ended_unused_home, parcels_received};
 ghost use Rattle.dap_wires.specs.Senders.{from_client, reports_among};
@@ -107,8 +107,7 @@ fn settle<R: Wait + Drop>(
     taken: OrderReceiver<R>,
     ends: SessionEnds<R>,
 )
-    requires inbox { (report_home reports ≡ client_home client) × (receipt_home ends.inbox ≡ client_home client) }
-    requires events { (receipt_log ends.inbox).takes ≡ true }
+    requires inbox { (report_home reports ≡ client_home client) × (left_home ends.inbox ≡ client_home client) }
     requires outbox { (ended_unused_home ends.outbox ≡ ended_home ends.outbox) × (receipt_home written ≡ ended_home ends.outbox) }
     requires parcels { (receipt_log written).takes ≡ true }
     requires orders { pop_home taken ≡ push_home ends.orders }

@@ -10,6 +10,7 @@ use Rattle.dbg_runner.proofs.Crossing.{report_send, order_send}
 use Rattle.dbg_runner.proofs.history.History.TheSendSync as history
 use Rattle.dap_session.specs.contracts.ports.Event as Event
 use Rattle.dap_wires.proofs.ends.SendEnd.TheSendSync as send_end
+use Rattle.dap_wires.specs.contracts.arrival.Arrival as Arrival
 use Rattle.dap_wires.specs.contracts.event_ends.ClientSender as ClientSender
 use Rattle.dap_wires.specs.contracts.event_ends.ReportSender as ReportSender
 use Rattle.dap_wires.specs.contracts.order_ends.OrderReceiver as OrderReceiver
@@ -17,18 +18,21 @@ use Rattle.dap_wires.specs.contracts.order_ends.OrderReceiver as OrderReceiver
 event_send : IsSend Event.the_row
 event_send = let a = report_send in search (crosses, sendable) depth 60 fits 20000
 
+arrival_send : IsSend Arrival.the_row
+arrival_send = let a = event_send in let b = report_send in search (crosses, sendable) depth 60 fits 20000
+
 module _ (R : RattleType) where
   pub client_sender_send : IsSend R → IsSend (ClientSender.the_row R)
-  client_sender_send r = let a = event_send in search (send_end.the_field_send, sendable) depth 60 fits 20000
+  client_sender_send r = let a = arrival_send in search (send_end.the_field_send, sendable) depth 60 fits 20000
 
   pub client_sender_field_send : IsSend R → IsSend (ClientSender.the_field R).row
-  client_sender_field_send r = let a = event_send in search (send_end.the_field_send, sendable) depth 60 fits 20000
+  client_sender_field_send r = let a = arrival_send in search (send_end.the_field_send, sendable) depth 60 fits 20000
 
   pub report_sender_send : IsSend R → IsSend (ReportSender.the_row R)
-  report_sender_send r = let a = event_send in search (send_end.the_field_send, history.the_send, sendable) depth 60 fits 20000
+  report_sender_send r = let a = arrival_send in let b = report_send in search (send_end.the_field_send, history.the_send, crosses, sendable) depth 60 fits 20000
 
   pub report_sender_field_send : IsSend R → IsSend (ReportSender.the_field R).row
-  report_sender_field_send r = let a = event_send in search (send_end.the_field_send, history.the_send, sendable) depth 60 fits 20000
+  report_sender_field_send r = let a = arrival_send in let b = report_send in search (send_end.the_field_send, history.the_send, crosses, sendable) depth 60 fits 20000
 
   pub order_receiver_send : IsSend R → IsSend (OrderReceiver.the_row R)
   order_receiver_send r =

@@ -1,42 +1,34 @@
 -- What each sender put and what was taken, as plain data.
-use Rattle.std.proofs.Common.{◌≡◌, false, true≢false, append-nil, List, [], ◌∷◌, ◌++◌, refl, sym, ◌∙◌, ap, subst, inl, inr, Ok, Err}
-use Rattle.std.specs.Prelude.{◌⊎◌, map, Result, OnOk, OnErr}
+use Rattle.std.proofs.Common.{◌≡◌, Bool, true, false, true≢false, append-nil, List, [], ◌∷◌, ◌++◌, refl, sym, ◌∙◌, ap, subst, inl, inr, Ok, Err, append_assoc}
+use Rattle.std.specs.Prelude.{◌⊎◌, ◌&&◌, map, Result, OnOk, OnErr}
+use Rattle.std.specs.List.{flat_map}
 use Rattle.std.proofs.lemmas.List.{map-append}
 use Rattle.dap_history.specs.Events.{Incoming, Piece, End, ReadFailed, NoMemory, File, Report}
 use Rattle.dap_session.specs.declared.ports.Event.{Event}
 use Rattle.dap_session.specs.declared.ports.Event.TheVariants as event
 use Rattle.dap_session.specs.Incoming.{incoming_of}
 use Rattle.dap_session.specs.Sending.{Begins}
-use Rattle.dbg_runner.specs.Reported.{plain_report}
+use Rattle.dbg_runner.specs.Plain.{PlainReport}
+use Rattle.dbg_runner.specs.Reported.{Reported, plain_report}
+use Rattle.dap_wires.specs.declared.arrival.Arrival.{Arrival}
+use Rattle.dap_wires.specs.declared.arrival.Arrival.TheVariants as arrival
 use Rattle.dap_wires.specs.declared.parcel.Parcel.{Parcel}
 use Rattle.dap_wires.specs.declared.parcel.Parcel.TheVariants as parcel
 use Rattle.dap_wires.specs.declared.end_log.EndLog.{EndLog}
 use Rattle.dap_wires.specs.Delivery.{of_first, of_second, put}
+use Rattle.dap_wires.specs.Inbox.{came}
 use Rattle.dap_wires.specs.Parcels.{frames_in, has_end, AreEnded}
-use Rattle.dap_wires.specs.Senders.{is_report, from_client, reports_among}
+use Rattle.dap_wires.specs.Senders.{is_by_runner, events_in, from_client, reports_among, is_quiet, are_quiet}
 use Rattle.dap_wires.proofs.Delivered.{all_first}
 
--- the reader's events are what the client sent
-client_first : (ms : List Event) → map incoming_of (of_first is_report ms) ≡ from_client (map incoming_of ms)
-client_first [] = refl
-client_first (event.Piece piece ∷ ms) = ap (λ l. Piece piece.items ∷ l) (client_first ms)
-client_first (event.End ∷ ms) = ap (λ l. End ∷ l) (client_first ms)
-client_first (event.ReadFailed ∷ ms) = ap (λ l. ReadFailed ∷ l) (client_first ms)
-client_first (event.NoMemory ∷ ms) = ap (λ l. NoMemory ∷ l) (client_first ms)
-client_first (event.File (Ok file) ∷ ms) = ap (λ l. File (Ok file.items) ∷ l) (client_first ms)
-client_first (event.File (Err fault) ∷ ms) = ap (λ l. File (Err fault) ∷ l) (client_first ms)
-client_first (event.Report r ∷ ms) = client_first ms
+-- ---- events and reports
 
--- the runner's events have all the reports
-reports_second : (ms : List Event) → reports_among (map incoming_of (of_second is_report ms)) ≡ reports_among (map incoming_of ms)
-reports_second [] = refl
-reports_second (event.Piece piece ∷ ms) = reports_second ms
-reports_second (event.End ∷ ms) = reports_second ms
-reports_second (event.ReadFailed ∷ ms) = reports_second ms
-reports_second (event.NoMemory ∷ ms) = reports_second ms
-reports_second (event.File (Ok file) ∷ ms) = reports_second ms
-reports_second (event.File (Err fault) ∷ ms) = reports_second ms
-reports_second (event.Report r ∷ ms) = ap (λ l. plain_report r ∷ l) (reports_second ms)
+flat_append : (xs ys : List Arrival) → flat_map events_in (xs ++ ys) ≡ flat_map events_in xs ++ flat_map events_in ys
+flat_append [] ys = refl
+flat_append (x ∷ xs) ys = ap (λ l. events_in x ++ l) (flat_append xs ys) ∙ sym (append_assoc (events_in x) (flat_map events_in xs) (flat_map events_in ys))
+
+pub came_append : (xs ys : List Arrival) → came (xs ++ ys) ≡ came xs ++ came ys
+came_append xs ys = ap (map incoming_of) (flat_append xs ys) ∙ map-append incoming_of (flat_map events_in xs) (flat_map events_in ys)
 
 pub client_append : (xs ys : List Incoming) → from_client (xs ++ ys) ≡ from_client xs ++ from_client ys
 client_append [] ys = refl
@@ -56,35 +48,146 @@ reports_append (NoMemory ∷ xs) ys = reports_append xs ys
 reports_append (File file ∷ xs) ys = reports_append xs ys
 reports_append (Report r ∷ xs) ys = ap (λ l. r ∷ l) (reports_append xs ys)
 
--- what was taken of the reader's is a beginning of what it put
-pub client_begins : (put taken inside : List Event) → put ≡ of_first is_report (taken ++ inside)
-    → Begins (from_client (map incoming_of taken)) (map incoming_of put)
-client_begins put taken inside is = (
-  from_client (map incoming_of inside),
-  sym (client_append (map incoming_of taken) (map incoming_of inside))
-      ∙ ap from_client (sym (map-append incoming_of taken inside))
-      ∙ sym (client_first (taken ++ inside))
-      ∙ ap (map incoming_of) (sym is),
-)
+-- reports, as events
+abbrev told : List Reported → List Incoming
+told reports = map incoming_of (map event.Report reports)
 
--- and of the runner's
-pub reports_begin : (put taken inside : List Event) → put ≡ of_second is_report (taken ++ inside)
-    → Begins (reports_among (map incoming_of taken)) (reports_among (map incoming_of put))
-reports_begin put taken inside is = (
-  reports_among (map incoming_of inside),
-  sym (reports_append (map incoming_of taken) (map incoming_of inside))
-      ∙ ap reports_among (sym (map-append incoming_of taken inside))
-      ∙ sym (reports_second (taken ++ inside))
-      ∙ ap (λ l. reports_among (map incoming_of l)) (sym is),
-)
+no_client : (reports : List Reported) → from_client (told reports) ≡ []
+no_client [] = refl
+no_client (r ∷ reports) = no_client reports
 
--- one more report was put
-pub report_put : (old new : List Event) (r : _) → new ≡ old ++ event.Report r ∷ []
-    → reports_among (map incoming_of new) ≡ reports_among (map incoming_of old) ++ plain_report r ∷ []
-report_put old new r is =
-    ap (λ l. reports_among (map incoming_of l)) is
-    ∙ ap reports_among (map-append incoming_of old (event.Report r ∷ []))
-    ∙ reports_append (map incoming_of old) (Report (plain_report r) ∷ [])
+all_reports : (reports : List Reported) → reports_among (told reports) ≡ map plain_report reports
+all_reports [] = refl
+all_reports (r ∷ reports) = ap (λ l. plain_report r ∷ l) (all_reports reports)
+
+-- events that end with reports
+told_last : (given : List Event) (reports : List Reported) → map incoming_of (given ++ map event.Report reports) ≡ map incoming_of given ++ told reports
+told_last given reports = map-append incoming_of given (map event.Report reports)
+
+-- reports came first
+told_first : (reports : _) (ms : List Arrival) → came (arrival.Quiet reports ∷ ms) ≡ told reports.items ++ came ms
+told_first reports ms = map-append incoming_of (map event.Report reports.items) (flat_map events_in ms)
+
+client_after : (reports : _) (ms : List Arrival) → from_client (came (arrival.Quiet reports ∷ ms)) ≡ from_client (came ms)
+client_after reports ms =
+    ap from_client (told_first reports ms)
+    ∙ client_append (told reports.items) (came ms)
+    ∙ ap (λ l. l ++ from_client (came ms)) (no_client reports.items)
+
+reports_after : (reports : _) (ms : List Arrival) → reports_among (came (arrival.Quiet reports ∷ ms)) ≡ map plain_report reports.items ++ reports_among (came ms)
+reports_after reports ms =
+    ap reports_among (told_first reports ms)
+    ∙ reports_append (told reports.items) (came ms)
+    ∙ ap (λ l. l ++ reports_among (came ms)) (all_reports reports.items)
+
+-- the reader's arrivals are what the client sent
+client_first : (ms : List Arrival) → came (of_first is_by_runner ms) ≡ from_client (came ms)
+client_first [] = refl
+client_first (arrival.Event (event.Piece piece) ∷ ms) = ap (λ l. Piece piece.items ∷ l) (client_first ms)
+client_first (arrival.Event event.End ∷ ms) = ap (λ l. End ∷ l) (client_first ms)
+client_first (arrival.Event event.ReadFailed ∷ ms) = ap (λ l. ReadFailed ∷ l) (client_first ms)
+client_first (arrival.Event event.NoMemory ∷ ms) = ap (λ l. NoMemory ∷ l) (client_first ms)
+client_first (arrival.Event (event.File (Ok file)) ∷ ms) = ap (λ l. File (Ok file.items) ∷ l) (client_first ms)
+client_first (arrival.Event (event.File (Err fault)) ∷ ms) = ap (λ l. File (Err fault) ∷ l) (client_first ms)
+client_first (arrival.Event (event.Report r) ∷ ms) = client_first ms
+client_first (arrival.Quiet reports ∷ ms) = client_first ms ∙ sym (client_after reports ms)
+
+-- the runner's arrivals have all the reports
+reports_second : (ms : List Arrival) → reports_among (came (of_second is_by_runner ms)) ≡ reports_among (came ms)
+reports_second [] = refl
+reports_second (arrival.Event (event.Piece piece) ∷ ms) = reports_second ms
+reports_second (arrival.Event event.End ∷ ms) = reports_second ms
+reports_second (arrival.Event event.ReadFailed ∷ ms) = reports_second ms
+reports_second (arrival.Event event.NoMemory ∷ ms) = reports_second ms
+reports_second (arrival.Event (event.File (Ok file)) ∷ ms) = reports_second ms
+reports_second (arrival.Event (event.File (Err fault)) ∷ ms) = reports_second ms
+reports_second (arrival.Event (event.Report r) ∷ ms) = ap (λ l. plain_report r ∷ l) (reports_second ms)
+reports_second (arrival.Quiet reports ∷ ms) =
+    reports_after reports (of_second is_by_runner ms)
+    ∙ ap (λ l. map plain_report reports.items ++ l) (reports_second ms)
+    ∙ sym (reports_after reports ms)
+
+-- what the session was given of what was taken, but for reports that it wasn't given yet
+module _ (taken inside : List Arrival) (given : List Event) (rest : List Reported) (is : flat_map events_in taken ≡ given ++ map event.Report rest) where
+  taken_is : came taken ≡ map incoming_of given ++ told rest
+  taken_is = ap (map incoming_of) is ∙ told_last given rest
+
+  client_taken : from_client (came (taken ++ inside)) ≡ from_client (map incoming_of given) ++ from_client (came inside)
+  client_taken =
+      ap from_client (came_append taken inside)
+      ∙ client_append (came taken) (came inside)
+      ∙ ap (λ l. from_client l ++ from_client (came inside)) taken_is
+      ∙ ap (λ l. l ++ from_client (came inside)) (client_append (map incoming_of given) (told rest) ∙ ap (λ l. from_client (map incoming_of given) ++ l) (no_client rest) ∙ append-nil (from_client (map incoming_of given)))
+
+  reports_taken : reports_among (came (taken ++ inside)) ≡ reports_among (map incoming_of given) ++ (map plain_report rest ++ reports_among (came inside))
+  reports_taken =
+      ap reports_among (came_append taken inside)
+      ∙ reports_append (came taken) (came inside)
+      ∙ ap (λ l. reports_among l ++ reports_among (came inside)) taken_is
+      ∙ ap (λ l. l ++ reports_among (came inside)) (reports_append (map incoming_of given) (told rest) ∙ ap (λ l. reports_among (map incoming_of given) ++ l) (all_reports rest))
+      ∙ append_assoc (reports_among (map incoming_of given)) (map plain_report rest) (reports_among (came inside))
+
+  -- what the session was given of the reader's is a beginning of what that put
+  pub client_begins : (put : List Arrival) → put ≡ of_first is_by_runner (taken ++ inside) → Begins (from_client (map incoming_of given)) (came put)
+  client_begins put put_is = (from_client (came inside), sym client_taken ∙ sym (client_first (taken ++ inside)) ∙ ap came (sym put_is))
+
+  -- and of the runner's, which has sent more than it put
+  pub reports_begin : (put : List Arrival) (kept : List Reported) → put ≡ of_second is_by_runner (taken ++ inside)
+      → Begins (reports_among (map incoming_of given)) (reports_among (came put) ++ map plain_report kept)
+  reports_begin put kept put_is = (
+    (map plain_report rest ++ reports_among (came inside)) ++ map plain_report kept,
+    sym (append_assoc (reports_among (map incoming_of given)) (map plain_report rest ++ reports_among (came inside)) (map plain_report kept))
+        ∙ ap (λ l. l ++ map plain_report kept) (sym reports_taken ∙ sym (reports_second (taken ++ inside)) ∙ ap (λ l. reports_among (came l)) (sym put_is)),
+  )
+
+-- one more event was given
+pub event_given : (old : List Event) (e : Event) → map incoming_of (old ++ e ∷ []) ≡ map incoming_of old ++ incoming_of e ∷ []
+event_given old e = map-append incoming_of old (e ∷ [])
+
+-- one more client's event was put
+pub client_put : (old new : List Arrival) (e : Event) → new ≡ old ++ of_first is_by_runner (arrival.Event e ∷ []) → of_first is_by_runner (arrival.Event e ∷ []) ≡ arrival.Event e ∷ []
+    → came new ≡ came old ++ incoming_of e ∷ []
+client_put old new e is of_client = ap came (is ∙ ap (λ l. old ++ l) of_client) ∙ came_append old (arrival.Event e ∷ [])
+
+-- one more report was put, where none is kept
+pub report_put : (old new : List Arrival) (kept : List Reported) (r : Reported) → new ≡ old ++ arrival.Event (event.Report r) ∷ [] → kept ≡ []
+    → reports_among (came new) ++ map plain_report kept ≡ (reports_among (came old) ++ map plain_report kept) ++ plain_report r ∷ []
+report_put old new kept r is none =
+    ap (λ k. reports_among (came new) ++ map plain_report k) none
+    ∙ append-nil (reports_among (came new))
+    ∙ ap (λ l. reports_among (came l)) is
+    ∙ ap reports_among (came_append old (arrival.Event (event.Report r) ∷ []))
+    ∙ reports_append (came old) (Report (plain_report r) ∷ [])
+    ∙ ap (λ l. l ++ plain_report r ∷ []) (sym (append-nil (reports_among (came old))) ∙ ap (λ k. reports_among (came old) ++ map plain_report k) (sym none))
+
+-- what was kept was put
+pub kept_put : (old new : List Arrival) (kept : _) (was now : List Reported) → new ≡ old ++ arrival.Quiet kept ∷ [] → kept.items ≡ was → now ≡ []
+    → reports_among (came new) ++ map plain_report now ≡ reports_among (came old) ++ map plain_report was
+kept_put old new kept was now is all none =
+    ap (λ l. reports_among (came new) ++ map plain_report l) none
+    ∙ append-nil (reports_among (came new))
+    ∙ ap (λ l. reports_among (came l)) is
+    ∙ ap reports_among (came_append old (arrival.Quiet kept ∷ []))
+    ∙ reports_append (came old) (came (arrival.Quiet kept ∷ []))
+    ∙ ap (λ l. reports_among (came old) ++ l) (reports_after kept [] ∙ append-nil (map plain_report kept.items) ∙ ap (map plain_report) all)
+
+-- one more report is kept
+pub report_kept : (sent : List PlainReport) (old new : List Reported) (r : Reported) → new ≡ old ++ r ∷ []
+    → sent ++ map plain_report new ≡ (sent ++ map plain_report old) ++ plain_report r ∷ []
+report_kept sent old new r is =
+    ap (λ l. sent ++ map plain_report l) is
+    ∙ ap (λ l. sent ++ l) (map-append plain_report old (r ∷ []))
+    ∙ sym (append_assoc sent (map plain_report old) (plain_report r ∷ []))
+
+both : (a b : Bool) → (a && b) ≡ true → (a ≡ true) × (b ≡ true)
+both true b all = (refl, all)
+both false b all = absurd (true≢false (sym all))
+
+pub quiet_kept : (old : List Reported) (r : Reported) → are_quiet old ≡ true → is_quiet r ≡ true → are_quiet (old ++ r ∷ []) ≡ true
+quiet_kept [] r all one = ap (λ b. b && true) one
+quiet_kept (x ∷ old) r all one =
+    let each = both (is_quiet x) (are_quiet old) all in
+    ap (λ b. b && are_quiet (old ++ r ∷ [])) each.0 ∙ quiet_kept old r each.1 one
 
 -- ---- parcels
 

@@ -1,42 +1,54 @@
 -- What went through an inbox, as plain data.
-use Rattle.std.specs.Prelude.{List, map}
-use Rattle.dap_session.specs.declared.ports.Event.{Event}
+use Rattle.std.specs.Prelude.{List, map, ◌++◌}
+use Rattle.std.specs.List.{flat_map}
 use Rattle.dap_session.specs.Incoming.{incoming_of}
 use Rattle.dap_history.specs.Events.{Incoming}
 use Rattle.dbg_runner.specs.Plain.{PlainReport}
 use Rattle.dbg_runner.specs.Reported.{plain_report}
-use Rattle.dap_wires.specs.declared.ends.Receipt.{Receipt}
+use Rattle.dap_wires.specs.declared.arrival.Arrival.{Arrival}
 use Rattle.dap_wires.specs.declared.event_ends.ClientSender.{ClientSender}
 use Rattle.dap_wires.specs.declared.event_ends.ReportSender.{ReportSender}
 use Rattle.dap_wires.specs.declared.event_ends.EventReceiver.{EventReceiver}
-use Rattle.dap_wires.specs.Ends.{Home, sender_log, sender_home, receiver_log, receiver_home, receipt_log}
-use Rattle.dap_wires.specs.Senders.{reports_among}
+use Rattle.dap_wires.specs.declared.event_ends.InboxReceipt.{InboxReceipt}
+use Rattle.dap_wires.specs.Ends.{Home, sender_log, sender_home, receiver_home, receipt_home}
+use Rattle.dap_wires.specs.Senders.{events_in, reports_among}
+
+-- the events that came by these arrivals
+abbrev pub came : List Arrival → List Incoming
+came arrivals = map incoming_of (flat_map events_in arrivals)
 
 module _ {R : Type 0} where
   -- what the reader sent
   abbrev pub client_events : ClientSender R → List Incoming
-  client_events e = map incoming_of (sender_log e.end).put_first
+  client_events e = came (sender_log e.end).put_first
 
-  -- the reports that the runner sent, and those that were handed back to it
+  -- the reports that the runner sent: those that it put into the queue, and then those that are kept; and the reports that
+  -- were handed back to it
+  abbrev pub put_reports : ReportSender R → List PlainReport
+  put_reports e = reports_among (came (sender_log e.end).put_second)
+
   abbrev pub sent_reports : ReportSender R → List PlainReport
-  sent_reports e = reports_among (map incoming_of (sender_log e.end).put_second)
+  sent_reports e = put_reports e ++ map plain_report e.kept.items
 
   abbrev pub refused_reports : ReportSender R → List PlainReport
   refused_reports e = map plain_report e.handed_back.entries
 
-  -- what the session took
+  -- what the session was given
   abbrev pub taken_events : EventReceiver R → List Incoming
-  taken_events e = map incoming_of (receiver_log e.end).taken
+  taken_events e = map incoming_of e.given.entries
 
-  abbrev pub client_home : ClientSender R → Home Event
+  abbrev pub client_home : ClientSender R → Home Arrival
   client_home e = sender_home e.end
 
-  abbrev pub report_home : ReportSender R → Home Event
+  abbrev pub report_home : ReportSender R → Home Arrival
   report_home e = sender_home e.end
 
-  abbrev pub event_home : EventReceiver R → Home Event
+  abbrev pub event_home : EventReceiver R → Home Arrival
   event_home e = receiver_home e.end
 
--- what was taken from an inbox that the session has left
-abbrev pub received : Receipt Event → List Incoming
-received r = map incoming_of (receipt_log r).taken
+-- what the session was given by an inbox that it has left
+abbrev pub received : InboxReceipt → List Incoming
+received r = map incoming_of r.given.entries
+
+abbrev pub left_home : InboxReceipt → Home Arrival
+left_home r = receipt_home r.receipt

@@ -1,9 +1,14 @@
--- Who sends an event.
-use Rattle.std.specs.Prelude.{Bool, true, false, List, [], ◌∷◌}
+-- What stands in an inbox, and who sends it.
+use Rattle.std.specs.Prelude.{Bool, true, false, ◌&&◌, List, [], ◌∷◌, map}
 use Rattle.dap_session.specs.declared.ports.Event.{Event}
 use Rattle.dap_session.specs.declared.ports.Event.TheVariants as event
+use Rattle.dbg_runner.specs.declared.outcome.SliceOutcome.{SliceOutcome}
+use Rattle.dbg_runner.specs.declared.outcome.SliceOutcome.TheVariants as out
 use Rattle.dbg_runner.specs.Plain.{PlainReport}
+use Rattle.dbg_runner.specs.Reported.{Reported}
 use Rattle.dap_history.specs.Events.{Incoming, Piece, End, ReadFailed, NoMemory, File, Report}
+use Rattle.dap_wires.specs.declared.arrival.Arrival.{Arrival}
+use Rattle.dap_wires.specs.declared.arrival.Arrival.TheVariants as arrival
 
 -- the runner sends it
 abbrev pub is_report : Event → Bool
@@ -13,6 +18,15 @@ is_report event.ReadFailed = false
 is_report event.NoMemory = false
 is_report (event.File file) = false
 is_report (event.Report r) = true
+
+abbrev pub is_by_runner : Arrival → Bool
+is_by_runner (arrival.Event e) = is_report e
+is_by_runner (arrival.Quiet reports) = true
+
+-- the events in an arrival, in their order
+abbrev pub events_in : Arrival → List Event
+events_in (arrival.Event e) = e ∷ []
+events_in (arrival.Quiet reports) = map event.Report reports.items
 
 -- of these events those that a client sent
 abbrev pub from_client : List Incoming → List Incoming
@@ -29,3 +43,27 @@ abbrev pub reports_among : List Incoming → List PlainReport
 reports_among [] = []
 reports_among (Report r ∷ events) = r ∷ reports_among events
 reports_among (e ∷ events) = reports_among events
+
+-- ---- reports that tell a client nothing
+
+-- the run goes on after a slice that ended so
+abbrev pub goes_on : SliceOutcome → Bool
+goes_on out.More = true
+goes_on (out.Due reason) = false
+goes_on out.Held = false
+goes_on out.Done = false
+goes_on (out.Fault fault) = false
+goes_on out.NoMemory = false
+
+abbrev pub is_none_of : {A : Type 0} → List A → Bool
+is_none_of [] = true
+is_none_of (x ∷ xs) = false
+
+-- its run goes on, and it has no numbers and no logs
+abbrev pub is_quiet : Reported → Bool
+is_quiet r = goes_on r.outcome && is_none_of r.numbers && is_none_of r.logs
+
+-- each of them is such a report
+abbrev pub are_quiet : List Reported → Bool
+are_quiet [] = true
+are_quiet (r ∷ reports) = is_quiet r && are_quiet reports

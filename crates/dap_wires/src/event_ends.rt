@@ -1,24 +1,26 @@
 // The ends of an inbox.
 
-ghost use Rattle.std.specs.Prelude.{◌≡◌, true, false};
-ghost use Rattle.dap_wires.specs.Ends.{sender_log, receiver_log, sender_room, receiver_room};
-ghost use Rattle.dap_wires.specs.Senders.{is_report};
+ghost use Rattle.std.specs.Prelude.{◌≡◌, ◌≤◌, ◌++◌, map, true, false};
+ghost use Rattle.std.specs.List.{flat_map};
+ghost use Rattle.std.specs.VecDeque.{deque_len};
+ghost use Rattle.std.specs.Coded.{Coded-set, coded_list};
+ghost use Rattle.dap_session.specs.contracts.ports.Event as event_row;
+ghost use Rattle.dap_session.specs.declared.ports.Event.TheVariants as event;
+ghost use Rattle.dap_wires.specs.Ends.{sender_log, receiver_log, receipt_log, sender_room, receiver_room};
+ghost use Rattle.dap_wires.specs.Senders.{events_in, are_quiet};
 
-use crate::ends::{ReceiveEnd, SendEnd};
-use crate::rule::Sent;
+use crate::arrival::Arrival;
+use crate::ends::{Receipt, ReceiveEnd, SendEnd};
 use dap_session::Event;
 use dbg_runner::{History, Report};
+use std::alloc::Global;
+use std::collections::VecDeque;
 use std::sync::Wait;
-
-/// A reader sends all but reports, which a runner sends.
-impl Sent for Event {
-    ghost by_second = { is_report };
-}
 
 /// The end of the reader, which sends what comes from a client.
 #[derive(Drop)]
 pub struct ClientSender<R: Wait + Drop> {
-    pub(crate) end: SendEnd<Event, R>,
+    pub(crate) end: SendEnd<Arrival, R>,
     ghost puts: { (sender_log end).first ≡ true },
     ghost room: { sender_room end ≡ 64 },
 }
@@ -26,17 +28,36 @@ pub struct ClientSender<R: Wait + Drop> {
 /// The end of the runner, which sends reports.
 #[derive(Drop)]
 pub struct ReportSender<R: Wait + Drop> {
-    pub(crate) end: SendEnd<Event, R>,
+    pub(crate) alloc: Global,
+    pub(crate) end: SendEnd<Arrival, R>,
+    // What was sent and isn't in the queue yet: reports that tell a client nothing, and few.
+    pub(crate) kept: VecDeque<Report>,
     pub(crate) handed_back: History<Report>,
     ghost puts: { (sender_log end).second ≡ true },
     ghost room: { sender_room end ≡ 64 },
+    ghost quiet: { are_quiet kept.items ≡ true },
+    ghost few: { deque_len kept ≤ 16 },
 }
 
 /// The end of the session, which takes events.
 #[derive(Drop)]
 pub struct EventReceiver<R: Wait + Drop> {
     pub(crate) rt: R,
-    pub(crate) end: ReceiveEnd<Event, R>,
+    pub(crate) end: ReceiveEnd<Arrival, R>,
+    // What was taken from the queue and isn't given yet.
+    pub(crate) rest: VecDeque<Report>,
+    pub(crate) given: History<Event>,
     ghost takes: { (receiver_log end).takes ≡ true },
     ghost room: { receiver_room end ≡ 64 },
+    ghost in_order: { flat_map events_in (receiver_log end).taken ≡ given.entries ++ map event.Report rest.items } by { Coded-set (coded_list event_row.the_row.coded) _ _ },
+}
+
+/// What a session was given by an inbox that it has left.
+#[derive(Drop)]
+pub struct InboxReceipt {
+    pub(crate) receipt: Receipt<Arrival>,
+    pub(crate) rest: VecDeque<Report>,
+    pub(crate) given: History<Event>,
+    ghost takes: { (receipt_log receipt).takes ≡ true },
+    ghost in_order: { flat_map events_in (receipt_log receipt).taken ≡ given.entries ++ map event.Report rest.items } by { Coded-set (coded_list event_row.the_row.coded) _ _ },
 }

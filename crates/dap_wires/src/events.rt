@@ -1,22 +1,27 @@
 // The inbox of a session: what a client sends, and the reports of the runner.
 
-ghost use Rattle.std.specs.Prelude.{◌≡◌, ◌++◌, ◌∷◌, [], true, false, IfOk, IfErr, OnOk, OnErr};
+ghost use Rattle.std.specs.Prelude.{◌≡◌, ◌++◌, ◌∷◌, [], true, false, IfOk, IfErr, OnOk, OnErr, IsTrue};
 ghost use Rattle.dap_session.specs.Incoming.{incoming_of};
 ghost use Rattle.dap_session.specs.Sending.{Begins};
-ghost use Rattle.dap_wires.specs.Ends.{receipt_log, receipt_home};
-ghost use Rattle.dap_wires.specs.Inbox.{client_events, sent_reports, refused_reports, taken_events, client_home, report_home, event_home, received};
+ghost use Rattle.dbg_runner.specs.Reported.{plain_report};
+ghost use Rattle.dap_wires.specs.Inbox.{client_events, put_reports, sent_reports, refused_reports, taken_events, client_home, report_home, event_home, left_home, received};
 ghost use Rattle.dap_wires.specs.Senders.{is_report, from_client, reports_among};
 
+use crate::arrival::{Arrival, is_quiet};
 use crate::channels::{channel, settle};
-use crate::ends::Receipt;
-use crate::event_ends::{ClientSender, EventReceiver, ReportSender};
+use crate::event_ends::{ClientSender, EventReceiver, InboxReceipt, ReportSender};
 use dap_session::{Event, Inbox};
 use dbg_runner::{History, Report, Reports};
 use std::alloc::{AllocError, Global};
+use std::collections::VecDeque;
+use std::mem;
 use std::sync::Wait;
 
-/// How many events an inbox holds.
+/// How many arrivals an inbox holds.
 const INBOX_CAPACITY: usize = 64;
+
+/// How many reports that tell a client nothing cross an inbox at once. To send each by itself takes longer than its slice.
+const QUIET_LIMIT: usize = 16;
 
 /// An inbox: the ends of the reader, of the runner, and of the session.
 ///
@@ -36,25 +41,32 @@ pub fn inbox<R: Wait + Copy + Drop>(
     Ok((
         ClientSender { end: client },
         ReportSender {
+            alloc,
             end: reports,
+            kept: VecDeque::new(alloc),
             handed_back: History::new(),
         },
-        EventReceiver { rt, end: events },
+        EventReceiver {
+            rt,
+            end: events,
+            rest: VecDeque::new(alloc),
+            given: History::new(),
+        },
     ))
 }
 
-/// When all have ended: what the session took of the reader's is a beginning of what that sent, and of the runner's likewise.
+/// When all have ended: what the session was given of the reader's is a beginning of what that sent, and of the runner's
+/// likewise.
 pub fn settle_inbox<R: Wait + Drop>(
     client: ClientSender<R>,
     reports: ReportSender<R>,
-    receipt: Receipt<Event>,
+    receipt: InboxReceipt,
 )
-    requires one { (report_home reports ≡ client_home client) × (receipt_home receipt ≡ client_home client) }
-    requires receipt { (receipt_log receipt).takes ≡ true }
+    requires one { (report_home reports ≡ client_home client) × (left_home receipt ≡ client_home client) }
     ensures client { Begins (from_client (received receipt)) (client_events client) }
     ensures reports { Begins (reports_among (received receipt)) (sent_reports reports) }
 {
-    settle(client.end, reports.end, receipt);
+    settle(client.end, reports.end, receipt.receipt);
 }
 
 impl<R: Wait + Drop> ClientSender<R> {
@@ -66,12 +78,70 @@ impl<R: Wait + Drop> ClientSender<R> {
         ensures back { IfErr result (λ back. back ≡ event) }
         ensures home { client_home self.new ≡ client_home self.old }
     {
-        self.end.send(event)
+        match self.end.send(Arrival::Event(event)) {
+            Ok(()) => Ok(()),
+            Err(Arrival::Event(back)) => Err(back),
+            Err(Arrival::Quiet(_)) => unreachable!(),
+        }
     }
 }
 
+impl<R: Wait + Drop> ReportSender<R> {
+    /// Puts what was kept into the queue: whether it is there, or nothing was kept.
+    fn put_kept(&mut self) -> bool
+        ensures sent { sent_reports self.new ≡ sent_reports self.old }
+        ensures refused { self.new.handed_back ≡ self.old.handed_back }
+        ensures home { report_home self.new ≡ report_home self.old }
+        ensures none { IsTrue result → self.new.kept.items ≡ [] }
+    {
+        if self.kept.is_empty() {
+            return true;
+        }
+        let kept = mem::replace(&mut self.kept, VecDeque::new(self.alloc));
+        match self.end.send(Arrival::Quiet(kept)) {
+            Ok(()) => true,
+            Err(Arrival::Quiet(back)) => {
+                self.kept = back;
+                false
+            }
+            Err(Arrival::Event(_)) => unreachable!(),
+        }
+    }
+
+    /// Puts a report into the queue after what was kept.
+    #[tactic(auto, using(crate::proofs::Sending::report_put))]
+    fn put(&mut self, report: Report) -> Result<(), Report>
+        ensures sent { OnOk result (sent_reports self.new ≡ sent_reports self.old ++ plain_report report ∷ []) }
+        ensures keeps_refused { OnOk result (refused_reports self.new ≡ refused_reports self.old) }
+        ensures refused { OnErr result (refused_reports self.new ≡ refused_reports self.old ++ plain_report report ∷ []) }
+        ensures keeps_sent { OnErr result (sent_reports self.new ≡ sent_reports self.old) }
+        ensures back { IfErr result (λ back. back ≡ report) }
+        ensures home { report_home self.new ≡ report_home self.old }
+    {
+        if !self.put_kept() {
+            return Err(self.hand_back(report));
+        }
+        match self.end.send(Arrival::Event(Event::Report(report))) {
+            Ok(()) => Ok(()),
+            Err(Arrival::Event(Event::Report(back))) => Err(self.hand_back(back)),
+            Err(_) => unreachable!(),
+        }
+    }
+
+    /// Notes a report that is handed back.
+    fn hand_back(&mut self, report: Report) -> Report
+        ensures back { result ≡ report }
+        ensures refused { refused_reports self.new ≡ refused_reports self.old ++ plain_report report ∷ [] }
+        ensures rest { self.new ≡ record self.old { handed_back = self.new.handed_back } }
+    {
+        self.handed_back = self.handed_back.and(&report);
+        report
+    }
+}
+
+/// Sends a report. One that tells a client nothing is kept, until one that does is sent or QUIET_LIMIT are kept.
 impl<R: Wait + Drop> Reports for ReportSender<R> {
-    ghost use Rattle.dap_session.specs.declared.ports.Event.{Event};
+    ghost use Rattle.dap_wires.specs.declared.arrival.Arrival.{Arrival};
     ghost use Rattle.dap_wires.specs.Ends.{Home};
     ghost use Rattle.dap_wires.specs.Inbox.{sent_reports, refused_reports, report_home};
 
@@ -79,49 +149,73 @@ impl<R: Wait + Drop> Reports for ReportSender<R> {
 
     ghost handed_back = { refused_reports };
 
-    ghost Origin = { Home Event };
+    ghost Origin = { Home Arrival };
 
     ghost origin = { report_home };
 
+    #[tactic(auto, using(crate::proofs::Sending::report_kept, crate::proofs::Sending::quiet_kept))]
     fn send(&mut self, report: Report) -> Result<(), Report> {
-        match self.end.send(Event::Report(report)) {
+        if self.kept.len() == QUIET_LIMIT || !is_quiet(&report) {
+            return self.put(report);
+        }
+        match self.kept.push_back(report) {
             Ok(()) => Ok(()),
-            Err(Event::Report(back)) => {
-                self.handed_back = self.handed_back.and(&back);
-                Err(back)
-            }
-            Err(_) => unreachable!(),
+            Err(refused) => self.put(refused.value),
         }
     }
 }
 
 impl<R: Wait + Drop> EventReceiver<R> {
     /// Leaves the inbox: from now on an event that is sent is handed back.
-    pub fn leave(self) -> Receipt<Event>
+    pub fn leave(self) -> InboxReceipt
         ensures received { received result ≡ taken_events self }
-        ensures takes { (receipt_log result).takes ≡ true }
-        ensures home { receipt_home result ≡ event_home self }
+        ensures home { left_home result ≡ event_home self }
     {
-        self.end.leave()
+        let EventReceiver {
+            end,
+            rest,
+            given,
+            ..
+        } = self;
+        InboxReceipt {
+            receipt: end.leave(),
+            rest,
+            given,
+        }
     }
 }
 
 impl<R: Wait + Drop> Inbox for EventReceiver<R> {
-    ghost use Rattle.dap_session.specs.declared.ports.Event.{Event};
+    ghost use Rattle.dap_wires.specs.declared.arrival.Arrival.{Arrival};
     ghost use Rattle.dap_wires.specs.Ends.{Home};
     ghost use Rattle.dap_wires.specs.Inbox.{taken_events, event_home};
 
     ghost given = { taken_events };
 
-    ghost Origin = { Home Event };
+    ghost Origin = { Home Arrival };
 
     ghost origin = { event_home };
 
     fn next(&mut self) -> Event {
-        let EventReceiver { rt, end } = self;
+        let EventReceiver {
+            rt,
+            end,
+            rest,
+            given,
+        } = self;
         for _ in rt.forever() {
-            if let Some(event) = end.receive() {
+            if let Some(report) = rest.pop_front() {
+                let event = Event::Report(report);
+                *given = given.and(&event);
                 return event;
+            }
+            match end.receive() {
+                None => {}
+                Some(Arrival::Event(event)) => {
+                    *given = given.and(&event);
+                    return event;
+                }
+                Some(Arrival::Quiet(reports)) => *rest = reports,
             }
         }
         unreachable!()

@@ -4,11 +4,13 @@
 //! The one contract is the rule of the queues (`specs/Delivery`): what was taken and then what is inside is, of each sender,
 //! what it put, in its order, each once. [`inbox`], [`outbox`] and [`orders`] make a queue each; their ends meet the ports of
 //! [`dap_session`] and [`dbg_runner`], and [`settle_inbox`], [`settle_outbox`] and [`settle_orders`] compare them when all
-//! threads have ended. [`read_loop`] and [`write_loop`] stand between a queue and a source or a sink of [`byte_streams`]:
+//! threads have ended. Reports that tell a client nothing cross an inbox several at once, and the session is given them one
+//! by one. [`read_loop`] and [`write_loop`] stand between a queue and a source or a sink of [`byte_streams`]:
 //! what the one sends is what it read, and what the other wrote is what it took. Each rule and each loop is of use without
 //! the others.
 #![tactic(auto)]
 
+mod arrival;
 mod beginning;
 mod channels;
 mod end_log;
@@ -25,10 +27,11 @@ mod rule;
 mod transfer;
 mod writing;
 
+pub use arrival::Arrival;
 pub use beginning::read_beginning;
 pub use end_log::EndLog;
 pub use ends::Receipt;
-pub use event_ends::{ClientSender, EventReceiver, ReportSender};
+pub use event_ends::{ClientSender, EventReceiver, InboxReceipt, ReportSender};
 pub use events::{inbox, settle_inbox};
 pub use frame_ends::{EndedSender, FrameReceiver, FrameSender};
 pub use frames::{outbox, settle_outbox};

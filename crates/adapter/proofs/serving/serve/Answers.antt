@@ -54,7 +54,7 @@ returns g c =
     let ports_are : ports (put_frames c.new-session.result.outbox) (pushed_orders c.new-session.result.orders) ≡ nothing_sent =
     ap (λ w. ports w (pushed_orders c.new-session.result.orders)) frames ∙ ap (λ o. ports (record { frames = []; refused = [] }) o) orders in
     let fresh : Drove closed [] (received ends.inbox) (g.L.Loader.loaded c.new-session.result.loader.now) (g.L.Loader.loaded c.in-Some.driven.0.now) (ports (put_frames c.new-session.result.outbox) (pushed_orders c.new-session.result.orders)) (parcels_put ends.outbox) (pushed_orders ends.orders) =
-    subst (λ given. Drove closed given (received ends.inbox) (g.L.Loader.loaded c.new-session.result.loader.now) (g.L.Loader.loaded c.in-Some.driven.0.now) (ports (put_frames c.new-session.result.outbox) (pushed_orders c.new-session.result.orders)) (parcels_put ends.outbox) (pushed_orders ends.orders)) events s.6 in
+    subst (λ given. Drove closed given (received ends.inbox) (g.L.Loader.loaded c.new-session.result.loader.now) (g.L.Loader.loaded c.in-Some.driven.0.now) (ports (put_frames c.new-session.result.outbox) (pushed_orders c.new-session.result.orders)) (parcels_put ends.outbox) (pushed_orders ends.orders)) events s.5 in
     let lent : Drove closed [] (received ends.inbox) (g.L.Loader.loaded c.args.loader.now) (g.L.Loader.loaded c.in-Some.driven.0.now) (ports (put_frames c.new-session.result.outbox) (pushed_orders c.new-session.result.orders)) (parcels_put ends.outbox) (pushed_orders ends.orders) =
     subst (λ l. Drove closed [] (received ends.inbox) (g.L.Loader.loaded l) (g.L.Loader.loaded c.in-Some.driven.0.now) (ports (put_frames c.new-session.result.outbox) (pushed_orders c.new-session.result.orders)) (parcels_put ends.outbox) (pushed_orders ends.orders)) given_to.loader fresh in
     let session : Drove closed [] (received ends.inbox) (g.L.Loader.loaded c.args.loader.now) (g.L.Loader.loaded c.in-Some.driven.0.now) nothing_sent (parcels_put ends.outbox) (pushed_orders ends.orders) =

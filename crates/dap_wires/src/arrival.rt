@@ -1,0 +1,47 @@
+// What stands in an inbox.
+
+ghost use Rattle.std.specs.Prelude.{◌≡◌};
+ghost use Rattle.dap_wires.specs.Senders.{goes_on, is_quiet};
+
+use crate::rule::Sent;
+use dap_session::Event;
+use dbg_runner::{Report, SliceOutcome};
+use std::collections::VecDeque;
+
+/// What stands in an inbox.
+#[derive(Drop)]
+pub enum Arrival {
+    /// An event.
+    Event(Event),
+    /// Reports that tell a client nothing, the oldest first.
+    Quiet(VecDeque<Report>),
+}
+
+/// A reader sends all but reports, which a runner sends.
+impl Sent for Arrival {
+    ghost use Rattle.dap_wires.specs.Senders.{is_by_runner};
+
+    ghost by_second = { is_by_runner };
+}
+
+/// Whether a report tells a client nothing: its run goes on, and it has no numbers and no logs.
+#[inline(always)]
+pub(crate) fn is_quiet(report: &Report) -> bool
+    ensures { result ≡ is_quiet report.now }
+{
+    goes_on(report.summary().outcome) && report.numbers().is_empty() && report.logs().is_empty()
+}
+
+/// Whether a run goes on after a slice that ended so.
+fn goes_on(outcome: SliceOutcome) -> bool
+    ensures { result ≡ goes_on outcome }
+{
+    match outcome {
+        SliceOutcome::More => true,
+        SliceOutcome::Done
+        | SliceOutcome::Due(_)
+        | SliceOutcome::Held
+        | SliceOutcome::Fault(_)
+        | SliceOutcome::NoMemory => false,
+    }
+}
