@@ -1,0 +1,11 @@
+pub mod Walks
+pub mod Wholes
+pub mod Members
+pub mod Contents
+pub mod Framing
+pub mod Going
+pub mod Reading
+pub mod Lowering
+pub mod ReadBack
+pub mod ReadChanged
+pub mod Crossing

@@ -1,0 +1,12 @@
+-- What a renumberer keeps true of the bytes that it holds and of its decoder.
+use Rattle.std.specs.Prelude.{◌≡◌, ℕ, List, [], None}
+use Rattle.dap_frame.specs.Frame.{IsOpen}
+use Rattle.dap_frame.specs.Stream.{Stream}
+use Rattle.from_zero.specs.declared.mode.Mode.{Mode}
+use Rattle.from_zero.specs.declared.mode.Mode.TheVariants.{Framed, Raw, Broken}
+
+-- by frames: the decoder has the same bytes, and no whole frame and no fault stands there
+abbrev pub IsKeptIn : Mode → List ℕ → Stream → Type 0
+IsKeptIn Framed held decoder = (decoder.fault ≡ None) × (decoder.rest ≡ held) × IsOpen held
+IsKeptIn Raw held decoder = held ≡ []
+IsKeptIn Broken held decoder = Unit {0}
