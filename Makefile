@@ -3,10 +3,11 @@ SHELL = /bin/bash
 PREFIX ?= /usr/local
 APART = dap_frame dap_msg dbg_runner
 PROGRAM = crates/pl0dap/out/pl0dap
+FROM_ZERO = crates/pl0dap_from_zero/out/pl0dap_from_zero
 SPEED = crates/speed/out/speed
 SOURCES = crates.txt $(shell find crates -name out -prune -o -type f \( -name '*.rt' -o -name '*.antt' \) -print)
 
-.PHONY: try build demo rows sessions editors refusals last-position misuse check plants gate-times pages install bench
+.PHONY: try build demo rows hostile soak sessions editors vsix refusals last-position misuse check plants gate-times pages install bench
 
 # A debug session in short form, a few minutes after a fresh clone. `rt try` takes only an input that ends, so all is sent at once:
 # a stop on entry needs no run, which the end of the input would end.
@@ -24,6 +25,11 @@ build: $(PROGRAM)
 $(PROGRAM): $(SOURCES)
 	$(MAKE) --jobs $(APART:%=prove-%)
 	cd crates/pl0dap && rt run < /dev/null
+	touch $@
+
+# The program for editors that number their requests from 0.
+$(FROM_ZERO): $(SOURCES) $(PROGRAM)
+	cd crates/pl0dap_from_zero && rt run < /dev/null
 	touch $@
 
 # Proves a crate and those below it, with the crate's name before each line, which comes as it is written.
@@ -50,16 +56,30 @@ rows: $(PROGRAM)
 	diff <(sed '/^\/\//d' crates/pl0dap/src/main.rt) <(sed '/^\/\//d' crates/fault_runs/src/main.rt)
 	diff <(sed '/^\/\//d' crates/pl0dap/src/main.rt) <(sed '/^\/\//d' crates/argument_runs/src/main.rt)
 
+# Hostile headers, contents, types, numbers, sizes, situations, cuts and ends, with what docs/PROTOCOL.md says of each.
+hostile: $(PROGRAM)
+	python3 demo/hostile.py $(PROGRAM)
+
+# 500 sessions with a loop without end, and what is left over of them; and clients that read, write and leave as they like.
+soak: $(PROGRAM)
+	python3 demo/soak.py $(PROGRAM) 480 20
+	python3 demo/clients.py $(PROGRAM)
+
 # Random sessions, each message compared with what a plain model of the adapter says; and others, whose bytes are compared with what
 # the session puts over memory, in one thread.
 sessions: $(PROGRAM) $(SPEED)
 	python3 demo/sessions.py $(PROGRAM) 500
 	python3 demo/beside.py $(PROGRAM) $(SPEED) 200
 
-# The sessions of editors, played to the program; then Emacs and Kate, where they are installed, debug a program with it. Nothing is
-# installed: status 2 where one is missing.
-editors: $(PROGRAM)
-	python3 editors/drive/drive.py $(PROGRAM)
+# What Visual Studio Code and Kate mark in programs; the sessions of editors, played to the program; then Emacs, Kate and CodeLite,
+# where they are installed, debug a program with it, and pictures are taken. Nothing is installed: status 2 where one is missing.
+editors: $(PROGRAM) $(FROM_ZERO)
+	python3 editors/highlighting.py $(PROGRAM) examples/*.pl0 demo/*.pl0
+	python3 editors/drive/drive.py $(PROGRAM) $(FROM_ZERO)
+
+# The extension for Visual Studio Code, packed and read back.
+vsix:
+	python3 editors/vsix.py out/pl0.vsix
 
 # The merge gate: proves everything from nothing, and runs everything.
 check:
@@ -89,8 +109,9 @@ refusals: $(PROGRAM) $(SPEED)
 last-position:
 	python3 demo/last_position.py
 
-install: $(PROGRAM)
+install: $(PROGRAM) $(FROM_ZERO)
 	install -D $(PROGRAM) $(DESTDIR)$(PREFIX)/bin/pl0dap
+	install -D $(FROM_ZERO) $(DESTDIR)$(PREFIX)/bin/pl0dap_from_zero
 	install -D -m 644 docs/pl0dap.1 $(DESTDIR)$(PREFIX)/share/man/man1/pl0dap.1
 
 bench: $(PROGRAM) $(SPEED)
@@ -98,4 +119,5 @@ bench: $(PROGRAM) $(SPEED)
 	python3 bench/session.py $(PROGRAM) $(SPEED)
 	python3 bench/machine.py $(PROGRAM) $(SPEED)
 	python3 bench/slices.py $(SPEED)
+	python3 bench/back.py $(PROGRAM)
 	python3 bench/checking.py $(PROGRAM)

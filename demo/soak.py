@@ -3,18 +3,20 @@
 
 usage: soak.py PROGRAM [ONE_BY_ONE] [AT_ONCE]
 
-100 sessions are played one after the other, and 20 at once. In each the loop is paused twice, and looked at between the pauses.
+100 sessions are played one after the other, and 20 at once. In each the loop is paused twice, and looked at between the pauses; in
+turn it only runs, or logs a message at each thousandth turn, or goes back after the first pause, by a step and to the beginning.
 A session ends, in turn, by `disconnect` where the program stopped, by `disconnect` while it runs, or by the end of the input
-while it runs. While the loop runs, the adapter must have its four threads; after the session its process must be gone, with
-status 0 and nothing said; and at the end this script must have as many open files and threads as at the beginning. A
-session that takes more than 30 seconds, or all of them together more than 5 minutes, hang. Ends with status 1 where something is
-wrong.
+while it runs. While the loop runs, the adapter must have its four threads, and as many open files as at its start; after the
+session its process must be gone, with status 0 and nothing said; and at the end this script must have as many open files and
+threads as at the beginning. A session that takes more than 30 seconds, or all of them together more than 5 minutes, hang. Ends
+with status 1 where something is wrong.
 """
 import collections
 import concurrent.futures
 import dataclasses
 import json
 import os
+import re
 import statistics
 import sys
 import tempfile
@@ -28,7 +30,12 @@ MOST_SECONDS_EACH = 30
 THREADS = 4
 LOOP = b"var x;\nwhile 1 = 1 do\nx := 1 - x.\n"
 THREAD = '{"threadId":1}'
+RUNS, LOGS, GOES_BACK = KINDS = ("only run", "log", "go back")
 ENDS = ("a disconnect at a stop", "a disconnect in a run", "the end of the input in a run")
+# Each thousandth arrival at the loop's body is an even one, before which x is 1.
+LOG_POINT = '{"source":{"path":"loop.pl0"},"breakpoints":[{"line":3,"hitCondition":"%1000","logMessage":"x is {x}"}]}'
+LOGGED = "x is 1\n"
+MOST_MEMORY = re.compile(r"^VmHWM:\s+([0-9]+) kB$", re.MULTILINE)
 
 
 class Wrong(Exception):
@@ -37,107 +44,153 @@ class Wrong(Exception):
 
 @dataclasses.dataclass
 class Played:
-    """How a session ended, how long it took, and how long after a pause the stop came."""
+    """How a session went: its kind and end, how long it took, how long after a pause the stop came, how many messages were
+    logged, and how much memory the process had at most, in KiB."""
 
+    kind: str
     end: str
-    seconds: float
-    pauses: list[float]
+    seconds: float = 0.0
+    pauses: list[float] = dataclasses.field(default_factory=list)
+    logs: int = 0
+    memory: int = 0
     wrong: str | None = None
 
 
-def received(client: Client, name: str) -> dict:
-    """The next message, which must be the granted response to this command, or this event."""
-    content = client.receive()
-    message = json.loads(content) if content else {}
-    if message.get("event", message.get("command")) != name or not message.get("success", True):
-        raise Wrong(f"{name} must come, and not {content!r}")
-    return message
+class Session:
+    """A session that is played."""
 
+    def __init__(self, program: str, folder: str, played: Played):
+        self.client = Client(program, folder)
+        self.process = self.client.adapter.child
+        self.played = played
 
-def asked(client: Client, command: str, arguments: str = "") -> dict:
-    client.ask([(command, arguments)])
-    return received(client, command)
+    def received(self, name: str) -> dict:
+        """The next message but for logs, which must be the granted response to this command, or this event."""
+        while True:
+            content = self.client.receive()
+            message = json.loads(content) if content else {}
+            if message.get("event") == "output" and self.is_log(message["body"]):
+                self.played.logs += 1
+                if name == "output":
+                    return message
+                continue
+            if message.get("event", message.get("command")) != name or not message.get("success", True):
+                raise Wrong(f"{name} must come, and not {content!r}")
+            return message
 
+    def is_log(self, body: dict) -> bool:
+        return self.played.kind == LOGS and body == {"category": "console", "output": LOGGED}
 
-def pause(client: Client) -> float:
-    """Pauses the program, and answers how long that took."""
-    begin = time.monotonic()
-    asked(client, "pause", THREAD)
-    if received(client, "stopped")["body"]["reason"] != "pause":
-        raise Wrong("the stop is no pause")
-    return time.monotonic() - begin
+    def asked(self, command: str, arguments: str = "") -> dict:
+        self.client.ask([(command, arguments)])
+        return self.received(command)
+
+    def stopped(self, reason: str) -> None:
+        found = self.received("stopped")["body"]["reason"]
+        if found != reason:
+            raise Wrong(f"the stop is by {found}, and not by {reason}")
+
+    def pause(self) -> None:
+        """Pauses the program."""
+        begin = time.monotonic()
+        self.asked("pause", THREAD)
+        self.stopped("pause")
+        self.played.pauses.append(time.monotonic() - begin)
+
+    def look(self) -> None:
+        """Looks where the program stands."""
+        frames = self.asked("stackTrace", THREAD)["body"]["stackFrames"]
+        if [frame["name"] for frame in frames] != ["main"]:
+            raise Wrong(f"these frames: {frames}")
+
+    def go_back(self) -> None:
+        """Goes back by a step, and to the beginning, where x is 0."""
+        self.asked("stepBack", THREAD)
+        self.stopped("step")
+        self.asked("reverseContinue", THREAD)
+        self.stopped("entry")
+        if (value := self.asked("evaluate", '{"expression":"x"}')["body"]["result"]) != "0":
+            raise Wrong(f"x is {value} at the beginning")
+
+    def begin(self) -> None:
+        """Launches the loop."""
+        self.asked("initialize")
+        files = open_files(self.process.pid)
+        self.asked("launch", '{"program":"loop.pl0"}')
+        self.received("initialized")
+        if self.played.kind == LOGS:
+            self.asked("setBreakpoints", LOG_POINT)
+        self.asked("configurationDone")
+        if self.played.kind == LOGS:
+            self.received("output")
+        now = threads(self.process.pid), open_files(self.process.pid)
+        if now != (THREADS, files):
+            raise Wrong(f"{now[0]} threads, and the open files {now[1]}, which were {files}")
+
+    def converse(self) -> None:
+        self.begin()
+        self.pause()
+        self.look()
+        if self.played.kind == GOES_BACK:
+            self.go_back()
+        self.asked("continue", THREAD)
+        self.pause()
+        with open(f"/proc/{self.process.pid}/status", encoding="ascii") as file:
+            self.played.memory = int(MOST_MEMORY.search(file.read())[1])
+        if self.played.end != ENDS[0]:
+            self.asked("continue", THREAD)
+        if self.played.end != ENDS[2]:
+            self.asked("disconnect")
+
+    def play(self) -> None:
+        """Plays the session to its end. One that hangs is ended, which shows in its status."""
+        start = time.monotonic()
+        timer = threading.Timer(MOST_SECONDS_EACH, self.process.kill)
+        timer.start()
+        try:
+            self.converse()
+        except Wrong as found:
+            self.played.wrong = str(found)
+        left, *end = self.client.end()
+        timer.cancel()
+        timer.join()
+        if end != [0, ""] or left and self.played.kind != LOGS:
+            self.played.wrong = self.played.wrong or f"it ended with {end}, after {left!r}"
+        if os.path.exists(f"/proc/{self.process.pid}"):
+            self.played.wrong = self.played.wrong or f"process {self.process.pid} is left"
+        self.played.seconds = time.monotonic() - start
 
 
 def threads(process: int) -> int:
     return len(os.listdir(f"/proc/{process}/task"))
 
 
-def look(client: Client) -> None:
-    """Looks where the program stands."""
-    frames = asked(client, "stackTrace", THREAD)["body"]["stackFrames"]
-    if [frame["name"] for frame in frames] != ["main"]:
-        raise Wrong(f"these frames: {frames}")
+def open_files(process: int | str = "self") -> list[str]:
+    return sorted(os.listdir(f"/proc/{process}/fd"))
 
 
-def begin(client: Client) -> None:
-    """Launches the loop."""
-    asked(client, "initialize")
-    asked(client, "launch", '{"program":"loop.pl0"}')
-    received(client, "initialized")
-    asked(client, "configurationDone")
-    if (count := threads(client.adapter.child.pid)) != THREADS:
-        raise Wrong(f"{count} threads")
+def played(program: str, folder: str, number: int) -> Played:
+    """Plays the session of this number."""
+    one = Played(KINDS[number // len(ENDS) % len(KINDS)], ENDS[number % len(ENDS)])
+    Session(program, folder, one).play()
+    return one
 
 
-def converse(client: Client, end: str) -> list[float]:
-    begin(client)
-    pauses = [pause(client)]
-    look(client)
-    asked(client, "continue", THREAD)
-    pauses.append(pause(client))
-    if end != ENDS[0]:
-        asked(client, "continue", THREAD)
-    if end != ENDS[2]:
-        asked(client, "disconnect")
-    return pauses
-
-
-def played(program: str, folder: str, end: str) -> Played:
-    """Plays a session. One that hangs is ended, which shows in its status."""
-    start = time.monotonic()
-    client = Client(program, folder)
-    process = client.adapter.child
-    timer = threading.Timer(MOST_SECONDS_EACH, process.kill)
-    timer.start()
-    pauses, wrong = [], None
-    try:
-        pauses = converse(client, end)
-    except Wrong as found:
-        wrong = str(found)
-    left = client.end()
-    timer.cancel()
-    timer.join()
-    if left != (b"", 0, ""):
-        wrong = wrong or f"it ended with {left}"
-    if os.path.exists(f"/proc/{process.pid}"):
-        wrong = wrong or f"process {process.pid} is left"
-    return Played(end, time.monotonic() - start, pauses, wrong)
-
-
-def open_files() -> list[str]:
-    return sorted(os.listdir("/proc/self/fd"))
+def counts(names: list[str]) -> str:
+    return ", ".join(f"{count} {name}" for name, count in collections.Counter(names).items())
 
 
 def tell(name: str, sessions: list[Played], seconds: float) -> bool:
     """Prints how the sessions went, and answers whether all went well."""
     wrong = [one for one in sessions if one.wrong]
-    ends = ", ".join(f"{count} by {end}" for end, count in collections.Counter(one.end for one in sessions).items())
     pauses = [taken for one in sessions for taken in one.pauses] or [0.0]
-    print(f"{len(sessions)} sessions {name}: {ends}")
+    print(f"{len(sessions)} sessions {name}: {counts([one.kind for one in sessions])};")
+    print(f"  {counts(['by ' + one.end for one in sessions])}")
     print(f"  {len(wrong)} went wrong; {seconds:.2f} s in all; a session at most {max(one.seconds for one in sessions):.3f} s")
     print(f"  from `pause` to `stopped`: median {statistics.median(pauses) * 1e6:.0f} us, at most {max(pauses) * 1e6:.0f} us")
+    print(f"  {sum(one.logs for one in sessions)} messages logged; a process had at most {max(one.memory for one in sessions)} KiB")
     for one in wrong[:5]:
-        print(f"  {one.end}: {one.wrong}")
+        print(f"  {one.kind}, {one.end}: {one.wrong}")
     return not wrong
 
 
@@ -155,12 +208,10 @@ def main() -> int:
     with tempfile.TemporaryDirectory() as folder:
         put_files(folder, {"loop.pl0": LOOP})
         start = time.monotonic()
-        sessions = [played(program, folder, ENDS[number % 3]) for number in range(single)]
-        good = tell("one after the other", sessions, time.monotonic() - start)
+        good = tell("one after the other", [played(program, folder, number) for number in range(single)], time.monotonic() - start)
         start = time.monotonic()
         with concurrent.futures.ThreadPoolExecutor(together) as pool:
-            ends = [ENDS[number % 3] for number in range(together)]
-            sessions = list(pool.map(lambda end: played(program, folder, end), ends))
+            sessions = list(pool.map(lambda number: played(program, folder, number), range(together)))
         good &= tell("at once", sessions, time.monotonic() - start)
     after = open_files(), threads(os.getpid())
     print(f"open files before and after: {len(before[0])} and {len(after[0])}; threads: {before[1]} and {after[1]}")

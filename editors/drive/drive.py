@@ -1,46 +1,55 @@
 #!/usr/bin/env python3
 """Plays the editors' sessions to the adapter, then lets the editors that are installed debug a program with it.
 
-usage: drive.py PROGRAM [ARGUMENT..]
+usage: drive.py PL0DAP PL0DAP_FROM_ZERO
 
-First, sessions that were recorded, or written by what is known of an editor, are played by replay.py. Then Emacs and Kate debug
-examples/factorial.pl0 and demo/endless.pl0, and docs/editors/ gets a transcript of each session. Nothing is installed. Status 0:
-all that was wanted was done. Status 1: the adapter sent something else than a session says, or an editor failed. Status 2: only an
-editor is missing.
+First, sessions that were recorded, or written by what is known of an editor, are played by replay.py: those of editors that number
+their requests from 0 to the second program. Then Emacs, Kate and CodeLite debug examples/factorial.pl0, and the first two
+demo/endless.pl0. docs/editors/ gets a transcript of each session, docs/pictures/ a picture of Emacs and one of Kate at a stop.
+Nothing is installed. Status 0: all that was wanted was done. Status 1: the adapter sent something else than a session says, or an
+editor failed. Status 2: only an editor, or what a picture needs, is missing.
 """
 import os
 import shutil
 import subprocess
 import sys
 
+from screen import NEEDED
+
 DRIVE = os.path.dirname(os.path.realpath(__file__))
 TOP = os.path.realpath(os.path.join(DRIVE, "..", ".."))
 TRANSCRIPTS = os.path.join(TOP, "docs", "editors")
-FROM_ONE = [sys.executable, os.path.join(TOP, "editors", "from_one.py")]
-FROM_ZERO = ("kate.txt", "kate_endless.txt", "neovim.txt")  # sessions of editors that count their requests from 0
-ENDINGS = {"factorial": '"event":"terminated"', "endless": '"command":"disconnect","request_seq"'}  # what each session comes to
+PICTURES = os.path.join(TOP, "docs", "pictures")
+WRITTEN = ("vscode.txt", "vscode_back.txt", "vscode_log.txt", "neovim.txt", "neovim_back.txt", "from_zero.txt")
+FROM_ZERO = ("kate.txt", "kate_endless.txt", "neovim.txt", "neovim_back.txt")  # sessions of editors that number their requests from 0
+RECORDED = ("emacs.txt", "emacs_back.txt", "emacs_endless.txt", "kate.txt", "kate_endless.txt", "codelite.txt")
+AT_THE_END, BY_DISCONNECT = '"event":"terminated"', '"command":"disconnect","request_seq"'
+ENDINGS = {"factorial": AT_THE_END, "back": AT_THE_END, "endless": BY_DISCONNECT}  # what each session comes to
 HAS_DAP_MODE = "(progn (require 'package) (package-initialize) (require 'dap-ui))"
 
 
-def replay(program: list[str]) -> bool:
+def replay(program: str, from_zero: str) -> bool:
     """Whether the adapter sends what the sessions say."""
-    written = [os.path.join(DRIVE, name) for name in ("vscode.txt", "vscode_back.txt", "neovim.txt", "from_zero.txt")]
-    recorded = [os.path.join(TRANSCRIPTS, name) for name in ("emacs.txt", "emacs_endless.txt", "kate.txt", "kate_endless.txt")]
+    written = [os.path.join(DRIVE, name) for name in WRITTEN]
+    recorded = [os.path.join(TRANSCRIPTS, name) for name in RECORDED]
     sessions = [session for session in written + recorded if os.path.exists(session)]
     shifted = [session for session in sessions if os.path.basename(session) in FROM_ZERO]
     plain = [session for session in sessions if session not in shifted]
     play = [sys.executable, os.path.join(DRIVE, "replay.py")]
     statuses = [
-        subprocess.run([*play, *plain, "--", *program]).returncode,
-        subprocess.run([*play, *shifted, "--", *FROM_ONE, *program]).returncode,
+        subprocess.run([*play, *plain, "--", program]).returncode,
+        subprocess.run([*play, *shifted, "--", from_zero]).returncode,
     ]
     return not any(statuses)
 
 
-def proxy(name: str, program: list[str]) -> list[str]:
-    """The command that an editor starts in place of the adapter."""
+def proxy(name: str, program: str) -> list[str]:
+    """The command that an editor starts in place of the adapter. A former transcript of this name is removed."""
     os.makedirs(TRANSCRIPTS, exist_ok=True)
-    return [sys.executable, os.path.join(DRIVE, "proxy.py"), "--folder", TOP, os.path.join(TRANSCRIPTS, name), *program]
+    place = os.path.join(TRANSCRIPTS, name)
+    if os.path.exists(place):
+        os.remove(place)
+    return [sys.executable, os.path.join(DRIVE, "proxy.py"), "--folder", TOP, place, program]
 
 
 def missing_for_emacs() -> list[str]:
@@ -50,13 +59,21 @@ def missing_for_emacs() -> list[str]:
     return ["Emacs' package dap-mode"] if tried.returncode else []
 
 
-def missing_for_kate() -> list[str]:
-    return [name for name in ("kate", "Xvfb", "xdotool") if not shutil.which(name)]
+def missing(*names: str) -> list[str]:
+    return [name for name in names if not shutil.which(name)]
+
+
+def picture(name: str) -> str:
+    os.makedirs(PICTURES, exist_ok=True)
+    return os.path.join(PICTURES, name)
 
 
 def has_ended(name: str, session: str) -> bool:
-    """Whether a transcript goes to the end of its session."""
-    with open(os.path.join(TRANSCRIPTS, name), encoding="utf-8") as file:
+    """Whether there is a transcript, and it goes to the end of its session."""
+    place = os.path.join(TRANSCRIPTS, name)
+    if not os.path.exists(place):
+        return False
+    with open(place, encoding="utf-8") as file:
         return ENDINGS[session] in file.read()
 
 
@@ -64,34 +81,50 @@ def transcript(editor: str, session: str) -> str:
     return f"{editor}.txt" if session == "factorial" else f"{editor}_{session}.txt"
 
 
-def drive_emacs(session: str, program: list[str]) -> bool:
+def drive_emacs(session: str, program: str) -> bool:
     driver, name = os.path.join(DRIVE, "emacs.el"), transcript("emacs", session)
     status = subprocess.run(["emacs", "--batch", "--load", driver, "--", session, *proxy(name, program)]).returncode
     return status == 0 and has_ended(name, session)
 
 
-def drive_kate(session: str, program: list[str]) -> bool:
-    """Kate counts its requests from 0."""
+def drive_kate(session: str, program: str) -> bool:
     driver, name = os.path.join(DRIVE, "kate.py"), transcript("kate", session)
-    status = subprocess.run([sys.executable, driver, session, *proxy(name, [*FROM_ONE, *program])]).returncode
+    words = [sys.executable, driver, session, picture("kate.png"), *proxy(name, program)]
+    return subprocess.run(words).returncode == 0 and has_ended(name, session)
+
+
+def drive_codelite(session: str, program: str) -> bool:
+    driver, name = os.path.join(DRIVE, "codelite.py"), transcript("codelite", session)
+    status = subprocess.run([sys.executable, driver, *proxy(name, program)]).returncode
     return status == 0 and has_ended(name, session)
 
 
+def take_picture(_session: str, program: str) -> bool:
+    words = [sys.executable, os.path.join(DRIVE, "terminal.py"), picture("emacs.png"), program]
+    return subprocess.run(words).returncode == 0
+
+
 def main() -> int:
-    program = [os.path.abspath(part) if os.path.exists(part) else part for part in sys.argv[1:]]
+    if len(sys.argv) != 3:
+        print(__doc__, file=sys.stderr)
+        return 1
+    program, from_zero = (os.path.abspath(name) for name in sys.argv[1:])
     print("Sessions, played to the adapter:", flush=True)
-    is_right, is_whole = replay(program), True
-    for editor, missing, drive in (
-        ("Emacs", missing_for_emacs(), drive_emacs),
-        ("Kate", missing_for_kate(), drive_kate),
+    is_right, is_whole = replay(program, from_zero), True
+    emacs, display = missing_for_emacs(), missing(*NEEDED)
+    for editor, lacks, sessions, drive, started in (
+        ("Emacs", emacs, ("factorial", "back", "endless"), drive_emacs, program),
+        ("Emacs in a terminal", emacs + missing("xterm") + display, ("picture",), take_picture, program),
+        ("Kate", missing("kate") + display, ("factorial", "endless"), drive_kate, from_zero),
+        ("CodeLite", missing("codelite") + display, ("factorial",), drive_codelite, program),
     ):
-        if missing:
+        if lacks:
             is_whole = False
-            print(f"{editor} was not driven. Missing: {', '.join(missing)}. docs/EDITORS.md says how to install it.", flush=True)
+            print(f"{editor} was not driven. Missing: {', '.join(lacks)}. docs/EDITORS.md says how to install it.", flush=True)
             continue
-        for session in ENDINGS:
+        for session in sessions:
             print(f"{editor}, session {session}:", flush=True)
-            done = drive(session, program)
+            done = drive(session, started)
             is_right = is_right and done
             print(f"{editor} was driven." if done else f"{editor} failed.", flush=True)
     return 1 if not is_right else 0 if is_whole else 2

@@ -2,8 +2,11 @@
 
 ;; usage: emacs --batch --load editors/drive/emacs.el -- SESSION COMMAND..
 ;;
-;; SESSION is factorial or endless.  COMMAND starts the adapter, or the proxy before it.  Prints what Emacs shows, line by line,
+;; SESSION is factorial, back or endless.  COMMAND starts the adapter, or the proxy before it.  Prints what Emacs shows, line by line,
 ;; and ends with status 0 at the end of the session.
+;;
+;; SESSION picture is for an Emacs in a terminal, without --batch: it stops, shows frames, variables and output, and makes the file
+;; that the variable DRIVE_SHOWN names.  Emacs stays as it is.
 
 (require 'package)
 (package-initialize)
@@ -72,23 +75,57 @@
   "Debug the program of the buffer."
   (dap-debug (copy-tree (cdr (assoc "PL/0" dap-debug-template-configurations)))))
 
+(defun drive-go-to-line (line)
+  "Go to LINE of the program."
+  (goto-char (point-min))
+  (forward-line (1- line)))
+
+(defun drive-breakpoint (line command text)
+  "Set a breakpoint at LINE, call COMMAND by its name, and type TEXT."
+  (drive-go-to-line line)
+  (dap-breakpoint-toggle)
+  (execute-kbd-macro (vconcat (kbd (format "M-x %s RET" command)) text (kbd "RET"))))
+
+(defun drive-show-output ()
+  "Print the buffer of the program's output."
+  (with-current-buffer (dap--debug-session-output-buffer (dap--cur-session))
+    (drive-show "output %s" (string-join (split-string (string-trim (buffer-string)) "\n") ", "))))
+
+(defun drive-to-the-end ()
+  "Let the program run to its end, and print its output."
+  (dap-continue (dap--cur-session) 1)
+  (drive-wait "the end" (not (dap--session-running (dap--cur-session))))
+  (drive-show-output))
+
 (defun drive-factorial ()
   "A breakpoint with a condition, a stop, two values, a step and the end."
   (drive-start "examples/factorial.pl0")
-  (forward-line 8)
-  (dap-breakpoint-toggle)
-  (cl-letf (((symbol-function 'read-string) (lambda (&rest _) "k = 8")))
-    (dap-breakpoint-condition buffer-file-name (dap--get-breakpoint-at-point)))
+  (drive-breakpoint 9 "dap-breakpoint-condition" "k = 8")
   (drive-debug)
   (drive-show-stop)
   (drive-evaluate "k * (k - 1)")
   (drive-evaluate "k +")
   (dap-next (dap--cur-session))
   (drive-show-stop)
+  (drive-to-the-end))
+
+(defun drive-back ()
+  "A log point and a breakpoint, a step back, back to the beginning, and the program's end."
+  (drive-start "examples/factorial.pl0")
+  (drive-breakpoint 9 "dap-breakpoint-log-message" "k is {k}, n {n}")
+  (drive-breakpoint 10 "dap-breakpoint-condition" "k = 8")
+  (drive-debug)
+  (drive-show-stop)
+  (drive-show-output)
+  (call-interactively #'pl0-dap-step-back)
+  (drive-show-stop)
+  (call-interactively #'pl0-dap-reverse-continue)
+  (drive-show-stop)
   (dap-continue (dap--cur-session) 1)
-  (drive-wait "the end" (not (dap--session-running (dap--cur-session))))
-  (with-current-buffer (dap--debug-session-output-buffer (dap--cur-session))
-    (drive-show "output %s" (string-trim (buffer-string)))))
+  (drive-show-stop)
+  (drive-go-to-line 10)
+  (dap-breakpoint-toggle)
+  (drive-to-the-end))
 
 (defun drive-rest (seconds)
   "Let SECONDS pass."
@@ -132,8 +169,51 @@
   (drive-rest 3)
   (drive-show-process "3 seconds after disconnect"))
 
+(defun drive-open-frames ()
+  "Open the nodes of the view of sessions: the session, its thread, and then the frames are there."
+  (dotimes (_ 3)
+    (lsp-treemacs-render (dap-ui--sessions-tree) " Debug Sessions " t dap-ui--sessions-buffer)
+    (drive-rest 0.5)))
+
+(defun drive-show-views ()
+  "Show the program, its variables, what was logged, and the frames."
+  (dap-ui-locals)
+  (drive-open-frames)
+  (let ((program (get-file-buffer (expand-file-name "examples/factorial.pl0" drive-folder)))
+        (ignore-window-parameters t))
+    (delete-other-windows)
+    (switch-to-buffer program)
+    (let* ((below (split-window nil 22 'below))
+           (beside (split-window nil 92 'right))
+           (corner (split-window below 48 'right)))
+      (set-window-buffer beside dap-ui--locals-buffer)
+      (set-window-buffer below (dap--debug-session-output-buffer (dap--cur-session)))
+      (set-window-buffer corner dap-ui--sessions-buffer))))
+
+(defun drive-picture ()
+  "A stop as a user sees it: a log point has spoken, and the newest of four frames is selected."
+  (menu-bar-mode -1)
+  (setq frame-background-mode 'light
+        inhibit-startup-screen t
+        native-comp-async-report-warnings-errors nil)
+  (frame-set-background-mode nil)
+  (dap-ui-mode 1)
+  (drive-start "examples/factorial.pl0")
+  (drive-breakpoint 9 "dap-breakpoint-log-message" "k is {k}, n {n}")
+  (drive-breakpoint 10 "dap-breakpoint-condition" "k = 8")
+  (drive-debug)
+  (drive-wait "a stop" (drive-frame))
+  (drive-show-views)
+  (drive-rest 1)
+  (message nil)
+  (redisplay t)
+  (write-region "" nil (getenv "DRIVE_SHOWN") nil 'silent))
+
 (pcase drive-session
+  ("picture" (drive-picture))
   ("factorial" (drive-factorial))
+  ("back" (drive-back))
   ("endless" (drive-endless))
   (_ (drive-show "no session %s" drive-session) (kill-emacs 4)))
-(kill-emacs 0)
+(when noninteractive
+  (kill-emacs 0))

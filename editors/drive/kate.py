@@ -2,21 +2,25 @@
 """Kate debugs examples/factorial.pl0 or demo/endless.pl0 on a display of its own: keys are pressed for it, and what it shows isn't
 looked at.
 
-usage: kate.py SESSION COMMAND..
+usage: kate.py SESSION PICTURE COMMAND..
 
 SESSION is factorial or endless. COMMAND starts the adapter, or the proxy before it. Ends with status 0 once all keys are pressed;
-the session is in the proxy's transcript. Needs kate (22.12), Xvfb and xdotool. Kate's settings are in a folder that is removed
+the session is in the proxy's transcript. PICTURE gets a picture of the last stop at a breakpoint of factorial. Needs kate (22.12),
+Xvfb and xdotool; the icons are those of breeze-icon-theme, where it is installed. Kate's settings are in a folder that is removed
 afterwards.
 """
 import json
 import os
 import subprocess
 import sys
-import tempfile
 import time
+
+from screen import Screen
 
 TOP = os.path.realpath(os.path.join(os.path.dirname(__file__), "..", ".."))
 START, REST = 60, 1.5  # seconds that Kate gets at most to start, and after each key
+WIDTH, HEIGHT = 1200, 740
+HIGHLIGHTING = ("org.kde.syntax-highlighting", "syntax", "pl0.xml")
 ADAPTER = float(os.environ.get("DRIVE_SECONDS", "2"))  # seconds that the adapter gets to start
 SESSION = """[Kate Plugins]
 kategdbplugin=true
@@ -37,14 +41,15 @@ def keys(*names: str) -> None:
     time.sleep(REST)
 
 
-def focus() -> None:
-    """Waits for Kate's window, and lets it have the keys."""
-    search = ["xdotool", "search", "--onlyvisible", "--class", "kate", "windowfocus"]
+def focus(screen: Screen) -> None:
+    """Waits for Kate's window, lets it have the keys, and makes it as large as the display."""
+    window = ("search", "--onlyvisible", "--class", "kate")
     until = time.monotonic() + START
-    while subprocess.run(search, stderr=subprocess.DEVNULL).returncode:
+    while not screen.do(*window, "windowfocus"):
         if time.monotonic() > until:
             sys.exit("Kate has no window")
         time.sleep(1)
+    screen.do(*window, "windowmove", "0", "0", "windowsize", str(WIDTH), str(HEIGHT))
     time.sleep(2 * REST)
 
 
@@ -70,16 +75,29 @@ def settings(home: str, program: str, configuration: str, command: list[str]) ->
     write(os.path.join(home, ".config", "kate", "gdbplugin", "dap.json"), json.dumps(adapters))
     target = {"debuggerKey": "pl0dap", "debuggerProfile": configuration, "target": "PL/0", "variables": {"file": program}}
     write(os.path.join(home, ".local", "share", "kate", "sessions", "pl0.katesession"), SESSION % json.dumps(target))
+    with open(os.path.join(TOP, "editors", "kate", "pl0.xml"), encoding="utf-8") as file:
+        write(os.path.join(home, ".local", "share", *HIGHLIGHTING), file.read())
 
 
-def factorial() -> None:
-    """A breakpoint, two stops, a value, a step and the end."""
-    focus()
+def show_locals(screen: Screen) -> None:
+    """Opens the view of variables and frames, and makes it so wide that the frames' lines can be read."""
+    action("Show Locals and Stack")
+    screen.do("mousemove", str(WIDTH - 242), "300", "mousedown", "1", "mousemove", str(WIDTH - 460), "300", "mouseup", "1")
+    time.sleep(REST)
+
+
+def factorial(screen: Screen, picture: str) -> None:
+    """A breakpoint, four stops, variables and frames, a value, a step and the end."""
+    focus(screen)
     keys("ctrl+F7")
     time.sleep(ADAPTER)
     action("Toggle Breakpoint")
     action("Continue")
     action("Continue")
+    show_locals(screen)
+    action("Continue")
+    action("Continue")
+    screen.take(picture)
     keys("Home", "shift+Right")
     action("Print Value")
     action("Step Over")
@@ -89,9 +107,9 @@ def factorial() -> None:
     keys("ctrl+q")
 
 
-def endless() -> None:
+def endless(screen: Screen, _picture: str) -> None:
     """Two pauses in a loop without an end, and a stop at the user's wish, which is a pause where the program runs."""
-    focus()
+    focus(screen)
     keys("ctrl+F7")
     time.sleep(ADAPTER)
     action("Continue")
@@ -111,21 +129,16 @@ SESSIONS = {
 def main() -> int:
     place, line, configuration, debug = SESSIONS[sys.argv[1]]
     program = os.path.join(TOP, place)
-    with tempfile.TemporaryDirectory() as home:
-        settings(home, program, configuration, sys.argv[2:])
-        display = ":%d" % (os.getpid() % 10000 + 100)
-        screen = subprocess.Popen(["Xvfb", display, "-screen", "0", "1200x800x24"], stderr=subprocess.DEVNULL)
-        os.environ.update(HOME=home, DISPLAY=display, XDG_RUNTIME_DIR=home)
-        time.sleep(1)
+    with Screen(WIDTH, HEIGHT) as screen:
+        settings(screen.folder.name, program, configuration, sys.argv[3:])
+        os.environ.update(screen.settings)
         kate = subprocess.Popen(["kate", "-s", "pl0", "-l", line, program], stderr=subprocess.DEVNULL)
         try:
-            debug()
+            debug(screen, sys.argv[2])
             kate.wait(timeout=30)
         finally:
             kate.terminate()
-            screen.terminate()
             kate.wait()
-            screen.wait()
     return 0
 
 

@@ -50,6 +50,26 @@
 ;; A member that is nil is sent as null, which isn't a truth value: where a program isn't to stop, leave :stopOnEntry out.
 (dap-register-debug-template "PL/0, stop at the first step" (list :type "pl0" :request "launch" :stopOnEntry t))
 
+;; The views of Debian's dap-mode 0.7 read this variable, which its treemacs doesn't have.
+(defvar treemacs-text-scale nil)
+
+;; What a log point says is output of the category console, which dap-mode leaves out.
+(when dap-output-buffer-filter
+  (add-to-list 'dap-output-buffer-filter "console"))
+
+;; dap-mode has no commands for going back.
+;;;###autoload
+(defun pl0-dap-step-back (session)
+  "Go back by a step in SESSION."
+  (interactive (list (dap--cur-session-or-die)))
+  (dap--step "stepBack" session))
+
+;;;###autoload
+(defun pl0-dap-reverse-continue (session)
+  "Go back in SESSION to the last place where a breakpoint would have stopped the program, or to its beginning."
+  (interactive (list (dap--cur-session-or-die)))
+  (dap--step "reverseContinue" session))
+
 ;; The adapter's process ends at the end of its input, which dap-mode leaves open after `disconnect'.
 (defun pl0-dap-close-input (message _callback session)
   "Close the adapter's input if MESSAGE, which was sent in SESSION, is `disconnect'."

@@ -4,11 +4,10 @@ vim.filetype.add({ extension = { pl0 = "pl0" } })
 
 local dap = require("dap")
 
--- pl0dap-from-one is editors/from_one.py: nvim-dap counts its requests from 0, and the adapter passes over a request 0.
+-- nvim-dap numbers its requests from 0, and pl0dap passes over a request 0.
 dap.adapters.pl0 = {
   type = "executable",
-  command = "pl0dap-from-one",
-  args = { "pl0dap" },
+  command = "pl0dap_from_zero",
 }
 
 dap.configurations.pl0 = {

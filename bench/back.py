@@ -1,0 +1,151 @@
+#!/usr/bin/env python3
+"""Times going back and log points, beside gdb's `record full` on the same loop in C.
+
+usage: back.py PROGRAM
+
+A loop of 50,000,000 turns runs to a stop 100,000,002 steps away; from there one step is taken back again and again, and
+then the run is reversed to its start, where nothing else is due. Another loop logs its variable at each turn. The loop in C,
+compiled without optimization, is recorded for a few thousand turns, since recording is slow and takes memory for each
+instruction; then gdb steps back. Times are from before a request is written to after the last message that it causes. It needs
+gdb, with Python, and clang.
+"""
+import json
+import os
+import statistics
+import subprocess
+import sys
+import tempfile
+import time
+
+import session
+
+TURNS = 50_000_000
+BACK = 20
+LOGS = 100_000
+RECORDED = (1_000, 4_000, 16_000)
+
+LOOP = """var x;
+begin
+  while x < {turns} do
+    x := x + 1;
+  ! x
+end.
+"""
+STOP_LINE = 5
+LOG_LINE = 4
+
+C_LOOP = """volatile long x;
+int main(void) {
+  while (x < {turns})
+    x = x + 1;
+  return 0;
+}
+"""
+
+IN_GDB = """import gdb, resource, time
+def kibibytes():
+    return resource.getrusage(resource.RUSAGE_SELF).ru_maxrss
+def timed(command):
+    begin = time.perf_counter()
+    gdb.execute(command, to_string=True)
+    return time.perf_counter() - begin
+gdb.execute("set confirm off")
+gdb.execute("set pagination off")
+gdb.execute("set record full insn-number-max unlimited")
+gdb.execute("tbreak main", to_string=True)
+gdb.execute("run", to_string=True)
+gdb.execute("record full")
+before = kibibytes()
+gdb.execute("tbreak 5", to_string=True)
+run = timed("continue")
+kept = kibibytes() - before
+steps = [timed("reverse-step") for _ in range(5)]
+log = gdb.execute("info record", to_string=True)
+instructions = next(int(line.split()[2]) for line in log.splitlines() if line.startswith("Log contains"))
+print("RECORD", run, instructions, kept, min(steps))
+"""
+
+
+def stopped(client: session.Client) -> None:
+    """Waits for the next stop."""
+    while json.loads(client.receive()).get("event") != "stopped":
+        pass
+
+
+def seconds(client: session.Client, command: str, arguments: dict) -> float:
+    """From a request to the stop that it leads to."""
+    frame = client.framed(command, arguments)
+    begin = time.perf_counter()
+    client.send(frame)
+    stopped(client)
+    return time.perf_counter() - begin
+
+
+def client_of(program: str, folder: str, turns: int, breakpoint: dict) -> session.Client:
+    """A session of the loop with one breakpoint, before it runs."""
+    with open(os.path.join(folder, "loop.pl0"), "w", encoding="ascii") as file:
+        file.write(LOOP.format(turns=turns))
+    client = session.Client([program], folder)
+    client.launch("loop.pl0", False)
+    client.ask("setBreakpoints", {"source": {"path": "loop.pl0"}, "breakpoints": [breakpoint]})
+    return client
+
+
+def go_back(program: str, folder: str) -> None:
+    client = client_of(program, folder, TURNS, {"line": STOP_LINE})
+    thread = {"threadId": 1}
+    forward = seconds(client, "configurationDone", {})
+    memory = client.kibibytes("VmHWM")
+    steps = [seconds(client, "stepBack", thread) for _ in range(BACK)]
+    back = seconds(client, "reverseContinue", thread)
+    again = seconds(client, "continue", thread)
+    client.end()
+    print(f"{2 * TURNS + 2:,} steps forward: {forward:.3f} s, {memory:,} KiB at most")
+    print(f"`stepBack` from there, {BACK} times: {min(steps) * 1e6:,.0f} us at best, "
+          f"{statistics.median(steps) * 1e6:,.0f} us in the median, {max(steps) * 1e6:,.0f} us at worst")
+    print(f"`reverseContinue` to the start: {back:.3f} s, {back / forward:.2f} of the way forward")
+    print(f"forward again, over checkpoints that are there: {again:.3f} s")
+
+
+def log(program: str, folder: str) -> None:
+    client = client_of(program, folder, LOGS, {"line": LOG_LINE, "logMessage": "x is {x}"})
+    begin = time.perf_counter()
+    client.send(client.framed("configurationDone", {}))
+    logged = 0
+    while (message := json.loads(client.receive())).get("event") != "exited":
+        logged += message.get("body", {}).get("output", "").count("x is ")
+    taken = time.perf_counter() - begin
+    client.end()
+    print(f"{logged:,} logs in {taken:.3f} s: {logged / taken:,.0f} a second")
+
+
+def record(folder: str, turns: int) -> None:
+    source, binary = os.path.join(folder, "loop.c"), os.path.join(folder, "loop")
+    with open(source, "w", encoding="ascii") as file:
+        file.write(C_LOOP.replace("{turns}", str(turns)))
+    subprocess.run(["clang", "-O0", "-g", source, "-o", binary], check=True)
+    script = os.path.join(folder, "record.py")
+    with open(script, "w", encoding="ascii") as file:
+        file.write(IN_GDB)
+    ran = subprocess.run(["gdb", "-nx", "-batch", "-x", script, binary], capture_output=True, text=True, check=False)
+    line = next((line for line in ran.stdout.splitlines() if line.startswith("RECORD")), None)
+    if line is None:
+        sys.exit(f"gdb recorded nothing:\n{ran.stdout}{ran.stderr}")
+    run, instructions, kept, step = map(float, line.split()[1:])
+    print(f"gdb records {turns:,} turns: {instructions:,.0f} instructions in {run:.3f} s, {turns / run:,.0f} turns a second, "
+          f"{kept * 1024 / instructions:,.0f} bytes an instruction; `reverse-step` {step * 1e3:.2f} ms at best")
+
+
+def main() -> None:
+    if len(sys.argv) != 2:
+        sys.exit(__doc__)
+    program = os.path.abspath(sys.argv[1])
+    with tempfile.TemporaryDirectory() as folder:
+        go_back(program, folder)
+        log(program, folder)
+        for turns in RECORDED:
+            record(folder, turns)
+
+
+if __name__ == "__main__":
+    main()

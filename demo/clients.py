@@ -1,0 +1,209 @@
+#!/usr/bin/env python3
+"""Shows what the adapter does with clients that read, write and leave as they like.
+
+usage: clients.py PROGRAM [SECONDS]
+
+Each client has a process of its own; all are there at the same time. One stops reading while a program logs at each turn of a
+loop, and reads again after 1.5 times SECONDS, 3 where none are given: no message may be missing. Two go away while a program
+runs, one of which takes messages until then: the process has to be gone. One sends a request a byte a second: it has to be
+answered. Two keep the input open after `disconnect`, at a stop and in a run: half of the threads have to stay, take no processor
+time, and be gone when the input ends. Prints what was seen and measured of each, and ends with status 1 where something is wrong.
+"""
+import concurrent.futures
+import json
+import os
+import select
+import sys
+import tempfile
+import time
+from collections.abc import Callable
+
+from playing import Client, frame, put_files
+from soak import LOOP, MOST_MEMORY, THREAD, THREADS, Wrong, open_files, threads
+
+LOG_POINT = '{"source":{"path":"loop.pl0"},"breakpoints":[{"line":3,"logMessage":"x is {x}"}]}'
+A_BYTE = 1.0  # seconds between two bytes
+MOST_SECONDS = 10.0  # for what has to come or to end by itself
+TICKS = os.sysconf("SC_CLK_TCK")
+
+
+class Watched:
+    """A client, and the process that it speaks with."""
+
+    def __init__(self, program: str, folder: str):
+        self.client = Client(program, folder)
+        self.adapter = self.client.adapter
+        self.process = self.adapter.child
+        self.messages: list[dict] = []
+
+    def wait_for(self, name: str) -> dict:
+        """The next message of this name; the ones before it are kept."""
+        while content := self.client.receive():
+            self.messages.append(json.loads(content))
+            if self.messages[-1].get("event", self.messages[-1].get("command")) == name:
+                return self.messages[-1]
+        raise Wrong(f"no {name} comes")
+
+    def asked(self, command: str, arguments: str = "") -> dict:
+        self.client.ask([(command, arguments)])
+        return self.wait_for(command)
+
+    def run_loop(self, log_point: str = "") -> None:
+        """Lets the loop run, and ask for this log point."""
+        self.asked("initialize")
+        self.asked("launch", '{"program":"loop.pl0"}')
+        if log_point:
+            self.asked("setBreakpoints", log_point)
+        self.asked("configurationDone")
+
+    def memory(self) -> int:
+        """The most memory that the process had so far, in KiB."""
+        with open(f"/proc/{self.process.pid}/status", encoding="ascii") as file:
+            return int(MOST_MEMORY.search(file.read())[1])
+
+    def processor_seconds(self) -> float:
+        with open(f"/proc/{self.process.pid}/stat", encoding="ascii") as file:
+            fields = file.read().rsplit(")", 1)[1].split()
+        return (int(fields[11]) + int(fields[12])) / TICKS
+
+    def must_rest(self, seconds: float) -> str:
+        """Tells how much processor time the process takes in that time, which must be next to none."""
+        before = self.processor_seconds()
+        time.sleep(seconds)
+        taken = self.processor_seconds() - before
+        if taken > seconds / 20:
+            raise Wrong(f"it takes {taken:.2f} s of the processor in {seconds:.0f} s")
+        return f"{taken:.2f} s of the processor in {seconds:.0f} s"
+
+    def must_end(self, statuses: dict[int, str]) -> str:
+        """Waits for the end of the process, which must be with one of these statuses, and last lines on standard error."""
+        start = time.monotonic()
+        status = self.process.wait(MOST_SECONDS)
+        taken = time.monotonic() - start
+        self.adapter.notes.seek(0)
+        last = self.adapter.notes.read().decode().splitlines()[-1:]
+        if "".join(last) != statuses.get(status):
+            raise Wrong(f"status {status}, and {last}")
+        return f"gone {taken * 1000:.0f} ms later, with status {status}"
+
+    def close(self) -> None:
+        self.process.stdin.close()
+        self.process.stdout.close()
+
+
+def reads_again(one: Watched, seconds: float) -> str:
+    """Doesn't read for some time, in which it asks for a pause, and then reads up to the stop."""
+    one.run_loop(LOG_POINT)
+    time.sleep(seconds / 2)
+    one.client.ask([("pause", THREAD)])
+    memory = one.memory()
+    rest = one.must_rest(seconds)
+    if threads(one.process.pid) != THREADS or one.memory() > memory + 256:
+        raise Wrong(f"{threads(one.process.pid)} threads, {memory} KiB and then {one.memory()}")
+    one.wait_for("stopped")
+    one.asked("disconnect")
+    numbers = [message["seq"] for message in one.messages]
+    logs = [message["body"]["output"] for message in one.messages if message.get("event") == "output"]
+    if numbers != list(range(1, len(numbers) + 1)) or logs != [f"x is {turn % 2}\n" for turn in range(len(logs))]:
+        raise Wrong("messages are missing")
+    one.process.stdin.close()
+    return f"waits with {memory} KiB, {rest}; {len(logs)} logs in their order, none missing; {one.must_end({0: ''})}"
+
+
+def goes_away(one: Watched, _seconds: float) -> str:
+    """Closes both its ends while the loop runs."""
+    one.run_loop()
+    one.close()
+    return one.must_end({0: ""})
+
+
+def goes_away_from_logs(one: Watched, _seconds: float) -> str:
+    """Closes both its ends while the loop logs; a write may fail before the end of the input is seen."""
+    one.run_loop(LOG_POINT)
+    one.wait_for("output")
+    one.close()
+    return one.must_end({0: "", 1: "pl0dap: write failed"})
+
+
+def sends_bytes(one: Watched, _seconds: float) -> str:
+    """Sends a request a byte a second, while the program stands."""
+    one.run_loop()
+    one.asked("pause", THREAD)
+    one.wait_for("stopped")
+    request, before = frame(b'{"seq":9,"type":"request","command":"threads"}'), one.processor_seconds()
+    for byte in request:
+        if select.select([one.process.stdout], [], [], 0)[0]:
+            raise Wrong("something comes before the request is whole")
+        one.adapter.write_now(bytes([byte]))
+        time.sleep(A_BYTE)
+    if one.wait_for("threads")["request_seq"] != 9:
+        raise Wrong("another request is answered")
+    taken = one.processor_seconds() - before
+    one.process.stdin.close()
+    return f"{len(request)} bytes, and the answer; {taken:.2f} s of the processor; {one.must_end({0: ''})}"
+
+
+def keeps_input_open(one: Watched, seconds: float) -> str:
+    """Keeps the input open after `disconnect`."""
+    one.asked("disconnect")
+    time.sleep(0.5)
+    left = threads(one.process.pid)
+    rest = one.must_rest(seconds)
+    if left != THREADS // 2 or one.process.poll() is not None:
+        raise Wrong(f"{left} threads, status {one.process.poll()}")
+    one.process.stdin.close()
+    return f"{left} threads stay, {rest}; the input ends: {one.must_end({0: ''})}"
+
+
+def keeps_input_open_at_a_stop(one: Watched, seconds: float) -> str:
+    one.run_loop()
+    one.asked("pause", THREAD)
+    one.wait_for("stopped")
+    return keeps_input_open(one, seconds)
+
+
+def keeps_input_open_in_a_run(one: Watched, seconds: float) -> str:
+    one.run_loop()
+    return keeps_input_open(one, seconds)
+
+
+CLIENTS: dict[str, Callable[[Watched, float], str]] = {
+    "stops reading, and reads again": reads_again,
+    "goes away in a run": goes_away,
+    "goes away in a run that logs": goes_away_from_logs,
+    "sends a byte a second": sends_bytes,
+    "keeps the input open after a disconnect at a stop": keeps_input_open_at_a_stop,
+    "keeps the input open after a disconnect in a run": keeps_input_open_in_a_run,
+}
+
+
+def seen(client: Callable[[Watched, float], str], program: str, folder: str, seconds: float) -> tuple[bool, str]:
+    """Whether all went as it must, and what was seen."""
+    one = Watched(program, folder)
+    try:
+        return True, client(one, seconds)
+    except Exception as found:  # a process that doesn't end, or that is gone too early, is wrong as well
+        return False, f"WRONG: {found!r}"
+    finally:
+        one.close()
+        one.process.kill()
+        one.process.wait()
+        one.adapter.notes.close()
+
+
+def main() -> int:
+    program, seconds = os.path.abspath(sys.argv[1]), float(sys.argv[2]) if len(sys.argv) > 2 else 3.0
+    before = open_files()
+    with tempfile.TemporaryDirectory() as folder, concurrent.futures.ThreadPoolExecutor(len(CLIENTS)) as pool:
+        put_files(folder, {"loop.pl0": LOOP})
+        waiting = {name: pool.submit(seen, client, program, folder, seconds) for name, client in CLIENTS.items()}
+        good = True
+        for name, one in waiting.items():
+            is_right, what = one.result()
+            good = good and is_right
+            print(f"{name}: {what}", flush=True)
+    return 0 if good and open_files() == before else 1
+
+
+if __name__ == "__main__":
+    sys.exit(main())

@@ -1,0 +1,121 @@
+#!/usr/bin/env python3
+"""CodeLite debugs examples/factorial.pl0 on a display of its own: keys and the mouse are pressed for it, and what it shows isn't
+looked at.
+
+usage: codelite.py COMMAND..
+
+COMMAND starts the adapter, or the proxy before it. Ends with status 0 once all is pressed; the session is in the proxy's transcript.
+Needs codelite (17), Xvfb and xdotool. CodeLite's settings are in a folder that is removed afterwards. It has no window manager, and
+so the window's place, and that of all in it, is always the same.
+"""
+import json
+import os
+import shlex
+import subprocess
+import sys
+import time
+
+from screen import Screen
+
+TOP = os.path.realpath(os.path.join(os.path.dirname(__file__), "..", ".."))
+LISTEN = os.path.join(TOP, "editors", "codelite", "listen.py")
+SETTINGS = os.path.join(TOP, "editors", "codelite", "debug-adapter-client.conf")
+PROGRAM = os.path.join(TOP, "examples", "factorial.pl0")
+START, REST = 60, 2.0  # seconds that CodeLite gets at most to start, and after each press
+LONG = float(os.environ.get("DRIVE_SECONDS", "8"))  # seconds that the adapter gets to start
+# What CodeLite has debugged before: it takes the program only from the list of these, and no path that was typed just now.
+DEBUGGED = """<?xml version="1.0" encoding="utf-8"?>
+<CodeLite Version="2.0.2">
+  <ArchiveObject Name="QuickDebugDlg">
+    <wxString Value="" Name="m_arguments"/>
+    <wxArrayString Name="m_exeFilepaths">
+      <wxString Value="%s"/>
+    </wxArrayString>
+    <int Value="1" Name="m_selectedDbg"/>
+    <wxArrayString Name="m_startCmds"/>
+    <wxArrayString Name="m_wds">
+      <wxString Value="%s"/>
+    </wxArrayString>
+    <wxString Value="" Name="m_alternateDebuggerExec"/>
+  </ArchiveObject>
+</CodeLite>
+"""
+LINE_9, MENU = (600, 339), (483, 92)
+START_OR_CONTINUE, NEXT, TOGGLE, QUICK_DEBUG = 117, 318, 471, 572  # how far down the menu Debugger
+OK = (644, 583)  # of the window Quick Debug, in which adapter and program are those of the settings
+MAIN, FACTORIAL = (634, 461), (634, 440)  # open the scopes of the newest frame, the lower one first
+
+
+def click(screen: Screen, place: tuple[int, int]) -> None:
+    screen.do("mousemove", str(place[0]), str(place[1]), "click", "1")
+    time.sleep(REST)
+
+
+def choose(screen: Screen, down: int) -> None:
+    """Chooses a line of the menu Debugger."""
+    click(screen, MENU)
+    click(screen, (MENU[0] + 20, down))
+
+
+def settings(home: str, command: list[str]) -> None:
+    """CodeLite's settings: the adapter as editors/codelite has it, but by this command; no wizard and no questions."""
+    with open(SETTINGS, encoding="utf-8") as file:
+        (adapter,) = json.load(file)
+    adapter["command"] = shlex.join([sys.executable, LISTEN, adapter["connection_string"].rpartition(":")[2], *command])
+    folder = os.path.join(home, ".codelite", "config")
+    os.makedirs(folder)
+    with open(os.path.join(folder, "codelite.xml"), "w", encoding="utf-8") as file:
+        file.write(DEBUGGED % (PROGRAM, TOP))
+    for name, text in {
+        "debug-adapter-client.conf": [adapter],
+        "plugins.conf": {"codelite-plugins": {"enabledPlugins": ["DebugAdapterClient"]}},
+        "codelite.conf": {"General": {"BootstrapCompleted": True, "ColoursAdjusted": True, "LexersVersion": 7}},
+    }.items():
+        with open(os.path.join(folder, name), "w", encoding="utf-8") as file:
+            json.dump(text, file)
+
+
+def wait_for_window(screen: Screen) -> None:
+    until = time.monotonic() + START
+    while not screen.do("search", "--onlyvisible", "--name", "factorial.pl0"):
+        if time.monotonic() > until:
+            sys.exit("CodeLite has no window")
+        time.sleep(1)
+    time.sleep(LONG)
+
+
+def debug(screen: Screen) -> None:
+    """A breakpoint, a stop, the variables of two scopes, the breakpoint taken away, a step, and the program's end."""
+    click(screen, LINE_9)
+    screen.do("key", "F9")
+    choose(screen, QUICK_DEBUG)
+    click(screen, OK)
+    time.sleep(LONG)
+    click(screen, MAIN)
+    click(screen, FACTORIAL)
+    choose(screen, TOGGLE)
+    choose(screen, NEXT)
+    choose(screen, START_OR_CONTINUE)
+    time.sleep(REST)
+
+
+def main() -> int:
+    with Screen(1200, 800) as screen:
+        settings(screen.folder.name, sys.argv[1:])
+        said = subprocess.DEVNULL
+        codelite = subprocess.Popen(["codelite", PROGRAM], env=screen.settings, stdout=said, stderr=said)
+        try:
+            wait_for_window(screen)
+            debug(screen)
+        finally:
+            codelite.terminate()
+            try:
+                codelite.wait(timeout=10)
+            except subprocess.TimeoutExpired:
+                codelite.kill()
+                codelite.wait()
+    return 0
+
+
+if __name__ == "__main__":
+    sys.exit(main())
