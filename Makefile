@@ -47,11 +47,12 @@ demo: $(PROGRAM)
 	python3 demo/session.py demo/factorial.session $(PROGRAM)
 	python3 demo/session.py demo/back.session $(PROGRAM)
 
-# Worked inputs, whole, a byte at a time and cut at many places, with what must come out; that the sessions of docs/PROTOCOL.md
+# Worked inputs, whole, a byte at a time and cut at many places, with what must come out; a session that is large in everything; that the sessions of docs/PROTOCOL.md
 # are the demo's; that the examples are those whose listings the gate compares; and that the programs whose stored runs the gate
 # compares have one `main`.
 rows: $(PROGRAM)
 	python3 demo/rows.py $(PROGRAM)
+	python3 demo/largest.py $(PROGRAM)
 	diff -r -x fault.pl0 -x procedures.pl0 examples crates/check_runs/data
 	diff <(sed '/^\/\//d' crates/pl0dap/src/main.rt) <(sed '/^\/\//d' crates/fault_runs/src/main.rt)
 	diff <(sed '/^\/\//d' crates/pl0dap/src/main.rt) <(sed '/^\/\//d' crates/argument_runs/src/main.rt)
