@@ -50,16 +50,17 @@ demo: $(PROGRAM)
 # Worked inputs, whole, a byte at a time and cut at many places, with what must come out; a session that is large in everything; that the sessions of docs/PROTOCOL.md
 # are the demo's; that the examples are those whose listings the gate compares; and that the programs whose stored runs the gate
 # compares have one `main`.
-rows: $(PROGRAM)
+rows: $(PROGRAM) $(FROM_ZERO)
 	python3 demo/rows.py $(PROGRAM)
+	python3 demo/rows.py $(FROM_ZERO)
 	python3 demo/largest.py $(PROGRAM)
 	diff -r -x fault.pl0 -x procedures.pl0 examples crates/check_runs/data
 	diff <(sed '/^\/\//d' crates/pl0dap/src/main.rt) <(sed '/^\/\//d' crates/fault_runs/src/main.rt)
 	diff <(sed '/^\/\//d' crates/pl0dap/src/main.rt) <(sed '/^\/\//d' crates/argument_runs/src/main.rt)
 
 # Hostile headers, contents, types, numbers, sizes, situations, cuts and ends, with what docs/PROTOCOL.md says of each.
-hostile: $(PROGRAM)
-	python3 demo/hostile.py $(PROGRAM)
+hostile: $(PROGRAM) $(FROM_ZERO)
+	python3 demo/hostile.py $(PROGRAM) $(FROM_ZERO)
 
 # 500 sessions with a loop without end, and what is left over of them; and clients that read, write and leave as they like.
 soak: $(PROGRAM)

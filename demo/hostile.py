@@ -1,7 +1,10 @@
 #!/usr/bin/env python3
 """Plays hostile input to the adapter, and compares what comes of it with what docs/PROTOCOL.md says.
 
-usage: hostile.py PROGRAM
+usage: hostile.py PROGRAM [FROM_ZERO]
+
+FROM_ZERO is `pl0dap_from_zero`, to which the cases are played as well. Only those of a `seq` differ there: 0 is a number like any
+other, and the largest is one less.
 
 Each case is played to a process of its own, which is first brought into a situation. What must come stands beside each case, as
 the page has it. Then the next request follows, `threads`, and after it `disconnect`: both have to be answered, but after a
@@ -180,9 +183,10 @@ CONTENTS = [
          [frame(b'{"\\u0073eq":10,"type":"reques\\u0074","command":"thre\\u0061ds"}')], ["ok threads/10"], HEARD),
 ]
 
+NO_SEQS = ("-1", "-0", "1.0", "1e1", '"10"', "null", "true", "[10]", 2**53, 10**400)
+
 TYPES = [
-    silent("a `seq` that is no number from 1 on", *(
-        content(seq, "threads") for seq in ("0", "-1", "-0", "1.0", "1e1", '"10"', "null", "true", "[10]", 2**53, 10**400))),
+    silent("a `seq` that is no number from 1 on", *(content(seq, "threads") for seq in ("0", *NO_SEQS))),
     silent("another type than `request`", b'{"seq":10,"command":"threads"}', *(
         b'{"seq":10,"type":%s,"command":"threads"}' % kind
         for kind in (b'"event"', b'"response"', b'"Request"', b"1", b"null"))),
@@ -395,20 +399,38 @@ def difference(program: str, case: Case) -> str | None:
     return found
 
 
-def main() -> int:
-    if len(sys.argv) != 2:
-        print(__doc__, file=sys.stderr)
-        return 4
-    program = os.path.abspath(sys.argv[1])
+# What a client that counts from 0 sees in place of the cases of these names.
+FROM_ZERO = {
+    "a `seq` that is no number from 1 on": Case(
+        "a `seq` that is no number from 0 on", READY, [request(seq, "threads") for seq in (0, *NO_SEQS)],
+        ["ok threads/0"], HEARD),
+    "the largest `seq`": Case(
+        "the largest `seq`", READY, [request(2**53 - 2, "threads"), request(2**53 - 1, "threads")],
+        [f"ok threads/{2**53 - 2}"], HEARD),
+}
+
+
+def differing(program: str, instead: dict[str, Case]) -> int:
+    """How many cases differ, of which some are played instead of those of these names. Prints them."""
     wrong = 0
     for topic, cases in CASES.items():
-        for case in cases:
+        for case in (instead.get(case.name, case) for case in cases):
             found = difference(program, case)
             wrong += found is not None
             if found is not None:
                 print(f"{topic}, {case.name}: {found}", flush=True)
     counts = ", ".join(f"{len(cases)} of {topic}" for topic, cases in CASES.items())
-    print(f"{sum(map(len, CASES.values()))} hostile cases ({counts}): {wrong} differ from docs/PROTOCOL.md")
+    name = os.path.basename(program)
+    print(f"{name}, {sum(map(len, CASES.values()))} hostile cases ({counts}): {wrong} differ from docs/PROTOCOL.md", flush=True)
+    return wrong
+
+
+def main() -> int:
+    if len(sys.argv) not in (2, 3):
+        print(__doc__, file=sys.stderr)
+        return 4
+    program, *from_zero = map(os.path.abspath, sys.argv[1:])
+    wrong = differing(program, {}) + sum(differing(other, FROM_ZERO) for other in from_zero)
     return 1 if wrong else 0
 
 
