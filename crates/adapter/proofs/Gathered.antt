@@ -22,8 +22,8 @@ use Rattle.dbg_runner.specs.Plain.{PlainOrder, PlainReport, Quit}
 use Rattle.dbg_runner.specs.Queues.{order_in, sent_in, handed_back_in, passed_in}
 use Rattle.dbg_runner.specs.Runner.{Act, Runner, Idle, Ended, Does, Leads}
 use Rattle.dbg_runner.specs.Runner as runner
-use Rattle.dap_wires.specs.declared.parcel.Parcel.{Parcel}
-use Rattle.dap_wires.specs.declared.parcel.Parcel.TheVariants as parcel
+use Rattle.dap_wires.specs.declared.writer_message.WriterMessage.{WriterMessage}
+use Rattle.dap_wires.specs.declared.writer_message.WriterMessage.TheVariants as message
 use Rattle.dap_wires.specs.declared.reading.ReadEnd.{ReadEnd}
 use Rattle.dap_wires.specs.declared.reading.ReadEnd.TheVariants as ends
 use Rattle.dap_wires.specs.declared.writing.WriteFailed.{WriteFailed}
@@ -52,21 +52,21 @@ module _ {A : Type 0} where
 
 -- ---- the writer
 
-ended_has : (taken more : List Parcel) → AreEnded taken → has_end (taken ++ more) ≡ true
+ended_has : (taken more : List WriterMessage) → AreEnded taken → has_end (taken ++ more) ≡ true
 ended_has [] more ended = absurd ended
-ended_has (parcel.Frame frame ∷ taken) more ended = ended_has taken more ended
-ended_has (parcel.End ∷ taken) more ended = refl
+ended_has (message.Frame frame ∷ taken) more ended = ended_has taken more ended
+ended_has (message.End ∷ taken) more ended = refl
 
 -- nothing was put after the end
-ended_whole : (taken more : List Parcel) → AreEnded taken → AreEnded (taken ++ more) → frames_in taken ≡ frames_in (taken ++ more)
+ended_whole : (taken more : List WriterMessage) → AreEnded taken → AreEnded (taken ++ more) → frames_in taken ≡ frames_in (taken ++ more)
 ended_whole [] more ended whole = absurd ended
-ended_whole (parcel.Frame frame ∷ taken) more ended whole = ap (λ l. frame.items ∷ l) (ended_whole taken more ended whole)
-ended_whole (parcel.End ∷ []) [] ended whole = refl
-ended_whole (parcel.End ∷ []) (p ∷ more) ended whole = absurd whole
-ended_whole (parcel.End ∷ p ∷ taken) more ended whole = absurd ended
+ended_whole (message.Frame frame ∷ taken) more ended whole = ap (λ l. frame.items ∷ l) (ended_whole taken more ended whole)
+ended_whole (message.End ∷ []) [] ended whole = refl
+ended_whole (message.End ∷ []) (p ∷ more) ended whole = absurd whole
+ended_whole (message.End ∷ p ∷ taken) more ended whole = absurd ended
 
 -- the frames that were put were written, or a beginning of them
-pub writes_frames : (wrote : Result (Unit {0}) WriteFailed) (taken put : List Parcel) (frames : List (List ℕ)) (old later : Output)
+pub writes_frames : (wrote : Result (Unit {0}) WriteFailed) (taken put : List WriterMessage) (frames : List (List ℕ)) (old later : Output)
     → Begins taken put → frames_in put ≡ frames → (has_end put ≡ false) ⊎ AreEnded put → IsWrittenUntil wrote taken old later → Writes wrote (concat frames) old later
 writes_frames (Ok done) taken put frames old later begins frames_are (inl without) written =
     absurd (true≢false (sym (ended_has taken begins.0 written.0) ∙ (ap has_end begins.1 ∙ without)))
@@ -82,7 +82,7 @@ writes_frames (Err failed) taken put frames old later begins frames_are ended wr
     )
 
 -- without the end the writer ended by a failure
-write_fails : (wrote : Result (Unit {0}) WriteFailed) (taken put : List Parcel) (old later : Output) → Begins taken put → has_end put ≡ false → IsWrittenUntil wrote taken old later → is_err wrote ≡ true
+write_fails : (wrote : Result (Unit {0}) WriteFailed) (taken put : List WriterMessage) (old later : Output) → Begins taken put → has_end put ≡ false → IsWrittenUntil wrote taken old later → is_err wrote ≡ true
 write_fails (Ok done) taken put old later begins without written =
     absurd (true≢false (sym (ended_has taken begins.0 written.0) ∙ (ap has_end begins.1 ∙ without)))
 write_fails (Err failed) taken put old later begins without written = refl
@@ -249,7 +249,7 @@ takes_orders (Err fault) events given loads sent acts drives leads begins = begi
 
 -- Nothing was taken, put or pushed when all began.
 pub gathers : (wrote : Result (Unit {0}) WriteFailed) (result : Result Closed SessionFault) (loads later_loads : List Load) (passed later_passed : List (ℕ × ℕ)) (old later : Streams)
-    (given : List Incoming) (put : List Parcel) (pushed : Ordered) (end : ReadEnd) (client : List Incoming) (acts : List Act) (reports : List PlainReport) (orders : List PlainOrder) (taken : List Parcel)
+    (given : List Incoming) (put : List WriterMessage) (pushed : Ordered) (end : ReadEnd) (client : List Incoming) (acts : List Act) (reports : List PlainReport) (orders : List PlainOrder) (taken : List WriterMessage)
     → Drove result [] given loads later_loads nothing_sent put pushed
     → IsReadUntil end client (input_of old) (input_of later) → Begins (from_client given) client
     → Leads Idle acts Ended → orders ≡ flat_map order_in acts → reports ≡ flat_map sent_in acts → Begins orders pushed.orders → (pushed.fulls ≢ 0 → FourWereInside pushed.orders) → Begins (reports_among given) reports

@@ -6,17 +6,17 @@ use Rattle.dap_history.specs.Events.{Incoming}
 use Rattle.dap_history.specs.Interleaving.{Load}
 use Rattle.dap_session.specs.Ports.{Ports, Ordered}
 use Rattle.dap_session.specs.Serving.{Driven}
-use Rattle.dap_wires.specs.declared.parcel.Parcel.{Parcel}
+use Rattle.dap_wires.specs.declared.writer_message.WriterMessage.{WriterMessage}
 use Rattle.dap_wires.specs.Parcels.{frames_in, has_end, AreEnded}
 
--- A session was driven over its ends: these parcels were put, and these orders pushed. The end was put after the frames, or
+-- A session was driven over its ends: these messages were put, and these orders pushed. The end was put after the frames, or
 -- not at all, and where a frame was refused it was not.
-pub record Drove (result : Result Closed SessionFault) (given later_given : List Incoming) (loads later_loads : List Load) (old : Ports) (parcels : List Parcel) (pushed : Ordered) : Type 0 where
+pub record Drove (result : Result Closed SessionFault) (given later_given : List Incoming) (loads later_loads : List Load) (old : Ports) (messages : List WriterMessage) (pushed : Ordered) : Type 0 where
   pub later : Ports
   pub driven : Driven result given later_given loads later_loads old later
-  pub frames_are : frames_in parcels ≡ later.frames
+  pub frames_are : frames_in messages ≡ later.frames
   pub orders_are : pushed.orders ≡ later.orders
   pub fulls_are : pushed.fulls ≡ later.orders_full
   pub never_gone : later.runner_gone ≡ 0
-  pub ended : (has_end parcels ≡ false) ⊎ AreEnded parcels
-  pub refused : later.refused ≢ [] → has_end parcels ≡ false
+  pub ended : (has_end messages ≡ false) ⊎ AreEnded messages
+  pub refused : later.refused ≢ [] → has_end messages ≡ false

@@ -5,13 +5,13 @@ ghost use Rattle.std.specs.List.{flat_map};
 ghost use Rattle.dbg_runner.specs.Queues.{passed_in};
 
 use dbg_plan::Debuggee;
-use dbg_runner::{Gate, History, Order, Ports, Report};
+use dbg_runner::{Gate, GhostList, Order, Ports, Report};
 use std::snapshot::Snapshot;
 
 /// Lets every slice pass at once.
 #[derive(Drop)]
 pub struct OpenGate {
-    passed: History<(u64, u64)>,
+    passed: GhostList<(u64, u64)>,
 }
 
 impl OpenGate {
@@ -19,7 +19,7 @@ impl OpenGate {
         ensures { result.passed.entries ≡ [] }
     {
         OpenGate {
-            passed: History::new(),
+            passed: GhostList::new(),
         }
     }
 }

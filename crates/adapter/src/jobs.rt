@@ -7,11 +7,11 @@ ghost use Rattle.dap_session.specs.Ports.{ports};
 ghost use Rattle.dap_session.specs.Serving.{Driven};
 ghost use Rattle.dbg_runner.specs.Runner.{Act, Idle, Ended, Leads};
 ghost use Rattle.dbg_runner.specs.Queues.{order_in, sent_in, passed_in};
-ghost use Rattle.dap_wires.specs.declared.parcel.Parcel.{Parcel};
-ghost use Rattle.dap_wires.specs.Ends.{receipt_log, receipt_home};
-ghost use Rattle.dap_wires.specs.Inbox.{client_events, client_home, sent_reports, refused_reports, report_home, taken_events, received, left_home, event_home};
-ghost use Rattle.dap_wires.specs.Outbox.{put_frames, frame_home, unused_home, parcels_put, ended_home, ended_unused_home, parcels_taken, parcels_received, parcel_home};
-ghost use Rattle.dap_wires.specs.Orders.{pushed_orders, push_home, taken_orders, pop_home};
+ghost use Rattle.dap_wires.specs.declared.writer_message.WriterMessage.{WriterMessage};
+ghost use Rattle.dap_wires.specs.Ends.{receive_log, receive_log_queue};
+ghost use Rattle.dap_wires.specs.Inbox.{client_events, client_queue, sent_reports, refused_reports, report_queue, taken_events, received, left_queue, event_queue};
+ghost use Rattle.dap_wires.specs.Outbox.{put_frames, frame_queue, unused_queue, messages_put, ended_queue, ended_unused_queue, messages_taken, messages_received, writer_queue};
+ghost use Rattle.dap_wires.specs.Orders.{pushed_orders, push_queue, taken_orders, pop_queue};
 ghost use Rattle.dap_wires.specs.Reading.{IsReadUntil};
 ghost use Rattle.byte_streams.specs.Streams.{supply, output as output_at};
 ghost use Rattle.dap_wires.specs.Writing.{IsWrittenUntil};
@@ -22,8 +22,8 @@ use crate::tasks::{LastTask, Task};
 use byte_streams::{Sink, Source};
 use dap_session::{Closed, Loader, Order, Orders, SessionFault, drive};
 use dap_wires::{
-    ClientSender, EndedSender, EventReceiver, FrameReceiver, FrameSender, InboxReceipt,
-    OrderReceiver, OrderSender, Parcel, ReadEnd, Receipt, ReportSender, WriteFailed, read_loop,
+    ClientSender, EndedSender, EventReceiver, FrameReceiver, FrameSender, InboxLog,
+    OrderReceiver, OrderSender, WriterMessage, ReadEnd, ReceiveLog, ReportSender, WriteFailed, read_loop,
     write_loop,
 };
 use dbg_runner::{Gate, Joined, work};
@@ -64,7 +64,7 @@ impl<'a, I: Source, R: Wait + Drop> Task for ReaderTask<'a, I, R> {
 
     ghost can_run = { λ _. ⊤ };
 
-    ghost gives = { λ t r. (r.0.ghost_name ≡ t.input.ghost_name) × (client_home r.1 ≡ client_home t.inbox)
+    ghost gives = { λ t r. (r.0.ghost_name ≡ t.input.ghost_name) × (client_queue r.1 ≡ client_queue t.inbox)
         × ((sent : List Incoming) × (client_events r.1 ≡ client_events t.inbox ++ sent)
         × IsReadUntil r.2 sent (supply (I.left t.input.now) (I.failures t.input.now)) (supply (I.left r.0.now) (I.failures r.0.now))) };
 
@@ -99,15 +99,15 @@ impl<'a, O, R: Wait + Drop> WriterTask<'a, O, R> {
 }
 
 impl<'a, O: Sink, R: Wait + Drop> Task for WriterTask<'a, O, R> {
-    type Output = (&'a mut O, Receipt<Parcel>, Result<(), WriteFailed>);
+    type Output = (&'a mut O, ReceiveLog<WriterMessage>, Result<(), WriteFailed>);
 
     ghost can_run = { λ _. ⊤ };
 
-    ghost gives = { λ t r. (r.0.ghost_name ≡ t.output.ghost_name) × (receipt_home r.1 ≡ parcel_home t.outbox) × ((receipt_log r.1).takes ≡ true)
-        × ((taken : List Parcel) × (parcels_received r.1 ≡ parcels_taken t.outbox ++ taken)
+    ghost gives = { λ t r. (r.0.ghost_name ≡ t.output.ghost_name) × (receive_log_queue r.1 ≡ writer_queue t.outbox) × ((receive_log r.1).takes ≡ true)
+        × ((taken : List WriterMessage) × (messages_received r.1 ≡ messages_taken t.outbox ++ taken)
         × IsWrittenUntil r.2 taken (output_at (O.written t.output.now) (O.failures t.output.now)) (output_at (O.written r.0.now) (O.failures r.0.now))) };
 
-    fn run(self) -> (&'a mut O, Receipt<Parcel>, Result<(), WriteFailed>) {
+    fn run(self) -> (&'a mut O, ReceiveLog<WriterMessage>, Result<(), WriteFailed>) {
         let WriterTask {
             rt,
             output,
@@ -156,7 +156,7 @@ impl<'a, G: Gate, R: Wait + Drop> Task for RunnerTask<'a, G, R> {
 
     ghost can_run = { λ t. (taken_orders t.orders ≡ []) × (sent_reports t.reports ≡ []) × (refused_reports t.reports ≡ []) };
 
-    ghost gives = { λ t r. (pop_home r.0 ≡ pop_home t.orders) × (report_home r.1 ≡ report_home t.reports) × (r.2.ghost_name ≡ t.gate.ghost_name)
+    ghost gives = { λ t r. (pop_queue r.0 ≡ pop_queue t.orders) × (report_queue r.1 ≡ report_queue t.reports) × (r.2.ghost_name ≡ t.gate.ghost_name)
         × ((acts : List Act) × Leads Idle acts Ended
         × (taken_orders r.0 ≡ flat_map order_in acts) × (sent_reports r.1 ≡ flat_map sent_in acts)
         × (G.passed r.2.now ≡ G.passed t.gate.now ++ flat_map passed_in acts)) };
@@ -217,7 +217,7 @@ impl<'a, L, R: Wait + Drop> SessionTask<'a, L, R> {
 /// The ends of a session that is over.
 #[derive(Drop)]
 pub struct SessionEnds<R: Wait + Drop> {
-    pub inbox: InboxReceipt,
+    pub inbox: InboxLog,
     pub outbox: EndedSender<R>,
     pub orders: OrderSender<R>,
 }
@@ -228,11 +228,11 @@ impl<'a, L: Loader, R: Wait + Drop> Task for SessionTask<'a, L, R> {
     ghost can_run = { λ _. ⊤ };
 
     ghost gives = { λ t r. (r.0.ghost_name ≡ t.loader.ghost_name)
-        × (left_home r.1.inbox ≡ event_home t.inbox)
-        × (ended_home r.1.outbox ≡ frame_home t.outbox) × (ended_unused_home r.1.outbox ≡ unused_home t.outbox)
-        × (push_home r.1.orders ≡ push_home t.orders)
+        × (left_queue r.1.inbox ≡ event_queue t.inbox)
+        × (ended_queue r.1.outbox ≡ frame_queue t.outbox) × (ended_unused_queue r.1.outbox ≡ unused_queue t.outbox)
+        × (push_queue r.1.orders ≡ push_queue t.orders)
         × Drove r.2 (taken_events t.inbox) (received r.1.inbox) (L.loaded t.loader.now) (L.loaded r.0.now)
-        (ports (put_frames t.outbox) (pushed_orders t.orders)) (parcels_put r.1.outbox) (pushed_orders r.1.orders) };
+        (ports (put_frames t.outbox) (pushed_orders t.orders)) (messages_put r.1.outbox) (pushed_orders r.1.orders) };
 
     fn run(self) -> (&'a mut L, SessionEnds<R>, Result<Closed, SessionFault>) {
         let SessionTask {

@@ -2,10 +2,10 @@
 
 ghost use Rattle.std.specs.Prelude.{◌≡◌, ◌≢◌, true};
 ghost use Rattle.dap_session.specs.Sending.{Begins};
-ghost use Rattle.dap_wires.specs.Ends.{receipt_log, receipt_home};
-ghost use Rattle.dap_wires.specs.Inbox.{client_events, client_home, sent_reports, report_home, received, left_home};
-ghost use Rattle.dap_wires.specs.Orders.{FourWereInside, pushed_orders, push_home, taken_orders, pop_home};
-ghost use Rattle.dap_wires.specs.Outbox.{parcels_put, ended_home, ended_unused_home, parcels_received};
+ghost use Rattle.dap_wires.specs.Ends.{receive_log, receive_log_queue};
+ghost use Rattle.dap_wires.specs.Inbox.{client_events, client_queue, sent_reports, report_queue, received, left_queue};
+ghost use Rattle.dap_wires.specs.Orders.{FourWereInside, pushed_orders, push_queue, taken_orders, pop_queue};
+ghost use Rattle.dap_wires.specs.Outbox.{messages_put, ended_queue, ended_unused_queue, messages_received};
 ghost use Rattle.dap_wires.specs.Senders.{from_client, reports_among};
 ghost use Rattle.adapter.specs.Serving.{streams, outcome_of, IsServed};
 
@@ -14,8 +14,8 @@ use crate::tasks::run_beside;
 use byte_streams::{Sink, Source};
 use dap_session::{Closed, Loader, SessionFault};
 use dap_wires::{
-    ClientSender, OrderReceiver, Parcel, Receipt, ReportSender, WriteFailed, inbox, orders, outbox,
-    settle_inbox, settle_orders, settle_outbox,
+    ClientSender, OrderReceiver, WriterMessage, ReceiveLog, ReportSender, WriteFailed, inbox, orders, outbox,
+    reconcile_inbox, reconcile_orders, reconcile_outbox,
 };
 use dbg_runner::Gate;
 use std::alloc::{AllocError, Global};
@@ -78,9 +78,9 @@ where
         (streams (I.left input.new) (I.failures input.new) (O.written output.new) (O.failures output.new)) }
 {
     let (client, reports, events) = inbox(*rt, alloc)?;
-    let (frames, parcels) = outbox(*rt, alloc)?;
+    let (frames, messages) = outbox(*rt, alloc)?;
     let (pushed, taken) = orders(*rt, alloc)?;
-    let writer = WriterTask::new(*rt, output, parcels);
+    let writer = WriterTask::new(*rt, output, messages);
     let runner = RunnerTask::new(*rt, alloc, taken, reports, gate);
     let reader = ReaderTask::new(*rt, alloc, input, client);
     let session = SessionTask::new(*rt, alloc, loader, events, frames, pushed);
@@ -91,29 +91,29 @@ where
         return Err(ServeFault::NoThread);
     };
     let (loader, ends, closed) = driven;
-    take_back(output);
-    take_back(gate);
-    take_back(input);
-    take_back(loader);
-    settle(client, reports, written, taken, ends);
+    end_loan(output);
+    end_loan(gate);
+    end_loan(input);
+    end_loan(loader);
+    reconcile(client, reports, written, taken, ends);
     outcome(wrote, closed)
 }
 
 /// Compares both sides of each queue, when all threads have ended.
-fn settle<R: Wait + Drop>(
+fn reconcile<R: Wait + Drop>(
     client: ClientSender<R>,
     reports: ReportSender<R>,
-    written: Receipt<Parcel>,
+    written: ReceiveLog<WriterMessage>,
     taken: OrderReceiver<R>,
     ends: SessionEnds<R>,
 )
-    requires inbox { (report_home reports ≡ client_home client) × (left_home ends.inbox ≡ client_home client) }
-    requires outbox { (ended_unused_home ends.outbox ≡ ended_home ends.outbox) × (receipt_home written ≡ ended_home ends.outbox) }
-    requires parcels { (receipt_log written).takes ≡ true }
-    requires orders { pop_home taken ≡ push_home ends.orders }
+    requires inbox { (report_queue reports ≡ client_queue client) × (left_queue ends.inbox ≡ client_queue client) }
+    requires outbox { (ended_unused_queue ends.outbox ≡ ended_queue ends.outbox) × (receive_log_queue written ≡ ended_queue ends.outbox) }
+    requires messages { (receive_log written).takes ≡ true }
+    requires orders { pop_queue taken ≡ push_queue ends.orders }
     ensures client { Begins (from_client (received ends.inbox)) (client_events client) }
     ensures reports { Begins (reports_among (received ends.inbox)) (sent_reports reports) }
-    ensures frames { Begins (parcels_received written) (parcels_put ends.outbox) }
+    ensures frames { Begins (messages_received written) (messages_put ends.outbox) }
     ensures orders { Begins (taken_orders taken) (pushed_orders ends.orders).orders }
     ensures full { (pushed_orders ends.orders).fulls ≢ 0 → FourWereInside (pushed_orders ends.orders).orders }
 {
@@ -122,9 +122,9 @@ fn settle<R: Wait + Drop>(
         outbox,
         orders,
     } = ends;
-    settle_inbox(client, reports, inbox);
-    settle_outbox(outbox, written);
-    settle_orders(orders, taken);
+    reconcile_inbox(client, reports, inbox);
+    reconcile_outbox(outbox, written);
+    reconcile_orders(orders, taken);
 }
 
 /// How serving went, by how the writer and the session ended.
@@ -146,6 +146,6 @@ fn outcome(
 }
 
 // Ties a reference that came back to the parameter that lent it.
-fn take_back<T>(x: &mut T)
+fn end_loan<T>(x: &mut T)
     ensures { x.new ≡ x.old }
 {}

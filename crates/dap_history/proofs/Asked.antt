@@ -22,7 +22,7 @@ use Rattle.dap_history.specs.History.{Launched, Item, Content, Loaded, Accepted,
 use Rattle.dap_history.specs.Readings.{go, situation, runs, is_held, is_back, launched, last_run, position, waiting_pause}
 use Rattle.dap_history.specs.Replies.{Reply}
 use Rattle.dap_history.specs.Breakpoints.{hold_once, effect_in}
-use Rattle.dap_history.specs.Running.{Pace, ToStop, ToNext, ToStep, ToReturn, mode_of, enters}
+use Rattle.dap_history.specs.Running.{ResumeKind, ToStop, ToNext, ToStep, ToReturn, mode_of, enters}
 use Rattle.dap_history.specs.Reports.{Accepts, held, report_effect}
 use Rattle.dap_history.specs.Considered.{all_runs}
 use Rattle.dap_history.specs.Emission.{Causes}
@@ -39,7 +39,7 @@ use Rattle.dap_history.proofs.Runs.{AreNumbered, numbered-snoc}
 use Rattle.dap_history.proofs.Counted.{all_runs-snoc, next_runs}
 use Rattle.dap_history.proofs.Stopping.{ran_kept, ran_first}
 use Rattle.dap_history.proofs.Starts.{of_launched}
-use Rattle.dap_history.proofs.Shapes.{pace_by, Shape, refuses, is_calm, sets, begins, resumes_by, is_over, retreats, interrupts, quits, shaped}
+use Rattle.dap_history.proofs.Shapes.{resume_kind_by, Shape, refuses, is_calm, sets, begins, resumes_by, is_over, retreats, interrupts, quits, shaped}
 use Rattle.dap_history.proofs.Once.{ordered_last}
 
 -- ---- numbers
@@ -71,12 +71,12 @@ runs_count events past rest history front back run orders_are =
 
 -- ---- modes
 
-pace_mode : (depth : ℕ) (asked : Command) (pace : Pace) → pace_by asked ≡ Some pace → mode_by depth asked ≡ Some (mode_of pace depth)
-pace_mode depth (command.Continue a) pace is = let same : ToStop ≡ pace = cc in ap (λ p. Some (mode_of p depth)) same
-pace_mode depth (command.Next a) pace is = let same : ToNext ≡ pace = cc in ap (λ p. Some (mode_of p depth)) same
-pace_mode depth (command.StepIn a) pace is = let same : ToStep ≡ pace = cc in ap (λ p. Some (mode_of p depth)) same
-pace_mode depth (command.StepOut a) pace is = let same : ToReturn ≡ pace = cc in ap (λ p. Some (mode_of p depth)) same
-pace_mode depth _ pace is = absurd cc
+resume_kind_mode : (depth : ℕ) (asked : Command) (resume_kind : ResumeKind) → resume_kind_by asked ≡ Some resume_kind → mode_by depth asked ≡ Some (mode_of resume_kind depth)
+resume_kind_mode depth (command.Continue a) resume_kind is = let same : ToStop ≡ resume_kind = cc in ap (λ p. Some (mode_of p depth)) same
+resume_kind_mode depth (command.Next a) resume_kind is = let same : ToNext ≡ resume_kind = cc in ap (λ p. Some (mode_of p depth)) same
+resume_kind_mode depth (command.StepIn a) resume_kind is = let same : ToStep ≡ resume_kind = cc in ap (λ p. Some (mode_of p depth)) same
+resume_kind_mode depth (command.StepOut a) resume_kind is = let same : ToReturn ≡ resume_kind = cc in ap (λ p. Some (mode_of p depth)) same
+resume_kind_mode depth _ resume_kind is = absurd cc
 
 back_mode : (depth : ℕ) (asked : Command) (m : Mode) → back_by asked ≡ Some m → mode_by depth asked ≡ Some m
 back_mode depth (command.StepBack a) m is = is
@@ -118,11 +118,11 @@ reply_mode past s asked reply (sets a l by there same resolves) run goes =
 reply_mode past s asked reply (begins l by here there is) run goes =
     let m = begun_mode past l (due_first past l) run (ap (λ (r : Reply). last_such go r.effect.orders) (sym is) ∙ goes) in
     (l, there, ap (mode_by (depth_at l.program (position past))) by ∙ ap Some (sym m))
-reply_mode past s asked reply (resumes_by pace l by here there is) run goes =
+reply_mode past s asked reply (resumes_by resume_kind l by here there is) run goes =
     let depth = depth_at l.program (position past) in
-    let same : mode_of pace depth ≡ run.mode = ap (λ o. option_map_or (λ (h : Heading). h.mode) o (mode_of pace depth)) (ap (λ (r : Reply). last_such go r.effect.orders) (sym is) ∙ goes) in
-    (l, there, pace_mode depth asked pace by ∙ ap Some same)
-reply_mode past s asked reply (is_over pace by here is) run goes = no_go_by past asked run reply.effect.orders _ (ap (λ (r : Reply). r.effect.orders) is) refl goes
+    let same : mode_of resume_kind depth ≡ run.mode = ap (λ o. option_map_or (λ (h : Heading). h.mode) o (mode_of resume_kind depth)) (ap (λ (r : Reply). last_such go r.effect.orders) (sym is) ∙ goes) in
+    (l, there, resume_kind_mode depth asked resume_kind by ∙ ap Some same)
+reply_mode past s asked reply (is_over resume_kind by here is) run goes = no_go_by past asked run reply.effect.orders _ (ap (λ (r : Reply). r.effect.orders) is) refl goes
 reply_mode past s asked reply (retreats m l by back stands there is) run goes =
     let same : m ≡ run.mode = ap (λ o. option_map_or (λ (h : Heading). h.mode) o m) (ap (λ (r : Reply). last_such go r.effect.orders) (sym is) ∙ goes) in
     (l, there, back_mode (depth_at l.program (position past)) asked m by ∙ ap Some same)

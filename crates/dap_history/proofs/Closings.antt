@@ -29,7 +29,7 @@ use Rattle.dap_history.specs.Replies.{Reply, refused, causing, ordering, OfProgr
 use Rattle.dap_history.specs.Reports.{report_effect, held}
 use Rattle.dap_history.specs.Launching.{initialize_in, Launches}
 use Rattle.dap_history.specs.Breakpoints.{hold_once, effect_in, SetsOf, Sets, SetsIn, is_at}
-use Rattle.dap_history.specs.Running.{Pace, mode_of, body_of, resumes, first_mode, enters, ConfiguresIn, ResumesIn, RetreatsIn, pause_in}
+use Rattle.dap_history.specs.Running.{ResumeKind, mode_of, body_of, resumes, first_mode, enters, ConfiguresIn, ResumesIn, RetreatsIn, pause_in}
 use Rattle.dap_history.specs.Frames.{frame_by_id}
 use Rattle.dap_history.specs.Inspection.{asked_of, scopes, variables, result_reply, EvaluatesIn, RepliesAt, Inspects, InspectsIn}
 use Rattle.dap_history.specs.Emission.{threads_in, RepliesIn, Causes, IsAfter}
@@ -220,12 +220,12 @@ configures_in_quiet Configuring past reply is =
     (λ l says. quiet_if reply _ (enters_quiet past l (due l.program (plan past).breakpoints (plan past).counted_from (first_mode l) 0)) says) is
 configures_in_quiet _ past reply is = quiet_if reply _ tt is
 
-resumes_in_quiet : (s : Situation) (past : History) (pace : Pace) (thread : ℕ) (reply : Reply) → ResumesIn s past pace thread reply → IsQuiet reply
-resumes_in_quiet Stopped past pace thread reply is =
+resumes_in_quiet : (s : Situation) (past : History) (resume_kind : ResumeKind) (thread : ℕ) (reply : Reply) → ResumesIn s past resume_kind thread reply → IsQuiet reply
+resumes_in_quiet Stopped past resume_kind thread reply is =
     of_program (launched past) _ reply
-    (λ l says. quiet_if reply _ (thread_quiet thread (causing (body_of pace) (ordering (resumes past l (mode_of pace (depth_at l.program (position past)))))) tt) says) is
-resumes_in_quiet Faulted past pace thread reply is = quiet_if reply _ (thread_quiet thread _ tt) is
-resumes_in_quiet _ past pace thread reply is = quiet_if reply _ tt is
+    (λ l says. quiet_if reply _ (thread_quiet thread (causing (body_of resume_kind) (ordering (resumes past l (mode_of resume_kind (depth_at l.program (position past)))))) tt) says) is
+resumes_in_quiet Faulted past resume_kind thread reply is = quiet_if reply _ (thread_quiet thread _ tt) is
+resumes_in_quiet _ past resume_kind thread reply is = quiet_if reply _ tt is
 
 retreats_in_quiet : (s : Situation) (past : History) (m : Mode) (thread : ℕ) (reply : Reply) → RetreatsIn s past m thread reply → IsQuiet reply
 retreats_in_quiet Stopped past m thread reply is =

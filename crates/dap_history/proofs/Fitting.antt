@@ -43,7 +43,7 @@ use Rattle.dap_history.specs.Readings.{situation, launched, position, waiting_pa
 use Rattle.dap_history.specs.Replies.{Reply, nothing, ordering, refused, on_thread, OfProgram, stops, ends, told_logs}
 use Rattle.dap_history.specs.Launching.{initialize_in, Launches}
 use Rattle.dap_history.specs.Breakpoints.{answer_of, effect_in, SetsOf, SetsIn, is_at}
-use Rattle.dap_history.specs.Running.{Pace, ToStop, ToNext, ToStep, ToReturn, body_of, resumes, first_logs, enters, ConfiguresIn, ResumesIn, RetreatsIn, pause_in}
+use Rattle.dap_history.specs.Running.{ResumeKind, ToStop, ToNext, ToStep, ToReturn, body_of, resumes, first_logs, enters, ConfiguresIn, ResumesIn, RetreatsIn, pause_in}
 use Rattle.dap_history.specs.Frames.{Counting, line_of, column_of, frame_name, shown_frame, shown_frames, at_most, scopes_from, frame_by_id}
 use Rattle.dap_history.specs.Inspection.{Asked, stack_trace, scopes, variables, result_reply, EvaluatesIn, RepliesFrom, RepliesAt, asked_of, InspectsIn}
 use Rattle.dap_history.specs.Reports.{outputs, held, report_effect}
@@ -288,26 +288,26 @@ module _ (few : FramesAreFew) where
   configures_in_fit Faulted past reply says = fits_if reply _ (refused_fits _) says
   configures_in_fit Ended past reply says = fits_if reply _ (refused_fits _) says
 
-  pace_fits : (pace : Pace) → BodyFits (body_of pace)
-  pace_fits ToStop = tt
-  pace_fits ToNext = tt
-  pace_fits ToStep = tt
-  pace_fits ToReturn = tt
+  resume_kind_fits : (resume_kind : ResumeKind) → BodyFits (body_of resume_kind)
+  resume_kind_fits ToStop = tt
+  resume_kind_fits ToNext = tt
+  resume_kind_fits ToStep = tt
+  resume_kind_fits ToReturn = tt
 
-  resumes_fit : (o : Option Launched) (reply : Reply) (pace : Pace) (thread : ℕ) (effect : Launched → Effect) → ((l : Launched) → EventsFit (effect l).events)
-      → OfProgram o (λ l. reply ≡ on_thread thread (record { result = Ok (body_of pace); effect = effect l })) → ReplyFits reply
-  resumes_fit None reply pace thread effect fit says = absurd says
-  resumes_fit (Some l) reply pace thread effect fit says = fits_if reply _ (thread_fits thread _ (record { result = pace_fits pace; events = fit l })) says
+  resumes_fit : (o : Option Launched) (reply : Reply) (resume_kind : ResumeKind) (thread : ℕ) (effect : Launched → Effect) → ((l : Launched) → EventsFit (effect l).events)
+      → OfProgram o (λ l. reply ≡ on_thread thread (record { result = Ok (body_of resume_kind); effect = effect l })) → ReplyFits reply
+  resumes_fit None reply resume_kind thread effect fit says = absurd says
+  resumes_fit (Some l) reply resume_kind thread effect fit says = fits_if reply _ (thread_fits thread _ (record { result = resume_kind_fits resume_kind; events = fit l })) says
 
-  resumes_in_fit : (s : Situation) (past : History) (pace : Pace) (thread : ℕ) (reply : Reply) → ResumesIn s past pace thread reply → ReplyFits reply
-  resumes_in_fit Running past pace thread reply says = fits_if reply _ (refused_fits _) says
-  resumes_in_fit Stopped past pace thread reply says = resumes_fit (launched past) reply pace thread _ (λ l. tt) says
-  resumes_in_fit Faulted past pace thread reply says =
-      fits_if reply _ (thread_fits thread _ (record { result = pace_fits pace; events = (near_small 1 (lit≤ tt), (tt, tt)) })) says
-  resumes_in_fit Fresh past pace thread reply says = fits_if reply _ (refused_fits _) says
-  resumes_in_fit Ready past pace thread reply says = fits_if reply _ (refused_fits _) says
-  resumes_in_fit Configuring past pace thread reply says = fits_if reply _ (refused_fits _) says
-  resumes_in_fit Ended past pace thread reply says = fits_if reply _ (refused_fits _) says
+  resumes_in_fit : (s : Situation) (past : History) (resume_kind : ResumeKind) (thread : ℕ) (reply : Reply) → ResumesIn s past resume_kind thread reply → ReplyFits reply
+  resumes_in_fit Running past resume_kind thread reply says = fits_if reply _ (refused_fits _) says
+  resumes_in_fit Stopped past resume_kind thread reply says = resumes_fit (launched past) reply resume_kind thread _ (λ l. tt) says
+  resumes_in_fit Faulted past resume_kind thread reply says =
+      fits_if reply _ (thread_fits thread _ (record { result = resume_kind_fits resume_kind; events = (near_small 1 (lit≤ tt), (tt, tt)) })) says
+  resumes_in_fit Fresh past resume_kind thread reply says = fits_if reply _ (refused_fits _) says
+  resumes_in_fit Ready past resume_kind thread reply says = fits_if reply _ (refused_fits _) says
+  resumes_in_fit Configuring past resume_kind thread reply says = fits_if reply _ (refused_fits _) says
+  resumes_in_fit Ended past resume_kind thread reply says = fits_if reply _ (refused_fits _) says
 
   retreats_fit : (o : Option Launched) (past : History) (m : Mode) (thread : ℕ) (reply : Reply)
       → OfProgram o (λ l. reply ≡ on_thread thread (record { result = Ok body.None; effect = ordering (resumes past l m) })) → ReplyFits reply

@@ -17,7 +17,7 @@ use Rattle.dap_history.specs.Last.{last_such}
 use Rattle.dap_history.specs.History.{Launched, Content, Accepted, Step, History, Effect}
 use Rattle.dap_history.specs.Readings.{go, situation, plan, waiting_pause}
 use Rattle.dap_history.specs.Replies.{Reply, stops, stop_of}
-use Rattle.dap_history.specs.Running.{Pace, first_logs, enters}
+use Rattle.dap_history.specs.Running.{ResumeKind, first_logs, enters}
 use Rattle.dap_history.specs.Reports.{held, report_effect}
 use Rattle.dap_history.specs.Emission.{Causes}
 use Rattle.dap_history.specs.Stops.{IsOutput, TellsFirst, TellsBy, EachReplyIsTold}
@@ -28,7 +28,7 @@ use Rattle.dap_history.proofs.Each.{EachTaken, each_kept, each_first}
 use Rattle.dap_history.proofs.Told.{stop_of_logs}
 use Rattle.dap_history.proofs.Silent.{first_at, due_first}
 use Rattle.dap_history.proofs.GoingBack.{Anything, anything_kept}
-use Rattle.dap_history.proofs.Shapes.{pace_by, IsCalm, Shape, refuses, is_calm, sets, begins, resumes_by, is_over, retreats, interrupts, quits, shaped}
+use Rattle.dap_history.proofs.Shapes.{resume_kind_by, IsCalm, Shape, refuses, is_calm, sets, begins, resumes_by, is_over, retreats, interrupts, quits, shaped}
 use Rattle.dap_history.proofs.Once.{quiet_in}
 use Rattle.dap_history.proofs.Telling.{logs_output}
 use Rattle.dap_history.proofs.Holding.{result_of}
@@ -44,12 +44,12 @@ tells_nothing s (command.StepIn a) events is = inl is
 tells_nothing s (command.StepOut a) events is = inl is
 tells_nothing s _ events is = is
 
-tells_end : (s : Situation) (asked : Command) (pace : Pace) (events : List EventBody) → pace_by asked ≡ Some pace → s ≡ Faulted → events ≡ event.Exited 1 ∷ event.Terminated ∷ [] → TellsBy s asked events
-tells_end s (command.Continue a) pace events by here is = inr (here, is)
-tells_end s (command.Next a) pace events by here is = inr (here, is)
-tells_end s (command.StepIn a) pace events by here is = inr (here, is)
-tells_end s (command.StepOut a) pace events by here is = inr (here, is)
-tells_end s _ pace events by here is = absurd cc
+tells_end : (s : Situation) (asked : Command) (resume_kind : ResumeKind) (events : List EventBody) → resume_kind_by asked ≡ Some resume_kind → s ≡ Faulted → events ≡ event.Exited 1 ∷ event.Terminated ∷ [] → TellsBy s asked events
+tells_end s (command.Continue a) resume_kind events by here is = inr (here, is)
+tells_end s (command.Next a) resume_kind events by here is = inr (here, is)
+tells_end s (command.StepIn a) resume_kind events by here is = inr (here, is)
+tells_end s (command.StepOut a) resume_kind events by here is = inr (here, is)
+tells_end s _ resume_kind events by here is = absurd cc
 
 enters_tells : (past : History) (l : Launched) (why : Option Reason) (events : List EventBody) → events ≡ (enters past l why).events → TellsFirst events
 enters_tells past l None events is = (first_logs past l, logs_output (plan past).breakpoints (first_at past l), inl is)
@@ -64,17 +64,17 @@ module _ (past : History) (s : Situation) (asked : Command) (reply : Reply) wher
   reply_tells (is_calm calm is) = tells_nothing s asked reply.effect.events (ap (λ (e : Effect). e.events) is)
   reply_tells (sets a l by there same resolves) = tells_nothing s asked reply.effect.events (events_are _ resolves.reply_is ∙ quiet_in (situation past) past resolves.breakpoints)
   reply_tells (begins l by here there is) = subst (λ c. TellsBy s c reply.effect.events) (sym by) (enters_tells past l (due_first past l) reply.effect.events (events_are _ is))
-  reply_tells (resumes_by pace l by here there is) = tells_nothing s asked reply.effect.events (events_are _ is)
-  reply_tells (is_over pace by here is) = tells_end s asked pace reply.effect.events by here (events_are _ is)
+  reply_tells (resumes_by resume_kind l by here there is) = tells_nothing s asked reply.effect.events (events_are _ is)
+  reply_tells (is_over resume_kind by here is) = tells_end s asked resume_kind reply.effect.events by here (events_are _ is)
   reply_tells (retreats m l by back stands there is) = tells_nothing s asked reply.effect.events (events_are _ is)
   reply_tells (interrupts a by here is) = tells_nothing s asked reply.effect.events (events_are _ is)
   reply_tells (quits by is) = tells_nothing s asked reply.effect.events (events_are _ is)
 
 -- ---- a run that is granted
 
-paced_excused : (s : Situation) (asked : Command) (pace : Pace) (events : List EventBody) → pace_by asked ≡ Some pace → s ≡ Faulted → events ≡ event.Exited 1 ∷ event.Terminated ∷ [] → IsExcused s asked events
-paced_excused s command.ConfigurationDone pace events by here is = absurd cc
-paced_excused s _ pace events by here is = (here, is)
+resuming_excused : (s : Situation) (asked : Command) (resume_kind : ResumeKind) (events : List EventBody) → resume_kind_by asked ≡ Some resume_kind → s ≡ Faulted → events ≡ event.Exited 1 ∷ event.Terminated ∷ [] → IsExcused s asked events
+resuming_excused s command.ConfigurationDone resume_kind events by here is = absurd cc
+resuming_excused s _ resume_kind events by here is = (here, is)
 
 -- a command that asks for a run has an effect where it is granted
 calm_asks_none : (past : History) (s : Situation) (asked : Command) → IsCalm past s asked → ¬ IsSome (mode_by 0 asked)
@@ -102,8 +102,8 @@ module _ (past : History) (s : Situation) (asked : Command) (reply : Reply) (b :
   reply_done (is_calm calm is) = absurd (calm_asks_none past s asked calm asks)
   reply_done (sets a l by there same resolves) = absurd (let e = subst (λ c. IsSome (mode_by 0 c)) by asks in cc)
   reply_done (begins l by here there is) = subst (λ c. IsDone s c reply.effect) (sym by) (subst (λ (r : Reply). IsDone s command.ConfigurationDone r.effect) (sym is) (begins_done past s l (due_first past l)))
-  reply_done (resumes_by pace l by here there is) = inl (ap (λ (r : Reply). is_some (last_such go r.effect.orders)) is)
-  reply_done (is_over pace by here is) = inr (paced_excused s asked pace reply.effect.events by here (ap (λ (r : Reply). r.effect.events) is))
+  reply_done (resumes_by resume_kind l by here there is) = inl (ap (λ (r : Reply). is_some (last_such go r.effect.orders)) is)
+  reply_done (is_over resume_kind by here is) = inr (resuming_excused s asked resume_kind reply.effect.events by here (ap (λ (r : Reply). r.effect.events) is))
   reply_done (retreats m l by back stands there is) = inl (ap (λ (r : Reply). is_some (last_such go r.effect.orders)) is)
   reply_done (interrupts a by here is) = absurd (let e = subst (λ c. IsSome (mode_by 0 c)) by asks in cc)
   reply_done (quits by is) = absurd (let e = subst (λ c. IsSome (mode_by 0 c)) by asks in cc)

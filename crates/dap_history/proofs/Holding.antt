@@ -28,7 +28,7 @@ use Rattle.dap_history.specs.Readings.{go, situation, step_mark, runs, is_held, 
 use Rattle.dap_history.specs.Replies.{Reply}
 use Rattle.dap_history.specs.Launching.{Launches}
 use Rattle.dap_history.specs.Breakpoints.{hold_once, effect_in, is_at}
-use Rattle.dap_history.specs.Running.{Pace, enters}
+use Rattle.dap_history.specs.Running.{ResumeKind, enters}
 use Rattle.dap_history.specs.Reports.{held, report_effect}
 use Rattle.dap_history.specs.Emission.{RepliesIn, Answers, Causes}
 use Rattle.dap_history.specs.GoingBack.{back_by}
@@ -40,7 +40,7 @@ use Rattle.dap_history.proofs.Each.{WasTaken, EachTaken, each_kept, each_first}
 use Rattle.dap_history.proofs.Silent.{due_first}
 use Rattle.dap_history.proofs.Standing.{MarkIs, mark_unwrap, answers_only}
 use Rattle.dap_history.proofs.Passing.{IsRunning, runs_not}
-use Rattle.dap_history.proofs.Shapes.{pace_by, IsCalm, Shape, refuses, is_calm, sets, begins, resumes_by, is_over, retreats, interrupts, quits, shaped}
+use Rattle.dap_history.proofs.Shapes.{resume_kind_by, IsCalm, Shape, refuses, is_calm, sets, begins, resumes_by, is_over, retreats, interrupts, quits, shaped}
 use Rattle.dap_history.proofs.Once.{none_within, rest_of}
 
 -- ---- what a step orders
@@ -95,8 +95,8 @@ module _ (past : History) (request : Request) (reply : Reply) (step : Step) (ite
   reply_orders (sets a l by there same resolves) =
       sets_by (situation past) resolves.breakpoints _ refl (ap (λ (r : Reply). r.result) resolves.reply_is) (subst (IsToWait past) (sym by) (l, there, same)) (ap (λ (r : Reply). r.effect.orders) resolves.reply_is)
   reply_orders (begins l by here there is) = begins_by l (due_first past l) (ap (λ (r : Reply). r.effect.orders) is)
-  reply_orders (resumes_by pace l by here there is) = orders_go _ refl (orders_are ∙ ap (λ (r : Reply). r.effect.orders) is)
-  reply_orders (is_over pace by here is) = orders_none (orders_are ∙ ap (λ (r : Reply). r.effect.orders) is)
+  reply_orders (resumes_by resume_kind l by here there is) = orders_go _ refl (orders_are ∙ ap (λ (r : Reply). r.effect.orders) is)
+  reply_orders (is_over resume_kind by here is) = orders_none (orders_are ∙ ap (λ (r : Reply). r.effect.orders) is)
   reply_orders (retreats m l by back stands there is) = orders_go _ refl (orders_are ∙ ap (λ (r : Reply). r.effect.orders) is)
   reply_orders (interrupts a by here is) = holds_by _ (ap (λ (r : Reply). r.result) is) (subst (IsToWait past) (sym by) tt) here (ap (λ (r : Reply). r.effect.orders) is)
   reply_orders (quits by is) = orders_quit _ (ap closing item_is ∙ ap (λ c. closing (Content (Some (record { seq = request.seq; body = c })))) by) (orders_are ∙ ap (λ (r : Reply). r.effect.orders) is)
@@ -281,10 +281,10 @@ hold_once_law events past rest history before step after past_is front back n ho
 
 -- ---- what waits is held
 
-not_paced : (past : History) (asked : Command) (pace : Pace) → pace_by asked ≡ Some pace → ¬ IsToWait past asked
-not_paced past (command.Pause a) pace by to_wait = absurd cc
-not_paced past (command.SetBreakpoints a) pace by to_wait = absurd cc
-not_paced past _ pace by to_wait = to_wait
+not_resuming : (past : History) (asked : Command) (resume_kind : ResumeKind) → resume_kind_by asked ≡ Some resume_kind → ¬ IsToWait past asked
+not_resuming past (command.Pause a) resume_kind by to_wait = absurd cc
+not_resuming past (command.SetBreakpoints a) resume_kind by to_wait = absurd cc
+not_resuming past _ resume_kind by to_wait = to_wait
 
 not_back : (past : History) (asked : Command) (m : Mode) → back_by asked ≡ Some m → ¬ IsToWait past asked
 not_back past (command.Pause a) m by to_wait = absurd cc
@@ -309,8 +309,8 @@ module _ (past : History) (asked : Command) (reply : Reply) (b : Body) (granted 
   reply_holds here (is_calm calm is) = absurd (not_calm past asked calm to_wait)
   reply_holds here (sets a l by there same resolves) = ap (λ (r : Reply). r.effect.orders) resolves.reply_is ∙ sets_hold (situation past) resolves.breakpoints here
   reply_holds here (begins l by running there is) = absurd (subst (IsToWait past) by to_wait)
-  reply_holds here (resumes_by pace l by running there is) = absurd (not_paced past asked pace by to_wait)
-  reply_holds here (is_over pace by running is) = absurd (not_paced past asked pace by to_wait)
+  reply_holds here (resumes_by resume_kind l by running there is) = absurd (not_resuming past asked resume_kind by to_wait)
+  reply_holds here (is_over resume_kind by running is) = absurd (not_resuming past asked resume_kind by to_wait)
   reply_holds here (retreats m l by back stands there is) = absurd (not_back past asked m by to_wait)
   reply_holds here (interrupts a by running is) = ap (λ (r : Reply). r.effect.orders) is
   reply_holds here (quits by is) = absurd (subst (IsToWait past) by to_wait)

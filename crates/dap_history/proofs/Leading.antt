@@ -37,7 +37,7 @@ use Rattle.dap_history.specs.History.{Launched, Item, Content, Loaded, Accepted,
 use Rattle.dap_history.specs.Readings.{situation, step_mark, launched, end_of, position}
 use Rattle.dap_history.specs.Replies.{Reply, nothing, ordering, refused, causing, OfProgram, on_thread}
 use Rattle.dap_history.specs.Launching.{initialize_in, Launches, launches}
-use Rattle.dap_history.specs.Running.{Pace, resumes, enters, ConfiguresIn, ResumesIn, RetreatsIn}
+use Rattle.dap_history.specs.Running.{ResumeKind, resumes, enters, ConfiguresIn, ResumesIn, RetreatsIn}
 use Rattle.dap_history.specs.Inspection.{RepliesFrom, RepliesAt, asked_of, InspectsIn}
 use Rattle.dap_history.specs.Reports.{Accepts, report_effect}
 use Rattle.dap_history.specs.Emission.{RepliesIn, Causes, IsAfter}
@@ -135,8 +135,8 @@ reply_early past s seq asked reply none early (refuses why is) = subst (λ (r : 
 reply_early past s seq asked reply none early (is_calm calm is) = subst (λ e. EarlyOr s (answering seq asked reply.result e)) (sym is) (calm_early_result past s seq asked reply.result early calm)
 reply_early past s seq asked reply none early (sets a l by there same resolves) = absurd (let e = sym none ∙ there in cc)
 reply_early past s seq asked reply none early (begins l by here there is) = absurd (let e = sym none ∙ there in cc)
-reply_early past s seq asked reply none early (resumes_by pace l by here there is) = absurd (let e = sym none ∙ there in cc)
-reply_early past s seq asked reply none early (is_over pace by here is) = absurd (subst IsEarly here early)
+reply_early past s seq asked reply none early (resumes_by resume_kind l by here there is) = absurd (let e = sym none ∙ there in cc)
+reply_early past s seq asked reply none early (is_over resume_kind by here is) = absurd (subst IsEarly here early)
 reply_early past s seq asked reply none early (retreats m l by back stands there is) = absurd (standing_late s stands early)
 reply_early past s seq asked reply none early (interrupts a by here is) = absurd (subst IsEarly here early)
 reply_early past s seq asked reply none early (quits by is) =
@@ -269,14 +269,14 @@ module _ (one : OneProgram) (joins : WrittenJoins) (no_gaps : RunsHaveNoGaps) wh
     configures Faulted is = (_, refl)
     configures Ended is = (_, refl)
 
-    goes_on : (s : Situation) → situation past ≡ s → (pace : Pace) (thread : ℕ) → Answered (ResumesIn s past pace thread)
-    goes_on Stopped is pace thread = with_program (λ l reply. reply ≡ resuming past pace thread l) (is_late Stopped is (λ x. x)) (λ l there. (_, refl))
-    goes_on Fresh is pace thread = (_, refl)
-    goes_on Ready is pace thread = (_, refl)
-    goes_on Configuring is pace thread = (_, refl)
-    goes_on Running is pace thread = (_, refl)
-    goes_on Faulted is pace thread = (_, refl)
-    goes_on Ended is pace thread = (_, refl)
+    goes_on : (s : Situation) → situation past ≡ s → (resume_kind : ResumeKind) (thread : ℕ) → Answered (ResumesIn s past resume_kind thread)
+    goes_on Stopped is resume_kind thread = with_program (λ l reply. reply ≡ resuming past resume_kind thread l) (is_late Stopped is (λ x. x)) (λ l there. (_, refl))
+    goes_on Fresh is resume_kind thread = (_, refl)
+    goes_on Ready is resume_kind thread = (_, refl)
+    goes_on Configuring is resume_kind thread = (_, refl)
+    goes_on Running is resume_kind thread = (_, refl)
+    goes_on Faulted is resume_kind thread = (_, refl)
+    goes_on Ended is resume_kind thread = (_, refl)
 
     goes_back_by : (s : Situation) → situation past ≡ s → (m : Mode) (thread : ℕ) → Answered (RetreatsIn s past m thread)
     goes_back_by Stopped is m thread = with_program (λ l reply. reply ≡ on_thread thread (causing body.None (ordering (resumes past l m)))) (is_late Stopped is (λ x. x)) (λ l there. (_, refl))

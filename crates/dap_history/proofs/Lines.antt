@@ -36,7 +36,7 @@ use Rattle.dap_history.specs.Readings.{go, situation, step_mark, message_mark, o
 use Rattle.dap_history.specs.Replies.{Reply, nothing, ordering, refused, causing, stops, ends, stop_of, exception_of}
 use Rattle.dap_history.specs.Launching.{Launches, launches}
 use Rattle.dap_history.specs.Breakpoints.{offset, line_offset, IsResolved, answer_of, effect_in, is_at}
-use Rattle.dap_history.specs.Running.{Pace, body_of, resumes, enters}
+use Rattle.dap_history.specs.Running.{ResumeKind, body_of, resumes, enters}
 use Rattle.dap_history.specs.Reports.{Accepts, outputs, from_next, put_in_at, put_in_by, held, report_effect}
 use Rattle.dap_history.specs.Considered.{starts_by}
 use Rattle.dap_history.specs.Emission.{Causes}
@@ -55,7 +55,7 @@ use Rattle.dap_history.proofs.Outputs.{outputs_mark, report_launches}
 use Rattle.dap_history.proofs.Passing.{Ran, loaded_orders}
 use Rattle.dap_history.proofs.Stopping.{ran_more, ran_first}
 use Rattle.dap_history.proofs.Ordering.{is_back_is}
-use Rattle.dap_history.proofs.Shapes.{pace_by, IsCalm, Shape, refuses, is_calm, sets, begins, resumes_by, is_over, retreats, interrupts, quits, shaped}
+use Rattle.dap_history.proofs.Shapes.{resume_kind_by, IsCalm, Shape, refuses, is_calm, sets, begins, resumes_by, is_over, retreats, interrupts, quits, shaped}
 use Rattle.dap_history.proofs.Once.{ordered_last}
 use Rattle.dap_history.proofs.Asked.{no_go_in, no_go_held}
 
@@ -149,12 +149,12 @@ IsGoing (command.StepBack asked) = Unit {0}
 IsGoing (command.ReverseContinue asked) = Unit {0}
 IsGoing _ = ⊥
 
-paced_goes : (asked : Command) (pace : Pace) → pace_by asked ≡ Some pace → IsGoing asked
-paced_goes (command.Continue a) pace is = tt
-paced_goes (command.Next a) pace is = tt
-paced_goes (command.StepIn a) pace is = tt
-paced_goes (command.StepOut a) pace is = tt
-paced_goes _ pace is = absurd cc
+resuming_goes : (asked : Command) (resume_kind : ResumeKind) → resume_kind_by asked ≡ Some resume_kind → IsGoing asked
+resuming_goes (command.Continue a) resume_kind is = tt
+resuming_goes (command.Next a) resume_kind is = tt
+resuming_goes (command.StepIn a) resume_kind is = tt
+resuming_goes (command.StepOut a) resume_kind is = tt
+resuming_goes _ resume_kind is = absurd cc
 
 back_goes : (asked : Command) (m : Mode) → back_by asked ≡ Some m → IsGoing asked
 back_goes (command.StepBack a) m is = tt
@@ -272,10 +272,10 @@ module _ (past : History) (l : Launched) (there : launched past ≡ Some l) (seq
       (subst (λ c. After l (situation past) (answering seq c (Ok body.None) (enters past l' (due_first past l'))) (view l past)) (sym by)
       (subst (λ s. After l s (answering seq command.ConfigurationDone (Ok body.None) (enters past l' (due_first past l'))) (view l past)) (sym here_is)
       (begins_planned l (view l past) past seq l' (due_first past l') refl (subst (λ s. Planned l s (view l past)) here_is here))))
-  reply_planned reply (resumes_by pace l' by here_is there' is) here =
+  reply_planned reply (resumes_by resume_kind l' by here_is there' is) here =
       subst (Replied (situation past)) (sym is)
-      (goes_planned l (view l past) seq asked (paced_goes asked pace by) (body_of pace) (situation past) _ refl (stands_there l (view l past) (situation past) (subst IsStanding (sym here_is) tt) here))
-  reply_planned reply (is_over pace by here_is is) here = subst (Replied (situation past)) (sym is) tt
+      (goes_planned l (view l past) seq asked (resuming_goes asked resume_kind by) (body_of resume_kind) (situation past) _ refl (stands_there l (view l past) (situation past) (subst IsStanding (sym here_is) tt) here))
+  reply_planned reply (is_over resume_kind by here_is is) here = subst (Replied (situation past)) (sym is) tt
   reply_planned reply (retreats m l' by back stands there' is) here =
       subst (Replied (situation past)) (sym is) (goes_planned l (view l past) seq asked (back_goes asked m by) body.None (situation past) _ refl (stands_there l (view l past) (situation past) stands here))
   reply_planned reply (interrupts a by here_is is) here =
@@ -399,9 +399,9 @@ module _ (past : History) (none : launched past ≡ None) where
       subst (λ e. SetsNone (answering seq asked reply.result e)) (sym is) (record { lines = λ path. by_result path seq asked reply.result (calm_none path s asked calm); put_in = refl })
   reply_none seq s asked reply (sets a l by there same resolves) = absurd (not_launched l there)
   reply_none seq s asked reply (begins l by here there is) = absurd (not_launched l there)
-  reply_none seq s asked reply (resumes_by pace l by here there is) = absurd (not_launched l there)
-  reply_none seq s asked reply (is_over pace by here is) =
-      subst (λ (r : Reply). SetsNone (answering seq asked r.result r.effect)) (sym is) (record { lines = λ path. going_none path asked (paced_goes asked pace by); put_in = refl })
+  reply_none seq s asked reply (resumes_by resume_kind l by here there is) = absurd (not_launched l there)
+  reply_none seq s asked reply (is_over resume_kind by here is) =
+      subst (λ (r : Reply). SetsNone (answering seq asked r.result r.effect)) (sym is) (record { lines = λ path. going_none path asked (resuming_goes asked resume_kind by); put_in = refl })
   reply_none seq s asked reply (retreats m l by back stands there is) = absurd (not_launched l there)
   reply_none seq s asked reply (interrupts a by here is) =
       subst (λ (r : Reply). SetsNone (answering seq asked r.result r.effect)) (sym is) (record { lines = λ path. ap (lines_at path) by; put_in = refl })
@@ -561,10 +561,10 @@ module _ (one : OneProgram) (joins : WrittenJoins) where
       subst (λ (r : Reply). RunsSo past (Some (Answer seq (name_of asked) r.result)) run) (sym is)
       (subst (λ c. RunsSo past (Some (Answer seq (name_of c) (Ok body.None))) run) (sym by)
       (begins_so past l seq (due_first past l) there (subst (λ s. Planned l s (view l past)) here_is (here.planned l there)) run (ap (λ (r : Reply). last_such go r.effect.orders) (sym is) ∙ goes)))
-  reply_so past here seq asked reply (resumes_by pace l by here_is there is) run goes =
+  reply_so past here seq asked reply (resumes_by resume_kind l by here_is there is) run goes =
       subst (λ (r : Reply). RunsSo past (Some (Answer seq (name_of asked) r.result)) run) (sym is)
-      (from_there past l seq asked (body_of pace) _ there (paced_goes asked pace by) (subst (λ s. Planned l s (view l past)) here_is (here.planned l there)) run (ap (λ (r : Reply). last_such go r.effect.orders) (sym is) ∙ goes))
-  reply_so past here seq asked reply (is_over pace by here_is is) run goes = none_so past (Some (Answer seq (name_of asked) reply.result)) run reply.effect.orders _ (ap (λ (r : Reply). r.effect.orders) is) refl goes
+      (from_there past l seq asked (body_of resume_kind) _ there (resuming_goes asked resume_kind by) (subst (λ s. Planned l s (view l past)) here_is (here.planned l there)) run (ap (λ (r : Reply). last_such go r.effect.orders) (sym is) ∙ goes))
+  reply_so past here seq asked reply (is_over resume_kind by here_is is) run goes = none_so past (Some (Answer seq (name_of asked) reply.result)) run reply.effect.orders _ (ap (λ (r : Reply). r.effect.orders) is) refl goes
   reply_so past here seq asked reply (retreats m l by back stands there is) run goes =
       subst (λ (r : Reply). RunsSo past (Some (Answer seq (name_of asked) r.result)) run) (sym is)
       (from_there past l seq asked body.None _ there (back_goes asked m by) (stands_there l (view l past) (situation past) stands (here.planned l there)) run (ap (λ (r : Reply). last_such go r.effect.orders) (sym is) ∙ goes))

@@ -138,8 +138,8 @@ reply_stops_once past s asked reply (sets a l by there same resolves) =
     if_events reply.effect _ (ap (λ (r : Reply). r.effect.events) resolves.reply_is ∙ quiet_in (situation past) past resolves.breakpoints) tt
 reply_stops_once past s asked reply (begins l by here there is) =
     if_events reply.effect _ (ap (λ (r : Reply). r.effect.events) is) (enters_stop_once past l (due_first past l))
-reply_stops_once past s asked reply (resumes_by pace l by here there is) = if_events reply.effect _ (ap (λ (r : Reply). r.effect.events) is) tt
-reply_stops_once past s asked reply (is_over pace by here is) = if_events reply.effect _ (ap (λ (r : Reply). r.effect.events) is) tt
+reply_stops_once past s asked reply (resumes_by resume_kind l by here there is) = if_events reply.effect _ (ap (λ (r : Reply). r.effect.events) is) tt
+reply_stops_once past s asked reply (is_over resume_kind by here is) = if_events reply.effect _ (ap (λ (r : Reply). r.effect.events) is) tt
 reply_stops_once past s asked reply (retreats m l by back stands there is) = if_events reply.effect _ (ap (λ (r : Reply). r.effect.events) is) tt
 reply_stops_once past s asked reply (interrupts a by here is) = if_events reply.effect _ (ap (λ (r : Reply). r.effect.events) is) tt
 reply_stops_once past s asked reply (quits by is) = if_events reply.effect _ (ap (λ (r : Reply). r.effect.events) is) tt

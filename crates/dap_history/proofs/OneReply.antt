@@ -38,7 +38,7 @@ use Rattle.dap_history.specs.Readings.{situation, launched, position}
 use Rattle.dap_history.specs.Replies.{Reply, refused, ordering, causing, OfProgram, on_thread}
 use Rattle.dap_history.specs.Launching.{Launches, launches, syntax}
 use Rattle.dap_history.specs.Breakpoints.{IsAskedAs, AreAskedAs, answer_of, effect_in, line_offset, Resolves, SetsOf, Sets, SetsIn, is_at}
-use Rattle.dap_history.specs.Running.{Pace, enters, resumes, ConfiguresIn, ResumesIn, RetreatsIn}
+use Rattle.dap_history.specs.Running.{ResumeKind, enters, resumes, ConfiguresIn, ResumesIn, RetreatsIn}
 use Rattle.dap_history.specs.Frames.{frame_by_id}
 use Rattle.dap_history.specs.Inspection.{Asked as Of, asked_of, result_reply, EvaluatesIn, RepliesFrom, RepliesAt, Inspects, InspectsIn}
 use Rattle.dap_history.specs.Emission.{RepliesIn, Answers, HasEffect, Causes, IsAfter}
@@ -269,14 +269,14 @@ module _ (once : IsTextOnce) where
   one_configures_in Faulted past r t a b = a ∙ sym b
   one_configures_in Ended past r t a b = a ∙ sym b
 
-  one_resumes_in : (s : Situation) (past : History) (pace : Pace) (thread : ℕ) (r t : Reply) → ResumesIn s past pace thread r → ResumesIn s past pace thread t → r ≡ t
-  one_resumes_in Stopped past pace thread r t a b = one_as (launched past) (resuming past pace thread) r t a b
-  one_resumes_in Running past pace thread r t a b = a ∙ sym b
-  one_resumes_in Faulted past pace thread r t a b = a ∙ sym b
-  one_resumes_in Fresh past pace thread r t a b = a ∙ sym b
-  one_resumes_in Ready past pace thread r t a b = a ∙ sym b
-  one_resumes_in Configuring past pace thread r t a b = a ∙ sym b
-  one_resumes_in Ended past pace thread r t a b = a ∙ sym b
+  one_resumes_in : (s : Situation) (past : History) (resume_kind : ResumeKind) (thread : ℕ) (r t : Reply) → ResumesIn s past resume_kind thread r → ResumesIn s past resume_kind thread t → r ≡ t
+  one_resumes_in Stopped past resume_kind thread r t a b = one_as (launched past) (resuming past resume_kind thread) r t a b
+  one_resumes_in Running past resume_kind thread r t a b = a ∙ sym b
+  one_resumes_in Faulted past resume_kind thread r t a b = a ∙ sym b
+  one_resumes_in Fresh past resume_kind thread r t a b = a ∙ sym b
+  one_resumes_in Ready past resume_kind thread r t a b = a ∙ sym b
+  one_resumes_in Configuring past resume_kind thread r t a b = a ∙ sym b
+  one_resumes_in Ended past resume_kind thread r t a b = a ∙ sym b
 
   one_retreats_in : (s : Situation) (past : History) (m : Mode) (thread : ℕ) (r t : Reply) → RetreatsIn s past m thread r → RetreatsIn s past m thread t → r ≡ t
   one_retreats_in Stopped past m thread r t a b = one_as (launched past) (λ l. on_thread thread (causing body.None (ordering (resumes past l m)))) r t a b

@@ -26,7 +26,7 @@ use Rattle.dap_history.specs.Readings.{go, launched, runs, is_back, is_held, pla
 use Rattle.dap_history.specs.Replies.{Reply, nothing, refused, causing, ordering, OfProgram, on_thread}
 use Rattle.dap_history.specs.Launching.{initialize_in}
 use Rattle.dap_history.specs.Breakpoints.{effect_in, SetsOf, SetsIn, is_at}
-use Rattle.dap_history.specs.Running.{Pace, ToStop, ToNext, ToStep, ToReturn, mode_of, resumes, first_mode, enters, ConfiguresIn, ResumesIn, RetreatsIn, pause_in}
+use Rattle.dap_history.specs.Running.{ResumeKind, ToStop, ToNext, ToStep, ToReturn, mode_of, resumes, first_mode, enters, ConfiguresIn, ResumesIn, RetreatsIn, pause_in}
 use Rattle.dap_history.specs.Frames.{frame_by_id}
 use Rattle.dap_history.specs.Inspection.{Asked, asked_of, scopes, variables, result_reply, EvaluatesIn, RepliesFrom, RepliesAt, InspectsIn}
 use Rattle.dap_history.specs.Emission.{threads_in, RepliesIn}
@@ -210,27 +210,27 @@ configures_in_orders Ended past reply is = if_refused past reply _ is
 
 -- ---- `continue`, `next`, `stepIn`, `stepOut`
 
-forward : (pace : Pace) (depth : ℕ) → goes_back (mode_of pace depth) ≡ false
+forward : (resume_kind : ResumeKind) (depth : ℕ) → goes_back (mode_of resume_kind depth) ≡ false
 forward ToStop depth = refl
 forward ToNext depth = refl
 forward ToStep depth = refl
 forward ToReturn depth = refl
 
-resumes_orders : (s : Situation) → CanRun s → (l : Option Launched) (past : History) (pace : Pace) (thread : ℕ) (reply : Reply) → OfProgram l (λ l. reply ≡ resuming past pace thread l) → OrdersAs None s past reply.effect
-resumes_orders s can None past pace thread reply is = absurd is
-resumes_orders s can (Some l) past pace thread reply is =
-    let m = mode_of pace (depth_at l.program (position past)) in
-    let none : (if goes_back m then Some m else None) ≡ None = ap (λ b. if b then Some m else None) (forward pace (depth_at l.program (position past))) in
+resumes_orders : (s : Situation) → CanRun s → (l : Option Launched) (past : History) (resume_kind : ResumeKind) (thread : ℕ) (reply : Reply) → OfProgram l (λ l. reply ≡ resuming past resume_kind thread l) → OrdersAs None s past reply.effect
+resumes_orders s can None past resume_kind thread reply is = absurd is
+resumes_orders s can (Some l) past resume_kind thread reply is =
+    let m = mode_of resume_kind (depth_at l.program (position past)) in
+    let none : (if goes_back m then Some m else None) ≡ None = ap (λ b. if b then Some m else None) (forward resume_kind (depth_at l.program (position past))) in
     if_reply past reply _ (if_thread past _ (nat_eq thread 1) (record { run = runs_one _ none refl refl refl refl can; put = tt; hold = λ goes. refl })) is
 
-resumes_in_orders : (s : Situation) (past : History) (pace : Pace) (thread : ℕ) (reply : Reply) → ResumesIn s past pace thread reply → OrdersAs None s past reply.effect
-resumes_in_orders Fresh past pace thread reply is = if_refused past reply _ is
-resumes_in_orders Ready past pace thread reply is = if_refused past reply _ is
-resumes_in_orders Configuring past pace thread reply is = if_refused past reply _ is
-resumes_in_orders Running past pace thread reply is = if_refused past reply _ is
-resumes_in_orders Stopped past pace thread reply is = resumes_orders Stopped tt (launched past) past pace thread reply is
-resumes_in_orders Faulted past pace thread reply is = if_reply past reply _ (if_thread past _ (nat_eq thread 1) (record { run = runs_none; put = tt; hold = λ goes. refl })) is
-resumes_in_orders Ended past pace thread reply is = if_refused past reply _ is
+resumes_in_orders : (s : Situation) (past : History) (resume_kind : ResumeKind) (thread : ℕ) (reply : Reply) → ResumesIn s past resume_kind thread reply → OrdersAs None s past reply.effect
+resumes_in_orders Fresh past resume_kind thread reply is = if_refused past reply _ is
+resumes_in_orders Ready past resume_kind thread reply is = if_refused past reply _ is
+resumes_in_orders Configuring past resume_kind thread reply is = if_refused past reply _ is
+resumes_in_orders Running past resume_kind thread reply is = if_refused past reply _ is
+resumes_in_orders Stopped past resume_kind thread reply is = resumes_orders Stopped tt (launched past) past resume_kind thread reply is
+resumes_in_orders Faulted past resume_kind thread reply is = if_reply past reply _ (if_thread past _ (nat_eq thread 1) (record { run = runs_none; put = tt; hold = λ goes. refl })) is
+resumes_in_orders Ended past resume_kind thread reply is = if_refused past reply _ is
 
 -- ---- `stepBack`, `reverseContinue`
 

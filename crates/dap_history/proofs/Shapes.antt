@@ -17,7 +17,7 @@ use Rattle.dap_history.specs.History.{Launched, History}
 use Rattle.dap_history.specs.Readings.{launched, position}
 use Rattle.dap_history.specs.Replies.{Reply, nothing, reporting, ordering, answered, refused, causing, OfProgram, ends, on_thread}
 use Rattle.dap_history.specs.Breakpoints.{hold_once, Resolves, SetsOf, SetsIn, is_at}
-use Rattle.dap_history.specs.Running.{Pace, ToStop, ToNext, ToStep, ToReturn, mode_of, body_of, resumes, enters, ConfiguresIn, ResumesIn, RetreatsIn, pause_in}
+use Rattle.dap_history.specs.Running.{ResumeKind, ToStop, ToNext, ToStep, ToReturn, mode_of, body_of, resumes, enters, ConfiguresIn, ResumesIn, RetreatsIn, pause_in}
 use Rattle.dap_history.specs.Emission.{RepliesIn}
 use Rattle.dap_history.specs.GoingBack.{back_by}
 use Rattle.dap_history.specs.Stops.{IsStanding}
@@ -25,12 +25,12 @@ use Rattle.dap_history.proofs.Silent.{resuming, due_first}
 use Rattle.dap_history.proofs.Ordered.{initialize_nothing, threads_nothing, effect_is, inspects_in}
 
 -- how a command asks the program to go on, if it does
-abbrev pub pace_by : Command → Option Pace
-pace_by (command.Continue asked) = Some ToStop
-pace_by (command.Next asked) = Some ToNext
-pace_by (command.StepIn asked) = Some ToStep
-pace_by (command.StepOut asked) = Some ToReturn
-pace_by _ = None
+abbrev pub resume_kind_by : Command → Option ResumeKind
+resume_kind_by (command.Continue asked) = Some ToStop
+resume_kind_by (command.Next asked) = Some ToNext
+resume_kind_by (command.StepIn asked) = Some ToStep
+resume_kind_by (command.StepOut asked) = Some ToReturn
+resume_kind_by _ = None
 
 -- a command that is answered and has no effect: a pause where the program stands, lines of another source, or a question
 abbrev pub IsCalm : History → Situation → Command → Type 0
@@ -49,9 +49,9 @@ pub data Shape (past : History) (s : Situation) (asked : Command) (reply : Reply
   is_calm : IsCalm past s asked → reply.effect ≡ nothing → Shape past s asked reply
   sets : (a : SetBreakpointsArguments) (l : Launched) → asked ≡ command.SetBreakpoints a → launched past ≡ Some l → is_at a.path l.path ≡ true → Resolves past l a.breakpoints reply → Shape past s asked reply
   begins : (l : Launched) → asked ≡ command.ConfigurationDone → s ≡ Configuring → launched past ≡ Some l → reply ≡ causing body.None (enters past l (due_first past l)) → Shape past s asked reply
-  resumes_by : (pace : Pace) (l : Launched) → pace_by asked ≡ Some pace → s ≡ Stopped → launched past ≡ Some l
-      → reply ≡ causing (body_of pace) (ordering (resumes past l (mode_of pace (depth_at l.program (position past))))) → Shape past s asked reply
-  is_over : (pace : Pace) → pace_by asked ≡ Some pace → s ≡ Faulted → reply ≡ causing (body_of pace) (reporting (ends 1)) → Shape past s asked reply
+  resumes_by : (resume_kind : ResumeKind) (l : Launched) → resume_kind_by asked ≡ Some resume_kind → s ≡ Stopped → launched past ≡ Some l
+      → reply ≡ causing (body_of resume_kind) (ordering (resumes past l (mode_of resume_kind (depth_at l.program (position past))))) → Shape past s asked reply
+  is_over : (resume_kind : ResumeKind) → resume_kind_by asked ≡ Some resume_kind → s ≡ Faulted → reply ≡ causing (body_of resume_kind) (reporting (ends 1)) → Shape past s asked reply
   retreats : (m : Mode) (l : Launched) → back_by asked ≡ Some m → goes_back m ≡ true → IsStanding s → launched past ≡ Some l → reply ≡ causing body.None (ordering (resumes past l m)) → Shape past s asked reply
   interrupts : (a : ThreadArguments) → asked ≡ command.Pause a → s ≡ Running → reply ≡ causing body.None (ordering (hold_once past)) → Shape past s asked reply
   quits : asked ≡ command.Disconnect → reply ≡ causing body.None (ordering (Quit ∷ [])) → Shape past s asked reply
@@ -94,25 +94,25 @@ module _ (past : History) (reply : Reply) where
   configures_shape Faulted is = refuses _ is
   configures_shape Ended is = refuses _ is
 
-  resumes_shape : (s : Situation) (asked : Command) (pace : Pace) (thread : ℕ) → pace_by asked ≡ Some pace → ResumesIn s past pace thread reply → Shape past s asked reply
-  resumes_shape Stopped asked pace thread by is = of_program past (launched past) refl (λ l. reply ≡ resuming past pace thread l) (Shape past Stopped asked reply) at_program is
+  resumes_shape : (s : Situation) (asked : Command) (resume_kind : ResumeKind) (thread : ℕ) → resume_kind_by asked ≡ Some resume_kind → ResumesIn s past resume_kind thread reply → Shape past s asked reply
+  resumes_shape Stopped asked resume_kind thread by is = of_program past (launched past) refl (λ l. reply ≡ resuming past resume_kind thread l) (Shape past Stopped asked reply) at_program is
     where
-      at_program : (l : Launched) → launched past ≡ Some l → reply ≡ resuming past pace thread l → Shape past Stopped asked reply
-      at_program l there says = by_case (by_thread (causing (body_of pace) (ordering (resumes past l (mode_of pace (depth_at l.program (position past)))))) (nat_eq thread 1) says)
+      at_program : (l : Launched) → launched past ≡ Some l → reply ≡ resuming past resume_kind thread l → Shape past Stopped asked reply
+      at_program l there says = by_case (by_thread (causing (body_of resume_kind) (ordering (resumes past l (mode_of resume_kind (depth_at l.program (position past)))))) (nat_eq thread 1) says)
         where
-          by_case : (reply ≡ causing (body_of pace) (ordering (resumes past l (mode_of pace (depth_at l.program (position past)))))) ⊎ (reply ≡ refused refusal.UnknownThread) → Shape past Stopped asked reply
-          by_case (inl goes) = resumes_by pace l by refl there goes
+          by_case : (reply ≡ causing (body_of resume_kind) (ordering (resumes past l (mode_of resume_kind (depth_at l.program (position past)))))) ⊎ (reply ≡ refused refusal.UnknownThread) → Shape past Stopped asked reply
+          by_case (inl goes) = resumes_by resume_kind l by refl there goes
           by_case (inr other) = refuses _ other
-  resumes_shape Faulted asked pace thread by is = by_case (by_thread (causing (body_of pace) (reporting (ends 1))) (nat_eq thread 1) is)
+  resumes_shape Faulted asked resume_kind thread by is = by_case (by_thread (causing (body_of resume_kind) (reporting (ends 1))) (nat_eq thread 1) is)
     where
-      by_case : (reply ≡ causing (body_of pace) (reporting (ends 1))) ⊎ (reply ≡ refused refusal.UnknownThread) → Shape past Faulted asked reply
-      by_case (inl over) = is_over pace by refl over
+      by_case : (reply ≡ causing (body_of resume_kind) (reporting (ends 1))) ⊎ (reply ≡ refused refusal.UnknownThread) → Shape past Faulted asked reply
+      by_case (inl over) = is_over resume_kind by refl over
       by_case (inr other) = refuses _ other
-  resumes_shape Fresh asked pace thread by is = refuses _ is
-  resumes_shape Ready asked pace thread by is = refuses _ is
-  resumes_shape Configuring asked pace thread by is = refuses _ is
-  resumes_shape Running asked pace thread by is = refuses _ is
-  resumes_shape Ended asked pace thread by is = refuses _ is
+  resumes_shape Fresh asked resume_kind thread by is = refuses _ is
+  resumes_shape Ready asked resume_kind thread by is = refuses _ is
+  resumes_shape Configuring asked resume_kind thread by is = refuses _ is
+  resumes_shape Running asked resume_kind thread by is = refuses _ is
+  resumes_shape Ended asked resume_kind thread by is = refuses _ is
 
   module _ (asked : Command) (m : Mode) (by : back_by asked ≡ Some m) (back : goes_back m ≡ true) where
     retreats_launched : (s : Situation) → IsStanding s → (thread : ℕ) → OfProgram (launched past) (λ l. reply ≡ on_thread thread (causing body.None (ordering (resumes past l m)))) → Shape past s asked reply

@@ -34,7 +34,7 @@ use Rattle.dap_history.specs.Readings.{go, launched, runs, is_back, is_held, pla
 use Rattle.dap_history.specs.Replies.{Reply, nothing, refused, causing, ordering, OfProgram, on_thread, stop_of, stops as stop_events}
 use Rattle.dap_history.specs.Launching.{initialize_in}
 use Rattle.dap_history.specs.Breakpoints.{effect_in, SetsOf, Sets, SetsIn, is_at}
-use Rattle.dap_history.specs.Running.{Pace, mode_of, body_of, resumes, first_mode, first_logs, enters, ConfiguresIn, ResumesIn, RetreatsIn, pause_in}
+use Rattle.dap_history.specs.Running.{ResumeKind, mode_of, body_of, resumes, first_mode, first_logs, enters, ConfiguresIn, ResumesIn, RetreatsIn, pause_in}
 use Rattle.dap_history.specs.Frames.{frame_by_id}
 use Rattle.dap_history.specs.Inspection.{Asked, asked_of, scopes, variables, result_reply, EvaluatesIn, RepliesFrom, RepliesAt, InspectsIn}
 use Rattle.dap_history.specs.Emission.{threads_in, RepliesIn}
@@ -196,24 +196,24 @@ configures_in_silent Stopped past reply is = as_refusal configuration_done past 
 configures_in_silent Faulted past reply is = as_refusal configuration_done past reply _ is
 configures_in_silent Ended past reply is = as_refusal configuration_done past reply _ is
 
-abbrev pub resuming : History → Pace → ℕ → Launched → Reply
-resuming past pace thread l =
-    on_thread thread (causing (body_of pace) (ordering (resumes past l (mode_of pace (depth_at l.program (position past))))))
+abbrev pub resuming : History → ResumeKind → ℕ → Launched → Reply
+resuming past resume_kind thread l =
+    on_thread thread (causing (body_of resume_kind) (ordering (resumes past l (mode_of resume_kind (depth_at l.program (position past))))))
 
-resumes_silent : {s : Situation} (l : Option Launched) (past : History) (pace : Pace) (thread : ℕ) (reply : Reply) → launched past ≡ l → OfProgram l (λ l. reply ≡ resuming past pace thread l) → IsSilent false s past reply.effect
-resumes_silent None past pace thread reply is says = absurd says
-resumes_silent (Some l) past pace thread reply is says =
+resumes_silent : {s : Situation} (l : Option Launched) (past : History) (resume_kind : ResumeKind) (thread : ℕ) (reply : Reply) → launched past ≡ l → OfProgram l (λ l. reply ≡ resuming past resume_kind thread l) → IsSilent false s past reply.effect
+resumes_silent None past resume_kind thread reply is says = absurd says
+resumes_silent (Some l) past resume_kind thread reply is says =
     silent_if past reply _ (thread_silent past _ (nat_eq thread 1) (record { no_numbers = refl; no_launch = refl; goes = of_text _ l is refl refl; runs_are = next_run _ refl; stops = no_stop; logs = no_logs refl })) says
 
-resumes_in_silent : (s : Situation) (past : History) (pace : Pace) (thread : ℕ) (reply : Reply) → ResumesIn s past pace thread reply → IsSilent false s past reply.effect
-resumes_in_silent Fresh past pace thread reply is = silent_if past reply _ (nothing_silent past) is
-resumes_in_silent Ready past pace thread reply is = silent_if past reply _ (nothing_silent past) is
-resumes_in_silent Configuring past pace thread reply is = silent_if past reply _ (nothing_silent past) is
-resumes_in_silent Running past pace thread reply is = silent_if past reply _ (nothing_silent past) is
-resumes_in_silent Stopped past pace thread reply is = resumes_silent (launched past) past pace thread reply refl is
-resumes_in_silent Faulted past pace thread reply is =
+resumes_in_silent : (s : Situation) (past : History) (resume_kind : ResumeKind) (thread : ℕ) (reply : Reply) → ResumesIn s past resume_kind thread reply → IsSilent false s past reply.effect
+resumes_in_silent Fresh past resume_kind thread reply is = silent_if past reply _ (nothing_silent past) is
+resumes_in_silent Ready past resume_kind thread reply is = silent_if past reply _ (nothing_silent past) is
+resumes_in_silent Configuring past resume_kind thread reply is = silent_if past reply _ (nothing_silent past) is
+resumes_in_silent Running past resume_kind thread reply is = silent_if past reply _ (nothing_silent past) is
+resumes_in_silent Stopped past resume_kind thread reply is = resumes_silent (launched past) past resume_kind thread reply refl is
+resumes_in_silent Faulted past resume_kind thread reply is =
     silent_if past reply _ (thread_silent past _ (nat_eq thread 1) (record { no_numbers = refl; no_launch = refl; goes = no_go; runs_are = no_runs; stops = no_stop; logs = no_logs refl })) is
-resumes_in_silent Ended past pace thread reply is = silent_if past reply _ (nothing_silent past) is
+resumes_in_silent Ended past resume_kind thread reply is = silent_if past reply _ (nothing_silent past) is
 
 retreats_silent : {s : Situation} (l : Option Launched) (past : History) (m : Mode) (thread : ℕ) (reply : Reply) → launched past ≡ l
     → OfProgram l (λ l. reply ≡ on_thread thread (causing body.None (ordering (resumes past l m)))) → IsSilent false s past reply.effect

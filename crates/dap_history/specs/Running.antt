@@ -56,34 +56,34 @@ ConfiguresIn _ past reply = reply ≡ refused refusal.WrongPhase
 -- ---- `continue`, `next`, `stepIn`, `stepOut`
 
 -- how the program is to go on
-pub data Pace : Type 0 where
-  ToStop : Pace
-  ToNext : Pace
-  ToStep : Pace
-  ToReturn : Pace
+pub data ResumeKind : Type 0 where
+  ToStop : ResumeKind
+  ToNext : ResumeKind
+  ToStep : ResumeKind
+  ToReturn : ResumeKind
 
 -- the mode, by the depth where the program stands
-abbrev pub mode_of : Pace → ℕ → Mode
+abbrev pub mode_of : ResumeKind → ℕ → Mode
 mode_of ToStop depth = mode.Continue
 mode_of ToNext depth = mode.Over depth
 mode_of ToStep depth = mode.In
 mode_of ToReturn depth = mode.Out depth
 
 -- `continue` alone is answered with a body
-abbrev pub body_of : Pace → Body
+abbrev pub body_of : ResumeKind → Body
 body_of ToStop = body.Continued
 body_of _ = body.None
 
-abbrev pub Resumes : History → Pace → ℕ → Reply → Type 0
-Resumes past pace thread reply = OfProgram (launched past) (λ l. reply
-    ≡ on_thread thread (causing (body_of pace) (ordering (resumes past l (mode_of pace (depth_at l.program (position past)))))))
+abbrev pub Resumes : History → ResumeKind → ℕ → Reply → Type 0
+Resumes past resume_kind thread reply = OfProgram (launched past) (λ l. reply
+    ≡ on_thread thread (causing (body_of resume_kind) (ordering (resumes past l (mode_of resume_kind (depth_at l.program (position past)))))))
 
 -- Profile: after a fault the program is over, with the code 1.
-abbrev pub ResumesIn : Situation → History → Pace → ℕ → Reply → Type 0
-ResumesIn Running past pace thread reply = reply ≡ refused refusal.NotStopped
-ResumesIn Stopped past pace thread reply = Resumes past pace thread reply
-ResumesIn Faulted past pace thread reply = reply ≡ on_thread thread (causing (body_of pace) (reporting (ends 1)))
-ResumesIn _ past pace thread reply = reply ≡ refused refusal.WrongPhase
+abbrev pub ResumesIn : Situation → History → ResumeKind → ℕ → Reply → Type 0
+ResumesIn Running past resume_kind thread reply = reply ≡ refused refusal.NotStopped
+ResumesIn Stopped past resume_kind thread reply = Resumes past resume_kind thread reply
+ResumesIn Faulted past resume_kind thread reply = reply ≡ on_thread thread (causing (body_of resume_kind) (reporting (ends 1)))
+ResumesIn _ past resume_kind thread reply = reply ≡ refused refusal.WrongPhase
 
 -- ---- `stepBack`, `reverseContinue`
 

@@ -4,7 +4,7 @@ use crate::run::Run;
 use crate::unstarted::Unstarted;
 use dap_history::Launch;
 use dap_msg::{InitializeArguments, Text};
-use dbg_runner::Considered;
+use dbg_runner::StoppedDebuggee;
 use pl0_unit::Unit;
 use std::sync::Arc;
 
@@ -22,9 +22,9 @@ pub enum Phase {
     /// The runner has the debuggee.
     Running(Target, Run),
     /// The program stopped.
-    Stopped(Target, Considered),
+    Stopped(Target, StoppedDebuggee),
     /// The program stopped before a step that faults.
-    Faulted(Target, Considered),
+    Faulted(Target, StoppedDebuggee),
     /// The program is over.
     Ended(Target, Arc<Unit>),
 }

@@ -9,7 +9,7 @@ ghost use Rattle.dbg_plan.specs.Plans.{Listed, breakpoints_of};
 ghost use Rattle.dap_phase.specs.Runs.{with_waiting};
 
 use dbg_plan::{Debuggee, Mode, Plan, same_plan};
-use dbg_runner::{Considered, Order, Report, goes_back};
+use dbg_runner::{StoppedDebuggee, Order, Report, goes_back};
 use pl0_code::code_laws;
 use pl0_unit::Unit;
 use std::alloc::AllocError;
@@ -73,7 +73,7 @@ impl Run {
     /// # Errors
     ///
     /// An allocation failed; the debuggee is gone then.
-    pub fn begin(number: u64, debuggee: Considered, mode: Mode) -> Result<(Run, Order), AllocError>
+    pub fn begin(number: u64, debuggee: StoppedDebuggee, mode: Mode) -> Result<(Run, Order), AllocError>
         ensures run { IfOk result (λ r. r.0 ≡ begun debuggee mode) }
         ensures order { IfOk result (λ r. plain_order r.1 ≡ Go (heading number debuggee mode)) }
     {
@@ -172,7 +172,7 @@ impl Run {
     }
 
     /// The debuggee that the runner gave back, with the plan that waited put in.
-    pub fn take_back(self, debuggee: Box<Debuggee>) -> Considered
+    pub fn take_back(self, debuggee: Box<Debuggee>) -> StoppedDebuggee
         requires considered { IsConsidered debuggee.value }
         requires text { text_of debuggee.value.unit ≡ text_of self.unit }
         ensures { result ≡ with_waiting self.waiting_plan debuggee.value }
@@ -183,16 +183,16 @@ impl Run {
 }
 
 // A debuggee with a plan put in, if there is one.
-fn with_plan(mut debuggee: Box<Debuggee>, plan: Option<Arc<Plan>>) -> Considered
+fn with_plan(mut debuggee: Box<Debuggee>, plan: Option<Arc<Plan>>) -> StoppedDebuggee
     requires considered { IsConsidered debuggee.value }
     requires fits { MayBePlanOf debuggee.value.unit (option_map arc_value plan) }
     ensures { result ≡ with_waiting (option_map (λ (p : Listed). plain_breakpoints p.breakpoints) (option_map arc_value plan)) debuggee.value }
 {
     match plan {
-        None => Considered::new(debuggee),
+        None => StoppedDebuggee::new(debuggee),
         Some(plan) => {
             debuggee.set_plan(plan);
-            Considered::new(debuggee)
+            StoppedDebuggee::new(debuggee)
         }
     }
 }

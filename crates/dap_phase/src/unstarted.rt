@@ -3,7 +3,7 @@
 ghost use Rattle.std.specs.Prelude.{◌≡◌};
 
 use dbg_plan::{Debuggee, Logs, Mode, Plan, Reason};
-use dbg_runner::Considered;
+use dbg_runner::StoppedDebuggee;
 use pl0_machine::Machine;
 use pl0_unit::Unit;
 use std::alloc::{AllocError, Global};
@@ -67,13 +67,13 @@ impl Unstarted {
     }
 
     /// Considers the position where the program stands: why it is due, if it is. What it logs is left in `logs`.
-    pub fn consider(self, mode: Mode, logs: &mut Logs) -> (Option<Reason>, Considered)
+    pub fn consider(self, mode: Mode, logs: &mut Logs) -> (Option<Reason>, StoppedDebuggee)
         ensures due { result.0 ≡ due_now self mode }
         ensures logs { logs.new ≡ logs_now self }
         ensures considered { result.1 ≡ record self { next = self.next + 1 } }
     {
         let mut debuggee = self.debuggee;
         let reason = debuggee.consider(mode, logs);
-        (reason, Considered::new(debuggee))
+        (reason, StoppedDebuggee::new(debuggee))
     }
 }

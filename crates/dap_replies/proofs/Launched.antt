@@ -20,7 +20,7 @@ use Rattle.dap_history.specs.Launching.{Launches, launches}
 use Rattle.dap_phase.specs.declared.phase.Phase.TheVariants as phase
 use Rattle.dap_phase.specs.Phases.{IsPhase, IsUnlaunched, IsTarget, IsDebuggee}
 use Rattle.dap_replies.specs.declared.effect.Reply.{Reply as Given}
-use Rattle.dap_replies.specs.Answering.{unmoved}
+use Rattle.dap_replies.specs.Answering.{without_effect}
 use Rattle.dap_replies.specs.Launched.{HasBegun, target_of, unstarted}
 use Rattle.dap_replies.specs.Replied.{HasLaunched, launch_step}
 use Rattle.dap_replies.proofs.Stays.{IsQuiet, phase_stays, settings_stay, runs_stay, position_stays, told_stays, plan_stays}
@@ -31,7 +31,7 @@ quiet_refusal launch file why = record { effect_is = refl; no_mark = refl; sets_
 -- a launch that is refused leaves the session where it waits for one
 pub launch_refused :
     ReadingsGoOn → (settings : InitializeArguments) (launch : Launch) (file : Option (List ℕ)) (why : Refusal) → Launches launch.arguments file (refused why)
-    → (given : Given) → given ≡ unmoved (phase.Ready settings) (Err why)
+    → (given : Given) → given ≡ without_effect (phase.Ready settings) (Err why)
     → (past : History) → IsPhase (phase.Launching settings launch) past → HasLaunched launch file past given
 launch_refused laws settings launch file why refuses given is past waits =
     subst (HasLaunched launch file past) (sym is) (record {

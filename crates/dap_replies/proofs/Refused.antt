@@ -3,7 +3,7 @@ use Rattle.std.proofs.Common.{◌≡◌, ℕ, refl, rules}
 use Rattle.dap_msg.specs.declared.outgoing.Refusal.TheVariants as refusal
 use Rattle.dap_history.specs.History.{History}
 use Rattle.dap_history.specs.Replies.{Reply, refused, on_thread}
-use Rattle.dap_history.specs.Running.{Pace, ConfiguresIn, ResumesIn, RetreatsIn}
+use Rattle.dap_history.specs.Running.{ResumeKind, ConfiguresIn, ResumesIn, RetreatsIn}
 use Rattle.dap_phase.specs.declared.phase.Phase.{Phase}
 use Rattle.dap_phase.specs.declared.phase.Phase.TheVariants as phase
 use Rattle.dap_phase.specs.declared.phase.Target.{Target}
@@ -24,16 +24,16 @@ not_configuring (phase.Faulted t d) past not = refl
 not_configuring (phase.Ended t u) past not = refl
 
 -- no program has begun, or it is over
-pub nothing_resumes : (p : Phase) (past : History) (pace : Pace) (thread : ℕ) → ((t : Target) (run : Ordered) → p ≡ phase.Running t run → ⊥) → ((t : Target) (d : Debugged) → p ≡ phase.Stopped t d → ⊥) → ((t : Target) (d : Debugged) → p ≡ phase.Faulted t d → ⊥)
-    → ResumesIn (situation_of p) past pace thread (refused refusal.WrongPhase)
-nothing_resumes phase.Fresh past pace thread not_running not_stopped not_faulted = refl
-nothing_resumes (phase.Ready s) past pace thread not_running not_stopped not_faulted = refl
-nothing_resumes (phase.Launching s launch) past pace thread not_running not_stopped not_faulted = refl
-nothing_resumes (phase.Configuring t d) past pace thread not_running not_stopped not_faulted = refl
-nothing_resumes (phase.Running t run) past pace thread not_running not_stopped not_faulted = absurd (not_running t run refl)
-nothing_resumes (phase.Stopped t d) past pace thread not_running not_stopped not_faulted = absurd (not_stopped t d refl)
-nothing_resumes (phase.Faulted t d) past pace thread not_running not_stopped not_faulted = absurd (not_faulted t d refl)
-nothing_resumes (phase.Ended t u) past pace thread not_running not_stopped not_faulted = refl
+pub nothing_resumes : (p : Phase) (past : History) (resume_kind : ResumeKind) (thread : ℕ) → ((t : Target) (run : Ordered) → p ≡ phase.Running t run → ⊥) → ((t : Target) (d : Debugged) → p ≡ phase.Stopped t d → ⊥) → ((t : Target) (d : Debugged) → p ≡ phase.Faulted t d → ⊥)
+    → ResumesIn (situation_of p) past resume_kind thread (refused refusal.WrongPhase)
+nothing_resumes phase.Fresh past resume_kind thread not_running not_stopped not_faulted = refl
+nothing_resumes (phase.Ready s) past resume_kind thread not_running not_stopped not_faulted = refl
+nothing_resumes (phase.Launching s launch) past resume_kind thread not_running not_stopped not_faulted = refl
+nothing_resumes (phase.Configuring t d) past resume_kind thread not_running not_stopped not_faulted = refl
+nothing_resumes (phase.Running t run) past resume_kind thread not_running not_stopped not_faulted = absurd (not_running t run refl)
+nothing_resumes (phase.Stopped t d) past resume_kind thread not_running not_stopped not_faulted = absurd (not_stopped t d refl)
+nothing_resumes (phase.Faulted t d) past resume_kind thread not_running not_stopped not_faulted = absurd (not_faulted t d refl)
+nothing_resumes (phase.Ended t u) past resume_kind thread not_running not_stopped not_faulted = refl
 
 pub nothing_retreats : (p : Phase) (past : History) (m : Mode) (thread : ℕ) → ((t : Target) (run : Ordered) → p ≡ phase.Running t run → ⊥) → ((t : Target) (d : Debugged) → p ≡ phase.Stopped t d → ⊥) → ((t : Target) (d : Debugged) → p ≡ phase.Faulted t d → ⊥)
     → RetreatsIn (situation_of p) past m thread (refused refusal.WrongPhase)

@@ -37,11 +37,11 @@ use Rattle.dap_phase.specs.declared.phase.Phase.TheVariants as phase
 use Rattle.dap_phase.specs.declared.phase.Target.{Target}
 use Rattle.dap_phase.specs.Phases.{IsTarget, IsDebuggee, IsPhase}
 use Rattle.dap_replies.specs.declared.effect.Reply.{Reply as Given}
-use Rattle.dap_replies.specs.declared.running.Pace.{Pace}
-use Rattle.dap_replies.specs.declared.running.Pace.TheVariants as pace
+use Rattle.dap_replies.specs.declared.running.ResumeKind.{ResumeKind}
+use Rattle.dap_replies.specs.declared.running.ResumeKind.TheVariants as resume_kind
 use Rattle.dap_replies.specs.declared.retreating.Return.{Return}
 use Rattle.dap_replies.specs.declared.retreating.Return.TheVariants as way
-use Rattle.dap_replies.specs.Paces.{pace_of, resumption, return_by, return_mode}
+use Rattle.dap_replies.specs.ResumeKinds.{resume_kind_of, resumption, return_by, return_mode}
 use Rattle.dap_replies.specs.Replied.{request_step, HasReplied}
 use Rattle.dap_replies.specs.Going.{HasGone, HasStopped, HasEnded, IsOver}
 use Rattle.dap_replies.proofs.Situations.{launched_as}
@@ -79,18 +79,18 @@ configures t d m why past m_is why_is is =
     ∙ ap (λ n. due l.program (plan past).breakpoints n (first_mode l) d.position) is_d.counted_from_is
     ∙ ap (λ n. due l.program (plan past).breakpoints (plan past).counted_from (first_mode l) n) is.keeps.2)))
 
--- a command that resumes is replied to as its pace says
-pub as_paced : (pace : Pace) (asked : ThreadArguments) (s : Situation) (past : History) (reply : Reply) → ResumesIn s past (pace_of pace) asked.thread_id reply → RepliesIn s past (resumption pace asked) reply
-as_paced pace.ToStop asked s past reply is = is
-as_paced pace.ToNext asked s past reply is = is
-as_paced pace.ToStep asked s past reply is = is
-as_paced pace.ToReturn asked s past reply is = is
+-- a command that resumes is replied to as its resume_kind says
+pub as_resumed : (resume_kind : ResumeKind) (asked : ThreadArguments) (s : Situation) (past : History) (reply : Reply) → ResumesIn s past (resume_kind_of resume_kind) asked.thread_id reply → RepliesIn s past (resumption resume_kind asked) reply
+as_resumed resume_kind.ToStop asked s past reply is = is
+as_resumed resume_kind.ToNext asked s past reply is = is
+as_resumed resume_kind.ToStep asked s past reply is = is
+as_resumed resume_kind.ToReturn asked s past reply is = is
 
-pub no_settings : (pace : Pace) (asked : ThreadArguments) → initialize_arguments (resumption pace asked) ≡ None
-no_settings pace.ToStop asked = refl
-no_settings pace.ToNext asked = refl
-no_settings pace.ToStep asked = refl
-no_settings pace.ToReturn asked = refl
+pub no_settings : (resume_kind : ResumeKind) (asked : ThreadArguments) → initialize_arguments (resumption resume_kind asked) ≡ None
+no_settings resume_kind.ToStop asked = refl
+no_settings resume_kind.ToNext asked = refl
+no_settings resume_kind.ToStep asked = refl
+no_settings resume_kind.ToReturn asked = refl
 
 -- ---- what follows an answer
 
@@ -208,33 +208,33 @@ pub depth_there : (m : Standing) (depth : ℕ) → configuration m ≡ Some (fra
 depth_there m depth there depth_is = depth_is ∙ ap (λ c. unwrap_or (option_map length c) 0) (sym there)
 
 -- the program goes on from a stop
-pub resumes_there : ReadingsGoOn → (t : Target) (d : Debugged) (m : Mode) (body : Body) (pace : Pace) (asked : ThreadArguments) (past : History) (given : Given) → asked.thread_id ≡ 1 → body ≡ body_of (pace_of pace)
-    → m ≡ mode_of (pace_of pace) (depth_at (program_of d.unit) d.position) → HasGone t d m body [] given → IsPhase (phase.Stopped t d) past → HasReplied (resumption pace asked) past given
-resumes_there laws t d m body pace asked past given one body_is m_is gone is =
+pub resumes_there : ReadingsGoOn → (t : Target) (d : Debugged) (m : Mode) (body : Body) (resume_kind : ResumeKind) (asked : ThreadArguments) (past : History) (given : Given) → asked.thread_id ≡ 1 → body ≡ body_of (resume_kind_of resume_kind)
+    → m ≡ mode_of (resume_kind_of resume_kind) (depth_at (program_of d.unit) d.position) → HasGone t d m body [] given → IsPhase (phase.Stopped t d) past → HasReplied (resumption resume_kind asked) past given
+resumes_there laws t d m body resume_kind asked past given one body_is m_is gone is =
     let l = launched_as t d.unit in
-    goes_on laws (resumption pace asked) t d m body [] past given (no_settings pace asked) refl is.keeps.0 is.keeps.1 gone
-    (as_paced pace asked (situation past) past (causing body (ordering (resumes past l m)))
-    (subst (λ s. ResumesIn s past (pace_of pace) asked.thread_id (causing body (ordering (resumes past l m)))) (sym is.situation_is)
-    (of_program (launched past) l (λ k. causing body (ordering (resumes past l m)) ≡ on_thread asked.thread_id (causing (body_of (pace_of pace)) (ordering (resumes past k (mode_of (pace_of pace) (depth_at k.program (position past)))))))
+    goes_on laws (resumption resume_kind asked) t d m body [] past given (no_settings resume_kind asked) refl is.keeps.0 is.keeps.1 gone
+    (as_resumed resume_kind asked (situation past) past (causing body (ordering (resumes past l m)))
+    (subst (λ s. ResumesIn s past (resume_kind_of resume_kind) asked.thread_id (causing body (ordering (resumes past l m)))) (sym is.situation_is)
+    (of_program (launched past) l (λ k. causing body (ordering (resumes past l m)) ≡ on_thread asked.thread_id (causing (body_of (resume_kind_of resume_kind)) (ordering (resumes past k (mode_of (resume_kind_of resume_kind) (depth_at k.program (position past)))))))
     is.keeps.0.launched_is
     (ap (λ b. causing b (ordering (resumes past l m))) body_is
-    ∙ ap (λ m. causing (body_of (pace_of pace)) (ordering (resumes past l m))) (m_is ∙ ap (λ n. mode_of (pace_of pace) (depth_at l.program n)) is.keeps.1.position_is)
-    ∙ ap (λ n. on_thread n (causing (body_of (pace_of pace)) (ordering (resumes past l (mode_of (pace_of pace) (depth_at l.program (position past))))))) (sym one)))))
+    ∙ ap (λ m. causing (body_of (resume_kind_of resume_kind)) (ordering (resumes past l m))) (m_is ∙ ap (λ n. mode_of (resume_kind_of resume_kind) (depth_at l.program n)) is.keeps.1.position_is)
+    ∙ ap (λ n. on_thread n (causing (body_of (resume_kind_of resume_kind)) (ordering (resumes past l (mode_of (resume_kind_of resume_kind) (depth_at l.program (position past))))))) (sym one)))))
 
 -- a program that faulted is over
-pub ends_faulted : ReadingsGoOn → (t : Target) (d : Debugged) (body : Body) (pace : Pace) (asked : ThreadArguments) (past : History) (given : Given) → asked.thread_id ≡ 1 → body ≡ body_of (pace_of pace)
-    → HasEnded t d.unit body given → IsPhase (phase.Faulted t d) past → HasReplied (resumption pace asked) past given
-ends_faulted laws t d body pace asked past given one body_is ended is =
-    ends_there laws (resumption pace asked) t d.unit body past given (no_settings pace asked) is.keeps.0 ended
-    (as_paced pace asked (situation past) past (causing body (reporting (ends 1)))
-    (subst (λ s. ResumesIn s past (pace_of pace) asked.thread_id (causing body (reporting (ends 1)))) (sym is.situation_is)
-    (ap (λ b. causing b (reporting (ends 1))) body_is ∙ ap (λ n. on_thread n (causing (body_of (pace_of pace)) (reporting (ends 1)))) (sym one))))
+pub ends_faulted : ReadingsGoOn → (t : Target) (d : Debugged) (body : Body) (resume_kind : ResumeKind) (asked : ThreadArguments) (past : History) (given : Given) → asked.thread_id ≡ 1 → body ≡ body_of (resume_kind_of resume_kind)
+    → HasEnded t d.unit body given → IsPhase (phase.Faulted t d) past → HasReplied (resumption resume_kind asked) past given
+ends_faulted laws t d body resume_kind asked past given one body_is ended is =
+    ends_there laws (resumption resume_kind asked) t d.unit body past given (no_settings resume_kind asked) is.keeps.0 ended
+    (as_resumed resume_kind asked (situation past) past (causing body (reporting (ends 1)))
+    (subst (λ s. ResumesIn s past (resume_kind_of resume_kind) asked.thread_id (causing body (reporting (ends 1)))) (sym is.situation_is)
+    (ap (λ b. causing b (reporting (ends 1))) body_is ∙ ap (λ n. on_thread n (causing (body_of (resume_kind_of resume_kind)) (reporting (ends 1)))) (sym one))))
 
 -- another thread is asked for, where the program stands
-pub stands_refusing : (t : Target) (d : Debugged) (pace : Pace) (asked : ThreadArguments) (past : History) → (asked.thread_id ≡ 1 → ⊥) → IsPhase (phase.Stopped t d) past
-    → RepliesIn situation_is.Stopped past (resumption pace asked) (refused refusal.UnknownThread)
-stands_refusing t d pace asked past other is =
-    as_paced pace asked situation_is.Stopped past (refused refusal.UnknownThread)
+pub stands_refusing : (t : Target) (d : Debugged) (resume_kind : ResumeKind) (asked : ThreadArguments) (past : History) → (asked.thread_id ≡ 1 → ⊥) → IsPhase (phase.Stopped t d) past
+    → RepliesIn situation_is.Stopped past (resumption resume_kind asked) (refused refusal.UnknownThread)
+stands_refusing t d resume_kind asked past other is =
+    as_resumed resume_kind asked situation_is.Stopped past (refused refusal.UnknownThread)
     (of_program (launched past) (launched_as t d.unit) _ is.keeps.0.launched_is (unknown_thread asked.thread_id _ other))
 
 -- ---- `stepBack` and `reverseContinue`

@@ -21,8 +21,8 @@ LeadsNowhere (command.BadArguments k) = ⊥
 LeadsNowhere _ = Unit {0}
 
 -- the reply with this result that nothing follows
-abbrev pub unmoved : Phase → Result Body Refusal → Given
-unmoved phase result = record { result = result; effect = record { events = []; order = None; phase = phase } }
+abbrev pub without_effect : Phase → Result Body Refusal → Given
+without_effect phase result = record { result = result; effect = record { events = []; order = None; phase = phase } }
 
 -- It refuses whatever command is to be refused so.
 abbrev pub Refuses : Refusal → Phase → Given → Type 0

@@ -7,7 +7,7 @@ pub mod Laws
 -- answers after which the phase stays as it is
 pub mod Answering
 -- how the program is to go on
-pub mod Paces
+pub mod ResumeKinds
 pub mod Going
 -- what a launch gives whose program reads
 pub mod Launched

@@ -22,7 +22,7 @@ use dap_msg::{
 };
 use dap_phase::{Phase, Run, Target, Unstarted};
 use dbg_plan::{Plan, Resolution, SourceBreakpoint as AskedLine, resolve};
-use dbg_runner::{Considered, Order};
+use dbg_runner::{StoppedDebuggee, Order};
 use pl0_unit::Unit;
 use std::alloc::{AllocError, Global};
 use std::sync::Arc;
@@ -213,10 +213,10 @@ fn in_run(
 // The answers, and a debuggee that stands, with their plan put in.
 fn put_in(
     alloc: Global,
-    debuggee: Considered,
+    debuggee: StoppedDebuggee,
     settings: InitializeArguments,
     asked: &SetBreakpointsArguments,
-) -> Result<(Items<BreakpointAnswer>, Considered), AllocError>
+) -> Result<(Items<BreakpointAnswer>, StoppedDebuggee), AllocError>
     requires { AreWithin asked.now }
     ensures answered { IfOk result (λ r. AreAnswered (program_of debuggee.unit) (offset settings.lines_start_at_1) asked.now.breakpoints r.0 r.1.breakpoints) }
     ensures plan { IfOk result (λ r. r.1 ≡ record debuggee { breakpoints = r.1.breakpoints; counted_from = debuggee.position + 1 }) }
@@ -224,13 +224,13 @@ fn put_in(
     let mut debuggee = debuggee.into_debuggee();
     let (answers, plan) = resolved(alloc, debuggee.machine().unit(), settings, asked)?;
     debuggee.set_plan(plan);
-    Ok((answers, Considered::new(debuggee)))
+    Ok((answers, StoppedDebuggee::new(debuggee)))
 }
 
 fn at_stop(
     alloc: Global,
     target: Target,
-    debuggee: Considered,
+    debuggee: StoppedDebuggee,
     asked: &SetBreakpointsArguments,
 ) -> Result<Reply, AllocError>
     requires within { AreWithin asked.now }
@@ -245,7 +245,7 @@ fn at_stop(
 fn at_fault(
     alloc: Global,
     target: Target,
-    debuggee: Considered,
+    debuggee: StoppedDebuggee,
     asked: &SetBreakpointsArguments,
 ) -> Result<Reply, AllocError>
     requires within { AreWithin asked.now }

@@ -6,7 +6,7 @@ ghost use Rattle.dap_replies.specs.Going.{Stands, WaitsToPause};
 ghost use Rattle.dap_replies.specs.Replied.{Replies};
 
 use crate::effect::{Effect, Reply};
-use crate::refusing::{refuse, unmoved};
+use crate::refusing::{refuse, without_effect};
 use dap_history::reading_laws;
 use dap_msg::{Body, Items, Refusal, ThreadArguments};
 use dap_phase::{Phase, Run, Target};
@@ -49,7 +49,7 @@ fn remain(alloc: Global, phase: Phase, asked: ThreadArguments) -> Reply
     if asked.thread_id != 1 {
         return refuse(alloc, phase, Refusal::UnknownThread);
     }
-    unmoved(alloc, phase, Ok(Body::None))
+    without_effect(alloc, phase, Ok(Body::None))
 }
 
 /// Replies to `pause`.

@@ -1,7 +1,7 @@
 // Answers after which the phase stays as it is.
 
 ghost use Rattle.std.specs.Prelude.{◌≡◌, Ok, Err};
-ghost use Rattle.dap_replies.specs.Answering.{unmoved, Refuses, Answers};
+ghost use Rattle.dap_replies.specs.Answering.{without_effect, Refuses, Answers};
 
 use crate::effect::{Effect, Reply};
 use dap_history::reading_laws;
@@ -11,11 +11,11 @@ use std::alloc::Global;
 
 /// Refuses a command.
 pub(crate) fn refuse(alloc: Global, phase: Phase, why: Refusal) -> Reply
-    ensures is { result ≡ unmoved phase (Err why) }
+    ensures is { result ≡ without_effect phase (Err why) }
     ensures refuses { Refuses why phase result }
 {
     reading_laws();
-    unmoved(alloc, phase, Err(why))
+    without_effect(alloc, phase, Err(why))
 }
 
 /// Answers a command with success.
@@ -30,12 +30,12 @@ pub(crate) fn conclude(alloc: Global, phase: Phase, given: Result<Body, Refusal>
     ensures { Answers given phase result }
 {
     reading_laws();
-    unmoved(alloc, phase, given)
+    without_effect(alloc, phase, given)
 }
 
 /// A reply that nothing follows.
-pub(crate) fn unmoved(alloc: Global, phase: Phase, given: Result<Body, Refusal>) -> Reply
-    ensures { result ≡ unmoved phase given }
+pub(crate) fn without_effect(alloc: Global, phase: Phase, given: Result<Body, Refusal>) -> Reply
+    ensures { result ≡ without_effect phase given }
 {
     Reply {
         result: given,

@@ -13,7 +13,7 @@ use crate::inspecting::inspect;
 use crate::pausing::pause;
 use crate::refusing::refuse;
 use crate::retreating::{Return, retreat};
-use crate::running::{Pace, configuration_done, resume};
+use crate::running::{ResumeKind, configuration_done, resume};
 use crate::threads::threads;
 use dap_msg::{Command, Refusal};
 use dap_phase::Phase;
@@ -35,10 +35,10 @@ pub fn reply(alloc: Global, phase: Phase, command: &Command) -> Result<Reply, Al
         Command::SetBreakpoints(asked) => set_breakpoints(alloc, phase, asked),
         Command::ConfigurationDone => configuration_done(alloc, phase),
         Command::Threads => Ok(threads(alloc, phase)),
-        Command::Continue(asked) => resume(alloc, phase, Pace::ToStop, *asked),
-        Command::Next(asked) => resume(alloc, phase, Pace::ToNext, *asked),
-        Command::StepIn(asked) => resume(alloc, phase, Pace::ToStep, *asked),
-        Command::StepOut(asked) => resume(alloc, phase, Pace::ToReturn, *asked),
+        Command::Continue(asked) => resume(alloc, phase, ResumeKind::ToStop, *asked),
+        Command::Next(asked) => resume(alloc, phase, ResumeKind::ToNext, *asked),
+        Command::StepIn(asked) => resume(alloc, phase, ResumeKind::ToStep, *asked),
+        Command::StepOut(asked) => resume(alloc, phase, ResumeKind::ToReturn, *asked),
         Command::StepBack(asked) => retreat(alloc, phase, Return::ByStep, *asked),
         Command::ReverseContinue(asked) => retreat(alloc, phase, Return::ToStop, *asked),
         Command::Pause(asked) => Ok(pause(alloc, phase, *asked)),

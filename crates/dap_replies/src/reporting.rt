@@ -20,7 +20,7 @@ use dap_history::reading_laws;
 use dap_msg::{EventBody, Exception, Items, StopReason};
 use dap_phase::{Phase, Run, Target};
 use dbg_plan::Reason;
-use dbg_runner::{Considered, Report, SliceOutcome};
+use dbg_runner::{StoppedDebuggee, Report, SliceOutcome};
 use pl0_meaning::RunFault;
 use std::alloc::{AllocError, Global};
 
@@ -88,7 +88,7 @@ fn stand(
 }
 
 // The phase in which the program stands for this reason.
-fn standing(target: Target, debuggee: Considered, reason: StopReason) -> Phase
+fn standing(target: Target, debuggee: StoppedDebuggee, reason: StopReason) -> Phase
     ensures { result ≡ standing target debuggee reason }
 {
     match reason {
@@ -217,7 +217,7 @@ fn exception(fault: RunFault) -> Exception
 }
 
 // The debuggee that the report carries, with the plan that waited put in.
-fn take_back(run: Run, report: Report) -> Considered
+fn take_back(run: Run, report: Report) -> StoppedDebuggee
     requires stops { Stops report.outcome }
     requires text { text_of report.unit ≡ text_of run.unit }
     ensures { result ≡ with_waiting run.waiting_plan (stopped report (trail_in report.debuggee)) }

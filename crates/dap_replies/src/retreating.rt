@@ -2,7 +2,7 @@
 
 ghost use Rattle.std.specs.Prelude.{IfOk};
 ghost use Rattle.dap_phase.specs.declared.phase.Phase.TheVariants as phase_is;
-ghost use Rattle.dap_replies.specs.Paces.{return_by};
+ghost use Rattle.dap_replies.specs.ResumeKinds.{return_by};
 ghost use Rattle.dap_replies.specs.Replied.{Replies};
 
 use crate::effect::Reply;
@@ -12,7 +12,7 @@ use dap_history::reading_laws;
 use dap_msg::{Body, Refusal, ThreadArguments};
 use dap_phase::{Phase, Target};
 use dbg_plan::Mode;
-use dbg_runner::Considered;
+use dbg_runner::StoppedDebuggee;
 use std::alloc::{AllocError, Global};
 
 /// How the program is to go back.
@@ -26,7 +26,7 @@ pub(crate) enum Return {
 
 impl Return {
     ghost use Rattle.std.specs.Prelude.{◌≡◌};
-    ghost use Rattle.dap_replies.specs.Paces.{return_mode};
+    ghost use Rattle.dap_replies.specs.ResumeKinds.{return_mode};
 
     // The mode of the run.
     fn mode(self) -> Mode
@@ -43,7 +43,7 @@ impl Return {
 fn go_back(
     alloc: Global,
     target: Target,
-    debuggee: Considered,
+    debuggee: StoppedDebuggee,
     way: Return,
     asked: ThreadArguments,
 ) -> Result<Reply, AllocError>
@@ -61,7 +61,7 @@ fn go_back(
 fn go_back_faulted(
     alloc: Global,
     target: Target,
-    debuggee: Considered,
+    debuggee: StoppedDebuggee,
     way: Return,
     asked: ThreadArguments,
 ) -> Result<Reply, AllocError>

@@ -6,7 +6,7 @@ ghost use Rattle.dbg_plan.specs.declared.mode.Mode.TheVariants as mode_is;
 ghost use Rattle.dap_phase.specs.declared.phase.Phase.TheVariants as phase_is;
 ghost use Rattle.dap_history.specs.Replies.{told_logs};
 ghost use Rattle.dap_replies.specs.Going.{HasGone, HasStopped, HasEnded};
-ghost use Rattle.dap_replies.specs.Paces.{resumption};
+ghost use Rattle.dap_replies.specs.ResumeKinds.{resumption};
 ghost use Rattle.dap_replies.specs.Replied.{Replies};
 
 use crate::effect::{Effect, Reply};
@@ -17,13 +17,13 @@ use dap_history::reading_laws;
 use dap_msg::{Body, EventBody, Items, Refusal, ThreadArguments};
 use dap_phase::{Phase, Run, Target, Unstarted};
 use dbg_plan::{Logs, Mode, Reason};
-use dbg_runner::Considered;
+use dbg_runner::StoppedDebuggee;
 use std::alloc::{AllocError, Global};
 use std::sync::Arc;
 
 /// How the program is to go on.
 #[derive(Clone, Copy)]
-pub(crate) enum Pace {
+pub(crate) enum ResumeKind {
     /// To a breakpoint: `continue`.
     ToStop,
     /// To the next step that is no deeper: `next`.
@@ -34,32 +34,32 @@ pub(crate) enum Pace {
     ToReturn,
 }
 
-impl Pace {
+impl ResumeKind {
     ghost use Rattle.std.specs.Prelude.{◌≡◌};
     ghost use Rattle.dap_history.specs.Running.{body_of, mode_of};
-    ghost use Rattle.dap_replies.specs.Paces.{pace_of};
+    ghost use Rattle.dap_replies.specs.ResumeKinds.{resume_kind_of};
 
     // The mode of a run that begins where this many frames are alive.
     fn mode(self, depth: usize) -> Mode
-        ensures { result ≡ mode_of (pace_of self) depth }
+        ensures { result ≡ mode_of (resume_kind_of self) depth }
     {
         match self {
-            Pace::ToStop => Mode::Continue,
-            Pace::ToNext => Mode::Over(depth),
-            Pace::ToStep => Mode::In,
-            Pace::ToReturn => Mode::Out(depth),
+            ResumeKind::ToStop => Mode::Continue,
+            ResumeKind::ToNext => Mode::Over(depth),
+            ResumeKind::ToStep => Mode::In,
+            ResumeKind::ToReturn => Mode::Out(depth),
         }
     }
 
     // The body of the answer.
     fn body(self) -> Body
-        ensures { result ≡ body_of (pace_of self) }
+        ensures { result ≡ body_of (resume_kind_of self) }
     {
         match self {
-            Pace::ToStop => Body::Continued,
-            Pace::ToNext => Body::None,
-            Pace::ToStep => Body::None,
-            Pace::ToReturn => Body::None,
+            ResumeKind::ToStop => Body::Continued,
+            ResumeKind::ToNext => Body::None,
+            ResumeKind::ToStep => Body::None,
+            ResumeKind::ToReturn => Body::None,
         }
     }
 }
@@ -71,7 +71,7 @@ impl Pace {
 /// An allocation failed, or no run number is left.
 pub(crate) fn go(
     target: Target,
-    debuggee: Considered,
+    debuggee: StoppedDebuggee,
     mode: Mode,
     body: Body,
     events: Vec<EventBody>,
@@ -97,7 +97,7 @@ pub(crate) fn go(
 // An answer, these events, and the stop where the program stands.
 fn stop(
     target: Target,
-    debuggee: Considered,
+    debuggee: StoppedDebuggee,
     reason: Reason,
     mut events: Vec<EventBody>,
 ) -> Result<Reply, AllocError>
@@ -126,7 +126,7 @@ fn first_mode(target: &Target) -> Mode
 }
 
 // The logs of a debuggee, as events.
-fn logged(alloc: Global, debuggee: &Considered, logs: &Logs) -> Result<Vec<EventBody>, AllocError>
+fn logged(alloc: Global, debuggee: &StoppedDebuggee, logs: &Logs) -> Result<Vec<EventBody>, AllocError>
     ensures { IfOk result (λ events. events.items ≡ told_logs debuggee.now.breakpoints logs.now) }
 {
     let mut events = Vec::new(alloc);
@@ -169,7 +169,7 @@ pub(crate) fn configuration_done(alloc: Global, phase: Phase) -> Result<Reply, A
 }
 
 // An answer, and the end of the program, which faulted.
-fn end(alloc: Global, target: Target, debuggee: Considered, body: Body) -> Result<Reply, AllocError>
+fn end(alloc: Global, target: Target, debuggee: StoppedDebuggee, body: Body) -> Result<Reply, AllocError>
     ensures { IfOk result (HasEnded target debuggee.unit body) }
 {
     let unit = Arc::try_clone(debuggee.debuggee().machine().unit())?;
@@ -188,37 +188,37 @@ fn end(alloc: Global, target: Target, debuggee: Considered, body: Body) -> Resul
 fn go_on(
     alloc: Global,
     target: Target,
-    debuggee: Considered,
-    pace: Pace,
+    debuggee: StoppedDebuggee,
+    resume_kind: ResumeKind,
     asked: ThreadArguments,
 ) -> Result<Reply, AllocError>
-    ensures { IfOk result (Replies (resumption pace asked) (phase_is.Stopped target debuggee)) }
+    ensures { IfOk result (Replies (resumption resume_kind asked) (phase_is.Stopped target debuggee)) }
 {
     reading_laws();
     if asked.thread_id != 1 {
         let phase = Phase::Stopped(target, debuggee);
         return Ok(refuse(alloc, phase, Refusal::UnknownThread));
     }
-    let mode = pace.mode(debuggee.debuggee().machine().depth());
-    go(target, debuggee, mode, pace.body(), Vec::new(alloc))
+    let mode = resume_kind.mode(debuggee.debuggee().machine().depth());
+    go(target, debuggee, mode, resume_kind.body(), Vec::new(alloc))
 }
 
 // Ends the program from a fault, whatever was asked for.
 fn end_faulted(
     alloc: Global,
     target: Target,
-    debuggee: Considered,
-    pace: Pace,
+    debuggee: StoppedDebuggee,
+    resume_kind: ResumeKind,
     asked: ThreadArguments,
 ) -> Result<Reply, AllocError>
-    ensures { IfOk result (Replies (resumption pace asked) (phase_is.Faulted target debuggee)) }
+    ensures { IfOk result (Replies (resumption resume_kind asked) (phase_is.Faulted target debuggee)) }
 {
     reading_laws();
     if asked.thread_id != 1 {
         let phase = Phase::Faulted(target, debuggee);
         return Ok(refuse(alloc, phase, Refusal::UnknownThread));
     }
-    end(alloc, target, debuggee, pace.body())
+    end(alloc, target, debuggee, resume_kind.body())
 }
 
 /// Replies to `continue`, `next`, `stepIn` and `stepOut`.
@@ -229,10 +229,10 @@ fn end_faulted(
 pub(crate) fn resume(
     alloc: Global,
     phase: Phase,
-    pace: Pace,
+    resume_kind: ResumeKind,
     asked: ThreadArguments,
 ) -> Result<Reply, AllocError>
-    ensures { IfOk result (Replies (resumption pace asked) phase) }
+    ensures { IfOk result (Replies (resumption resume_kind asked) phase) }
 {
     reading_laws();
     match phase {
@@ -240,8 +240,8 @@ pub(crate) fn resume(
             let phase = Phase::Running(target, run);
             Ok(refuse(alloc, phase, Refusal::NotStopped))
         }
-        Phase::Stopped(target, debuggee) => go_on(alloc, target, debuggee, pace, asked),
-        Phase::Faulted(target, debuggee) => end_faulted(alloc, target, debuggee, pace, asked),
+        Phase::Stopped(target, debuggee) => go_on(alloc, target, debuggee, resume_kind, asked),
+        Phase::Faulted(target, debuggee) => end_faulted(alloc, target, debuggee, resume_kind, asked),
         phase => Ok(refuse(alloc, phase, Refusal::WrongPhase)),
     }
 }

@@ -7,7 +7,7 @@ use Rattle.atomic_table.proofs.shared.Seat.TheSendSync as seat
 use Rattle.crossbeam_queue.proofs.array_queue.Slotted.TheSendSync as slotted
 use Rattle.crossbeam_utils.proofs.sync.parker.RuledParker.TheSendSync as parker
 use Rattle.dbg_runner.proofs.Crossing.{report_send, order_send}
-use Rattle.dbg_runner.proofs.history.History.TheSendSync as history
+use Rattle.dbg_runner.proofs.ghost_list.GhostList.TheSendSync as history
 use Rattle.dap_session.specs.contracts.ports.Event as Event
 use Rattle.dap_wires.proofs.ends.SendEnd.TheSendSync as send_end
 use Rattle.dap_wires.specs.contracts.arrival.Arrival as Arrival

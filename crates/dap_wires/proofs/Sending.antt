@@ -12,8 +12,8 @@ use Rattle.dbg_runner.specs.Plain.{PlainReport}
 use Rattle.dbg_runner.specs.Reported.{Reported, plain_report}
 use Rattle.dap_wires.specs.declared.arrival.Arrival.{Arrival}
 use Rattle.dap_wires.specs.declared.arrival.Arrival.TheVariants as arrival
-use Rattle.dap_wires.specs.declared.parcel.Parcel.{Parcel}
-use Rattle.dap_wires.specs.declared.parcel.Parcel.TheVariants as parcel
+use Rattle.dap_wires.specs.declared.writer_message.WriterMessage.{WriterMessage}
+use Rattle.dap_wires.specs.declared.writer_message.WriterMessage.TheVariants as message
 use Rattle.dap_wires.specs.declared.end_log.EndLog.{EndLog}
 use Rattle.dap_wires.specs.Delivery.{of_first, of_second, put}
 use Rattle.dap_wires.specs.Inbox.{came}
@@ -189,32 +189,32 @@ quiet_kept (x ∷ old) r all one =
     let each = both (is_quiet x) (are_quiet old) all in
     ap (λ b. b && are_quiet (old ++ r ∷ [])) each.0 ∙ quiet_kept old r each.1 one
 
--- ---- parcels
+-- ---- messages
 
-pub frames_append : (xs ys : List Parcel) → frames_in (xs ++ ys) ≡ frames_in xs ++ frames_in ys
+pub frames_append : (xs ys : List WriterMessage) → frames_in (xs ++ ys) ≡ frames_in xs ++ frames_in ys
 frames_append [] ys = refl
-frames_append (parcel.Frame frame ∷ xs) ys = ap (λ l. frame.items ∷ l) (frames_append xs ys)
-frames_append (parcel.End ∷ xs) ys = frames_append xs ys
+frames_append (message.Frame frame ∷ xs) ys = ap (λ l. frame.items ∷ l) (frames_append xs ys)
+frames_append (message.End ∷ xs) ys = frames_append xs ys
 
 -- frames were put, and one more
-pub frame_keeps_open : (xs : List Parcel) (frame : _) → has_end xs ≡ false → has_end (xs ++ parcel.Frame frame ∷ []) ≡ false
+pub frame_keeps_open : (xs : List WriterMessage) (frame : _) → has_end xs ≡ false → has_end (xs ++ message.Frame frame ∷ []) ≡ false
 frame_keeps_open [] frame none = refl
-frame_keeps_open (parcel.Frame first ∷ xs) frame none = frame_keeps_open xs frame none
-frame_keeps_open (parcel.End ∷ xs) frame none = none
+frame_keeps_open (message.Frame first ∷ xs) frame none = frame_keeps_open xs frame none
+frame_keeps_open (message.End ∷ xs) frame none = none
 
 -- frames were put, and then the end
-pub end_ends : (xs : List Parcel) → has_end xs ≡ false → AreEnded (xs ++ parcel.End ∷ [])
+pub end_ends : (xs : List WriterMessage) → has_end xs ≡ false → AreEnded (xs ++ message.End ∷ [])
 end_ends [] none = tt
-end_ends (parcel.Frame first ∷ xs) none = end_ends xs none
-end_ends (parcel.End ∷ xs) none = absurd (true≢false none)
+end_ends (message.Frame first ∷ xs) none = end_ends xs none
+end_ends (message.End ∷ xs) none = absurd (true≢false none)
 
 -- the end is no frame
-pub frames_end : (xs : List Parcel) → frames_in (xs ++ parcel.End ∷ []) ≡ frames_in xs
-frames_end xs = frames_append xs (parcel.End ∷ []) ∙ append-nil (frames_in xs)
+pub frames_end : (xs : List WriterMessage) → frames_in (xs ++ message.End ∷ []) ≡ frames_in xs
+frames_end xs = frames_append xs (message.End ∷ []) ∙ append-nil (frames_in xs)
 
 -- what was taken is a beginning of what was put
-pub parcels_begin : (put taken inside : List Parcel) → put ≡ of_first (λ _. false) (taken ++ inside) → Begins taken put
-parcels_begin put taken inside is = (inside, sym (is ∙ all_first (taken ++ inside)))
+pub messages_begin : (put taken inside : List WriterMessage) → put ≡ of_first (λ _. false) (taken ++ inside) → Begins taken put
+messages_begin put taken inside is = (inside, sym (is ∙ all_first (taken ++ inside)))
 
 -- Nothing was refused.
 pub none_mapped : {A B : Type 0} (f : A → B) (xs : List A) → xs ≡ [] → map f xs ≡ []
@@ -222,12 +222,12 @@ none_mapped f xs none = ap (map f) none
 
 -- The end was put, or handed back.
 module _ {A B : Type 0} where
-  pub finish_ends : (answer : Result A B) (old new : EndLog Parcel) → OnOk answer (new ≡ put (λ _. false) old parcel.End) → OnErr answer (new ≡ old)
+  pub finish_ends : (answer : Result A B) (old new : EndLog WriterMessage) → OnOk answer (new ≡ put (λ _. false) old message.End) → OnErr answer (new ≡ old)
       → has_end old.put_first ≡ false → (has_end new.put_first ≡ false) ⊎ AreEnded new.put_first
   finish_ends (Ok done) old new sent refused none = inr (subst AreEnded (sym (ap (λ v. v.put_first) sent)) (end_ends old.put_first none))
   finish_ends (Err back) old new sent refused none = inl (ap (λ v. has_end v.put_first) refused ∙ none)
 
-  pub finish_keeps : (answer : Result A B) (old new : EndLog Parcel) → OnOk answer (new ≡ put (λ _. false) old parcel.End) → OnErr answer (new ≡ old)
+  pub finish_keeps : (answer : Result A B) (old new : EndLog WriterMessage) → OnOk answer (new ≡ put (λ _. false) old message.End) → OnErr answer (new ≡ old)
       → frames_in new.put_first ≡ frames_in old.put_first
   finish_keeps (Ok done) old new sent refused = ap (λ v. frames_in v.put_first) sent ∙ frames_end old.put_first
   finish_keeps (Err back) old new sent refused = ap (λ v. frames_in v.put_first) refused

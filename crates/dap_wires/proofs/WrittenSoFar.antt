@@ -4,8 +4,8 @@ use Rattle.std.specs.List.{concat}
 use Rattle.std.specs.Prelude.{◌<◌}
 use Rattle.std.specs.Io.KnownBytes.{Appends}
 use Rattle.std.proofs.lemmas.List.Folds.{concat-append}
-use Rattle.dap_wires.specs.declared.parcel.Parcel.{Parcel}
-use Rattle.dap_wires.specs.declared.parcel.Parcel.TheVariants as parcel
+use Rattle.dap_wires.specs.declared.writer_message.WriterMessage.{WriterMessage}
+use Rattle.dap_wires.specs.declared.writer_message.WriterMessage.TheVariants as message
 use Rattle.dap_wires.specs.Parcels.{frames_in, has_end, AreEnded}
 use Rattle.byte_streams.specs.Streams.{Output, AppendsPart, WritesAll, FailsIn}
 use Rattle.dap_wires.proofs.Growing.{one_more}
@@ -13,41 +13,41 @@ use Rattle.byte_streams.proofs.Known.{appends_none, appends_both}
 use Rattle.dap_wires.proofs.Sending.{frames_append, frame_keeps_open, end_ends, frames_end}
 
 -- frames were taken, and written whole
-pub record WrittenSoFar (taken_old taken_new : List Parcel) (old later : Output) : Type 0 where
-  pub taken : List Parcel
+pub record WrittenSoFar (taken_old taken_new : List WriterMessage) (old later : Output) : Type 0 where
+  pub taken : List WriterMessage
   pub taken_is : taken_new ≡ taken_old ++ taken
   pub no_end : has_end taken ≡ false
   pub written : Appends old.written later.written (concat (frames_in taken))
   pub failures : later.failures ≡ old.failures
 
-pub written_begins : (taken : List Parcel) (old : Output) → WrittenSoFar taken taken old old
+pub written_begins : (taken : List WriterMessage) (old : Output) → WrittenSoFar taken taken old old
 written_begins taken old = record { taken = []; taken_is = sym (append-nil taken); no_end = refl; written = appends_none old.written; failures = refl }
 
 -- nothing was taken
-pub written_waits : (taken_old taken_mid taken_new : List Parcel) (old later : Output) → WrittenSoFar taken_old taken_mid old later → taken_new ≡ taken_mid → WrittenSoFar taken_old taken_new old later
+pub written_waits : (taken_old taken_mid taken_new : List WriterMessage) (old later : Output) → WrittenSoFar taken_old taken_mid old later → taken_new ≡ taken_mid → WrittenSoFar taken_old taken_new old later
 written_waits taken_old taken_mid taken_new old later w same = record { taken = w.taken; taken_is = same ∙ w.taken_is; no_end = w.no_end; written = w.written; failures = w.failures }
 
-bytes_append : (taken : List Parcel) (frame : _) → concat (frames_in taken) ++ frame.items ≡ concat (frames_in (taken ++ parcel.Frame frame ∷ []))
-bytes_append taken frame = sym (ap concat (frames_append taken (parcel.Frame frame ∷ [])) ∙ concat-append (frames_in taken) (frame.items ∷ []) ∙ ap (λ l. concat (frames_in taken) ++ l) (append-nil frame.items))
+bytes_append : (taken : List WriterMessage) (frame : _) → concat (frames_in taken) ++ frame.items ≡ concat (frames_in (taken ++ message.Frame frame ∷ []))
+bytes_append taken frame = sym (ap concat (frames_append taken (message.Frame frame ∷ [])) ∙ concat-append (frames_in taken) (frame.items ∷ []) ∙ ap (λ l. concat (frames_in taken) ++ l) (append-nil frame.items))
 
 -- one more frame was taken, and written whole
-pub written_goes_on : (taken_old taken_mid taken_new : List Parcel) (old mid later : Output) (frame : _) → WrittenSoFar taken_old taken_mid old mid → taken_new ≡ taken_mid ++ parcel.Frame frame ∷ []
+pub written_goes_on : (taken_old taken_mid taken_new : List WriterMessage) (old mid later : Output) (frame : _) → WrittenSoFar taken_old taken_mid old mid → taken_new ≡ taken_mid ++ message.Frame frame ∷ []
     → Appends mid.written later.written frame.items → later.failures ≡ mid.failures → WrittenSoFar taken_old taken_new old later
 written_goes_on taken_old taken_mid taken_new old mid later frame w took wrote count = record {
-  taken = w.taken ++ parcel.Frame frame ∷ [];
-  taken_is = one_more taken_old taken_mid taken_new w.taken (parcel.Frame frame) w.taken_is took;
+  taken = w.taken ++ message.Frame frame ∷ [];
+  taken_is = one_more taken_old taken_mid taken_new w.taken (message.Frame frame) w.taken_is took;
   no_end = frame_keeps_open w.taken frame w.no_end;
   written = subst (Appends old.written later.written) (bytes_append w.taken frame) (appends_both old.written mid.written later.written (concat (frames_in w.taken)) frame.items w.written wrote);
   failures = count ∙ w.failures;
 }
 
 -- a frame was taken, and a beginning of it was written
-pub written_breaks : (taken_old taken_mid taken_new : List Parcel) (old mid later : Output) (frame : _) → WrittenSoFar taken_old taken_mid old mid → taken_new ≡ taken_mid ++ parcel.Frame frame ∷ []
+pub written_breaks : (taken_old taken_mid taken_new : List WriterMessage) (old mid later : Output) (frame : _) → WrittenSoFar taken_old taken_mid old mid → taken_new ≡ taken_mid ++ message.Frame frame ∷ []
     → AppendsPart mid.written later.written frame.items → mid.failures < later.failures
-    → (taken : List Parcel) × (taken_new ≡ taken_old ++ taken) × ((has_end taken ≡ false) × FailsIn (concat (frames_in taken)) old later)
+    → (taken : List WriterMessage) × (taken_new ≡ taken_old ++ taken) × ((has_end taken ≡ false) × FailsIn (concat (frames_in taken)) old later)
 written_breaks taken_old taken_mid taken_new old mid later frame w took wrote count = (
-  w.taken ++ parcel.Frame frame ∷ [],
-  one_more taken_old taken_mid taken_new w.taken (parcel.Frame frame) w.taken_is took,
+  w.taken ++ message.Frame frame ∷ [],
+  one_more taken_old taken_mid taken_new w.taken (message.Frame frame) w.taken_is took,
   (
     frame_keeps_open w.taken frame w.no_end,
     (
@@ -62,10 +62,10 @@ written_breaks taken_old taken_mid taken_new old mid later frame w took wrote co
 )
 
 -- the end was taken
-pub written_ends : (taken_old taken_mid taken_new : List Parcel) (old later : Output) → WrittenSoFar taken_old taken_mid old later → taken_new ≡ taken_mid ++ parcel.End ∷ []
-    → (taken : List Parcel) × (taken_new ≡ taken_old ++ taken) × (AreEnded taken × WritesAll (concat (frames_in taken)) old later)
+pub written_ends : (taken_old taken_mid taken_new : List WriterMessage) (old later : Output) → WrittenSoFar taken_old taken_mid old later → taken_new ≡ taken_mid ++ message.End ∷ []
+    → (taken : List WriterMessage) × (taken_new ≡ taken_old ++ taken) × (AreEnded taken × WritesAll (concat (frames_in taken)) old later)
 written_ends taken_old taken_mid taken_new old later w took = (
-  w.taken ++ parcel.End ∷ [],
-  one_more taken_old taken_mid taken_new w.taken parcel.End w.taken_is took,
+  w.taken ++ message.End ∷ [],
+  one_more taken_old taken_mid taken_new w.taken message.End w.taken_is took,
   (end_ends w.taken w.no_end, (subst (Appends old.written later.written) (ap concat (sym (frames_end w.taken))) w.written, w.failures)),
 )

@@ -8,11 +8,11 @@ use Rattle.crossbeam_channel.specs.Ends.{sends_on, receives_on, ruled_capacity}
 use Rattle.dap_wires.specs.declared.end_log.EndLog.{EndLog}
 use Rattle.dap_wires.specs.declared.ends.SendEnd.{SendEnd}
 use Rattle.dap_wires.specs.declared.ends.ReceiveEnd.{ReceiveEnd}
-use Rattle.dap_wires.specs.declared.ends.Receipt.{Receipt}
+use Rattle.dap_wires.specs.declared.ends.ReceiveLog.{ReceiveLog}
 
 -- which queue an end belongs to
-abbrev pub Home : Type 0 → Type 0
-Home M = TableId × Badge (Key M)
+abbrev pub QueueId : Type 0 → Type 0
+QueueId M = TableId × Badge (Key M)
 
 module _ {M R : Type 0} where
   -- what was done at an end
@@ -22,11 +22,11 @@ module _ {M R : Type 0} where
   abbrev pub receiver_log : ReceiveEnd M R → EndLog M
   receiver_log e = view e.pass
 
-  abbrev pub sender_home : SendEnd M R → Home M
-  sender_home e = (e.pass.table_id, e.pass.me.0.of)
+  abbrev pub sender_queue : SendEnd M R → QueueId M
+  sender_queue e = (e.pass.table_id, e.pass.me.0.of)
 
-  abbrev pub receiver_home : ReceiveEnd M R → Home M
-  receiver_home e = (e.pass.table_id, e.pass.me.0.of)
+  abbrev pub receiver_queue : ReceiveEnd M R → QueueId M
+  receiver_queue e = (e.pass.table_id, e.pass.me.0.of)
 
   -- how many messages the queue of an end has room for
   abbrev pub sender_room : SendEnd M R → ℕ
@@ -36,8 +36,8 @@ module _ {M R : Type 0} where
   receiver_room e = ruled_capacity (receives_on e.receiver)
 
 module _ {M : Type 0} where
-  abbrev pub receipt_log : Receipt M → EndLog M
-  receipt_log r = view r.pass
+  abbrev pub receive_log : ReceiveLog M → EndLog M
+  receive_log r = view r.pass
 
-  abbrev pub receipt_home : Receipt M → Home M
-  receipt_home r = (r.pass.table_id, r.pass.me.0.of)
+  abbrev pub receive_log_queue : ReceiveLog M → QueueId M
+  receive_log_queue r = (r.pass.table_id, r.pass.me.0.of)

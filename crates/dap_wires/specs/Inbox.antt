@@ -9,8 +9,8 @@ use Rattle.dap_wires.specs.declared.arrival.Arrival.{Arrival}
 use Rattle.dap_wires.specs.declared.event_ends.ClientSender.{ClientSender}
 use Rattle.dap_wires.specs.declared.event_ends.ReportSender.{ReportSender}
 use Rattle.dap_wires.specs.declared.event_ends.EventReceiver.{EventReceiver}
-use Rattle.dap_wires.specs.declared.event_ends.InboxReceipt.{InboxReceipt}
-use Rattle.dap_wires.specs.Ends.{Home, sender_log, sender_home, receiver_home, receipt_home}
+use Rattle.dap_wires.specs.declared.event_ends.InboxLog.{InboxLog}
+use Rattle.dap_wires.specs.Ends.{QueueId, sender_log, sender_queue, receiver_queue, receive_log_queue}
 use Rattle.dap_wires.specs.Senders.{events_in, reports_among}
 
 -- the events that came by these arrivals
@@ -37,18 +37,18 @@ module _ {R : Type 0} where
   abbrev pub taken_events : EventReceiver R → List Incoming
   taken_events e = map incoming_of e.given.entries
 
-  abbrev pub client_home : ClientSender R → Home Arrival
-  client_home e = sender_home e.end
+  abbrev pub client_queue : ClientSender R → QueueId Arrival
+  client_queue e = sender_queue e.end
 
-  abbrev pub report_home : ReportSender R → Home Arrival
-  report_home e = sender_home e.end
+  abbrev pub report_queue : ReportSender R → QueueId Arrival
+  report_queue e = sender_queue e.end
 
-  abbrev pub event_home : EventReceiver R → Home Arrival
-  event_home e = receiver_home e.end
+  abbrev pub event_queue : EventReceiver R → QueueId Arrival
+  event_queue e = receiver_queue e.end
 
 -- what the session was given by an inbox that it has left
-abbrev pub received : InboxReceipt → List Incoming
+abbrev pub received : InboxLog → List Incoming
 received r = map incoming_of r.given.entries
 
-abbrev pub left_home : InboxReceipt → Home Arrival
-left_home r = receipt_home r.receipt
+abbrev pub left_queue : InboxLog → QueueId Arrival
+left_queue r = receive_log_queue r.received

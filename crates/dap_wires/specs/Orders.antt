@@ -27,8 +27,8 @@ module _ {R : Type 0} where
   taken_orders e = map plain_order (view e.pass).taken
 
   -- which queue an end belongs to
-  abbrev pub push_home : OrderSender R → TableId
-  push_home e = e.pass.table_id
+  abbrev pub push_queue : OrderSender R → TableId
+  push_queue e = e.pass.table_id
 
-  abbrev pub pop_home : OrderReceiver R → TableId
-  pop_home e = e.pass.table_id
+  abbrev pub pop_queue : OrderReceiver R → TableId
+  pop_queue e = e.pass.table_id

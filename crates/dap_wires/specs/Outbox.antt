@@ -1,11 +1,11 @@
 -- What went through an outbox, as plain data.
 use Rattle.std.specs.Prelude.{List, map}
-use Rattle.dap_wires.specs.declared.ends.Receipt.{Receipt}
-use Rattle.dap_wires.specs.declared.parcel.Parcel.{Parcel}
+use Rattle.dap_wires.specs.declared.ends.ReceiveLog.{ReceiveLog}
+use Rattle.dap_wires.specs.declared.writer_message.WriterMessage.{WriterMessage}
 use Rattle.dap_wires.specs.declared.frame_ends.FrameSender.{FrameSender}
 use Rattle.dap_wires.specs.declared.frame_ends.EndedSender.{EndedSender}
 use Rattle.dap_wires.specs.declared.frame_ends.FrameReceiver.{FrameReceiver}
-use Rattle.dap_wires.specs.Ends.{Home, sender_log, sender_home, receiver_log, receiver_home, receipt_log}
+use Rattle.dap_wires.specs.Ends.{QueueId, sender_log, sender_queue, receiver_log, receiver_queue, receive_log}
 use Rattle.dap_wires.specs.Parcels.{frames_in}
 use Rattle.dap_session.specs.Ports.{Written}
 
@@ -14,29 +14,29 @@ module _ {R : Type 0} where
   abbrev pub put_frames : FrameSender R → Written
   put_frames e = record { frames = frames_in (sender_log e.end).put_first; refused = map (λ frame. frame.items) e.refused.entries }
 
-  abbrev pub frame_home : FrameSender R → Home Parcel
-  frame_home e = sender_home e.end
+  abbrev pub frame_queue : FrameSender R → QueueId WriterMessage
+  frame_queue e = sender_queue e.end
 
-  abbrev pub unused_home : FrameSender R → Home Parcel
-  unused_home e = sender_home e.unused
+  abbrev pub unused_queue : FrameSender R → QueueId WriterMessage
+  unused_queue e = sender_queue e.unused
 
   -- all that was put until the session ended, with the end where it was put too
-  abbrev pub parcels_put : EndedSender R → List Parcel
-  parcels_put e = (sender_log e.end).put_first
+  abbrev pub messages_put : EndedSender R → List WriterMessage
+  messages_put e = (sender_log e.end).put_first
 
-  abbrev pub ended_home : EndedSender R → Home Parcel
-  ended_home e = sender_home e.end
+  abbrev pub ended_queue : EndedSender R → QueueId WriterMessage
+  ended_queue e = sender_queue e.end
 
-  abbrev pub ended_unused_home : EndedSender R → Home Parcel
-  ended_unused_home e = sender_home e.unused
+  abbrev pub ended_unused_queue : EndedSender R → QueueId WriterMessage
+  ended_unused_queue e = sender_queue e.unused
 
   -- what the writer took
-  abbrev pub parcels_taken : FrameReceiver R → List Parcel
-  parcels_taken e = (receiver_log e.end).taken
+  abbrev pub messages_taken : FrameReceiver R → List WriterMessage
+  messages_taken e = (receiver_log e.end).taken
 
-  abbrev pub parcel_home : FrameReceiver R → Home Parcel
-  parcel_home e = receiver_home e.end
+  abbrev pub writer_queue : FrameReceiver R → QueueId WriterMessage
+  writer_queue e = receiver_queue e.end
 
 -- what was taken from an outbox that the writer has left
-abbrev pub parcels_received : Receipt Parcel → List Parcel
-parcels_received r = (receipt_log r).taken
+abbrev pub messages_received : ReceiveLog WriterMessage → List WriterMessage
+messages_received r = (receive_log r).taken

@@ -1,23 +1,23 @@
 -- What a writer gets.
 use Rattle.std.specs.Prelude.{ℕ, Bool, true, false, List, [], ◌∷◌}
-use Rattle.dap_wires.specs.declared.parcel.Parcel.{Parcel}
-use Rattle.dap_wires.specs.declared.parcel.Parcel.TheVariants.{Frame, End}
+use Rattle.dap_wires.specs.declared.writer_message.WriterMessage.{WriterMessage}
+use Rattle.dap_wires.specs.declared.writer_message.WriterMessage.TheVariants.{Frame, End}
 
 -- the frames among these
-abbrev pub frames_in : List Parcel → List (List ℕ)
+abbrev pub frames_in : List WriterMessage → List (List ℕ)
 frames_in [] = []
-frames_in (Frame frame ∷ parcels) = frame.items ∷ frames_in parcels
-frames_in (End ∷ parcels) = frames_in parcels
+frames_in (Frame frame ∷ messages) = frame.items ∷ frames_in messages
+frames_in (End ∷ messages) = frames_in messages
 
 -- the end is among these
-abbrev pub has_end : List Parcel → Bool
+abbrev pub has_end : List WriterMessage → Bool
 has_end [] = false
-has_end (Frame frame ∷ parcels) = has_end parcels
-has_end (End ∷ parcels) = true
+has_end (Frame frame ∷ messages) = has_end messages
+has_end (End ∷ messages) = true
 
 -- frames, and then the end
-abbrev pub AreEnded : List Parcel → Type 0
+abbrev pub AreEnded : List WriterMessage → Type 0
 AreEnded [] = ⊥
-AreEnded (Frame frame ∷ parcels) = AreEnded parcels
+AreEnded (Frame frame ∷ messages) = AreEnded messages
 AreEnded (End ∷ []) = Unit {0}
-AreEnded (End ∷ p ∷ parcels) = ⊥
+AreEnded (End ∷ p ∷ messages) = ⊥

@@ -2,9 +2,9 @@
 
 ghost use Rattle.std.specs.Prelude.{◌≡◌, ◌<◌, true, false, [], IfOk, IfErr, OnOk, OnErr, IfSome, IfNone, List, ◌++◌};
 ghost use Rattle.dap_wires.specs.Delivery.{log, put, took, May, of_first, of_second};
-ghost use Rattle.dap_wires.specs.Ends.{sender_log, receiver_log, receipt_log, sender_home, receiver_home, receipt_home, sender_room, receiver_room};
+ghost use Rattle.dap_wires.specs.Ends.{sender_log, receiver_log, receive_log, sender_queue, receiver_queue, receive_log_queue, sender_room, receiver_room};
 
-use crate::ends::{Receipt, ReceiveEnd, SendEnd};
+use crate::ends::{ReceiveLog, ReceiveEnd, SendEnd};
 use crate::rule::{First, Puts, Second, Sent, Takes, Whole};
 use crossbeam_channel::{SendError, bounded_with};
 use std::alloc::{AllocError, Global};
@@ -24,7 +24,7 @@ pub(crate) fn channel<M: Sent + Drop, R: Wait + Copy + Drop>(
     ensures first { IfOk result (λ r. sender_log r.0 ≡ log true false false [] [] []) }
     ensures second { IfOk result (λ r. sender_log r.1 ≡ log false true false [] [] []) }
     ensures receiver { IfOk result (λ r. receiver_log r.2 ≡ log false false true [] [] []) }
-    ensures one { IfOk result (λ r. (sender_home r.1 ≡ sender_home r.0) × (receiver_home r.2 ≡ sender_home r.0)) }
+    ensures one { IfOk result (λ r. (sender_queue r.1 ≡ sender_queue r.0) × (receiver_queue r.2 ≡ sender_queue r.0)) }
     ensures room { IfOk result (λ r. (sender_room r.0 ≡ capacity) × (sender_room r.1 ≡ capacity) × (receiver_room r.2 ≡ capacity)) }
 {
     let (sender, receiver, mut pass) = bounded_with(alloc, capacity)?;
@@ -47,18 +47,18 @@ pub(crate) fn channel<M: Sent + Drop, R: Wait + Copy + Drop>(
 }
 
 /// When all have ended: of each sender, what was taken and then what is left inside is what it sent.
-pub(crate) fn settle<M: Sent + Drop, R: Wait + Drop>(
+pub(crate) fn reconcile<M: Sent + Drop, R: Wait + Drop>(
     first: SendEnd<M, R>,
     second: SendEnd<M, R>,
-    receipt: Receipt<M>,
+    received: ReceiveLog<M>,
 )
-    requires one { (sender_home second ≡ sender_home first) × (receipt_home receipt ≡ sender_home first) }
+    requires one { (sender_queue second ≡ sender_queue first) × (receive_log_queue received ≡ sender_queue first) }
     requires first { (sender_log first).first ≡ true }
     requires second { (sender_log second).second ≡ true }
-    requires receiver { (receipt_log receipt).takes ≡ true }
+    requires receiver { (receive_log received).takes ≡ true }
     ensures { (inside : List M)
-        × ((sender_log first).put_first ≡ of_first M.by_second ((receipt_log receipt).taken ++ inside))
-        × ((sender_log second).put_second ≡ of_second M.by_second ((receipt_log receipt).taken ++ inside)) }
+        × ((sender_log first).put_first ≡ of_first M.by_second ((receive_log received).taken ++ inside))
+        × ((sender_log second).put_second ≡ of_second M.by_second ((receive_log received).taken ++ inside)) }
 {
     let SendEnd {
         sender,
@@ -66,7 +66,7 @@ pub(crate) fn settle<M: Sent + Drop, R: Wait + Drop>(
         ..
     } = first;
     let SendEnd { pass: two, .. } = second;
-    let Receipt { mut pass } = receipt;
+    let ReceiveLog { mut pass } = received;
     sender.absorb::<First>(&mut pass, one);
     sender.absorb::<Second>(&mut pass, two);
     sender.learn_as::<Whole>(&mut pass);
@@ -79,7 +79,7 @@ impl<M: Sent + Drop, R: Wait + Drop> SendEnd<M, R> {
         ensures sent { OnOk result (sender_log self.new ≡ put M.by_second (sender_log self.old) message) }
         ensures refused { OnErr result (sender_log self.new ≡ sender_log self.old) }
         ensures back { IfErr result (λ back. back ≡ message) }
-        ensures home { sender_home self.new ≡ sender_home self.old }
+        ensures queue { sender_queue self.new ≡ sender_queue self.old }
         ensures room { sender_room self.new ≡ sender_room self.old }
     {
         let SendEnd { rt, sender, pass } = self;
@@ -98,7 +98,7 @@ impl<M: Sent + Drop, R: Wait + Drop> ReceiveEnd<M, R> {
         requires { (receiver_log self.old).takes ≡ true }
         ensures some { IfSome result (λ m. receiver_log self.new ≡ took (receiver_log self.old) m) }
         ensures none { IfNone result (receiver_log self.new ≡ receiver_log self.old) }
-        ensures home { receiver_home self.new ≡ receiver_home self.old }
+        ensures queue { receiver_queue self.new ≡ receiver_queue self.old }
         ensures room { receiver_room self.new ≡ receiver_room self.old }
     {
         let ReceiveEnd { rt, receiver, pass } = self;
@@ -113,11 +113,11 @@ impl<M: Sent + Drop, R: Wait + Drop> ReceiveEnd<M, R> {
     }
 
     /// Leaves the queue: from now on a send hands its message back.
-    pub(crate) fn leave(self) -> Receipt<M>
-        ensures log { receipt_log result ≡ receiver_log self }
-        ensures home { receipt_home result ≡ receiver_home self }
+    pub(crate) fn leave(self) -> ReceiveLog<M>
+        ensures log { receive_log result ≡ receiver_log self }
+        ensures queue { receive_log_queue result ≡ receiver_queue self }
     {
         let ReceiveEnd { pass, .. } = self;
-        Receipt { pass }
+        ReceiveLog { pass }
     }
 }

@@ -29,7 +29,7 @@ pub(crate) struct ReceiveEnd<M: Sent + Drop, R: Wait + Drop> {
 
 /// What was taken from a queue that its receiver has left.
 #[derive(Drop)]
-pub struct Receipt<M: Drop> {
+pub struct ReceiveLog<M: Drop> {
     pub(crate) pass: Pass<M, EndLog<M>>,
     ghost idle: { pass.me.1 ≡ [] },
 }

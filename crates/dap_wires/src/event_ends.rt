@@ -6,13 +6,13 @@ ghost use Rattle.std.specs.VecDeque.{deque_len};
 ghost use Rattle.std.specs.Coded.{Coded-set, coded_list};
 ghost use Rattle.dap_session.specs.contracts.ports.Event as event_row;
 ghost use Rattle.dap_session.specs.declared.ports.Event.TheVariants as event;
-ghost use Rattle.dap_wires.specs.Ends.{sender_log, receiver_log, receipt_log, sender_room, receiver_room};
+ghost use Rattle.dap_wires.specs.Ends.{sender_log, receiver_log, receive_log, sender_room, receiver_room};
 ghost use Rattle.dap_wires.specs.Senders.{events_in, are_quiet};
 
 use crate::arrival::Arrival;
-use crate::ends::{Receipt, ReceiveEnd, SendEnd};
+use crate::ends::{ReceiveLog, ReceiveEnd, SendEnd};
 use dap_session::Event;
-use dbg_runner::{History, Report};
+use dbg_runner::{GhostList, Report};
 use std::alloc::Global;
 use std::collections::VecDeque;
 use std::sync::Wait;
@@ -32,7 +32,7 @@ pub struct ReportSender<R: Wait + Drop> {
     pub(crate) end: SendEnd<Arrival, R>,
     // What was sent and isn't in the queue yet: reports that tell a client nothing, and few.
     pub(crate) kept: VecDeque<Report>,
-    pub(crate) handed_back: History<Report>,
+    pub(crate) handed_back: GhostList<Report>,
     ghost puts: { (sender_log end).second ≡ true },
     ghost room: { sender_room end ≡ 64 },
     ghost quiet: { are_quiet kept.items ≡ true },
@@ -46,7 +46,7 @@ pub struct EventReceiver<R: Wait + Drop> {
     pub(crate) end: ReceiveEnd<Arrival, R>,
     // What was taken from the queue and isn't given yet.
     pub(crate) rest: VecDeque<Report>,
-    pub(crate) given: History<Event>,
+    pub(crate) given: GhostList<Event>,
     ghost takes: { (receiver_log end).takes ≡ true },
     ghost room: { receiver_room end ≡ 64 },
     ghost in_order: { flat_map events_in (receiver_log end).taken ≡ given.entries ++ map event.Report rest.items } by { Coded-set (coded_list event_row.the_row.coded) _ _ },
@@ -54,10 +54,10 @@ pub struct EventReceiver<R: Wait + Drop> {
 
 /// What a session was given by an inbox that it has left.
 #[derive(Drop)]
-pub struct InboxReceipt {
-    pub(crate) receipt: Receipt<Arrival>,
+pub struct InboxLog {
+    pub(crate) received: ReceiveLog<Arrival>,
     pub(crate) rest: VecDeque<Report>,
-    pub(crate) given: History<Event>,
-    ghost takes: { (receipt_log receipt).takes ≡ true },
-    ghost in_order: { flat_map events_in (receipt_log receipt).taken ≡ given.entries ++ map event.Report rest.items } by { Coded-set (coded_list event_row.the_row.coded) _ _ },
+    pub(crate) given: GhostList<Event>,
+    ghost takes: { (receive_log received).takes ≡ true },
+    ghost in_order: { flat_map events_in (receive_log received).taken ≡ given.entries ++ map event.Report rest.items } by { Coded-set (coded_list event_row.the_row.coded) _ _ },
 }

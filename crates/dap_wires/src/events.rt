@@ -4,14 +4,14 @@ ghost use Rattle.std.specs.Prelude.{◌≡◌, ◌++◌, ◌∷◌, [], true, fa
 ghost use Rattle.dap_session.specs.Incoming.{incoming_of};
 ghost use Rattle.dap_session.specs.Sending.{Begins};
 ghost use Rattle.dbg_runner.specs.Reported.{plain_report};
-ghost use Rattle.dap_wires.specs.Inbox.{client_events, put_reports, sent_reports, refused_reports, taken_events, client_home, report_home, event_home, left_home, received};
+ghost use Rattle.dap_wires.specs.Inbox.{client_events, put_reports, sent_reports, refused_reports, taken_events, client_queue, report_queue, event_queue, left_queue, received};
 ghost use Rattle.dap_wires.specs.Senders.{is_report, from_client, reports_among};
 
 use crate::arrival::{Arrival, is_quiet};
-use crate::channels::{channel, settle};
-use crate::event_ends::{ClientSender, EventReceiver, InboxReceipt, ReportSender};
+use crate::channels::{channel, reconcile};
+use crate::event_ends::{ClientSender, EventReceiver, InboxLog, ReportSender};
 use dap_session::{Event, Inbox};
-use dbg_runner::{History, Report, Reports};
+use dbg_runner::{GhostList, Report, Reports};
 use std::alloc::{AllocError, Global};
 use std::collections::VecDeque;
 use std::mem;
@@ -35,7 +35,7 @@ pub fn inbox<R: Wait + Copy + Drop>(
     ensures client { IfOk result (λ r. client_events r.0 ≡ []) }
     ensures reports { IfOk result (λ r. (sent_reports r.1 ≡ []) × (refused_reports r.1 ≡ [])) }
     ensures events { IfOk result (λ r. taken_events r.2 ≡ []) }
-    ensures one { IfOk result (λ r. (report_home r.1 ≡ client_home r.0) × (event_home r.2 ≡ client_home r.0)) }
+    ensures one { IfOk result (λ r. (report_queue r.1 ≡ client_queue r.0) × (event_queue r.2 ≡ client_queue r.0)) }
 {
     let (client, reports, events) = channel(rt, alloc, INBOX_CAPACITY)?;
     Ok((
@@ -44,29 +44,29 @@ pub fn inbox<R: Wait + Copy + Drop>(
             alloc,
             end: reports,
             kept: VecDeque::new(alloc),
-            handed_back: History::new(),
+            handed_back: GhostList::new(),
         },
         EventReceiver {
             rt,
             end: events,
             rest: VecDeque::new(alloc),
-            given: History::new(),
+            given: GhostList::new(),
         },
     ))
 }
 
 /// When all have ended: what the session was given of the reader's is a beginning of what that sent, and of the runner's
 /// likewise.
-pub fn settle_inbox<R: Wait + Drop>(
+pub fn reconcile_inbox<R: Wait + Drop>(
     client: ClientSender<R>,
     reports: ReportSender<R>,
-    receipt: InboxReceipt,
+    received: InboxLog,
 )
-    requires one { (report_home reports ≡ client_home client) × (left_home receipt ≡ client_home client) }
-    ensures client { Begins (from_client (received receipt)) (client_events client) }
-    ensures reports { Begins (reports_among (received receipt)) (sent_reports reports) }
+    requires one { (report_queue reports ≡ client_queue client) × (left_queue received ≡ client_queue client) }
+    ensures client { Begins (from_client (received received)) (client_events client) }
+    ensures reports { Begins (reports_among (received received)) (sent_reports reports) }
 {
-    settle(client.end, reports.end, receipt.receipt);
+    reconcile(client.end, reports.end, received.received);
 }
 
 impl<R: Wait + Drop> ClientSender<R> {
@@ -76,7 +76,7 @@ impl<R: Wait + Drop> ClientSender<R> {
         ensures sent { OnOk result (client_events self.new ≡ client_events self.old ++ incoming_of event ∷ []) }
         ensures refused { OnErr result (client_events self.new ≡ client_events self.old) }
         ensures back { IfErr result (λ back. back ≡ event) }
-        ensures home { client_home self.new ≡ client_home self.old }
+        ensures queue { client_queue self.new ≡ client_queue self.old }
     {
         match self.end.send(Arrival::Event(event)) {
             Ok(()) => Ok(()),
@@ -91,7 +91,7 @@ impl<R: Wait + Drop> ReportSender<R> {
     fn put_kept(&mut self) -> bool
         ensures sent { sent_reports self.new ≡ sent_reports self.old }
         ensures refused { self.new.handed_back ≡ self.old.handed_back }
-        ensures home { report_home self.new ≡ report_home self.old }
+        ensures queue { report_queue self.new ≡ report_queue self.old }
         ensures none { IsTrue result → self.new.kept.items ≡ [] }
     {
         if self.kept.is_empty() {
@@ -116,7 +116,7 @@ impl<R: Wait + Drop> ReportSender<R> {
         ensures refused { OnErr result (refused_reports self.new ≡ refused_reports self.old ++ plain_report report ∷ []) }
         ensures keeps_sent { OnErr result (sent_reports self.new ≡ sent_reports self.old) }
         ensures back { IfErr result (λ back. back ≡ report) }
-        ensures home { report_home self.new ≡ report_home self.old }
+        ensures queue { report_queue self.new ≡ report_queue self.old }
     {
         if !self.put_kept() {
             return Err(self.hand_back(report));
@@ -142,16 +142,16 @@ impl<R: Wait + Drop> ReportSender<R> {
 /// Sends a report. One that tells a client nothing is kept, until one that does is sent or QUIET_LIMIT are kept.
 impl<R: Wait + Drop> Reports for ReportSender<R> {
     ghost use Rattle.dap_wires.specs.declared.arrival.Arrival.{Arrival};
-    ghost use Rattle.dap_wires.specs.Ends.{Home};
-    ghost use Rattle.dap_wires.specs.Inbox.{sent_reports, refused_reports, report_home};
+    ghost use Rattle.dap_wires.specs.Ends.{QueueId};
+    ghost use Rattle.dap_wires.specs.Inbox.{sent_reports, refused_reports, report_queue};
 
     ghost sent = { sent_reports };
 
     ghost handed_back = { refused_reports };
 
-    ghost Origin = { Home Arrival };
+    ghost Origin = { QueueId Arrival };
 
-    ghost origin = { report_home };
+    ghost origin = { report_queue };
 
     #[tactic(auto, using(crate::proofs::Sending::report_kept, crate::proofs::Sending::quiet_kept))]
     fn send(&mut self, report: Report) -> Result<(), Report> {
@@ -167,9 +167,9 @@ impl<R: Wait + Drop> Reports for ReportSender<R> {
 
 impl<R: Wait + Drop> EventReceiver<R> {
     /// Leaves the inbox: from now on an event that is sent is handed back.
-    pub fn leave(self) -> InboxReceipt
+    pub fn leave(self) -> InboxLog
         ensures received { received result ≡ taken_events self }
-        ensures home { left_home result ≡ event_home self }
+        ensures queue { left_queue result ≡ event_queue self }
     {
         let EventReceiver {
             end,
@@ -177,8 +177,8 @@ impl<R: Wait + Drop> EventReceiver<R> {
             given,
             ..
         } = self;
-        InboxReceipt {
-            receipt: end.leave(),
+        InboxLog {
+            received: end.leave(),
             rest,
             given,
         }
@@ -187,14 +187,14 @@ impl<R: Wait + Drop> EventReceiver<R> {
 
 impl<R: Wait + Drop> Inbox for EventReceiver<R> {
     ghost use Rattle.dap_wires.specs.declared.arrival.Arrival.{Arrival};
-    ghost use Rattle.dap_wires.specs.Ends.{Home};
-    ghost use Rattle.dap_wires.specs.Inbox.{taken_events, event_home};
+    ghost use Rattle.dap_wires.specs.Ends.{QueueId};
+    ghost use Rattle.dap_wires.specs.Inbox.{taken_events, event_queue};
 
     ghost given = { taken_events };
 
-    ghost Origin = { Home Arrival };
+    ghost Origin = { QueueId Arrival };
 
-    ghost origin = { event_home };
+    ghost origin = { event_queue };
 
     fn next(&mut self) -> Event {
         let EventReceiver {

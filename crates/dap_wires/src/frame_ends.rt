@@ -5,17 +5,17 @@ ghost use Rattle.dap_wires.specs.Ends.{sender_log, receiver_log, sender_room, re
 ghost use Rattle.dap_wires.specs.Parcels.{has_end};
 
 use crate::ends::{ReceiveEnd, SendEnd};
-use crate::parcel::Parcel;
-use dbg_runner::History;
+use crate::writer_message::WriterMessage;
+use dbg_runner::GhostList;
 use std::sync::Wait;
 
 /// The end of the session, which puts frames.
 #[derive(Drop)]
 pub struct FrameSender<R: Wait + Drop> {
-    pub(crate) end: SendEnd<Parcel, R>,
+    pub(crate) end: SendEnd<WriterMessage, R>,
     // The second sender's end, which nobody uses.
-    pub(crate) unused: SendEnd<Parcel, R>,
-    pub(crate) refused: History<Vec<u8>>,
+    pub(crate) unused: SendEnd<WriterMessage, R>,
+    pub(crate) refused: GhostList<Vec<u8>>,
     // A frame was refused.
     pub(crate) is_gone: bool,
     ghost puts: { (sender_log end).first ≡ true },
@@ -28,8 +28,8 @@ pub struct FrameSender<R: Wait + Drop> {
 /// The end of a session that puts no more.
 #[derive(Drop)]
 pub struct EndedSender<R: Wait + Drop> {
-    pub(crate) end: SendEnd<Parcel, R>,
-    pub(crate) unused: SendEnd<Parcel, R>,
+    pub(crate) end: SendEnd<WriterMessage, R>,
+    pub(crate) unused: SendEnd<WriterMessage, R>,
     ghost puts: { (sender_log end).first ≡ true },
     ghost unused_puts: { (sender_log unused).second ≡ true },
 }
@@ -37,7 +37,7 @@ pub struct EndedSender<R: Wait + Drop> {
 /// The end of the writer, which takes frames.
 #[derive(Drop)]
 pub struct FrameReceiver<R: Wait + Drop> {
-    pub(crate) end: ReceiveEnd<Parcel, R>,
+    pub(crate) end: ReceiveEnd<WriterMessage, R>,
     ghost takes: { (receiver_log end).takes ≡ true },
     ghost room: { receiver_room end ≡ 64 },
 }

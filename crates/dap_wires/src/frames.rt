@@ -2,16 +2,16 @@
 
 ghost use Rattle.std.specs.Prelude.{◌≡◌, ◌≢◌, ◌⊎◌, ◌++◌, ◌∷◌, [], true, false, ℕ, IfOk, IfSome, IfNone};
 ghost use Rattle.dap_session.specs.Sending.{Begins};
-ghost use Rattle.dap_wires.specs.Ends.{receipt_log, receipt_home};
-ghost use Rattle.dap_wires.specs.Outbox.{put_frames, frame_home, unused_home, parcels_put, ended_home, ended_unused_home, parcels_taken, parcel_home, parcels_received};
+ghost use Rattle.dap_wires.specs.Ends.{receive_log, receive_log_queue};
+ghost use Rattle.dap_wires.specs.Outbox.{put_frames, frame_queue, unused_queue, messages_put, ended_queue, ended_unused_queue, messages_taken, writer_queue, messages_received};
 ghost use Rattle.dap_wires.specs.Parcels.{frames_in, has_end, AreEnded};
 
-use crate::channels::{channel, settle};
-use crate::ends::Receipt;
+use crate::channels::{channel, reconcile};
+use crate::ends::ReceiveLog;
 use crate::frame_ends::{EndedSender, FrameReceiver, FrameSender};
-use crate::parcel::Parcel;
+use crate::writer_message::WriterMessage;
 use dap_session::Out;
-use dbg_runner::History;
+use dbg_runner::GhostList;
 use std::alloc::{AllocError, Global};
 use std::sync::Wait;
 
@@ -28,38 +28,38 @@ pub fn outbox<R: Wait + Copy + Drop>(
     alloc: Global,
 ) -> Result<(FrameSender<R>, FrameReceiver<R>), AllocError>
     ensures frames { IfOk result (λ r. put_frames r.0 ≡ record { frames = []; refused = [] }) }
-    ensures parcels { IfOk result (λ r. parcels_taken r.1 ≡ []) }
-    ensures one { IfOk result (λ r. (parcel_home r.1 ≡ frame_home r.0) × (unused_home r.0 ≡ frame_home r.0)) }
+    ensures messages { IfOk result (λ r. messages_taken r.1 ≡ []) }
+    ensures one { IfOk result (λ r. (writer_queue r.1 ≡ frame_queue r.0) × (unused_queue r.0 ≡ frame_queue r.0)) }
 {
-    let (frames, unused, parcels) = channel(rt, alloc, OUTBOX_CAPACITY)?;
+    let (frames, unused, messages) = channel(rt, alloc, OUTBOX_CAPACITY)?;
     Ok((
         FrameSender {
             end: frames,
             unused,
-            refused: History::new(),
+            refused: GhostList::new(),
             is_gone: false,
         },
-        FrameReceiver { end: parcels },
+        FrameReceiver { end: messages },
     ))
 }
 
 /// When both have ended: where the writer took the end, it took all frames that were put before; else it took the first of
 /// them.
-pub fn settle_outbox<R: Wait + Drop>(frames: EndedSender<R>, receipt: Receipt<Parcel>)
-    requires one { (ended_unused_home frames ≡ ended_home frames) × (receipt_home receipt ≡ ended_home frames) }
-    requires receipt { (receipt_log receipt).takes ≡ true }
-    ensures taken { Begins (parcels_received receipt) (parcels_put frames) }
+pub fn reconcile_outbox<R: Wait + Drop>(frames: EndedSender<R>, received: ReceiveLog<WriterMessage>)
+    requires one { (ended_unused_queue frames ≡ ended_queue frames) × (receive_log_queue received ≡ ended_queue frames) }
+    requires received { (receive_log received).takes ≡ true }
+    ensures taken { Begins (messages_received received) (messages_put frames) }
 {
-    settle(frames.end, frames.unused, receipt);
+    reconcile(frames.end, frames.unused, received);
 }
 
 impl<R: Wait + Drop> FrameSender<R> {
     /// Puts the end after all frames, unless a frame was refused: where the end was put, every frame was put before it.
     pub fn finish(self) -> EndedSender<R>
-        ensures put { (has_end (parcels_put result) ≡ false) ⊎ AreEnded (parcels_put result) }
-        ensures refused { (put_frames self).refused ≢ [] → has_end (parcels_put result) ≡ false }
-        ensures frames { frames_in (parcels_put result) ≡ (put_frames self).frames }
-        ensures home { (ended_home result ≡ frame_home self) × (ended_unused_home result ≡ unused_home self) }
+        ensures put { (has_end (messages_put result) ≡ false) ⊎ AreEnded (messages_put result) }
+        ensures refused { (put_frames self).refused ≢ [] → has_end (messages_put result) ≡ false }
+        ensures frames { frames_in (messages_put result) ≡ (put_frames self).frames }
+        ensures queue { (ended_queue result ≡ frame_queue self) × (ended_unused_queue result ≡ unused_queue self) }
     {
         let FrameSender {
             mut end,
@@ -70,50 +70,50 @@ impl<R: Wait + Drop> FrameSender<R> {
         if is_gone {
             return EndedSender { end, unused };
         }
-        let _ = end.send(Parcel::End);
+        let _ = end.send(WriterMessage::End);
         EndedSender { end, unused }
     }
 }
 
 impl<R: Wait + Drop> Out for FrameSender<R> {
-    ghost use Rattle.dap_wires.specs.declared.parcel.Parcel.{Parcel};
-    ghost use Rattle.dap_wires.specs.Ends.{Home};
-    ghost use Rattle.dap_wires.specs.Outbox.{put_frames, frame_home, unused_home};
+    ghost use Rattle.dap_wires.specs.declared.writer_message.WriterMessage.{WriterMessage};
+    ghost use Rattle.dap_wires.specs.Ends.{QueueId};
+    ghost use Rattle.dap_wires.specs.Outbox.{put_frames, frame_queue, unused_queue};
 
     ghost seen = { put_frames };
 
-    ghost Origin = { Home Parcel × Home Parcel };
+    ghost Origin = { QueueId WriterMessage × QueueId WriterMessage };
 
-    ghost origin = { λ e. (frame_home e, unused_home e) };
+    ghost origin = { λ e. (frame_queue e, unused_queue e) };
 
     fn put(&mut self, frame: Vec<u8>) -> Result<(), Vec<u8>> {
-        match self.end.send(Parcel::Frame(frame)) {
+        match self.end.send(WriterMessage::Frame(frame)) {
             Ok(()) => Ok(()),
-            Err(Parcel::Frame(back)) => {
+            Err(WriterMessage::Frame(back)) => {
                 self.refused = self.refused.and(&back);
                 self.is_gone = true;
                 Err(back)
             }
-            Err(Parcel::End) => unreachable!(),
+            Err(WriterMessage::End) => unreachable!(),
         }
     }
 }
 
 impl<R: Wait + Drop> FrameReceiver<R> {
     /// Waits for the next frame, or the end, and takes it; or none, where it is to be tried again.
-    pub fn receive(&mut self) -> Option<Parcel>
-        ensures some { IfSome result (λ parcel. parcels_taken self.new ≡ parcels_taken self.old ++ parcel ∷ []) }
-        ensures none { IfNone result (parcels_taken self.new ≡ parcels_taken self.old) }
-        ensures home { parcel_home self.new ≡ parcel_home self.old }
+    pub fn receive(&mut self) -> Option<WriterMessage>
+        ensures some { IfSome result (λ message. messages_taken self.new ≡ messages_taken self.old ++ message ∷ []) }
+        ensures none { IfNone result (messages_taken self.new ≡ messages_taken self.old) }
+        ensures queue { writer_queue self.new ≡ writer_queue self.old }
     {
         self.end.receive()
     }
 
     /// Leaves the outbox: from now on a frame that is put is handed back.
-    pub fn leave(self) -> Receipt<Parcel>
-        ensures received { parcels_received result ≡ parcels_taken self }
-        ensures takes { (receipt_log result).takes ≡ true }
-        ensures home { receipt_home result ≡ parcel_home self }
+    pub fn leave(self) -> ReceiveLog<WriterMessage>
+        ensures received { messages_received result ≡ messages_taken self }
+        ensures takes { (receive_log result).takes ≡ true }
+        ensures queue { receive_log_queue result ≡ writer_queue self }
     {
         self.end.leave()
     }

@@ -3,7 +3,7 @@
 //!
 //! The one contract is the rule of the queues (`specs/Delivery`): what was taken and then what is inside is, of each sender,
 //! what it put, in its order, each once. [`inbox`], [`outbox`] and [`orders`] make a queue each; their ends meet the ports of
-//! [`dap_session`] and [`dbg_runner`], and [`settle_inbox`], [`settle_outbox`] and [`settle_orders`] compare them when all
+//! [`dap_session`] and [`dbg_runner`], and [`reconcile_inbox`], [`reconcile_outbox`] and [`reconcile_orders`] compare them when all
 //! threads have ended. Reports that tell a client nothing cross an inbox several at once, and the session is given them one
 //! by one. [`read_loop`] and [`write_loop`] stand between a queue and a source or a sink of [`byte_streams`]:
 //! what the one sends is what it read, and what the other wrote is what it took. Each rule and each loop is of use without
@@ -21,7 +21,7 @@ mod frame_ends;
 mod frames;
 mod order_ends;
 mod order_queue;
-mod parcel;
+mod writer_message;
 mod reading;
 mod rule;
 mod transfer;
@@ -30,13 +30,13 @@ mod writing;
 pub use arrival::Arrival;
 pub use beginning::read_beginning;
 pub use end_log::EndLog;
-pub use ends::Receipt;
-pub use event_ends::{ClientSender, EventReceiver, InboxReceipt, ReportSender};
-pub use events::{inbox, settle_inbox};
+pub use ends::ReceiveLog;
+pub use event_ends::{ClientSender, EventReceiver, InboxLog, ReportSender};
+pub use events::{inbox, reconcile_inbox};
 pub use frame_ends::{EndedSender, FrameReceiver, FrameSender};
-pub use frames::{outbox, settle_outbox};
+pub use frames::{outbox, reconcile_outbox};
 pub use order_ends::{OrderReceiver, OrderSender};
-pub use order_queue::{orders, settle_orders};
-pub use parcel::Parcel;
+pub use order_queue::{orders, reconcile_orders};
+pub use writer_message::WriterMessage;
 pub use reading::{ReadEnd, read_loop};
 pub use writing::{WriteFailed, write_loop};

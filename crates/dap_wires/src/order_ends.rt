@@ -9,7 +9,7 @@ use crate::end_log::EndLog;
 use crate::rule::{InOrder, Sent};
 use crossbeam_queue::{Pass, RuledArrayQueue};
 use crossbeam_utils::sync::{Parker, Unparker};
-use dbg_runner::{History, Order};
+use dbg_runner::{GhostList, Order};
 use std::alloc::Global;
 use std::sync::{Arc, Wait};
 
@@ -30,7 +30,7 @@ pub struct OrderSender<R: Wait + Drop> {
     pub(crate) pass: Pass<Order, EndLog<Order>>,
     pub(crate) unparker: Unparker,
     // An entry for each order that found the queue full.
-    pub(crate) fulls: History<()>,
+    pub(crate) fulls: GhostList<()>,
     ghost seated: { IsPassOf (arc_value queue) pass },
     ghost four: { ruled_capacity (arc_value queue) ≡ 4 },
     ghost pushes: { (view pass).first ≡ true },

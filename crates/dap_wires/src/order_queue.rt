@@ -7,7 +7,7 @@ ghost use Rattle.crossbeam_queue.specs.Passes.{view, IsPassOf, ruled_capacity};
 ghost use Rattle.dap_session.specs.Sending.{Begins};
 ghost use Rattle.dbg_runner.specs.Orders.{plain_order};
 ghost use Rattle.dbg_runner.specs.declared.order.Order.{Order};
-ghost use Rattle.dap_wires.specs.Orders.{FourWereInside, pushed_orders, taken_orders, push_home, pop_home};
+ghost use Rattle.dap_wires.specs.Orders.{FourWereInside, pushed_orders, taken_orders, push_queue, pop_queue};
 
 use crate::end_log::EndLog;
 use crate::order_ends::{OrderQueue, OrderReceiver, OrderSender};
@@ -15,7 +15,7 @@ use crate::rule::{First, Puts, Takes, Whole};
 use crossbeam_queue::Pass;
 use crossbeam_utils::sync::Parker;
 use dap_session::{OrderFault, Orders};
-use dbg_runner::{History, Order, OrdersIn};
+use dbg_runner::{GhostList, Order, OrdersIn};
 use std::alloc::{AllocError, Global};
 use std::sync::{Arc, Wait};
 
@@ -33,7 +33,7 @@ pub fn orders<R: Wait + Copy + Drop>(
 ) -> Result<(OrderSender<R>, OrderReceiver<R>), AllocError>
     ensures pushed { IfOk result (λ r. pushed_orders r.0 ≡ record { orders = []; fulls = 0; refusals = 0 }) }
     ensures taken { IfOk result (λ r. taken_orders r.1 ≡ []) }
-    ensures one { IfOk result (λ r. pop_home r.1 ≡ push_home r.0) }
+    ensures one { IfOk result (λ r. pop_queue r.1 ≡ push_queue r.0) }
 {
     let (queue, mut pass) = OrderQueue::ruled(alloc, ORDERS_CAPACITY)?;
     let first = queue.another::<First>(&mut pass);
@@ -47,7 +47,7 @@ pub fn orders<R: Wait + Copy + Drop>(
             queue,
             pass: first,
             unparker,
-            fulls: History::new(),
+            fulls: GhostList::new(),
         },
         OrderReceiver {
             rt,
@@ -59,8 +59,8 @@ pub fn orders<R: Wait + Copy + Drop>(
 }
 
 /// When both have ended: the orders that the runner took are a beginning of those that the session pushed.
-pub fn settle_orders<R: Wait + Drop>(session: OrderSender<R>, runner: OrderReceiver<R>)
-    requires { pop_home runner ≡ push_home session }
+pub fn reconcile_orders<R: Wait + Drop>(session: OrderSender<R>, runner: OrderReceiver<R>)
+    requires { pop_queue runner ≡ push_queue session }
     ensures taken { Begins (taken_orders runner) (pushed_orders session).orders }
     ensures full { (pushed_orders session).fulls ≢ 0 → FourWereInside (pushed_orders session).orders }
 {
@@ -85,7 +85,7 @@ fn offer<R: Wait>(
     requires four { ruled_capacity (arc_value queue.now) ≡ 4 }
     requires pushes { (view pass.old).first ≡ true }
     ensures seated { IsPassOf (arc_value queue.now) pass.new }
-    ensures home { pass.new.table_id ≡ pass.old.table_id }
+    ensures queue { pass.new.table_id ≡ pass.old.table_id }
     ensures pushes { (view pass.new).first ≡ true }
     ensures pushed { OnOk result (map plain_order (view pass.new).put_first ≡ map plain_order (view pass.old).put_first ++ plain_order order ∷ []) }
     ensures refused { OnErr result (view pass.new ≡ view pass.old) }
@@ -108,7 +108,7 @@ fn take<R: Wait>(
     requires seated { IsPassOf (arc_value queue.now) pass.old }
     requires takes { (view pass.old).takes ≡ true }
     ensures seated { IsPassOf (arc_value queue.now) pass.new }
-    ensures home { pass.new.table_id ≡ pass.old.table_id }
+    ensures queue { pass.new.table_id ≡ pass.old.table_id }
     ensures takes { (view pass.new).takes ≡ true }
     ensures joins { (view pass.new).second ≡ (view pass.old).second }
     ensures taken { map plain_order (view pass.new).taken ≡ map plain_order (view pass.old).taken ++ option_to_list (option_map plain_order result) }
@@ -129,7 +129,7 @@ fn take_next<R: Wait>(
     requires seated { IsPassOf (arc_value queue.now) pass.old }
     requires takes { (view pass.old).takes ≡ true }
     ensures seated { IsPassOf (arc_value queue.now) pass.new }
-    ensures home { pass.new.table_id ≡ pass.old.table_id }
+    ensures queue { pass.new.table_id ≡ pass.old.table_id }
     ensures takes { (view pass.new).takes ≡ true }
     ensures joins { (view pass.new).second ≡ (view pass.old).second }
     ensures taken { map plain_order (view pass.new).taken ≡ map plain_order (view pass.old).taken ++ plain_order result ∷ [] }
@@ -145,7 +145,7 @@ fn take_next<R: Wait>(
 
 impl<R: Wait + Drop> Orders for OrderSender<R> {
     ghost use Rattle.atomic_table.specs.Seated.{TableId};
-    ghost use Rattle.dap_wires.specs.Orders.{pushed_orders, WasFull, push_home};
+    ghost use Rattle.dap_wires.specs.Orders.{pushed_orders, WasFull, push_queue};
 
     ghost seen = { pushed_orders };
 
@@ -153,7 +153,7 @@ impl<R: Wait + Drop> Orders for OrderSender<R> {
 
     ghost Origin = { TableId };
 
-    ghost origin = { push_home };
+    ghost origin = { push_queue };
 
     fn push(&mut self, order: Order) -> Result<(), OrderFault> {
         let OrderSender {
@@ -178,13 +178,13 @@ impl<R: Wait + Drop> Orders for OrderSender<R> {
 
 impl<R: Wait + Drop> OrdersIn for OrderReceiver<R> {
     ghost use Rattle.atomic_table.specs.Seated.{TableId};
-    ghost use Rattle.dap_wires.specs.Orders.{taken_orders, pop_home};
+    ghost use Rattle.dap_wires.specs.Orders.{taken_orders, pop_queue};
 
     ghost taken = { taken_orders };
 
     ghost Origin = { TableId };
 
-    ghost origin = { pop_home };
+    ghost origin = { pop_queue };
 
     fn poll(&mut self) -> Option<Order> {
         let OrderReceiver {

@@ -3,12 +3,12 @@
 ghost use Rattle.std.specs.Prelude.{◌≡◌, ◌++◌, List};
 ghost use Rattle.dap_history.specs.Events.{Incoming};
 ghost use Rattle.dap_session.specs.Incoming.{incoming_of};
-ghost use Rattle.dap_wires.specs.Inbox.{client_events, client_home};
+ghost use Rattle.dap_wires.specs.Inbox.{client_events, client_queue};
 ghost use Rattle.dap_wires.specs.Reading.{IsReadUntil, end_by};
 ghost use Rattle.byte_streams.specs.Streams.{supply};
 
 use crate::event_ends::ClientSender;
-use crate::transfer::{PIECE_LIMIT, next_event};
+use crate::transfer::{PIECE_LIMIT, read_event};
 use byte_streams::Source;
 use dap_session::Event;
 use std::alloc::Global;
@@ -37,11 +37,11 @@ pub fn read_loop<I: Source, R: Wait + Drop>(
 ) -> ReadEnd
     ensures read { (sent : List Incoming) × (client_events inbox.new ≡ client_events inbox.old ++ sent)
         × IsReadUntil result sent (supply (I.left input.old) (I.failures input.old)) (supply (I.left input.new) (I.failures input.new)) }
-    ensures home { client_home inbox.new ≡ client_home inbox.old }
+    ensures queue { client_queue inbox.new ≡ client_queue inbox.old }
 {
     let mut room = [0; PIECE_LIMIT];
     for _ in rt.forever() {
-        let event = next_event(rt, alloc, input, &mut room);
+        let event = read_event(rt, alloc, input, &mut room);
         let end = end_of(&event);
         if inbox.send(event).is_err() {
             return ReadEnd::HandedBack;

@@ -15,7 +15,7 @@ pub(crate) const PIECE_LIMIT: usize = 4096;
 
 /// Reads the next piece, or says why there is none. An interrupted read is tried again. What stands in `room` doesn't
 /// matter: it is lent, so that it need not be cleared for each read.
-pub(crate) fn next_event<I: Source>(
+pub(crate) fn read_event<I: Source>(
     rt: &impl Wait,
     alloc: Global,
     input: &mut I,

@@ -1,13 +1,13 @@
 // From the outbox to an output.
 
 ghost use Rattle.std.specs.Prelude.{◌≡◌, ◌++◌, List};
-ghost use Rattle.dap_wires.specs.declared.parcel.Parcel.{Parcel};
-ghost use Rattle.dap_wires.specs.Outbox.{parcels_taken, parcel_home};
+ghost use Rattle.dap_wires.specs.declared.writer_message.WriterMessage.{WriterMessage};
+ghost use Rattle.dap_wires.specs.Outbox.{messages_taken, writer_queue};
 ghost use Rattle.byte_streams.specs.Streams.{output as output_at};
 ghost use Rattle.dap_wires.specs.Writing.{IsWrittenUntil};
 
 use crate::frame_ends::FrameReceiver;
-use crate::parcel::Parcel;
+use crate::writer_message::WriterMessage;
 use byte_streams::{Sink, write_all};
 use std::sync::Wait;
 
@@ -25,15 +25,15 @@ pub fn write_loop<O: Sink, R: Wait + Drop>(
     output: &mut O,
     outbox: &mut FrameReceiver<R>,
 ) -> Result<(), WriteFailed>
-    ensures written { (taken : List Parcel) × (parcels_taken outbox.new ≡ parcels_taken outbox.old ++ taken)
+    ensures written { (taken : List WriterMessage) × (messages_taken outbox.new ≡ messages_taken outbox.old ++ taken)
         × IsWrittenUntil result taken (output_at (O.written output.old) (O.failures output.old)) (output_at (O.written output.new) (O.failures output.new)) }
-    ensures home { parcel_home outbox.new ≡ parcel_home outbox.old }
+    ensures queue { writer_queue outbox.new ≡ writer_queue outbox.old }
 {
     for _ in rt.forever() {
         match outbox.receive() {
             None => {}
-            Some(Parcel::End) => return Ok(()),
-            Some(Parcel::Frame(frame)) => {
+            Some(WriterMessage::End) => return Ok(()),
+            Some(WriterMessage::Frame(frame)) => {
                 if !write_all(rt, output, frame.as_slice()) {
                     return Err(WriteFailed);
                 }

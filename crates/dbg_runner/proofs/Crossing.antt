@@ -13,7 +13,7 @@ use Rattle.dbg_plan.specs.contracts.plan.Plan as Plan
 use Rattle.dbg_plan.specs.contracts.debuggee.Debuggee as Debuggee
 use Rattle.dbg_runner.specs.contracts.produced.Produced as Produced
 use Rattle.dbg_runner.specs.contracts.report.Report as Report
-use Rattle.dbg_runner.specs.contracts.order.Considered as Considered
+use Rattle.dbg_runner.specs.contracts.order.StoppedDebuggee as StoppedDebuggee
 use Rattle.dbg_runner.specs.contracts.order.Order as Order
 
 unit_send : IsSend Compiled.the_row
@@ -43,7 +43,7 @@ produced_send = let a = unit_send in let b = unit_sync in let c = plan_send in l
 pub report_send : IsSend Report.the_field.row
 report_send = let a = debuggee_send in let b = produced_send in search (crosses, sendable) depth 60 fits 20000
 
-considered_send : IsSend Considered.the_field.row
+considered_send : IsSend StoppedDebuggee.the_field.row
 considered_send = let a = debuggee_send in search (crosses, sendable) depth 60 fits 20000
 
 pub order_send : IsSend Order.the_row

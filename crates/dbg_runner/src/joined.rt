@@ -4,11 +4,11 @@ ghost use Rattle.std.specs.Prelude.{◌≡◌, []};
 ghost use Rattle.std.specs.List.{flat_map};
 ghost use Rattle.std.specs.Coded.{Coded-set, coded_list};
 ghost use Rattle.dbg_runner.specs.PlainCode.{order_code, report_code};
-ghost use Rattle.dbg_runner.specs.Deeds.{acts_of};
+ghost use Rattle.dbg_runner.specs.NotedActs.{acts_of};
 ghost use Rattle.dbg_runner.specs.Queues.{order_in, sent_in, handed_back_in, passed_in};
 
-use crate::deed::Deed;
-use crate::history::History;
+use crate::noted_act::NotedAct;
+use crate::ghost_list::GhostList;
 use crate::order::Order;
 use crate::ports::Ports;
 use crate::queues::{Gate, OrdersIn, Reports};
@@ -23,11 +23,11 @@ pub struct Joined<O: OrdersIn, S: Reports, G: Gate> {
     orders: O,
     reports: S,
     gate: G,
-    deeds: History<Deed>,
-    pub ghost taken: { O.taken orders ≡ flat_map order_in (acts_of deeds.entries) } by { Coded-set (coded_list order_code) _ _ },
-    pub ghost sent: { S.sent reports ≡ flat_map sent_in (acts_of deeds.entries) } by { Coded-set (coded_list report_code) _ _ },
-    pub ghost handed_back: { S.handed_back reports ≡ flat_map handed_back_in (acts_of deeds.entries) } by { Coded-set (coded_list report_code) _ _ },
-    pub ghost passed: { G.passed gate ≡ flat_map passed_in (acts_of deeds.entries) },
+    acts: GhostList<NotedAct>,
+    pub ghost taken: { O.taken orders ≡ flat_map order_in (acts_of acts.entries) } by { Coded-set (coded_list order_code) _ _ },
+    pub ghost sent: { S.sent reports ≡ flat_map sent_in (acts_of acts.entries) } by { Coded-set (coded_list report_code) _ _ },
+    pub ghost handed_back: { S.handed_back reports ≡ flat_map handed_back_in (acts_of acts.entries) } by { Coded-set (coded_list report_code) _ _ },
+    pub ghost passed: { G.passed gate ≡ flat_map passed_in (acts_of acts.entries) },
 }
 
 impl<O: OrdersIn + Drop, S: Reports + Drop, G: Gate + Drop> Joined<O, S, G> {
@@ -37,7 +37,7 @@ impl<O: OrdersIn + Drop, S: Reports + Drop, G: Gate + Drop> Joined<O, S, G> {
         requires sent { S.sent reports ≡ [] }
         requires handed_back { S.handed_back reports ≡ [] }
         requires passed { G.passed gate ≡ [] }
-        ensures acts { acts_of result.deeds.entries ≡ [] }
+        ensures acts { acts_of result.acts.entries ≡ [] }
         ensures orders { O.origin result.orders ≡ O.origin orders }
         ensures reports { S.origin result.reports ≡ S.origin reports }
     {
@@ -45,16 +45,16 @@ impl<O: OrdersIn + Drop, S: Reports + Drop, G: Gate + Drop> Joined<O, S, G> {
             orders,
             reports,
             gate,
-            deeds: History::new(),
+            acts: GhostList::new(),
         }
     }
 
     /// The three ports. What was done at each is what the acts say of it.
     pub fn into_ports(self) -> (O, S, G)
-        ensures taken { O.taken result.0 ≡ flat_map order_in (acts_of self.deeds.entries) }
-        ensures sent { S.sent result.1 ≡ flat_map sent_in (acts_of self.deeds.entries) }
-        ensures handed_back { S.handed_back result.1 ≡ flat_map handed_back_in (acts_of self.deeds.entries) }
-        ensures passed { G.passed result.2 ≡ flat_map passed_in (acts_of self.deeds.entries) }
+        ensures taken { O.taken result.0 ≡ flat_map order_in (acts_of self.acts.entries) }
+        ensures sent { S.sent result.1 ≡ flat_map sent_in (acts_of self.acts.entries) }
+        ensures handed_back { S.handed_back result.1 ≡ flat_map handed_back_in (acts_of self.acts.entries) }
+        ensures passed { G.passed result.2 ≡ flat_map passed_in (acts_of self.acts.entries) }
         ensures orders { O.origin result.0 ≡ O.origin self.orders }
         ensures reports { S.origin result.1 ≡ S.origin self.reports }
     {
@@ -62,14 +62,14 @@ impl<O: OrdersIn + Drop, S: Reports + Drop, G: Gate + Drop> Joined<O, S, G> {
             orders,
             reports,
             gate,
-            deeds: _,
+            acts: _,
         } = self;
         (orders, reports, gate)
     }
 }
 
 impl<O: OrdersIn + Drop, S: Reports + Drop, G: Gate + Drop> Ports for Joined<O, S, G> {
-    ghost acts = { λ joined. acts_of joined.deeds.entries };
+    ghost acts = { λ joined. acts_of joined.acts.entries };
 
     ghost Origin = { O.Origin × S.Origin };
 
@@ -77,32 +77,32 @@ impl<O: OrdersIn + Drop, S: Reports + Drop, G: Gate + Drop> Ports for Joined<O, 
 
     fn next(&mut self) -> Order {
         let order = self.orders.next();
-        self.deeds = self.deeds.and(&Deed::Waited(Snapshot::of(&order)));
+        self.acts = self.acts.and(&NotedAct::Waited(Snapshot::of(&order)));
         order
     }
 
     fn poll(&mut self) -> Option<Order> {
         let found = self.orders.poll();
-        self.deeds = self.deeds.and(&Deed::Looked(Snapshot::of(&found)));
+        self.acts = self.acts.and(&NotedAct::Looked(Snapshot::of(&found)));
         found
     }
 
     fn pass(&mut self, run: u64, slice: u64, debuggee: &Debuggee) {
         self.gate.pass(run, slice);
-        self.deeds = self
-            .deeds
-            .and(&Deed::Passed(run, slice, Snapshot::of(debuggee)));
+        self.acts = self
+            .acts
+            .and(&NotedAct::Passed(run, slice, Snapshot::of(debuggee)));
     }
 
     fn send(&mut self, report: Report) -> Result<(), Report> {
         let told = Snapshot::of(&report);
         match self.reports.send(report) {
             Ok(()) => {
-                self.deeds = self.deeds.and(&Deed::Sent(told));
+                self.acts = self.acts.and(&NotedAct::Sent(told));
                 Ok(())
             }
             Err(back) => {
-                self.deeds = self.deeds.and(&Deed::HandedBack(told));
+                self.acts = self.acts.and(&NotedAct::HandedBack(told));
                 Err(back)
             }
         }

@@ -1,4 +1,4 @@
--- Steps that the walks of `src/history` share. Assumes `Logic`.
+-- Steps that the walks of `src/ghost_list` share. Assumes `Logic`.
 use Rattle.std.proofs.Common.{List, [], ◌∷◌, refl}
 use seplogic.Ra.Ura.{Ura}
 use mir.Val.{Val, vstruct, vcons, vnil}

@@ -10,7 +10,7 @@
 mod change;
 mod content;
 mod counting;
-mod history;
+mod ghost_list;
 mod laws;
 mod lowered;
 mod mode;

@@ -4,7 +4,7 @@ ghost use Rattle.from_zero.specs.Lowering.{Written, IsLowered, Passes};
 
 use crate::change::Change;
 use crate::counting::next_count;
-use crate::history::History;
+use crate::ghost_list::GhostList;
 use crate::renumberer::Renumberer;
 use byte_streams::{IoFault, Sink, write_all};
 use std::alloc::Global;
@@ -27,7 +27,7 @@ pub struct Lowered<'a, R: Wait, O: Sink + Drop> {
     // The other sink at first.
     begun: Snapshot<O>,
     // All that was written to this one.
-    session: History<u8>,
+    session: GhostList<u8>,
 }
 
 impl<'a, R: Wait, O: Sink + Drop> Model for Lowered<'a, R, O> {
@@ -67,7 +67,7 @@ impl<'a, R: Wait, O: Sink + Drop> Lowered<'a, R, O> {
             is_failed: false,
             failures: 0,
             begun,
-            session: History::new(),
+            session: GhostList::new(),
         }
     }
 

@@ -4,7 +4,7 @@ use Rattle.std.specs.Coded.{×_prop, Unit-prop}
 use Rattle.pl0_tree.specs.declared.tree.Statement.{Statement as DeclaredStatement}
 use Rattle.pl0_tree.specs.Tree.{Name, Block, body, Statement, Empty, Assign, Call, Write, Then, If, While, Expression, Variable as Named, Number, Negate, Binary, Condition, Odd, Compare}
 use Rattle.pl0_tree.specs.Plain.{plain_statement, joined}
-use Rattle.pl0_tree.specs.Scope.{Path, block_at, Meaning, AConstant, AVariable, AProcedure, Manner, IsRead, IsAssigned, IsCalled, use_of, expression_uses, condition_uses, statement_uses, body_uses, Allows, IsLawful}
+use Rattle.pl0_tree.specs.Scope.{Path, block_at, Meaning, AConstant, AVariable, AProcedure, UseKind, IsRead, IsAssigned, IsCalled, use_of, expression_uses, condition_uses, statement_uses, body_uses, Allows, IsLawful}
 use Rattle.pl0_names.specs.declared.scopes.Found.{Found}
 use Rattle.pl0_names.specs.Earlier.{AreDeclaredBefore}
 use Rattle.pl0_code.specs.declared.scope.Declared.{Declared}
@@ -16,12 +16,12 @@ use Rattle.pl0_code.specs.Usable.{CanBeRead, CanBeAssigned, CanBeCalled, IsFound
 use Rattle.pl0_code.proofs.Coding.{IsMeant, AreMeant, meant_first, meant_second, meant_each, meant_found}
 
 -- what a name that is used so is declared as
-abbrev CanBe : Manner → Declared → Type 0
+abbrev CanBe : UseKind → Declared → Type 0
 CanBe IsRead = CanBeRead
 CanBe IsAssigned = CanBeAssigned
 CanBe IsCalled = CanBeCalled
 
-declared_for : (o : Option Block) (from : ℕ) (manner : Manner) (m : Meaning) → Allows m manner → CanBe manner (declared_as o from m)
+declared_for : (o : Option Block) (from : ℕ) (use_kind : UseKind) (m : Meaning) → Allows m use_kind → CanBe use_kind (declared_as o from m)
 declared_for o from IsRead (AConstant k) ok = tt
 declared_for o from IsRead (AVariable k) ok = tt
 declared_for o from IsRead (AProcedure k) ok = absurd ok
@@ -33,11 +33,11 @@ declared_for o from IsCalled (AVariable k) ok = absurd ok
 declared_for o from IsCalled (AProcedure k) ok = tt
 
 module _ (main : Block) (q : Path) where
-  found_for : (manner : Manner) (x : Name) → IsMeant main q (use_of manner x) → IsFoundTo (CanBe manner) (resolver main q x.word)
-  found_for manner x meant =
+  found_for : (use_kind : UseKind) (x : Name) → IsMeant main q (use_of use_kind x) → IsFoundTo (CanBe use_kind) (resolver main q x.word)
+  found_for use_kind x meant =
       let h = meant.at in
-      subst (λ o. IsFoundTo (CanBe manner) o) (sym (meant_found main q x.word h meant.early))
-      (declared_for (block_at main h.path) (entry main h.path) manner h.declaration.meaning meant.allowed)
+      subst (λ o. IsFoundTo (CanBe use_kind) o) (sym (meant_found main q x.word h meant.early))
+      (declared_for (block_at main h.path) (entry main h.path) use_kind h.declaration.meaning meant.allowed)
 
   can_evaluate : (e : Expression) → AreMeant main q (expression_uses e) → CanEvaluate (resolver main q) e
   can_evaluate (Number n) meant = tt
@@ -78,7 +78,7 @@ can_do_part r (x ∷ xs) (suc i) s lt is can = can_do_part r xs i s (omega arith
 none_prop : IsProp ⊥
 none_prop a b = absurd a
 
-declared_prop : (manner : Manner) (d : Declared) → IsProp (CanBe manner d)
+declared_prop : (use_kind : UseKind) (d : Declared) → IsProp (CanBe use_kind d)
 declared_prop IsRead (Constant v) = Unit-prop
 declared_prop IsRead (Variable a) = Unit-prop
 declared_prop IsRead (AnEntry a) = none_prop
@@ -89,9 +89,9 @@ declared_prop IsCalled (Constant v) = none_prop
 declared_prop IsCalled (Variable a) = none_prop
 declared_prop IsCalled (AnEntry a) = Unit-prop
 
-found_prop : (manner : Manner) (o : Option (Found Declared)) → IsProp (IsFoundTo (CanBe manner) o)
-found_prop manner None = none_prop
-found_prop manner (Some f) = declared_prop manner f.declared
+found_prop : (use_kind : UseKind) (o : Option (Found Declared)) → IsProp (IsFoundTo (CanBe use_kind) o)
+found_prop use_kind None = none_prop
+found_prop use_kind (Some f) = declared_prop use_kind f.declared
 
 module _ (r : Resolver) where
   evaluate_prop : (e : Expression) → IsProp (CanEvaluate r e)

@@ -4,7 +4,7 @@ ghost use Rattle.std.specs.Prelude.{◌≡◌, IsTrue};
 ghost use Rattle.dbg_plan.specs.Debugged.{IsConsidered};
 
 use dbg_plan::{Debuggee, Logs, Mode, Reason, Resolution, SourceBreakpoint, log_text, resolve};
-use dbg_runner::{Buffers, Considered, Outputs, Report, SliceOutcome, slice};
+use dbg_runner::{Buffers, StoppedDebuggee, Outputs, Report, SliceOutcome, slice};
 use pl0_machine::{Machine, StepOutcome};
 use pl0_unit::Unit;
 use sample_programs::compiled;
@@ -102,14 +102,14 @@ pub fn begun(
     text: &str,
     breakpoints: &[SourceBreakpoint],
     mode: Mode,
-) -> (Considered, Option<Reason>) {
+) -> (StoppedDebuggee, Option<Reason>) {
     let mut debuggee = debuggee_of(rt, alloc, text);
     let _ = put_in(rt, alloc, &mut debuggee, breakpoints);
     assert!(rt; debuggee.machine().depth() > 0);
     let mut logs = Logs::new(alloc).expect(rt, "memory");
     let reason = debuggee.consider(mode, &mut logs);
     let debuggee = Box::new(alloc, debuggee).expect(rt, "memory");
-    (Considered::new(debuggee), reason)
+    (StoppedDebuggee::new(debuggee), reason)
 }
 
 /// The same, with breakpoints at lines.
@@ -119,7 +119,7 @@ pub fn begin(
     text: &str,
     lines: &[Line],
     mode: Mode,
-) -> (Considered, Option<Reason>) {
+) -> (StoppedDebuggee, Option<Reason>) {
     let breakpoints = breakpoints_at(rt, alloc, lines);
     begun(rt, alloc, text, &breakpoints, mode)
 }
@@ -128,13 +128,13 @@ pub fn begin(
 pub fn onward(
     rt: &impl Abort,
     alloc: Global,
-    debuggee: Considered,
-) -> (Report, Option<Considered>) {
+    debuggee: StoppedDebuggee,
+) -> (Report, Option<StoppedDebuggee>) {
     let debuggee = debuggee.into_debuggee();
     let mut buffers = Buffers::new();
     let outputs = Outputs::new(alloc, &*debuggee, &mut buffers).expect(rt, "memory");
     let (report, on) = slice(1, debuggee, Mode::Continue, outputs, &mut buffers);
-    (report, on.map(Considered::new))
+    (report, on.map(StoppedDebuggee::new))
 }
 
 /// Takes the debuggee's next step: whether it is no fault.

@@ -393,10 +393,10 @@ fn random_change(random: &mut Random) -> Change {
 }
 
 /// Why a position is due, and what it logs.
-type Considered = (Option<Reason>, String);
+type StoppedDebuggee = (Option<Reason>, String);
 
 /// A position, by the debuggee and by the definition.
-type Seen = (Considered, Considered);
+type Seen = (StoppedDebuggee, StoppedDebuggee);
 
 /// Runs both sides to the end, or to the last position: what is found of each position. The wishes are those of another plan.
 fn run_beside(

@@ -1,7 +1,7 @@
 //! Ports over memory: a script of orders, a tray with room for some reports, and a gate that is open.
 
 use dbg_plan::Mode;
-use dbg_runner::{Considered, Gate, History, Order, OrdersIn, Report, Reports};
+use dbg_runner::{StoppedDebuggee, Gate, History, Order, OrdersIn, Report, Reports};
 use std::alloc::Global;
 use std::process::Abort;
 
@@ -9,7 +9,7 @@ use std::process::Abort;
 #[derive(Drop)]
 pub struct Script {
     /// What run 1 begins with, until it was taken; then comes Quit.
-    debuggee: Option<Considered>,
+    debuggee: Option<StoppedDebuggee>,
     /// Looks so far.
     looks: u64,
     /// The look that finds a Hold of run 1.
@@ -21,14 +21,14 @@ pub struct Script {
 impl Script {
     ghost use Rattle.std.specs.Prelude.{◌≡◌, []};
 
-    pub fn new(debuggee: Considered, held_at: u64) -> Script
+    pub fn new(debuggee: StoppedDebuggee, held_at: u64) -> Script
         ensures { result.taken.entries ≡ [] }
     {
         Script::in_mode(debuggee, Mode::Continue, held_at)
     }
 
     /// The same for a run in this mode.
-    pub fn in_mode(debuggee: Considered, mode: Mode, held_at: u64) -> Script
+    pub fn in_mode(debuggee: StoppedDebuggee, mode: Mode, held_at: u64) -> Script
         ensures { result.taken.entries ≡ [] }
     {
         Script {

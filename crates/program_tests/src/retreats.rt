@@ -6,7 +6,7 @@ use crate::debugged::{
 use crate::ports::{Last, Open, Script};
 use dbg_plan::{Log, Mode, Plan, log_text};
 use dbg_runner::{
-    Buffers, Considered, Joined, Report, Retreat, SliceOutcome, Summary, goes_back, work,
+    Buffers, StoppedDebuggee, Joined, Report, Retreat, SliceOutcome, Summary, goes_back, work,
 };
 use sample_programs::RECURSIVE;
 use std::alloc::Global;
@@ -79,7 +79,7 @@ fn ends_slices_at_logs(rt: HostRuntime) {
 const SLICES: u64 = 10_000;
 
 /// Runs a debuggee back in this mode, or on in the mode `Continue`: the last report.
-fn run(rt: &impl Abort, alloc: Global, debuggee: Considered, mode: Mode) -> Report {
+fn run(rt: &impl Abort, alloc: Global, debuggee: StoppedDebuggee, mode: Mode) -> Report {
     if goes_back(mode) {
         return run_back(rt, alloc, Retreat::new(debuggee.into_debuggee(), mode));
     }
@@ -119,7 +119,7 @@ fn run_back(rt: &impl Abort, alloc: Global, retreat: Retreat) -> Report {
 type Run<'a> = (Mode, u64, SliceOutcome, u64, &'a [i64], u64);
 
 /// Runs a debuggee in one mode after the other.
-fn assert_runs(rt: &impl Abort, alloc: Global, debuggee: Considered, wanted: &[Run]) {
+fn assert_runs(rt: &impl Abort, alloc: Global, debuggee: StoppedDebuggee, wanted: &[Run]) {
     let mut next = Some(debuggee);
     for (mode, end, outcome, before, numbers, again) in wanted {
         let report = run(rt, alloc, next.take().expect(rt, "a stop"), *mode);
@@ -127,7 +127,7 @@ fn assert_runs(rt: &impl Abort, alloc: Global, debuggee: Considered, wanted: &[R
         assert_eq!(rt; (summary.end, summary.outcome), (*end, *outcome));
         assert_eq!(rt; (summary.before, summary.again), (*before, *again));
         assert_eq!(rt; report.numbers(), *numbers);
-        next = report.into_debuggee().map(Considered::new);
+        next = report.into_debuggee().map(StoppedDebuggee::new);
     }
 }
 
@@ -182,7 +182,7 @@ fn counts_begin_anew_after_a_stop(rt: HostRuntime) {
 fn ordered<R: Abort + Wait>(
     rt: &R,
     alloc: Global,
-    debuggee: Considered,
+    debuggee: StoppedDebuggee,
     mode: Mode,
 ) -> (Report, u64) {
     let mut ports = Joined::new(
@@ -206,7 +206,7 @@ fn steps_back_from_a_checkpoint(rt: HostRuntime) {
         (summary.end, summary.outcome, count),
         (400_000, BREAKPOINT, 1_563)
     );
-    let debuggee = Considered::new(report.into_debuggee().expect(&rt, "a debuggee"));
+    let debuggee = StoppedDebuggee::new(report.into_debuggee().expect(&rt, "a debuggee"));
     let (report, count) = ordered(&rt, rt.alloc(), debuggee, Mode::StepBack);
     let summary = report.summary();
     assert_eq!(rt; (summary.end, summary.outcome), (399_999, STEP));

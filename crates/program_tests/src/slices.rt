@@ -5,7 +5,7 @@ ghost use Rattle.dbg_runner.specs.Plain.{goes_back};
 
 use crate::debugged::{BREAKPOINT, FOREVER, LOOP, Line, STEP, begin, begun};
 use dbg_plan::{Mode, Reason, SourceBreakpoint};
-use dbg_runner::{Buffers, Considered, Outputs, SliceOutcome, goes_back, next_report, slice};
+use dbg_runner::{Buffers, StoppedDebuggee, Outputs, SliceOutcome, goes_back, next_report, slice};
 use pl0_meaning::RunFault;
 use sample_programs::RECURSIVE;
 use std::alloc::Global;
@@ -22,11 +22,11 @@ struct Seen {
 fn run_slice(
     rt: &impl Abort,
     alloc: Global,
-    debuggee: Considered,
+    debuggee: StoppedDebuggee,
     mode: Mode,
     buffers: &mut Buffers,
     seen: &mut Seen,
-) -> (Option<Considered>, Option<Considered>)
+) -> (Option<StoppedDebuggee>, Option<StoppedDebuggee>)
     requires { goes_back mode ≡ false }
 {
     let debuggee = debuggee.into_debuggee();
@@ -40,8 +40,8 @@ fn run_slice(
         .extend_from_slice(report.numbers())
         .expect(rt, "memory");
     match on {
-        Some(debuggee) => (Some(Considered::new(debuggee)), None),
-        None => (None, report.into_debuggee().map(Considered::new)),
+        Some(debuggee) => (Some(StoppedDebuggee::new(debuggee)), None),
+        None => (None, report.into_debuggee().map(StoppedDebuggee::new)),
     }
 }
 
@@ -49,10 +49,10 @@ fn run_slice(
 fn run(
     rt: &impl Abort,
     alloc: Global,
-    debuggee: Considered,
+    debuggee: StoppedDebuggee,
     mode: Mode,
     seen: &mut Seen,
-) -> Option<Considered>
+) -> Option<StoppedDebuggee>
     requires { goes_back mode ≡ false }
 {
     let mut next = debuggee;
@@ -75,7 +75,7 @@ fn nothing_seen(alloc: Global) -> Seen {
 }
 
 /// Runs a debuggee in mode Continue from stop to stop, at most ten times.
-fn run_on(rt: &impl Abort, alloc: Global, debuggee: Considered, seen: &mut Seen) {
+fn run_on(rt: &impl Abort, alloc: Global, debuggee: StoppedDebuggee, seen: &mut Seen) {
     let mut next = debuggee;
     for _ in 0..10u32 {
         let stopped = run(rt, alloc, next, Mode::Continue, seen);
@@ -172,7 +172,7 @@ fn writes_what_the_steps_write(rt: HostRuntime) {
 type Step = (Mode, u64, SliceOutcome);
 
 /// Runs a debuggee in one mode after the other.
-fn assert_runs(rt: &impl Abort, alloc: Global, debuggee: Considered, wanted: &[Step]) {
+fn assert_runs(rt: &impl Abort, alloc: Global, debuggee: StoppedDebuggee, wanted: &[Step]) {
     let mut next = Some(debuggee);
     for (mode, finish, ends) in wanted {
         assert!(rt; !goes_back(*mode));

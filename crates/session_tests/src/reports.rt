@@ -5,7 +5,7 @@ ghost use Rattle.dbg_runner.specs.Plain.{goes_back};
 
 use dap_session::Report;
 use dbg_plan::{Debuggee, Logs, Mode, SourceBreakpoint, resolve};
-use dbg_runner::{Buffers, Considered, next_report};
+use dbg_runner::{Buffers, StoppedDebuggee, next_report};
 use pl0_code::compile;
 use pl0_machine::Machine;
 use pl0_syntax::parse;
@@ -64,7 +64,7 @@ fn asked(rt: &impl Abort, alloc: Global, lines: &str) -> Vec<SourceBreakpoint> {
 }
 
 /// A program under breakpoints that count from position 0, where this position was considered.
-fn debuggee_at(rt: &impl Abort, alloc: Global, text: &str, lines: &str, start: u64) -> Considered {
+fn debuggee_at(rt: &impl Abort, alloc: Global, text: &str, lines: &str, start: u64) -> StoppedDebuggee {
     let tree = parse(alloc, text.as_bytes()).expect(rt, "a lawful text");
     let unit = Arc::new(alloc, compile(alloc, tree).expect(rt, "memory")).expect(rt, "memory");
     let machine = Machine::new(alloc, unit).expect(rt, "memory");
@@ -81,7 +81,7 @@ fn begun(
     alloc: Global,
     machine: Machine,
     asked: &[SourceBreakpoint],
-) -> Considered {
+) -> StoppedDebuggee {
     assert!(rt; asked.len() <= 256);
     let (plan, _) = resolve(alloc, machine.unit(), asked).expect(rt, "memory");
     let plan = Arc::new(alloc, plan).expect(rt, "memory");
@@ -90,11 +90,11 @@ fn begun(
     debuggee.set_plan(plan);
     let mut logs = Logs::new(alloc).expect(rt, "memory");
     debuggee.consider(Mode::Continue, &mut logs);
-    Considered::new(Box::new(alloc, debuggee).expect(rt, "memory"))
+    StoppedDebuggee::new(Box::new(alloc, debuggee).expect(rt, "memory"))
 }
 
 /// The program a step later.
-fn stepped(rt: &impl Abort, alloc: Global, debuggee: Considered) -> Considered {
+fn stepped(rt: &impl Abort, alloc: Global, debuggee: StoppedDebuggee) -> StoppedDebuggee {
     let (report, _) = next_report(
         alloc,
         0,
@@ -102,6 +102,6 @@ fn stepped(rt: &impl Abort, alloc: Global, debuggee: Considered) -> Considered {
         Mode::In,
         &mut Buffers::new(),
     );
-    let debuggee = report.into_debuggee().map(Considered::new);
+    let debuggee = report.into_debuggee().map(StoppedDebuggee::new);
     debuggee.expect(rt, "a step")
 }

@@ -5,13 +5,13 @@ ghost use Rattle.dbg_runner.specs.Plain.{goes_back};
 
 use dap_session::{Order, Report};
 use dbg_plan::Mode;
-use dbg_runner::{Buffers, Considered, Retreat, next_report};
+use dbg_runner::{Buffers, StoppedDebuggee, Retreat, next_report};
 use std::alloc::Global;
 
 /// A run that goes on.
 #[derive(Drop)]
 struct Onward {
-    debuggee: Considered,
+    debuggee: StoppedDebuggee,
     mode: Mode,
     ghost onward: { goes_back mode ≡ false },
 }
@@ -58,7 +58,7 @@ pub fn report_next(alloc: Global, running: Running) -> (Report, Option<Running>)
                 Some(debuggee) => Some(Running {
                     run,
                     course: Course::On(Onward {
-                        debuggee: Considered::new(debuggee),
+                        debuggee: StoppedDebuggee::new(debuggee),
                         mode,
                     }),
                     begun: true,
@@ -92,7 +92,7 @@ pub fn report_no_memory(running: Running) -> Option<Report> {
 }
 
 /// Which way a run in a mode goes.
-fn course_of(debuggee: Considered, mode: Mode) -> Course {
+fn course_of(debuggee: StoppedDebuggee, mode: Mode) -> Course {
     match mode {
         Mode::Entry => Course::On(Onward { debuggee, mode }),
         Mode::Continue => Course::On(Onward { debuggee, mode }),

@@ -6,7 +6,7 @@ ghost use Rattle.dbg_runner.specs.Plain.{goes_back};
 use anyhow::{Result, anyhow};
 use dap_session::{Event, Inbox, LoadFault, Loader, Order, OrderFault, Orders, Out, drive};
 use dbg_plan::Mode;
-use dbg_runner::{Buffers, Considered, History, Report, Retreat, next_report};
+use dbg_runner::{Buffers, StoppedDebuggee, History, Report, Retreat, next_report};
 use std::alloc::Global;
 use std::cell::Cell;
 use std::fs;
@@ -55,7 +55,7 @@ pub fn run<R: Wait + Files + AllocGlobal>(rt: &R, alloc: Global, sent: &[u8]) ->
 /// A run that goes on.
 #[derive(Drop)]
 struct Onward {
-    debuggee: Considered,
+    debuggee: StoppedDebuggee,
     mode: Mode,
     ghost onward: { goes_back mode ≡ false },
 }
@@ -102,7 +102,7 @@ fn report_next(alloc: Global, running: Running) -> (Report, Option<Running>) {
                 Some(debuggee) => Some(Running {
                     run,
                     course: Course::On(Onward {
-                        debuggee: Considered::new(debuggee),
+                        debuggee: StoppedDebuggee::new(debuggee),
                         mode,
                     }),
                     begun: true,
@@ -125,7 +125,7 @@ fn report_next(alloc: Global, running: Running) -> (Report, Option<Running>) {
 }
 
 /// Which way a run in a mode goes.
-fn course_of(debuggee: Considered, mode: Mode) -> Course {
+fn course_of(debuggee: StoppedDebuggee, mode: Mode) -> Course {
     match mode {
         Mode::Entry => Course::On(Onward { debuggee, mode }),
         Mode::Continue => Course::On(Onward { debuggee, mode }),

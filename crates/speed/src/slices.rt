@@ -4,7 +4,7 @@ ghost use Rattle.std.specs.Prelude.{◌≡◌, ◌≤◌, ◌<◌, length, IfOk}
 
 use anyhow::{Context, Result, anyhow};
 use dbg_plan::{Debuggee, Logs, Mode, SourceBreakpoint, resolve};
-use dbg_runner::{Buffers, Considered, Summary, next_report};
+use dbg_runner::{Buffers, StoppedDebuggee, Summary, next_report};
 use pl0_machine::Machine;
 use pl0_unit::Unit;
 use std::alloc::Global;
@@ -55,7 +55,7 @@ fn asked_for(alloc: Global, lines: &[String]) -> Result<Vec<SourceBreakpoint>>
 }
 
 /// A program at its first position, under breakpoints.
-pub fn begun(alloc: Global, unit: Unit, asked: &[SourceBreakpoint]) -> Result<Considered>
+pub fn begun(alloc: Global, unit: Unit, asked: &[SourceBreakpoint]) -> Result<StoppedDebuggee>
     requires { length asked.now ≤ 256 }
 {
     let (plan, _) = resolve(alloc, &unit, asked).context("no plan")?;
@@ -69,11 +69,11 @@ pub fn begun(alloc: Global, unit: Unit, asked: &[SourceBreakpoint]) -> Result<Co
     let mut logs = Logs::new(alloc).context("no room for logs")?;
     let _ = debuggee.consider(Mode::Continue, &mut logs);
     let debuggee = Box::new(alloc, debuggee).context("no room for the debuggee")?;
-    Ok(Considered::new(debuggee))
+    Ok(StoppedDebuggee::new(debuggee))
 }
 
 // Runs to the end, or to a stop: what the last report says.
-fn slices(alloc: Global, mut debuggee: Considered) -> Option<Summary> {
+fn slices(alloc: Global, mut debuggee: StoppedDebuggee) -> Option<Summary> {
     let mut buffers = Buffers::new();
     for _ in 0..u64::MAX {
         let (report, on) = next_report(
@@ -85,7 +85,7 @@ fn slices(alloc: Global, mut debuggee: Considered) -> Option<Summary> {
         );
         match on {
             None => return Some(report.summary()),
-            Some(next) => debuggee = Considered::new(next),
+            Some(next) => debuggee = StoppedDebuggee::new(next),
         }
     }
     None

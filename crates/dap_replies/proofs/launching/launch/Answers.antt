@@ -5,7 +5,7 @@ use Rattle.pl0_tree.specs.Plain.{plain_block}
 use Rattle.dap_history.specs.Launching.{syntax}
 use Rattle.dap_msg.specs.declared.outgoing.Refusal.TheVariants as refusal
 use Rattle.dap_phase.specs.declared.phase.Phase.TheVariants as phase
-use Rattle.dap_replies.specs.Answering.{unmoved}
+use Rattle.dap_replies.specs.Answering.{without_effect}
 use Rattle.dap_replies.specs.Replied.{HasLaunched}
 use Rattle.dap_replies.proofs.Launched.{launch_refused, launch_begun}
 use Rattle.dap_replies.proofs.launching.launch.Goals as goal
@@ -32,4 +32,4 @@ returns-in-Err-InText c = λ past waits.
           (subst (FaultIs (IsFirstFault c.as_slice.result.now)) c.in-Err-InText.field-0-is c.in-Err-InText.ensures.fault);
       reply_is = refl;
     })) c.refuse-in-Err-InText.result
-    (c.refuse-in-Err-InText.ensures.is ∙ ap (λ why. unmoved (phase.Ready c.args.settings) (Err why)) c.syntax.ensures) past waits)
+    (c.refuse-in-Err-InText.ensures.is ∙ ap (λ why. without_effect (phase.Ready c.args.settings) (Err why)) c.syntax.ensures) past waits)

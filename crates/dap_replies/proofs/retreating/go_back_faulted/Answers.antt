@@ -7,7 +7,7 @@ use Rattle.dap_history.specs.declared.situation.Situation.TheVariants as situati
 use Rattle.dap_history.specs.Replies.{refused}
 use Rattle.dap_phase.specs.declared.phase.Phase.TheVariants as phase
 use Rattle.dap_replies.specs.Going.{HasGone}
-use Rattle.dap_replies.specs.Paces.{return_by}
+use Rattle.dap_replies.specs.ResumeKinds.{return_by}
 use Rattle.dap_replies.specs.Replied.{Replies}
 use Rattle.dap_replies.proofs.Resumed.{as_returning, returns_faulted, returns_refusing}
 use Rattle.dap_replies.proofs.retreating.go_back_faulted.Goals as goal

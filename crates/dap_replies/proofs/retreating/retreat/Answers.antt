@@ -3,7 +3,7 @@ use Rattle.dap_msg.specs.declared.outgoing.Refusal.TheVariants as refusal
 use Rattle.dap_history.specs.Replies.{refused}
 use Rattle.dap_history.specs.declared.situation.Situation.TheVariants as situation_is
 use Rattle.dap_phase.specs.Phases.{IsPhase, situation_of}
-use Rattle.dap_replies.specs.Paces.{return_by, return_mode}
+use Rattle.dap_replies.specs.ResumeKinds.{return_by, return_mode}
 use Rattle.dap_replies.proofs.Refused.{nothing_retreats}
 use Rattle.dap_replies.proofs.Resumed.{as_returning}
 use Rattle.dap_replies.proofs.retreating.retreat.Goals as goal

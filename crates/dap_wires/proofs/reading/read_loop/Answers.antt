@@ -13,30 +13,30 @@ returns-in-Some-end-clause-read g c =
     (client_events c.send.new.self)
     (supply (g.I.Source.left c.args.input.now) (g.I.Source.failures c.args.input.now))
     (supply (g.I.Source.left c.loop.input) (g.I.Source.failures c.loop.input))
-    (supply (g.I.Source.left c.next_event-event.new.input) (g.I.Source.failures c.next_event-event.new.input))
-    c.next_event-event.result
+    (supply (g.I.Source.left c.read_event-event.new.input) (g.I.Source.failures c.read_event-event.new.input))
+    c.read_event-event.result
     c.in-Some-end.end
     c.loop.invariant.0
     (sym c.in-Some-end.ensures)
-    c.next_event-event.ensures.read
+    c.read_event-event.ensures.read
     sent
 
 pub loop-preserved : goal.loop-preserved
 loop-preserved g c =
     let sent = when_ok c.send.result (sym c.if-is_err.ensures.value) c.send.ensures.sent in
-    let event = c.next_event-event.ensures in (
+    let event = c.read_event-event.ensures in (
       read_goes_on
           (client_events c.args.inbox.now)
           (client_events c.loop.inbox)
           (client_events c.send.new.self)
           (supply (g.I.Source.left c.args.input.now) (g.I.Source.failures c.args.input.now))
           (supply (g.I.Source.left c.loop.input) (g.I.Source.failures c.loop.input))
-          (supply (g.I.Source.left c.next_event-event.new.input) (g.I.Source.failures c.next_event-event.new.input))
-          c.next_event-event.result
+          (supply (g.I.Source.left c.read_event-event.new.input) (g.I.Source.failures c.read_event-event.new.input))
+          c.read_event-event.result
           c.loop.invariant.0
           event.own
           (sym c.in_default.ensures)
           event.read
           sent,
-      c.send.ensures.home ∙ c.loop.invariant.1,
+      c.send.ensures.queue ∙ c.loop.invariant.1,
     )

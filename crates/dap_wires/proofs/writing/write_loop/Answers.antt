@@ -1,5 +1,5 @@
 use Rattle.std.proofs.Common.{◌∙◌}
-use Rattle.dap_wires.specs.Outbox.{parcels_taken}
+use Rattle.dap_wires.specs.Outbox.{messages_taken}
 use Rattle.byte_streams.specs.Streams.{output}
 use Rattle.dap_wires.proofs.WrittenSoFar.{written_ends, written_breaks, written_goes_on}
 use Rattle.dap_wires.proofs.writing.write_loop.Goals as goal
@@ -8,9 +8,9 @@ pub returns-in-Some-End-clause-written : goal.returns-in-Some-End-clause-written
 returns-in-Some-End-clause-written g c =
     let took = rw c.in-Some-End.field-0-is at c.in-Some-End.ensures.some in
     written_ends
-    (parcels_taken c.args.outbox.now)
-    (parcels_taken c.loop.outbox)
-    (parcels_taken c.receive.new.self)
+    (messages_taken c.args.outbox.now)
+    (messages_taken c.loop.outbox)
+    (messages_taken c.receive.new.self)
     (output (g.O.Sink.written c.args.output.now) (g.O.Sink.failures c.args.output.now))
     (output (g.O.Sink.written c.loop.output) (g.O.Sink.failures c.loop.output))
     c.loop.invariant.0
@@ -21,9 +21,9 @@ returns-then-not-write_all-clause-written g c =
     let took = rw c.in-Some-Frame.field-0-is at c.in-Some-Frame.ensures.some in
     let part = rw c.as_slice.ensures.value at c.if-not-write_all.ensures.written in
     written_breaks
-    (parcels_taken c.args.outbox.now)
-    (parcels_taken c.loop.outbox)
-    (parcels_taken c.receive.new.self)
+    (messages_taken c.args.outbox.now)
+    (messages_taken c.loop.outbox)
+    (messages_taken c.receive.new.self)
     (output (g.O.Sink.written c.args.output.now) (g.O.Sink.failures c.args.output.now))
     (output (g.O.Sink.written c.loop.output) (g.O.Sink.failures c.loop.output))
     (output (g.O.Sink.written c.write_all.new.output) (g.O.Sink.failures c.write_all.new.output))
@@ -38,9 +38,9 @@ loop-preserved g c =
     let took = rw c.in-Some-Frame.field-0-is at c.in-Some-Frame.ensures.some in
     let wrote = rw c.as_slice.ensures.value at c.if-not-write_all.ensures.written in (
       written_goes_on
-          (parcels_taken c.args.outbox.now)
-          (parcels_taken c.loop.outbox)
-          (parcels_taken c.receive.new.self)
+          (messages_taken c.args.outbox.now)
+          (messages_taken c.loop.outbox)
+          (messages_taken c.receive.new.self)
           (output (g.O.Sink.written c.args.output.now) (g.O.Sink.failures c.args.output.now))
           (output (g.O.Sink.written c.loop.output) (g.O.Sink.failures c.loop.output))
           (output (g.O.Sink.written c.write_all.new.output) (g.O.Sink.failures c.write_all.new.output))
@@ -49,5 +49,5 @@ loop-preserved g c =
           took
           wrote
           c.if-not-write_all.ensures.count,
-      c.in-Some-Frame.ensures.home ∙ c.loop.invariant.1,
+      c.in-Some-Frame.ensures.queue ∙ c.loop.invariant.1,
     )

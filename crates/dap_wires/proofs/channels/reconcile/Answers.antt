@@ -1,0 +1,16 @@
+use Rattle.std.proofs.Common.{ap, ◌∙◌}
+use Rattle.dap_wires.proofs.Delivered.{merges_first, merges_second, learns_whole}
+use Rattle.dap_wires.proofs.channels.reconcile.Goals as goal
+
+pub absorb-requires-clause-rule : goal.absorb-requires-clause-rule
+absorb-requires-clause-rule g c = merges_first _ _ _ _ _ c.requires.first
+
+pub absorb-requires-2-clause-rule : goal.absorb-requires-2-clause-rule
+absorb-requires-2-clause-rule g c = merges_second _ _ _ _ _ c.requires.second
+
+pub learn_as-requires-clause-rule : goal.learn_as-requires-clause-rule
+learn_as-requires-clause-rule g c =
+    learns_whole _ _ _
+    (ap (λ v. v.first) c.absorb-2.ensures.rule ∙ ap (λ v. v.first) c.absorb.ensures.rule)
+    (ap (λ v. v.second) c.absorb-2.ensures.rule)
+    (ap (λ v. v.takes) c.absorb-2.ensures.rule ∙ (ap (λ v. v.takes) c.absorb.ensures.rule ∙ c.requires.receiver))

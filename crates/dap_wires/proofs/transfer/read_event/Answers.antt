@@ -1,0 +1,48 @@
+use Rattle.std.proofs.Common.{◌≡◌, ◌<◌, length, vec_len, vec_capacity, Err, ◌∙◌, ap, refl, arith}
+use Rattle.byte_streams.proofs.Known.{keeps_self, keeps_both, keeps_consumes}
+use Rattle.dap_wires.proofs.FromSource.{read_nothing, read_gives, read_alone, piece_short, piece_some}
+use Rattle.dap_wires.proofs.transfer.read_event.Goals as goal
+
+pub loop-init : goal.loop-init
+loop-init g c = (keeps_self _, refl, c.told-room, refl)
+
+pub returns-in-Ok-eq0-clause-read : goal.returns-in-Ok-eq0-clause-read
+returns-in-Ok-eq0-clause-read g c =
+    let size = c.loop.invariant.2 in
+    let kept = c.read.auto.room in
+    let room : 0 < length c.read.new.room = omega (arith, size, kept) in
+    let e = read_nothing _ _ _ _ _ c.loop.invariant.0 c.in-Ok-eq0.ensures.bytes c.in-Ok-eq0.field-0-test room in
+    (e.0, e.1, c.in-Ok-eq0.ensures.kept ∙ c.loop.invariant.1)
+
+pub unwrap-requires : goal.unwrap-requires
+unwrap-requires g c =
+    let len : vec_len c.loop.piece ≡ 0 = ap vec_len c.loop.invariant.3 ∙ c.in-Ok.ensures.len in
+    let capacity : vec_capacity c.loop.piece ≡ 4096 = ap vec_capacity c.loop.invariant.3 ∙ c.in-Ok.ensures.exact in
+    let short = piece_short c.in-Ok-read.count _ c.read.new.room _ refl (c.read.auto.room ∙ c.loop.invariant.2) in
+    c.extend_from_slice.ensures.succeeds (omega (arith, len, capacity, short))
+
+pub returns-in-Ok-read-clause-read : goal.returns-in-Ok-read-clause-read
+returns-in-Ok-read-clause-read g c =
+    let n = c.in-Ok-read.count in
+    let appended = rw c.unwrap.ensures at c.extend_from_slice.ensures.items in
+    let empty = ap (λ p. p.items) c.loop.invariant.3 ∙ c.in-Ok.ensures.items in
+    let piece = read_alone n c.read.new.room _ _ appended empty in (
+      read_gives _ _ _ n c.read.new.room _ c.loop.invariant.0 c.in-Ok-read.ensures.bytes piece,
+      piece_short n _ c.read.new.room _ piece (c.read.auto.room ∙ c.loop.invariant.2),
+      c.in-Ok-read.ensures.kept ∙ c.loop.invariant.1,
+      piece_some n c.read.new.room _ piece c.in-Ok-read.count-test.1 (omega (arith, c.in-Ok-read.ensures.within, c.read.auto.room)),
+    )
+
+pub returns-in-Err-Failed-clause-read : goal.returns-in-Err-Failed-clause-read
+returns-in-Err-Failed-clause-read g c =
+    let grew = c.in-Err-Failed.ensures.failed (ap Err c.in-Err-Failed.field-0-is) in
+    let before = c.loop.invariant.1 in
+    (keeps_consumes _ _ (keeps_both _ _ _ c.loop.invariant.0 c.in-Err-Failed.ensures.bytes), omega (arith, grew, before))
+
+pub loop-preserved : goal.loop-preserved
+loop-preserved g c = (
+  keeps_both _ _ _ c.loop.invariant.0 c.in-Err-Interrupted.ensures.bytes,
+  c.in-Err-Interrupted.ensures.interrupted (ap Err c.in-Err-Interrupted.field-0-is) ∙ c.loop.invariant.1,
+  c.read.auto.room ∙ c.loop.invariant.2,
+  c.loop.invariant.3,
+)

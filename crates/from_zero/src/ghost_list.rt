@@ -1,0 +1,36 @@
+// Histories that take no memory.
+
+ghost use Rattle.std.specs.Prelude.{◌≡◌, List, [], ◌∷◌, ◌++◌};
+ghost use Rattle.std.specs.Borrow.{ftrue};
+
+use std::marker::{Model, PhantomData};
+
+/// A list that only proofs read. It has no bytes, and its methods do nothing at run time.
+#[derive(Drop)]
+pub struct GhostList<T> {
+    of: PhantomData<T>,
+    pub ghost entries: { List T },
+}
+
+impl<T> Model for GhostList<T> {
+    ghost also_owns = { λ _. ftrue };
+}
+
+// It has no value of `T`.
+unsafe impl<T> Send for GhostList<T> {}
+
+impl<T> GhostList<T> {
+    /// The empty history.
+    pub fn new() -> GhostList<T>
+        ensures { result.entries ≡ [] }
+    {
+        GhostList { of: PhantomData }
+    }
+
+    /// This history with one entry more, the value that is shown.
+    pub fn and(&self, entry: &T) -> GhostList<T>
+        ensures { result.entries ≡ self.now.entries ++ entry.now ∷ [] }
+    {
+        GhostList { of: PhantomData }
+    }
+}
