@@ -1,4 +1,4 @@
-// What the slices of a run pass.
+//! What the slices of a run pass.
 
 ghost use Rattle.std.specs.Prelude.{◌≡◌, ◌++◌, []};
 ghost use Rattle.std.specs.List.{flat_map};

@@ -1,4 +1,4 @@
-// What each thread of `serve` does, with all that it needs.
+//! What each thread of `serve` does, with all that it needs.
 
 ghost use Rattle.std.specs.Prelude.{◌≡◌, ◌++◌, [], List, true, ⊤};
 ghost use Rattle.std.specs.List.{flat_map};

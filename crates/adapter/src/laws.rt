@@ -1,4 +1,4 @@
-// Laws.
+//! Laws.
 
 ghost use Rattle.adapter.specs.Laws.{InputIsTakenWhole, FirstDisconnectCloses, RunsEndOnce, NobodyIsGone, FullIsFour};
 

@@ -1,4 +1,4 @@
-// A client over an input and an output: reader, runner and writer in threads of their own, the session in this one.
+//! A client over an input and an output: reader, runner and writer in threads of their own, the session in this one.
 
 ghost use Rattle.std.specs.Prelude.{◌≡◌, ◌≢◌, true};
 ghost use Rattle.dap_session.specs.Sending.{Begins};
@@ -145,7 +145,7 @@ fn outcome(
     }
 }
 
-// Ties a reference that came back to the parameter that lent it.
+/// Ties a reference that came back to the parameter that lent it.
 fn end_loan<T>(x: &mut T)
     ensures { x.new ≡ x.old }
 {}

@@ -1,5 +1,5 @@
-// Tasks for threads of a scope, which may be refused. What a task has and gives is said through a type parameter, so that it
-// may have a `&mut` and give it back.
+//! Tasks for threads of a scope, which may be refused. What a task has and gives is said through a type parameter, so that it
+//! may have a `&mut` and give it back.
 
 ghost use Rattle.std.specs.Prelude.{◌≡◌, IfSome};
 

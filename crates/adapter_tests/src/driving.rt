@@ -4,7 +4,7 @@ use crate::fakes::{FramesPut, OneFile, OrdersPushed, Script};
 use crate::rows::{FAULTS, HELLO, INITIALIZE, LAUNCH, ROWS, Row, STARTED, fault_row};
 use crate::transcript::{ANSWERED, frames, input};
 use dap_session::{Closed, Event, SessionFault, drive};
-use dbg_runner::History;
+use dbg_runner::GhostList;
 use std::alloc::{AllocError, Global};
 use std::collections::VecDeque;
 use std::process::Abort;
@@ -67,12 +67,12 @@ fn run<R: Abort + Wait>(
     let mut script = Script {
         rt,
         events: events(alloc, input, ports)?,
-        given: History::new(),
+        given: GhostList::new(),
     };
     let mut out = FramesPut {
         frames: Vec::new(alloc),
         room: ports.frames,
-        refused: History::new(),
+        refused: GhostList::new(),
     };
     let mut orders = OrdersPushed {
         rt,

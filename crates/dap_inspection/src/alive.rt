@@ -1,4 +1,4 @@
-// Frames alive, by their ids.
+//! Frames alive, by their ids.
 
 ghost use Rattle.pl0_machine.specs.Machine.{frames};
 ghost use Rattle.dap_inspection.specs.Alive.{NamesFrame};

@@ -1,4 +1,4 @@
-// `evaluate`.
+//! `evaluate`.
 
 ghost use Rattle.std.specs.Prelude.{◌≡◌, ◌<◌, IfOk};
 ghost use Rattle.pl0_machine.specs.Machine.{program, frames, frame_of, depth_of};
@@ -17,7 +17,7 @@ use pl0_syntax::{Expression, Names, SyntaxFault, editor_laws, numbering_laws, pa
 use pl0_unit::Unit;
 use std::alloc::{AllocError, Global};
 
-// The expression that a text is in the scope of a frame; none where it is no expression there.
+/// The expression that a text is in the scope of a frame; none where it is no expression there.
 fn read_in(
     alloc: Global,
     machine: &Machine,
@@ -40,7 +40,7 @@ fn read_in(
     }
 }
 
-// The reply that gives the result of an evaluation.
+/// The reply that gives the result of an evaluation.
 fn reply_of(evaluated: Result<i64, EvalFault>) -> Result<Body, Refusal>
     ensures { replied result ≡ result_reply evaluated }
 {

@@ -1,4 +1,4 @@
-// The name of a frame.
+//! The name of a frame.
 
 ghost use Rattle.std.specs.Prelude.{◌≡◌, IfOk, IsSome, Some, slice_get};
 ghost use Rattle.pl0_tree.specs.Scope.{Path};

@@ -1,4 +1,4 @@
-// `stackTrace`.
+//! `stackTrace`.
 
 ghost use Rattle.std.specs.Prelude.{◌≡◌, ◌-◌, ◌<◌, ◌≤◌, IfOk};
 ghost use Rattle.pl0_machine.specs.Machine.{program, frames, frame_of, depth_of};
@@ -17,7 +17,7 @@ use pl0_machine::Machine;
 use pl0_unit::Unit;
 use std::alloc::{AllocError, Global};
 
-// A line or a column, from 1, as the client counts.
+/// A line or a column, from 1, as the client counts.
 fn counted(number: u32, from_1: bool) -> u64
     ensures { result ≡ number - offset from_1 }
 {
@@ -28,7 +28,7 @@ fn counted(number: u32, from_1: bool) -> u64
     }
 }
 
-// How many of the frames that are left are asked for.
+/// How many of the frames that are left are asked for.
 fn count_asked(levels: u64, left: usize) -> usize
     ensures { result ≡ asked_of levels left }
 {
@@ -38,7 +38,7 @@ fn count_asked(levels: u64, left: usize) -> usize
     (levels as usize).min(left)
 }
 
-// The frame with this id.
+/// The frame with this id.
 fn stack_frame(
     alloc: Global,
     machine: &Machine,
@@ -61,7 +61,7 @@ fn stack_frame(
     })
 }
 
-// The frames asked for, from the top down.
+/// The frames asked for, from the top down.
 fn asked_frames(
     alloc: Global,
     machine: &Machine,

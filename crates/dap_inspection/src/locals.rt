@@ -1,4 +1,4 @@
-// `variables`.
+//! `variables`.
 
 ghost use Rattle.std.specs.Prelude.{◌≡◌, ◌<◌, IfOk, length, map};
 ghost use Rattle.pl0_tree.specs.Plain.{plain_name};
@@ -18,7 +18,7 @@ use pl0_syntax::{Name, block};
 use pl0_unit::Unit;
 use std::alloc::{AllocError, Global};
 
-// The names of the variables of a frame, in the order of declaration.
+/// The names of the variables of a frame, in the order of declaration.
 fn declared_names(machine: &Machine, frame: usize) -> &[Name]
     requires { frame < depth_of machine.now }
     ensures names { map plain_name result.now ≡ names_in (program machine.now) (frame_of machine.now frame) }
@@ -32,7 +32,7 @@ fn declared_names(machine: &Machine, frame: usize) -> &[Name]
     &declaring.variables
 }
 
-// The variables of a frame, which have these names.
+/// The variables of a frame, which have these names.
 fn valued(
     alloc: Global,
     machine: &Machine,

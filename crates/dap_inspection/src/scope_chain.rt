@@ -1,4 +1,4 @@
-// `scopes`.
+//! `scopes`.
 
 ghost use Rattle.std.specs.Prelude.{◌≡◌, ◌-◌, ◌<◌, ◌≤◌, IfOk};
 ghost use Rattle.pl0_machine.specs.Machine.{program, frames, frame_of, depth_of};
@@ -15,7 +15,7 @@ use dbg_plan::Debuggee;
 use pl0_machine::Machine;
 use std::alloc::{AllocError, Global};
 
-// The scope of the frame with this id.
+/// The scope of the frame with this id.
 fn scope(alloc: Global, machine: &Machine, id: usize) -> Result<Scope, AllocError>
     requires positive { 0 < id }
     requires alive { id ≤ depth_of machine.now }
@@ -29,7 +29,7 @@ fn scope(alloc: Global, machine: &Machine, id: usize) -> Result<Scope, AllocErro
     })
 }
 
-// The scopes of a frame, from 0, the innermost first.
+/// The scopes of a frame, from 0, the innermost first.
 fn scope_chain(alloc: Global, machine: &Machine, frame: usize) -> Result<Vec<Scope>, AllocError>
     requires { frame < depth_of machine.now }
     ensures { IfOk result (λ scopes. scopes.items ≡ scopes_from (program machine.now) (frames machine.now) frame) }

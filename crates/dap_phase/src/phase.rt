@@ -1,4 +1,4 @@
-// How far a session has come.
+//! How far a session has come.
 
 use crate::run::Run;
 use crate::unstarted::Unstarted;

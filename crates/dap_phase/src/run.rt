@@ -1,4 +1,4 @@
-// The run that the runner has.
+//! The run that the runner has.
 
 ghost use Rattle.std.specs.Prelude.{◌≡◌, option_map, IfOk};
 ghost use Rattle.std.specs.Arc.{arc_value};
@@ -47,7 +47,7 @@ impl Model for Run {
     ghost invariant = { IsFitting };
 }
 
-// A share of a plan, if there is one.
+/// A share of a plan, if there is one.
 fn shared_plan(plan: &Option<Arc<Plan>>) -> Result<Option<Arc<Plan>>, AllocError>
     ensures { IfOk result (λ share. breakpoints_of (option_map arc_value share) ≡ breakpoints_of (option_map arc_value plan.now)) }
 {
@@ -182,7 +182,7 @@ impl Run {
     }
 }
 
-// A debuggee with a plan put in, if there is one.
+/// A debuggee with a plan put in, if there is one.
 fn with_plan(mut debuggee: Box<Debuggee>, plan: Option<Arc<Plan>>) -> StoppedDebuggee
     requires considered { IsConsidered debuggee.value }
     requires fits { MayBePlanOf debuggee.value.unit (option_map arc_value plan) }

@@ -1,4 +1,4 @@
-// A debuggee before its first position is considered.
+//! A debuggee before its first position is considered.
 
 ghost use Rattle.std.specs.Prelude.{◌≡◌};
 

@@ -1,4 +1,4 @@
-// `setBreakpoints`.
+//! `setBreakpoints`.
 
 ghost use Rattle.std.specs.Prelude.{◌≡◌, ◌≤◌, ◌+◌, map, true, All, IfOk};
 ghost use Rattle.dap_msg.specs.Laws.{AreWithin, LineIsWithin};
@@ -27,7 +27,7 @@ use pl0_unit::Unit;
 use std::alloc::{AllocError, Global};
 use std::sync::Arc;
 
-// How much a line of the client's is less than the same one counted from 1.
+/// How much a line of the client's is less than the same one counted from 1.
 fn line_offset(settings: InitializeArguments) -> u32
     ensures is { result ≡ offset settings.lines_start_at_1 }
     ensures small { result ≤ 1 }
@@ -35,7 +35,7 @@ fn line_offset(settings: InitializeArguments) -> u32
     if settings.lines_start_at_1 { 0 } else { 1 }
 }
 
-// A line as a plan asks for it.
+/// A line as a plan asks for it.
 fn asked_line(alloc: Global, line: &SourceBreakpoint, less: u32) -> Result<AskedLine, AllocError>
     requires within { LineIsWithin line.now }
     requires small { less ≤ 1 }
@@ -65,7 +65,7 @@ fn asked_lines(
     Ok(asked)
 }
 
-// What a line of the program is answered with.
+/// What a line of the program is answered with.
 fn line_answer(unit: &Unit, less: u32, resolution: Resolution) -> BreakpointAnswer
     requires { IsAtStep (program_of unit.now) resolution }
     ensures { result ≡ answer_of (program_of unit.now) less resolution }
@@ -100,7 +100,7 @@ fn line_answers(
     Ok(Items::new(answers))
 }
 
-// The answers to lines of the program's source, and their plan.
+/// The answers to lines of the program's source, and their plan.
 fn resolved(
     alloc: Global,
     unit: &Unit,
@@ -118,7 +118,7 @@ fn resolved(
     Ok((answers, Arc::new(alloc, plan)?))
 }
 
-// The answers to lines of another source.
+/// The answers to lines of another source.
 fn other_source(
     alloc: Global,
     lines: &[SourceBreakpoint],
@@ -132,7 +132,7 @@ fn other_source(
     Ok(Items::new(answers))
 }
 
-// Whether a path is the launched program's.
+/// Whether a path is the launched program's.
 fn is_launched(asked: &Option<Text>, target: &Target) -> bool
     ensures { result ≡ is_at asked.now target.now.path }
 {
@@ -142,7 +142,7 @@ fn is_launched(asked: &Option<Text>, target: &Target) -> bool
     }
 }
 
-// Whether a program is launched, and not the one at a path.
+/// Whether a program is launched, and not the one at a path.
 fn is_of_other_source(phase: &Phase, asked: &Option<Text>) -> bool
     ensures { result ≡ is_other phase.now asked.now }
 {
@@ -156,7 +156,7 @@ fn is_of_other_source(phase: &Phase, asked: &Option<Text>) -> bool
     }
 }
 
-// These answers, an order or none, and the phase then.
+/// These answers, an order or none, and the phase then.
 fn answered(
     alloc: Global,
     answers: Items<BreakpointAnswer>,
@@ -175,7 +175,7 @@ fn answered(
     }
 }
 
-// Before the program starts the plan is put in at once.
+/// Before the program starts the plan is put in at once.
 fn before_start(
     alloc: Global,
     target: Target,
@@ -192,7 +192,7 @@ fn before_start(
     Ok(answered(alloc, answers, None, Phase::Configuring(target, debuggee)))
 }
 
-// In a run the plan waits, and the runner is to give the debuggee back.
+/// In a run the plan waits, and the runner is to give the debuggee back.
 fn in_run(
     alloc: Global,
     target: Target,
@@ -210,7 +210,7 @@ fn in_run(
     Ok(answered(alloc, answers, order, Phase::Running(target, run)))
 }
 
-// The answers, and a debuggee that stands, with their plan put in.
+/// The answers, and a debuggee that stands, with their plan put in.
 fn put_in(
     alloc: Global,
     debuggee: StoppedDebuggee,
@@ -257,7 +257,7 @@ fn at_fault(
     Ok(answered(alloc, answers, None, Phase::Faulted(target, debuggee)))
 }
 
-// After the end of the program the lines are answered, and no plan is kept.
+/// After the end of the program the lines are answered, and no plan is kept.
 fn after_end(
     alloc: Global,
     target: Target,

@@ -1,4 +1,4 @@
-// What an item leads to.
+//! What an item leads to.
 
 use dap_msg::{Body, EventBody, Items, Refusal};
 use dap_phase::Phase;

@@ -1,4 +1,4 @@
-// `initialize`.
+//! `initialize`.
 
 ghost use Rattle.dap_msg.specs.declared.command.Command.TheVariants as command;
 ghost use Rattle.dap_phase.specs.declared.phase.Phase.TheVariants as phase_is;
@@ -21,7 +21,7 @@ pub(crate) fn initialize(alloc: Global, phase: Phase, asked: InitializeArguments
     }
 }
 
-// The session begins.
+/// The session begins.
 fn begin(alloc: Global, asked: InitializeArguments) -> Reply
     ensures { Replies (command.Initialize asked) phase_is.Fresh result }
 {

@@ -1,4 +1,4 @@
-// A launch with its file.
+//! A launch with its file.
 
 ghost use Rattle.std.specs.Prelude.{◌≡◌, IfOk, option_map};
 ghost use Rattle.dap_history.specs.History.{History};
@@ -45,7 +45,7 @@ pub fn launch(
     }
 }
 
-// The refusal of a text with this fault.
+/// The refusal of a text with this fault.
 fn syntax(kind: FaultKind, place: Place) -> Refusal
     ensures { result ≡ launching.syntax kind place }
 {
@@ -56,7 +56,7 @@ fn syntax(kind: FaultKind, place: Place) -> Refusal
     }
 }
 
-// The program is launched, and waits for its configuration.
+/// The program is launched, and waits for its configuration.
 fn begin(
     alloc: Global,
     settings: InitializeArguments,

@@ -1,4 +1,4 @@
-// What positions log, as events.
+//! What positions log, as events.
 
 ghost use Rattle.std.specs.Prelude.{◌≡◌, ◌++◌, OnOk, option_map};
 ghost use Rattle.std.specs.Arc.{arc_value};
@@ -11,7 +11,7 @@ use dbg_plan::{Log, Part, Plan, log_text};
 use std::alloc::{AllocError, Global};
 use std::sync::Arc;
 
-// The parts of a breakpoint's message, by the breakpoint's number; none where there is no plan.
+/// The parts of a breakpoint's message, by the breakpoint's number; none where there is no plan.
 fn parts(plan: &Option<Arc<Plan>>, number: usize) -> &[Part]
     ensures { plain_parts result.now ≡ parts_at (breakpoints_of (option_map arc_value plan.now)) number }
 {

@@ -1,4 +1,4 @@
-// What interrupts a run: `pause`.
+//! What interrupts a run: `pause`.
 
 ghost use Rattle.dap_msg.specs.declared.command.Command.TheVariants as command_is;
 ghost use Rattle.dap_phase.specs.declared.phase.Phase.TheVariants as phase_is;
@@ -12,7 +12,7 @@ use dap_msg::{Body, Items, Refusal, ThreadArguments};
 use dap_phase::{Phase, Run, Target};
 use std::alloc::Global;
 
-// A pause waits until the runner gives the debuggee back, which it is asked to once.
+/// A pause waits until the runner gives the debuggee back, which it is asked to once.
 fn wait(alloc: Global, target: Target, mut run: Run) -> Reply
     ensures { WaitsToPause target run result }
 {
@@ -28,7 +28,7 @@ fn wait(alloc: Global, target: Target, mut run: Run) -> Reply
     }
 }
 
-// Interrupts the run.
+/// Interrupts the run.
 fn interrupt(alloc: Global, target: Target, run: Run, asked: ThreadArguments) -> Reply
     ensures { Replies (command_is.Pause asked) (phase_is.Running target run) result }
 {
@@ -40,7 +40,7 @@ fn interrupt(alloc: Global, target: Target, run: Run, asked: ThreadArguments) ->
     wait(alloc, target, run)
 }
 
-// Replies where the program stands already.
+/// Replies where the program stands already.
 fn remain(alloc: Global, phase: Phase, asked: ThreadArguments) -> Reply
     requires { Stands phase }
     ensures { Replies (command_is.Pause asked) phase result }

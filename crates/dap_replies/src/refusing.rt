@@ -1,4 +1,4 @@
-// Answers after which the phase stays as it is.
+//! Answers after which the phase stays as it is.
 
 ghost use Rattle.std.specs.Prelude.{◌≡◌, Ok, Err};
 ghost use Rattle.dap_replies.specs.Answering.{without_effect, Refuses, Answers};

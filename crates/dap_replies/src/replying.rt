@@ -1,4 +1,4 @@
-// Replies to requests.
+//! Replies to requests.
 
 ghost use Rattle.std.specs.Prelude.{IfOk};
 ghost use Rattle.dap_msg.specs.Laws.{IsWithin};

@@ -1,4 +1,4 @@
-// What goes back: `stepBack` and `reverseContinue`.
+//! What goes back: `stepBack` and `reverseContinue`.
 
 ghost use Rattle.std.specs.Prelude.{IfOk};
 ghost use Rattle.dap_phase.specs.declared.phase.Phase.TheVariants as phase_is;
@@ -28,7 +28,7 @@ impl Return {
     ghost use Rattle.std.specs.Prelude.{◌≡◌};
     ghost use Rattle.dap_replies.specs.ResumeKinds.{return_mode};
 
-    // The mode of the run.
+    /// The mode of the run.
     fn mode(self) -> Mode
         ensures { result ≡ return_mode self }
     {
@@ -39,7 +39,7 @@ impl Return {
     }
 }
 
-// Goes back from a stop.
+/// Goes back from a stop.
 fn go_back(
     alloc: Global,
     target: Target,
@@ -57,7 +57,7 @@ fn go_back(
     go(target, debuggee, way.mode(), Body::None, Vec::new(alloc))
 }
 
-// Goes back from a fault.
+/// Goes back from a fault.
 fn go_back_faulted(
     alloc: Global,
     target: Target,

@@ -1,4 +1,4 @@
-// What starts a run or resumes one: `configurationDone`, `continue`, `next`, `stepIn` and `stepOut`.
+//! What starts a run or resumes one: `configurationDone`, `continue`, `next`, `stepIn` and `stepOut`.
 
 ghost use Rattle.std.specs.Prelude.{◌≡◌, if◌then◌else◌, IfOk};
 ghost use Rattle.dap_msg.specs.declared.command.Command.TheVariants as command_is;
@@ -39,7 +39,7 @@ impl ResumeKind {
     ghost use Rattle.dap_history.specs.Running.{body_of, mode_of};
     ghost use Rattle.dap_replies.specs.ResumeKinds.{resume_kind_of};
 
-    // The mode of a run that begins where this many frames are alive.
+    /// The mode of a run that begins where this many frames are alive.
     fn mode(self, depth: usize) -> Mode
         ensures { result ≡ mode_of (resume_kind_of self) depth }
     {
@@ -51,7 +51,7 @@ impl ResumeKind {
         }
     }
 
-    // The body of the answer.
+    /// The body of the answer.
     fn body(self) -> Body
         ensures { result ≡ body_of (resume_kind_of self) }
     {
@@ -94,7 +94,7 @@ pub(crate) fn go(
     })
 }
 
-// An answer, these events, and the stop where the program stands.
+/// An answer, these events, and the stop where the program stands.
 fn stop(
     target: Target,
     debuggee: StoppedDebuggee,
@@ -114,7 +114,7 @@ fn stop(
     })
 }
 
-// The mode in which position 0 is considered.
+/// The mode in which position 0 is considered.
 fn first_mode(target: &Target) -> Mode
     ensures { result ≡ (if target.now.stop_on_entry then mode_is.Entry else mode_is.Continue) }
 {
@@ -125,7 +125,7 @@ fn first_mode(target: &Target) -> Mode
     }
 }
 
-// The logs of a debuggee, as events.
+/// The logs of a debuggee, as events.
 fn logged(alloc: Global, debuggee: &StoppedDebuggee, logs: &Logs) -> Result<Vec<EventBody>, AllocError>
     ensures { IfOk result (λ events. events.items ≡ told_logs debuggee.now.breakpoints logs.now) }
 {
@@ -139,7 +139,7 @@ fn logged(alloc: Global, debuggee: &StoppedDebuggee, logs: &Logs) -> Result<Vec<
     Ok(events)
 }
 
-// Considers position 0: the program stops there, or its first run begins.
+/// Considers position 0: the program stops there, or its first run begins.
 fn enter(alloc: Global, target: Target, unstarted: Unstarted) -> Result<Reply, AllocError>
     ensures { IfOk result (Replies command_is.ConfigurationDone (phase_is.Configuring target unstarted)) }
 {
@@ -168,7 +168,7 @@ pub(crate) fn configuration_done(alloc: Global, phase: Phase) -> Result<Reply, A
     }
 }
 
-// An answer, and the end of the program, which faulted.
+/// An answer, and the end of the program, which faulted.
 fn end(alloc: Global, target: Target, debuggee: StoppedDebuggee, body: Body) -> Result<Reply, AllocError>
     ensures { IfOk result (HasEnded target debuggee.unit body) }
 {
@@ -184,7 +184,7 @@ fn end(alloc: Global, target: Target, debuggee: StoppedDebuggee, body: Body) -> 
     })
 }
 
-// Goes on from a stop.
+/// Goes on from a stop.
 fn go_on(
     alloc: Global,
     target: Target,
@@ -203,7 +203,7 @@ fn go_on(
     go(target, debuggee, mode, resume_kind.body(), Vec::new(alloc))
 }
 
-// Ends the program from a fault, whatever was asked for.
+/// Ends the program from a fault, whatever was asked for.
 fn end_faulted(
     alloc: Global,
     target: Target,

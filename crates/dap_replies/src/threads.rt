@@ -1,4 +1,4 @@
-// `threads`.
+//! `threads`.
 
 ghost use Rattle.dap_msg.specs.declared.command.Command.TheVariants as command;
 ghost use Rattle.dap_replies.specs.Replied.{Replies};

@@ -1,4 +1,4 @@
-// The loop over events.
+//! The loop over events.
 
 ghost use Rattle.std.specs.Prelude.{◌≡◌, ◌++◌, ◌∷◌, [], option_map, string_bytes};
 ghost use Rattle.dap_history.specs.Events.{AreLawful};

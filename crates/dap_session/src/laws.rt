@@ -1,4 +1,4 @@
-// The laws of a session.
+//! The laws of a session.
 
 ghost use Rattle.dap_session.specs.Laws.{FaultsLeavePrefixes, FramesAreNumbered};
 

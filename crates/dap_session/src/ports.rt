@@ -1,4 +1,4 @@
-// The ports of a session.
+//! The ports of a session.
 
 use dap_history::LoadFault;
 use dbg_runner::{Order, Report};

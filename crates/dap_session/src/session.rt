@@ -1,4 +1,4 @@
-// A session.
+//! A session.
 
 ghost use Rattle.std.specs.Prelude.{◌≡◌, Some, None, IfErr, MatchOption};
 

@@ -1,4 +1,4 @@
-// What stands in an inbox.
+//! What stands in an inbox.
 
 ghost use Rattle.std.specs.Prelude.{◌≡◌};
 ghost use Rattle.dap_wires.specs.Senders.{goes_on, is_quiet};

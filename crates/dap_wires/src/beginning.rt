@@ -1,4 +1,4 @@
-// The first bytes of a file.
+//! The first bytes of a file.
 
 ghost use Rattle.std.specs.Prelude.{◌≡◌, ◌<◌, ◌≤◌, length, Err, IfOk, OnOk};
 ghost use Rattle.dap_history.specs.declared.fault.LoadFault.TheVariants.{CannotRead, NoMemory};

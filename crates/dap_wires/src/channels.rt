@@ -1,4 +1,4 @@
-// A queue of two senders and one receiver.
+//! A queue of two senders and one receiver.
 
 ghost use Rattle.std.specs.Prelude.{◌≡◌, ◌<◌, true, false, [], IfOk, IfErr, OnOk, OnErr, IfSome, IfNone, List, ◌++◌};
 ghost use Rattle.dap_wires.specs.Delivery.{log, put, took, May, of_first, of_second};

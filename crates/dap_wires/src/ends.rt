@@ -1,4 +1,4 @@
-// The ends of a queue, each with a pass that carries what was done at it.
+//! The ends of a queue, each with a pass that carries what was done at it.
 
 ghost use Rattle.std.specs.Prelude.{◌≡◌, []};
 ghost use Rattle.crossbeam_channel.specs.Claims.{IsSeatAt};

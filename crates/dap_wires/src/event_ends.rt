@@ -1,4 +1,4 @@
-// The ends of an inbox.
+//! The ends of an inbox.
 
 ghost use Rattle.std.specs.Prelude.{◌≡◌, ◌≤◌, ◌++◌, map, true, false};
 ghost use Rattle.std.specs.List.{flat_map};

@@ -1,4 +1,4 @@
-// The inbox of a session: what a client sends, and the reports of the runner.
+//! The inbox of a session: what a client sends, and the reports of the runner.
 
 ghost use Rattle.std.specs.Prelude.{◌≡◌, ◌++◌, ◌∷◌, [], true, false, IfOk, IfErr, OnOk, OnErr, IsTrue};
 ghost use Rattle.dap_session.specs.Incoming.{incoming_of};

@@ -1,4 +1,4 @@
-// The ends of an outbox.
+//! The ends of an outbox.
 
 ghost use Rattle.std.specs.Prelude.{◌≡◌, true, false, []};
 ghost use Rattle.dap_wires.specs.Ends.{sender_log, receiver_log, sender_room, receiver_room};

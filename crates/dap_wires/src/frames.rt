@@ -1,4 +1,4 @@
-// The outbox of a session: the frames that go to a writer.
+//! The outbox of a session: the frames that go to a writer.
 
 ghost use Rattle.std.specs.Prelude.{◌≡◌, ◌≢◌, ◌⊎◌, ◌++◌, ◌∷◌, [], true, false, ℕ, IfOk, IfSome, IfNone};
 ghost use Rattle.dap_session.specs.Sending.{Begins};

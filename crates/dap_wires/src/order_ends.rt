@@ -1,4 +1,4 @@
-// The ends of a queue of orders.
+//! The ends of a queue of orders.
 
 ghost use Rattle.std.specs.Prelude.{◌≡◌, ◌≢◌, ◌≤◌, length, map, true};
 ghost use Rattle.std.specs.Arc.{arc_value};

@@ -1,4 +1,4 @@
-// The queue of orders, with a parker at which the runner sleeps. Nothing about orders rests on the parker.
+//! The queue of orders, with a parker at which the runner sleeps. Nothing about orders rests on the parker.
 
 ghost use Rattle.std.specs.Prelude.{◌≡◌, ◌≢◌, ◌≤◌, ◌∷◌, ◌++◌, [], List, length, map, option_map, true, IfOk, OnOk, OnErr};
 ghost use Rattle.std.specs.Option.{option_to_list};

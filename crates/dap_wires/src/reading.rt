@@ -1,4 +1,4 @@
-// From an input to the inbox.
+//! From an input to the inbox.
 
 ghost use Rattle.std.specs.Prelude.{◌≡◌, ◌++◌, List};
 ghost use Rattle.dap_history.specs.Events.{Incoming};

@@ -1,4 +1,4 @@
-// The rule of a queue: what is taken of each sender is what it sent, in order, each once.
+//! The rule of a queue: what is taken of each sender is what it sent, in order, each once.
 
 use crate::end_log::EndLog;
 use crossbeam_channel::protocol::{Join, Lesson, Outcome, Protocol, Split};

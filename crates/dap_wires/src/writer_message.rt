@@ -1,4 +1,4 @@
-// What goes to a writer.
+//! What goes to a writer.
 
 use crate::rule::Sent;
 

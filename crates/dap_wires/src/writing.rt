@@ -1,4 +1,4 @@
-// From the outbox to an output.
+//! From the outbox to an output.
 
 ghost use Rattle.std.specs.Prelude.{◌≡◌, ◌++◌, List};
 ghost use Rattle.dap_wires.specs.declared.writer_message.WriterMessage.{WriterMessage};

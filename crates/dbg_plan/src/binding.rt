@@ -1,4 +1,4 @@
-// Looks names up by their text.
+//! Looks names up by their text.
 
 ghost use Rattle.std.specs.Prelude.{◌≡◌, ◌<◌, length, slice_get, Some, IfOk};
 ghost use Rattle.pl0_tree.specs.Plain.{plain_expression, plain_condition, plain_block};
@@ -38,7 +38,7 @@ pub fn locate(names: &Names, number: u32, text: &str) -> Located
     }
 }
 
-// A name that was looked up, as an expression.
+/// A name that was looked up, as an expression.
 fn expression_of(located: Located) -> LocatedExpression
     ensures { result ≡ bound_of located }
 {

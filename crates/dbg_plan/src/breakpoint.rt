@@ -1,4 +1,4 @@
-// Breakpoints.
+//! Breakpoints.
 
 ghost use Rattle.std.specs.Prelude.{string_bytes};
 ghost use Rattle.pl0_tree.specs.Plain.{plain_condition};

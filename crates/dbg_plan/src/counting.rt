@@ -1,4 +1,4 @@
-// Counts arrivals.
+//! Counts arrivals.
 
 ghost use Rattle.std.specs.Prelude.{◌≡◌, ◌+◌, ◌<◌, ◌≤◌, ◌++◌, ◌&&◌, ℕ, [], is_none, length, All, option_map, if◌then◌else◌, Some};
 ghost use Rattle.std.specs.Arc.{arc_value};
@@ -18,7 +18,7 @@ use crate::plan::Plan;
 use pl0_machine::Machine;
 use std::sync::Arc;
 
-// What is kept of one more arrival.
+/// What is kept of one more arrival.
 fn increase(rule: Option<Rule>, count: u32) -> u32
     ensures { result ≡ increased rule count }
 {
@@ -35,7 +35,7 @@ fn increase(rule: Option<Rule>, count: u32) -> u32
     }
 }
 
-// Whether the arrival of which this is kept is due.
+/// Whether the arrival of which this is kept is due.
 fn is_accepted(rule: Option<Rule>, count: u32) -> bool
     ensures { result ≡ is_due rule count }
 {
@@ -46,7 +46,7 @@ fn is_accepted(rule: Option<Rule>, count: u32) -> bool
     }
 }
 
-// Counts an arrival at a breakpoint of the machine's step, where its condition is met: whether it is due.
+/// Counts an arrival at a breakpoint of the machine's step, where its condition is met: whether it is due.
 #[inline(always)]
 fn count_arrival(machine: &Machine, breakpoint: &Breakpoint, counts: &mut [u32]) -> bool
     requires running { IsRunning machine.now }
@@ -63,7 +63,7 @@ fn count_arrival(machine: &Machine, breakpoint: &Breakpoint, counts: &mut [u32])
     is_accepted(breakpoint.rule, count)
 }
 
-// Counts an arrival, and logs what is to be logged: whether the breakpoint stops the program.
+/// Counts an arrival, and logs what is to be logged: whether the breakpoint stops the program.
 #[inline(always)]
 fn meet(machine: &Machine, breakpoint: &Breakpoint, counts: &mut [u32], logs: &mut Logs) -> bool
     requires running { IsRunning machine.now }

@@ -1,4 +1,4 @@
-// A program that is debugged.
+//! A program that is debugged.
 
 ghost use Rattle.std.specs.Prelude.{◌≡◌, option_map};
 ghost use Rattle.std.specs.Arc.{arc_value};
@@ -63,7 +63,7 @@ impl Model for Debuggee {
     ghost invariant = { IsCounting };
 }
 
-// A plan, or none where it is empty.
+/// A plan, or none where it is empty.
 fn entered(plan: Arc<Plan>) -> Option<Arc<Plan>>
     ensures breakpoints { listed_of (option_map arc_value result) ≡ plan.value.breakpoints }
     ensures numbered { IsNumbered plan.value.breakpoints }
@@ -126,7 +126,7 @@ impl Debuggee {
         self.counted_from
     }
 
-    // The next position to be considered.
+    /// The next position to be considered.
     pub(crate) fn next(&self) -> u64
         ensures { result ≡ self.now.next }
     {
@@ -171,7 +171,7 @@ impl Debuggee {
         self.consider_on(mode, logs)
     }
 
-    // The same with an empty room.
+    /// The same with an empty room.
     #[inline(always)]
     fn consider_on(&mut self, mode: Mode, logs: &mut Logs) -> Option<Reason>
         requires next { IsNext self.old }
@@ -213,8 +213,8 @@ impl Debuggee {
         }
     }
 
-    // Takes steps that write nothing and lead to positions without a breakpoint, up to the position `limit`; or up to the
-    // first that doesn't, whose position isn't considered.
+    /// Takes steps that write nothing and lead to positions without a breakpoint, up to the position `limit`; or up to the
+    /// first that doesn't, whose position isn't considered.
     #[inline(always)]
     fn run_quietly(&mut self, limit: u64) -> Option<StepOutcome>
         requires considered { IsConsidered self.old }

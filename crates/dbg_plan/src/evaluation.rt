@@ -1,4 +1,4 @@
-// The values of expressions and conditions in the frames of a machine.
+//! The values of expressions and conditions in the frames of a machine.
 
 ghost use Rattle.std.specs.Prelude.{◌≡◌, ◌<◌, IsSome, Some};
 ghost use Rattle.pl0_tree.specs.Plain.{plain_expression};
@@ -27,7 +27,7 @@ pub enum EvalFault {
     DivideByZero,
 }
 
-// What arithmetic gives, as an evaluation's result.
+/// What arithmetic gives, as an evaluation's result.
 #[inline(always)]
 fn evaluated(outcome: Result<i64, RunFault>) -> Result<i64, EvalFault>
     requires { IsArithmetic outcome }
@@ -41,7 +41,7 @@ fn evaluated(outcome: Result<i64, RunFault>) -> Result<i64, EvalFault>
     }
 }
 
-// The number of a variable in the frame to which `level` links lead.
+/// The number of a variable in the frame to which `level` links lead.
 #[inline]
 fn variable(machine: &Machine, frame: usize, level: usize, index: usize) -> i64
     requires { IsSome (number_up (frames machine.now) level index frame) }
@@ -80,7 +80,7 @@ pub fn value_of(
     }
 }
 
-// Whether a bound condition holds in a frame of its block.
+/// Whether a bound condition holds in a frame of its block.
 #[inline]
 fn truth_of(
     machine: &Machine,
@@ -116,7 +116,7 @@ pub fn is_met(machine: &Machine, breakpoint: &Breakpoint) -> bool
     }
 }
 
-// The number that a name stands for in a frame, 0 where the frame's block can't read it.
+/// The number that a name stands for in a frame, 0 where the frame's block can't read it.
 fn name_value(machine: &Machine, frame: usize, text: &str) -> i64
     requires { frame < depth_of machine.now }
     ensures { result ≡ or_zero (name_number (program machine.now) (frames machine.now) frame text.now) }

@@ -1,4 +1,4 @@
-// Going back.
+//! Going back.
 
 ghost use Rattle.std.specs.Prelude.{◌≡◌};
 ghost use Rattle.dbg_plan.specs.Trail.{floor_of, TrailsAreShort, TrailsAscend};
@@ -19,7 +19,7 @@ pub fn going_back_laws()
     ensures last_due { LastDueIsLast }
 {}
 
-// Brings a machine back to the last checkpoint at or before a position, or to position 0, and says where that is.
+/// Brings a machine back to the last checkpoint at or before a position, or to position 0, and says where that is.
 fn bring_back(machine: &mut Machine, trail: &Trail, to: u64) -> u64
     requires { AreOf machine.old.unit trail.now.checkpoints }
     ensures floor { result ≡ floor_of (trail_of trail.now).kept to }

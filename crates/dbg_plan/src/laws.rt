@@ -1,4 +1,4 @@
-// What holds of all logs.
+//! What holds of all logs.
 
 ghost use Rattle.dbg_plan.specs.Logs.{EachIsReplaced, LogsAreSaid, ValuesAreArithmetic};
 

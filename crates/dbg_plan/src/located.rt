@@ -1,4 +1,4 @@
-// Expressions and conditions whose names were looked up once, for the frames of one block.
+//! Expressions and conditions whose names were looked up once, for the frames of one block.
 
 use pl0_tree::{Operator, Relation};
 

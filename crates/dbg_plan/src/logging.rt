@@ -1,4 +1,4 @@
-// What breakpoints log, and the text of it.
+//! What breakpoints log, and the text of it.
 
 ghost use Rattle.std.specs.Prelude.{◌≡◌, ◌+◌, ◌<◌, ◌≤◌, ◌++◌, [], ◌∷◌, List, IfOk, OnOk, is_none, Some, length, map, option_to_list, string_bytes};
 ghost use Rattle.dbg_plan.specs.Counting.{IsMetHere, log_now};
@@ -19,7 +19,7 @@ use crate::message::{LogMessage, Part};
 use pl0_machine::Machine;
 use std::alloc::{AllocError, Global};
 
-// Appends the value that a part has in a frame, if it is an expression.
+/// Appends the value that a part has in a frame, if it is an expression.
 fn log_part(machine: &Machine, frame: usize, part: &Part, log: &mut Log)
     requires reads { ReadsPart (program machine.now) (frames machine.now) frame part.now }
     requires room { length log.old.values + length (expressions (plain_part part.now ∷ [])) ≤ expression_limit }
@@ -31,7 +31,7 @@ fn log_part(machine: &Machine, frame: usize, part: &Part, log: &mut Log)
     }
 }
 
-// The log of a breakpoint's message at the machine's step.
+/// The log of a breakpoint's message at the machine's step.
 fn log_of(machine: &Machine, breakpoint: &Breakpoint, message: &LogMessage) -> Log
     requires running { IsRunning machine.now }
     requires here { IsMetHere machine.now breakpoint.now }
@@ -65,7 +65,7 @@ pub fn stops_or_logs(machine: &Machine, breakpoint: &Breakpoint, logs: &mut Logs
     }
 }
 
-// Appends the text of a value.
+/// Appends the text of a value.
 fn push_value(
     alloc: Global,
     text: &mut String,
@@ -83,7 +83,7 @@ fn push_value(
     }
 }
 
-// Appends a part, with the first of the values in place of an expression: the values that are left.
+/// Appends a part, with the first of the values in place of an expression: the values that are left.
 fn push_part<'a>(
     alloc: Global,
     text: &mut String,

@@ -1,4 +1,4 @@
-// What a position logs.
+//! What a position logs.
 
 use crate::breakpoint::BREAKPOINT_LIMIT;
 use crate::evaluation::EvalFault;
@@ -33,7 +33,7 @@ impl Log {
     ghost use Rattle.dbg_plan.specs.Messages.{expression_limit};
     ghost use Rattle.dbg_plan.specs.Values.{answered};
 
-    // The log of the breakpoint with this number, so far without a value.
+    /// The log of the breakpoint with this number, so far without a value.
     #[inline]
     pub(crate) fn new(number: usize) -> Log
         ensures { result ≡ record { number = number; values = [] } }
@@ -45,7 +45,7 @@ impl Log {
         }
     }
 
-    // Appends a value.
+    /// Appends a value.
     #[inline]
     pub(crate) fn push(&mut self, value: Result<i64, EvalFault>)
         requires { length self.old.values < expression_limit }
@@ -132,7 +132,7 @@ impl Logs {
         self.logs.clear();
     }
 
-    // Appends a log, for which there is room.
+    /// Appends a log, for which there is room.
     #[inline]
     pub(crate) fn push(&mut self, log: Log)
         requires { length self.old < breakpoint_limit }

@@ -1,4 +1,4 @@
-// The messages of log points.
+//! The messages of log points.
 
 ghost use Rattle.std.specs.Prelude.{◌≤◌, length, string_bytes};
 ghost use Rattle.dbg_plan.specs.PlainParts.{plain_parts};

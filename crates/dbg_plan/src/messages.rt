@@ -1,4 +1,4 @@
-// Reading messages.
+//! Reading messages.
 
 ghost use Rattle.std.specs.Prelude.{◌≡◌, ◌<◌, ◌++◌, [], ◌∷◌, List, length, IfOk, IfErr, OnOk};
 ghost use Rattle.pl0_tree.specs.Faults.{IsExpressionOf};
@@ -51,7 +51,7 @@ impl<T: Drop> From<AllocFailed<T>> for MessageFault {
     }
 }
 
-// The expression of a text, bound to the names that a step can use.
+/// The expression of a text, bound to the names that a step can use.
 fn read_expression(
     alloc: Global,
     unit: &Unit,
@@ -81,7 +81,7 @@ fn read_expression(
     }
 }
 
-// Appends what stands before an expression, and the expression.
+/// Appends what stands before an expression, and the expression.
 fn push_value(
     alloc: Global,
     parts: &mut Vec<Part>,
@@ -97,7 +97,7 @@ fn push_value(
     Ok(())
 }
 
-// The parts of a text, read from the left.
+/// The parts of a text, read from the left.
 fn read_parts(
     alloc: Global,
     unit: &Unit,

@@ -1,4 +1,4 @@
-// How a run goes on, and why it stops.
+//! How a run goes on, and why it stops.
 
 /// What makes a position due besides breakpoints. A depth is the number of frames alive at the stop that was resumed.
 #[derive(Clone, Copy, PartialEq, Eq)]

@@ -1,4 +1,4 @@
-// A plan: the breakpoints of a program, by their steps.
+//! A plan: the breakpoints of a program, by their steps.
 
 ghost use Rattle.std.specs.Prelude.{◌≡◌, ◌+◌, ◌<◌, ◌^◌, [], All, Decides, option_map, length, slice_get, Some, IfOk};
 ghost use Rattle.std.specs.Arc.{arc_value};
@@ -16,7 +16,7 @@ use std::alloc::{AllocError, Global};
 use std::marker::Model;
 use std::sync::Arc;
 
-// The parts of a breakpoint's message; none without one.
+/// The parts of a breakpoint's message; none without one.
 fn parts_of(breakpoint: &Breakpoint) -> &[Part]
     ensures { plain_parts result.now ≡ option_map_or (λ m. m.parts) (plain_breakpoint breakpoint.now).message [] }
 {
@@ -105,7 +105,7 @@ impl Plan {
         self.watched[address]
     }
 
-    // For each address of the code, whether the step that begins there has a breakpoint.
+    /// For each address of the code, whether the step that begins there has a breakpoint.
     #[inline(always)]
     pub(crate) fn watched(&self) -> &[bool]
         ensures watched { result.now ≡ self.now.watched }

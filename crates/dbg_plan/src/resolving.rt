@@ -1,4 +1,4 @@
-// Lines that an editor asks for, resolved to breakpoints.
+//! Lines that an editor asks for, resolved to breakpoints.
 
 ghost use Rattle.std.specs.Prelude.{◌≡◌, ◌<◌, ◌≤◌, length, Some, IfOk, IfErr};
 ghost use Rattle.pl0_tree.specs.Steps.{steps};
@@ -41,7 +41,7 @@ pub enum Resolution {
     BadLogMessage,
 }
 
-// The first step at a line or after it.
+/// The first step at a line or after it.
 fn first_step(unit: &Unit, line: u32) -> Option<StepNumber>
     ensures { result ≡ step_from (program_of unit.now) line }
 {
@@ -49,7 +49,7 @@ fn first_step(unit: &Unit, line: u32) -> Option<StepNumber>
     (first < unit.steps.len()).then_some(first)
 }
 
-// A condition that was read, with what its names mean in the block of a step.
+/// A condition that was read, with what its names mean in the block of a step.
 fn bind(
     alloc: Global,
     unit: &Unit,
@@ -74,7 +74,7 @@ fn bind(
     })
 }
 
-// The condition of a text, bound to the names that a step can use; none where the text is empty.
+/// The condition of a text, bound to the names that a step can use; none where the text is empty.
 fn read_condition(
     alloc: Global,
     unit: &Unit,
@@ -101,7 +101,7 @@ fn read_condition(
     }
 }
 
-// Resolves a line. Its breakpoint, if it has one, is appended, and its number is how many there were.
+/// Resolves a line. Its breakpoint, if it has one, is appended, and its number is how many there were.
 fn resolve_line(
     alloc: Global,
     unit: &Unit,
@@ -141,7 +141,7 @@ fn resolve_line(
     Ok(Resolution::At(step))
 }
 
-// The names of a program, with tables where names are to be looked up.
+/// The names of a program, with tables where names are to be looked up.
 fn names_for<'a>(
     alloc: Global,
     unit: &'a Unit,

@@ -1,18 +1,18 @@
-// Hit texts.
+//! Hit texts.
 
 ghost use Rattle.std.specs.Prelude.{◌≡◌, ◌≢◌, ℕ, ◌<◌, ◌^◌, decimal, IfSome, IfNone, IfOk, OnErr};
 ghost use Rattle.dbg_plan.specs.Resolutions.{ReadsRule, HasRule};
 
 use crate::breakpoint::Rule;
 
-// The greatest number of a rule.
+/// The greatest number of a rule.
 const GREATEST: u32 = 2_147_483_647;
 
 /// A hit text that is no rule.
 #[derive(Drop)]
 pub struct BadHitCondition;
 
-// The number of a rule that a text writes: decimal, without a sign or a leading zero.
+/// The number of a rule that a text writes: decimal, without a sign or a leading zero.
 fn number(text: &str) -> Option<u32>
     ensures number { IfSome result (λ k. (text.now ≡ decimal k) × (0 < k) × (k < 2 ^ 31)) }
     ensures none { IfNone result ((k : ℕ) → 0 < k → k < 2 ^ 31 → text.now ≢ decimal k) }

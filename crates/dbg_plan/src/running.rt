@@ -1,4 +1,4 @@
-// Steps that write nothing and lead to no arrival at a breakpoint.
+//! Steps that write nothing and lead to no arrival at a breakpoint.
 
 ghost use Rattle.std.specs.Prelude.{◌≡◌, ◌≤◌, All, Decides, IsTrue, false, Some, None, option_map};
 ghost use Rattle.std.specs.Arc.{arc_value};
@@ -16,7 +16,7 @@ use crate::plan::Plan;
 use pl0_machine::{Machine, StepOutcome};
 use std::sync::Arc;
 
-// Whether the condition of one of these breakpoints holds, which are those of the machine's step.
+/// Whether the condition of one of these breakpoints holds, which are those of the machine's step.
 fn any_met(machine: &Machine, breakpoints: &[Breakpoint]) -> bool
     requires running { IsRunning machine.now }
     requires here { All (IsMetHere machine.now) breakpoints.now }
@@ -27,7 +27,7 @@ fn any_met(machine: &Machine, breakpoints: &[Breakpoint]) -> bool
         .any(|breakpoint| is_met(machine, breakpoint))
 }
 
-// Whether the program has arrived at a breakpoint.
+/// Whether the program has arrived at a breakpoint.
 fn has_arrival(machine: &Machine, plan: &Option<Arc<Plan>>) -> bool
     requires running { IsRunning machine.now }
     requires fits { MayBePlanOf machine.now.unit (option_map arc_value plan.now) }
@@ -39,8 +39,8 @@ fn has_arrival(machine: &Machine, plan: &Option<Arc<Plan>>) -> bool
     }
 }
 
-// Whether a step wrote nothing, and led to a position without an arrival. It stands apart, and moves the machine, so that
-// the loop may keep the machine's registers in the processor's.
+/// Whether a step wrote nothing, and led to a position without an arrival. It stands apart, and moves the machine, so that
+/// the loop may keep the machine's registers in the processor's.
 #[inline(never)]
 fn settles(machine: Machine, outcome: StepOutcome, plan: &Option<Arc<Plan>>) -> (Machine, bool)
     requires running { outcome ≡ Went None → IsRunning machine }
@@ -55,7 +55,7 @@ fn settles(machine: Machine, outcome: StepOutcome, plan: &Option<Arc<Plan>>) -> 
     (machine, quiet)
 }
 
-// Whether no breakpoint stands at the machine's position.
+/// Whether no breakpoint stands at the machine's position.
 #[inline(always)]
 fn is_unwatched(machine: &Machine, plan: &Option<Arc<Plan>>, watched: Option<&[bool]>) -> bool
     requires running { IsRunning machine.now }
@@ -69,7 +69,7 @@ fn is_unwatched(machine: &Machine, plan: &Option<Arc<Plan>>, watched: Option<&[b
     }
 }
 
-// Whether a step wrote nothing, and led to a position without a breakpoint.
+/// Whether a step wrote nothing, and led to a position without a breakpoint.
 #[inline(always)]
 fn is_quiet(
     outcome: StepOutcome,
@@ -88,8 +88,8 @@ fn is_quiet(
     }
 }
 
-// Takes steps up to the position `limit`, or up to the first that isn't quiet: what that one did. The machine is moved, and
-// not borrowed, so that the compiler keeps its registers in the processor's.
+/// Takes steps up to the position `limit`, or up to the first that isn't quiet: what that one did. The machine is moved, and
+/// not borrowed, so that the compiler keeps its registers in the processor's.
 #[inline(always)]
 fn run_quietly(
     mut machine: Machine,

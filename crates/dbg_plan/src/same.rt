@@ -1,4 +1,4 @@
-// Whether breakpoints are the same, whoever made them.
+//! Whether breakpoints are the same, whoever made them.
 
 ghost use Rattle.std.specs.Prelude.{◌≡◌, Decides, map, option_map};
 ghost use Rattle.dbg_plan.specs.Breakpoints.{text_condition, plain_message};
@@ -18,7 +18,7 @@ fn same_rule(left: Option<Rule>, right: Option<Rule>) -> bool
     }
 }
 
-// A text reads as one condition, so that the texts decide.
+/// A text reads as one condition, so that the texts decide.
 fn same_condition(left: &Option<BoundCondition>, right: &Option<BoundCondition>) -> bool
     ensures { Decides result (option_map text_condition left.now ≡ option_map text_condition right.now) }
 {
@@ -29,7 +29,7 @@ fn same_condition(left: &Option<BoundCondition>, right: &Option<BoundCondition>)
     }
 }
 
-// A text reads as one message, so that the texts decide.
+/// A text reads as one message, so that the texts decide.
 fn same_message(left: &Option<LogMessage>, right: &Option<LogMessage>) -> bool
     ensures { Decides result (option_map plain_message left.now ≡ option_map plain_message right.now) }
 {

@@ -1,4 +1,4 @@
-// How the table of a plan is made.
+//! How the table of a plan is made.
 
 ghost use Rattle.std.specs.Prelude.{◌≡◌, ℕ, ◌+◌, ◌<◌, ◌≤◌, ◌^◌, length, drop, map, IfOk};
 ghost use Rattle.std.specs.List.{prefix_len};
@@ -10,7 +10,7 @@ use crate::breakpoint::Breakpoint;
 use pl0_tree::StepNumber;
 use std::alloc::{AllocError, Global};
 
-// Where the breakpoints of a step end that begin at `start`.
+/// Where the breakpoints of a step end that begin at `start`.
 fn end_of(ordered: &[Breakpoint], start: usize, step: StepNumber) -> usize
     requires { start ≤ length ordered.now }
     ensures { result ≡ start + prefix_len (is_of step) (drop start ordered.now) }
@@ -43,7 +43,7 @@ pub fn starts_of(
     Ok(starts)
 }
 
-// Whether a step has a breakpoint, if there is a step. One after the last start has none.
+/// Whether a step has a breakpoint, if there is a step. One after the last start has none.
 fn is_started(starts: &[usize], step: Option<StepNumber>) -> bool
     requires { 0 < length starts.now }
     ensures { result ≡ has_part starts.now step }

@@ -1,4 +1,4 @@
-// The checkpoints of a run.
+//! The checkpoints of a run.
 
 ghost use Rattle.std.specs.Prelude.{◌≡◌, ◌*◌, ◌<◌, ◌≤◌, ◌^◌, length, nat_le, option_map, reverse, vec_len, vec_capacity};
 ghost use Rattle.std.specs.List.{find};
@@ -17,7 +17,7 @@ const TRAIL_LIMIT: usize = 64;
 /// How far apart the first ones are at least.
 const FIRST_SPACING: u64 = 4096;
 
-// Gives up those at even places.
+/// Gives up those at even places.
 fn thin(checkpoints: &mut Vec<Checkpoint>)
     ensures thinned { checkpoints.new.items ≡ at_odd_places checkpoints.old.items }
     ensures capacity { vec_capacity checkpoints.new ≡ vec_capacity checkpoints.old }
@@ -27,7 +27,7 @@ fn thin(checkpoints: &mut Vec<Checkpoint>)
     }
 }
 
-// Thins checkpoints where as many are kept as may be: how far apart the next ones are to be at least.
+/// Thins checkpoints where as many are kept as may be: how far apart the next ones are to be at least.
 fn make_room(checkpoints: &mut Vec<Checkpoint>, spacing: u64) -> u64
     requires few { length checkpoints.old.items ≤ trail_limit }
     requires small { spacing < 2 ^ 63 }
@@ -46,7 +46,7 @@ fn make_room(checkpoints: &mut Vec<Checkpoint>, spacing: u64) -> u64
     spacing * 2
 }
 
-// The last checkpoint at or before a position.
+/// The last checkpoint at or before a position.
 fn last_until(checkpoints: &[Checkpoint], position: u64) -> Option<&Checkpoint>
     ensures { option_map (λ c. c.now) result ≡ find (λ c. nat_le c.position position) (reverse checkpoints.now) }
 {
@@ -97,7 +97,7 @@ impl Trail {
         }
     }
 
-    // The last position, or 0.
+    /// The last position, or 0.
     fn last(&self) -> u64
         ensures greatest { result ≡ greatest (trail_of self.now).kept }
         ensures bounded { result ≤ last_position }
@@ -108,7 +108,7 @@ impl Trail {
         }
     }
 
-    // Whether one is asked for at a position.
+    /// Whether one is asked for at a position.
     fn asks(&self, position: u64) -> bool
         ensures { result ≡ asks (trail_of self.now) position }
     {

@@ -1,4 +1,4 @@
-// Buffers for what slices write and log.
+//! Buffers for what slices write and log.
 
 use crate::slicing::SLICE_LIMIT;
 use dbg_plan::Logs;
@@ -24,7 +24,7 @@ impl Buffers {
         }
     }
 
-    // A buffer for the numbers that a slice can write. It is made where none is kept.
+    /// A buffer for the numbers that a slice can write. It is made where none is kept.
     pub(crate) fn take_numbers(&mut self, alloc: Global) -> Result<Vec<i64>, AllocError>
         ensures empty { IfOk result (λ numbers. numbers.items ≡ []) }
         ensures room { IfOk result (λ numbers. slice_limit ≤ vec_capacity numbers) }
@@ -35,7 +35,7 @@ impl Buffers {
         Ok(numbers)
     }
 
-    // A buffer for logs. It is made where none is kept.
+    /// A buffer for logs. It is made where none is kept.
     pub(crate) fn take_logs(&mut self, alloc: Global) -> Result<Logs, AllocError>
         ensures { IfOk result (λ logs. logs ≡ []) }
     {
@@ -48,7 +48,7 @@ impl Buffers {
         }
     }
 
-    // Keeps a buffer that holds no number, and returns one that does.
+    /// Keeps a buffer that holds no number, and returns one that does.
     #[inline]
     pub(crate) fn keep_numbers(&mut self, numbers: Vec<i64>) -> Option<Vec<i64>>
         ensures { numbers_in result ≡ numbers.items }
@@ -60,7 +60,7 @@ impl Buffers {
         Some(numbers)
     }
 
-    // Keeps a buffer that holds no log, and returns one that does.
+    /// Keeps a buffer that holds no log, and returns one that does.
     #[inline]
     pub(crate) fn keep_logs(&mut self, logs: Logs) -> Option<Logs>
         ensures { logs_in result ≡ logs }

@@ -1,4 +1,4 @@
-// The steps that a run which goes back runs again.
+//! The steps that a run which goes back runs again.
 
 ghost use Rattle.std.specs.Prelude.{◌≡◌, ◌+◌, ◌-◌, ◌<◌, ◌≤◌, [], is_some, min};
 ghost use Rattle.dbg_plan.specs.Debugged.{program_of, IsConsidered, due_now};

@@ -1,4 +1,4 @@
-// Three ports as one.
+//! Three ports as one.
 
 ghost use Rattle.std.specs.Prelude.{◌≡◌, []};
 ghost use Rattle.std.specs.List.{flat_map};

@@ -1,4 +1,4 @@
-// What a port notes of its acts.
+//! What a port notes of its acts.
 
 use crate::order::Order;
 use crate::report::Report;

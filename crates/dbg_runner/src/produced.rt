@@ -1,4 +1,4 @@
-// What a slice produced.
+//! What a slice produced.
 
 ghost use Rattle.std.specs.Prelude.{◌≡◌, option_map};
 ghost use Rattle.std.specs.Arc.{arc_value};

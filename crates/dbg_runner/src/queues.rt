@@ -1,4 +1,4 @@
-// The three ports of the runner, each by itself.
+//! The three ports of the runner, each by itself.
 
 use crate::order::Order;
 use crate::report::Report;

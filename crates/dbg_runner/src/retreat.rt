@@ -1,4 +1,4 @@
-// Runs that go back.
+//! Runs that go back.
 
 ghost use Rattle.std.specs.Prelude.{◌≡◌, ◌≤◌, true, Some};
 ghost use Rattle.pl0_meaning.specs.Runs.{last_position};
@@ -63,7 +63,7 @@ impl Model for Retreat {
     ghost invariant = { IsRetreat };
 }
 
-// Begins to go back from where the debuggee stands.
+/// Begins to go back from where the debuggee stands.
 fn begin(debuggee: &mut Debuggee, outputs: &mut Outputs, mode: Mode) -> Way
     requires considered { IsConsidered debuggee.old }
     requires room { IsRoomOf outputs.old debuggee.old }
@@ -87,7 +87,7 @@ fn begin(debuggee: &mut Debuggee, outputs: &mut Outputs, mode: Mode) -> Way
     Way::Searches(due.then_some(0))
 }
 
-// Where a search leads: to the last due position, or to the beginning.
+/// Where a search leads: to the last due position, or to the beginning.
 fn stop_at(found: Option<u64>) -> (u64, Reason)
     ensures { record { position = result.0; reason = result.1 } ≡ stop_at found }
 {
@@ -97,7 +97,7 @@ fn stop_at(found: Option<u64>) -> (u64, Reason)
     }
 }
 
-// Goes on with a search, in which `again` is the debuggee's position. Where it ends, the run turns to where it stops.
+/// Goes on with a search, in which `again` is the debuggee's position. Where it ends, the run turns to where it stops.
 fn search_on(
     debuggee: &mut Debuggee,
     outputs: &mut Outputs,
@@ -125,7 +125,7 @@ fn search_on(
     (Way::Returns(to, reason), limit + steps)
 }
 
-// Runs at most a slice's steps again: what the run then is about, and how many steps it ran again so far.
+/// Runs at most a slice's steps again: what the run then is about, and how many steps it ran again so far.
 fn run_again(
     debuggee: &mut Debuggee,
     outputs: &mut Outputs,
@@ -150,7 +150,7 @@ fn run_again(
     }
 }
 
-// Why the run stops at a position, if it does.
+/// Why the run stops at a position, if it does.
 fn arrival(way: Way, position: u64) -> Option<Reason>
     ensures { result ≡ arrival way position }
 {
@@ -201,14 +201,14 @@ impl Retreat {
         &self.debuggee
     }
 
-    // A machine bounds its position, and so how many steps are run again. Only proofs need it.
+    /// A machine bounds its position, and so how many steps are run again. Only proofs need it.
     pub(crate) fn bounds_steps(&self)
         ensures { self.now.again ≤ 2 * last_position }
     {
         let _again = self.again;
     }
 
-    // Its report where it ends so.
+    /// Its report where it ends so.
     fn summary(&self, run: u64, end: u64, outcome: SliceOutcome) -> Summary
         ensures { result ≡ summary_back run self.now end outcome }
     {
@@ -224,7 +224,7 @@ impl Retreat {
         }
     }
 
-    // Runs at most a slice's steps again: why the run stops there, if it does.
+    /// Runs at most a slice's steps again: why the run stops there, if it does.
     fn run_again(&mut self, outputs: &mut Outputs) -> Option<Reason>
         requires room { IsRoomFor outputs.old self.old }
         ensures ran { RanBack self.old result self.new }
@@ -264,7 +264,7 @@ impl Retreat {
         }
     }
 
-    // The report of a run that has come to where it stops. Its plan counts anew from the next position.
+    /// The report of a run that has come to where it stops. Its plan counts anew from the next position.
     fn arrive(self, run: u64, reason: Reason, produced: Produced) -> Report
         requires room { IsRoomFor produced self }
         requires come { goal_of (program_in self.unit) self.breakpoints self.mode self.start ≡ Some (record { position = self.position; reason = reason }) }
@@ -280,7 +280,7 @@ impl Retreat {
         Report::with_summary(summary, Cargo::Sliced(produced, Some(debuggee)))
     }
 
-    // The report that there was no memory for a slice.
+    /// The report that there was no memory for a slice.
     fn give_up(self, run: u64) -> Report
         ensures of { IsReportOf (heading_back run self) (plain_report result) }
         ensures outcome { result.outcome ≡ out.NoMemory }

@@ -1,4 +1,4 @@
-// Histories that take no memory.
+//! Histories that take no memory.
 
 ghost use Rattle.std.specs.Prelude.{◌≡◌, List, [], ◌∷◌, ◌++◌};
 ghost use Rattle.std.specs.Borrow.{ftrue};

@@ -1,4 +1,4 @@
-// A source and a sink in memory.
+//! A source and a sink in memory.
 
 ghost use Rattle.std.specs.Prelude.{◌≡◌, ◌+◌, None};
 

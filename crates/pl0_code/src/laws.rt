@@ -1,4 +1,4 @@
-// The law of code.
+//! The law of code.
 
 ghost use Rattle.pl0_code.specs.Laws.{OneCode};
 

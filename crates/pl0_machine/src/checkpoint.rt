@@ -1,4 +1,4 @@
-// Where a machine stood.
+//! Where a machine stood.
 
 ghost use Rattle.std.specs.Prelude.{◌≡◌, IfOk};
 

@@ -1,4 +1,4 @@
-// Arithmetic on numbers of 64 bits with a sign.
+//! Arithmetic on numbers of 64 bits with a sign.
 
 ghost use Rattle.std.specs.Prelude.{◌≡◌, neg_ℤ};
 ghost use Rattle.pl0_meaning.specs.Values.{operation, comparison, checked, is_odd};

@@ -1,4 +1,4 @@
-// The declarations of the open blocks in their order, and the latest of each word.
+//! The declarations of the open blocks in their order, and the latest of each word.
 
 ghost use Rattle.std.specs.Prelude.{◌≡◌, ℕ, ◌+◌, ◌∷◌, List, reverse, IsSome, IsOk, OnOk, OnErr};
 ghost use Rattle.std.specs.Map.{update};
@@ -17,7 +17,7 @@ pub(crate) struct Entry<'a, T: Copy> {
     pub(crate) hidden: Option<usize>,
 }
 
-// One more declaration. Where there is no memory for it, all stays.
+/// One more declaration. Where there is no memory for it, all stays.
 pub(crate) fn put<'a, T: Copy>(
     log: &mut Vec<Entry<'a, T>>,
     index: &mut HashMap<&'a str, usize>,
@@ -41,7 +41,7 @@ pub(crate) fn put<'a, T: Copy>(
     }
 }
 
-// Takes back that this declaration is the latest of its word.
+/// Takes back that this declaration is the latest of its word.
 fn restore<'a, T: Copy>(index: &mut HashMap<&'a str, usize>, entry: Entry<'a, T>)
     requires { IsSome (index_of index.old entry.word.now) }
     ensures { (w : List ℕ) → index_of index.new w ≡ update bytes_eq (index_of index.old) entry.entry.word.now entry.entry.hidden w }
@@ -65,7 +65,7 @@ fn ends_at<T: Copy>(log: &[Entry<T>], level: usize) -> bool
     }
 }
 
-// Takes the declarations of the innermost block back.
+/// Takes the declarations of the innermost block back.
 pub(crate) fn cut<'a, T: Copy>(
     log: &mut Vec<Entry<'a, T>>,
     index: &mut HashMap<&'a str, usize>,

@@ -1,4 +1,4 @@
-// The names of a program, looked up from a block outward.
+//! The names of a program, looked up from a block outward.
 
 ghost use Rattle.std.specs.Prelude.{ℕ, ◌≡◌, ◌<◌, ◌^◌, length, slice_get, option_map, option_and_then, position, Some, IfOk, string_bytes};
 ghost use Rattle.std.specs.Str.{bytes_eq};
@@ -76,7 +76,7 @@ fn procedure_in(procedures: &[Procedure], word: &str) -> Option<usize>
         .position(|procedure| procedure.name.text.as_str() == word)
 }
 
-// What a block declares a word as.
+/// What a block declares a word as.
 fn declared_in(block: &Block, word: &str) -> Option<Meaning>
     ensures { option_map meaning_of result ≡ option_map means (first_declaration word.now (plain_block block.now)) }
 {
@@ -90,7 +90,7 @@ fn declared_in(block: &Block, word: &str) -> Option<Meaning>
     Some(Meaning::Procedure(index))
 }
 
-// A table of what a block declares.
+/// A table of what a block declares.
 fn table_of<'a>(alloc: Global, block: &'a Block) -> Result<Scopes<'a, Declared>, AllocError>
     ensures { IfOk result (IsTableOf (plain_block block.now)) }
 {
@@ -140,7 +140,7 @@ impl<'a> Names<'a> {
         })
     }
 
-    // What the block of a number declares a word as.
+    /// What the block of a number declares a word as.
     fn declared(&self, number: u32, word: &str) -> Option<Meaning>
         requires { number < length (blocks (plain_block self.now)) }
         ensures { (q : Path) → slice_get (blocks (plain_block self.now)) number ≡ Some q → option_map meaning_of result ≡ option_map means (option_and_then (first_declaration word.now) (block_at (plain_block self.now) q)) }

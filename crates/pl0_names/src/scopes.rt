@@ -1,4 +1,4 @@
-// The words that the open blocks declare.
+//! The words that the open blocks declare.
 
 ghost use Rattle.std.specs.Prelude.{◌≡◌, ◌+◌, ◌<◌, ◌^◌, [], ◌∷◌, IsOk, OnOk, OnErr, drop, length};
 ghost use Rattle.pl0_names.specs.Blocks.{blocks_of, found_in, no_names, declared_in};

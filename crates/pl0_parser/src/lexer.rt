@@ -1,4 +1,4 @@
-// The tokens of a text.
+//! The tokens of a text.
 
 ghost use Rattle.std.specs.Prelude.{ℕ, ◌≡◌, ◌+◌, ◌<◌, ◌≤◌, ◌∷◌, [], ◌++◌, map, length, take, take_while, slice_index, IfOk, IfErr, IsOk, false, find, option_map};
 ghost use Rattle.std.specs.Char.{is_ascii_digit};
@@ -13,13 +13,13 @@ use pl0_tree::{FaultKind, Magnitude, Mark, Place, Symbol, SyntaxFault, Token};
 use std::alloc::Global;
 use std::str::from_utf8_unchecked;
 
-// The most bytes of a text.
+/// The most bytes of a text.
 const LIMIT: usize = 65536;
 
-// The most characters of a name.
+/// The most characters of a name.
 const NAME_LIMIT: usize = 64;
 
-// Where a text begins.
+/// Where a text begins.
 const START: Place = Place { line: 1, column: 1 };
 
 fn is_space(b: u8) -> bool
@@ -34,21 +34,21 @@ fn is_word_byte(b: u8) -> bool
     b.is_ascii_alphabetic() || b.is_ascii_digit()
 }
 
-// How many bytes at the front belong to a word.
+/// How many bytes at the front belong to a word.
 fn word_len(bytes: &[u8]) -> usize
     ensures { result ≡ length (take_while is_word_byte bytes.now) }
 {
     bytes.iter().take_while(|b| is_word_byte(**b)).count()
 }
 
-// How many digits are at the front.
+/// How many digits are at the front.
 fn digits_len(bytes: &[u8]) -> usize
     ensures { result ≡ length (take_while is_ascii_digit bytes.now) }
 {
     bytes.iter().take_while(|b| b.is_ascii_digit()).count()
 }
 
-// The place after a byte.
+/// The place after a byte.
 fn place_behind(place: Place, b: u8) -> Place
     requires line { place.line < 70000 }
     requires column { place.column < 70000 }
@@ -67,7 +67,7 @@ fn place_behind(place: Place, b: u8) -> Place
     }
 }
 
-// The place some bytes further on its line.
+/// The place some bytes further on its line.
 fn place_along(place: Place, count: usize) -> Place
     requires { place.column + count < 70000 }
     ensures { result ≡ along place count }
@@ -78,7 +78,7 @@ fn place_along(place: Place, count: usize) -> Place
     }
 }
 
-// The keyword that a word is, if it is one.
+/// The keyword that a word is, if it is one.
 fn keyword(word: &[u8]) -> Option<Mark>
     ensures { result ≡ option_map (λ entry. entry.1) (find (λ entry. bytes_eq word.now entry.0) keywords) }
 {
@@ -109,7 +109,7 @@ fn keyword(word: &[u8]) -> Option<Mark>
     }
 }
 
-// A keyword, or a name of at most 64 characters.
+/// A keyword, or a name of at most 64 characters.
 fn word_symbol<'a>(word: &'a [u8]) -> Symbol<'a>
     requires { IsAscii word.now }
     ensures { symbol_of result ≡ word_symbol word.now }
@@ -121,7 +121,7 @@ fn word_symbol<'a>(word: &'a [u8]) -> Symbol<'a>
     }
 }
 
-// The symbol of digits.
+/// The symbol of digits.
 fn number_symbol<'a>(digits: &[u8]) -> Symbol<'a>
     requires { (i : ℕ) → i < length digits.now → (48 ≤ slice_index digits.now i) × (slice_index digits.now i < 58) }
     ensures { symbol_of result ≡ number_symbol (decimal_value digits.now) }
@@ -137,7 +137,7 @@ fn number_symbol<'a>(digits: &[u8]) -> Symbol<'a>
     Symbol::Number(Magnitude { value })
 }
 
-// The sign at the front, the longer ones tried first.
+/// The sign at the front, the longer ones tried first.
 fn sign<'a>(bytes: &[u8]) -> (Symbol<'a>, usize)
     ensures { IsSign bytes.now result.0 result.1 }
 {
@@ -163,7 +163,7 @@ fn sign<'a>(bytes: &[u8]) -> (Symbol<'a>, usize)
     }
 }
 
-// The symbol at the front of bytes that begin with no white space, and its size.
+/// The symbol at the front of bytes that begin with no white space, and its size.
 fn front<'a>(bytes: &'a [u8]) -> (Symbol<'a>, usize)
     requires some { 0 < length bytes.now }
     requires visible { is_space (slice_index bytes.now 0) ≡ false }

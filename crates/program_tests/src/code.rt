@@ -4,7 +4,7 @@ use crate::shown::View;
 use crate::table::{assert_rows, assert_shown};
 use sample_programs::RECURSIVE;
 
-// The jumps past the inner blocks, q, the assignments of p, its other statements, and the main block.
+/// The jumps past the inner blocks, q, the assignments of p, its other statements, and the main block.
 const OF_RECURSIVE: &str = "Jump(25), Jump(9), Jump(3), \
     Enter(3), 0 Load { level: 1, address: 3 }, Load { level: 2, address: 3 }, Operate(Add), Store { level: 1, address: 3 }, 1 Operate(Return), \
     Enter(4), 2 Load { level: 1, address: 3 }, Store { level: 0, address: 3 }, 3 Load { level: 1, address: 3 }, Literal(1), Operate(Subtract), Store { level: 1, address: 3 }, \

@@ -7,7 +7,7 @@ use sample_programs::compiled;
 use std::alloc::Global;
 use std::process::Abort;
 
-// Step 0 stands in q, 2 in p, 4 in r and 5 in the main block.
+/// Step 0 stands in q, 2 in p, 4 in r and 5 in the main block.
 const PROGRAM: &str = "const c = 3; var x;
 procedure p; var y;
 procedure q; var z; ! z;
@@ -15,9 +15,9 @@ procedure q; var z; ! z;
 procedure r; ;
 ! x.";
 
-// A step, a text, and what is found in it as a condition, with tables of names, and as an expression, without them. First
-// lawful texts, then names of the step's block and of those around it, then r, which stands after the step and isn't early, then
-// the first of several faults, then faults of tokens and limits.
+/// A step, a text, and what is found in it as a condition, with tables of names, and as an expression, without them. First
+/// lawful texts, then names of the step's block and of those around it, then r, which stands after the step and isn't early, then
+/// the first of several faults, then faults of tokens and limits.
 const TEXTS: &str = "
 0 | x = y + z * c | lawful | Expected 1:3
 0 | odd z | lawful | Expected 1:1

@@ -14,7 +14,7 @@ one name in two blocks | procedure p; procedure p; call p; call p; call p. | law
 the nearest declaration | var x; procedure x1; var x; x := 1; if x <= 1 then while x >= 1 do call x1. | lawful
 empty statements | begin ;; begin end; ! 1;~ end . ~ | lawful";
 
-// One thing is wrong.
+/// One thing is wrong.
 const FAULTS: &str = "
 no text |  | Expected 1:1
 no period | var x; x := 1 | Expected 1:14
@@ -47,7 +47,7 @@ a call of a constant | const c = 1; call c. | WrongKind 1:19
 a call of a variable | var x; call x. | WrongKind 1:13
 a read of a procedure | procedure p; ; ! p. | WrongKind 1:18";
 
-// Faults of tokens come before those of names, then the first in the text, and on one token the lower number.
+/// Faults of tokens come before those of names, then the first in the text, and on one token the lower number.
 const FIRST: &str = "
 a token before an earlier name | x := 99999999999999999999. | NumberTooLarge 1:6
 a byte before an earlier name | x := 1. ? | BadCharacter 1:9
@@ -68,7 +68,7 @@ the wrong kind where it isn't early | procedure q; ; procedure p; q := 1; . | Wr
 the nearest block's name is of the wrong kind | var x; procedure p; const x = 1; x := 2; . | WrongKind 1:34
 of a name twice the first declaration counts | const a = 1; var a; a := 1. | Twice 1:18";
 
-// What is as long, as deep or as many as may be, and one more.
+/// What is as long, as deep or as many as may be, and one more.
 const LIMITS: &str = "
 65,536 bytes | .{65535  } | lawful
 65,537 bytes | .{65536  } | TooLong 1:1

@@ -67,7 +67,7 @@ fn few_steps_are_run_again(rt: HostRuntime) {
     assert_eq!(rt; back(&rt, &mut debuggee, 397_311), 389_120);
 }
 
-// At position 266,240 there were 64 checkpoints, 4,096 positions apart.
+/// At position 266,240 there were 64 checkpoints, 4,096 positions apart.
 #[test]
 fn every_other_checkpoint_is_given_up(rt: HostRuntime) {
     let mut debuggee = at_the_end_of_the_loop(&rt, rt.alloc());

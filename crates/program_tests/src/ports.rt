@@ -1,7 +1,7 @@
 //! Ports over memory: a script of orders, a tray with room for some reports, and a gate that is open.
 
 use dbg_plan::Mode;
-use dbg_runner::{StoppedDebuggee, Gate, History, Order, OrdersIn, Report, Reports};
+use dbg_runner::{StoppedDebuggee, Gate, GhostList, Order, OrdersIn, Report, Reports};
 use std::alloc::Global;
 use std::process::Abort;
 
@@ -15,7 +15,7 @@ pub struct Script {
     /// The look that finds a Hold of run 1.
     held_at: u64,
     mode: Mode,
-    taken: History<Order>,
+    taken: GhostList<Order>,
 }
 
 impl Script {
@@ -36,7 +36,7 @@ impl Script {
             looks: 0,
             held_at,
             mode,
-            taken: History::new(),
+            taken: GhostList::new(),
         }
     }
 }
@@ -84,8 +84,8 @@ pub struct Tray<'a, R: Abort> {
     rt: &'a R,
     pub reports: Vec<Report>,
     room: usize,
-    sent: History<Report>,
-    handed_back: History<Report>,
+    sent: GhostList<Report>,
+    handed_back: GhostList<Report>,
 }
 
 impl<'a, R: Abort> Tray<'a, R> {
@@ -99,8 +99,8 @@ impl<'a, R: Abort> Tray<'a, R> {
             rt,
             reports: Vec::new(alloc),
             room,
-            sent: History::new(),
-            handed_back: History::new(),
+            sent: GhostList::new(),
+            handed_back: GhostList::new(),
         }
     }
 }
@@ -135,7 +135,7 @@ impl<R: Abort> Reports for Tray<'_, R> {
 pub struct Open<'a, R: Abort> {
     rt: &'a R,
     pub slices: Vec<(u64, u64)>,
-    passed: History<(u64, u64)>,
+    passed: GhostList<(u64, u64)>,
 }
 
 impl<'a, R: Abort> Open<'a, R> {
@@ -147,7 +147,7 @@ impl<'a, R: Abort> Open<'a, R> {
         Open {
             rt,
             slices: Vec::new(alloc),
-            passed: History::new(),
+            passed: GhostList::new(),
         }
     }
 }
@@ -166,7 +166,7 @@ impl<R: Abort> Gate for Open<'_, R> {
 pub struct Last {
     pub report: Option<Report>,
     pub count: u64,
-    sent: History<Report>,
+    sent: GhostList<Report>,
 }
 
 impl Last {
@@ -178,7 +178,7 @@ impl Last {
         Last {
             report: None,
             count: 0,
-            sent: History::new(),
+            sent: GhostList::new(),
         }
     }
 }

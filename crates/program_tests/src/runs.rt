@@ -10,7 +10,7 @@ use std::process::Abort;
 const OF_RECURSIVE: &str = "9/1 10/1 2/2 3/2 4/2 5/2 2/3 3/3 4/3 6/3 \
     0/4 1/4 7/3 ! 1 8/3 6/2 0/3 1/3 7/2 ! 2 8/2 11/1 Done";
 
-// Faults, and runs of the greatest programs: of 65,536 bytes, of 1,024 names, of 64 levels, of 1,024 frames.
+/// Faults, and runs of the greatest programs: of 65,536 bytes, of 1,024 names, of 64 levels, of 1,024 frames.
 const ENDS: &str = "
 a sum too large | var x; begin x := 9223372036854775807; x := x + 1 end. | Fault(Overflow) at 1, 1 frames, 1:40, None, Some(9223372036854775807)
 the least number | var x; begin x := - 9223372036854775807 - 1; ! x; x := x / (-1) end. | Fault(Overflow) at 2, 1 frames, 1:51, Some(-9223372036854775808), Some(-9223372036854775808)

@@ -1,4 +1,4 @@
-// The code of a text.
+//! The code of a text.
 
 ghost use Rattle.std.specs.Prelude.{◌≡◌, IfOk, IfErr};
 ghost use Rattle.pl0_tree.specs.Faults.{IsFirstFault, FaultIs};

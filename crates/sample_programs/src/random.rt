@@ -1,4 +1,4 @@
-// Random numbers.
+//! Random numbers.
 
 /// Random numbers, which the first state determines: splitmix64.
 #[derive(Clone, Copy)]
@@ -27,7 +27,7 @@ impl Random {
         }
     }
 
-    // One of the first `count` words.
+    /// One of the first `count` words.
     pub(crate) fn pick(&mut self, words: &[&'static str], count: usize) -> &'static str {
         let index = self.below(count);
         words.get(index).copied().unwrap_or("")

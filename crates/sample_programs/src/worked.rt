@@ -1,4 +1,4 @@
-// Worked programs.
+//! Worked programs.
 
 /// A procedure that calls itself, and one in it that is called from two frames of the outer one.
 pub const RECURSIVE: &str = "var n;

@@ -1,4 +1,4 @@
-// Random programs.
+//! Random programs.
 
 use crate::random::Random;
 use std::alloc::{AllocError, Global};
@@ -24,7 +24,7 @@ const OPERATORS: [&str; 7] = [" + ", " - ", " * ", " / ", " + ", " - ", " / "];
 
 const RELATIONS: [&str; 6] = [" = ", " # ", " < ", " <= ", " > ", " >= "];
 
-// A text under way.
+/// A text under way.
 #[derive(Drop)]
 struct Writer {
     random: Random,
@@ -68,13 +68,13 @@ impl Writer {
         self.failed |= self.text.push_str(word).is_err();
     }
 
-    // A procedure's name.
+    /// A procedure's name.
     fn put_procedure(&mut self, number: u32) {
         self.failed |= write!(self.text, "p{number}").is_err();
     }
 
-    // A block, in which blocks are nested to this depth. Each declares the first few names, so an inner block's names hide
-    // those of the blocks around it.
+    /// A block, in which blocks are nested to this depth. Each declares the first few names, so an inner block's names hide
+    /// those of the blocks around it.
     fn block(&mut self, depth: u32) {
         let variables = self.variables;
         let constants = self.constants;
@@ -110,7 +110,7 @@ impl Writer {
         }
     }
 
-    // The main block declares some, and each other block none or some.
+    /// The main block declares some, and each other block none or some.
     fn declare_variables(&mut self) {
         if self.variables != 0 && self.random.percent(40) {
             return;
@@ -127,7 +127,7 @@ impl Writer {
         self.variables = self.variables.max(count);
     }
 
-    // The heading of a procedure, which can call itself, and can be called in what follows it in the block around it.
+    /// The heading of a procedure, which can call itself, and can be called in what follows it in the block around it.
     fn heading(&mut self) {
         let number = self.procedures;
         self.procedures = number.saturating_add(1);
@@ -137,7 +137,7 @@ impl Writer {
         self.put(";\n");
     }
 
-    // A statement, in which statements are nested to this depth.
+    /// A statement, in which statements are nested to this depth.
     fn statement(&mut self, depth: u32) {
         let kind = self.random.below(100);
         if kind < 35 || depth == 0 {
@@ -196,7 +196,7 @@ impl Writer {
         self.expression(2);
     }
 
-    // An expression, in which expressions are nested to this depth.
+    /// An expression, in which expressions are nested to this depth.
     fn expression(&mut self, depth: u32) {
         if depth == 0 || self.random.percent(40) {
             self.factor();

@@ -4,7 +4,7 @@ use crate::reports::described;
 use crate::runner::{Running, obey, report_next, report_no_memory};
 use crate::text::{framed, unescaped};
 use dap_session::{Event, Inbox, LoadFault, Loader, Order, OrderFault, Orders, Out};
-use dbg_runner::History;
+use dbg_runner::GhostList;
 use std::alloc::{AllocError, Global};
 use std::cell::Cell;
 use std::process::Abort;
@@ -160,7 +160,7 @@ fn request_content(rt: &impl Abort, alloc: Global, seq: u64, request: &str) -> S
 #[derive(Drop)]
 pub struct Client<'a, R: Abort> {
     events: Events<'a, R>,
-    history: History<Event>,
+    history: GhostList<Event>,
 }
 
 impl<'a, R: Abort> Client<'a, R> {
@@ -186,7 +186,7 @@ impl<'a, R: Abort> Client<'a, R> {
                 sent: 0,
                 requests: 0,
             },
-            history: History::new(),
+            history: GhostList::new(),
         }
     }
 }
@@ -214,7 +214,7 @@ pub struct Sent<'a, R: Abort> {
     rt: &'a R,
     given: &'a Cell<usize>,
     pub noted: Noted<Vec<u8>>,
-    frames: History<Vec<u8>>,
+    frames: GhostList<Vec<u8>>,
 }
 
 impl<'a, R: Abort> Sent<'a, R> {
@@ -223,7 +223,7 @@ impl<'a, R: Abort> Sent<'a, R> {
             rt,
             given,
             noted: Vec::new(alloc),
-            frames: History::new(),
+            frames: GhostList::new(),
         }
     }
 }
@@ -254,7 +254,7 @@ pub struct Pushed<'a, R: Abort> {
     given: &'a Cell<usize>,
     running: &'a Cell<Option<Running>>,
     pub noted: Noted<String>,
-    orders: History<Order>,
+    orders: GhostList<Order>,
 }
 
 impl<'a, R: Abort> Pushed<'a, R> {
@@ -270,7 +270,7 @@ impl<'a, R: Abort> Pushed<'a, R> {
             given,
             running,
             noted: Vec::new(alloc),
-            orders: History::new(),
+            orders: GhostList::new(),
         }
     }
 }
@@ -313,7 +313,7 @@ pub struct Files<'a, R: Abort> {
     rt: &'a R,
     alloc: Global,
     program: &'a str,
-    loads: History<(String, Result<Vec<u8>, LoadFault>)>,
+    loads: GhostList<(String, Result<Vec<u8>, LoadFault>)>,
 }
 
 impl<'a, R: Abort> Files<'a, R> {
@@ -322,7 +322,7 @@ impl<'a, R: Abort> Files<'a, R> {
             rt,
             alloc,
             program,
-            loads: History::new(),
+            loads: GhostList::new(),
         }
     }
 }

@@ -1,4 +1,4 @@
-// The machine alone.
+//! The machine alone.
 
 ghost use Rattle.std.specs.Prelude.{◌<◌};
 ghost use Rattle.pl0_machine.specs.Machine.{depth_of};
@@ -22,7 +22,7 @@ pub fn run(alloc: Global, unit: Unit) -> Result<String> {
     format!(in alloc; "{outcome:?} after {} steps", machine.position()).context("no line")
 }
 
-// Steps to the end of the run, or to a fault.
+/// Steps to the end of the run, or to a fault.
 fn steps(machine: &mut Machine) -> StepOutcome
     requires { 0 < depth_of machine.old }
 {

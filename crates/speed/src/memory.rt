@@ -1,13 +1,13 @@
-// The runner's ports in memory.
+//! The runner's ports in memory.
 
-use dbg_runner::{Gate, History, Order, OrdersIn, Report, Reports};
+use dbg_runner::{Gate, GhostList, Order, OrdersIn, Report, Reports};
 use std::collections::VecDeque;
 
 /// A queue of orders. Where it is empty, the next one is Quit.
 #[derive(Drop)]
 pub struct Queue {
     pub orders: VecDeque<Order>,
-    pub taken: History<Order>,
+    pub taken: GhostList<Order>,
 }
 
 impl OrdersIn for Queue {
@@ -39,7 +39,7 @@ impl OrdersIn for Queue {
 #[derive(Drop)]
 pub struct Last {
     pub report: Option<Report>,
-    pub sent: History<Report>,
+    pub sent: GhostList<Report>,
 }
 
 impl Reports for Last {
@@ -64,7 +64,7 @@ impl Reports for Last {
 /// A gate that is open.
 #[derive(Drop)]
 pub struct Open {
-    pub passed: History<(u64, u64)>,
+    pub passed: GhostList<(u64, u64)>,
 }
 
 impl Gate for Open {

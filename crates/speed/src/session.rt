@@ -1,4 +1,4 @@
-// A session over memory, in one thread: what a client sends byte by byte, and a run before the next byte.
+//! A session over memory, in one thread: what a client sends byte by byte, and a run before the next byte.
 
 ghost use Rattle.std.specs.Prelude.{◌≡◌, false};
 ghost use Rattle.dbg_runner.specs.Plain.{goes_back};
@@ -6,7 +6,7 @@ ghost use Rattle.dbg_runner.specs.Plain.{goes_back};
 use anyhow::{Result, anyhow};
 use dap_session::{Event, Inbox, LoadFault, Loader, Order, OrderFault, Orders, Out, drive};
 use dbg_plan::Mode;
-use dbg_runner::{Buffers, StoppedDebuggee, History, Report, Retreat, next_report};
+use dbg_runner::{Buffers, StoppedDebuggee, GhostList, Report, Retreat, next_report};
 use std::alloc::Global;
 use std::cell::Cell;
 use std::fs;
@@ -25,20 +25,20 @@ pub fn run<R: Wait + Files + AllocGlobal>(rt: &R, alloc: Global, sent: &[u8]) ->
             rest: sent,
             running: &running,
         },
-        given: History::new(),
+        given: GhostList::new(),
     };
     let mut loader = Disk {
         rt,
-        loads: History::new(),
+        loads: GhostList::new(),
     };
     let mut frames = Frames {
         bytes: Vec::new(alloc),
-        put: History::new(),
-        refused: History::new(),
+        put: GhostList::new(),
+        refused: GhostList::new(),
     };
     let mut orders = OrdersHere {
         running: &running,
-        pushed: History::new(),
+        pushed: GhostList::new(),
     };
     drive(
         rt,
@@ -167,7 +167,7 @@ impl Events<'_> {
 #[derive(Drop)]
 struct Client<'a> {
     events: Events<'a>,
-    given: History<Event>,
+    given: GhostList<Event>,
 }
 
 impl Inbox for Client<'_> {
@@ -191,7 +191,7 @@ impl Inbox for Client<'_> {
 #[derive(Drop)]
 struct Disk<'a, R: Files + AllocGlobal> {
     rt: &'a R,
-    loads: History<(String, Vec<u8>)>,
+    loads: GhostList<(String, Vec<u8>)>,
 }
 
 impl<R: Files + AllocGlobal> Loader for Disk<'_, R> {
@@ -218,8 +218,8 @@ impl<R: Files + AllocGlobal> Loader for Disk<'_, R> {
 #[derive(Drop)]
 struct Frames {
     bytes: Vec<u8>,
-    put: History<Vec<u8>>,
-    refused: History<Vec<u8>>,
+    put: GhostList<Vec<u8>>,
+    refused: GhostList<Vec<u8>>,
 }
 
 impl Out for Frames {
@@ -249,7 +249,7 @@ impl Out for Frames {
 #[derive(Drop)]
 struct OrdersHere<'a> {
     running: &'a Cell<Option<Running>>,
-    pushed: History<Order>,
+    pushed: GhostList<Order>,
 }
 
 impl Orders for OrdersHere<'_> {

@@ -1,10 +1,10 @@
-// The runner over ports in memory.
+//! The runner over ports in memory.
 
 use crate::memory::{Last, Open, Queue};
 use crate::slices::begun;
 use anyhow::{Context, Result};
 use dbg_plan::Mode;
-use dbg_runner::{History, Joined, Order, work};
+use dbg_runner::{GhostList, Joined, Order, work};
 use pl0_unit::Unit;
 use std::alloc::Global;
 use std::collections::VecDeque;
@@ -23,14 +23,14 @@ pub fn run<R: Wait>(rt: &R, alloc: Global, unit: Unit) -> Result<String> {
         .context("no room for an order")?;
     let queue = Queue {
         orders,
-        taken: History::new(),
+        taken: GhostList::new(),
     };
     let last = Last {
         report: None,
-        sent: History::new(),
+        sent: GhostList::new(),
     };
     let gate = Open {
-        passed: History::new(),
+        passed: GhostList::new(),
     };
     let mut ports = Joined::new(queue, last, gate);
     work(rt, alloc, &mut ports);

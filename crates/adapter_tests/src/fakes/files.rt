@@ -1,4 +1,4 @@
-// Loaders.
+//! Loaders.
 
 use dap_session::{LoadFault, Loader};
 use std::alloc::Global;

@@ -1,10 +1,10 @@
-// The ports of a session.
+//! The ports of a session.
 
 ghost use Rattle.std.specs.Prelude.{ℕ};
 
 use crate::fakes::next_count;
 use dap_session::{Event, Inbox, Order, OrderFault, Orders, Out};
-use dbg_runner::History;
+use dbg_runner::GhostList;
 use std::collections::VecDeque;
 use std::process::Abort;
 
@@ -13,7 +13,7 @@ use std::process::Abort;
 pub struct Script<'a, R: Abort> {
     pub rt: &'a R,
     pub events: VecDeque<Event>,
-    pub given: History<Event>,
+    pub given: GhostList<Event>,
 }
 
 impl<R: Abort> Inbox for Script<'_, R> {
@@ -38,7 +38,7 @@ impl<R: Abort> Inbox for Script<'_, R> {
 pub struct FramesPut {
     pub frames: Vec<Vec<u8>>,
     pub room: usize,
-    pub refused: History<Vec<u8>>,
+    pub refused: GhostList<Vec<u8>>,
 }
 
 impl Out for FramesPut {

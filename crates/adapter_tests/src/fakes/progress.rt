@@ -1,4 +1,4 @@
-// What the streams and the gate of a session let each other see.
+//! What the streams and the gate of a session let each other see.
 
 use std::sync::atomic::{AtomicUsize, Ordering};
 use std::thread;

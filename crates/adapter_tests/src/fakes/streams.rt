@@ -1,11 +1,11 @@
-// Streams and a gate, each for a thread of its own. Who waits in vain fails.
+//! Streams and a gate, each for a thread of its own. Who waits in vain fails.
 
 ghost use Rattle.std.specs.Prelude.{ℕ, None};
 
 use crate::fakes::next_count;
 use crate::fakes::progress::{Hold, Progress};
 use adapter::{IoFault, Sink, Source};
-use dbg_runner::{Gate, History};
+use dbg_runner::{Gate, GhostList};
 use std::alloc::Global;
 use std::process::Abort;
 
@@ -196,7 +196,7 @@ pub struct SliceGate<'a, R: Abort> {
     rt: &'a R,
     hold: Hold,
     progress: &'a Progress,
-    passed: History<(u64, u64)>,
+    passed: GhostList<(u64, u64)>,
 }
 
 impl<'a, R: Abort> SliceGate<'a, R> {
@@ -205,7 +205,7 @@ impl<'a, R: Abort> SliceGate<'a, R> {
             rt,
             hold: streams.slice_hold,
             progress,
-            passed: History::new(),
+            passed: GhostList::new(),
         }
     }
 }

@@ -1,4 +1,4 @@
-// How a session closes where its input does.
+//! How a session closes where its input does.
 
 use super::Session;
 use super::sending::push;

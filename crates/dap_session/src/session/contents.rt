@@ -1,4 +1,4 @@
-// Pieces of the input, and the contents in them.
+//! Pieces of the input, and the contents in them.
 
 ghost use Rattle.std.specs.Prelude.{◌≡◌, ◌⊎◌, IfOk, IfErr, OnOk, MatchOption, None};
 ghost use Rattle.dap_frame.specs.Frame.{IsFrameInFront, IsOpen};

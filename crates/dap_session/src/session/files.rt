@@ -1,4 +1,4 @@
-// The file of a launch.
+//! The file of a launch.
 
 ghost use Rattle.std.specs.Prelude.{◌≡◌, ℕ, Some, Vec, option_map, IfOk, IfErr};
 ghost use Rattle.std.specs.declared.alloc.Global.{Global};

@@ -1,4 +1,4 @@
-// Reports of the runner.
+//! Reports of the runner.
 
 use super::Session;
 use crate::ports::{Orders, Out};

@@ -1,4 +1,4 @@
-// Requests.
+//! Requests.
 
 ghost use Rattle.std.specs.Prelude.{◌≡◌};
 ghost use Rattle.dap_history.specs.Readings.{closing_command};

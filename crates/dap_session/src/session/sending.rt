@@ -1,4 +1,4 @@
-// How what an item leads to is sent: all frames are built first, then the order is pushed, then the frames are put.
+//! How what an item leads to is sent: all frames are built first, then the order is pushed, then the frames are put.
 
 ghost use Rattle.std.specs.Prelude.{◌≡◌, ◌++◌, ◌∷◌, [], ◌⊎◌, ◌+◌, ◌≤◌, ◌<◌, ◌^◌, map, length, option_map, IfOk, IfErr, OnOk, None};
 ghost use Rattle.std.specs.Option.{option_to_list};
