@@ -1,4 +1,4 @@
--- What is made of a tree, with one statement more.
+-- What an emitter has made of a tree, before and after one more statement.
 use Rattle.std.specs.Prelude.{◌≡◌, ◌++◌, length}
 use Rattle.pl0_tree.specs.Tree.{Statement}
 use Rattle.pl0_code.specs.declared.emit.Emitter.{Emitter}

@@ -2,7 +2,7 @@
 
 ghost use Rattle.pl0_code.specs.Laws.{OneCode};
 
-/// A program has one code. So units of one text have equal code.
+/// A program has only one code, so units of the same text have equal code. It does nothing: its contract is the law.
 pub fn code_laws()
     ensures one_code { OneCode }
 {}

@@ -1,4 +1,4 @@
-//! Where a machine stood.
+//! Keeps where a machine stood, and brings a machine back there.
 
 ghost use Rattle.std.specs.Prelude.{◌≡◌, IfOk};
 
@@ -9,8 +9,8 @@ use std::alloc::{AllocError, Global};
 use std::marker::Model;
 use std::sync::Arc;
 
-/// Where a machine stood, to which a machine of the same program can be brought back. Of the stack it keeps what was in
-/// use.
+/// Where a machine stood, to which a machine of the same program can be brought back. It keeps the part of the stack that
+/// was in use.
 #[derive(Drop)]
 pub struct Checkpoint {
     unit: Arc<Unit>,
@@ -37,7 +37,11 @@ impl Checkpoint {
     ghost use Rattle.std.specs.Prelude.{◌≡◌, ◌≤◌, IfOk};
     ghost use Rattle.pl0_meaning.specs.Runs.{last_position};
 
-    /// Keeps where a machine stands. It fails only where an allocation does.
+    /// Keeps where a machine stands.
+    ///
+    /// # Errors
+    ///
+    /// Out of memory.
     pub fn take(alloc: Global, machine: &Machine) -> Result<Checkpoint, AllocError>
         ensures { IfOk result (λ c. c ≡ machine.now) }
     {
@@ -46,7 +50,7 @@ impl Checkpoint {
         Ok(Checkpoint { unit, state })
     }
 
-    /// The position at which it was taken.
+    /// Returns the position at which it was taken.
     pub fn position(&self) -> u64
         ensures position { result ≡ self.now.position }
         ensures bounded { result ≤ last_position }
@@ -58,7 +62,7 @@ impl Checkpoint {
 impl Machine {
     ghost use Rattle.std.specs.Prelude.{◌≡◌};
 
-    /// Goes to where it stood when the checkpoint was taken, from wherever it stands. It allocates nothing.
+    /// Brings the machine to where it stood when the checkpoint was taken. It allocates nothing.
     pub fn restore(&mut self, checkpoint: &Checkpoint)
         requires { checkpoint.now.unit ≡ self.old.unit }
         ensures { self.new ≡ checkpoint.now }

@@ -1,4 +1,4 @@
--- Which faults arithmetic has.
+-- Which faults an operation of arithmetic may have.
 use Rattle.std.specs.Prelude.{Result, Ok, Err, ℤ}
 use Rattle.pl0_meaning.specs.declared.RunFault.{RunFault}
 use Rattle.pl0_meaning.specs.declared.RunFault.TheVariants.{Overflow, DivideByZero, Depth, StepLimit}

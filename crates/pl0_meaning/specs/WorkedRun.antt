@@ -1,5 +1,5 @@
--- A worked example: the run of a text with nested procedures, computed from the definitions of `Values` and `Runs`. Each line
--- that ends in `refl` was checked by computing both of its sides.
+-- A worked example: the run of a text with nested procedures, computed from the definitions of `Values` and `Runs`. Each
+-- line that ends in `refl` was checked by computing both of its sides.
 --
 --      1  var n;
 --      2  procedure p;
@@ -81,7 +81,7 @@ abbrev main : Block
 main = ABlock [] (n 1 5 ∷ []) (AProcedure (p 2 11) outer NoMore)
     (Then (Assign (n 13 7) (Number (pos 2))) (Then (Call (place 13 15) (p 13 20)) Empty)) (place 13 25)
 
--- The run has 20 steps. Before each, so many frames are alive, and the next step stands at this line and column.
+-- The run has 20 steps. Each row has the number of frames alive before a step, and its line and column.
 first_half : table main 0 10 ≡
     (1, (13, 7)) ∷ (1, (13, 15)) ∷ (2, (7, 1)) ∷ (2, (8, 1)) ∷ (2, (9, 1)) ∷ (2, (9, 15)) ∷ (3, (7, 1)) ∷ (3, (8, 1)) ∷ (3, (9, 1)) ∷ (3, (10, 1)) ∷ []
 first_half = refl
@@ -93,8 +93,8 @@ second_half = refl
 ends_at_twenty : at main 20 ≡ Some []
 ends_at_twenty = refl
 
--- At position 10 four frames are alive: of q, p, p and the main block. The frame of q is linked to that of the p which called it, and
--- both frames of p to the main block's, though one p was called by the other.
+-- At position 10 four frames are alive: of q, p, p and the main block. The frame of q is linked to that of the p which
+-- called it, and both frames of p to the main block's, though one p was called by the other.
 links_at_ten : links (at main 10) ≡ 2 ∷ 0 ∷ 0 ∷ 0 ∷ []
 links_at_ten = refl
 

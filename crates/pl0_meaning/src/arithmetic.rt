@@ -7,11 +7,11 @@ ghost use Rattle.pl0_meaning.specs.Arithmetic.{IsArithmetic};
 use crate::RunFault;
 use pl0_tree::{Operator, Relation};
 
-/// An operation on two numbers. A quotient goes toward zero.
+/// Returns the result of an operation on two numbers. A quotient is rounded toward zero.
 ///
 /// # Errors
 ///
-/// The result would not fit, or the divisor is 0.
+/// `Overflow` if the result doesn't fit 64 bits with a sign, `DivideByZero` if the divisor is 0.
 #[inline(always)]
 pub fn apply(operator: Operator, x: i64, y: i64) -> Result<i64, RunFault>
     ensures value { result ≡ operation operator x y }
@@ -31,11 +31,11 @@ pub fn apply(operator: Operator, x: i64, y: i64) -> Result<i64, RunFault>
     }
 }
 
-/// The negative of a number.
+/// Returns the negative of a number.
 ///
 /// # Errors
 ///
-/// It would not fit.
+/// `Overflow` if the result doesn't fit 64 bits with a sign.
 #[inline(always)]
 pub fn negate(x: i64) -> Result<i64, RunFault>
     ensures value { result ≡ checked (neg_ℤ x) }

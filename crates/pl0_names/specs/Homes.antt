@@ -1,4 +1,4 @@
--- What a word means in a block, as the code answers it.
+-- What a word means in a block, as the code returns it.
 use Rattle.std.specs.Prelude.{◌≡◌, ℕ, ◌+◌, length, Option, Some, None}
 use Rattle.pl0_tree.specs.Plain.{plain_block}
 use Rattle.pl0_tree.specs.Scope.{Path, block_at, Meaning, AConstant, AVariable, AProcedure, Home}
@@ -13,7 +13,8 @@ meaning_of (kept.Constant i) = AConstant i
 meaning_of (kept.Variable i) = AVariable i
 meaning_of (kept.Procedure i) = AProcedure i
 
--- An answer to what a word means in the block q: the block of its home, how many levels further out that is, and the declaration there.
+-- What a word means in the block q: the block of its home, how many levels further out that is, and the declaration
+-- there.
 abbrev pub IsHomeAnswer : Block → Path → Option Home → Option Answer → Type 0
 IsHomeAnswer main q None None = Unit {0}
 IsHomeAnswer main q (Some h) (Some a) =

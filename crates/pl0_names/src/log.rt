@@ -8,7 +8,8 @@ ghost use Rattle.pl0_names.specs.Logs.{blocks, latest, ends_at, index_of, IsNest
 use std::alloc::AllocError;
 use std::collections::HashMap;
 
-/// A declaration of a block with this many blocks around it, and the index of the one that it hides.
+/// A declaration: its word and meaning, how many blocks are around its block, and the index of the declaration that it
+/// hides.
 #[derive(Clone, Copy)]
 pub(crate) struct Entry<'a, T: Copy> {
     pub(crate) word: &'a str,
@@ -17,7 +18,7 @@ pub(crate) struct Entry<'a, T: Copy> {
     pub(crate) hidden: Option<usize>,
 }
 
-/// One more declaration. Where there is no memory for it, all stays.
+/// Adds a declaration. An error, out of memory, leaves the log as it was.
 pub(crate) fn put<'a, T: Copy>(
     log: &mut Vec<Entry<'a, T>>,
     index: &mut HashMap<&'a str, usize>,
@@ -41,31 +42,7 @@ pub(crate) fn put<'a, T: Copy>(
     }
 }
 
-/// Takes back that this declaration is the latest of its word.
-fn restore<'a, T: Copy>(index: &mut HashMap<&'a str, usize>, entry: Entry<'a, T>)
-    requires { IsSome (index_of index.old entry.word.now) }
-    ensures { (w : List ℕ) → index_of index.new w ≡ update bytes_eq (index_of index.old) entry.entry.word.now entry.entry.hidden w }
-{
-    match entry.hidden {
-        None => {
-            let _ = index.remove(entry.word);
-        }
-        Some(at) => {
-            let _ = index.insert(entry.word, at);
-        }
-    }
-}
-
-fn ends_at<T: Copy>(log: &[Entry<T>], level: usize) -> bool
-    ensures { result ≡ ends_at level (reverse log.now) }
-{
-    match log.last() {
-        None => false,
-        Some(entry) => entry.level == level,
-    }
-}
-
-/// Takes the declarations of the innermost block back.
+/// Removes the declarations of the innermost block, which has `level` blocks around it.
 pub(crate) fn cut<'a, T: Copy>(
     log: &mut Vec<Entry<'a, T>>,
     index: &mut HashMap<&'a str, usize>,
@@ -80,6 +57,31 @@ pub(crate) fn cut<'a, T: Copy>(
     while ends_at(log, level) {
         if let Some(entry) = log.pop() {
             restore(index, entry);
+        }
+    }
+}
+
+/// Whether the latest declaration is of the block with `level` blocks around it.
+fn ends_at<T: Copy>(log: &[Entry<T>], level: usize) -> bool
+    ensures { result ≡ ends_at level (reverse log.now) }
+{
+    match log.last() {
+        None => false,
+        Some(entry) => entry.level == level,
+    }
+}
+
+/// Removes a declaration, the latest of its word, from the index: the one that it hides is the latest then.
+fn restore<'a, T: Copy>(index: &mut HashMap<&'a str, usize>, entry: Entry<'a, T>)
+    requires { IsSome (index_of index.old entry.word.now) }
+    ensures { (w : List ℕ) → index_of index.new w ≡ update bytes_eq (index_of index.old) entry.entry.word.now entry.entry.hidden w }
+{
+    match entry.hidden {
+        None => {
+            let _ = index.remove(entry.word);
+        }
+        Some(at) => {
+            let _ = index.insert(entry.word, at);
         }
     }
 }

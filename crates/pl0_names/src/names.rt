@@ -1,4 +1,4 @@
-//! The names of a program, looked up from a block outward.
+//! Looks names of a program up, from a block outward.
 
 ghost use Rattle.std.specs.Prelude.{ℕ, ◌≡◌, ◌<◌, ◌^◌, length, slice_get, option_map, option_and_then, position, Some, IfOk, string_bytes};
 ghost use Rattle.std.specs.Str.{bytes_eq};
@@ -17,7 +17,7 @@ use pl0_tree::{Block, Constant, Name, Nesting, Procedure};
 use std::alloc::{AllocError, Global};
 use std::marker::Model;
 
-/// The nearest block that declares a name, by how many levels further out it is, and what it declares the name as.
+/// The nearest block that declares a name, how many levels further out it is, and what it declares the name as.
 #[derive(Clone, Copy)]
 pub struct Home<'a> {
     pub block: &'a Block,
@@ -54,53 +54,8 @@ impl<'a> Model for Names<'a> {
     ghost invariant = { λ s. AreNames (plain_block s.main.now) s.nestings.now (option_map (λ tables. tables.items) s.tables) };
 }
 
-fn constant_in(constants: &[Constant], word: &str) -> Option<usize>
-    ensures { result ≡ position (λ c. bytes_eq (string_bytes c.name.text) word.now) constants.now }
-{
-    constants
-        .iter()
-        .position(|constant| constant.name.text.as_str() == word)
-}
-
-fn variable_in(variables: &[Name], word: &str) -> Option<usize>
-    ensures { result ≡ position (λ x. bytes_eq (string_bytes x.text) word.now) variables.now }
-{
-    variables.iter().position(|name| name.text.as_str() == word)
-}
-
-fn procedure_in(procedures: &[Procedure], word: &str) -> Option<usize>
-    ensures { result ≡ position (λ p. bytes_eq (string_bytes (out-Procedure p).name.text) word.now) procedures.now }
-{
-    procedures
-        .iter()
-        .position(|procedure| procedure.name.text.as_str() == word)
-}
-
-/// What a block declares a word as.
-fn declared_in(block: &Block, word: &str) -> Option<Meaning>
-    ensures { option_map meaning_of result ≡ option_map means (first_declaration word.now (plain_block block.now)) }
-{
-    if let Some(index) = constant_in(&block.constants, word) {
-        return Some(Meaning::Constant(index));
-    }
-    if let Some(index) = variable_in(&block.variables, word) {
-        return Some(Meaning::Variable(index));
-    }
-    let index = procedure_in(&block.procedures, word)?;
-    Some(Meaning::Procedure(index))
-}
-
-/// A table of what a block declares.
-fn table_of<'a>(alloc: Global, block: &'a Block) -> Result<Scopes<'a, Declared>, AllocError>
-    ensures { IfOk result (IsTableOf (plain_block block.now)) }
-{
-    let mut table = Scopes::new(alloc);
-    enter_block(&mut table, block)?;
-    Ok(table)
-}
-
 impl<'a> Names<'a> {
-    /// The names of a program with this table of blocks, without tables of names.
+    /// Returns the names of a program without tables of names, where `nestings` is what `blocks` returned.
     pub fn new(main: &'a Block, nestings: &'a [Option<Nesting>]) -> Names<'a>
         requires { AreNestings (plain_block main.now) nestings.now (blocks (plain_block main.now)) }
         ensures { result ≡ main.now }
@@ -113,11 +68,11 @@ impl<'a> Names<'a> {
         }
     }
 
-    /// The same, with a table of names for each block, made in one walk over all declarations.
+    /// Returns the same as `new`, with a table of names for each block, made in one walk over all declarations.
     ///
     /// # Errors
     ///
-    /// Memory ran out.
+    /// Out of memory.
     pub fn with_tables(
         alloc: Global,
         main: &'a Block,
@@ -140,7 +95,7 @@ impl<'a> Names<'a> {
         })
     }
 
-    /// What the block of a number declares a word as.
+    /// Returns what the block with this number declares a word as, if it declares it.
     fn declared(&self, number: u32, word: &str) -> Option<Meaning>
         requires { number < length (blocks (plain_block self.now)) }
         ensures { (q : Path) → slice_get (blocks (plain_block self.now)) number ≡ Some q → option_map meaning_of result ≡ option_map means (option_and_then (first_declaration word.now) (block_at (plain_block self.now) q)) }
@@ -151,8 +106,8 @@ impl<'a> Names<'a> {
         }
     }
 
-    /// What a word means in the block of a number: what the nearest block that declares it says, from that one outward. None
-    /// where no block does.
+    /// Returns what a word means in the block with this number: what the nearest block that declares it says, from that one
+    /// outward; `None` if no block declares it.
     pub fn find(&self, number: u32, word: &str) -> Option<Home<'a>>
         requires { number < length (blocks (plain_block self.now)) }
         ensures { (q : Path) → slice_get (blocks (plain_block self.now)) number ≡ Some q → IsHomeAnswer (plain_block self.now) q (home (plain_block self.now) q word.now) result }
@@ -173,4 +128,52 @@ impl<'a> Names<'a> {
             level += 1;
         }
     }
+}
+
+/// Returns a table of what a block declares.
+fn table_of<'a>(alloc: Global, block: &'a Block) -> Result<Scopes<'a, Declared>, AllocError>
+    ensures { IfOk result (IsTableOf (plain_block block.now)) }
+{
+    let mut table = Scopes::new(alloc);
+    enter_block(&mut table, block)?;
+    Ok(table)
+}
+
+/// Returns what a block declares a word as, if it declares it.
+fn declared_in(block: &Block, word: &str) -> Option<Meaning>
+    ensures { option_map meaning_of result ≡ option_map means (first_declaration word.now (plain_block block.now)) }
+{
+    if let Some(index) = constant_in(&block.constants, word) {
+        return Some(Meaning::Constant(index));
+    }
+    if let Some(index) = variable_in(&block.variables, word) {
+        return Some(Meaning::Variable(index));
+    }
+    let index = procedure_in(&block.procedures, word)?;
+    Some(Meaning::Procedure(index))
+}
+
+/// Returns the index of the constant with this name.
+fn constant_in(constants: &[Constant], word: &str) -> Option<usize>
+    ensures { result ≡ position (λ c. bytes_eq (string_bytes c.name.text) word.now) constants.now }
+{
+    constants
+        .iter()
+        .position(|constant| constant.name.text.as_str() == word)
+}
+
+/// Returns the index of the variable with this name.
+fn variable_in(variables: &[Name], word: &str) -> Option<usize>
+    ensures { result ≡ position (λ x. bytes_eq (string_bytes x.text) word.now) variables.now }
+{
+    variables.iter().position(|name| name.text.as_str() == word)
+}
+
+/// Returns the index of the procedure with this name.
+fn procedure_in(procedures: &[Procedure], word: &str) -> Option<usize>
+    ensures { result ≡ position (λ p. bytes_eq (string_bytes (out-Procedure p).name.text) word.now) procedures.now }
+{
+    procedures
+        .iter()
+        .position(|procedure| procedure.name.text.as_str() == word)
 }

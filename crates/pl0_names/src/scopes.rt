@@ -8,7 +8,7 @@ use std::alloc::{AllocError, Global};
 use std::collections::HashMap;
 use std::marker::Model;
 
-/// What a word is declared as, and by how many blocks further out than the innermost one.
+/// What a word is declared as, and how many blocks further out than the innermost one.
 #[derive(Clone, Copy)]
 pub struct Found<T> {
     pub level: usize,
@@ -36,7 +36,7 @@ impl<'a, T: Copy> Model for Scopes<'a, T> {
 }
 
 impl<'a, T: Copy> Scopes<'a, T> {
-    /// No block is open.
+    /// Returns a table in which no block is open.
     pub fn new(alloc: Global) -> Scopes<'a, T>
         ensures { blocks_of result ≡ [] }
     {
@@ -47,7 +47,11 @@ impl<'a, T: Copy> Scopes<'a, T> {
         }
     }
 
-    /// Opens a block in the innermost one. An error, that there are too many to count, leaves all as it was.
+    /// Opens a block in the innermost one.
+    ///
+    /// # Errors
+    ///
+    /// More blocks are open than can be counted; all is as it was.
     pub fn enter(&mut self) -> Result<(), AllocError>
         ensures ok { OnOk result (blocks_of self.new ≡ no_names ∷ blocks_of self.old) }
         ensures err { OnErr result (self.new ≡ self.old) }
@@ -60,8 +64,12 @@ impl<'a, T: Copy> Scopes<'a, T> {
         Ok(())
     }
 
-    /// Declares a word in the innermost open block, if there is one. What that block declared it as before stays.
-    /// An error leaves all as it was.
+    /// Declares a word in the innermost open block, if there is one. A word that this block has declared already stays as
+    /// it is.
+    ///
+    /// # Errors
+    ///
+    /// Out of memory; all is as it was.
     pub fn declare(&mut self, word: &'a str, meaning: T) -> Result<(), AllocError>
         ensures ok { OnOk result (blocks_of self.new ≡ declared_in (blocks_of self.old) word.now meaning) }
         ensures err { OnErr result (self.new ≡ self.old) }
@@ -85,7 +93,7 @@ impl<'a, T: Copy> Scopes<'a, T> {
         put(&mut self.log, &mut self.index, entry)
     }
 
-    /// What a word means: how the nearest open block that declares it declares it.
+    /// Returns what a word means: what the nearest open block that declares it declares it as.
     pub fn find(&self, word: &str) -> Option<Found<T>>
         ensures { result ≡ found_in 0 (blocks_of self.now) word.now }
     {

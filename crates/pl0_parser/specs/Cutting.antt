@@ -1,4 +1,4 @@
--- What the functions that make the tokens of a text promise. No public contract cites this file.
+-- What the functions that cut a text into tokens promise. No public contract cites this file.
 use Rattle.std.specs.Prelude.{◌≡◌, ◌≢◌, ℕ, zero, suc, ◌+◌, ◌<◌, ◌≤◌, List, [], ◌∷◌, length, drop, find, nat_eq}
 use Rattle.std.specs.List.{starts_with}
 use Rattle.pl0_tree.specs.declared.tree.Place.{Place}

@@ -1,4 +1,4 @@
-//! The tokens of a text.
+//! Cuts a text into tokens.
 
 ghost use Rattle.std.specs.Prelude.{ℕ, ◌≡◌, ◌+◌, ◌<◌, ◌≤◌, ◌∷◌, [], ◌++◌, map, length, take, take_while, slice_index, IfOk, IfErr, IsOk, false, find, option_map};
 ghost use Rattle.std.specs.Char.{is_ascii_digit};
@@ -19,172 +19,11 @@ const LIMIT: usize = 65536;
 /// The most characters of a name.
 const NAME_LIMIT: usize = 64;
 
-/// Where a text begins.
+/// The place where a text begins.
 const START: Place = Place { line: 1, column: 1 };
 
-fn is_space(b: u8) -> bool
-    ensures { result ≡ is_space b }
-{
-    b == b' ' || b == b'\t' || b == b'\r' || b == b'\n'
-}
-
-fn is_word_byte(b: u8) -> bool
-    ensures { result ≡ is_word_byte b }
-{
-    b.is_ascii_alphabetic() || b.is_ascii_digit()
-}
-
-/// How many bytes at the front belong to a word.
-fn word_len(bytes: &[u8]) -> usize
-    ensures { result ≡ length (take_while is_word_byte bytes.now) }
-{
-    bytes.iter().take_while(|b| is_word_byte(**b)).count()
-}
-
-/// How many digits are at the front.
-fn digits_len(bytes: &[u8]) -> usize
-    ensures { result ≡ length (take_while is_ascii_digit bytes.now) }
-{
-    bytes.iter().take_while(|b| b.is_ascii_digit()).count()
-}
-
-/// The place after a byte.
-fn place_behind(place: Place, b: u8) -> Place
-    requires line { place.line < 70000 }
-    requires column { place.column < 70000 }
-    ensures { result ≡ behind place b }
-{
-    if b == b'\n' {
-        Place {
-            line: place.line + 1,
-            column: 1,
-        }
-    } else {
-        Place {
-            line: place.line,
-            column: place.column + 1,
-        }
-    }
-}
-
-/// The place some bytes further on its line.
-fn place_along(place: Place, count: usize) -> Place
-    requires { place.column + count < 70000 }
-    ensures { result ≡ along place count }
-{
-    Place {
-        line: place.line,
-        column: place.column + count as u32,
-    }
-}
-
-/// The keyword that a word is, if it is one.
-fn keyword(word: &[u8]) -> Option<Mark>
-    ensures { result ≡ option_map (λ entry. entry.1) (find (λ entry. bytes_eq word.now entry.0) keywords) }
-{
-    if word == b"const".as_slice() {
-        Some(Mark::Const)
-    } else if word == b"var".as_slice() {
-        Some(Mark::Var)
-    } else if word == b"procedure".as_slice() {
-        Some(Mark::Procedure)
-    } else if word == b"call".as_slice() {
-        Some(Mark::Call)
-    } else if word == b"begin".as_slice() {
-        Some(Mark::Begin)
-    } else if word == b"end".as_slice() {
-        Some(Mark::End)
-    } else if word == b"if".as_slice() {
-        Some(Mark::If)
-    } else if word == b"then".as_slice() {
-        Some(Mark::Then)
-    } else if word == b"while".as_slice() {
-        Some(Mark::While)
-    } else if word == b"do".as_slice() {
-        Some(Mark::Do)
-    } else if word == b"odd".as_slice() {
-        Some(Mark::Odd)
-    } else {
-        None
-    }
-}
-
-/// A keyword, or a name of at most 64 characters.
-fn word_symbol<'a>(word: &'a [u8]) -> Symbol<'a>
-    requires { IsAscii word.now }
-    ensures { symbol_of result ≡ word_symbol word.now }
-{
-    match keyword(word) {
-        Some(mark) => Symbol::Mark(mark),
-        None if word.len() <= NAME_LIMIT => Symbol::Name(unsafe { from_utf8_unchecked(word) }),
-        None => Symbol::Faulty(FaultKind::NameTooLong),
-    }
-}
-
-/// The symbol of digits.
-fn number_symbol<'a>(digits: &[u8]) -> Symbol<'a>
-    requires { (i : ℕ) → i < length digits.now → (48 ≤ slice_index digits.now i) × (slice_index digits.now i < 58) }
-    ensures { symbol_of result ≡ number_symbol (decimal_value digits.now) }
-{
-    let mut value: u64 = 0;
-    for digit in digits {
-        let next = u128::from(value) * 10 + u128::from(*digit - b'0');
-        if next >= 1 << 63 {
-            return Symbol::Faulty(FaultKind::NumberTooLarge);
-        }
-        value = next as u64;
-    }
-    Symbol::Number(Magnitude { value })
-}
-
-/// The sign at the front, the longer ones tried first.
-fn sign<'a>(bytes: &[u8]) -> (Symbol<'a>, usize)
-    ensures { IsSign bytes.now result.0 result.1 }
-{
-    match bytes {
-        [b':', b'=', ..] => (Symbol::Mark(Mark::Becomes), 2),
-        [b'<', b'=', ..] => (Symbol::Mark(Mark::AtMost), 2),
-        [b'>', b'=', ..] => (Symbol::Mark(Mark::AtLeast), 2),
-        [b'+', ..] => (Symbol::Mark(Mark::Plus), 1),
-        [b'-', ..] => (Symbol::Mark(Mark::Minus), 1),
-        [b'*', ..] => (Symbol::Mark(Mark::Times), 1),
-        [b'/', ..] => (Symbol::Mark(Mark::Slash), 1),
-        [b'(', ..] => (Symbol::Mark(Mark::Open), 1),
-        [b')', ..] => (Symbol::Mark(Mark::Close), 1),
-        [b'=', ..] => (Symbol::Mark(Mark::Equal), 1),
-        [b'#', ..] => (Symbol::Mark(Mark::Unequal), 1),
-        [b'<', ..] => (Symbol::Mark(Mark::Less), 1),
-        [b'>', ..] => (Symbol::Mark(Mark::Greater), 1),
-        [b',', ..] => (Symbol::Mark(Mark::Comma), 1),
-        [b';', ..] => (Symbol::Mark(Mark::Semicolon), 1),
-        [b'.', ..] => (Symbol::Mark(Mark::Period), 1),
-        [b'!', ..] => (Symbol::Mark(Mark::Exclamation), 1),
-        _ => (Symbol::Faulty(FaultKind::BadCharacter), 1),
-    }
-}
-
-/// The symbol at the front of bytes that begin with no white space, and its size.
-fn front<'a>(bytes: &'a [u8]) -> (Symbol<'a>, usize)
-    requires some { 0 < length bytes.now }
-    requires visible { is_space (slice_index bytes.now 0) ≡ false }
-    ensures { IsFront bytes.now result.0 result.1 }
-{
-    let first = bytes[0];
-    if first >= 128 {
-        (Symbol::Faulty(FaultKind::NotAscii), 1)
-    } else if first.is_ascii_alphabetic() {
-        let size = word_len(bytes);
-        (word_symbol(&bytes[..size]), size)
-    } else if first.is_ascii_digit() {
-        let size = digits_len(bytes);
-        (number_symbol(&bytes[..size]), size)
-    } else {
-        sign(bytes)
-    }
-}
-
-/// The tokens of a text before its end, and the end's place, after the last byte. A token that is at fault by itself is
-/// one of them.
+/// Returns the tokens of a text, and the place of its end, after the last byte. A token that is at fault by itself is
+/// among them.
 ///
 /// # Errors
 ///
@@ -217,4 +56,167 @@ pub fn tokenize<'a>(alloc: Global, text: &'a [u8]) -> Result<(Vec<Token<'a>>, Pl
         }
     }
     Ok((found, place))
+}
+
+/// Whether a byte is white space.
+fn is_space(b: u8) -> bool
+    ensures { result ≡ is_space b }
+{
+    b == b' ' || b == b'\t' || b == b'\r' || b == b'\n'
+}
+
+/// Returns the symbol at the front, and its size in bytes. The bytes don't begin with white space.
+fn front<'a>(bytes: &'a [u8]) -> (Symbol<'a>, usize)
+    requires some { 0 < length bytes.now }
+    requires visible { is_space (slice_index bytes.now 0) ≡ false }
+    ensures { IsFront bytes.now result.0 result.1 }
+{
+    let first = bytes[0];
+    if first >= 128 {
+        (Symbol::Faulty(FaultKind::NotAscii), 1)
+    } else if first.is_ascii_alphabetic() {
+        let size = word_len(bytes);
+        (word_symbol(&bytes[..size]), size)
+    } else if first.is_ascii_digit() {
+        let size = digits_len(bytes);
+        (number_symbol(&bytes[..size]), size)
+    } else {
+        sign(bytes)
+    }
+}
+
+/// Returns how many bytes at the front belong to a word.
+fn word_len(bytes: &[u8]) -> usize
+    ensures { result ≡ length (take_while is_word_byte bytes.now) }
+{
+    bytes.iter().take_while(|b| is_word_byte(**b)).count()
+}
+
+/// Whether a byte may stand in a word.
+fn is_word_byte(b: u8) -> bool
+    ensures { result ≡ is_word_byte b }
+{
+    b.is_ascii_alphabetic() || b.is_ascii_digit()
+}
+
+/// Returns the symbol of a word: a keyword, or a name of at most 64 characters.
+fn word_symbol<'a>(word: &'a [u8]) -> Symbol<'a>
+    requires { IsAscii word.now }
+    ensures { symbol_of result ≡ word_symbol word.now }
+{
+    match keyword(word) {
+        Some(mark) => Symbol::Mark(mark),
+        None if word.len() <= NAME_LIMIT => Symbol::Name(unsafe { from_utf8_unchecked(word) }),
+        None => Symbol::Faulty(FaultKind::NameTooLong),
+    }
+}
+
+/// Returns the keyword that a word is; `None` if it is none.
+fn keyword(word: &[u8]) -> Option<Mark>
+    ensures { result ≡ option_map (λ entry. entry.1) (find (λ entry. bytes_eq word.now entry.0) keywords) }
+{
+    if word == b"const".as_slice() {
+        Some(Mark::Const)
+    } else if word == b"var".as_slice() {
+        Some(Mark::Var)
+    } else if word == b"procedure".as_slice() {
+        Some(Mark::Procedure)
+    } else if word == b"call".as_slice() {
+        Some(Mark::Call)
+    } else if word == b"begin".as_slice() {
+        Some(Mark::Begin)
+    } else if word == b"end".as_slice() {
+        Some(Mark::End)
+    } else if word == b"if".as_slice() {
+        Some(Mark::If)
+    } else if word == b"then".as_slice() {
+        Some(Mark::Then)
+    } else if word == b"while".as_slice() {
+        Some(Mark::While)
+    } else if word == b"do".as_slice() {
+        Some(Mark::Do)
+    } else if word == b"odd".as_slice() {
+        Some(Mark::Odd)
+    } else {
+        None
+    }
+}
+
+/// Returns how many digits are at the front.
+fn digits_len(bytes: &[u8]) -> usize
+    ensures { result ≡ length (take_while is_ascii_digit bytes.now) }
+{
+    bytes.iter().take_while(|b| b.is_ascii_digit()).count()
+}
+
+/// Returns the symbol of digits: a number below 2^63.
+fn number_symbol<'a>(digits: &[u8]) -> Symbol<'a>
+    requires { (i : ℕ) → i < length digits.now → (48 ≤ slice_index digits.now i) × (slice_index digits.now i < 58) }
+    ensures { symbol_of result ≡ number_symbol (decimal_value digits.now) }
+{
+    let mut value: u64 = 0;
+    for digit in digits {
+        let next = u128::from(value) * 10 + u128::from(*digit - b'0');
+        if next >= 1 << 63 {
+            return Symbol::Faulty(FaultKind::NumberTooLarge);
+        }
+        value = next as u64;
+    }
+    Symbol::Number(Magnitude { value })
+}
+
+/// Returns the sign at the front and its size in bytes. Longer signs are tried first.
+fn sign<'a>(bytes: &[u8]) -> (Symbol<'a>, usize)
+    ensures { IsSign bytes.now result.0 result.1 }
+{
+    match bytes {
+        [b':', b'=', ..] => (Symbol::Mark(Mark::Becomes), 2),
+        [b'<', b'=', ..] => (Symbol::Mark(Mark::AtMost), 2),
+        [b'>', b'=', ..] => (Symbol::Mark(Mark::AtLeast), 2),
+        [b'+', ..] => (Symbol::Mark(Mark::Plus), 1),
+        [b'-', ..] => (Symbol::Mark(Mark::Minus), 1),
+        [b'*', ..] => (Symbol::Mark(Mark::Times), 1),
+        [b'/', ..] => (Symbol::Mark(Mark::Slash), 1),
+        [b'(', ..] => (Symbol::Mark(Mark::Open), 1),
+        [b')', ..] => (Symbol::Mark(Mark::Close), 1),
+        [b'=', ..] => (Symbol::Mark(Mark::Equal), 1),
+        [b'#', ..] => (Symbol::Mark(Mark::Unequal), 1),
+        [b'<', ..] => (Symbol::Mark(Mark::Less), 1),
+        [b'>', ..] => (Symbol::Mark(Mark::Greater), 1),
+        [b',', ..] => (Symbol::Mark(Mark::Comma), 1),
+        [b';', ..] => (Symbol::Mark(Mark::Semicolon), 1),
+        [b'.', ..] => (Symbol::Mark(Mark::Period), 1),
+        [b'!', ..] => (Symbol::Mark(Mark::Exclamation), 1),
+        _ => (Symbol::Faulty(FaultKind::BadCharacter), 1),
+    }
+}
+
+/// Returns the place after a byte.
+fn place_behind(place: Place, b: u8) -> Place
+    requires line { place.line < 70000 }
+    requires column { place.column < 70000 }
+    ensures { result ≡ behind place b }
+{
+    if b == b'\n' {
+        Place {
+            line: place.line + 1,
+            column: 1,
+        }
+    } else {
+        Place {
+            line: place.line,
+            column: place.column + 1,
+        }
+    }
+}
+
+/// Returns the place `count` bytes further on the same line.
+fn place_along(place: Place, count: usize) -> Place
+    requires { place.column + count < 70000 }
+    ensures { result ≡ along place count }
+{
+    Place {
+        line: place.line,
+        column: place.column + count as u32,
+    }
 }

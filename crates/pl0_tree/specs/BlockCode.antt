@@ -1,4 +1,4 @@
--- A code of blocks, by which a proof tells them apart: a block as a statement.
+-- A code of blocks as statements, by which a proof tells blocks apart.
 use Rattle.std.proofs.Common.{◌≡◌, List, [], ◌∷◌, refl, ◌∙◌, ap}
 use Rattle.std.specs.Prelude.{pos, ℤ}
 use Rattle.std.specs.Coded.{Coded, code_by}
