@@ -1,23 +1,34 @@
 -- Where there is no arrival: none is counted, none due and none logged.
-use Rattle.std.proofs.Common.{◌≡◌, ℕ, ◌+◌, ◌≤◌, Bool, true, false, cond, List, [], ◌∷◌, Option, Some, None, ap, sym, ◌∙◌, refl}
+use Rattle.std.proofs.Common.{◌≡◌, ℕ, ◌+◌, ◌<◌, ◌≤◌, Bool, true, false, cond, List, [], ◌∷◌, length, get_or, Option, Some, None, ap, sym, ◌∙◌, subst, refl, arith}
 use Rattle.std.specs.Prelude.{◌&&◌, ◌||◌, is_none, if◌then◌else◌}
 use Rattle.std.specs.List.{list_any, filter_map, enumerate_from, cons_option}
 use Rattle.std.proofs.lemmas.Bool.{or_from, or_parts}
 use Rattle.pl0_tree.specs.Tree.{Block}
+use Rattle.pl0_unit.specs.declared.unit.Unit.{Unit as Compiled}
 use Rattle.pl0_machine.specs.Machine.{Standing, program, configuration, frames, top_of, IsNext}
 use Rattle.dbg_plan.specs.declared.breakpoint.Breakpoint.{Breakpoint}
 use Rattle.dbg_plan.specs.declared.mode.Reason.TheVariants as reason
 use Rattle.dbg_plan.specs.declared.mode.Mode.TheVariants.{Continue}
 use Rattle.dbg_plan.specs.Breakpoints.{Breakpoint as PlainBreakpoint, plain_breakpoint, plain_breakpoints}
-use Rattle.dbg_plan.specs.Plans.{Listed, is_of, those_of, listed_of, breakpoints_of}
+use Rattle.dbg_plan.specs.Plans.{Listed, IsPlanOf, is_of, those_of, listed_of, breakpoints_of}
 use Rattle.dbg_plan.specs.Due.{arrives_in, arrivals, accepts, is_hit, stops}
 use Rattle.dbg_plan.specs.Logs.{log_in, log_at}
-use Rattle.dbg_plan.specs.Counting.{holds_now, reduced, AreCounts, CountFrom, CountsOn}
+use Rattle.dbg_plan.specs.Counting.{holds_now, reduced, AreCounts, CountFrom, CountsOn, MayBePlanOf}
 use Rattle.dbg_plan.specs.Debugged.{Debugged, machine_of, due_now, logs_now}
 use Rattle.dbg_plan.specs.Running.{has_arrival}
 use Rattle.dbg_plan.proofs.Here.{any_plain, arrivals_rise}
 use Rattle.dbg_plan.proofs.Places.{arrives_here}
 use Rattle.dbg_plan.proofs.Watching.{none_of}
+
+-- ---- what is known of a plan that is asked
+
+pub fits_of : (u : Compiled) (plan : Option Listed) (asked : Listed) → plan ≡ Some asked → MayBePlanOf u plan → IsPlanOf u asked
+fits_of u plan asked is may = subst (λ o. MayBePlanOf u o) is may
+
+pub one_item : (bs : List Breakpoint) (b : Breakpoint) → 1 ≤ length bs → length bs < 2 → b ≡ get_or bs 0 b → bs ≡ b ∷ []
+one_item [] b some few is = absurd (omega arith)
+one_item (x ∷ []) b some few is = ap (λ y. y ∷ []) (sym is)
+one_item (x ∷ y ∷ more) b some few is = absurd (omega arith)
 
 -- ---- by the number of the step that comes next
 
@@ -40,7 +51,11 @@ module _ (m : Standing) (p : ℕ) (here : IsNext (program m) (top_of (frames m))
   pub told_by_step : (bs : List Breakpoint) → has_arrival (plain_breakpoints bs) m ≡ list_any (holds_now m) (those_of p bs)
   told_by_step bs = any_plain (λ b. arrives_in (program m) b (configuration m)) bs ∙ are_of bs ∙ among_those p (holds_now m) bs
 
-  -- and there is none where no breakpoint stands
+  -- there is none where the step's one breakpoint has a condition that doesn't hold
+  pub none_by_one : (bs : List Breakpoint) (b : Breakpoint) → those_of p bs ≡ b ∷ [] → holds_now m b ≡ false → has_arrival (plain_breakpoints bs) m ≡ false
+  none_by_one bs b one unmet = told_by_step bs ∙ ap (λ those. list_any (holds_now m) those) one ∙ or_from _ _ unmet refl
+
+  -- and none where no breakpoint stands
   pub none_by_step : (bs : List Breakpoint) → list_any (is_of p) bs ≡ false → has_arrival (plain_breakpoints bs) m ≡ false
   none_by_step bs none = told_by_step bs ∙ ap (λ those. list_any (holds_now m) those) (none_of p bs none)
 

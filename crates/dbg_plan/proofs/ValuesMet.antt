@@ -1,5 +1,5 @@
 -- A condition of the machine's next step, in the newest frame.
-use Rattle.std.proofs.Common.{◌≡◌, ℕ, zero, suc, ◌-◌, ◌<◌, Bool, true, List, [], ◌∷◌, ◌++◌, length, slice_get, Option, Some, None, Result, Ok, Err, refl, sym, ap, ◌∙◌, subst, arith}
+use Rattle.std.proofs.Common.{◌≡◌, ℕ, zero, suc, ◌-◌, ◌<◌, Bool, true, false, List, [], ◌∷◌, ◌++◌, length, slice_get, Option, Some, None, Result, Ok, Err, refl, sym, ap, ◌∙◌, subst, arith}
 use Rattle.std.specs.Prelude.{option_map}
 use Rattle.std.specs.Option.{option_map_or}
 use Rattle.std.specs.Result.{result_unwrap_or}
@@ -14,7 +14,7 @@ use Rattle.pl0_meaning.specs.declared.RunFault.{RunFault}
 use Rattle.pl0_meaning.specs.Values.{Frame, Configuration, return_of, first_step, StandsBefore, truth}
 use Rattle.pl0_meaning.specs.Frames.{AreLinked}
 use Rattle.pl0_meaning.specs.Linking.{frame_at-top}
-use Rattle.pl0_machine.specs.Machine.{Standing, program, configuration, frames, top_of, IsNext}
+use Rattle.pl0_machine.specs.Machine.{Standing, program, configuration, frames, depth_of, top_of, IsNext}
 use Rattle.dbg_plan.specs.declared.located.LocatedExpression.{LocatedExpression}
 use Rattle.dbg_plan.specs.declared.located.LocatedExpression.TheVariants.{Number, Variable, Negate', Binary'}
 use Rattle.dbg_plan.specs.declared.located.LocatedCondition.{LocatedCondition}
@@ -25,7 +25,8 @@ use Rattle.dbg_plan.specs.declared.evaluation.EvalFault.{EvalFault}
 use Rattle.dbg_plan.specs.Bound.{IsConditionBound}
 use Rattle.dbg_plan.specs.Breakpoints.{text_condition, plain_breakpoint}
 use Rattle.dbg_plan.specs.Due.{true_or_faulty}
-use Rattle.dbg_plan.specs.Counting.{holds_in, holds_now}
+use Rattle.dbg_plan.specs.Plans.{IsBoundAt}
+use Rattle.dbg_plan.specs.Counting.{holds_in, holds_now, IsMetHere}
 use Rattle.dbg_plan.specs.Values.{answered}
 use Rattle.dbg_plan.specs.Reads.{bound_truth, CanRead, CanTest}
 use Rattle.dbg_plan.proofs.ValuesBound.{condition_reads}
@@ -119,3 +120,13 @@ holds_told m b guard top r result there is t value e =
     ∙ ap true_or_faulty (sym value ∙ t.1)
     ∙ ap (λ g. holds_in (program m) (Some (frames m)) (option_map text_condition g)) (sym is)
     ∙ ap (λ o. holds_in (program m) o (plain_breakpoint b).condition) (sym there)
+
+-- a condition that doesn't hold
+pub unmet_told : (m : Standing) (b : Breakpoint) (guard : BoundCondition) (top : ℕ) → configuration m ≡ Some (frames m) → b.condition ≡ Some guard → IsTested (program m) (frames m) top guard → bound_truth (frames m) top guard.located ≡ Ok false → holds_now m b ≡ false
+unmet_told m b guard top there is t fails = sym (holds_told m b guard top (Ok false) false there is t fails refl)
+
+-- a breakpoint's condition can be tested in the newest frame
+pub tested_here : (m : Standing) (b : Breakpoint) (guard : BoundCondition) (depth : ℕ) → IsMetHere m b → b.condition ≡ Some guard → ∥ AreLinked (program m) (frames m) ∥₁ → depth ≡ depth_of m → IsTested (program m) (frames m) (depth - 1) guard
+tested_here m b guard depth here is linked e =
+    let bound = subst (λ g. IsBoundAt (program m) b.step g) is here.bound in
+    is_tested (program m) (frames m) b.step (depth - 1) guard linked here.next bound (ap (λ n. n - 1) e)

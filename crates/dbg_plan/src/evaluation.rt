@@ -1,6 +1,6 @@
 //! The values of expressions and conditions in the frames of a machine.
 
-ghost use Rattle.std.specs.Prelude.{◌≡◌, ◌<◌, IsSome, Some};
+ghost use Rattle.std.specs.Prelude.{◌≡◌, ◌<◌, IsSome, IsTrue, IfSome, Some, Ok, false};
 ghost use Rattle.pl0_tree.specs.Plain.{plain_expression};
 ghost use Rattle.pl0_meaning.specs.Values.{value, name_number, or_zero};
 ghost use Rattle.pl0_meaning.specs.Arithmetic.{IsArithmetic};
@@ -96,6 +96,57 @@ fn truth_of(
             let x = value_of(machine, frame, left)?;
             let y = value_of(machine, frame, right)?;
             Ok(compare(*relation, x, y))
+        }
+    }
+}
+
+/// The value of a number or of a variable of the frame itself; `None` for any other expression, whose value takes a loop or a
+/// recursion. It is inlined, so that a loop that asks for it keeps the machine's registers in the processor's.
+#[inline(always)]
+fn leaf_value(machine: &Machine, frame: usize, expression: &LocatedExpression) -> Option<i64>
+    requires { CanRead (frames machine.now) frame expression.now }
+    ensures { IfSome result (λ number. bound_value (frames machine.now) frame expression.now ≡ Ok number) }
+{
+    match expression {
+        LocatedExpression::Number(number) => Some(*number),
+        LocatedExpression::Variable { level: 0, index } => Some(machine.value(frame, *index)),
+        LocatedExpression::Variable { .. } => None,
+        LocatedExpression::Negate(_) => None,
+        LocatedExpression::Binary(_, _, _) => None,
+    }
+}
+
+/// Whether a condition compares numbers and variables of the frame itself, and doesn't hold.
+#[inline(always)]
+fn compares_false(machine: &Machine, frame: usize, condition: &LocatedCondition) -> bool
+    requires { CanTest (frames machine.now) frame condition.now }
+    ensures { IsTrue result → bound_truth (frames machine.now) frame condition.now ≡ Ok false }
+{
+    let LocatedCondition::Compare(relation, left, right) = condition else {
+        return false;
+    };
+    match (
+        leaf_value(machine, frame, left),
+        leaf_value(machine, frame, right),
+    ) {
+        (Some(x), Some(y)) => !compare(*relation, x, y),
+        _ => false,
+    }
+}
+
+/// Whether the condition of a breakpoint at the machine's step compares numbers and variables of the newest frame, and doesn't
+/// hold.
+#[inline(always)]
+pub fn is_plainly_unmet(machine: &Machine, breakpoint: &Breakpoint) -> bool
+    requires running { IsRunning machine.now }
+    requires here { IsMetHere machine.now breakpoint.now }
+    ensures { IsTrue result → holds_now machine.now breakpoint.now ≡ false }
+{
+    match &breakpoint.condition {
+        None => false,
+        Some(condition) => {
+            let top = machine.depth() - 1;
+            compares_false(machine, top, &condition.located)
         }
     }
 }

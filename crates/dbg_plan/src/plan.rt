@@ -115,6 +115,7 @@ impl Plan {
     }
 
     /// The breakpoints of a step, in the order asked.
+    #[inline(always)]
     pub fn entry(&self, step: StepNumber) -> &[Breakpoint]
         requires { step < self.now.steps }
         ensures breakpoints { result.now ≡ those_of step self.now.breakpoints }

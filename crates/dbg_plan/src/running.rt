@@ -11,7 +11,7 @@ ghost use Rattle.dbg_plan.specs.Running.{has_arrival};
 ghost use Rattle.dbg_plan.specs.Quiet.{Watches, RanByMachine, considered_after};
 
 use crate::breakpoint::Breakpoint;
-use crate::evaluation::is_met;
+use crate::evaluation::{is_met, is_plainly_unmet};
 use crate::plan::Plan;
 use pl0_machine::{Machine, StepOutcome};
 use std::sync::Arc;
@@ -55,6 +55,23 @@ fn settles(machine: Machine, outcome: StepOutcome, plan: &Option<Arc<Plan>>) -> 
     (machine, quiet)
 }
 
+/// Whether the step has one breakpoint, whose condition compares numbers and variables of the newest frame, and doesn't hold.
+/// Such a condition is evaluated in the loop; any other in `settles`.
+#[inline(always)]
+fn is_unmet(machine: &Machine, plan: &Option<Arc<Plan>>) -> bool
+    requires running { IsRunning machine.now }
+    requires fits { MayBePlanOf machine.now.unit (option_map arc_value plan.now) }
+    ensures { IsTrue result → has_arrival (breakpoints_of (option_map arc_value plan.now)) machine.now ≡ false }
+{
+    let Some(plan) = plan else {
+        return false;
+    };
+    match plan.entry(machine.next_step()) {
+        [breakpoint] => is_plainly_unmet(machine, breakpoint),
+        _ => false,
+    }
+}
+
 /// Whether no breakpoint stands at the machine's position.
 #[inline(always)]
 fn is_unwatched(machine: &Machine, plan: &Option<Arc<Plan>>, watched: Option<&[bool]>) -> bool
@@ -69,7 +86,18 @@ fn is_unwatched(machine: &Machine, plan: &Option<Arc<Plan>>, watched: Option<&[b
     }
 }
 
-/// Whether a step wrote nothing, and led to a position without a breakpoint.
+/// Whether it shows at once that the program hasn't arrived at a breakpoint.
+#[inline(always)]
+fn has_passed(machine: &Machine, plan: &Option<Arc<Plan>>, watched: Option<&[bool]>) -> bool
+    requires running { IsRunning machine.now }
+    requires fits { MayBePlanOf machine.now.unit (option_map arc_value plan.now) }
+    requires table { Watches (option_map arc_value plan.now) (option_map (λ table. table.now) watched) }
+    ensures { IsTrue result → has_arrival (breakpoints_of (option_map arc_value plan.now)) machine.now ≡ false }
+{
+    is_unwatched(machine, plan, watched) || is_unmet(machine, plan)
+}
+
+/// Whether a step wrote nothing, and it shows at once that it led to no arrival at a breakpoint.
 #[inline(always)]
 fn is_quiet(
     outcome: StepOutcome,
@@ -83,7 +111,7 @@ fn is_quiet(
     ensures { IsTrue result → (outcome ≡ Went None) × (has_arrival (breakpoints_of (option_map arc_value plan.now)) machine.now ≡ false) }
 {
     match outcome {
-        StepOutcome::Went(None) => is_unwatched(machine, plan, watched),
+        StepOutcome::Went(None) => has_passed(machine, plan, watched),
         _ => false,
     }
 }

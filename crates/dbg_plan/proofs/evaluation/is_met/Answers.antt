@@ -1,16 +1,11 @@
-use Rattle.std.proofs.Common.{◌-◌, ap, subst}
+use Rattle.std.proofs.Common.{◌-◌}
 use Rattle.pl0_machine.specs.Machine.{program, frames}
-use Rattle.dbg_plan.specs.Plans.{IsBoundAt}
-use Rattle.dbg_plan.proofs.ValuesMet.{IsTested, is_tested, holds_told}
+use Rattle.dbg_plan.proofs.ValuesMet.{IsTested, tested_here, holds_told}
 use Rattle.dbg_plan.proofs.evaluation.is_met.Goals as goal
 use Rattle.dbg_plan.proofs.evaluation.is_met.Goals.{After-depth-top}
 
 tests : (c : After-depth-top) → IsTested (program c.args.machine.now) (frames c.args.machine.now) (c.depth-top.result - 1) c.in-Some.condition
-tests c =
-    let m = c.args.machine.now in
-    let step = c.args.breakpoint.now.step in
-    let bound = subst (λ g. IsBoundAt (program m) step g) c.in-Some.is c.requires.here.bound in
-    is_tested (program m) (frames m) step (c.depth-top.result - 1) c.in-Some.condition c.depth-top.ensures.linked c.requires.here.next bound (ap (λ n. n - 1) c.depth-top.ensures.depth)
+tests c = tested_here c.args.machine.now c.args.breakpoint.now c.in-Some.condition c.depth-top.result c.requires.here c.in-Some.is c.depth-top.ensures.linked c.depth-top.ensures.depth
 
 pub truth_of-requires : goal.truth_of-requires
 truth_of-requires c = (tests c).0

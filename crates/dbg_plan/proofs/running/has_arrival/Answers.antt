@@ -1,23 +1,18 @@
-use Rattle.std.proofs.Common.{◌≡◌, ap, sym, ◌∙◌, subst, option_map, Option, Some}
+use Rattle.std.proofs.Common.{◌≡◌, ap, sym, ◌∙◌, option_map, Some}
 use Rattle.std.specs.Arc.{arc_value}
 use Rattle.std.specs.List.{list_any}
-use Rattle.pl0_unit.specs.declared.unit.Unit.{Unit as Compiled}
-use Rattle.dbg_plan.specs.Plans.{Listed, IsPlanOf, breakpoints_of}
-use Rattle.dbg_plan.specs.Counting.{holds_now, MayBePlanOf}
+use Rattle.dbg_plan.specs.Plans.{breakpoints_of}
+use Rattle.dbg_plan.specs.Counting.{holds_now}
 use Rattle.dbg_plan.specs.Running.{has_arrival}
 use Rattle.dbg_plan.proofs.Here.{are_met}
-use Rattle.dbg_plan.proofs.Unwatched.{told_by_step}
+use Rattle.dbg_plan.proofs.Unwatched.{fits_of, told_by_step}
 use Rattle.dbg_plan.proofs.running.has_arrival.Goals as goal
-
--- what is known of the plan that is asked
-fits : (u : Compiled) (plan : Option Listed) (asked : Listed) → plan ≡ Some asked → MayBePlanOf u plan → IsPlanOf u asked
-fits u plan asked is may = subst (λ o. MayBePlanOf u o) is may
 
 pub any_met-requires-clause-here : goal.any_met-requires-clause-here
 any_met-requires-clause-here c =
     let asked = c.deref.result.now in
     let is : option_map arc_value c.args.plan.now ≡ Some asked = ap (λ o. option_map arc_value o) c.in-Some.is ∙ ap (λ l. Some l) (sym c.deref.ensures) in
-    let plan_fits = fits c.args.machine.now.unit (option_map arc_value c.args.plan.now) asked is c.requires.fits in
+    let plan_fits = fits_of c.args.machine.now.unit (option_map arc_value c.args.plan.now) asked is c.requires.fits in
     rw c.entry.ensures.breakpoints (are_met c.args.machine.now c.next_step.result c.next_step.ensures asked.breakpoints plan_fits.bound)
 
 pub returns-in-Some : goal.returns-in-Some

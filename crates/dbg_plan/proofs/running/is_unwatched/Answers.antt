@@ -1,20 +1,14 @@
 use Rattle.std.proofs.Common.{◌≡◌, ap, sym, ◌∙◌, subst, option_map, Option, Some, Bool, true, false, not, IsTrue, refl, List, length, slice_get, ◌<◌}
 use Rattle.std.specs.Arc.{arc_value}
 use Rattle.std.proofs.lemmas.Option.{slice_get_within, get_or_from_slice_get}
-use Rattle.pl0_unit.specs.declared.unit.Unit.{Unit as Compiled}
 use Rattle.dbg_plan.specs.Breakpoints.{plain_breakpoints}
-use Rattle.dbg_plan.specs.Plans.{Listed, IsPlanOf, breakpoints_of}
-use Rattle.dbg_plan.specs.Counting.{MayBePlanOf}
+use Rattle.dbg_plan.specs.Plans.{breakpoints_of}
 use Rattle.dbg_plan.specs.Running.{has_arrival}
 use Rattle.dbg_plan.specs.Quiet.{Watches}
 use Rattle.dbg_plan.proofs.Watching.{there}
-use Rattle.dbg_plan.proofs.Unwatched.{none_by_step}
+use Rattle.dbg_plan.proofs.Unwatched.{fits_of, none_by_step}
 use Rattle.dbg_plan.proofs.running.is_unwatched.Goals as goal
 use Rattle.dbg_plan.proofs.running.is_unwatched.Goals.{In-Some}
-
--- what is known of the plan that is asked
-fits : (u : Compiled) (plan : Option Listed) (asked : Listed) → plan ≡ Some asked → MayBePlanOf u plan → IsPlanOf u asked
-fits u plan asked is may = subst (λ o. MayBePlanOf u o) is may
 
 table : (c : In-Some) → Watches (option_map arc_value c.args.plan.now) (Some c.in-Some.watched.now)
 table c = subst (λ w. Watches (option_map arc_value c.args.plan.now) (option_map (λ t. t.now) w)) c.in-Some.is c.requires.table
@@ -28,7 +22,7 @@ bounds-watched-address c =
     let u = c.args.machine.now.unit in
     let known = table (goal.at.bounds-watched-address c).In-Some in
     let asked = known.0 in
-    let plan_fits = fits u (option_map arc_value c.args.plan.now) asked known.1 c.requires.fits in
+    let plan_fits = fits_of u (option_map arc_value c.args.plan.now) asked known.1 c.requires.fits in
     subst (λ (ws : List Bool). c.address.result < length ws) (sym known.2)
     (slice_get_within asked.watched c.address.result _ (there asked.breakpoints u.begun_steps.items asked.watched c.address.result c.address.ensures.step plan_fits.watched c.address.ensures.begins))
 
@@ -44,7 +38,7 @@ returns-in-Some c =
     let next = c.address.ensures in
     let known = table (goal.at.returns-in-Some c).In-Some in
     let asked = known.0 in
-    let plan_fits = fits u (option_map arc_value c.args.plan.now) asked known.1 c.requires.fits in
+    let plan_fits = fits_of u (option_map arc_value c.args.plan.now) asked known.1 c.requires.fits in
     let has_one = there asked.breakpoints u.begun_steps.items asked.watched c.address.result next.step plan_fits.watched next.begins in
     let read = get_or_from_slice_get c.in-Some.watched.now c.address.result _ false (ap (λ (ws : List Bool). slice_get ws c.address.result) known.2 ∙ has_one) in
     ap (λ plan. has_arrival (breakpoints_of plan) c.args.machine.now) known.1
