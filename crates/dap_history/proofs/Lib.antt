@@ -4,7 +4,7 @@ pub mod Readings
 pub mod Along
 -- Each request is answered once; for the clause `answered` of `history_laws`.
 pub mod Answered
--- The message numbered n is the nth; for the clause `numbered` of `history_laws`.
+-- The message numbered n is the nth; for the clauses `numbered` and `read_back` of `history_laws`.
 pub mod Numbered
 -- A `disconnect` that is taken is the last item, and its answer the last message; for the clause `last` of `history_laws`.
 pub mod Last
@@ -60,7 +60,7 @@ pub mod MessageParts
 -- A command has one reply, a launch one, and so an item one step; for the clauses `one_effect` and `one` of
 -- `history_laws`.
 pub mod OneReply
--- The contents taken are those of the joined stream; for the clause `contents` of `history_laws`.
+-- The contents taken are those of the joined stream; for the clauses `read_back` and `contents` of `history_laws`.
 pub mod Contents
 -- How the stream was cut into pieces changes nothing; for the clause `cuts` of `history_laws`.
 pub mod Cuts
