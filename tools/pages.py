@@ -5,7 +5,9 @@ usage: pages.py
 
 Looks at README.md, CHANGELOG.md and docs/*.md. A link has to lead to a file, and to a heading where it names one. A name in
 backquotes that ends like a source file or a script has to be that of a file of the repository, or the end of its path; names
-that stand for others, such as `src/NAME.rt`, aren't looked at. Prints what is wrong, and ends with status 1 where anything is.
+that stand for others, such as `src/NAME.rt`, aren't looked at. In docs/PROOFS.md each clause that a law function's answers have
+a goal for has a row under that function's heading, and each lemma of a row is in a file of the row. Prints what is wrong, and
+ends with status 1 where anything is.
 """
 import pathlib
 import re
@@ -18,7 +20,10 @@ COLUMNS = 124
 LINK = re.compile(r"\]\(([^)#]*)(?:#([^)]*))?\)")
 NAME = re.compile(r"`([\w./*-]+\.(?:rt|antt|py|edit|session|md|lua|json|el|txt|c))`")
 # What stands for a name, and what begins a file of a user's own.
-STANDS_FOR = re.compile(r"NAME|\bName\b|/F/|^\.")
+STANDS_FOR = re.compile(r"NAME|MODULE|\bName\b|\bX\.|/F/|^\.")
+# A clause that a law function's answers have a goal for, and a row of a table of laws: clause, meaning, lemmas, files.
+GOAL = re.compile(r"^returns-clause-(\w+) c =", re.MULTILINE)
+LAW_ROW = re.compile(r"\| `(\w+)` \| .* \| (.*) \| (.*) \|")
 
 
 def pages() -> list[pathlib.Path]:
@@ -65,9 +70,26 @@ def wrong(page: pathlib.Path, files: list[pathlib.Path]) -> Iterator[str]:
                 yield f"{at}: there is no file {name}"
 
 
+def wrong_laws() -> Iterator[str]:
+    """What is wrong with the tables of laws in docs/PROOFS.md."""
+    page = TOP / "docs" / "PROOFS.md"
+    text = page.read_text(encoding="utf-8")
+    for answers in sorted(TOP.glob("crates/*/proofs/**/*_laws/Answers.antt")):
+        law = answers.parent.name
+        rows = {row[0]: row[1:] for row in LAW_ROW.findall(text.partition(f"### `{law}`\n")[2].partition("\n### ")[0])}
+        for clause in GOAL.findall(answers.read_text(encoding="utf-8")):
+            if clause not in rows:
+                yield f"docs/PROOFS.md: {law} has no row for the clause {clause}"
+        for clause, (lemmas, places) in rows.items():
+            held = "".join((TOP / "crates" / place).read_text(encoding="utf-8") for place in NAME.findall(places))
+            for lemma in re.findall(r"`([\w-]+)`", lemmas) if held else []:
+                if not re.search(rf"^\s*(?:pub )?{lemma} :", held, re.MULTILINE):
+                    yield f"docs/PROOFS.md: {law}, {clause}: {lemma} isn't in {places}"
+
+
 def main() -> int:
     files = [file for file in TOP.rglob("*") if file.is_file() and "out" not in file.parts and ".git" not in file.parts]
-    found = [one for page in pages() for one in wrong(page, files)]
+    found = [one for page in pages() for one in wrong(page, files)] + list(wrong_laws())
     print("\n".join(found) or f"{len(pages())} pages: all files and headings that they name are there")
     return 1 if found else 0
 

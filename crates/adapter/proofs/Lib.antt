@@ -1,8 +1,17 @@
+-- Lines that are written one after another make the whole listing; for `listing`, `write_code` and `write_steps`.
 pub mod ListingLines
+-- A command with no subcommand is refused for one reason at most; for `parse_arguments`.
 mod ArgumentKinds
+-- What each thread knows at its end gives together what `serve` promises; for `serve` and `serving_laws`.
 mod Gathered
+-- How much of the input a session took, by what closed it; for the clauses `input` and `disconnect` of `serving_laws`.
 mod InputTaken
+-- `serve` never reports that its runner or its writer is gone, and `OrdersFull` only where four orders were inside; for
+-- the clauses `gone` and `full` of `serving_laws`.
 mod SessionFaults
+-- Which runs the runner reports, by the number of the run that it took last; for `serving_laws`.
 mod RunNumbers
+-- Each run has one last report, unless it was cut short; for the clause `runs` of `serving_laws`.
 mod RunsEnd
+-- The reader's and the runner's tasks, and what these return, may go to another thread; for `serve`.
 mod Crossing

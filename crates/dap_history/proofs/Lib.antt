@@ -1,46 +1,107 @@
+-- How each reading of a history goes on with one more step; for `history_laws`, `reading_laws` and `run_laws`.
 pub mod Readings
+-- What holds at first and is kept by each item that is taken holds along a history; for `history_laws` and `run_laws`.
 pub mod Along
+-- Each request is answered once; for the clause `answered` of `history_laws`.
 pub mod Answered
+-- The message numbered n is the nth; for the clauses `numbered` and `read_back` of `history_laws`.
 pub mod Numbered
+-- A `disconnect` that is taken is the last item, and its answer the last message; for the clause `last` of `history_laws`.
 pub mod Last
+-- What numbers and logs say among events; for `history_laws` and `run_laws`.
 pub mod Told
+-- No reply reports a number or launches a program but that of a launch, and each Go of a reply is of the launched text;
+-- for `history_laws` and `run_laws`.
 pub mod Silent
+-- What the events and orders of a report say; for `history_laws` and `run_laws`.
 pub mod Outputs
+-- What a lawful report says, whether its run goes on or back; for `history_laws` and `run_laws`.
 pub mod Went
+-- In Fresh and Ready nothing is launched: only the first `initialize` leads to Ready; for `history_laws` and `run_laws`.
 pub mod Early
+-- The numbers reported are those that the program wrote, step by step; for the clause `outputs` of `history_laws`.
 pub mod Progress
+-- Each step of a history was caused by its item, after the steps before it; for `history_laws` and `run_laws`.
 pub mod Each
+-- Lemmas on elements of a list after which a function returns nothing more; for `history_laws`.
 pub mod AfterStops
+-- Before a stop and before a log stand just the numbers written up to it, and before a stop the logs too; for the clauses
+-- `order` and `logs_follow` of `history_laws`.
 pub mod StopOrder
+-- The program stands where it stopped last, and what is asked there is answered from there; for the clause `questions` of
+-- `history_laws`.
 pub mod Standing
+-- A run passes no position that is due, and none was ordered before `configurationDone`; for `history_laws` and
+-- `run_laws`.
 pub mod Passing
+-- Each stop is where the definitions say; for the clause `stops` of `history_laws`.
 pub mod Stopping
+-- The program is started once, in Configuring; for `history_laws`.
 pub mod Started
+-- Runs are numbered in order, and what positions yield joins along them; for `history_laws` and `run_laws`.
 pub mod Runs
+-- Runs are numbered in order, and the last one has come to where the program stands; for `history_laws` and `run_laws`.
 pub mod Counted
+-- The logs reported are those of the positions considered; for `history_laws`.
 pub mod Logged
+-- The logs reported are those of the positions considered, step by step; for the clauses `logs` and `stops_follow` of
+-- `history_laws`.
 pub mod Logging
+-- A list of events has one history, where an item has one effect; for the clause `one` of `history_laws`.
 pub mod OneHistory
+-- A text reads as one program; for `history_laws` and `run_laws`.
 pub mod Texts
+-- The steps of a text's program stand within as many lines and columns as a text may have bytes; for `history_laws`.
 pub mod Places
+-- The numbers of a history's messages fit in 64 bits; for `history_laws`.
 pub mod Fitting
+-- A text reads as one list of parts; for `history_laws`.
 pub mod MessageParts
+-- A command has one reply, a launch one, and so an item one step; for the clauses `one_effect` and `one` of
+-- `history_laws`.
 pub mod OneReply
+-- The contents taken are those of the joined stream; for the clauses `read_back` and `contents` of `history_laws`.
 pub mod Contents
+-- How the stream was cut into pieces changes nothing; for the clause `cuts` of `history_laws`.
 pub mod Cuts
+-- A worked example that nothing uses: what each item causes in a session that is paused, in one whose breakpoints change
+-- while the program runs, and in one that goes back.
 pub mod Rows
+-- A worked example that nothing uses: what a client is shown of a text with nested procedures, at a stop in its innermost
+-- one.
 pub mod ShownQ
+-- Each run is of the launched text, and starts where the program stands; for the clause `runs` of `history_laws`.
 pub mod Starts
+-- A session that its input's end or failure closed took that event, and `Quit` is the last order; for the clauses
+-- `closed_by`, `quits_last` and `quits` of `history_laws`.
 pub mod Closings
+-- Which run a reply orders and which plan it puts in, and that it holds no run that goes back; for `history_laws` and
+-- `run_laws`.
 pub mod Ordered
+-- Which run an item orders, and under which plan; for `history_laws` and `run_laws`.
 pub mod Ordering
+-- A run goes back as asked and is not held, and counts begin anew after it; for the clauses `back`, `anew` and `not_held`
+-- of `history_laws`.
 pub mod GoingBack
+-- What a reply does, in eight cases, whatever the command and the situation; for `history_laws` and `run_laws`.
 pub mod Shapes
+-- A step orders at most one run and reports at most one stop, so what is so of the last is so of each; for `history_laws`
+-- and `run_laws`.
 pub mod Once
+-- Each run has the next number, and is in the mode that was asked for; for the clauses `counted` and `asked` of
+-- `run_laws`.
 pub mod Asked
+-- What a report tells the client after its numbers and logs; for the clause `told` of `run_laws`.
 pub mod Telling
+-- A run is held once, where something waits; for the clauses `held` and `waits` of `run_laws`.
 pub mod Holding
+-- What a request tells besides its answer, and that each granted run is ordered; for the clauses `ordered`, `onward` and
+-- `replies` of `run_laws`.
 pub mod Granted
+-- Each run is under the breakpoints of the lines that were set last, and counts from where that was; for the clauses
+-- `lines`, `counts` and `plan` of `run_laws`.
 pub mod Lines
+-- Each item that reads no text leads from a history to another; for the clause `leads` of `history_laws`.
 pub mod Leading
+-- While a session takes items, nothing whole is left unread; for the clause `unread` of `history_laws`.
 pub mod Unread

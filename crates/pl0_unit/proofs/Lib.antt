@@ -1,1 +1,2 @@
+-- One text has one program; for `Unit::has_same_text`.
 pub mod Texts
