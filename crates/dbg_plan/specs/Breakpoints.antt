@@ -19,7 +19,7 @@ pub record TextCondition : Type 0 where
   pub text : List ℕ
   pub condition : Condition
 
--- the number of a step, what an arrival there has to meet, and the message that is logged in place of a stop, if there is one
+-- the number of a step, what an arrival there has to meet, and the message that is logged instead of a stop, if any
 pub record Breakpoint : Type 0 where
   pub step : ℕ
   pub condition : Option TextCondition

@@ -1,4 +1,4 @@
--- Checkpoints, and the trail that they are.
+-- The checkpoints of a run, and the trail that they make.
 use Rattle.std.specs.Prelude.{◌≡◌, ℕ, List, [], ◌∷◌, map}
 use Rattle.pl0_unit.specs.declared.unit.Unit.{Unit as Compiled}
 use Rattle.pl0_machine.specs.Machine.{Standing}

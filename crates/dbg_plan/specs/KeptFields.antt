@@ -1,4 +1,4 @@
--- What is kept of a trail's fields.
+-- How the fields of a trail stand for what contracts see of it.
 use Rattle.std.specs.Prelude.{◌<◌, ◌≤◌, ◌^◌, length}
 use Rattle.dbg_plan.specs.declared.trail.Trail.TheInside.{Inside}
 use Rattle.dbg_plan.specs.Trail.{trail_limit, AreAbove}

@@ -1,28 +1,54 @@
--- what one must believe: cited by the contracts of public functions
+-- What public contracts cite.
+-- the messages of log points
 pub mod Messages
+-- breakpoints as data
 pub mod Breakpoints
+-- breakpoints in the order asked
 pub mod Plans
+-- what a condition's text reads as
 pub mod ReadsAs
+-- what the lines that an editor asks for are resolved to
 pub mod Resolutions
+-- when a position is due
 pub mod Due
+-- the positions of checkpoints
 pub mod Trail
+-- what a position logs
 pub mod Logs
+-- what contracts see of a debuggee
 pub mod Debugged
+-- one step of a debuggee
 pub mod Advances
+-- many steps at once
 pub mod Running
+-- what an evaluation returns
 pub mod Values
+-- where going back leads
 pub mod Retreat
--- inner ones
+-- What only proofs and inner contracts cite.
+-- the parts of a message as data
 pub mod PlainParts
+-- expressions whose names were looked up
 pub mod Bound
+-- what is known when a line is resolved
 pub mod Resolving
+-- what a fault says of a text that is no message
 pub mod MessageFaults
+-- how a plan's table stands for its breakpoints
 pub mod Table
+-- how a log's fields stand for it
 pub mod LogFields
+-- how the room for logs stands for the logs
 pub mod LogRoom
+-- how arrivals are counted
 pub mod Counting
+-- how a debuggee's fields stand for it
 pub mod Counts
+-- what evaluations and look-ups promise
 pub mod Reads
+-- how quiet steps are taken
 pub mod Quiet
+-- checkpoints
 pub mod Kept
+-- how a trail's fields stand for it
 pub mod KeptFields

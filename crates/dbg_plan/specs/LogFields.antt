@@ -1,4 +1,4 @@
--- How a log is kept in memory.
+-- How the fields of a log stand for what contracts see of it.
 use Rattle.std.specs.Prelude.{◌≤◌, map, take}
 use Rattle.dbg_plan.specs.declared.logs.Log.TheInside.{Inside}
 use Rattle.dbg_plan.specs.Messages.{expression_limit}

@@ -1,4 +1,4 @@
--- Room for logs.
+-- How the room for logs stands for the logs in it.
 use Rattle.std.specs.Prelude.{◌≤◌, List, vec_capacity}
 use Rattle.dbg_plan.specs.declared.logs.Logs.TheInside.{Inside}
 use Rattle.dbg_plan.specs.Plans.{breakpoint_limit}

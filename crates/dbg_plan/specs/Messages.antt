@@ -36,8 +36,8 @@ abbrev pub braced : List ℕ → List ℕ → List ℕ
 braced inner rest = codes "{" ++ (inner ++ (codes "}" ++ rest))
 
 -- A text is read from the left, where `Is` says which expression a text is. A text without `{` stands for itself. In any
--- other what is before the first `{` stands for itself; then comes an expression, up to the next `}`, and what follows is read
--- in the same way.
+-- other what is before the first `{` stands for itself. Then comes an expression, up to the next `}`, and what follows is
+-- read in the same way.
 abbrev pub ReadsParts : (List ℕ → Expression → Type 0) → List ℕ → List Part → Type 0
 ReadsParts Is text (Text bytes ∷ []) = (bytes ≡ text) × Lacks 123 text
 ReadsParts Is text (Text before ∷ Value e ∷ parts) =

@@ -42,7 +42,7 @@ abbrev pub ReadsMessageAt : Block → ℕ → List ℕ → Option Message → Ty
 ReadsMessageAt main n text None = text ≡ []
 ReadsMessageAt main n text (Some m) = (text ≢ []) × (m.text ≡ text) × IsMessageOf main (step_path main n) text m.parts
 
--- ---- answers
+-- ---- resolutions
 
 -- the text reads as a condition at step n, or is empty
 pub record HasConditionAt (main : Block) (n : ℕ) (text : List ℕ) : Type 0 where
@@ -59,14 +59,14 @@ pub record HasMessageAt (main : Block) (n : ℕ) (text : List ℕ) : Type 0 wher
   pub message : Option Message
   pub reads : ReadsMessageAt main n text message
 
--- the breakpoint of a line that is answered with a step
+-- the breakpoint of a line that is resolved to a step
 pub record IsBreakpointOf (main : Block) (asked : SourceBreakpoint) (n : ℕ) (b : Breakpoint) : Type 0 where
   pub step : b.step ≡ n
   pub condition : ReadsConditionAt main n (string_bytes asked.condition) b.condition
   pub rule : ReadsRule (string_bytes asked.hit_condition) b.rule
   pub message : ReadsMessageAt main n (string_bytes asked.log_message) b.message
 
--- What a line is resolved to, and the breakpoints that it gives, one or none. Of several refusals the first is answered.
+-- What a line is resolved to, and the breakpoints that it gives, one or none. If several refusals apply, it is the first.
 abbrev pub IsResolvedTo : Block → SourceBreakpoint → Resolution → List Breakpoint → Type 0
 IsResolvedTo main asked (At n) bs =
     (step_from main asked.line ≡ Some n) × ((b : Breakpoint) × (bs ≡ b ∷ []) × IsBreakpointOf main asked n b)

@@ -1,4 +1,4 @@
--- One line after another: what is known when a line is answered.
+-- One line after another: what is known when a line is resolved.
 use Rattle.std.specs.Prelude.{◌≡◌, ℕ, ◌≤◌, List, ◌++◌, length, Option, option_map}
 use Rattle.pl0_tree.specs.Tree.{Block}
 use Rattle.dbg_plan.specs.declared.breakpoint.BoundCondition.{BoundCondition}

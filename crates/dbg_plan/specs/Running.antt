@@ -41,7 +41,8 @@ pub record RanQuietly (limit : ℕ) (breakpoints : List Breakpoint) (old : Stand
 abbrev pub forward : Debugged → ℕ → Debugged
 forward d n = record d { position = d.position + n; next = d.position + n + 1 }
 
--- At the limit there is no answer, the numbers are the same, and nothing is logged. Before it one more step was taken, which isn't quiet.
+-- At the limit nothing is returned, the numbers are the same, and nothing is logged. Before it one more step was taken,
+-- which isn't quiet.
 abbrev pub Closes : ℕ → Debugged → List ℤ → Option Advance → Debugged → List ℤ → List Log → Type 0
 Closes limit d before None new after logged = (new ≡ d) × (after ≡ before) × (limit ≤ d.position) × (logged ≡ [])
 Closes limit d before (Some advance) new after logged =

@@ -1,12 +1,12 @@
 -- The checkpoints of a run, to which a debuggee can go back: where they are kept, and which one is gone to.
 use Rattle.std.specs.Prelude.{ℕ, ◌+◌, ◌*◌, ◌<◌, ◌≤◌, max, Bool, nat_le, if◌then◌else◌, List, [], ◌∷◌, ◌++◌, length, filter}
 
--- the positions of the checkpoints, ascending, and how far apart the next ones are to be at least
+-- the positions of the checkpoints, ascending, and how many positions the next ones are to be apart at least
 pub record Trail : Type 0 where
   pub kept : List ℕ
   pub spacing : ℕ
 
--- of a debuggee that is new
+-- the trail of a new debuggee
 abbrev pub new_trail : Trail
 new_trail = record { kept = []; spacing = 4096 }
 
@@ -54,7 +54,7 @@ floor_of kept n = greatest (filter (λ k. nat_le k n) kept)
 
 -- ---- the laws of it
 
--- at most so many are kept
+-- at most as many are kept as may be
 abbrev pub TrailsAreShort : Type 0
 TrailsAreShort = (trail : Trail) (n : ℕ) → length trail.kept ≤ trail_limit → length (kept_at trail n).kept ≤ trail_limit
 

@@ -1,4 +1,4 @@
--- What an evaluation answers, in the terms of the meaning.
+-- What an evaluation returns, in the terms of the meaning.
 use Rattle.std.specs.Prelude.{Result, Ok, Err}
 use Rattle.pl0_meaning.specs.declared.RunFault.{RunFault}
 use Rattle.pl0_meaning.specs.declared.RunFault.TheVariants as run_fault

@@ -1,4 +1,4 @@
-//! Looks names up by their text.
+//! Looks up the names of expressions and conditions, by their text.
 
 ghost use Rattle.std.specs.Prelude.{◌≡◌, ◌<◌, length, slice_get, Some, IfOk};
 ghost use Rattle.pl0_tree.specs.Plain.{plain_expression, plain_condition, plain_block};
@@ -15,12 +15,13 @@ use std::alloc::{AllocError, Global};
 /// What a name stands for in the frames of a block.
 #[derive(Clone, Copy)]
 pub enum Located {
+    /// A constant, by its number, or a name that can't be read, by 0.
     Number(i64),
     /// A variable: how many static links lead to its frame, and its index there.
     Variable { level: usize, index: usize },
 }
 
-/// What a name stands for in the block of a number. A name that can't be read counts as 0.
+/// Returns what a name stands for in the block with this number. A name that can't be read counts as 0.
 pub fn locate(names: &Names, number: u32, text: &str) -> Located
     requires { number < length (blocks (plain_block names.now)) }
     ensures { (q : Path) → slice_get (blocks (plain_block names.now)) number ≡ Some q → IsNameBound (plain_block names.now) q (home (plain_block names.now) q text.now) (bound_of result) }
@@ -38,17 +39,11 @@ pub fn locate(names: &Names, number: u32, text: &str) -> Located
     }
 }
 
-/// A name that was looked up, as an expression.
-fn expression_of(located: Located) -> LocatedExpression
-    ensures { result ≡ bound_of located }
-{
-    match located {
-        Located::Number(number) => LocatedExpression::Number(number),
-        Located::Variable { level, index } => LocatedExpression::Variable { level, index },
-    }
-}
-
-/// An expression with its names looked up for the block of a number. It fails only where memory runs out.
+/// Returns an expression with its names looked up for the block with this number.
+///
+/// # Errors
+///
+/// Out of memory.
 pub fn bind_expression(
     alloc: Global,
     names: &Names,
@@ -78,7 +73,21 @@ pub fn bind_expression(
     }
 }
 
-/// A condition with its names looked up for the block of a number. It fails only where memory runs out.
+/// Returns a name that was looked up as an expression.
+fn expression_of(located: Located) -> LocatedExpression
+    ensures { result ≡ bound_of located }
+{
+    match located {
+        Located::Number(number) => LocatedExpression::Number(number),
+        Located::Variable { level, index } => LocatedExpression::Variable { level, index },
+    }
+}
+
+/// Returns a condition with its names looked up for the block with this number.
+///
+/// # Errors
+///
+/// Out of memory.
 pub fn bind_condition(
     alloc: Global,
     names: &Names,

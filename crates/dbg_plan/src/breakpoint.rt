@@ -1,4 +1,4 @@
-//! Breakpoints.
+//! The breakpoints of a plan.
 
 ghost use Rattle.std.specs.Prelude.{string_bytes};
 ghost use Rattle.pl0_tree.specs.Plain.{plain_condition};
@@ -14,13 +14,13 @@ pub const BREAKPOINT_LIMIT: usize = 256;
 /// Which arrivals at a breakpoint are due. Arrivals count from 1.
 #[derive(Clone, Copy)]
 pub enum Rule {
-    /// The one with this number, and each later one.
+    /// The arrival with this number, and each later one.
     From(u32),
-    /// Each whose number this divides.
+    /// Each arrival whose number is a multiple of this.
     Every(u32),
 }
 
-/// A condition with its text, and with what its names mean at the breakpoint's step.
+/// A condition with its text, and what its names mean at the breakpoint's step.
 #[derive(Drop)]
 pub struct BoundCondition {
     pub text: String,
@@ -30,8 +30,8 @@ pub struct BoundCondition {
     pub ghost reads: { ∥ ReadsAs (string_bytes text) (plain_condition condition) ∥₁ },
 }
 
-/// A breakpoint: its number in its plan, its step, and what an arrival has to meet. One with a message logs that, and doesn't
-/// stop the program.
+/// A breakpoint: its number in its plan, from 0, its step, and what an arrival has to meet. A breakpoint with a message
+/// logs it, and doesn't stop the program.
 #[derive(Drop)]
 pub struct Breakpoint {
     pub number: usize,

@@ -1,4 +1,4 @@
-//! Counts arrivals.
+//! Counts the arrivals at breakpoints.
 
 ghost use Rattle.std.specs.Prelude.{◌≡◌, ◌+◌, ◌<◌, ◌≤◌, ◌++◌, ◌&&◌, ℕ, [], is_none, length, All, option_map, if◌then◌else◌, Some};
 ghost use Rattle.std.specs.Arc.{arc_value};
@@ -18,7 +18,7 @@ use crate::plan::Plan;
 use pl0_machine::Machine;
 use std::sync::Arc;
 
-/// What is kept of one more arrival.
+/// Returns the count after one more arrival. The rule decides how far it counts.
 fn increase(rule: Option<Rule>, count: u32) -> u32
     ensures { result ≡ increased rule count }
 {
@@ -35,7 +35,7 @@ fn increase(rule: Option<Rule>, count: u32) -> u32
     }
 }
 
-/// Whether the arrival of which this is kept is due.
+/// Whether the arrival after which this is the count is due.
 fn is_accepted(rule: Option<Rule>, count: u32) -> bool
     ensures { result ≡ is_due rule count }
 {
@@ -46,7 +46,7 @@ fn is_accepted(rule: Option<Rule>, count: u32) -> bool
     }
 }
 
-/// Counts an arrival at a breakpoint of the machine's step, where its condition is met: whether it is due.
+/// Counts an arrival at a breakpoint of the machine's step if its condition is met, and returns whether the arrival is due.
 #[inline(always)]
 fn count_arrival(machine: &Machine, breakpoint: &Breakpoint, counts: &mut [u32]) -> bool
     requires running { IsRunning machine.now }
@@ -63,7 +63,8 @@ fn count_arrival(machine: &Machine, breakpoint: &Breakpoint, counts: &mut [u32])
     is_accepted(breakpoint.rule, count)
 }
 
-/// Counts an arrival, and logs what is to be logged: whether the breakpoint stops the program.
+/// Counts an arrival at a breakpoint and logs its message if it is due, and returns whether the breakpoint stops the
+/// program.
 #[inline(always)]
 fn meet(machine: &Machine, breakpoint: &Breakpoint, counts: &mut [u32], logs: &mut Logs) -> bool
     requires running { IsRunning machine.now }
@@ -77,8 +78,8 @@ fn meet(machine: &Machine, breakpoint: &Breakpoint, counts: &mut [u32], logs: &m
     count_arrival(machine, breakpoint, counts) && stops_or_logs(machine, breakpoint, logs)
 }
 
-/// Counts the arrivals at these breakpoints, which are those of the machine's step, and appends what they log: whether one
-/// stops the program.
+/// Counts the arrivals at these breakpoints, which are those of the machine's step, and appends what they log to `logs`.
+/// Returns whether one stops the program.
 pub fn count_arrivals(
     machine: &Machine,
     breakpoints: &[Breakpoint],
@@ -100,8 +101,8 @@ pub fn count_arrivals(
     stops
 }
 
-/// Counts the arrivals at the machine's position: whether a breakpoint stops the program there. What the position logs is left
-/// in `logs`.
+/// Counts the arrivals at the machine's position, and returns whether a breakpoint stops the program there. What the
+/// position logs is in `logs` afterwards.
 #[inline(always)]
 pub fn count_position(
     machine: &Machine,
@@ -129,7 +130,7 @@ pub fn count_position(
     }
 }
 
-/// Why the machine's position is due, once it is known whether a breakpoint is.
+/// Returns why the machine's position is due, if it is. `hit` says whether a breakpoint stops the program there.
 #[inline(always)]
 pub fn reason_here(machine: &Machine, hit: bool, mode: Mode) -> Option<Reason>
     ensures { result ≡ (if hit then Some reason.Breakpoint else reason_of mode (depth_at (program machine.now) machine.now.position)) }

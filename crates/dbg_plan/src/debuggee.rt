@@ -30,11 +30,11 @@ pub enum Advance {
     To(Option<Reason>),
     /// The program is over.
     Done,
-    /// The step faults, and all is as before.
+    /// The step faults, and the debuggee is as it was.
     Fault(RunFault),
 }
 
-/// A machine with the plan that is in force, and what was counted under it.
+/// A machine with its plan, what was counted under the plan, and checkpoints of the run.
 #[derive(Drop)]
 pub struct Debuggee {
     pub(crate) machine: Machine,
@@ -63,7 +63,7 @@ impl Model for Debuggee {
     ghost invariant = { IsCounting };
 }
 
-/// A plan, or none where it is empty.
+/// Returns a plan; `None` if it is empty.
 fn entered(plan: Arc<Plan>) -> Option<Arc<Plan>>
     ensures breakpoints { listed_of (option_map arc_value result) ≡ plan.value.breakpoints }
     ensures numbered { IsNumbered plan.value.breakpoints }
@@ -90,7 +90,8 @@ impl Debuggee {
     ghost use Rattle.dbg_plan.specs.Trail.{new_trail};
     ghost use Rattle.dbg_plan.specs.Values.{answered};
 
-    /// A machine under the empty plan. Its position is the next to be considered. It allocates nothing.
+    /// Returns a debuggee with this machine and the empty plan. The machine's position is the next to be considered. It
+    /// allocates nothing.
     pub fn new(alloc: Global, machine: Machine) -> Debuggee
         ensures { result ≡ record { unit = machine.unit; position = machine.position; breakpoints = []; counted_from = machine.position; next = machine.position; trail = new_trail } }
     {
@@ -105,28 +106,28 @@ impl Debuggee {
         }
     }
 
-    /// The machine.
+    /// Returns the machine.
     pub fn machine(&self) -> &Machine
         ensures { result.now ≡ machine_of self.now }
     {
         &self.machine
     }
 
-    /// The plan, or none where it is the empty one.
+    /// Returns the plan; `None` if it is the empty one.
     pub fn plan(&self) -> &Option<Arc<Plan>>
         ensures { breakpoints_of (option_map arc_value result.now) ≡ self.now.breakpoints }
     {
         &self.plan
     }
 
-    /// The first position that the plan counts.
+    /// Returns the first position that the plan counts.
     pub fn counted_from(&self) -> u64
         ensures { result ≡ self.now.counted_from }
     {
         self.counted_from
     }
 
-    /// The next position to be considered.
+    /// Returns the next position to be considered.
     pub(crate) fn next(&self) -> u64
         ensures { result ≡ self.now.next }
     {
@@ -149,7 +150,7 @@ impl Debuggee {
         outcome
     }
 
-    /// Puts a plan in, which counts from the next position to be considered.
+    /// Sets the plan, which counts from the next position to be considered.
     pub fn set_plan(&mut self, plan: Arc<Plan>)
         requires { IsPlanOf self.old.unit plan.value }
         ensures { self.new ≡ record self.old { breakpoints = plain_breakpoints plan.value.breakpoints; counted_from = self.old.next } }
@@ -160,7 +161,8 @@ impl Debuggee {
         self.counted_from = counted_from;
     }
 
-    /// Considers the position where the machine stands: whether it is due. What it logs is left in `logs`.
+    /// Considers the position where the machine stands, and returns why it is due, if it is. What the position logs
+    /// replaces what was in `logs`.
     pub fn consider(&mut self, mode: Mode, logs: &mut Logs) -> Option<Reason>
         requires { IsNext self.old }
         ensures due { result ≡ due_now self.old mode }
@@ -171,7 +173,7 @@ impl Debuggee {
         self.consider_on(mode, logs)
     }
 
-    /// The same with an empty room.
+    /// Does the same as `consider`, with `logs` empty already.
     #[inline(always)]
     fn consider_on(&mut self, mode: Mode, logs: &mut Logs) -> Option<Reason>
         requires next { IsNext self.old }
@@ -186,8 +188,8 @@ impl Debuggee {
     }
 
     /// Takes the machine's next step, and considers the position that it leads to, if the program goes on there: what
-    /// `step` does, and then `consider`. The number that the step writes is appended to `numbers`, which has room for it, and
-    /// what the position logs is left in `logs`.
+    /// `step` does, and then `consider`. The number that the step writes is appended to `numbers`, which has room for it.
+    /// `logs` is empty before, and holds what the position logs afterwards.
     #[inline(always)]
     pub fn advance(&mut self, mode: Mode, numbers: &mut Vec<i64>, logs: &mut Logs) -> Advance
         requires considered { IsConsidered self.old }
@@ -213,8 +215,9 @@ impl Debuggee {
         }
     }
 
-    /// Takes steps that write nothing and lead to positions without a breakpoint, up to the position `limit`; or up to the
-    /// first that doesn't, whose position isn't considered.
+    /// Takes steps that write nothing and lead to positions without a breakpoint, up to the position `limit`, and returns
+    /// `None` there. Any other step is the last one, and what it did is returned; the position that it leads to isn't
+    /// considered.
     #[inline(always)]
     fn run_quietly(&mut self, limit: u64) -> Option<StepOutcome>
         requires considered { IsConsidered self.old }
@@ -228,8 +231,8 @@ impl Debuggee {
     }
 
     /// Advances in the mode `Continue` up to the position `limit`, while the steps write nothing and lead to positions
-    /// without a breakpoint. The first that doesn't is the last, and then the answer says where it led. At the limit there is
-    /// no answer. What the position logs is left in `logs`.
+    /// without a breakpoint, and returns `None` there. Any other step is the last one, taken as `advance` takes it, and
+    /// where it led is returned. `logs` is empty before, and holds what the last position logs afterwards.
     #[inline(always)]
     pub fn run(&mut self, limit: u64, numbers: &mut Vec<i64>, logs: &mut Logs) -> Option<Advance>
         requires considered { IsConsidered self.old }
@@ -251,7 +254,7 @@ impl Debuggee {
         }
     }
 
-    /// The value of an expression in a frame, which is alive. A name that the frame's block can't read counts as 0.
+    /// Returns the value of an expression in a frame, which is alive. A name that the frame's block can't read counts as 0.
     ///
     /// # Errors
     ///

@@ -1,4 +1,4 @@
-//! Going back.
+//! Goes back to earlier positions of a run.
 
 ghost use Rattle.std.specs.Prelude.{◌≡◌};
 ghost use Rattle.dbg_plan.specs.Trail.{floor_of, TrailsAreShort, TrailsAscend};
@@ -12,30 +12,12 @@ use pl0_machine::Machine;
 use pl0_meaning::{configuration_laws, meaning_laws};
 use std::alloc::{AllocError, Global};
 
-/// What holds of trails, and of where going back leads. It does nothing: its contract is the laws.
+/// The laws of trails, and of where going back leads. It does nothing: its contract is the laws.
 pub fn going_back_laws()
     ensures short { TrailsAreShort }
     ensures ascend { TrailsAscend }
     ensures last_due { LastDueIsLast }
 {}
-
-/// Brings a machine back to the last checkpoint at or before a position, or to position 0, and says where that is.
-fn bring_back(machine: &mut Machine, trail: &Trail, to: u64) -> u64
-    requires { AreOf machine.old.unit trail.now.checkpoints }
-    ensures floor { result ≡ floor_of (trail_of trail.now).kept to }
-    ensures machine { machine.new ≡ record machine.old { position = result } }
-{
-    match trail.floor(to) {
-        Some(checkpoint) => {
-            machine.restore(checkpoint);
-            checkpoint.position()
-        }
-        None => {
-            machine.reset();
-            0
-        }
-    }
-}
 
 impl Debuggee {
     ghost use Rattle.std.specs.Prelude.{◌≡◌, ◌≤◌, true, IfErr, MatchResult};
@@ -46,7 +28,7 @@ impl Debuggee {
     ///
     /// # Errors
     ///
-    /// An allocation failed, and all is as before. Where no checkpoint is asked for, none is made.
+    /// Out of memory; all is as before. It never fails if no checkpoint is asked for.
     pub fn keep(&mut self, alloc: Global) -> Result<(), AllocError>
         ensures kept { MatchResult result (λ _. self.new ≡ record self.old { trail = kept_at self.old.trail self.old.position }) (λ _. self.new ≡ self.old) }
         ensures asked { IfErr result (λ _. asks self.old.trail self.old.position ≡ true) }
@@ -54,8 +36,8 @@ impl Debuggee {
         self.trail.keep(alloc, &self.machine)
     }
 
-    /// Goes back to the last checkpoint at or before the position `to`, or to position 0, and says where that is. The position
-    /// is to be considered, and the plan counts from it. It allocates nothing, and gives up no checkpoint.
+    /// Goes back to the last checkpoint at or before the position `to`, or to position 0, and returns the position there.
+    /// It is the next to be considered, and the plan counts from it. It allocates nothing, and keeps all checkpoints.
     pub fn back(&mut self, to: u64) -> u64
         requires { to ≤ self.old.position }
         ensures floor { result ≡ floor_of self.old.trail.kept to }
@@ -71,12 +53,30 @@ impl Debuggee {
         position
     }
 
-    /// Counts anew, from the next position to be considered.
+    /// Sets all counts to 0: the plan counts from the next position to be considered.
     pub fn recount(&mut self)
         ensures { self.new ≡ record self.old { counted_from = self.old.next } }
     {
         let counted_from = self.next();
         self.counts = [0; BREAKPOINT_LIMIT];
         self.counted_from = counted_from;
+    }
+}
+
+/// Brings a machine back to the last checkpoint at or before the position `to`, or to position 0, and returns its position.
+fn bring_back(machine: &mut Machine, trail: &Trail, to: u64) -> u64
+    requires { AreOf machine.old.unit trail.now.checkpoints }
+    ensures floor { result ≡ floor_of (trail_of trail.now).kept to }
+    ensures machine { machine.new ≡ record machine.old { position = result } }
+{
+    match trail.floor(to) {
+        Some(checkpoint) => {
+            machine.restore(checkpoint);
+            checkpoint.position()
+        }
+        None => {
+            machine.reset();
+            0
+        }
     }
 }

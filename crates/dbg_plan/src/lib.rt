@@ -1,4 +1,4 @@
-//! Breakpoints, the plan that they make, and a program that is debugged under one.
+//! Breakpoints, the plan that they make, and a program that is debugged under a plan.
 //!
 //! A program is stopped at a breakpoint with a condition:
 //!
@@ -24,13 +24,14 @@
 //! assert_eq!(&rt; debuggee.consider(Mode::Continue, &mut logs), Some(Reason::Breakpoint));
 //! ```
 //!
-//! The one contract is that of [`Debuggee::consider`]: whether the position where the machine stands is due, by a count
-//! of all earlier arrivals that no field keeps (`specs/Due`), and what it logs (`specs/Logs`). A plan is a table by step, and
-//! contracts see the list of breakpoints in the order asked, as data without addresses (`specs/Breakpoints`, `Plans`), by
-//! which [`same_plan`] compares two plans. A second table, by the address of an instruction, says where steps with breakpoints
-//! begin, so that a position at any other step costs one look. A breakpoint with a message logs, and stops nothing; as which
-//! parts a message reads is said in `specs/Messages`. The hard lemma is `tally` of `proofs/Tally`: one walk along a step's part
-//! of the table takes the counts of the whole list from one position to the next, and finds the breakpoints that are met.
+//! The one contract is that of [`Debuggee::consider`]: whether the position where the machine stands is due, defined by a
+//! count of all earlier arrivals (`specs/Due`), which no field keeps, and what it logs (`specs/Logs`). A plan is a table by
+//! step. Contracts see the list of breakpoints in the order asked, as data without addresses (`specs/Breakpoints`,
+//! `Plans`), by which [`same_plan`] compares two plans. A second table, by the address of an instruction, says where steps
+//! with breakpoints begin, so that a position at any other step costs one look-up. A breakpoint with a message logs it, and
+//! doesn't stop the program; `specs/Messages` says which parts a message has. The hard lemma is `tally` of `proofs/Tally`:
+//! one walk along a step's part of the table takes the counts of the whole list from one position to the next, and finds
+//! the breakpoints that are met.
 #![tactic(auto)]
 
 mod binding;

@@ -5,6 +5,7 @@ use pl0_tree::{Operator, Relation};
 /// An expression of one block.
 #[derive(Drop)]
 pub enum LocatedExpression {
+    /// A number, that of a constant, or 0 for a name that can't be read.
     Number(i64),
     /// A variable: how many static links lead to its frame, and its index there.
     Variable { level: usize, index: usize },

@@ -1,4 +1,4 @@
-//! What breakpoints log, and the text of it.
+//! Makes the logs of breakpoints, and their texts.
 
 ghost use Rattle.std.specs.Prelude.{◌≡◌, ◌+◌, ◌<◌, ◌≤◌, ◌++◌, [], ◌∷◌, List, IfOk, OnOk, is_none, Some, length, map, option_to_list, string_bytes};
 ghost use Rattle.dbg_plan.specs.Counting.{IsMetHere, log_now};
@@ -19,7 +19,7 @@ use crate::message::{LogMessage, Part};
 use pl0_machine::Machine;
 use std::alloc::{AllocError, Global};
 
-/// Appends the value that a part has in a frame, if it is an expression.
+/// Appends the value of a part in a frame to a log, if the part is an expression.
 fn log_part(machine: &Machine, frame: usize, part: &Part, log: &mut Log)
     requires reads { ReadsPart (program machine.now) (frames machine.now) frame part.now }
     requires room { length log.old.values + length (expressions (plain_part part.now ∷ [])) ≤ expression_limit }
@@ -31,7 +31,7 @@ fn log_part(machine: &Machine, frame: usize, part: &Part, log: &mut Log)
     }
 }
 
-/// The log of a breakpoint's message at the machine's step.
+/// Returns the log of a breakpoint's message at the machine's step.
 fn log_of(machine: &Machine, breakpoint: &Breakpoint, message: &LogMessage) -> Log
     requires running { IsRunning machine.now }
     requires here { IsMetHere machine.now breakpoint.now }
@@ -46,8 +46,8 @@ fn log_of(machine: &Machine, breakpoint: &Breakpoint, message: &LogMessage) -> L
     log
 }
 
-/// What a breakpoint does that is met where the machine stands: it logs its message, if it has one, or it stops the program,
-/// which is the answer.
+/// Does what a breakpoint does that is met where the machine stands: it logs its message, if it has one, or else it stops
+/// the program. Returns whether it stops the program.
 #[inline]
 pub fn stops_or_logs(machine: &Machine, breakpoint: &Breakpoint, logs: &mut Logs) -> bool
     requires running { IsRunning machine.now }
@@ -65,25 +65,24 @@ pub fn stops_or_logs(machine: &Machine, breakpoint: &Breakpoint, logs: &mut Logs
     }
 }
 
-/// Appends the text of a value.
-fn push_value(
-    alloc: Global,
-    text: &mut String,
-    value: Result<i64, EvalFault>,
-) -> Result<(), AllocError>
-    ensures { OnOk result (string_bytes text.new ≡ string_bytes text.old ++ value_text (answered value)) }
+/// Returns the text of a log: the parts of its message, with its values in place of the expressions, and a line feed.
+///
+/// # Errors
+///
+/// Out of memory.
+pub fn log_text(alloc: Global, parts: &[Part], log: &Log) -> Result<String, AllocError>
+    ensures { IfOk result (λ text. string_bytes text ≡ text_of (plain_parts parts.now) log.now.values) }
 {
-    match value {
-        Ok(number) => {
-            let number = format!(in alloc; "{number}")?;
-            text.push_str(number.as_str())
-        }
-        Err(EvalFault::Overflow) => text.push_str("overflow"),
-        Err(EvalFault::DivideByZero) => text.push_str("divideByZero"),
+    let mut values = log.values();
+    let mut text = String::new(alloc);
+    for part in parts {
+        values = push_part(alloc, &mut text, part, values)?;
     }
+    text.push('\n')?;
+    Ok(text)
 }
 
-/// Appends a part, with the first of the values in place of an expression: the values that are left.
+/// Appends the text of a part, with the first of the values in place of an expression. Returns the values that are left.
 fn push_part<'a>(
     alloc: Global,
     text: &mut String,
@@ -107,19 +106,20 @@ fn push_part<'a>(
     }
 }
 
-/// The text of a log: the parts of its message, with its values in place of the expressions, and a line feed.
-///
-/// # Errors
-///
-/// Memory ran out.
-pub fn log_text(alloc: Global, parts: &[Part], log: &Log) -> Result<String, AllocError>
-    ensures { IfOk result (λ text. string_bytes text ≡ text_of (plain_parts parts.now) log.now.values) }
+/// Appends the text of a value to a text.
+fn push_value(
+    alloc: Global,
+    text: &mut String,
+    value: Result<i64, EvalFault>,
+) -> Result<(), AllocError>
+    ensures { OnOk result (string_bytes text.new ≡ string_bytes text.old ++ value_text (answered value)) }
 {
-    let mut values = log.values();
-    let mut text = String::new(alloc);
-    for part in parts {
-        values = push_part(alloc, &mut text, part, values)?;
+    match value {
+        Ok(number) => {
+            let number = format!(in alloc; "{number}")?;
+            text.push_str(number.as_str())
+        }
+        Err(EvalFault::Overflow) => text.push_str("overflow"),
+        Err(EvalFault::DivideByZero) => text.push_str("divideByZero"),
     }
-    text.push('\n')?;
-    Ok(text)
 }

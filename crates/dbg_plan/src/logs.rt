@@ -1,4 +1,4 @@
-//! What a position logs.
+//! The logs of a position.
 
 use crate::breakpoint::BREAKPOINT_LIMIT;
 use crate::evaluation::EvalFault;
@@ -33,7 +33,7 @@ impl Log {
     ghost use Rattle.dbg_plan.specs.Messages.{expression_limit};
     ghost use Rattle.dbg_plan.specs.Values.{answered};
 
-    /// The log of the breakpoint with this number, so far without a value.
+    /// Returns a log without values of the breakpoint with this number.
     #[inline]
     pub(crate) fn new(number: usize) -> Log
         ensures { result ≡ record { number = number; values = [] } }
@@ -45,7 +45,7 @@ impl Log {
         }
     }
 
-    /// Appends a value.
+    /// Appends a value, for which there is room.
     #[inline]
     pub(crate) fn push(&mut self, value: Result<i64, EvalFault>)
         requires { length self.old.values < expression_limit }
@@ -55,14 +55,14 @@ impl Log {
         self.count += 1;
     }
 
-    /// The number of the breakpoint in its plan, from 0.
+    /// Returns the number of the breakpoint in its plan, from 0.
     pub fn number(&self) -> usize
         ensures { result ≡ self.now.number }
     {
         self.number
     }
 
-    /// The values of the message's expressions, in order.
+    /// Returns the values of the message's expressions, in order.
     pub fn values(&self) -> &[Result<i64, EvalFault>]
         ensures { map answered result.now ≡ self.now.values }
     {
@@ -96,11 +96,11 @@ impl Logs {
     ghost use Rattle.std.specs.Prelude.{◌≡◌, ◌<◌, ◌++◌, [], ◌∷◌, IfOk, Decides, length};
     ghost use Rattle.dbg_plan.specs.Plans.{breakpoint_limit};
 
-    /// Room that holds nothing.
+    /// Returns empty room.
     ///
     /// # Errors
     ///
-    /// Memory ran out.
+    /// Out of memory.
     pub fn new(alloc: Global) -> Result<Logs, AllocError>
         ensures { IfOk result (λ logs. logs ≡ []) }
     {
@@ -108,7 +108,7 @@ impl Logs {
         Ok(Logs { logs })
     }
 
-    /// The logs, in order.
+    /// Returns the logs, in order.
     #[inline]
     pub fn as_slice(&self) -> &[Log]
         ensures { result.now ≡ self.now }
@@ -116,7 +116,7 @@ impl Logs {
         self.logs.as_slice()
     }
 
-    /// Whether there is none.
+    /// Whether there is no log.
     #[inline(always)]
     pub fn is_empty(&self) -> bool
         ensures { Decides result (self.now ≡ []) }
@@ -124,7 +124,7 @@ impl Logs {
         self.logs.is_empty()
     }
 
-    /// Removes all.
+    /// Removes all logs.
     #[inline]
     pub fn clear(&mut self)
         ensures { self.new ≡ [] }

@@ -10,7 +10,7 @@ use pl0_tree::Expression;
 /// The most expressions that a message may have.
 pub const EXPRESSION_LIMIT: usize = 8;
 
-/// An expression, with what its names mean at a breakpoint's step.
+/// An expression, and what its names mean at a breakpoint's step.
 #[derive(Drop)]
 pub struct BoundExpression {
     pub expression: Expression,
@@ -20,13 +20,13 @@ pub struct BoundExpression {
 /// A part of a message.
 #[derive(Drop)]
 pub enum Part {
-    /// What stands for itself.
+    /// Text that stands for itself.
     Text(String),
     /// An expression, which is replaced by its value.
     Value(BoundExpression),
 }
 
-/// A message, and the parts that its text reads as.
+/// A message: its text, and the parts that the text reads as.
 #[derive(Drop)]
 pub struct LogMessage {
     pub text: String,

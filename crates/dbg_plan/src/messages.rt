@@ -1,4 +1,4 @@
-//! Reading messages.
+//! Reads the messages of log points.
 
 ghost use Rattle.std.specs.Prelude.{◌≡◌, ◌<◌, ◌++◌, [], ◌∷◌, List, length, IfOk, IfErr, OnOk};
 ghost use Rattle.pl0_tree.specs.Faults.{IsExpressionOf};
@@ -24,8 +24,9 @@ use std::alloc::{AllocError, AllocFailed, Global};
 /// Why a text is not read as a message.
 #[derive(Clone, Copy)]
 pub enum MessageFault {
-    /// It reads as none.
+    /// The text reads as no message.
     Bad,
+    /// Out of memory: nothing is known of the text.
     NoMemory,
 }
 
@@ -51,53 +52,32 @@ impl<T: Drop> From<AllocFailed<T>> for MessageFault {
     }
 }
 
-/// The expression of a text, bound to the names that a step can use.
-fn read_expression(
+/// Reads the message of a text, bound to the names that a step can use; `None` if the text is empty.
+///
+/// # Errors
+///
+/// `Bad` if the text reads as no message, or `NoMemory`.
+pub fn read_message(
     alloc: Global,
     unit: &Unit,
     names: &Names,
     text: &str,
     step: StepNumber,
-) -> Result<BoundExpression, MessageFault>
+) -> Result<Option<LogMessage>, MessageFault>
     requires names { names.now ≡ unit.now.tree.program }
     requires within { step < length (steps (program_of unit.now)) }
-    ensures expression { IfOk result (λ e. IsExpressionOf (program_of unit.now) (step_path (program_of unit.now) step) text.now (plain_expression e.expression)) }
-    ensures bound { IfOk result (λ e. IsExpressionBound (program_of unit.now) (step_path (program_of unit.now) step) (plain_expression e.expression) e.located) }
-    ensures bad { IfErr result (UnlessNoMemory ((e : PlainExpression) → ¬ IsExpressionOf (program_of unit.now) (step_path (program_of unit.now) step) text.now e)) }
+    ensures message { IfOk result (IsBoundMessageOf (program_of unit.now) step text.now) }
+    ensures bad { IfErr result (UnlessNoMemory (¬ HasMessageAt (program_of unit.now) step text.now)) }
 {
-    editor_laws();
-    let expression = match parse_expression(alloc, text.as_bytes(), names, &unit.steps, step) {
-        Ok(expression) => expression,
-        Err(SyntaxFault::NoMemory) => return Err(MessageFault::NoMemory),
-        Err(SyntaxFault::InText { .. }) => return Err(MessageFault::Bad),
-    };
-    let number = unit.steps[step].block;
-    match bind_expression(alloc, names, number, &expression) {
-        Ok(located) => Ok(BoundExpression {
-            expression,
-            located,
-        }),
-        Err(_) => Err(MessageFault::NoMemory),
+    if text.is_empty() {
+        return Ok(None);
     }
+    let parts = read_parts(alloc, unit, names, text, step)?;
+    let text = String::from_str(alloc, text)?;
+    Ok(Some(LogMessage { text, parts }))
 }
 
-/// Appends what stands before an expression, and the expression.
-fn push_value(
-    alloc: Global,
-    parts: &mut Vec<Part>,
-    before: &str,
-    expression: BoundExpression,
-) -> Result<(), AllocError>
-    ensures parts { OnOk result (plain_parts parts.new.items ≡ plain_parts parts.old.items ++ Text before.now ∷ Value (plain_expression expression.expression) ∷ []) }
-    ensures bound { OnOk result ((main : Block) (q : Path) → ArePartsBound main q parts.old.items → IsExpressionBound main q (plain_expression expression.expression) expression.located → ArePartsBound main q parts.new.items) }
-{
-    let before = String::from_str(alloc, before)?;
-    parts.push(Part::Text(before))?;
-    parts.push(Part::Value(expression))?;
-    Ok(())
-}
-
-/// The parts of a text, read from the left.
+/// Reads the parts of a text, from the left.
 fn read_parts(
     alloc: Global,
     unit: &Unit,
@@ -134,27 +114,48 @@ fn read_parts(
     Ok(parts)
 }
 
-/// The message of a text, bound to the names that a step can use; none where the text is empty.
-///
-/// # Errors
-///
-/// The text reads as no message, or memory ran out.
-pub fn read_message(
+/// Appends what stands before an expression, if that isn't empty, and the expression.
+fn push_value(
+    alloc: Global,
+    parts: &mut Vec<Part>,
+    before: &str,
+    expression: BoundExpression,
+) -> Result<(), AllocError>
+    ensures parts { OnOk result (plain_parts parts.new.items ≡ plain_parts parts.old.items ++ Text before.now ∷ Value (plain_expression expression.expression) ∷ []) }
+    ensures bound { OnOk result ((main : Block) (q : Path) → ArePartsBound main q parts.old.items → IsExpressionBound main q (plain_expression expression.expression) expression.located → ArePartsBound main q parts.new.items) }
+{
+    let before = String::from_str(alloc, before)?;
+    parts.push(Part::Text(before))?;
+    parts.push(Part::Value(expression))?;
+    Ok(())
+}
+
+/// Reads the expression of a text, bound to the names that a step can use.
+fn read_expression(
     alloc: Global,
     unit: &Unit,
     names: &Names,
     text: &str,
     step: StepNumber,
-) -> Result<Option<LogMessage>, MessageFault>
+) -> Result<BoundExpression, MessageFault>
     requires names { names.now ≡ unit.now.tree.program }
     requires within { step < length (steps (program_of unit.now)) }
-    ensures message { IfOk result (IsBoundMessageOf (program_of unit.now) step text.now) }
-    ensures bad { IfErr result (UnlessNoMemory (¬ HasMessageAt (program_of unit.now) step text.now)) }
+    ensures expression { IfOk result (λ e. IsExpressionOf (program_of unit.now) (step_path (program_of unit.now) step) text.now (plain_expression e.expression)) }
+    ensures bound { IfOk result (λ e. IsExpressionBound (program_of unit.now) (step_path (program_of unit.now) step) (plain_expression e.expression) e.located) }
+    ensures bad { IfErr result (UnlessNoMemory ((e : PlainExpression) → ¬ IsExpressionOf (program_of unit.now) (step_path (program_of unit.now) step) text.now e)) }
 {
-    if text.is_empty() {
-        return Ok(None);
+    editor_laws();
+    let expression = match parse_expression(alloc, text.as_bytes(), names, &unit.steps, step) {
+        Ok(expression) => expression,
+        Err(SyntaxFault::NoMemory) => return Err(MessageFault::NoMemory),
+        Err(SyntaxFault::InText { .. }) => return Err(MessageFault::Bad),
+    };
+    let number = unit.steps[step].block;
+    match bind_expression(alloc, names, number, &expression) {
+        Ok(located) => Ok(BoundExpression {
+            expression,
+            located,
+        }),
+        Err(_) => Err(MessageFault::NoMemory),
     }
-    let parts = read_parts(alloc, unit, names, text, step)?;
-    let text = String::from_str(alloc, text)?;
-    Ok(Some(LogMessage { text, parts }))
 }

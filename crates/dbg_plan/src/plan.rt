@@ -1,4 +1,4 @@
-//! A plan: the breakpoints of a program, by their steps.
+//! The plan of a program: its breakpoints, by their steps.
 
 ghost use Rattle.std.specs.Prelude.{◌≡◌, ◌+◌, ◌<◌, ◌^◌, [], All, Decides, option_map, length, slice_get, Some, IfOk};
 ghost use Rattle.std.specs.Arc.{arc_value};
@@ -15,16 +15,6 @@ use pl0_tree::StepNumber;
 use std::alloc::{AllocError, Global};
 use std::marker::Model;
 use std::sync::Arc;
-
-/// The parts of a breakpoint's message; none without one.
-fn parts_of(breakpoint: &Breakpoint) -> &[Part]
-    ensures { plain_parts result.now ≡ option_map_or (λ m. m.parts) (plain_breakpoint breakpoint.now).message [] }
-{
-    match &breakpoint.message {
-        None => &[],
-        Some(message) => message.parts.as_slice(),
-    }
-}
 
 /// The breakpoints of a program. Those of step s stand in `ordered` from `starts[s]` up to `starts[s + 1]`.
 #[derive(Drop)]
@@ -57,7 +47,8 @@ impl Plan {
     ghost use Rattle.dbg_plan.specs.PlainParts.{plain_parts};
     ghost use Rattle.dbg_plan.specs.Plans.{those_of, watched_lines, parts_at, IsNumbered};
 
-    /// The plan of these breakpoints, for a program of `steps` steps, beside whose instructions stand `lines`.
+    /// Returns the plan of these breakpoints, for a program of `steps` steps. `lines` says for each address of its code
+    /// which step begins there.
     pub(crate) fn new(
         alloc: Global,
         steps: usize,
@@ -80,7 +71,7 @@ impl Plan {
         })
     }
 
-    /// Whether it has no breakpoint.
+    /// Whether the plan has no breakpoint.
     pub fn is_empty(&self) -> bool
         ensures empty { Decides result (self.now.breakpoints ≡ []) }
         ensures numbered { IsNumbered self.now.breakpoints }
@@ -105,7 +96,7 @@ impl Plan {
         self.watched[address]
     }
 
-    /// For each address of the code, whether the step that begins there has a breakpoint.
+    /// Returns for each address of the code whether the step that begins there has a breakpoint.
     #[inline(always)]
     pub(crate) fn watched(&self) -> &[bool]
         ensures watched { result.now ≡ self.now.watched }
@@ -114,7 +105,7 @@ impl Plan {
         self.watched.as_slice()
     }
 
-    /// The breakpoints of a step, in the order asked.
+    /// Returns the breakpoints of a step, in the order asked.
     #[inline(always)]
     pub fn entry(&self, step: StepNumber) -> &[Breakpoint]
         requires { step < self.now.steps }
@@ -124,7 +115,7 @@ impl Plan {
         &self.ordered[self.starts[step]..self.starts[step + 1]]
     }
 
-    /// The parts of the message of the breakpoint with this number, from 0; none without one.
+    /// Returns the parts of the message of the breakpoint with this number, from 0; no parts if it has no message.
     pub fn message(&self, number: usize) -> &[Part]
         ensures { plain_parts result.now ≡ parts_at (plain_breakpoints self.now.breakpoints) number }
     {
@@ -139,7 +130,7 @@ impl Plan {
     }
 }
 
-/// Whether two plans have the same breakpoints in the same order. No plan is the empty one.
+/// Whether two plans have the same breakpoints in the same order. `None` is the empty plan.
 pub fn same_plan(left: &Option<Arc<Plan>>, right: &Option<Arc<Plan>>) -> bool
     ensures { Decides result (breakpoints_of (option_map arc_value left.now) ≡ breakpoints_of (option_map arc_value right.now)) }
 {
@@ -147,5 +138,15 @@ pub fn same_plan(left: &Option<Arc<Plan>>, right: &Option<Arc<Plan>>) -> bool
         (None, None) => true,
         (Some(left), Some(right)) => left.same(right),
         (Some(plan), None) | (None, Some(plan)) => plan.is_empty(),
+    }
+}
+
+/// Returns the parts of a breakpoint's message; no parts if it has no message.
+fn parts_of(breakpoint: &Breakpoint) -> &[Part]
+    ensures { plain_parts result.now ≡ option_map_or (λ m. m.parts) (plain_breakpoint breakpoint.now).message [] }
+{
+    match &breakpoint.message {
+        None => &[],
+        Some(message) => message.parts.as_slice(),
     }
 }

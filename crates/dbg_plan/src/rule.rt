@@ -1,33 +1,18 @@
-//! Hit texts.
+//! Reads the rules of hit conditions.
 
 ghost use Rattle.std.specs.Prelude.{◌≡◌, ◌≢◌, ℕ, ◌<◌, ◌^◌, decimal, IfSome, IfNone, IfOk, OnErr};
 ghost use Rattle.dbg_plan.specs.Resolutions.{ReadsRule, HasRule};
 
 use crate::breakpoint::Rule;
 
-/// The greatest number of a rule.
+/// The greatest number of a rule, 2^31 - 1.
 const GREATEST: u32 = 2_147_483_647;
 
-/// A hit text that is no rule.
+/// The fault of a hit condition whose text is no rule.
 #[derive(Drop)]
 pub struct BadHitCondition;
 
-/// The number of a rule that a text writes: decimal, without a sign or a leading zero.
-fn number(text: &str) -> Option<u32>
-    ensures number { IfSome result (λ k. (text.now ≡ decimal k) × (0 < k) × (k < 2 ^ 31)) }
-    ensures none { IfNone result ((k : ℕ) → 0 < k → k < 2 ^ 31 → text.now ≢ decimal k) }
-{
-    // `parse` takes these too.
-    if text.starts_with('0') || text.starts_with('+') {
-        return None;
-    }
-    match text.parse::<u32>() {
-        Ok(k) if k <= GREATEST => Some(k),
-        _ => None,
-    }
-}
-
-/// The rule of a hit text, none where it is empty.
+/// Returns the rule of a hit condition's text; `None` if the text is empty.
 ///
 /// # Errors
 ///
@@ -48,5 +33,20 @@ pub fn read_rule(text: &str) -> Result<Option<Rule>, BadHitCondition>
             Some(k) => Ok(Some(Rule::From(k))),
             None => Err(BadHitCondition),
         },
+    }
+}
+
+/// Returns the number of a rule, from 1 to 2^31 - 1, that a text is in decimal without a sign or a leading zero.
+fn number(text: &str) -> Option<u32>
+    ensures number { IfSome result (λ k. (text.now ≡ decimal k) × (0 < k) × (k < 2 ^ 31)) }
+    ensures none { IfNone result ((k : ℕ) → 0 < k → k < 2 ^ 31 → text.now ≢ decimal k) }
+{
+    // `parse` takes these too.
+    if text.starts_with('0') || text.starts_with('+') {
+        return None;
+    }
+    match text.parse::<u32>() {
+        Ok(k) if k <= GREATEST => Some(k),
+        _ => None,
     }
 }

@@ -1,4 +1,4 @@
-//! How the table of a plan is made.
+//! Makes the tables of a plan.
 
 ghost use Rattle.std.specs.Prelude.{◌≡◌, ℕ, ◌+◌, ◌<◌, ◌≤◌, ◌^◌, length, drop, map, IfOk};
 ghost use Rattle.std.specs.List.{prefix_len};
@@ -10,19 +10,11 @@ use crate::breakpoint::Breakpoint;
 use pl0_tree::StepNumber;
 use std::alloc::{AllocError, Global};
 
-/// Where the breakpoints of a step end that begin at `start`.
-fn end_of(ordered: &[Breakpoint], start: usize, step: StepNumber) -> usize
-    requires { start ≤ length ordered.now }
-    ensures { result ≡ start + prefix_len (is_of step) (drop start ordered.now) }
-{
-    start
-        + ordered[start..]
-            .iter()
-            .take_while(|breakpoint| breakpoint.step == step)
-            .count()
-}
-
-/// Where the breakpoints of each step begin among all in the order of their steps, and where the last end.
+/// Returns where the breakpoints of each step begin in `ordered`, which is in the order of steps, and where the last end.
+///
+/// # Errors
+///
+/// Out of memory.
 pub fn starts_of(
     alloc: Global,
     ordered: &[Breakpoint],
@@ -43,18 +35,23 @@ pub fn starts_of(
     Ok(starts)
 }
 
-/// Whether a step has a breakpoint, if there is a step. One after the last start has none.
-fn is_started(starts: &[usize], step: Option<StepNumber>) -> bool
-    requires { 0 < length starts.now }
-    ensures { result ≡ has_part starts.now step }
+/// Returns where the breakpoints of a step end that begin at `start`.
+fn end_of(ordered: &[Breakpoint], start: usize, step: StepNumber) -> usize
+    requires { start ≤ length ordered.now }
+    ensures { result ≡ start + prefix_len (is_of step) (drop start ordered.now) }
 {
-    match step {
-        None => false,
-        Some(step) => step < starts.len() - 1 && starts[step] < starts[step + 1],
-    }
+    start
+        + ordered[start..]
+            .iter()
+            .take_while(|breakpoint| breakpoint.step == step)
+            .count()
 }
 
-/// For each address, beside which stands the step that begins there, whether that has a breakpoint.
+/// Returns for each address whether the step that begins there has a breakpoint. `lines` says which step that is.
+///
+/// # Errors
+///
+/// Out of memory.
 pub fn watched_of(
     alloc: Global,
     lines: &[Option<StepNumber>],
@@ -68,4 +65,15 @@ pub fn watched_of(
         watched.push(is_started(starts, *line))?;
     }
     Ok(watched)
+}
+
+/// Whether a step has a breakpoint, if there is a step. A step without an entry in `starts` has none.
+fn is_started(starts: &[usize], step: Option<StepNumber>) -> bool
+    requires { 0 < length starts.now }
+    ensures { result ≡ has_part starts.now step }
+{
+    match step {
+        None => false,
+        Some(step) => step < starts.len() - 1 && starts[step] < starts[step + 1],
+    }
 }

@@ -1,4 +1,4 @@
-//! The checkpoints of a run.
+//! Keeps the checkpoints of a run.
 
 ghost use Rattle.std.specs.Prelude.{◌≡◌, ◌*◌, ◌<◌, ◌≤◌, ◌^◌, length, nat_le, option_map, reverse, vec_len, vec_capacity};
 ghost use Rattle.std.specs.List.{find};
@@ -14,49 +14,10 @@ use std::marker::Model;
 /// The most checkpoints that are kept.
 const TRAIL_LIMIT: usize = 64;
 
-/// How far apart the first ones are at least.
+/// How many positions the first checkpoints are apart at least.
 const FIRST_SPACING: u64 = 4096;
 
-/// Gives up those at even places.
-fn thin(checkpoints: &mut Vec<Checkpoint>)
-    ensures thinned { checkpoints.new.items ≡ at_odd_places checkpoints.old.items }
-    ensures capacity { vec_capacity checkpoints.new ≡ vec_capacity checkpoints.old }
-{
-    for place in 0..checkpoints.len() / 2 {
-        let _given_up = checkpoints.remove(place + 1);
-    }
-}
-
-/// Thins checkpoints where as many are kept as may be: how far apart the next ones are to be at least.
-fn make_room(checkpoints: &mut Vec<Checkpoint>, spacing: u64) -> u64
-    requires few { length checkpoints.old.items ≤ trail_limit }
-    requires small { spacing < 2 ^ 63 }
-    ensures trail { trail_at checkpoints.new.items result ≡ with_room (trail_at checkpoints.old.items spacing) }
-    ensures spacing { (spacing ≤ result) × (result ≤ 2 * spacing) }
-    ensures units { (unit : Compiled) → AreOf unit checkpoints.old.items → AreOf unit checkpoints.new.items }
-    ensures ascending { AreAbove 0 (positions checkpoints.old.items) → AreAbove 0 (positions checkpoints.new.items) }
-    ensures room { length checkpoints.new.items < trail_limit }
-    ensures fewer { vec_len checkpoints.new ≤ vec_len checkpoints.old }
-    ensures capacity { vec_capacity checkpoints.new ≡ vec_capacity checkpoints.old }
-{
-    if checkpoints.len() < TRAIL_LIMIT {
-        return spacing;
-    }
-    thin(checkpoints);
-    spacing * 2
-}
-
-/// The last checkpoint at or before a position.
-fn last_until(checkpoints: &[Checkpoint], position: u64) -> Option<&Checkpoint>
-    ensures { option_map (λ c. c.now) result ≡ find (λ c. nat_le c.position position) (reverse checkpoints.now) }
-{
-    checkpoints
-        .iter()
-        .rev()
-        .find(|checkpoint| checkpoint.position() <= position)
-}
-
-/// Checkpoints of a program, by ascending positions, and how far apart the next ones are to be at least.
+/// Checkpoints of a program, by ascending positions, and how many positions the next ones are to be apart at least.
 #[derive(Drop)]
 pub struct Trail {
     checkpoints: Vec<Checkpoint>,
@@ -86,7 +47,7 @@ impl Trail {
     ghost use Rattle.dbg_plan.specs.Trail.{new_trail, greatest, asks, kept_at, floor_of};
     ghost use Rattle.dbg_plan.specs.Kept.{AreOf, trail_of};
 
-    /// No checkpoints. It allocates nothing.
+    /// Returns a trail without checkpoints. It allocates nothing.
     pub fn new(alloc: Global) -> Trail
         ensures trail { trail_of result ≡ new_trail }
         ensures none { result.checkpoints ≡ [] }
@@ -97,7 +58,7 @@ impl Trail {
         }
     }
 
-    /// The last position, or 0.
+    /// Returns the position of the last checkpoint, or 0 if there is none.
     fn last(&self) -> u64
         ensures greatest { result ≡ greatest (trail_of self.now).kept }
         ensures bounded { result ≤ last_position }
@@ -108,14 +69,18 @@ impl Trail {
         }
     }
 
-    /// Whether one is asked for at a position.
+    /// Whether a checkpoint is asked for at a position: the last one is far enough before it.
     fn asks(&self, position: u64) -> bool
         ensures { result ≡ asks (trail_of self.now) position }
     {
         self.last() + self.spacing <= position
     }
 
-    /// Keeps a checkpoint of where the machine stands, if one is asked for there. It fails only where an allocation for that does.
+    /// Keeps a checkpoint of where the machine stands, if one is asked for there.
+    ///
+    /// # Errors
+    ///
+    /// Out of memory; all is as before.
     pub fn keep(&mut self, alloc: Global, machine: &Machine) -> Result<(), AllocError>
         requires { AreOf machine.now.unit self.old.checkpoints }
         ensures kept { MatchResult result (λ _. trail_of self.new ≡ kept_at (trail_of self.old) machine.now.position) (λ _. self.new ≡ self.old) }
@@ -126,7 +91,7 @@ impl Trail {
         if !self.asks(position) {
             return Ok(());
         }
-        // Nothing is given up where an allocation fails.
+        // Taken first, so that no checkpoint is removed if an allocation fails.
         self.checkpoints.reserve(1)?;
         let checkpoint = Checkpoint::take(alloc, machine)?;
         self.spacing = make_room(&mut self.checkpoints, self.spacing);
@@ -136,11 +101,50 @@ impl Trail {
         Ok(())
     }
 
-    /// The last checkpoint at or before a position.
+    /// Returns the last checkpoint at or before a position.
     pub fn floor(&self, position: u64) -> Option<&Checkpoint>
         ensures floor { MatchOption result (floor_of (trail_of self.now).kept position ≡ 0) (λ c. c.now.position ≡ floor_of (trail_of self.now).kept position) }
         ensures unit { (unit : Compiled) → AreOf unit self.now.checkpoints → IfSome result (λ c. c.now.unit ≡ unit) }
     {
         last_until(&self.checkpoints, position)
     }
+}
+
+/// Thins the checkpoints if as many are kept as may be. Returns how far apart the next ones are to be at least.
+fn make_room(checkpoints: &mut Vec<Checkpoint>, spacing: u64) -> u64
+    requires few { length checkpoints.old.items ≤ trail_limit }
+    requires small { spacing < 2 ^ 63 }
+    ensures trail { trail_at checkpoints.new.items result ≡ with_room (trail_at checkpoints.old.items spacing) }
+    ensures spacing { (spacing ≤ result) × (result ≤ 2 * spacing) }
+    ensures units { (unit : Compiled) → AreOf unit checkpoints.old.items → AreOf unit checkpoints.new.items }
+    ensures ascending { AreAbove 0 (positions checkpoints.old.items) → AreAbove 0 (positions checkpoints.new.items) }
+    ensures room { length checkpoints.new.items < trail_limit }
+    ensures fewer { vec_len checkpoints.new ≤ vec_len checkpoints.old }
+    ensures capacity { vec_capacity checkpoints.new ≡ vec_capacity checkpoints.old }
+{
+    if checkpoints.len() < TRAIL_LIMIT {
+        return spacing;
+    }
+    thin(checkpoints);
+    spacing * 2
+}
+
+/// Removes the checkpoints at even places, counted from 1.
+fn thin(checkpoints: &mut Vec<Checkpoint>)
+    ensures thinned { checkpoints.new.items ≡ at_odd_places checkpoints.old.items }
+    ensures capacity { vec_capacity checkpoints.new ≡ vec_capacity checkpoints.old }
+{
+    for place in 0..checkpoints.len() / 2 {
+        let _given_up = checkpoints.remove(place + 1);
+    }
+}
+
+/// Returns the last checkpoint at or before a position.
+fn last_until(checkpoints: &[Checkpoint], position: u64) -> Option<&Checkpoint>
+    ensures { option_map (λ c. c.now) result ≡ find (λ c. nat_le c.position position) (reverse checkpoints.now) }
+{
+    checkpoints
+        .iter()
+        .rev()
+        .find(|checkpoint| checkpoint.position() <= position)
 }

@@ -14,7 +14,7 @@ use Rattle.dbg_runner.specs.Lawful.{RunsAt}
 use Rattle.dbg_runner.specs.Hops.{moved}
 use Rattle.dbg_runner.specs.Retreating.{Retreating}
 
--- The run of d that goes back from position n, and ran `again` steps again, is about this.
+-- What the run of d does that goes back from position n, and has run `again` steps again.
 abbrev pub IsOn : ℕ → Debugged → ℕ → Way → Type 0
 -- all positions up to d's were considered, with counts from 0
 IsOn n d again (Searches found) =
@@ -42,7 +42,7 @@ pub record RanAgain (n again : ℕ) (old : Debugged) (way : Way) (more : ℕ) (n
   pub within : more ≤ again + slice_limit
   pub all : arrival now new.position ≡ None → more ≡ again + slice_limit
 
--- The run is about what leads where going back in this mode leads. Before the first slice it stands where it begins.
+-- What the run does leads where going back in this mode leads. Before the first slice it stands where it begins.
 abbrev pub IsAt : Mode → ℕ → Debugged → ℕ → Option Way → Type 0
 IsAt mode n d again None = (d.position ≡ n) × (again ≡ 0)
 IsAt mode n d again (Some way) = IsOn n d again way × (goal_of (program_of d) d.breakpoints mode n ≡ Some (leads_to n d way))

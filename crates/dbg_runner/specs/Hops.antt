@@ -17,7 +17,8 @@ standing d p = moved d p d.counted_from
 abbrev pub gone_back : Debugged → ℕ → Debugged
 gone_back d to = moved d (floor_of d.trail.kept to) (floor_of d.trail.kept to)
 
--- The debuggee went on to a position up to `limit`, and was due at none in between. The answer says whether it is due there.
+-- The debuggee went on to a position up to `limit`, and was due at none in between. The result says whether it is due
+-- there.
 pub record Hopped (limit : ℕ) (old : Debugged) (result : Bool) (new : Debugged) : Type 0 where
   pub is : new ≡ standing old new.position
   pub considered : IsConsidered new

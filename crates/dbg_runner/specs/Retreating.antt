@@ -16,8 +16,8 @@ use Rattle.dbg_runner.specs.Rooms.{Room, slice_limit}
 use Rattle.dbg_runner.specs.Plain.{Heading}
 use Rattle.dbg_runner.specs.Reported.{text_of}
 
--- A run that goes back in this mode, from position `start`, under a plan that counted from position `counted_from` there. So
--- far it ran `again` steps again, and its debuggee stands at `position`.
+-- A run that goes back in this mode, from position `start`, under a plan that counted from position `counted_from` there.
+-- It has run `again` steps again so far, and its debuggee stands at `position`.
 pub record Retreating : Type 0 where
   pub unit : Compiled
   pub breakpoints : List Breakpoint
@@ -28,7 +28,7 @@ pub record Retreating : Type 0 where
   pub position : ℕ
   pub trail : Trail
 
--- such a run of this debuggee, which begins
+-- the run of this debuggee that begins
 abbrev pub turned : Debugged → Mode → Retreating
 turned d mode =
     record { unit = d.unit; breakpoints = d.breakpoints; counted_from = d.counted_from; mode = mode; start = d.position; again = 0; position = d.position; trail = d.trail }
@@ -62,7 +62,8 @@ pub record IsRoomFor (room : Room) (b : Retreating) : Type 0 where
 abbrev pub further : Retreating → ℕ → ℕ → Retreating
 further b again position = record b { again = again; position = position }
 
--- At most a slice's steps were run again, up to where the run stops, for this reason. Where it doesn't stop, all of them were.
+-- At most a slice's steps were run again, up to where the run stops, for this reason. Where it doesn't stop, all of them
+-- were.
 abbrev pub RanBack : Retreating → Option Reason → Retreating → Type 0
 RanBack old None new = new ≡ further old (old.again + slice_limit) new.position
 RanBack old (Some reason) new =

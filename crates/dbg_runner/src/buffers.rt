@@ -1,10 +1,10 @@
-//! Buffers for what slices write and log.
+//! Keeps the buffers for what slices write and log.
 
 use crate::slicing::SLICE_LIMIT;
 use dbg_plan::Logs;
 use std::alloc::{AllocError, Global};
 
-/// The buffers that no report carries. A slice takes them, and keeps those that it doesn't use for the next one.
+/// The buffers that no report carries. A slice takes them, and puts those that it doesn't use back for the next slice.
 #[derive(Drop)]
 pub struct Buffers {
     numbers: Option<Vec<i64>>,
@@ -16,7 +16,7 @@ impl Buffers {
     ghost use Rattle.dbg_runner.specs.Rooms.{slice_limit};
     ghost use Rattle.dbg_runner.specs.Buffers.{numbers_in, logs_in};
 
-    /// No buffer so far. It takes no memory.
+    /// Returns `Buffers` without a buffer. It allocates nothing.
     pub fn new() -> Buffers {
         Buffers {
             numbers: None,
@@ -24,7 +24,11 @@ impl Buffers {
         }
     }
 
-    /// A buffer for the numbers that a slice can write. It is made where none is kept.
+    /// Takes a buffer for the numbers that a slice can write. It is allocated if none is kept.
+    ///
+    /// # Errors
+    ///
+    /// Out of memory.
     pub(crate) fn take_numbers(&mut self, alloc: Global) -> Result<Vec<i64>, AllocError>
         ensures empty { IfOk result (λ numbers. numbers.items ≡ []) }
         ensures room { IfOk result (λ numbers. slice_limit ≤ vec_capacity numbers) }
@@ -35,7 +39,11 @@ impl Buffers {
         Ok(numbers)
     }
 
-    /// A buffer for logs. It is made where none is kept.
+    /// Takes a buffer for logs. It is allocated if none is kept.
+    ///
+    /// # Errors
+    ///
+    /// Out of memory.
     pub(crate) fn take_logs(&mut self, alloc: Global) -> Result<Logs, AllocError>
         ensures { IfOk result (λ logs. logs ≡ []) }
     {
@@ -48,7 +56,7 @@ impl Buffers {
         }
     }
 
-    /// Keeps a buffer that holds no number, and returns one that does.
+    /// Keeps a buffer that holds no number, and returns `None`; returns a buffer that holds one.
     #[inline]
     pub(crate) fn keep_numbers(&mut self, numbers: Vec<i64>) -> Option<Vec<i64>>
         ensures { numbers_in result ≡ numbers.items }
@@ -60,7 +68,7 @@ impl Buffers {
         Some(numbers)
     }
 
-    /// Keeps a buffer that holds no log, and returns one that does.
+    /// Keeps a buffer that holds no log, and returns `None`; returns a buffer that holds one.
     #[inline]
     pub(crate) fn keep_logs(&mut self, logs: Logs) -> Option<Logs>
         ensures { logs_in result ≡ logs }

@@ -1,4 +1,4 @@
-//! Where runs go.
+//! Whether a run goes on or back.
 
 ghost use Rattle.std.specs.Prelude.{◌≡◌};
 ghost use Rattle.dbg_runner.specs.Plain.{goes_back};

@@ -1,4 +1,4 @@
-//! Histories that take no memory.
+//! Lists for proofs, which take no memory.
 
 ghost use Rattle.std.specs.Prelude.{◌≡◌, List, [], ◌∷◌, ◌++◌};
 ghost use Rattle.std.specs.Borrow.{ftrue};
@@ -20,14 +20,14 @@ impl<T> Model for GhostList<T> {
 unsafe impl<T> Send for GhostList<T> {}
 
 impl<T> GhostList<T> {
-    /// The empty history.
+    /// Returns the empty list.
     pub fn new() -> GhostList<T>
         ensures { result.entries ≡ [] }
     {
         GhostList { of: PhantomData }
     }
 
-    /// This history with one entry more, the value that is shown.
+    /// Returns this list with one more entry at the end, the value of `entry`.
     pub fn and(&self, entry: &T) -> GhostList<T>
         ensures { result.entries ≡ self.now.entries ++ entry.now ∷ [] }
     {

@@ -1,4 +1,4 @@
-//! The steps that a run which goes back runs again.
+//! Takes the steps that a run which goes back runs again.
 
 ghost use Rattle.std.specs.Prelude.{◌≡◌, ◌+◌, ◌-◌, ◌<◌, ◌≤◌, [], is_some, min};
 ghost use Rattle.dbg_plan.specs.Debugged.{program_of, IsConsidered, due_now};
@@ -13,8 +13,8 @@ use crate::outputs::Outputs;
 use dbg_plan::{Advance, Debuggee, Mode};
 use pl0_meaning::meaning_laws;
 
-/// Goes back to the position `to`, or to one before it, and considers where the debuggee then stands: whether a breakpoint is
-/// due there, counted from there.
+/// Goes back to the position `to`, or to one before it, and considers where the debuggee stands then. Returns whether a
+/// breakpoint is due there, with counts from there.
 pub fn go_back(debuggee: &mut Debuggee, outputs: &mut Outputs, to: u64) -> bool
     requires within { to ≤ debuggee.old.position }
     requires considered { IsConsidered debuggee.old }
@@ -30,8 +30,8 @@ pub fn go_back(debuggee: &mut Debuggee, outputs: &mut Outputs, to: u64) -> bool
     due.is_some()
 }
 
-/// Goes on to the next breakpoint or number, and no further than to the position `limit`: whether a breakpoint is due there. The
-/// program runs at the limit.
+/// Goes on to the next breakpoint or number, at most to the position `limit`, where the program still runs. Returns whether
+/// a breakpoint is due there.
 fn hop(debuggee: &mut Debuggee, outputs: &mut Outputs, limit: u64) -> bool
     requires considered { IsConsidered debuggee.old }
     requires within { debuggee.old.position < limit }
@@ -53,7 +53,7 @@ fn hop(debuggee: &mut Debuggee, outputs: &mut Outputs, limit: u64) -> bool
     }
 }
 
-/// Goes on to the position `limit`: the last due position there and before, if there is one. That before is given.
+/// Goes on to the position `limit`. Returns the last due position there or before; `found` is the last one before the call.
 pub fn search(
     debuggee: &mut Debuggee,
     outputs: &mut Outputs,
@@ -79,7 +79,7 @@ pub fn search(
     found
 }
 
-/// Goes on towards the position `to` by at most so many steps: by how many.
+/// Goes on towards the position `to` by at most `most` steps. Returns the number of steps.
 pub fn go_on(debuggee: &mut Debuggee, outputs: &mut Outputs, to: u64, most: u64) -> u64
     requires considered { IsConsidered debuggee.old }
     requires within { debuggee.old.position ≤ to }

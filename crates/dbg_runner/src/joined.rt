@@ -1,4 +1,4 @@
-//! Three ports as one.
+//! Joins three ports to one.
 
 ghost use Rattle.std.specs.Prelude.{◌≡◌, []};
 ghost use Rattle.std.specs.List.{flat_map};
@@ -16,8 +16,8 @@ use crate::report::Report;
 use dbg_plan::Debuggee;
 use std::snapshot::Snapshot;
 
-/// Three ports as one, with a history of what was done at them. Its type keeps that each port's list is what the acts say
-/// of it: the orders taken, the reports sent and handed back, the slices that passed.
+/// Three ports as one, with a history of what was done at them. The type ensures that each port's list is what the history
+/// says of it: the orders taken, the reports sent and handed back, the slices that passed.
 #[derive(Drop)]
 pub struct Joined<O: OrdersIn, S: Reports, G: Gate> {
     orders: O,
@@ -31,7 +31,7 @@ pub struct Joined<O: OrdersIn, S: Reports, G: Gate> {
 }
 
 impl<O: OrdersIn + Drop, S: Reports + Drop, G: Gate + Drop> Joined<O, S, G> {
-    /// Joins three ports at which nothing was done.
+    /// Joins three ports at which nothing was done yet.
     pub fn new(orders: O, reports: S, gate: G) -> Joined<O, S, G>
         requires taken { O.taken orders ≡ [] }
         requires sent { S.sent reports ≡ [] }
@@ -49,7 +49,7 @@ impl<O: OrdersIn + Drop, S: Reports + Drop, G: Gate + Drop> Joined<O, S, G> {
         }
     }
 
-    /// The three ports. What was done at each is what the acts say of it.
+    /// Returns the three ports. What was done at each is what the history says of it.
     pub fn into_ports(self) -> (O, S, G)
         ensures taken { O.taken result.0 ≡ flat_map order_in (acts_of self.acts.entries) }
         ensures sent { S.sent result.1 ≡ flat_map sent_in (acts_of self.acts.entries) }

@@ -1,4 +1,4 @@
-//! What a slice produced.
+//! What a slice wrote and logged.
 
 ghost use Rattle.std.specs.Prelude.{◌≡◌, option_map};
 ghost use Rattle.std.specs.Arc.{arc_value};
@@ -9,8 +9,8 @@ use pl0_unit::Unit;
 use std::marker::Model;
 use std::sync::Arc;
 
-/// What a slice wrote and logged, with shares of the program and the plan. A slice that wrote no number has no buffer of numbers
-/// here, and one that logged nothing none of logs.
+/// What a slice wrote and logged, with shares of the program and the plan. If the slice wrote no number there is no buffer
+/// of numbers, and if it logged nothing there is no buffer of logs.
 #[derive(Drop)]
 pub struct Produced {
     numbers: Option<Vec<i64>>,
@@ -38,7 +38,7 @@ impl Produced {
     ghost use Rattle.std.specs.Prelude.{◌≡◌, option_map};
     ghost use Rattle.dbg_runner.specs.Buffers.{numbers_in, logs_in};
 
-    /// These numbers and logs, of this program under this plan.
+    /// Joins these numbers and logs of a program under a plan.
     #[inline]
     pub fn new(
         numbers: Option<Vec<i64>>,
@@ -56,21 +56,21 @@ impl Produced {
         }
     }
 
-    /// The program.
+    /// Returns the program.
     pub fn unit(&self) -> &Arc<Unit>
         ensures { arc_value result.now ≡ self.now.unit }
     {
         &self.unit
     }
 
-    /// The plan, or none where it is the empty one.
+    /// Returns the plan; `None` if it is the empty one.
     pub fn plan(&self) -> &Option<Arc<Plan>>
         ensures { breakpoints_of (option_map arc_value result.now) ≡ self.now.breakpoints }
     {
         &self.plan
     }
 
-    /// The numbers written, in order.
+    /// Returns the numbers written, in order.
     pub fn numbers(&self) -> &[i64]
         ensures { result.now ≡ self.now.numbers }
     {
@@ -80,7 +80,7 @@ impl Produced {
         }
     }
 
-    /// What was logged last, in order.
+    /// Returns what was logged at the last position, in order.
     pub fn logs(&self) -> &[Log]
         ensures { result.now ≡ self.now.logs }
     {

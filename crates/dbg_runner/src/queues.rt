@@ -1,4 +1,4 @@
-//! The three ports of the runner, each by itself.
+//! The three ports of the runner, one trait for each.
 
 use crate::order::Order;
 use crate::report::Report;
@@ -13,17 +13,17 @@ pub trait OrdersIn {
     /// The orders that were taken, the oldest first.
     ghost taken: { Self → List PlainOrder };
 
-    /// What the port is over, which no call changes.
+    /// What the port stands on, which no call changes.
     ghost Origin: { Type 0 };
 
     ghost origin: { Self → Origin };
 
-    /// Waits for the next order, and takes it.
+    /// Blocks until there is an order, and takes it.
     fn next(&mut self) -> Order
         ensures taken { taken self.new ≡ taken self.old ++ plain_order result ∷ [] }
         ensures origin { origin self.new ≡ origin self.old };
 
-    /// Takes the next order, if one is there.
+    /// Takes the next order, if there is one. It does not block.
     fn poll(&mut self) -> Option<Order>
         ensures taken { taken self.new ≡ taken self.old ++ option_to_list (option_map plain_order result) }
         ensures origin { origin self.new ≡ origin self.old };
@@ -41,12 +41,12 @@ pub trait Reports {
     /// The reports that were handed back, the oldest first.
     ghost handed_back: { Self → List PlainReport };
 
-    /// What the port is over, which no call changes.
+    /// What the port stands on, which no call changes.
     ghost Origin: { Type 0 };
 
     ghost origin: { Self → Origin };
 
-    /// Sends a report, or hands it back.
+    /// Sends a report. A report that can't be sent is returned.
     fn send(&mut self, report: Report) -> Result<(), Report>
         ensures sends { OnOk result (sent self.new ≡ sent self.old ++ plain_report report ∷ []) }
         ensures keeps_refused { OnOk result (handed_back self.new ≡ handed_back self.old) }
@@ -63,7 +63,7 @@ pub trait Gate {
     /// The slices that passed, each by the number of its run and its own, the oldest first.
     ghost passed: { Self → List (ℕ × ℕ) };
 
-    /// Returns when the slice with this number, from 1, of this run may begin.
+    /// Blocks until the slice with this number, from 1, of this run may begin.
     fn pass(&mut self, run: u64, slice: u64)
         ensures { passed self.new ≡ passed self.old ++ (run, slice) ∷ [] };
 }
