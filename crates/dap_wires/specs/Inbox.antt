@@ -51,4 +51,4 @@ abbrev pub received : InboxLog → List Incoming
 received r = map incoming_of r.given.entries
 
 abbrev pub left_queue : InboxLog → QueueId Arrival
-left_queue r = receive_log_queue r.received
+left_queue r = receive_log_queue r.log

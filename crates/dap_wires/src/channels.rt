@@ -50,15 +50,15 @@ pub(crate) fn channel<M: Sent + Drop, R: Wait + Copy + Drop>(
 pub(crate) fn reconcile<M: Sent + Drop, R: Wait + Drop>(
     first: SendEnd<M, R>,
     second: SendEnd<M, R>,
-    received: ReceiveLog<M>,
+    log: ReceiveLog<M>,
 )
-    requires one { (sender_queue second ≡ sender_queue first) × (receive_log_queue received ≡ sender_queue first) }
+    requires one { (sender_queue second ≡ sender_queue first) × (receive_log_queue log ≡ sender_queue first) }
     requires first { (sender_log first).first ≡ true }
     requires second { (sender_log second).second ≡ true }
-    requires receiver { (receive_log received).takes ≡ true }
+    requires receiver { (receive_log log).takes ≡ true }
     ensures { (inside : List M)
-        × ((sender_log first).put_first ≡ of_first M.by_second ((receive_log received).taken ++ inside))
-        × ((sender_log second).put_second ≡ of_second M.by_second ((receive_log received).taken ++ inside)) }
+        × ((sender_log first).put_first ≡ of_first M.by_second ((receive_log log).taken ++ inside))
+        × ((sender_log second).put_second ≡ of_second M.by_second ((receive_log log).taken ++ inside)) }
 {
     let SendEnd {
         sender,
@@ -66,7 +66,7 @@ pub(crate) fn reconcile<M: Sent + Drop, R: Wait + Drop>(
         ..
     } = first;
     let SendEnd { pass: two, .. } = second;
-    let ReceiveLog { mut pass } = received;
+    let ReceiveLog { mut pass } = log;
     sender.absorb::<First>(&mut pass, one);
     sender.absorb::<Second>(&mut pass, two);
     sender.learn_as::<Whole>(&mut pass);

@@ -55,9 +55,9 @@ pub struct EventReceiver<R: Wait + Drop> {
 /// What a session was given by an inbox that it has left.
 #[derive(Drop)]
 pub struct InboxLog {
-    pub(crate) received: ReceiveLog<Arrival>,
+    pub(crate) log: ReceiveLog<Arrival>,
     pub(crate) rest: VecDeque<Report>,
     pub(crate) given: GhostList<Event>,
-    ghost takes: { (receive_log received).takes ≡ true },
-    ghost in_order: { flat_map events_in (receive_log received).taken ≡ given.entries ++ map event.Report rest.items } by { Coded-set (coded_list event_row.the_row.coded) _ _ },
+    ghost takes: { (receive_log log).takes ≡ true },
+    ghost in_order: { flat_map events_in (receive_log log).taken ≡ given.entries ++ map event.Report rest.items } by { Coded-set (coded_list event_row.the_row.coded) _ _ },
 }

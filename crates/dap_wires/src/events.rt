@@ -60,13 +60,13 @@ pub fn inbox<R: Wait + Copy + Drop>(
 pub fn reconcile_inbox<R: Wait + Drop>(
     client: ClientSender<R>,
     reports: ReportSender<R>,
-    received: InboxLog,
+    log: InboxLog,
 )
-    requires one { (report_queue reports ≡ client_queue client) × (left_queue received ≡ client_queue client) }
-    ensures client { Begins (from_client (received received)) (client_events client) }
-    ensures reports { Begins (reports_among (received received)) (sent_reports reports) }
+    requires one { (report_queue reports ≡ client_queue client) × (left_queue log ≡ client_queue client) }
+    ensures client { Begins (from_client (received log)) (client_events client) }
+    ensures reports { Begins (reports_among (received log)) (sent_reports reports) }
 {
-    reconcile(client.end, reports.end, received.received);
+    reconcile(client.end, reports.end, log.log);
 }
 
 impl<R: Wait + Drop> ClientSender<R> {
@@ -178,7 +178,7 @@ impl<R: Wait + Drop> EventReceiver<R> {
             ..
         } = self;
         InboxLog {
-            received: end.leave(),
+            log: end.leave(),
             rest,
             given,
         }

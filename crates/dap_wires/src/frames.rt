@@ -45,12 +45,12 @@ pub fn outbox<R: Wait + Copy + Drop>(
 
 /// When both have ended: where the writer took the end, it took all frames that were put before; else it took the first of
 /// them.
-pub fn reconcile_outbox<R: Wait + Drop>(frames: EndedSender<R>, received: ReceiveLog<WriterMessage>)
-    requires one { (ended_unused_queue frames ≡ ended_queue frames) × (receive_log_queue received ≡ ended_queue frames) }
-    requires received { (receive_log received).takes ≡ true }
-    ensures taken { Begins (messages_received received) (messages_put frames) }
+pub fn reconcile_outbox<R: Wait + Drop>(frames: EndedSender<R>, log: ReceiveLog<WriterMessage>)
+    requires one { (ended_unused_queue frames ≡ ended_queue frames) × (receive_log_queue log ≡ ended_queue frames) }
+    requires receiver { (receive_log log).takes ≡ true }
+    ensures taken { Begins (messages_received log) (messages_put frames) }
 {
-    reconcile(frames.end, frames.unused, received);
+    reconcile(frames.end, frames.unused, log);
 }
 
 impl<R: Wait + Drop> FrameSender<R> {
