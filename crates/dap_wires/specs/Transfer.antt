@@ -4,10 +4,14 @@ use Rattle.std.specs.Io.KnownBytes.{Consumes, IsAtEnd}
 use Rattle.dap_history.specs.Events.{Incoming, Piece, End, ReadFailed, NoMemory, File, Report}
 use Rattle.byte_streams.specs.Streams.{Supply}
 
+-- the most bytes of a piece
+abbrev pub piece_limit : ℕ
+piece_limit = 4096
+
 -- What an input gives with an event: a piece, which is never empty, or its end, or a failure. A report comes from elsewhere, and
 -- an inbox gives no file.
 abbrev pub IsRead : Incoming → Supply → Supply → Type 0
-IsRead (Piece bytes) old later = Consumes old.left later.left bytes × (length bytes ≤ 4096) × (later.failures ≡ old.failures) × (0 < length bytes)
+IsRead (Piece bytes) old later = Consumes old.left later.left bytes × (length bytes ≤ piece_limit) × (later.failures ≡ old.failures) × (0 < length bytes)
 IsRead End old later = Consumes old.left later.left [] × IsAtEnd later.left × (later.failures ≡ old.failures)
 IsRead ReadFailed old later = Consumes old.left later.left [] × (old.failures < later.failures)
 IsRead NoMemory old later = Consumes old.left later.left [] × (later.failures ≡ old.failures)
