@@ -5,7 +5,7 @@ use crate::debugged::{
 };
 use dbg_plan::{Log, Mode, Plan, log_text};
 use dbg_runner::{
-    Buffers, StoppedDebuggee, Joined, Report, Retreat, SliceOutcome, Summary, goes_back, work,
+    Buffers, Joined, Report, Retreat, SliceOutcome, StoppedDebuggee, Summary, goes_back, work,
 };
 use sample_programs::RECURSIVE;
 use std::alloc::Global;

@@ -10,6 +10,7 @@ pub struct OneRun<'a> {
     /// What the run begins with, until it was taken.
     debuggee: Option<StoppedDebuggee>,
     mode: Mode,
+    /// A look, from 1, and the run whose Hold it finds.
     holds: &'a [(u64, u64)],
     /// Looks so far.
     looks: u64,
@@ -77,7 +78,7 @@ impl OrdersIn for OneRun<'_> {
     }
 }
 
-/// Room for some reports. One that memory has no room for is handed back too.
+/// Room for some reports. Where memory runs out, a report is handed back too.
 #[derive(Drop)]
 pub struct Tray {
     pub reports: Vec<Report>,
@@ -188,7 +189,7 @@ pub struct Open {
 impl Open {
     ghost use Rattle.std.specs.Prelude.{◌≡◌, []};
 
-    /// A gate that notes this many slices at most.
+    /// A gate that notes at most this many slices.
     pub fn new(alloc: Global, room: usize) -> Open
         ensures { result.passed.entries ≡ [] }
     {

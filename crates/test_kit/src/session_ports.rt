@@ -6,7 +6,7 @@ use dbg_runner::GhostList;
 use std::alloc::{AllocError, Global};
 use std::cell::Cell;
 
-/// A program's text has at most one byte less.
+/// The most bytes that a loader returns of a file.
 const MOST: usize = 65_537;
 
 /// What came, each with the number of events that were given before it.
@@ -70,7 +70,7 @@ impl<E: Events> Inbox for Incoming<E> {
     }
 }
 
-/// Frames, with room for some. One that memory has no room for is handed back too.
+/// Frames, with room for some. Where memory runs out, a frame is handed back too.
 #[derive(Drop)]
 pub struct Frames<'a> {
     shared: &'a Shared,
@@ -121,7 +121,7 @@ impl Out for Frames<'_> {
     }
 }
 
-/// Where orders go, with room for some: to the runner. One that can't be noted for want of memory is refused as `Gone`.
+/// Where orders go, with room for some: to the runner. Where memory runs out, an order is refused as `Gone`.
 #[derive(Drop)]
 pub struct Pushed<'a> {
     alloc: Global,
@@ -187,7 +187,7 @@ impl Orders for Pushed<'_> {
     }
 }
 
-/// Files in memory, of each the first 65,537 bytes. No other can be read.
+/// Files in memory, cut after 65,537 bytes. No other file can be read.
 #[derive(Drop)]
 pub struct Files<'a> {
     alloc: Global,
