@@ -1,14 +1,26 @@
 //! Sessions over ports in memory.
 
-use crate::fakes::{FramesPut, OneFile, OrdersPushed, Script};
 use crate::rows::{FAULTS, HELLO, INITIALIZE, LAUNCH, ROWS, Row, STARTED, fault_row};
 use crate::transcript::{ANSWERED, frames, input};
-use dap_session::{Closed, Event, SessionFault, drive};
-use dbg_runner::GhostList;
+use dap_session::{Closed, Event, SessionFault};
 use std::alloc::{AllocError, Global};
 use std::collections::VecDeque;
 use std::process::Abort;
 use std::sync::Wait;
+use test_kit::{Events, Files, Room, Shared, run_session};
+
+/// Events, asked for no more than them.
+#[derive(Drop)]
+struct Script<'a, R: Abort> {
+    rt: &'a R,
+    events: VecDeque<Event>,
+}
+
+impl<R: Abort> Events for Script<'_, R> {
+    fn next_event(&mut self) -> Event {
+        self.events.pop_front().expect(self.rt, "an event")
+    }
+}
 
 /// What came of a session.
 #[derive(Drop)]
@@ -25,8 +37,7 @@ struct Outcome {
 struct Ports {
     piece: usize,
     last: Last,
-    frames: usize,
-    orders: usize,
+    room: Room,
 }
 
 #[derive(Clone, Copy)]
@@ -39,8 +50,7 @@ enum Last {
 const AMPLE: Ports = Ports {
     piece: usize::MAX,
     last: Last::End,
-    frames: 100,
-    orders: 100,
+    room: Room::AMPLE,
 };
 
 /// The pieces of an input, and what comes after them.
@@ -64,29 +74,16 @@ fn run<R: Abort + Wait>(
     input: &[u8],
     ports: Ports,
 ) -> Result<Outcome, AllocError> {
-    let mut script = Script {
+    let script = Script {
         rt,
         events: events(alloc, input, ports)?,
-        given: GhostList::new(),
     };
-    let mut out = FramesPut {
-        frames: Vec::new(alloc),
-        room: ports.frames,
-        refused: GhostList::new(),
-    };
-    let mut orders = OrdersPushed {
-        rt,
-        orders: Vec::new(alloc),
-        room: ports.orders,
-        fulls: 0,
-        refusals: 0,
-    };
-    let files = &mut OneFile::new(alloc, b".");
-    let end = drive(rt, alloc, &mut script, files, &mut out, &mut orders);
+    let files = &mut Files::everywhere(alloc, b".");
+    let outcome = run_session(rt, alloc, &Shared::new(), script, files, ports.room);
     Ok(Outcome {
-        end,
-        output: out.frames.as_slice().concat(alloc)?,
-        orders: orders.orders.len(),
+        end: outcome.end,
+        output: outcome.output(alloc)?,
+        orders: outcome.orders.len(),
     })
 }
 
@@ -165,7 +162,13 @@ const STOPS: [Driven; 6] = [
         name: "no room for the order to quit",
         transcript: HELLO,
         tail: "",
-        ports: Ports { orders: 0, ..AMPLE },
+        ports: Ports {
+            room: Room {
+                orders: 0,
+                ..Room::AMPLE
+            },
+            ..AMPLE
+        },
         answered: INITIALIZE,
         end: Err(SessionFault::OrdersFull),
         orders: 0,
@@ -174,7 +177,13 @@ const STOPS: [Driven; 6] = [
         name: "no room for the order to run",
         transcript: STARTED,
         tail: "",
-        ports: Ports { orders: 0, ..AMPLE },
+        ports: Ports {
+            room: Room {
+                orders: 0,
+                ..Room::AMPLE
+            },
+            ..AMPLE
+        },
         answered: LAUNCH,
         end: Err(SessionFault::OrdersFull),
         orders: 0,
@@ -183,7 +192,13 @@ const STOPS: [Driven; 6] = [
         name: "room for the order to run alone",
         transcript: STARTED,
         tail: "",
-        ports: Ports { orders: 1, ..AMPLE },
+        ports: Ports {
+            room: Room {
+                orders: 1,
+                ..Room::AMPLE
+            },
+            ..AMPLE
+        },
         answered: STARTED,
         end: Err(SessionFault::OrdersFull),
         orders: 1,
@@ -192,7 +207,13 @@ const STOPS: [Driven; 6] = [
         name: "room for one frame",
         transcript: HELLO,
         tail: "",
-        ports: Ports { frames: 1, ..AMPLE },
+        ports: Ports {
+            room: Room {
+                frames: 1,
+                ..Room::AMPLE
+            },
+            ..AMPLE
+        },
         answered: INITIALIZE,
         end: Err(SessionFault::WriterGone),
         orders: 2,

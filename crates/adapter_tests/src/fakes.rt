@@ -1,15 +1,10 @@
-//! Ports, loaders, streams and a gate over memory. Their clauses claim no byte that comes or goes: the tests compare them.
-//! `progress` has what streams and gate let each other see, from thread to thread, and so what they can wait for.
+//! Streams and a gate over memory. Their clauses claim no byte that comes or goes: the tests compare them. `progress` has what streams and gate let each other see, from thread to thread, and so what they can wait for.
 
-mod files;
-mod ports;
 mod progress;
 mod streams;
 
 ghost use Rattle.std.specs.Prelude.{◌≡◌, ◌+◌};
 
-pub use files::{OneFile, Unreadable};
-pub use ports::{FramesPut, OrdersPushed, Script};
 pub use progress::{Hold, Progress};
 use std::process::Abort;
 pub use streams::{Cut, Input, Output, SliceGate, Streams};

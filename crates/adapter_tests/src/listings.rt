@@ -1,11 +1,12 @@
 //! Judging a text: its listing byte for byte, its first fault, and each way in which there is neither.
 
-use crate::fakes::{OneFile, Output, Progress, Streams, Unreadable};
+use crate::fakes::{Output, Progress, Streams};
 use adapter::{check, end_of_check};
 use dap_session::Loader;
 use std::alloc::Global;
 use std::process::Abort;
 use std::sync::Wait;
+use test_kit::Files;
 
 pub const LAWFUL: &[u8] = b"var x;\n\nbegin x := 1;\n! x end.\n";
 
@@ -42,7 +43,7 @@ fn is_judged<R: Abort + Wait, L: Loader>(
 fn prints_the_listing(rt: HostRuntime) {
     let alloc = rt.alloc();
     for write_step in [1, usize::MAX] {
-        let file = &mut OneFile::new(alloc, LAWFUL);
+        let file = &mut Files::everywhere(alloc, LAWFUL);
         let streams = Streams {
             write_step,
             ..Streams::WELL
@@ -57,7 +58,7 @@ fn prints_the_listing(rt: HostRuntime) {
 #[test]
 fn names_the_first_fault(rt: HostRuntime) {
     let alloc = rt.alloc();
-    let file = &mut OneFile::new(alloc, b"x := 1.");
+    let file = &mut Files::everywhere(alloc, b"x := 1.");
     let expected: (&[u8], u8, &str) = (b"", 3, "pl0dap: syntax 10 1 1");
     assert!(rt; is_judged(&rt, alloc, file, Streams::WELL, expected));
 }
@@ -65,7 +66,7 @@ fn names_the_first_fault(rt: HostRuntime) {
 #[test]
 fn says_that_a_file_cannot_be_read(rt: HostRuntime) {
     let alloc = rt.alloc();
-    let none = &mut Unreadable::new(alloc);
+    let none = &mut Files::none(alloc);
     let expected: (&[u8], u8, &str) = (b"", 1, "pl0dap: cannot read");
     assert!(rt; is_judged(&rt, alloc, none, Streams::WELL, expected));
 }
@@ -75,7 +76,7 @@ fn says_that_a_file_cannot_be_read(rt: HostRuntime) {
 fn says_that_a_listing_was_cut(rt: HostRuntime) {
     let alloc = rt.alloc();
     for room in 0..LISTING.len() {
-        let file = &mut OneFile::new(alloc, LAWFUL);
+        let file = &mut Files::everywhere(alloc, LAWFUL);
         let streams = Streams {
             room,
             takes_nothing: room % 2 == 1,

@@ -2,6 +2,7 @@
 
 use crate::rows::HELLO;
 use adapter::Served;
+use sample_programs::RECURSIVE;
 
 /// A session that debugs a program, with an input that ends after it.
 #[derive(Clone, Copy)]
@@ -23,26 +24,10 @@ pub const NOTHING: Debugging = Debugging {
 /// Two procedures, one in the other, and three runs to a breakpoint and to the end.
 pub const PROCEDURES: Debugging = Debugging {
     name: "two procedures, one in the other",
-    program: r#"var n;
-procedure p;
-var k;
-procedure q;
-k := k + n;
-begin
-k := n;
-n := n - 1;
-if n > 0 then call p;
-call q;
-! k
-end;
-begin n := 2; call p end.
-"#,
+    program: RECURSIVE,
     transcript: r#"
-> {"seq":1,"type":"request","command":"initialize"}
-< {"body":{"supportsConditionalBreakpoints":true,"supportsConfigurationDoneRequest":true,"supportsHitConditionalBreakpoints":true,"supportsLogPoints":true,"supportsStepBack":true},"command":"initialize","request_seq":1,"seq":1,"success":true,"type":"response"}
-> {"seq":2,"type":"request","command":"launch","arguments":{"program":"p.pl0"}}
-< {"command":"launch","request_seq":2,"seq":2,"success":true,"type":"response"}
-< {"event":"initialized","seq":3,"type":"event"}
+- initialize
+- launch
 > {"seq":3,"type":"request","command":"setBreakpoints","arguments":{"source":{"path":"p.pl0"},"breakpoints":[{"line":5}]}}
 < {"body":{"breakpoints":[{"line":5,"verified":true}]},"command":"setBreakpoints","request_seq":3,"seq":4,"success":true,"type":"response"}
 > {"seq":4,"type":"request","command":"configurationDone"}
@@ -93,13 +78,9 @@ pub const OVERFLOW: Debugging = Debugging {
     name: "a sum too large",
     program: "var x; begin x := 9223372036854775807; x := x + 1 end.",
     transcript: r#"
-> {"seq":1,"type":"request","command":"initialize"}
-< {"body":{"supportsConditionalBreakpoints":true,"supportsConfigurationDoneRequest":true,"supportsHitConditionalBreakpoints":true,"supportsLogPoints":true,"supportsStepBack":true},"command":"initialize","request_seq":1,"seq":1,"success":true,"type":"response"}
-> {"seq":2,"type":"request","command":"launch","arguments":{"program":"p.pl0"}}
-< {"command":"launch","request_seq":2,"seq":2,"success":true,"type":"response"}
-< {"event":"initialized","seq":3,"type":"event"}
-> {"seq":3,"type":"request","command":"configurationDone"}
-< {"command":"configurationDone","request_seq":3,"seq":4,"success":true,"type":"response"}
+- initialize
+- launch
+- start
 < {"body":{"allThreadsStopped":true,"reason":"exception","text":"overflow","threadId":1},"event":"stopped","seq":5,"type":"event"}
 - read
 > {"seq":4,"type":"request","command":"stackTrace","arguments":{"threadId":1}}
@@ -121,13 +102,9 @@ pub const CUT_OFF: Debugging = Debugging {
     name: "the input ends while the program runs",
     program: FOREVER,
     transcript: r#"
-> {"seq":1,"type":"request","command":"initialize"}
-< {"body":{"supportsConditionalBreakpoints":true,"supportsConfigurationDoneRequest":true,"supportsHitConditionalBreakpoints":true,"supportsLogPoints":true,"supportsStepBack":true},"command":"initialize","request_seq":1,"seq":1,"success":true,"type":"response"}
-> {"seq":2,"type":"request","command":"launch","arguments":{"program":"p.pl0"}}
-< {"command":"launch","request_seq":2,"seq":2,"success":true,"type":"response"}
-< {"event":"initialized","seq":3,"type":"event"}
-> {"seq":3,"type":"request","command":"configurationDone"}
-< {"command":"configurationDone","request_seq":3,"seq":4,"success":true,"type":"response"}
+- initialize
+- launch
+- start
 "#,
     end: Served::InputEnded,
 };
@@ -137,13 +114,9 @@ pub const PAUSED: Debugging = Debugging {
     name: "a pause",
     program: FOREVER,
     transcript: r#"
-> {"seq":1,"type":"request","command":"initialize"}
-< {"body":{"supportsConditionalBreakpoints":true,"supportsConfigurationDoneRequest":true,"supportsHitConditionalBreakpoints":true,"supportsLogPoints":true,"supportsStepBack":true},"command":"initialize","request_seq":1,"seq":1,"success":true,"type":"response"}
-> {"seq":2,"type":"request","command":"launch","arguments":{"program":"p.pl0"}}
-< {"command":"launch","request_seq":2,"seq":2,"success":true,"type":"response"}
-< {"event":"initialized","seq":3,"type":"event"}
-> {"seq":3,"type":"request","command":"configurationDone"}
-< {"command":"configurationDone","request_seq":3,"seq":4,"success":true,"type":"response"}
+- initialize
+- launch
+- start
 > {"seq":4,"type":"request","command":"pause","arguments":{"threadId":1}}
 < {"command":"pause","request_seq":4,"seq":5,"success":true,"type":"response"}
 - slice
@@ -158,13 +131,9 @@ pub const BROKEN: Debugging = Debugging {
     name: "a breakpoint while the program runs",
     program: FOREVER,
     transcript: r#"
-> {"seq":1,"type":"request","command":"initialize"}
-< {"body":{"supportsConditionalBreakpoints":true,"supportsConfigurationDoneRequest":true,"supportsHitConditionalBreakpoints":true,"supportsLogPoints":true,"supportsStepBack":true},"command":"initialize","request_seq":1,"seq":1,"success":true,"type":"response"}
-> {"seq":2,"type":"request","command":"launch","arguments":{"program":"p.pl0"}}
-< {"command":"launch","request_seq":2,"seq":2,"success":true,"type":"response"}
-< {"event":"initialized","seq":3,"type":"event"}
-> {"seq":3,"type":"request","command":"configurationDone"}
-< {"command":"configurationDone","request_seq":3,"seq":4,"success":true,"type":"response"}
+- initialize
+- launch
+- start
 > {"seq":4,"type":"request","command":"setBreakpoints","arguments":{"source":{"path":"p.pl0"},"breakpoints":[{"line":1}]}}
 < {"body":{"breakpoints":[{"line":1,"verified":true}]},"command":"setBreakpoints","request_seq":4,"seq":5,"success":true,"type":"response"}
 - slice

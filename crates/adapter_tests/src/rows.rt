@@ -20,44 +20,25 @@ pub struct Row {
 
 /// A first session, without a program.
 pub const HELLO: &str = r#"
-> {"seq":1,"type":"request","command":"initialize"}
-< {"body":{"supportsConditionalBreakpoints":true,"supportsConfigurationDoneRequest":true,"supportsHitConditionalBreakpoints":true,"supportsLogPoints":true,"supportsStepBack":true},"command":"initialize","request_seq":1,"seq":1,"success":true,"type":"response"}
+- initialize
 > {"seq":2,"type":"request","command":"disconnect"}
 < {"command":"disconnect","request_seq":2,"seq":2,"success":true,"type":"response"}
 "#;
 
 /// Its first request and answer.
-pub const INITIALIZE: &str = r#"
-> {"seq":1,"type":"request","command":"initialize"}
-< {"body":{"supportsConditionalBreakpoints":true,"supportsConfigurationDoneRequest":true,"supportsHitConditionalBreakpoints":true,"supportsLogPoints":true,"supportsStepBack":true},"command":"initialize","request_seq":1,"seq":1,"success":true,"type":"response"}
-"#;
+pub const INITIALIZE: &str = "- initialize";
 
 /// A launch.
-pub const LAUNCH: &str = r#"
-> {"seq":1,"type":"request","command":"initialize"}
-< {"body":{"supportsConditionalBreakpoints":true,"supportsConfigurationDoneRequest":true,"supportsHitConditionalBreakpoints":true,"supportsLogPoints":true,"supportsStepBack":true},"command":"initialize","request_seq":1,"seq":1,"success":true,"type":"response"}
-> {"seq":2,"type":"request","command":"launch","arguments":{"program":"p.pl0"}}
-< {"command":"launch","request_seq":2,"seq":2,"success":true,"type":"response"}
-< {"event":"initialized","seq":3,"type":"event"}
-"#;
+pub const LAUNCH: &str = "- initialize\n- launch";
 
 /// The same, and the program begins to run.
-pub const STARTED: &str = r#"
-> {"seq":1,"type":"request","command":"initialize"}
-< {"body":{"supportsConditionalBreakpoints":true,"supportsConfigurationDoneRequest":true,"supportsHitConditionalBreakpoints":true,"supportsLogPoints":true,"supportsStepBack":true},"command":"initialize","request_seq":1,"seq":1,"success":true,"type":"response"}
-> {"seq":2,"type":"request","command":"launch","arguments":{"program":"p.pl0"}}
-< {"command":"launch","request_seq":2,"seq":2,"success":true,"type":"response"}
-< {"event":"initialized","seq":3,"type":"event"}
-> {"seq":3,"type":"request","command":"configurationDone"}
-< {"command":"configurationDone","request_seq":3,"seq":4,"success":true,"type":"response"}
-"#;
+pub const STARTED: &str = "- initialize\n- launch\n- start";
 
 const SKIPPED: &str = r#"
 > {"seq":1}
 > [
 >
-> {"seq":1,"type":"request","command":"initialize"}
-< {"body":{"supportsConditionalBreakpoints":true,"supportsConfigurationDoneRequest":true,"supportsHitConditionalBreakpoints":true,"supportsLogPoints":true,"supportsStepBack":true},"command":"initialize","request_seq":1,"seq":1,"success":true,"type":"response"}
+- initialize
 > {"seq":2,"type":"request","command":"threads"}
 < {"body":{"threads":[{"id":1,"name":"main"}]},"command":"threads","request_seq":2,"seq":2,"success":true,"type":"response"}
 > {"seq":3,"type":"request","command":"disconnect"}

@@ -1,6 +1,6 @@
 //! The program from its arguments to its end, over streams in memory: what it writes, what it says of its end, its status.
 
-use crate::fakes::{Input, OneFile, Output, Progress, Streams, Unreadable};
+use crate::fakes::{Input, Output, Progress, Streams};
 use crate::listings::{LAWFUL, LISTING};
 use crate::rows::{HELLO, INITIALIZE};
 use crate::transcript::{ANSWERED, frames, input};
@@ -11,6 +11,7 @@ use std::alloc::Global;
 use std::process::Abort;
 use std::sync::Wait;
 use std::thread::Threads;
+use test_kit::Files;
 
 /// What a run must come to.
 #[derive(Clone, Copy)]
@@ -62,7 +63,7 @@ For more information, try '--help'.
 #[test]
 fn serves_with_no_arguments(rt: HostRuntime) {
     let alloc = rt.alloc();
-    let files = &mut Unreadable::new(alloc);
+    let files = &mut Files::none(alloc);
     let sent = input(alloc, HELLO, "").expect(&rt, "memory");
     let answered = frames(alloc, HELLO, ANSWERED).expect(&rt, "memory");
     let expected = Expected {
@@ -85,7 +86,7 @@ fn serves_with_no_arguments(rt: HostRuntime) {
 #[test]
 fn says_why_serving_failed(rt: HostRuntime) {
     let alloc = rt.alloc();
-    let files = &mut Unreadable::new(alloc);
+    let files = &mut Files::none(alloc);
     let sent = input(alloc, INITIALIZE, "A b: c\r\n").expect(&rt, "memory");
     let answered = frames(alloc, INITIALIZE, ANSWERED).expect(&rt, "memory");
     let expected = Expected {
@@ -117,7 +118,7 @@ fn says_why_serving_failed(rt: HostRuntime) {
 
 #[test]
 fn prints_the_listing_of_a_file(rt: HostRuntime) {
-    let files = &mut OneFile::new(rt.alloc(), LAWFUL);
+    let files = &mut Files::everywhere(rt.alloc(), LAWFUL);
     let expected = Expected {
         output: LISTING,
         errors: "",
@@ -128,14 +129,14 @@ fn prints_the_listing_of_a_file(rt: HostRuntime) {
 
 #[test]
 fn says_why_there_is_no_listing(rt: HostRuntime) {
-    let files = &mut OneFile::new(rt.alloc(), b"x := 1.");
+    let files = &mut Files::everywhere(rt.alloc(), b"x := 1.");
     let expected = Expected {
         output: b"",
         errors: "pl0dap: syntax 10 1 1\n",
         status: 3,
     };
     assert!(rt; comes_to(&rt, &CHECK, files, b"", Streams::WELL, expected));
-    let none = &mut Unreadable::new(rt.alloc());
+    let none = &mut Files::none(rt.alloc());
     let expected = Expected {
         output: b"",
         errors: "pl0dap: cannot read\n",
@@ -146,7 +147,7 @@ fn says_why_there_is_no_listing(rt: HostRuntime) {
 
 #[test]
 fn prints_help(rt: HostRuntime) {
-    let files = &mut Unreadable::new(rt.alloc());
+    let files = &mut Files::none(rt.alloc());
     let expected = Expected {
         output: HELP.as_bytes(),
         errors: "",
@@ -169,7 +170,7 @@ fn prints_help(rt: HostRuntime) {
 
 #[test]
 fn says_what_it_does_not_understand(rt: HostRuntime) {
-    let files = &mut Unreadable::new(rt.alloc());
+    let files = &mut Files::none(rt.alloc());
     let expected = Expected {
         output: b"",
         errors: NOT_UNDERSTOOD,
@@ -191,7 +192,7 @@ fn ends_so_where_errors_cannot_be_written(rt: HostRuntime) {
     let mut output = Output::new(&rt, alloc, Streams::WELL, &progress);
     let mut errors = Output::new(&rt, alloc, full, &progress);
     let mut input = Input::new(&rt, b"", Streams::WELL, &progress);
-    let files = &mut Unreadable::new(alloc);
+    let files = &mut Files::none(alloc);
     let reason = execute(&rt, &CHECK, files, &mut input, &mut output, &mut errors);
     assert_eq!(rt; reason.status(), 1);
     assert!(rt; output.bytes.is_empty() && errors.bytes.is_empty());

@@ -1,6 +1,6 @@
 //! Whole sessions of the adapter over an input and an output in memory.
 
-use crate::fakes::{Cut, Hold, Input, OneFile, Output, Progress, SliceGate, Streams};
+use crate::fakes::{Cut, Hold, Input, Output, Progress, SliceGate, Streams};
 use crate::rows::{FAULTS, HELLO, INITIALIZE, ROWS, Row, fault_row};
 use crate::transcript::{ANSWERED, SENT, frames, input};
 use adapter::{Reading, ServeFault, Served, Writing, end_of_serve, serve};
@@ -8,6 +8,7 @@ use std::alloc::Global;
 use std::process::Abort;
 use std::sync::Wait;
 use std::thread::Threads;
+use test_kit::Files;
 
 /// What came of a session.
 #[derive(Drop)]
@@ -29,7 +30,7 @@ pub fn run<R: Threads + Wait + Abort + Copy + Drop + Send + Sync>(
     let progress = Progress::new();
     let mut input = Input::new(rt, bytes, streams, &progress);
     let mut output = Output::new(rt, alloc, streams, &progress);
-    let mut files = OneFile::new(alloc, program.as_bytes());
+    let mut files = Files::everywhere(alloc, program.as_bytes());
     let mut gate = SliceGate::new(rt, streams, &progress);
     let end = serve(rt, alloc, &mut input, &mut output, &mut files, &mut gate);
     Outcome {
@@ -184,7 +185,7 @@ fn serves_streams_of_std(rt: HostRuntime) {
         alloc,
         &mut Reading::new(&rt, input.as_slice()),
         &mut Writing::new(&rt, &mut output),
-        &mut OneFile::new(alloc, b""),
+        &mut Files::everywhere(alloc, b""),
         &mut SliceGate::new(&rt, Streams::WELL, &progress),
     );
     assert_eq!(rt; result, Ok(Served::Disconnected));

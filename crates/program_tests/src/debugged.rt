@@ -4,7 +4,7 @@ ghost use Rattle.std.specs.Prelude.{◌≡◌, IsTrue};
 ghost use Rattle.dbg_plan.specs.Debugged.{IsConsidered};
 
 use dbg_plan::{Debuggee, Logs, Mode, Reason, Resolution, SourceBreakpoint, log_text, resolve};
-use dbg_runner::{Buffers, StoppedDebuggee, Outputs, Report, SliceOutcome, slice};
+use dbg_runner::{Buffers, Outputs, Report, SliceOutcome, StoppedDebuggee, slice};
 use pl0_machine::{Machine, StepOutcome};
 use pl0_unit::Unit;
 use sample_programs::compiled;

@@ -6,8 +6,8 @@
 //! `editor`, `steps`, `code` and `runs` have the rows, a stage each, and in `memory` an allocation may fail. Of the debugger
 //! `plans`, `logpoints`, `slices`, `going_back`, `retreats` and `runner` have the rows. On random programs, `beside` runs slices
 //! beside single steps, and `due` counts arrivals anew beside the debuggee. `examples` has the example calls that
-//! stand at the heads of libraries. `machines` and `debugged` make machines and debuggees of texts, and `ports` has what a runner
-//! works over.
+//! stand at the heads of libraries. `machines` and `debugged` make machines and debuggees of texts; `test_kit` has the ports of a
+//! runner.
 #![tactic(auto)]
 
 #[cfg(test)]
@@ -34,8 +34,6 @@ mod machines;
 mod memory;
 #[cfg(test)]
 mod plans;
-#[cfg(test)]
-mod ports;
 #[cfg(test)]
 mod retreats;
 #[cfg(test)]

@@ -3,15 +3,15 @@
 use crate::debugged::{
     BREAKPOINT, ENTRY, LONG_LOOP, LOOP, STEP, begin, begun, log_points_at, onward,
 };
-use crate::ports::{Last, Open, Script};
 use dbg_plan::{Log, Mode, Plan, log_text};
 use dbg_runner::{
-    Buffers, StoppedDebuggee, Joined, Report, Retreat, SliceOutcome, Summary, goes_back, work,
+    Buffers, Joined, Report, Retreat, SliceOutcome, StoppedDebuggee, Summary, goes_back, work,
 };
 use sample_programs::RECURSIVE;
 use std::alloc::Global;
 use std::process::Abort;
 use std::sync::{Arc, Wait};
+use test_kit::{Last, OneRun, Open};
 
 /// The text of the logs of a report, one after the other.
 fn text_of(rt: &impl Abort, alloc: Global, plan: &Option<Arc<Plan>>, logs: &[Log]) -> String {
@@ -178,17 +178,19 @@ fn counts_begin_anew_after_a_stop(rt: HostRuntime) {
     assert_runs(&rt, rt.alloc(), debuggee, runs.as_slice());
 }
 
-/// What a runner makes of an order to run this debuggee: its last report, and how many it sent.
+/// What a runner makes of an order to run this debuggee: its last report, and how many it sent. The first look finds a Hold of
+/// another run.
 fn ordered<R: Abort + Wait>(
     rt: &R,
     alloc: Global,
     debuggee: StoppedDebuggee,
     mode: Mode,
 ) -> (Report, u64) {
+    let holds = [(1, 7)];
     let mut ports = Joined::new(
-        Script::in_mode(debuggee, mode, 0),
+        OneRun::new(debuggee, mode, holds.as_slice()),
         Last::new(),
-        Open::new(rt, alloc),
+        Open::new(alloc, 0),
     );
     work(rt, alloc, &mut ports);
     let (_, last, _) = ports.into_ports();

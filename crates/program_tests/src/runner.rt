@@ -1,15 +1,15 @@
 //! What a runner makes of orders: where its reports end and how, and which slices pass its gate.
 
 use crate::debugged::{FOREVER, begin};
-use crate::ports::{Open, Script, Tray};
 use dbg_plan::Mode;
 use dbg_runner::{Joined, Report, SliceOutcome, work};
 use std::alloc::Global;
 use std::process::Abort;
 use std::sync::Wait;
+use test_kit::{OneRun, Open, Tray};
 
 /// What a runner makes of orders to run a program that never ends and to hold it at a look: where its reports end and how,
-/// and which slices pass the gate.
+/// and which slices pass the gate. The first look finds a Hold of another run.
 fn assert_worked<R: Abort + Wait>(
     rt: &R,
     alloc: Global,
@@ -19,10 +19,11 @@ fn assert_worked<R: Abort + Wait>(
     passed: &[(u64, u64)],
 ) {
     let (debuggee, _) = begin(rt, alloc, FOREVER, [].as_slice(), Mode::Continue);
+    let holds = [(held_at, 1), (1, 7)];
     let mut ports = Joined::new(
-        Script::new(debuggee, held_at),
-        Tray::new(rt, alloc, room),
-        Open::new(rt, alloc),
+        OneRun::new(debuggee, Mode::Continue, holds.as_slice()),
+        Tray::new(alloc, room),
+        Open::new(alloc, usize::MAX),
     );
     work(rt, alloc, &mut ports);
     let (_, tray, gate) = ports.into_ports();

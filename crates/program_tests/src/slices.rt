@@ -5,7 +5,7 @@ ghost use Rattle.dbg_runner.specs.Plain.{goes_back};
 
 use crate::debugged::{BREAKPOINT, FOREVER, LOOP, Line, STEP, begin, begun};
 use dbg_plan::{Mode, Reason, SourceBreakpoint};
-use dbg_runner::{Buffers, StoppedDebuggee, Outputs, SliceOutcome, goes_back, next_report, slice};
+use dbg_runner::{Buffers, Outputs, SliceOutcome, StoppedDebuggee, goes_back, next_report, slice};
 use pl0_meaning::RunFault;
 use sample_programs::RECURSIVE;
 use std::alloc::Global;

@@ -2,19 +2,18 @@
 //! never installed.
 //!
 //! `rows` has the sessions, as transcripts. `transcript` says how to read one, `verbs` which lines stand for others that many
-//! sessions share, `expected` which contents its lines stand for, `ports` what a session runs over, `runner` and `reports` where the reports of the program come from.
+//! sessions share, `expected` which contents its lines stand for. `client` has the events, `reports` the reports that no run
+//! gives; `test_kit` has the ports.
 #![tactic(auto)]
 
 #[cfg(test)]
-mod expected;
+mod client;
 #[cfg(test)]
-mod ports;
+mod expected;
 #[cfg(test)]
 mod reports;
 #[cfg(test)]
 mod rows;
-#[cfg(test)]
-mod runner;
 #[cfg(test)]
 mod text;
 #[cfg(test)]

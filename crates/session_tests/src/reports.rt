@@ -64,7 +64,13 @@ fn asked(rt: &impl Abort, alloc: Global, lines: &str) -> Vec<SourceBreakpoint> {
 }
 
 /// A program under breakpoints that count from position 0, where this position was considered.
-fn debuggee_at(rt: &impl Abort, alloc: Global, text: &str, lines: &str, start: u64) -> StoppedDebuggee {
+fn debuggee_at(
+    rt: &impl Abort,
+    alloc: Global,
+    text: &str,
+    lines: &str,
+    start: u64,
+) -> StoppedDebuggee {
     let tree = parse(alloc, text.as_bytes()).expect(rt, "a lawful text");
     let unit = Arc::new(alloc, compile(alloc, tree).expect(rt, "memory")).expect(rt, "memory");
     let machine = Machine::new(alloc, unit).expect(rt, "memory");

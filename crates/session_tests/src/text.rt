@@ -80,12 +80,3 @@ pub fn unescaped(rt: &impl Abort, alloc: Global, text: &str) -> Vec<u8> {
     }
     bytes
 }
-
-/// A frame of this content.
-pub fn framed(rt: &impl Abort, alloc: Global, content: &[u8]) -> Vec<u8> {
-    let length = content.len();
-    let header = format!(in alloc; "Content-Length: {length}\r\n\r\n").expect(rt, "memory");
-    let mut frame = Vec::from_slice(alloc, header.as_bytes()).expect(rt, "memory");
-    frame.extend_from_slice(content).expect(rt, "memory");
-    frame
-}

@@ -14,15 +14,15 @@
 //! What comes of an event are messages, as `4: ok configurationDone/3` (`expected`), and orders, as `! Go 1`. The last line, as
 //! `= InputEnded`, says how the session ended.
 
+use crate::client::Client;
 use crate::expected::content;
-use crate::ports::{Client, Files, Noted, Pushed, Sent};
-use crate::text::{expanded, framed};
+use crate::text::expanded;
 use crate::verbs::spelled_out;
-use dap_session::{Closed, SessionFault, drive};
+use dap_session::{Closed, SessionFault};
 use std::alloc::{AllocError, Global};
-use std::cell::Cell;
 use std::process::Abort;
 use std::sync::Wait;
+use test_kit::{Files, Outcome, Room, Shared, framed, run_session};
 
 /// The text of the program.
 fn program_of(rt: &impl Abort, alloc: Global, session: &str) -> String {
@@ -71,35 +71,21 @@ fn events_of<'a>(rt: &impl Abort, alloc: Global, transcript: &'a str) -> Vec<&'a
     events
 }
 
-/// What came of a session, each message and order with the number of events that were given before it.
-#[derive(Drop)]
-struct Came {
-    messages: Noted<Vec<u8>>,
-    orders: Noted<String>,
-    end: Result<Closed, SessionFault>,
-    given: usize,
-}
-
-/// Runs a session with the client's bytes in pieces of this size at most.
+/// Runs a session with the client's bytes in pieces of this size at most: what came of it, and how many events were given.
+/// `p.pl0` is the program, and `dot.pl0` the smallest one; no other can be read.
 fn run<R: Abort + Wait>(
     rt: &R,
     alloc: Global,
     program: &str,
     events: &[&str],
     piece: usize,
-) -> Came {
-    let (given, running) = (Cell::new(0), Cell::new(None));
-    let mut client = Client::new(rt, alloc, program, events, piece, &given, &running);
-    let mut files = Files::new(rt, alloc, program);
-    let mut sent = Sent::new(rt, alloc, &given);
-    let mut pushed = Pushed::new(rt, alloc, &given, &running);
-    let end = drive(rt, alloc, &mut client, &mut files, &mut sent, &mut pushed);
-    Came {
-        messages: sent.noted,
-        orders: pushed.noted,
-        end,
-        given: given.get(),
-    }
+) -> (Outcome, usize) {
+    let shared = Shared::new();
+    let client = Client::new(rt, alloc, program, events, piece, &shared);
+    let named = [("p.pl0", program.as_bytes()), ("dot.pl0", b".".as_slice())];
+    let mut files = Files::named(alloc, named.as_slice());
+    let outcome = run_session(rt, alloc, &shared, client, &mut files, Room::AMPLE);
+    (outcome, shared.given.get())
 }
 
 /// The last line of a transcript.
@@ -124,13 +110,13 @@ fn assert_message(
     alloc: Global,
     name: &str,
     line: &str,
-    came: &Came,
+    came: &Outcome,
     at: Compared,
 ) {
     let content = content(rt, alloc, line);
-    let frame = framed(rt, alloc, content.as_bytes());
+    let frame = framed(alloc, content.as_bytes()).expect(rt, "memory");
     let frame = std::str::from_utf8(frame.as_slice());
-    let message = came.messages.get(at.messages);
+    let message = came.frames.get(at.messages);
     let message = message.map(|noted| (noted.0, std::str::from_utf8(noted.1.as_slice())));
     assert_eq!(rt; message, Some((at.events, frame)), "{name}: {line}");
 }
@@ -141,7 +127,7 @@ fn assert_line(
     alloc: Global,
     name: &str,
     line: &str,
-    came: &Came,
+    came: &Outcome,
     at: &mut Compared,
 ) {
     if is_event(line) {
@@ -171,7 +157,7 @@ pub fn assert_session<R: Abort + Wait>(rt: &R, alloc: Global, session: &str, pie
     let transcript = transcript_of(rt, alloc, session.as_str());
     let transcript = expanded(rt, alloc, transcript.as_str());
     let events = events_of(rt, alloc, transcript.as_str());
-    let came = run(rt, alloc, program.as_str(), events.as_slice(), piece);
+    let (came, given) = run(rt, alloc, program.as_str(), events.as_slice(), piece);
     let mut at = Compared {
         events: 0,
         messages: 0,
@@ -183,8 +169,8 @@ pub fn assert_session<R: Abort + Wait>(rt: &R, alloc: Global, session: &str, pie
             assert_line(rt, alloc, name, line, &came, &mut at);
         }
     }
-    assert_eq!(rt; came.given, at.events, "{name}: events");
-    assert_eq!(rt; came.messages.len(), at.messages, "{name}: messages");
+    assert_eq!(rt; given, at.events, "{name}: events");
+    assert_eq!(rt; came.frames.len(), at.messages, "{name}: messages");
     assert_eq!(rt; came.orders.len(), at.orders, "{name}: orders");
     assert_eq!(rt; at.ends, 1, "{name}: ends");
 }

@@ -11,24 +11,9 @@
 //! - `ended` stands for the end of the input, which closes the session.
 
 use crate::text::in_two;
+use sample_programs::RECURSIVE;
 use std::alloc::{AllocError, Global};
 use std::process::Abort;
-
-const TWO_PROCEDURES: &str = "| var n;
-| procedure p;
-| var k;
-| procedure q;
-| k := k + n;
-| begin
-| k := n;
-| n := n - 1;
-| if n > 0 then call p;
-| call q;
-| ! k
-| end;
-| begin n := 2; call p end.
-| 
-";
 
 const LAUNCHED: &str = r#"> initialize
 1: ok initialize/1
@@ -75,13 +60,24 @@ pub fn spelled_out(rt: &impl Abort, alloc: Global, session: &str) -> String {
 /// The lines that a line stands for.
 fn lines_of(alloc: Global, line: &str) -> Result<String, AllocError> {
     match line {
-        "two procedures" => String::from_str(alloc, TWO_PROCEDURES),
+        "two procedures" => text_lines(alloc, RECURSIVE),
         "launched" => String::from_str(alloc, LAUNCHED),
         "entered" => String::from_str(alloc, ENTERED),
         "launched again" => String::from_str(alloc, LAUNCHED_AGAIN),
         "ended" => String::from_str(alloc, ENDED),
         _ => with_words(alloc, line),
     }
+}
+
+/// The lines of a transcript that give a program this text.
+fn text_lines(alloc: Global, text: &str) -> Result<String, AllocError> {
+    let mut lines = String::new(alloc);
+    for line in text.split('\n') {
+        lines.push_str("| ")?;
+        lines.push_str(line)?;
+        lines.push_str("\n")?;
+    }
+    Ok(lines)
 }
 
 /// The lines that a line stands for whose first word says of what kind it is.

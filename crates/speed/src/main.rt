@@ -8,7 +8,6 @@
 #![tactic(auto)]
 
 mod machine;
-mod memory;
 mod session;
 mod slices;
 mod worker;

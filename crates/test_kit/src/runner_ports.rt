@@ -1,51 +1,54 @@
-//! Ports over memory: a script of orders, a tray with room for some reports, and a gate that is open.
+//! The ports of a runner that works, in memory.
 
 use dbg_plan::Mode;
-use dbg_runner::{StoppedDebuggee, Gate, GhostList, Order, OrdersIn, Report, Reports};
+use dbg_runner::{Gate, GhostList, Order, OrdersIn, Report, Reports, StoppedDebuggee};
 use std::alloc::Global;
-use std::process::Abort;
 
-/// Orders that come while a run goes on: the first look finds a Hold of another run, and a later one that of run 1.
+/// An order to run a debuggee as run 1, and then Quit. While it runs, a look for an order finds at most a Hold.
 #[derive(Drop)]
-pub struct Script {
-    /// What run 1 begins with, until it was taken; then comes Quit.
+pub struct OneRun<'a> {
+    /// What the run begins with, until it was taken.
     debuggee: Option<StoppedDebuggee>,
+    mode: Mode,
+    /// A look, from 1, and the run whose Hold it finds.
+    holds: &'a [(u64, u64)],
     /// Looks so far.
     looks: u64,
-    /// The look that finds a Hold of run 1.
-    held_at: u64,
-    mode: Mode,
     taken: GhostList<Order>,
 }
 
-impl Script {
+impl<'a> OneRun<'a> {
     ghost use Rattle.std.specs.Prelude.{◌≡◌, []};
 
-    pub fn new(debuggee: StoppedDebuggee, held_at: u64) -> Script
+    /// A run in this mode. Each of `holds` is a look, from 1, and the run whose Hold it finds.
+    pub fn new(debuggee: StoppedDebuggee, mode: Mode, holds: &'a [(u64, u64)]) -> OneRun<'a>
         ensures { result.taken.entries ≡ [] }
     {
-        Script::in_mode(debuggee, Mode::Continue, held_at)
-    }
-
-    /// The same for a run in this mode.
-    pub fn in_mode(debuggee: StoppedDebuggee, mode: Mode, held_at: u64) -> Script
-        ensures { result.taken.entries ≡ [] }
-    {
-        Script {
+        OneRun {
             debuggee: Some(debuggee),
-            looks: 0,
-            held_at,
             mode,
+            holds,
+            looks: 0,
             taken: GhostList::new(),
         }
     }
+
+    /// The run whose Hold a look finds.
+    fn held_at(&self, look: u64) -> Option<u64> {
+        for (at, run) in self.holds {
+            if *at == look {
+                return Some(*run);
+            }
+        }
+        None
+    }
 }
 
-impl OrdersIn for Script {
+impl OrdersIn for OneRun<'_> {
     ghost use Rattle.std.specs.Prelude.{ℕ, map};
     ghost use Rattle.dbg_runner.specs.Orders.{plain_order};
 
-    ghost taken = { λ script. map plain_order script.taken.entries };
+    ghost taken = { λ orders. map plain_order orders.taken.entries };
 
     ghost Origin = { ℕ };
 
@@ -66,37 +69,32 @@ impl OrdersIn for Script {
 
     fn poll(&mut self) -> Option<Order> {
         self.looks = self.looks.saturating_add(1);
-        let order = if self.looks == self.held_at {
-            Order::Hold { run: 1 }
-        } else if self.looks == 1 {
-            Order::Hold { run: 7 }
-        } else {
+        let Some(run) = self.held_at(self.looks) else {
             return None;
         };
+        let order = Order::Hold { run };
         self.taken = self.taken.and(&order);
         Some(order)
     }
 }
 
-/// Room for some reports.
+/// Room for some reports. Where memory runs out, a report is handed back too.
 #[derive(Drop)]
-pub struct Tray<'a, R: Abort> {
-    rt: &'a R,
+pub struct Tray {
     pub reports: Vec<Report>,
     room: usize,
     sent: GhostList<Report>,
     handed_back: GhostList<Report>,
 }
 
-impl<'a, R: Abort> Tray<'a, R> {
+impl Tray {
     ghost use Rattle.std.specs.Prelude.{◌≡◌, []};
 
-    pub fn new(rt: &'a R, alloc: Global, room: usize) -> Tray<'a, R>
+    pub fn new(alloc: Global, room: usize) -> Tray
         ensures sent { result.sent.entries ≡ [] }
         ensures handed_back { result.handed_back.entries ≡ [] }
     {
         Tray {
-            rt,
             reports: Vec::new(alloc),
             room,
             sent: GhostList::new(),
@@ -105,7 +103,7 @@ impl<'a, R: Abort> Tray<'a, R> {
     }
 }
 
-impl<R: Abort> Reports for Tray<'_, R> {
+impl Reports for Tray {
     ghost use Rattle.std.specs.Prelude.{ℕ, map};
     ghost use Rattle.dbg_runner.specs.Reported.{plain_report};
 
@@ -122,42 +120,17 @@ impl<R: Abort> Reports for Tray<'_, R> {
             self.handed_back = self.handed_back.and(&report);
             return Err(report);
         }
-        self.sent = self.sent.and(&report);
-        if self.reports.push(report).is_err() {
-            panic!(self.rt; "memory");
+        let sent = self.sent.and(&report);
+        match self.reports.push(report) {
+            Ok(()) => {
+                self.sent = sent;
+                Ok(())
+            }
+            Err(failed) => {
+                self.handed_back = self.handed_back.and(&failed.value);
+                Err(failed.value)
+            }
         }
-        Ok(())
-    }
-}
-
-/// A gate that is open, and the slices that passed it.
-#[derive(Drop)]
-pub struct Open<'a, R: Abort> {
-    rt: &'a R,
-    pub slices: Vec<(u64, u64)>,
-    passed: GhostList<(u64, u64)>,
-}
-
-impl<'a, R: Abort> Open<'a, R> {
-    ghost use Rattle.std.specs.Prelude.{◌≡◌, []};
-
-    pub fn new(rt: &'a R, alloc: Global) -> Open<'a, R>
-        ensures { result.passed.entries ≡ [] }
-    {
-        Open {
-            rt,
-            slices: Vec::new(alloc),
-            passed: GhostList::new(),
-        }
-    }
-}
-
-impl<R: Abort> Gate for Open<'_, R> {
-    ghost passed = { λ gate. gate.passed.entries };
-
-    fn pass(&mut self, run: u64, slice: u64) {
-        self.passed = self.passed.and(&(run, slice));
-        self.slices.push((run, slice)).expect(self.rt, "memory");
     }
 }
 
@@ -172,6 +145,7 @@ pub struct Last {
 impl Last {
     ghost use Rattle.std.specs.Prelude.{◌≡◌, []};
 
+    /// No report yet.
     pub fn new() -> Last
         ensures { result.sent.entries ≡ [] }
     {
@@ -200,5 +174,40 @@ impl Reports for Last {
         self.report = Some(report);
         self.count = self.count.saturating_add(1);
         Ok(())
+    }
+}
+
+/// A gate that is open.
+#[derive(Drop)]
+pub struct Open {
+    /// The first slices that passed, each by the number of its run and its own.
+    pub slices: Vec<(u64, u64)>,
+    room: usize,
+    passed: GhostList<(u64, u64)>,
+}
+
+impl Open {
+    ghost use Rattle.std.specs.Prelude.{◌≡◌, []};
+
+    /// A gate that notes at most this many slices.
+    pub fn new(alloc: Global, room: usize) -> Open
+        ensures { result.passed.entries ≡ [] }
+    {
+        Open {
+            slices: Vec::new(alloc),
+            room,
+            passed: GhostList::new(),
+        }
+    }
+}
+
+impl Gate for Open {
+    ghost passed = { λ gate. gate.passed.entries };
+
+    fn pass(&mut self, run: u64, slice: u64) {
+        self.passed = self.passed.and(&(run, slice));
+        if self.slices.len() < self.room {
+            let _ = self.slices.push((run, slice));
+        }
     }
 }

@@ -1,12 +1,12 @@
-//! The runner, in the thread of the session: one slice at a time, when a transcript asks for it.
+//! The runner in the thread of its caller: one slice at a time, when a report is asked for.
 
 ghost use Rattle.std.specs.Prelude.{◌≡◌, false};
 ghost use Rattle.dbg_runner.specs.Plain.{goes_back};
 
-use dap_session::{Order, Report};
 use dbg_plan::Mode;
-use dbg_runner::{Buffers, StoppedDebuggee, Retreat, next_report};
+use dbg_runner::{Buffers, Order, Report, Retreat, StoppedDebuggee, next_report};
 use std::alloc::Global;
+use std::cell::Cell;
 
 /// A run that goes on.
 #[derive(Drop)]
@@ -25,16 +25,52 @@ enum Course {
 
 /// A run that is on.
 #[derive(Drop)]
-pub struct Running {
+struct Running {
     run: u64,
     course: Course,
     begun: bool,
     held: bool,
 }
 
+/// A runner in one thread. Orders and reports go through `&self`, so that all ports of a session can share it.
+#[derive(Drop)]
+pub struct Runner {
+    running: Cell<Option<Running>>,
+}
+
+impl Runner {
+    /// A runner with no run.
+    pub fn new() -> Runner {
+        Runner {
+            running: Cell::new(None),
+        }
+    }
+
+    /// Obeys an order: a Go begins a run in the place of any other, a Hold of the run that is on holds it after its first
+    /// slice, and Quit ends it.
+    pub fn obey(&self, order: Order) {
+        let running = self.running.replace(None);
+        self.running.set(obey(running, order));
+    }
+
+    /// Runs the next slice of the run that is on: its report, or `None` where no run is on.
+    pub fn next_report(&self, alloc: Global) -> Option<Report> {
+        let running = self.running.replace(None)?;
+        let (report, running) = report_next(alloc, running);
+        self.running.set(running);
+        Some(report)
+    }
+
+    /// Ends the run that is on by the report that there is no memory for its next slice. `None` where no run is on, or one
+    /// that goes back.
+    pub fn report_no_memory(&self) -> Option<Report> {
+        report_no_memory(self.running.replace(None)?)
+    }
+}
+
 /// The next report of a run, and the run if it goes on. A run is held after a slice, and never before its first; one that
 /// goes back is never held.
-pub fn report_next(alloc: Global, running: Running) -> (Report, Option<Running>) {
+fn report_next(alloc: Global, running: Running) -> (Report, Option<Running>) {
     let Running {
         run,
         course,
@@ -81,7 +117,7 @@ pub fn report_next(alloc: Global, running: Running) -> (Report, Option<Running>)
 }
 
 /// The report of a run that goes on, for which there is no memory.
-pub fn report_no_memory(running: Running) -> Option<Report> {
+fn report_no_memory(running: Running) -> Option<Report> {
     let Running { run, course, .. } = running;
     match course {
         Course::On(Onward { debuggee, mode }) => {
@@ -105,7 +141,7 @@ fn course_of(debuggee: StoppedDebuggee, mode: Mode) -> Course {
 }
 
 /// The run that is on after an order.
-pub fn obey(running: Option<Running>, order: Order) -> Option<Running> {
+fn obey(running: Option<Running>, order: Order) -> Option<Running> {
     match order {
         Order::Go {
             run,
