@@ -1,9 +1,9 @@
--- Frames on a stream, by the base protocol of the Debug Adapter Protocol, however the stream was cut into pieces.
+-- Defines the frames of a stream, by the base protocol of the Debug Adapter Protocol, however it was cut into pieces.
 use Rattle.std.specs.Prelude.{◌≡◌, ℕ, List, [], ◌∷◌, ◌++◌, length, codes, decimal}
 use Rattle.dap_frame.specs.Header.{line_end, IsHeader, FaultAt}
 use Rattle.dap_frame.specs.declared.fault.FramingFault.{FramingFault}
 
--- a whole frame stands in front: a lawful header part, and a content as long as that says
+-- a whole frame stands at the front: a lawful header part, and a content of the length that the header part gives
 pub record IsFrameInFront (bytes content rest : List ℕ) : Type 0 where
   pub header : List ℕ
   pub lawful : IsHeader header (length content)
@@ -14,11 +14,11 @@ abbrev pub Frames : List ℕ → List (List ℕ) → List ℕ → Type 0
 Frames bytes [] rest = bytes ≡ rest
 Frames bytes (content ∷ contents) rest = (more : List ℕ) × IsFrameInFront bytes content more × Frames more contents rest
 
--- neither a whole frame nor a fault stands in front
+-- neither a whole frame nor a fault stands at the front
 pub record IsOpen (bytes : List ℕ) : Type 0 where
   pub no_frame : (content rest : List ℕ) → ¬ IsFrameInFront bytes content rest
   pub no_fault : (fault : FramingFault) → ¬ FaultAt bytes fault
 
--- what is written for a content: the one field `Content-Length`
+-- the frame that is written for a content: the field `Content-Length` alone, the empty line and the content
 abbrev pub frame_of : List ℕ → List ℕ
 frame_of content = codes "Content-Length: " ++ (decimal (length content) ++ (line_end ++ (line_end ++ content)))

@@ -1,6 +1,6 @@
--- The header part of a frame, by the base protocol of the Debug Adapter Protocol: fields `name: value`, each a line ended
--- by CR LF, and then an empty line. What that protocol leaves open is this project's own profile: which bytes a name and
--- a value have, how a length is written, that it stands exactly once, both limits, and the faults.
+-- Defines the header part of a frame, by the base protocol of the Debug Adapter Protocol: fields `name: value`, each a
+-- line ended by CR LF, and then an empty line. What the protocol leaves open is this project's own profile: which bytes a
+-- name and a value may have, how a length is written, that it stands exactly once, both limits, and the faults.
 use Rattle.std.specs.Prelude.{◌≡◌, ◌≢◌, ◌⊎◌, ◌&&◌, ◌||◌, ◌==◌, ℕ, ◌<◌, ◌≤◌, ◌^◌, Bool, true, nat_le, List, [], ◌∷◌, ◌++◌, length, take, filter, flat_map, map, codes, decimal, IsTrue}
 use Rattle.std.specs.List.{list_all, AllByRecursion}
 use Rattle.std.specs.Str.{bytes_eq}
@@ -11,11 +11,11 @@ use Rattle.dap_frame.specs.declared.fault.FramingFault.TheVariants.{HeaderTooLon
 abbrev pub line_end : List ℕ
 line_end = 13 ∷ 10 ∷ []
 
--- profile: the largest header part, with its empty line
+-- profile: the most bytes of a header part, its empty line included
 abbrev pub header_limit : ℕ
 header_limit = 1024
 
--- profile: the largest content
+-- profile: the most bytes of a content
 abbrev pub content_limit : ℕ
 content_limit = 1048576
 
@@ -23,7 +23,7 @@ content_limit = 1048576
 abbrev pub is_name_byte : ℕ → Bool
 is_name_byte x = (nat_le 97 x && nat_le x 122) || ((nat_le 65 x && nat_le x 90) || ((nat_le 48 x && nat_le x 57) || x == 45))
 
--- profile: a printable ASCII character, the space among them
+-- profile: a printable ASCII character, the space included
 abbrev pub is_value_byte : ℕ → Bool
 is_value_byte x = nat_le 32 x && nat_le x 126
 
@@ -42,7 +42,7 @@ pub record IsField (field : Field) : Type 0 where
 abbrev pub field_text : Field → List ℕ
 field_text field = field.name ++ (58 ∷ 32 ∷ field.value)
 
--- a line: its text, and CR LF
+-- a line: its text and CR LF
 abbrev pub line_of : List ℕ → List ℕ
 line_of text = text ++ line_end
 
@@ -50,7 +50,7 @@ line_of text = text ++ line_end
 abbrev pub lines_of : List Field → List ℕ
 lines_of fields = flat_map (λ field. line_of (field_text field)) fields
 
--- whether the field is the one that counts, in this spelling alone
+-- whether the field gives the length, by its name in exactly this spelling
 abbrev pub is_length : Field → Bool
 is_length field = bytes_eq field.name (codes "Content-Length")
 
@@ -62,7 +62,7 @@ length_values fields = map (λ field. field.value) (filter is_length fields)
 abbrev pub IsLength : List ℕ → ℕ → Type 0
 IsLength value n = (value ≡ decimal n) × (n < 10 ^ 7)
 
--- the bytes are a lawful header part that names the length n
+-- the bytes are a lawful header part that gives the length n
 pub record IsHeader (header : List ℕ) (n : ℕ) : Type 0 where
   pub fields : List Field
   pub shaped : AllByRecursion IsField fields
@@ -71,7 +71,7 @@ pub record IsHeader (header : List ℕ) (n : ℕ) : Type 0 where
   pub allowed : n ≤ content_limit
   pub short : length header ≤ header_limit
 
--- ---- faults, all of them profile: lines are judged in order as they complete, and the first faulty one gives the fault
+-- ---- faults, all profile: lines are judged in order as they become complete, and the first faulty one is the fault
 
 -- no line ends within the bytes
 abbrev pub HasNoLineEnd : List ℕ → Type 0

@@ -1,4 +1,4 @@
--- How far the header part at the front of a rest was read.
+-- Defines how far the header part at the front of a rest was read, and how many bytes a decoder may keep.
 use Rattle.std.specs.Prelude.{◌≡◌, ℕ, ◌+◌, ◌*◌, ◌<◌, ◌≤◌, List, [], ◌∷◌, length, take, slice_index, Option, Some, None, decimal}
 use Rattle.std.specs.List.{AllByRecursion}
 use Rattle.dap_frame.specs.declared.header.Header.{Header}
@@ -15,7 +15,7 @@ EndsAt bytes k = (slice_index bytes k ≡ 13) × (slice_index bytes (k + 1) ≡ 
 abbrev pub HasNoEnd : List ℕ → ℕ → ℕ → Type 0
 HasNoEnd bytes i j = (k : ℕ) → i ≤ k → k + 1 < j → ¬ EndsAt bytes k
 
--- the fields name no length, or one that is allowed
+-- the fields give no length, or one that is allowed
 abbrev pub Names : List Field → Option ℕ → Type 0
 Names fields None = length_values fields ≡ []
 Names fields (Some n) = (n ≤ content_limit) × (length_values fields ≡ decimal n ∷ [])
@@ -31,21 +31,22 @@ pub record IsScanned (scan : Scan) (rest : List ℕ) : Type 0 where
   pub within : scan.searched ≤ header_limit
   pub no_end : HasNoEnd rest scan.judged scan.searched
 
--- the rest was read as far as this
+-- the header part at the front of the rest was read as far as this
 abbrev pub IsRead : Header → List ℕ → Type 0
 IsRead (Open scan) rest = IsScanned scan rest
 IsRead (Whole size content_len) rest = (size ≤ length rest) × IsHeader (take size rest) content_len
 
--- and no further, as long as no more of it comes: all of it was searched
+-- the header part was read as far as it has come: all of the rest was searched
 abbrev pub IsReadOut : Header → List ℕ → Type 0
 IsReadOut (Open scan) rest = IsScanned scan rest × (scan.searched ≡ length rest) × IsOpen rest
 IsReadOut (Whole size content_len) rest = (size ≤ length rest) × IsHeader (take size rest) content_len
 
 -- ---- how many bytes are kept
 
+-- how many bytes more than twice the rest may be kept
 abbrev pub spare : ℕ
 spare = 4096
 
--- at most twice as many bytes are kept as are not yet given, and a constant number more
+-- at most twice as many bytes are kept as the rest has, and `spare` more
 abbrev pub IsBounded : ℕ → ℕ → Type 0
 IsBounded kept rest = kept ≤ 2 * rest + spare

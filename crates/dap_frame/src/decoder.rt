@@ -1,3 +1,5 @@
+//! The decoder: it takes a stream in pieces and returns the contents of the frames in it.
+
 ghost use Rattle.std.specs.Prelude.{◌≡◌, ◌≢◌, ◌≤◌, ◌++◌, ◌∷◌, [], ℕ, List, Option, Some, None, IfOk, IfErr, OnOk, MatchOption, length, drop};
 ghost use Rattle.dap_frame.specs.Header.{FaultAt};
 ghost use Rattle.dap_frame.specs.Frame.{Frames, IsOpen, IsFrameInFront};
@@ -8,23 +10,23 @@ use crate::header::{Header, content_of, read_on};
 use std::alloc::Global;
 use std::marker::Model;
 
-/// Bytes that were given away are kept as long as they are at most this many more than the rest of the stream: so the
-/// contents of a piece of up to this length are given without moving the bytes after them.
+/// Bytes of frames already read are kept as long as they are at most this many more than the rest of the
+/// stream, so the contents of a piece of at most this length are returned without moving the bytes after them.
 const SPARE: usize = 4096;
 
 /// Reads frames from a stream that comes in pieces of any lengths.
 ///
-/// A header part has at most 1,024 bytes, and a content at most 1,048,576. The time taken is linear in the bytes that
-/// come, however they are cut: a header part is searched once for the ends of its lines, and each byte that is moved is
-/// paid for by one that was given away. At most twice as many bytes are kept as are not yet given, and 4,096 more.
+/// A header part has at most 1,024 bytes, and a content at most 1,048,576. The time taken is linear in the number of bytes
+/// that come, however they are cut into pieces: a header part is searched once for the ends of its lines, and at most one
+/// byte is moved for each byte of the frames already read. With `n` bytes of later frames, at most `2 * n + 4096` are kept.
 #[derive(Drop)]
 pub struct Decoder {
     bytes: Vec<u8>,
-    // How many of the bytes were given away. The rest of the stream stands after them.
+    // How many of the bytes are of frames already read. The rest of the stream stands after them.
     front: usize,
-    // How far the header part there was read.
+    // How far the header part at the front of the rest was read.
     header: Header,
-    // The fault for good.
+    // The fault that was found, which every later call returns.
     fault: Option<FramingFault>,
 }
 
@@ -46,7 +48,7 @@ impl Decoder {
     ghost use Rattle.dap_frame.specs.declared.fault.FramingFault.{FramingFault};
     ghost use Rattle.dap_frame.specs.declared.fault.FramingFault.TheVariants.{NoMemory};
 
-    /// A decoder at the beginning of a stream.
+    /// Returns a decoder at the beginning of a stream. It takes no memory.
     pub fn new(alloc: Global) -> Decoder
         ensures { result ≡ record { rest = []; fault = None } }
     {
@@ -58,15 +60,15 @@ impl Decoder {
         }
     }
 
-    /// Takes the next piece of the stream, and judges nothing.
+    /// Takes the next piece of the stream. It looks for no frame and no fault in it.
     ///
     /// # Errors
     ///
-    /// The fault that was found before, or `NoMemory`, which an empty piece never gets. Either changes nothing.
+    /// The fault that was found before, or `NoMemory`, which an empty piece never gets. The decoder is unchanged then.
     pub fn feed(&mut self, piece: &[u8]) -> Result<(), FramingFault>
         ensures ok { OnOk result ((self.old.fault ≡ None)
             × (self.new ≡ record { rest = self.old.rest ++ piece.now; fault = None })) }
-        // So of any stream of which the rest is the end, that stream and the piece.
+        // The piece joins the end of the stream: the contents returned so far stay the same.
         ensures stream { (stream : List ℕ) (contents : List (List ℕ)) → Frames stream contents self.old.rest →
             OnOk result (Frames (stream ++ piece.now) contents self.new.rest) }
         ensures err { IfErr result (λ fault. (self.new ≡ self.old)
@@ -80,18 +82,18 @@ impl Decoder {
         Ok(())
     }
 
-    /// The next content, or `None` where no whole frame has come yet.
+    /// Returns the next content, or `None` where no whole frame has come yet.
     ///
     /// # Errors
     ///
-    /// The fault in the next frame's place, at this call and every later one, and at `feed`; or `NoMemory`, which
-    /// changes nothing, so that the call may be made again.
+    /// The fault that stands where the next frame should. This call, every later one and `feed` return it. Or `NoMemory`,
+    /// which leaves the decoder unchanged, so that the call may be made again.
     pub fn next_content(&mut self) -> Result<Option<Vec<u8>>, FramingFault>
         // The content is that of the next frame.
         ensures content { IfOk result (λ next. MatchOption next
             (IsOpen self.old.rest × (self.new ≡ self.old))
             (λ content. IsFrameInFront self.old.rest content.items self.new.rest × (self.new.fault ≡ None))) }
-        // So of any stream of which the rest is the end, one content more has been given.
+        // One content more of the stream has been returned, where one is.
         ensures stream { (stream : List ℕ) (contents : List (List ℕ)) → Frames stream contents self.old.rest →
             IfOk result (λ next. MatchOption next
             (Frames stream contents self.new.rest)
@@ -99,7 +101,7 @@ impl Decoder {
         ensures sound { OnOk result (self.old.fault ≡ None) }
         ensures again { (fault : FramingFault) → self.old.fault ≡ Some fault → (result ≡ Err fault) × (self.new ≡ self.old) }
         ensures memory { result ≡ Err NoMemory → self.new ≡ self.old }
-        // Memory is needed for a content alone that has any bytes.
+        // Memory is needed only for a content that isn't empty.
         ensures needed { result ≡ Err NoMemory → self.old.fault ≡ None →
             (content : List ℕ) × (rest : List ℕ) × IsFrameInFront self.old.rest content rest × (content ≢ []) }
         ensures fault { IfErr result (λ fault. self.old.fault ≡ None → fault ≢ NoMemory →
@@ -127,8 +129,8 @@ impl Decoder {
     }
 }
 
-/// Takes the first `front` bytes away where they are more than `extra` and the rest, so that fewer bytes move than are
-/// taken away. Returns where the rest begins then.
+/// Removes the first `front` bytes if they are more than `extra` and the rest together, so that fewer bytes are moved than
+/// are removed. Returns where the rest begins then.
 fn compact(bytes: &mut Vec<u8>, front: usize, extra: usize) -> usize
     requires there { front ≤ length bytes.old.items }
     requires small { extra ≤ spare }

@@ -1,3 +1,5 @@
+//! The encoder: it appends the frame of a content.
+
 ghost use Rattle.std.specs.Prelude.{◌≡◌, ◌+◌, ◌<◌, ◌≤◌, ◌++◌, length, drop, decimal, vec_len, vec_capacity, OnOk, OnErr, IfErr};
 ghost use Rattle.dap_frame.specs.Frame.{frame_of};
 ghost use Rattle.dap_frame.specs.declared.fault.FramingFault.TheVariants.{NoMemory};
@@ -6,22 +8,22 @@ use crate::fault::FramingFault;
 use itoa::Buffer;
 use std::alloc::AllocError;
 
-/// Writes the frame of a content at the end of `out`.
+/// Appends the frame of a content to `out`.
 ///
 /// # Errors
 ///
-/// `NoMemory` alone, which leaves `out` as it was.
+/// Only `NoMemory`, which leaves the bytes of `out` as they were.
 pub fn encode(content: &[u8], out: &mut Vec<u8>) -> Result<(), FramingFault>
     ensures ok { OnOk result (out.new.items ≡ out.old.items ++ frame_of content.now) }
     ensures err { OnErr result (out.new.items ≡ out.old.items) }
     ensures memory { IfErr result (λ fault. fault ≡ NoMemory) }
-    // It comes only where `out` has no room for the frame.
+    // An error is returned only where `out` has no room for the frame.
     ensures full { OnErr result (vec_capacity out.old < vec_len out.old + length (frame_of content.now)) }
 {
     Ok(append_frame(content, out)?)
 }
 
-/// Makes room for the whole frame first, so that nothing can fail after that.
+/// Appends the frame. Room for all of it is made first, so that nothing can fail after that.
 fn append_frame(content: &[u8], out: &mut Vec<u8>) -> Result<(), AllocError>
     ensures ok { OnOk result (out.new.items ≡ out.old.items ++ frame_of content.now) }
     ensures err { OnErr result (out.new.items ≡ out.old.items) }

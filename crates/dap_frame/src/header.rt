@@ -1,3 +1,5 @@
+//! The header part of a frame: how far it was read, and reading on.
+
 ghost use Rattle.std.specs.Prelude.{◌≡◌, ◌≢◌, ◌+◌, ◌<◌, ◌≤◌, [], ◌∷◌, ◌++◌, List, length, drop, IfSome, IfNone, IfOk, IfErr};
 ghost use Rattle.dap_frame.specs.Header.{Field, IsField, LineFault, FaultAt, field_text};
 ghost use Rattle.dap_frame.specs.Frame.{IsOpen, IsFrameInFront};
@@ -7,20 +9,25 @@ use crate::fault::FramingFault;
 use crate::field::{field_of, length_of};
 use memchr::memchr;
 
+/// The most bytes of a header part, its empty line included.
 const HEADER_LIMIT: usize = 1024;
 
+/// The most bytes of a content.
 const CONTENT_LIMIT: usize = 1_048_576;
 
 /// How far a header part was read.
 #[derive(Clone, Copy)]
 pub enum Header {
-    /// Its empty line has not come.
+    /// Its empty line hasn't come.
     Open(Scan),
-    /// It takes `size` bytes, and names the length of the content.
+    /// It is complete. It takes `size` bytes and gives the length of the content.
     Whole { size: usize, content_len: usize },
 }
 
-/// The first `judged` bytes are fields without a fault, which name `named`. No line ends between them and `searched`.
+/// How far an incomplete header part was read.
+///
+/// Its first `judged` bytes are fields without a fault, and `named` is the length that they give, if they give one. No line
+/// ends in the bytes from `judged` to `searched`.
 #[derive(Clone, Copy)]
 pub struct Scan {
     pub judged: usize,
@@ -29,7 +36,7 @@ pub struct Scan {
 }
 
 impl Header {
-    /// Nothing was read.
+    /// Nothing was read yet.
     pub const START: Header = Header::Open(Scan {
         judged: 0,
         searched: 0,
@@ -37,7 +44,7 @@ impl Header {
     });
 }
 
-/// Reads on, as far as the rest has come.
+/// Reads the header part at the front of `rest`, as far as it has come, from where it was read to before.
 pub fn read_on(rest: &[u8], header: Header) -> Result<Header, FramingFault>
     requires { IsRead header rest.now }
     ensures ok { IfOk result (λ header. IsReadOut header rest.now) }
@@ -49,7 +56,7 @@ pub fn read_on(rest: &[u8], header: Header) -> Result<Header, FramingFault>
     }
 }
 
-/// The content of the whole frame in front, and how many bytes the frame takes.
+/// Returns the content of the frame at the front, and how many bytes the frame takes; `None` where it isn't complete.
 pub fn content_of(rest: &[u8], header: Header) -> Option<(&[u8], usize)>
     requires { IsReadOut header rest.now }
     ensures found { IfSome result (λ frame. (frame.1 ≤ length rest.now) × IsFrameInFront rest.now frame.0.now (drop frame.1 rest.now)) }
@@ -67,7 +74,7 @@ pub fn content_of(rest: &[u8], header: Header) -> Option<(&[u8], usize)>
     }
 }
 
-/// Judges each line that is complete.
+/// Judges each line that is complete, up to the empty line.
 fn scan_lines(rest: &[u8], mut scan: Scan) -> Result<Header, FramingFault>
     requires { IsScanned scan rest.now }
     ensures ok { IfOk result (λ header. IsReadOut header rest.now) }
@@ -98,7 +105,7 @@ fn scan_lines(rest: &[u8], mut scan: Scan) -> Result<Header, FramingFault>
     Ok(Header::Open(scan))
 }
 
-/// Where the first CR LF from `judged` on stands; none ends before `searched`.
+/// Returns where the first CR LF from `judged` on stands. The search begins at `searched`, before which none ends.
 fn line_end(bytes: &[u8], judged: usize, searched: usize) -> Option<usize>
     requires in_order { judged ≤ searched }
     requires there { searched ≤ length bytes.now }
@@ -117,7 +124,7 @@ fn line_end(bytes: &[u8], judged: usize, searched: usize) -> Option<usize>
     None
 }
 
-/// What is named once this line is read, which is not empty and stands after fields that name `named`.
+/// Judges a line that isn't empty and stands after fields that give the length `named`, and returns the length after it.
 fn judge_field(line: &[u8], named: Option<usize>) -> Result<Option<usize>, FramingFault>
     ensures ok { (fields : List Field) → Names fields named → IfOk result (λ next. (field : Field) × IsField field × (line.now ≡ field_text field) × Names (fields ++ field ∷ []) next) }
     ensures err { (fields : List Field) → Names fields named → line.now ≢ [] → IfErr result (LineFault fields line.now) }

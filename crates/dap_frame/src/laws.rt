@@ -1,8 +1,10 @@
+//! What holds of all frames and faults.
+
 ghost use Rattle.dap_frame.specs.Laws.{FramesAreUnique, FaultsAreUnique, NeverBoth, OneOfThree, IsReadAgain, FramesJoin};
 
-/// In front of each rest stands one frame, or one fault, or neither; what is written is read again; and frames join.
+/// At the front of each rest stands one frame, or one fault, or neither; what is written is read again; and frames join.
 ///
-/// Does nothing: its contract is the laws.
+/// It does nothing: its contract is the laws.
 pub fn frame_laws()
     ensures frames { FramesAreUnique }
     ensures faults { FaultsAreUnique }

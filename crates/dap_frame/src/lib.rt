@@ -2,22 +2,26 @@
 //!
 //! ```
 //! let mut stream = Vec::new(alloc);
-//! encode(b"{}".as_slice(), &mut stream)?;
-//! let expected = b"Content-Length: 2\r\n\r\n{}";
-//! assert_eq!(rt; stream.as_slice(), expected.as_slice());
-//!
+//! encode(b"{}".as_slice(), &mut stream).expect(&rt, "memory");
+//! assert_eq!(&rt;
+//!     stream.as_slice(),
+//!     b"Content-Length: 2\r\n\r\n{}".as_slice()
+//! );
 //! let mut decoder = Decoder::new(alloc);
-//! decoder.feed(stream.as_slice())?;
-//! let content = decoder.next_content()?.expect(&rt, "a content");
-//! assert_eq!(rt; content.as_slice(), b"{}".as_slice());
+//! decoder.feed(stream.as_slice()).expect(&rt, "memory");
+//! let content = decoder
+//!     .next_content()
+//!     .expect(&rt, "no fault")
+//!     .expect(&rt, "a content");
+//! assert_eq!(&rt; content.as_slice(), b"{}".as_slice());
 //! ```
 //!
-//! The one contract: after any pieces, the contents given so far and the bytes that are left are related by `Frames`
-//! (`specs/Frame.antt`) to the stream; `None` comes only where neither a whole frame nor a fault stands in front, and a
-//! fault only where `FaultAt` gives it. What `encode` appends is read again, whatever follows it.
+//! The one contract: after any pieces, the stream is the frames of the contents returned so far, followed by the bytes that
+//! are left (`Frames` in `specs/Frame.antt`). `None` is returned only where neither a whole frame nor a fault stands at the
+//! front, and a fault only where `FaultAt` says so. What [`encode`] appends is read again, whatever follows it.
 //!
-//! The hard lemma is `located` in `proofs/Located.antt`: where two readings cut the same bytes into lines, one is a
-//! beginning of the other. It is why a rest is never both a frame and a fault, nor two faults, however it came.
+//! The hard lemma is `located` in `proofs/Located.antt`: where two readings cut the same bytes into lines, one is a prefix
+//! of the other. Therefore no rest has both a frame and a fault at its front, or two faults, however it came.
 #![tactic(auto)]
 
 mod decoder;

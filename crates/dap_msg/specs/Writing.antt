@@ -1,4 +1,4 @@
--- For private clauses: what is written of a message.
+-- Defines, for private contracts, what is written of a message.
 use Rattle.std.specs.Prelude.{◌≡◌, ◌<◌, ◌^◌, List, [], ◌∷◌, ◌++◌}
 use Rattle.json.specs.Token.{Token, key}
 use Rattle.json.specs.Tree.{json_tokens}
@@ -6,7 +6,7 @@ use Rattle.json.specs.Written.{Written}
 use Rattle.serde_json.specs.Data.{Data, null, boolean, number, unsigned, negative, float, string, array, object, Items, no_items, item, Members, no_members, member}
 use Rattle.serde_json.specs.Written.{outline}
 
--- each number is a whole one of 64 bits
+-- each number in the value is a whole number of 64 bits that isn't negative
 abbrev mutual
   pub Fits : Data → Type 0
   Fits null = Unit {0}
@@ -26,21 +26,22 @@ abbrev mutual
   MembersFit no_members = Unit {0}
   MembersFit (member k d ms) = Fits d × MembersFit ms
 
+-- the tokens of a value
 abbrev pub tokens_of : Data → List Token
 tokens_of d = json_tokens (outline d)
 
--- with no bracket
+-- the tokens of members, without the brackets of their object
 abbrev pub members_tokens_of : Members → List Token
 members_tokens_of no_members = []
 members_tokens_of (member k d ms) = key k ∷ (tokens_of d ++ members_tokens_of ms)
 
--- the value's tokens follow those that were written
+-- the tokens of the value were appended to those written before
 pub record WritesValue (d : Data) (old new : Written) : Type 0 where
   pub before : new.before ≡ old.before
   pub tokens : new.tokens ≡ old.tokens ++ tokens_of d
   pub fits : Fits d
 
--- the members' tokens, with no bracket, follow those that were written
+-- the tokens of the members, without brackets, were appended to those written before
 pub record WritesMembers (ms : Members) (old new : Written) : Type 0 where
   pub before : new.before ≡ old.before
   pub tokens : new.tokens ≡ old.tokens ++ members_tokens_of ms

@@ -3,26 +3,28 @@
 //!
 //! ```
 //! let content = br#"{"seq":3,"type":"request","command":"threads"}"#;
-//! let request = read(alloc, content.as_slice())?.expect(&rt, "a request");
+//! let request = read(alloc, content.as_slice())
+//!     .expect(&rt, "memory")
+//!     .expect(&rt, "a request");
 //! let answer = Outgoing::Answer {
 //!     request_seq: request.seq,
 //!     command: request.body.into_name(),
 //!     result: Ok(Body::Threads),
 //! };
 //! let mut text = Vec::new(alloc);
-//! write(&answer, 1, &mut text)?;
+//! write(&answer, 1, &mut text).expect(&rt, "memory");
 //! let expected =
 //!     br#"{"body":{"threads":[{"id":1,"name":"main"}]},"command":"threads","request_seq":3,"seq":1,"success":true,"type":"response"}"#;
-//! assert_eq!(rt; text.as_slice(), expected.as_slice());
+//! assert_eq!(&rt; text.as_slice(), expected.as_slice());
 //! ```
 //!
-//! Its one contract: [`read`] gives exactly the request that a content is, or none, where
-//! `serde_json`'s own definition of reading says what value a content has; [`write`] appends
-//! exactly the defined text of a message.
+//! The one contract: [`read`] returns exactly the request that a content is, or `None` where it is
+//! none; which value a content has is said by `serde_json`'s own definition of reading. [`write`]
+//! appends exactly the defined text of a message.
 //!
 //! Each command has a file in `src/requests` (its arguments, and the body of its answer) and one in
-//! `specs` with the same as definitions; `Request` in `specs` says which request a content is, and
-//! `Outgoing` what a message's content is. A further command is a variant of [`Supported`], of
+//! `specs` that defines them; `Request` in `specs` says which request a content is, and `Outgoing`
+//! what the content of a message is. A further command needs a variant of [`Supported`], of
 //! [`Command`] and of [`Body`], and such a pair of files. [`message_laws`] says of all contents
 //! what doesn't depend on the commands: a content is one request or none (`proofs/Once`), and a
 //! request has the `seq` and the `command` of its content (`proofs/WellFormed`).

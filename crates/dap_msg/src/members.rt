@@ -1,3 +1,5 @@
+//! Members of an object, by the kind of their value.
+
 ghost use Rattle.std.specs.Prelude.{OnOk};
 ghost use Rattle.std.specs.Fmt.{signed_decimal};
 ghost use Rattle.serde_json.specs.Data.{boolean, number, unsigned, string, member, no_members};
@@ -33,7 +35,7 @@ pub(crate) fn flag(out: &mut Writer, key: &str, value: bool) -> Result<(), Alloc
     out.boolean(value)
 }
 
-/// Writes a member whose value is the decimal text of a number.
+/// Writes a member whose value is a number's decimal digits, as a text.
 pub(crate) fn decimal(out: &mut Writer, key: &str, value: i64) -> Result<(), AllocError>
     ensures { OnOk result (WritesMembers (member key.now (string (signed_decimal value)) no_members)
         out.old out.new) }
