@@ -1,4 +1,5 @@
-//! Streams and a gate over memory. Their clauses claim no byte that comes or goes: the tests compare them. `progress` has what streams and gate let each other see, from thread to thread, and so what they can wait for.
+//! Streams and a gate over memory. Their clauses claim no byte that comes or goes: the tests compare them. `progress`
+//! has what streams and gate let each other see, from thread to thread, and so what they can wait for.
 
 mod progress;
 mod streams;

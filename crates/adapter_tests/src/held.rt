@@ -51,7 +51,8 @@ fn answers_a_pause_while_the_program_runs(rt: HostRuntime) {
     assert_eq!(rt; slices, 1);
 }
 
-/// The first slice waits for the answer to the breakpoints, and the end of the input for the stop, which a second run brings.
+/// The first slice waits for the answer to the breakpoints, and the end of the input for the stop, which a second run
+/// brings.
 #[test]
 fn sets_breakpoints_while_the_program_runs(rt: HostRuntime) {
     let slices = assert_served(&rt, rt.alloc(), &BROKEN);

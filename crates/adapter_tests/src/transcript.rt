@@ -1,8 +1,8 @@
 //! Transcripts of sessions: each line after `>` is a content that the editor sends, and each after `<` one that comes back.
 //!
-//! After a line `- read` the next read waits until all that comes back above it was written; after `- slice` the first slice
-//! of the program does. The lines `- initialize`, `- launch` and `- start` stand for the requests, numbered 1, 2 and 3, with which
-//! most sessions begin, and for their answers.
+//! After a line `- read` the next read waits until all that comes back above it was written; after `- slice` the first
+//! slice of the program does. The lines `- initialize`, `- launch` and `- start` stand for the requests, numbered 1, 2
+//! and 3, with which most sessions begin, and for their answers.
 
 use crate::fakes::{Cut, Hold};
 use std::alloc::{AllocError, Global};

@@ -164,8 +164,8 @@ fn io_fault(error: &io::Error) -> IoFault
     }
 }
 
-/// Returns the count of failures after this fault: one more after `Failed`, and the same after `Interrupted`. Blocks forever
-/// where one more doesn't fit 64 bits.
+/// Returns the count of failures after this fault: one more after `Failed`, and the same after `Interrupted`. Blocks
+/// forever where one more doesn't fit 64 bits.
 fn counted(rt: &impl Wait, fault: IoFault, failures: u64) -> u64
     ensures failed { fault ≡ Failed → result ≡ failures + 1 }
     ensures interrupted { fault ≡ Interrupted → result ≡ failures }

@@ -20,8 +20,8 @@ pub fn say<O: Sink>(rt: &impl Wait, output: &mut O, texts: &[&str])
     }
 }
 
-/// Writes all bytes and returns `true`, or writes a prefix of them and returns `false` where the output fails. An interrupted
-/// write is tried again.
+/// Writes all bytes and returns `true`, or writes a prefix of them and returns `false` where the output fails. An
+/// interrupted write is tried again.
 pub fn write_all<O: Sink>(rt: &impl Wait, output: &mut O, bytes: &[u8]) -> bool
     ensures written { MatchBool result
         (Appends (O.written output.old) (O.written output.new) bytes.now)

@@ -100,8 +100,9 @@ fn truth_of(
     }
 }
 
-/// The value of a number or of a variable of the frame itself; `None` for any other expression, whose value takes a loop or a
-/// recursion. It is inlined, so that a loop that asks for it keeps the machine's registers in the processor's.
+/// The value of a number or of a variable of the frame itself; `None` for any other expression, whose value takes a
+/// loop or a recursion. It is inlined, so that a loop that asks for it keeps the machine's registers in the
+/// processor's.
 #[inline(always)]
 fn leaf_value(machine: &Machine, frame: usize, expression: &LocatedExpression) -> Option<i64>
     requires { CanRead (frames machine.now) frame expression.now }
@@ -134,8 +135,8 @@ fn compares_false(machine: &Machine, frame: usize, condition: &LocatedCondition)
     }
 }
 
-/// Whether the condition of a breakpoint at the machine's step compares numbers and variables of the newest frame, and doesn't
-/// hold.
+/// Whether the condition of a breakpoint at the machine's step compares numbers and variables of the newest frame, and
+/// doesn't hold.
 #[inline(always)]
 pub fn is_plainly_unmet(machine: &Machine, breakpoint: &Breakpoint) -> bool
     requires running { IsRunning machine.now }

@@ -55,8 +55,8 @@ fn settles(machine: Machine, outcome: StepOutcome, plan: &Option<Arc<Plan>>) -> 
     (machine, quiet)
 }
 
-/// Whether the step has one breakpoint, whose condition compares numbers and variables of the newest frame, and doesn't hold.
-/// Such a condition is evaluated in the loop; any other in `settles`.
+/// Whether the step has one breakpoint, whose condition compares numbers and variables of the newest frame, and doesn't
+/// hold. Such a condition is evaluated in the loop; any other in `settles`.
 #[inline(always)]
 fn is_unmet(machine: &Machine, plan: &Option<Arc<Plan>>) -> bool
     requires running { IsRunning machine.now }
@@ -116,8 +116,8 @@ fn is_quiet(
     }
 }
 
-/// Takes steps up to the position `limit`, or up to the first that isn't quiet: what that one did. The machine is moved, and
-/// not borrowed, so that the compiler keeps its registers in the processor's.
+/// Takes steps up to the position `limit`, or up to the first that isn't quiet: what that one did. The machine is
+/// moved, and not borrowed, so that the compiler keeps its registers in the processor's.
 #[inline(always)]
 fn run_quietly(
     mut machine: Machine,

@@ -1,5 +1,5 @@
-//! The program `pl0dap` again, for a stored run that ends in a framing fault: with status 2, and with a last line that isn't on
-//! standard output.
+//! The program `pl0dap` again, for a stored run that ends in a framing fault: with status 2, and with a last line that
+//! isn't on standard output.
 #![tactic(auto)]
 
 use adapter::{Reading, Writing, run};

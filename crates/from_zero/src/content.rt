@@ -145,8 +145,8 @@ fn next_to(change: Change, number: u64) -> Option<u64>
     }
 }
 
-/// Returns the whole number that a number's text stands for; `None` where the text has a minus sign, a fraction or an exponent,
-/// or the number doesn't fit 64 bits.
+/// Returns the whole number that a number's text stands for; `None` where the text has a minus sign, a fraction or an
+/// exponent, or the number doesn't fit 64 bits.
 fn whole_of(text: &str) -> Option<u64>
     ensures { result ≡ whole_of text.now }
 {

@@ -14,8 +14,8 @@ use std::sync::Wait;
 
 /// A sink that writes its bytes to another one, with the `request_seq` of each content one less.
 ///
-/// It takes one byte per write, and holds the bytes of a frame until the frame is whole. After a write that failed, all later
-/// ones fail.
+/// It takes one byte per write, and holds the bytes of a frame until the frame is whole. After a write that failed, all
+/// later ones fail.
 #[derive(Drop)]
 pub struct Lowered<'a, R: Wait, O: Sink + Drop> {
     rt: &'a R,
@@ -72,8 +72,8 @@ impl<'a, R: Wait, O: Sink + Drop> Lowered<'a, R, O> {
         }
     }
 
-    /// Returns the other sink. What was written to this one was written to it, renumbered, but for a frame that is not whole.
-    /// Where a write failed, only a prefix was, which may reach into what the failed write would have added.
+    /// Returns the other sink. What was written to this one was written to it, renumbered, but for a frame that is not
+    /// whole. Where a write failed, only a prefix was, which may reach into what the failed write would have added.
     pub fn into_inner(self) -> O
         ensures { Passes self.entry.is_failed self.entry.begun (O.written result) self.entry.session
             self.entry.begun_failures self.entry.failures }

@@ -124,8 +124,8 @@ impl Renumberer {
     }
 }
 
-/// Feeds the decoder `byte`, the last of the bytes that are held. Appends to `out` the renumbered frame that is whole then, or
-/// all held bytes at a framing fault. Returns how the stream goes on.
+/// Feeds the decoder `byte`, the last of the bytes that are held. Appends to `out` the renumbered frame that is whole
+/// then, or all held bytes at a framing fault. Returns how the stream goes on.
 ///
 /// # Errors
 ///

@@ -1,5 +1,5 @@
-//! `pl0dap_from_zero`: the program `pl0dap` for editors that number their requests from 0. Where it serves, standard input and
-//! output are renumbered, as said in `from_zero`; the listing and the help are written as they are.
+//! `pl0dap_from_zero`: the program `pl0dap` for editors that number their requests from 0. Where it serves, standard
+//! input and output are renumbered, as said in `from_zero`; the listing and the help are written as they are.
 #![tactic(auto)]
 
 use adapter::arguments::{Invocation, parse_arguments};

@@ -1,4 +1,5 @@
-//! Whether a position is due, and what it logs, counted anew from the definition at each one, beside [`Debuggee::consider`].
+//! Whether a position is due, and what it logs, counted anew from the definition at each one, beside
+//! [`Debuggee::consider`].
 
 ghost use Rattle.std.specs.Prelude.{◌≡◌};
 
@@ -398,7 +399,8 @@ type StoppedDebuggee = (Option<Reason>, String);
 /// A position, by the debuggee and by the definition.
 type Seen = (StoppedDebuggee, StoppedDebuggee);
 
-/// Runs both sides to the end, or to the last position: what is found of each position. The wishes are those of another plan.
+/// Runs both sides to the end, or to the last position: what is found of each position. The wishes are those of another
+/// plan.
 fn run_beside(
     rt: &impl Abort,
     alloc: Global,

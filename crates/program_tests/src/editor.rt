@@ -16,8 +16,8 @@ procedure r; ;
 ! x.";
 
 /// A step, a text, and what is found in it as a condition, with tables of names, and as an expression, without them. First
-/// lawful texts, then names of the step's block and of those around it, then r, which stands after the step and isn't early, then
-/// the first of several faults, then faults of tokens and limits.
+/// lawful texts, then names of the step's block and of those around it, then r, which stands after the step and isn't
+/// early, then the first of several faults, then faults of tokens and limits.
 const TEXTS: &str = "
 0 | x = y + z * c | lawful | Expected 1:3
 0 | odd z | lawful | Expected 1:1

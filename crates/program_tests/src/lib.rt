@@ -1,13 +1,13 @@
 //! Tests of the language and of its debugger: what each stage makes of a text, from its tokens to the end of its run, how
-//! breakpoints are answered, when a position is due, how slices of a run end, and what a runner makes of orders. Nothing here is
-//! installed.
+//! breakpoints are answered, when a position is due, how slices of a run end, and what a runner makes of orders.
+//! Nothing here is installed.
 //!
-//! Most are tables. Of the language `table` says how a row is written, and `shown` what is shown of its text; `tokens`, `faults`,
-//! `editor`, `steps`, `code` and `runs` have the rows, a stage each, and in `memory` an allocation may fail. Of the debugger
-//! `plans`, `logpoints`, `slices`, `going_back`, `retreats` and `runner` have the rows. On random programs, `beside` runs slices
-//! beside single steps, and `due` counts arrivals anew beside the debuggee. `examples` has the example calls that
-//! stand at the heads of libraries. `machines` and `debugged` make machines and debuggees of texts; `test_kit` has the ports of a
-//! runner.
+//! Most are tables. Of the language `table` says how a row is written, and `shown` what is shown of its text; `tokens`,
+//! `faults`, `editor`, `steps`, `code` and `runs` have the rows, a stage each, and in `memory` an allocation may fail.
+//! Of the debugger `plans`, `logpoints`, `slices`, `going_back`, `retreats` and `runner` have the rows. On random
+//! programs, `beside` runs slices beside single steps, and `due` counts arrivals anew beside the debuggee. `examples`
+//! has the example calls that stand at the heads of libraries. `machines` and `debugged` make machines and debuggees of
+//! texts; `test_kit` has the ports of a runner.
 #![tactic(auto)]
 
 #[cfg(test)]

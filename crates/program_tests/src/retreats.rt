@@ -114,8 +114,8 @@ fn run_back(rt: &impl Abort, alloc: Global, retreat: Retreat) -> Report {
     panic!(rt; "no end")
 }
 
-/// A mode; then of the run's last report its end, its outcome, the numbers written before it starts, the numbers that it tells,
-/// and the steps run again.
+/// A mode; then of the run's last report its end, its outcome, the numbers written before it starts, the numbers that
+/// it tells, and the steps run again.
 type Run<'a> = (Mode, u64, SliceOutcome, u64, &'a [i64], u64);
 
 /// Runs a debuggee in one mode after the other.
@@ -178,8 +178,8 @@ fn counts_begin_anew_after_a_stop(rt: HostRuntime) {
     assert_runs(&rt, rt.alloc(), debuggee, runs.as_slice());
 }
 
-/// What a runner makes of an order to run this debuggee: its last report, and how many it sent. The first look finds a Hold of
-/// another run.
+/// What a runner makes of an order to run this debuggee: its last report, and how many it sent. The first look finds a
+/// Hold of another run.
 fn ordered<R: Abort + Wait>(
     rt: &R,
     alloc: Global,

@@ -35,8 +35,8 @@ fn ends_of_runs(rt: HostRuntime) {
     assert_rows(&rt, rt.alloc(), View::End, ENDS);
 }
 
-/// Of each frame its block, the step that it is in, the frame that it is linked to, and its first variable. The last one was
-/// called by frame 2, which frame 1 called; both frames of p are linked to the main block's.
+/// Of each frame its block, the step that it is in, the frame that it is linked to, and its first variable. The last
+/// one was called by frame 2, which frame 1 called; both frames of p are linked to the main block's.
 type Row = (u32, usize, Option<usize>, Option<i64>);
 
 const FRAMES: [Row; 4] = [

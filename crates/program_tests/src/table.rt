@@ -1,7 +1,7 @@
 //! How the tables of the tests are written.
 //!
-//! A table has a row a line, its cells parted by bars: a name, a text, and what is to be shown of it. In a text `~` is a line
-//! feed, and `{n piece}` is the piece n times, in which `%` is 1, 2 and on.
+//! A table has a row a line, its cells parted by bars: a name, a text, and what is to be shown of it. In a text `~` is
+//! a line feed, and `{n piece}` is the piece n times, in which `%` is 1, 2 and on.
 
 use crate::shown::{View, show};
 use std::alloc::Global;

@@ -1,9 +1,9 @@
-//! Tests of whole sessions, from the bytes that a client sends to the bytes and orders that leave, over ports in memory. It is
-//! never installed.
+//! Tests of whole sessions, from the bytes that a client sends to the bytes and orders that leave, over ports in
+//! memory. It is never installed.
 //!
-//! `rows` has the sessions, as transcripts. `transcript` says how to read one, `verbs` which lines stand for others that many
-//! sessions share, `expected` which contents its lines stand for. `client` has the events, `reports` the reports that no run
-//! gives; `test_kit` has the ports.
+//! `rows` has the sessions, as transcripts. `transcript` says how to read one, `verbs` which lines stand for others
+//! that many sessions share, `expected` which contents its lines stand for. `client` has the events, `reports` the
+//! reports that no run gives; `test_kit` has the ports.
 #![tactic(auto)]
 
 #[cfg(test)]

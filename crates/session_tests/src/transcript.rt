@@ -1,7 +1,7 @@
 //! Transcripts of sessions.
 //!
-//! `# NAME` begins a session, and each line `| ..` after it is one of the program's text. Then come events, and after each what comes
-//! of it. Some lines stand for others (`verbs`). The events are:
+//! `# NAME` begins a session, and each line `| ..` after it is one of the program's text. Then come events, and after
+//! each what comes of it. Some lines stand for others (`verbs`). The events are:
 //!
 //! - `> COMMAND ARGUMENTS`, a request of the client, numbered from 1, or `+ ..`, one in the same piece as the line before;
 //! - `>> CONTENT`, a frame of any content, and `>>> BYTES` or `+> BYTES`, bytes that needn't be a frame (`text`);
@@ -11,8 +11,8 @@
 //! - `F TEXT`, a file of this text that nobody asked for, or `F cannotRead` or `F noMemory` in its place;
 //! - `end`, `read failed` and `no memory`, after which nothing comes.
 //!
-//! What comes of an event are messages, as `4: ok configurationDone/3` (`expected`), and orders, as `! Go 1`. The last line, as
-//! `= InputEnded`, says how the session ended.
+//! What comes of an event are messages, as `4: ok configurationDone/3` (`expected`), and orders, as `! Go 1`. The last
+//! line, as `= InputEnded`, says how the session ended.
 
 use crate::client::Client;
 use crate::expected::content;

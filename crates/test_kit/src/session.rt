@@ -41,8 +41,8 @@ impl Outcome {
     }
 }
 
-/// Drives a session by the events of a source until it is closed or gives up. The source has to have an event for as long as
-/// the session asks for one.
+/// Drives a session by the events of a source until it is closed or gives up. The source has to have an event for as
+/// long as the session asks for one.
 pub fn run_session<R: Wait, E: Events + Drop, L: Loader>(
     rt: &R,
     alloc: Global,

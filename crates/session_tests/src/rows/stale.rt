@@ -1,5 +1,5 @@
-//! Reports that don't go on with a run are passed over, and the next report of the run is accepted; so are files that no launch
-//! waits for.
+//! Reports that don't go on with a run are passed over, and the next report of the run is accepted; so are files that
+//! no launch waits for.
 
 pub const SESSIONS: &str = r#"
 # reports before a run and after it
