@@ -1,4 +1,4 @@
--- What the reader's and the runner's tasks own, and what they give back, may go to another thread.
+-- What the reader's and the runner's tasks own, and what they return, may go to another thread.
 use mathlib.Core.List.{[], ◌∷◌}
 use denote.RattleType.{RattleType}
 use denote.Ref.{NamedLft, MutRef}

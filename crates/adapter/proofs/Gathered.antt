@@ -65,7 +65,7 @@ ended_whole (message.End ∷ []) [] ended whole = refl
 ended_whole (message.End ∷ []) (p ∷ more) ended whole = absurd whole
 ended_whole (message.End ∷ p ∷ taken) more ended whole = absurd ended
 
--- the frames that were put were written, or a beginning of them
+-- the frames that were put were written, or a prefix of them
 pub writes_frames : (wrote : Result (Unit {0}) WriteFailed) (taken put : List WriterMessage) (frames : List (List ℕ)) (old later : Output)
     → Begins taken put → frames_in put ≡ frames → (has_end put ≡ false) ⊎ AreEnded put → IsWrittenUntil wrote taken old later → Writes wrote (concat frames) old later
 writes_frames (Ok done) taken put frames old later begins frames_are (inl without) written =
@@ -175,11 +175,11 @@ all_taken end taken client front back own old later read begins other has =
 
 -- ---- the runner
 
--- the last act took Quit, or a report was handed back
+-- the last act took Quit, or a report was returned
 abbrev EndsBy : List Act → Type 0
 EndsBy acts = ((front : List PlainOrder) × (flat_map order_in acts ≡ front ++ Quit ∷ [])) ⊎ (flat_map handed_back_in acts ≢ [])
 
--- an act that leads to the end took Quit, or was a report handed back
+-- an act that leads to the end took Quit, or was a report returned
 abbrev Finishes : Act → Runner → Type 0
 Finishes act next = (next ≢ Ended) ⊎ ((order_in act ≡ Quit ∷ []) ⊎ (handed_back_in act ≢ []))
 

@@ -90,7 +90,7 @@ read_to_end : (events : List Incoming) (old later : Supply) → AreRead (events 
 read_to_end [] old later read = subst (λ (s : Supply). IsAtEnd s.left) (sym read.2) read.1.1
 read_to_end (e ∷ events) old later read = read_to_end events read.0 later read.2
 
--- the last event, which was handed back, was read too
+-- the last event, which was returned, was read too
 lost_stream : (end : ReadEnd) (mid later : Supply) → Loses end mid later → (lost : List ℕ) × Consumes mid.left later.left lost
 lost_stream ends.Ended mid later same = ([], consumed_at mid later same)
 lost_stream ends.Failed mid later same = ([], consumed_at mid later same)

@@ -28,8 +28,8 @@ pub record IsListingOf (file text : List ℕ) : Type 0 where
 abbrev pub Gives : List ℕ → List ℕ → List Load → List Load → Type 0
 Gives path file old new = new ≡ old ++ load_of path (Ok file) ∷ []
 
--- The file's listing was written; or the file can't be read, or it has this fault first, or there was no memory, and nothing
--- was written; or the output failed after a beginning of the listing.
+-- The file's listing was written; or the file can't be read, or it has this fault first, or there was no memory, and
+-- nothing was written; or the output failed after a prefix of the listing.
 abbrev pub IsChecked : List ℕ → Result (Unit {0}) CheckFault → List Load → List Load → Output → Output → Type 0
 IsChecked path (Ok done) old new before after =
     (file : List ℕ) × (text : List ℕ) × Gives path file old new × IsListingOf file text × WritesAll text before after

@@ -43,7 +43,8 @@ InputIsTakenWhole =
 abbrev pub AsksToDisconnect : Item → Type 0
 AsksToDisconnect item = (seq : ℕ) × (item ≡ Content (Some (record { seq = seq; body = command.Disconnect })))
 
--- The pieces, joined, are a prefix of what was read of the input, and hold the first `disconnect`: it is the last item taken.
+-- The pieces, joined, are a prefix of what was read of the input, and hold the first `disconnect`: it is the last item
+-- taken.
 pub record TakesFirstDisconnect (events : List Incoming) (old later : Supply) : Type 0 where
   pub read : List ℕ
   pub consumed : Consumes old.left later.left read
@@ -64,14 +65,14 @@ FirstDisconnectCloses =
 
 -- ---- Runs
 
--- A run is cut short: before a report said that it doesn't go on, Quit was taken, or a report was handed back.
+-- A run is cut short: before a report said that it doesn't go on, Quit was taken, or a report was returned.
 pub data IsCutShort : List Act → Type 0 where
   by_quit : {acts : List Act} → IsCutShort (Looked (Some Quit) ∷ acts)
   by_refusal : {r : PlainReport} {acts : List Act} → IsCutShort (HandedBack r ∷ acts)
   later : {act : Act} {acts : List Act} → KeepsOn act → IsCutShort acts → IsCutShort (act ∷ acts)
 
--- Where something closed the session, each run that the runner took has one report that says that it doesn't go on, its last,
--- unless it was cut short. No run cuts another.
+-- Where something closed the session, each run that the runner took has one report that says that it doesn't go on, its
+-- last, unless it was cut short. No run cuts another.
 abbrev pub RunsEndOnce : Type 0
 RunsEndOnce =
     (by : Closed) (wrote : Result (Unit {0}) WriteFailed) (loads later_loads : List Load) (passed later_passed : List (ℕ × ℕ)) (old later : Streams)

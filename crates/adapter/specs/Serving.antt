@@ -45,7 +45,7 @@ output_of s = output s.written s.write_failures
 abbrev pub nothing_sent : Ports
 nothing_sent = record { frames = []; orders = []; refused = []; runner_gone = 0; orders_full = 0 }
 
--- the bytes were written, or the output failed after a beginning of them
+-- the bytes were written, or the output failed after a prefix of them
 abbrev pub Writes : Result (Unit {0}) WriteFailed → List ℕ → Output → Output → Type 0
 Writes (Ok done) bytes old later = WritesAll bytes old later
 Writes (Err failed) bytes old later = FailsIn bytes old later
@@ -59,7 +59,7 @@ TakesAllSent (Ok closed.InputEnded) taken sent = taken ≡ sent
 TakesAllSent (Ok closed.ReadFailed) taken sent = taken ≡ sent
 TakesAllSent (Err fault) taken sent = Begins taken sent
 
--- Where the session was closed, the runner took all orders, unless a report was handed back to it.
+-- Where the session was closed, the runner took all orders, unless a report was returned to it.
 abbrev pub TakesAllOrders : Result Closed SessionFault → List Act → List PlainOrder → Type 0
 TakesAllOrders (Ok by) acts pushed =
     (flat_map order_in acts ≡ pushed) ⊎ (Begins (flat_map order_in acts) pushed × (flat_map handed_back_in acts ≢ []))
@@ -67,8 +67,8 @@ TakesAllOrders (Err fault) acts pushed = Begins (flat_map order_in acts) pushed
 
 -- ---- reader, runner, session and writer, side by side
 
--- Each came to its end. What the session took is, of the reader and of the runner, a beginning of what that sent; what the
--- loader gave is what its launches wanted; the runner took a beginning of the orders that the session pushed, and its slices
+-- Each came to its end. What the session took is, of the reader and of the runner, a prefix of what that sent; what the
+-- loader gave is what its launches wanted; the runner took a prefix of the orders that the session pushed, and its slices
 -- passed the gate; and the frames that the session put were written.
 pub record IsDriven (wrote : Result (Unit {0}) WriteFailed) (result : Result Closed SessionFault) (loads later_loads : List Load) (passed later_passed : List (ℕ × ℕ)) (old later : Streams) : Type 0 where
   -- the session

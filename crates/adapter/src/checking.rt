@@ -31,7 +31,7 @@ pub enum CheckFault {
 ///
 /// # Errors
 ///
-/// Nothing was written, but at `WriteFailed` a beginning of the listing.
+/// Nothing was written, but at `WriteFailed` a prefix of the listing.
 pub fn check<R: Wait, L: Loader, O: Sink>(
     rt: &R,
     alloc: Global,

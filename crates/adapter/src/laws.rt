@@ -5,8 +5,8 @@ ghost use Rattle.adapter.specs.Laws.{InputIsTakenWhole, FirstDisconnectCloses, R
 use dap_history::history_laws;
 use dbg_runner::runner_laws;
 
-/// What holds of all that [`serve`](crate::serve) does, however its threads take turns. It does nothing: its contract is the
-/// laws.
+/// What holds of all that [`serve`](crate::serve) does, however its threads take turns. It does nothing: its contract
+/// is the laws.
 pub fn serving_laws()
     ensures input { InputIsTakenWhole }
     ensures disconnect { FirstDisconnectCloses }

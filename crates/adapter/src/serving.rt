@@ -49,8 +49,9 @@ impl From<AllocError> for ServeFault {
     }
 }
 
-/// Serves an input and an output: a reader, a runner and a writer work in threads of their own, the session in this one, and
-/// all are joined. The loader is asked for the program of each launch, and each slice of a run passes the gate.
+/// Serves an input and an output: a reader, a runner and a writer work in threads of their own, the session in this
+/// one, and all are joined. The loader is asked for the program of each launch, and each slice of a run passes the
+/// gate.
 ///
 /// After the answer to `disconnect` the reader ends at its next read that returns; what that gives changes nothing.
 ///

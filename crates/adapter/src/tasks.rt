@@ -1,5 +1,5 @@
-//! Tasks for threads of a scope, which may be refused. What a task has and gives is said through a type parameter, so that it
-//! may have a `&mut` and give it back.
+//! Tasks for threads of a scope, which may be refused. What a task has and gives is said through a type parameter, so
+//! that it may have a `&mut` and return it.
 
 ghost use Rattle.std.specs.Prelude.{◌≡◌, IfSome};
 
@@ -27,7 +27,7 @@ pub trait LastTask: Task {
         requires { Self.can_run self };
 }
 
-/// That a task was run.
+/// The token that a task was run.
 #[derive(Drop)]
 pub struct Ran<T: Task>(Snapshot<T>);
 
@@ -53,8 +53,8 @@ fn start<'s, E, T: Task<Output = A> + Send + 's, A: Send + Drop + 's>(
     started.ok()
 }
 
-/// Does three tasks in threads of their own and the last one in this thread, and joins all. Where a thread can't be started,
-/// the last task is given up, the threads that were started are joined, and the answer is none.
+/// Does three tasks in threads of their own and the last one in this thread, and joins all. Where a thread can't be
+/// started, the last task is given up, the threads that were started are joined, and the answer is none.
 pub fn run_beside<
     R: Threads + Wait,
     S: Task<Output = A> + Send,

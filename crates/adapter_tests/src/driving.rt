@@ -251,7 +251,7 @@ fn stops_where_a_port_refuses_or_a_piece_is_missing(rt: HostRuntime) {
     }
 }
 
-/// With a refused allocation anywhere, what is put is a beginning of the answers, and only out of memory, or a port
+/// With a refused allocation anywhere, what is put is a prefix of the answers, and only out of memory, or a port
 /// without any, is the reason. Where the test itself finds no memory there is nothing to see.
 #[test]
 fn answers_a_beginning_where_memory_ends(rt: HostRuntime) {

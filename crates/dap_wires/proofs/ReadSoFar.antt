@@ -32,7 +32,7 @@ are_read-append (first ∷ events) e old mid later before now = (before.0, befor
 some_is_no_none : {A : Type 0} {x : ReadEnd} → Some x ≡ None → A
 some_is_no_none e = absurd (search (e, rules))
 
--- where nothing was handed back, it was sent
+-- where nothing was returned, it was sent
 pub when_ok : {A B : Type 0} {P : Type 0} (answer : Result A B) → is_err answer ≡ false → OnOk answer P → P
 when_ok (Ok done) ok p = p
 when_ok (Err back) ok p = absurd (true≢false ok)
@@ -85,7 +85,7 @@ read_ends put_old put_mid put_new old mid later (event.File (Ok file)) end r is 
 read_ends put_old put_mid put_new old mid later (event.File (Err fault)) end r is now put_is = absurd now
 read_ends put_old put_mid put_new old mid later (event.Report x) end r is now put_is = some_is_no_none (sym is)
 
--- the last event was handed back
+-- the last event was returned
 pub read_lost : (put_old put_mid put_new : List Incoming) (old mid later : Supply) (e : Incoming) → ReadSoFar put_old put_mid old mid
     → IsRead e mid later → put_new ≡ put_mid → Until HandedBack put_old put_new old later
 read_lost put_old put_mid put_new old mid later e r now same = (

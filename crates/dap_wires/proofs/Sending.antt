@@ -127,7 +127,7 @@ module _ (taken inside : List Arrival) (given : List Event) (rest : List Reporte
       ∙ ap (λ l. l ++ reports_among (came inside)) (reports_append (map incoming_of given) (told rest) ∙ ap (λ l. reports_among (map incoming_of given) ++ l) (all_reports rest))
       ∙ append_assoc (reports_among (map incoming_of given)) (map plain_report rest) (reports_among (came inside))
 
-  -- what the session was given of the reader's is a beginning of what that put
+  -- what the session was given of the reader's is a prefix of what that put
   pub client_begins : (put : List Arrival) → put ≡ of_first is_by_runner (taken ++ inside) → Begins (from_client (map incoming_of given)) (came put)
   client_begins put put_is = (from_client (came inside), sym client_taken ∙ sym (client_first (taken ++ inside)) ∙ ap came (sym put_is))
 
@@ -212,7 +212,7 @@ end_ends (message.End ∷ xs) none = absurd (true≢false none)
 pub frames_end : (xs : List WriterMessage) → frames_in (xs ++ message.End ∷ []) ≡ frames_in xs
 frames_end xs = frames_append xs (message.End ∷ []) ∙ append-nil (frames_in xs)
 
--- what was taken is a beginning of what was put
+-- what was taken is a prefix of what was put
 pub messages_begin : (put taken inside : List WriterMessage) → put ≡ of_first (λ _. false) (taken ++ inside) → Begins taken put
 messages_begin put taken inside is = (inside, sym (is ∙ all_first (taken ++ inside)))
 
@@ -220,7 +220,7 @@ messages_begin put taken inside is = (inside, sym (is ∙ all_first (taken ++ in
 pub none_mapped : {A B : Type 0} (f : A → B) (xs : List A) → xs ≡ [] → map f xs ≡ []
 none_mapped f xs none = ap (map f) none
 
--- The end was put, or handed back.
+-- The end was put, or returned.
 module _ {A B : Type 0} where
   pub finish_ends : (answer : Result A B) (old new : EndLog WriterMessage) → OnOk answer (new ≡ put (λ _. false) old message.End) → OnErr answer (new ≡ old)
       → has_end old.put_first ≡ false → (has_end new.put_first ≡ false) ⊎ AreEnded new.put_first

@@ -41,7 +41,7 @@ written_goes_on taken_old taken_mid taken_new old mid later frame w took wrote c
   failures = count ∙ w.failures;
 }
 
--- a frame was taken, and a beginning of it was written
+-- a frame was taken, and a prefix of it was written
 pub written_breaks : (taken_old taken_mid taken_new : List WriterMessage) (old mid later : Output) (frame : _) → WrittenSoFar taken_old taken_mid old mid → taken_new ≡ taken_mid ++ message.Frame frame ∷ []
     → AppendsPart mid.written later.written frame.items → mid.failures < later.failures
     → (taken : List WriterMessage) × (taken_new ≡ taken_old ++ taken) × ((has_end taken ≡ false) × FailsIn (concat (frames_in taken)) old later)

@@ -1,5 +1,5 @@
--- The rule of a queue, whoever puts and takes between two moments: what was taken and then what is inside is, of each sender,
--- what it put, in its order.
+-- The rule of a queue, whoever puts and takes between two moments: what was taken and then what is inside is, of each
+-- sender, what it put, in its order.
 use Rattle.std.specs.Prelude.{◌≡◌, ℕ, Bool, true, false, not, cond, List, [], ◌∷◌, ◌++◌, filter}
 use mathlib.Core.Option.{some}
 use lib.ListN.{get_elem?}
@@ -18,7 +18,8 @@ module _ {M : Type 0} where
     abbrev pub of_second : List M → List M
     of_second ms = filter by_second ms
 
-    -- An end that puts, as one sender or the other, knows all that this sender put; the one that takes knows all that was taken.
+    -- An end that puts, as one sender or the other, knows all that this sender put; the one that takes knows all that
+    -- was taken.
     pub record Fits (one two taker : ℕ) (taken inside : List M) (end : ℕ) (v : EndLog M) : Type 0 where
       pub first : v.first ≡ true → (end ≡ one) × (v.put_first ≡ of_first (taken ++ inside))
       pub second : v.second ≡ true → (end ≡ two) × (v.put_second ≡ of_second (taken ++ inside))

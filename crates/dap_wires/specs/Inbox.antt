@@ -23,7 +23,7 @@ module _ {R : Type 0} where
   client_events e = came (sender_log e.end).put_first
 
   -- the reports that the runner sent: those that it put into the queue, and then those that are kept; and the reports that
-  -- were handed back to it
+  -- were returned to it
   abbrev pub put_reports : ReportSender R → List PlainReport
   put_reports e = reports_among (came (sender_log e.end).put_second)
 

@@ -14,12 +14,12 @@ last_of Failed = ReadFailed ∷ []
 last_of NoMemory = NoMemoryCame ∷ []
 last_of HandedBack = []
 
--- an event that was handed back was read all the same
+-- an event that was returned was read all the same
 abbrev pub Loses : ReadEnd → Supply → Supply → Type 0
 Loses HandedBack mid later = (event : Incoming) × IsRead event mid later
 Loses _ mid later = later ≡ mid
 
--- Pieces were sent, and then what ended the input, or nothing where the last event was handed back. All that was read was
+-- Pieces were sent, and then what ended the input, or nothing where the last event was returned. All that was read was
 -- sent, but for that one.
 pub record IsReadUntil (end : ReadEnd) (sent : List Incoming) (old later : Supply) : Type 0 where
   pub pieces : List (List ℕ)

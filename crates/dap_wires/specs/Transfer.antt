@@ -8,8 +8,8 @@ use Rattle.byte_streams.specs.Streams.{Supply}
 abbrev pub piece_limit : ℕ
 piece_limit = 4096
 
--- What an input gives with an event: a piece, which is never empty, or its end, or a failure. A report comes from elsewhere, and
--- an inbox gives no file.
+-- What an input gives with an event: a piece, which is never empty, or its end, or a failure. A report comes from
+-- elsewhere, and an inbox gives no file.
 abbrev pub IsRead : Incoming → Supply → Supply → Type 0
 IsRead (Piece bytes) old later = Consumes old.left later.left bytes × (length bytes ≤ piece_limit) × (later.failures ≡ old.failures) × (0 < length bytes)
 IsRead End old later = Consumes old.left later.left [] × IsAtEnd later.left × (later.failures ≡ old.failures)

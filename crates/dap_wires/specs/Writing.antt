@@ -6,7 +6,7 @@ use Rattle.dap_wires.specs.declared.writing.WriteFailed.{WriteFailed}
 use Rattle.dap_wires.specs.Parcels.{frames_in, has_end, AreEnded}
 use Rattle.byte_streams.specs.Streams.{Output, WritesAll, FailsIn}
 
--- The end was taken after frames, and these were written whole; or frames alone, and the output failed after a beginning of
+-- The end was taken after frames, and these were written whole; or frames alone, and the output failed after a prefix of
 -- them.
 abbrev pub IsWrittenUntil : Result (Unit {0}) WriteFailed → List WriterMessage → Output → Output → Type 0
 IsWrittenUntil (Ok done) taken old later = AreEnded taken × WritesAll (concat (frames_in taken)) old later

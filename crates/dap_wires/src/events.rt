@@ -55,7 +55,7 @@ pub fn inbox<R: Wait + Copy + Drop>(
     ))
 }
 
-/// When all have ended: what the session was given of the reader's is a beginning of what that sent, and of the runner's
+/// When all have ended: what the session was given of the reader's is a prefix of what that sent, and of the runner's
 /// likewise.
 pub fn reconcile_inbox<R: Wait + Drop>(
     client: ClientSender<R>,
@@ -128,7 +128,7 @@ impl<R: Wait + Drop> ReportSender<R> {
         }
     }
 
-    /// Notes a report that is handed back.
+    /// Notes a report that is returned.
     fn hand_back(&mut self, report: Report) -> Report
         ensures back { result ≡ report }
         ensures refused { refused_reports self.new ≡ refused_reports self.old ++ plain_report report ∷ [] }
@@ -166,7 +166,7 @@ impl<R: Wait + Drop> Reports for ReportSender<R> {
 }
 
 impl<R: Wait + Drop> EventReceiver<R> {
-    /// Leaves the inbox: from now on an event that is sent is handed back.
+    /// Leaves the inbox: from now on an event that is sent is returned.
     pub fn leave(self) -> InboxLog
         ensures received { received result ≡ taken_events self }
         ensures queue { left_queue result ≡ event_queue self }

@@ -109,7 +109,7 @@ impl<R: Wait + Drop> FrameReceiver<R> {
         self.end.receive()
     }
 
-    /// Leaves the outbox: from now on a frame that is put is handed back.
+    /// Leaves the outbox: from now on a frame that is put is returned.
     pub fn leave(self) -> ReceiveLog<WriterMessage>
         ensures received { messages_received result ≡ messages_taken self }
         ensures takes { (receive_log result).takes ≡ true }

@@ -58,7 +58,7 @@ pub fn orders<R: Wait + Copy + Drop>(
     ))
 }
 
-/// When both have ended: the orders that the runner took are a beginning of those that the session pushed.
+/// When both have ended: the orders that the runner took are a prefix of those that the session pushed.
 pub fn reconcile_orders<R: Wait + Drop>(session: OrderSender<R>, runner: OrderReceiver<R>)
     requires { pop_queue runner ≡ push_queue session }
     ensures taken { Begins (taken_orders runner) (pushed_orders session).orders }

@@ -28,7 +28,7 @@ pub enum ReadEnd {
 }
 
 /// Reads pieces and sends them, until the end of the input, a failure, an allocation that fails, or an event that the inbox
-/// hands back.
+/// returns.
 pub fn read_loop<I: Source, R: Wait + Drop>(
     rt: &impl Wait,
     alloc: Global,

@@ -50,7 +50,7 @@ impl<M: Sent> Outcome<M, EndLog<M>> for Takes {
     ghost then = { λ v x w. w ≡ took v x };
 }
 
-// That nothing was inside at one moment says nothing that one who takes could use.
+// A receiver learns nothing from the fact that nothing was inside at one moment.
 impl<M: Sent> Lesson<M, EndLog<M>> for Takes {
     ghost use Rattle.std.specs.Prelude.{⊤};
 

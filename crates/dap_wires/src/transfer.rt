@@ -24,7 +24,7 @@ pub(crate) fn read_event<I: Source>(
     ensures read { IsRead (incoming_of result) (supply (I.left input.old) (I.failures input.old)) (supply (I.left input.new) (I.failures input.new)) }
     ensures own { is_report result ≡ false }
 {
-    // Before the read: what was read can't be given back.
+    // Before the read: what was read can't be unread.
     let Ok(mut piece) = Vec::with_capacity(alloc, PIECE_LIMIT) else {
         return Event::NoMemory;
     };

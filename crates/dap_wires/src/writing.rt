@@ -19,7 +19,7 @@ pub struct WriteFailed;
 ///
 /// # Errors
 ///
-/// The output failed: a beginning of the frames that were taken was written.
+/// The output failed: a prefix of the frames that were taken was written.
 pub fn write_loop<O: Sink, R: Wait + Drop>(
     rt: &impl Wait,
     output: &mut O,
