@@ -3,7 +3,7 @@
 //!
 //! - `speed machine FILE` takes the machine's steps alone.
 //! - `speed slices FILE [FIRST COUNT [CONDITION]]` runs a debuggee in slices, under breakpoints at COUNT lines from
-//! FIRST on.
+//!   FIRST on.
 //! - `speed work FILE` hands a debuggee to the runner, over a queue of orders, a gate and reports in memory.
 //! - `speed session FILE` drives a session by the bytes in the file, and prints the frames that it puts.
 #![tactic(auto)]
