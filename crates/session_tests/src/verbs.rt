@@ -2,15 +2,12 @@
 //!
 //! - `two procedures` stands for a program: a procedure in another one, which calls itself and the inner one.
 //! - `launched` stands for the first two requests and their answers; `entered` for those of a launch that stops on
-//!   entry, and for
-//!   `configurationDone` after them.
+//!   entry, and for `configurationDone` after them.
 //! - `refused syntax 6 1 1` stands for the first two requests where that refuses the launch; `launched again` for a
-//!   launch of the
-//!   smallest program after it.
+//!   launch of the smallest program after it.
 //! - `started 4/3` stands for `configurationDone` with seq 3, which orders the first run, and for its answer with seq 4.
 //! - `continue 2 8/6` stands for `continue` with seq 6, which orders run 2, and for its answer with seq 8. `next`,
-//!   `stepIn`,
-//!   `stepOut`, `stepBack` and `reverseContinue` go the same way.
+//!   `stepIn`, `stepOut`, `stepBack` and `reverseContinue` go the same way.
 //! - `ended` stands for the end of the input, which closes the session.
 
 use crate::text::in_two;
