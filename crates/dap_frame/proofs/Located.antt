@@ -4,7 +4,8 @@ use Rattle.std.specs.List.{AllByRecursion}
 use Rattle.dap_frame.specs.Header.{Field, IsField, line_end, field_text, line_of, lines_of, HasNoLineEnd}
 use Rattle.dap_frame.proofs.Lines.{same_line, same_field, field_one_line, empty_one_line, text_not_empty}
 
--- a line after the fields gs, where the bytes are also the fields fs and then part: it is the field of fs after gs, or it stands in part
+-- a line after the fields gs, where the bytes are also the fields fs and then part: it is the field of fs after gs, or
+-- it stands in part
 abbrev pub IsLocated : List Field → List Field → List ℕ → List ℕ → List ℕ → Type 0
 IsLocated fs gs part line after =
     ((f : Field) × (more : List Field) × (fs ≡ gs ++ f ∷ more) × (line ≡ field_text f))

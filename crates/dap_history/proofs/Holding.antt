@@ -45,7 +45,8 @@ use Rattle.dap_history.proofs.Once.{none_within, rest_of}
 
 -- ---- what a step orders
 
--- a step orders nothing, or the next run, or a Hold of the last where something waits in it, or Quit where it closes the session
+-- a step orders nothing, or the next run, or a Hold of the last where something waits in it, or Quit where it closes
+-- the session
 data OrdersBy (past : History) (step : Step) : Type 0 where
   orders_none : step.effect.orders ≡ [] → OrdersBy past step
   orders_go : (run : Heading) → run.run ≡ runs past + 1 → step.effect.orders ≡ Go run ∷ [] → OrdersBy past step

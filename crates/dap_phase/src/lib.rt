@@ -1,8 +1,8 @@
 //! What a session keeps between two items: how far it has come, and the program where it stands.
 //!
-//! The one contract is the definition `IsPhase` (`specs/Phases`): which histories a [`Phase`] stands for. A session holds its
-//! debuggee, by type, exactly in `Configuring`, `Stopped` and `Faulted`; while the program runs it keeps a [`Run`], which
-//! knows what the next report has to begin with.
+//! The one contract is the definition `IsPhase` (`specs/Phases`): which histories a [`Phase`] stands for. A session
+//! holds its debuggee, by type, exactly in `Configuring`, `Stopped` and `Faulted`; while the program runs it keeps a
+//! [`Run`], which knows what the next report has to begin with.
 #![tactic(auto)]
 
 mod phase;

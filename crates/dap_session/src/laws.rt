@@ -6,8 +6,8 @@ use dap_frame::frame_laws;
 use dap_history::{history_laws, reading_laws};
 use dap_msg::message_laws;
 
-/// What holds of all that a session sends, as the contract of [`drive`](crate::drive) says it. It does nothing: its contract
-/// is the laws.
+/// What holds of all that a session sends, as the contract of [`drive`](crate::drive) says it. It does nothing: its
+/// contract is the laws.
 pub fn session_laws()
     ensures prefixes { FaultsLeavePrefixes }
     ensures numbered { FramesAreNumbered }
