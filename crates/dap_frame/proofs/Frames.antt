@@ -1,4 +1,4 @@
--- A header part is one, a frame too, and where it stands no fault does.
+-- At most one header part and one frame stand at the front of some bytes, and where a frame stands no fault does.
 use Rattle.std.proofs.Common.{◌≡◌, inl, inr, ◌+◌, ◌<◌, ◌≤◌, ℕ, List, [], ◌∷◌, ◌++◌, length, take, drop, refl, sym, ◌∙◌, ap, subst, arith, append_assoc, append-nil, length-append, length-drop, take-append-drop}
 use Rattle.std.proofs.lemmas.List.{length-take-le, drop-drop}
 use Rattle.std.specs.Prelude.{decimal, codes, ◌-◌, true}

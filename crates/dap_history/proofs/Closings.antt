@@ -1,4 +1,4 @@
--- A session that its input's end closed has taken that event, and Quit is the last order.
+-- A session that was closed by the end of its input has taken that event, and Quit is its last order.
 use Rattle.std.proofs.Common.{◌≡◌, ◌⊎◌, inl, inr, ℕ, List, [], ◌∷◌, ◌++◌, Bool, true, false, ◌||◌, Option, None, Some, Result, Ok, Err, refl, sym, ◌∙◌, ap, subst}
 use Rattle.std.specs.Prelude.{nat_eq, if◌then◌else◌, ℤ}
 use Rattle.dap_msg.specs.declared.command.Command.{Command}

@@ -1,4 +1,4 @@
--- A run goes back as asked and is not held, and counts begin anew behind it.
+-- A run goes back as asked and is not held, and counts begin anew after it.
 use Rattle.std.proofs.Common.{◌≡◌, ◌⊎◌, inl, inr, ℕ, ◌+◌, List, [], ◌∷◌, ◌++◌, true, false, Option, None, Some, Ok, refl, sym, ◌∙◌, ap, subst, append-nil}
 use Rattle.std.specs.Prelude.{map, unwrap_or, option_map, if◌then◌else◌, IsSome}
 use Rattle.std.specs.Option.{option_map_or}

@@ -1,4 +1,4 @@
--- Each run is under the breakpoints of the lines that were set last, and counts from where that was.
+-- Each run is under the breakpoints of the lines that were set last, and counts from where they were set.
 use Rattle.std.proofs.Common.{◌≡◌, inl, inr, ℕ, ◌+◌, List, [], ◌∷◌, ◌++◌, Bool, true, false, ◌||◌, Option, None, Some, Result, Ok, Err, refl, sym, ◌∙◌, ap, subst, append-nil}
 use Rattle.std.specs.Prelude.{if◌then◌else◌, is_some, map, option_map, unwrap_or}
 use Rattle.std.specs.Option.{option_map_or}

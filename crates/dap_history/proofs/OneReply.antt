@@ -1,4 +1,4 @@
--- A command has one reply, a launch one, and so an item one step.
+-- A command and a launch each have at most one reply, and so an item has at most one step.
 use Rattle.std.proofs.Common.{◌≡◌, inl, inr, ℕ, ◌<◌, ◌^◌, Bool, true, false, ℤ, List, [], ◌∷◌, ◌++◌, get_or, Option, None, Some, Result, Ok, Err, refl, sym, ◌∙◌, ap, subst, arith}
 use Rattle.std.specs.Prelude.{string_bytes, map}
 use Rattle.std.specs.Fmt.{decimal}

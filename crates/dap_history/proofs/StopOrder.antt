@@ -1,4 +1,4 @@
--- Before a stop and before a log stand just the numbers written up to it, and before a stop the logs too.
+-- The numbers reported before a stop or a log are exactly those written up to it, and before a stop so are the logs.
 use Rattle.std.proofs.Common.{◌≡◌, inl, inr, ℕ, List, [], ◌∷◌, ◌++◌, ℤ, Option, None, Some, refl, sym, ◌∙◌, ap, subst}
 use Rattle.std.specs.Prelude.{map, Bool, true, false, Result}
 use Rattle.std.specs.List.{filter_map}

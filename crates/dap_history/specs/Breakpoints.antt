@@ -1,4 +1,4 @@
--- `setBreakpoints`.
+-- Defines `setBreakpoints`: how its lines are resolved, and what it is answered with and causes.
 use Rattle.std.specs.Prelude.{◌≡◌, ℕ, ◌+◌, ◌-◌, Bool, true, false, ◌||◌, List, [], ◌∷◌, map, slice_get, if◌then◌else◌, Option, Some, string_bytes}
 use Rattle.std.specs.Option.{option_map_or}
 use Rattle.std.specs.Str.{bytes_eq}
@@ -30,9 +30,11 @@ abbrev pub offset : Bool → ℕ
 offset true = 0
 offset false = 1
 
+-- the same for the client's lines
 abbrev pub line_offset : History → ℕ
 line_offset past = offset (settings past).lines_start_at_1
 
+-- the same for the client's columns
 abbrev pub column_offset : History → ℕ
 column_offset past = offset (settings past).columns_start_at_1
 
@@ -45,6 +47,7 @@ pub record IsAskedAs (less : ℕ) (b : SourceBreakpoint) (asked : AskedLine) : T
   pub hit : string_bytes asked.hit_condition ≡ b.hit_condition
   pub message : string_bytes asked.log_message ≡ b.log_message
 
+-- the same for each of the lines
 abbrev pub AreAskedAs : ℕ → List SourceBreakpoint → List AskedLine → Type 0
 AreAskedAs less [] [] = Unit {0}
 AreAskedAs less (b ∷ bs) (asked ∷ more) = IsAskedAs less b asked × AreAskedAs less bs more
@@ -60,6 +63,7 @@ pub record IsResolved (main : Block) (less : ℕ) (lines : List SourceBreakpoint
 abbrev pub step_line : Block → ℕ → ℕ
 step_line main n = option_map_or (λ s. s.place.line) (slice_get (steps main) n) 0
 
+-- the answer to a line, by how it is resolved
 abbrev pub answer_of : Block → ℕ → Resolution → BreakpointAnswer
 answer_of main less (At n) = answer.At (step_line main n - less)
 answer_of main less NoStep = answer.Unverified why.NoStep
@@ -69,16 +73,16 @@ answer_of main less BadLogMessage = answer.Unverified why.BadLogMessage
 
 -- ---- the answer
 
--- lines of another source than the launched one
+-- the reply to lines of a source that isn't the launched one
 abbrev pub other_source : List SourceBreakpoint → Reply
 other_source lines = answered (body.Breakpoints (map (λ b. answer.Unverified why.OtherSource) lines))
 
--- Hold of this run, where none was pushed. A run that goes back isn't held.
+-- The order to hold the current run, unless that was ordered before. A run that goes back isn't held.
 abbrev pub hold_once : History → List PlainOrder
 hold_once past = if is_held past || is_back past then [] else Hold (runs past) ∷ []
 
--- A debuggee that the session holds gets the plan at once: before `configurationDone` it counts from position 0, later
--- from the position after the one where the program stands. In a run it waits.
+-- Where the session has the debuggee, the plan is put in at once: before `configurationDone` it counts from position 0, and
+-- later from the position after the one where the program stands. During a run the breakpoints wait.
 abbrev pub effect_in : Situation → History → List Breakpoint → Effect
 effect_in Configuring past bs = record nothing { put_in = Some (record { breakpoints = bs; counted_from = 0 }) }
 effect_in Stopped past bs = record nothing { put_in = Some (record { breakpoints = bs; counted_from = position past + 1 }) }
@@ -99,14 +103,17 @@ pub record Resolves (past : History) (l : Launched) (lines : List SourceBreakpoi
 abbrev pub is_at : Option (List ℕ) → List ℕ → Bool
 is_at path other = option_map_or (λ p. bytes_eq p other) path false
 
+-- the reply where a program is launched, by whether the source is the launched one
 abbrev pub SetsOf : Bool → History → Launched → List SourceBreakpoint → Reply → Type 0
 SetsOf true past l lines reply = Resolves past l lines reply
 SetsOf false past l lines reply = reply ≡ other_source lines
 
+-- the reply where a program is launched
 abbrev pub Sets : History → SetBreakpointsArguments → Reply → Type 0
 Sets past arguments reply =
     OfProgram (launched past) (λ l. SetsOf (is_at arguments.path l.path) past l arguments.breakpoints reply)
 
+-- the reply to `setBreakpoints`
 abbrev pub SetsIn : Situation → History → SetBreakpointsArguments → Reply → Type 0
 SetsIn Fresh past arguments reply = reply ≡ refused refusal.WrongPhase
 SetsIn Ready past arguments reply = reply ≡ refused refusal.WrongPhase

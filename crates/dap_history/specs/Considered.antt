@@ -1,4 +1,4 @@
--- Which positions a session considered so far, and what they log.
+-- Defines which positions were considered in a session so far, and what they log.
 use Rattle.std.specs.Prelude.{ℕ, ◌+◌, ◌-◌, nat_eq, if◌then◌else◌, Bool, true, false, List, [], ◌∷◌, ◌++◌, flat_map, Option, None, Some, unwrap_or, option_map, Ok}
 use Rattle.std.specs.List.{filter_map, range_with_len}
 use Rattle.dap_msg.specs.declared.command.CommandName.{CommandName}
@@ -15,11 +15,11 @@ use Rattle.dap_history.specs.Readings.{go, plan}
 
 -- ---- runs
 
--- the runs that were ordered, in order
+-- the runs that were ordered, the oldest first
 abbrev pub all_runs : History → List Heading
 all_runs past = filter_map go (orders_of past)
 
--- where a report of the run with this number ended
+-- the position at which an accepted report of the run with this number ends
 abbrev pub end_in : ℕ → Item → Option ℕ
 end_in number (Accepted r) = if nat_eq r.run number then Some r.end else None
 end_in number _ = None
@@ -28,18 +28,19 @@ end_in number _ = None
 abbrev pub run_end : History → Heading → ℕ
 run_end past run = unwrap_or (last_such (λ step. end_in run.run step.item) past) run.start
 
--- The positions that a run considered: those after the one where it began, up to where it has come. A run that goes back
--- considers none anew.
+-- The positions that a run considered: those after its beginning, up to where it has come. A run that goes back considers
+-- no position again.
 abbrev pub considered : History → Heading → List ℕ
 considered past run = if goes_back run.mode then [] else range_with_len (run.start + 1) (run_end past run - run.start)
 
 -- ---- position 0
 
+-- whether the command is `configurationDone`
 abbrev pub is_start : CommandName → Bool
 is_start (name.Supported supported.ConfigurationDone) = true
 is_start _ = false
 
--- the answer to `configurationDone` is no refusal
+-- whether the answer is that `configurationDone` succeeded
 abbrev pub starts_by : Option Outgoing → Bool
 starts_by (Some (Answer seq command (Ok body))) = is_start command
 starts_by _ = false
@@ -51,19 +52,19 @@ before_start (step ∷ past) = if starts_by step.answer then Some [] else option
 
 -- ---- logs
 
--- the texts that position m logs under breakpoints that are counted from position t: what these say there
+-- the texts that position m logs under breakpoints that count from position t
 abbrev pub texts_at : Launched → List Breakpoint → ℕ → ℕ → List (List ℕ)
 texts_at l breakpoints t m = said l.program breakpoints t m
 
--- those that position 0 logs when the program is started
+-- the texts that position 0 logs when the program is started
 abbrev pub first_texts : Launched → Option History → List (List ℕ)
 first_texts l None = []
 first_texts l (Some before) = texts_at l (plan before).breakpoints (plan before).counted_from 0
 
--- those that the positions log which a run considered
+-- the texts that the positions log that a run considered
 abbrev pub run_texts : Launched → History → Heading → List (List ℕ)
 run_texts l past run = flat_map (texts_at l run.plan run.counted_from) (considered past run)
 
--- What all positions log that were considered so far: position 0 once, and each position once for each run that goes over it.
+-- What the positions considered so far log: position 0 once, and each position once for each run that considered it.
 abbrev pub logged : Launched → History → List (List ℕ)
 logged l past = first_texts l (before_start past) ++ flat_map (run_texts l past) (all_runs past)

@@ -1,4 +1,4 @@
--- What each item causes.
+-- Defines what each item causes.
 use Rattle.std.specs.Prelude.{◌≡◌, ◌++◌, ◌∷◌, [], ℕ, None, Some}
 use Rattle.dap_msg.specs.Commands.{name_of}
 use Rattle.dap_msg.specs.declared.command.Command.{Command}
@@ -22,11 +22,12 @@ use Rattle.dap_history.specs.Running.{ConfiguresIn, ResumesIn, ToStop, ToNext, T
 use Rattle.dap_history.specs.Inspection.{InspectsIn}
 use Rattle.dap_history.specs.Reports.{report_effect}
 
+-- the reply to `threads`
 abbrev pub threads_in : Situation → Reply
 threads_in Fresh = refused refusal.WrongPhase
 threads_in _ = answered body.Threads
 
--- The reply to a command. A `launch` that fits the situation isn't asked here: it is answered with its file.
+-- The reply to a command. A `launch` in the situation Ready isn't replied to here: it is answered once its file has come.
 abbrev pub RepliesIn : Situation → History → Command → Reply → Type 0
 RepliesIn s past (command.Initialize asked) reply = reply ≡ initialize_in s
 RepliesIn s past (command.Launch asked) reply = reply ≡ refused refusal.WrongPhase
@@ -58,7 +59,7 @@ pub record HasEffect (effect : Effect) (step : Step) : Type 0 where
   pub answer_is : step.answer ≡ None
   pub effect_is : step.effect ≡ effect
 
--- What an item causes: each request one answer, and what follows it.
+-- What an item causes: one answer for each request, and what follows it.
 abbrev pub Causes : History → Item → Step → Type 0
 Causes past (Content None) step = HasEffect nothing step
 Causes past (Content (Some request)) step =

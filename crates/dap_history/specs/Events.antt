@@ -1,4 +1,4 @@
--- Which items a list of events gives, one after another. Nothing after the closing is an item.
+-- Defines which items a list of events gives, in order. Nothing is an item after the session is closed.
 use Rattle.std.specs.Prelude.{◌≡◌, ◌⊎◌, ◌++◌, ◌∷◌, [], ℕ, List, Option, None, Some, Result, Ok, Err}
 use Rattle.dap_frame.specs.declared.fault.FramingFault.{FramingFault}
 use Rattle.dap_frame.specs.Frame.{IsFrameInFront, IsOpen}
@@ -25,40 +25,41 @@ pub data Incoming : Type 0 where
   File : Result (List ℕ) LoadFault → Incoming
   Report : PlainReport → Incoming
 
--- Each report is what the meaning of its program gives; a report's type keeps that.
+-- Each report says what the meaning of its program says. The type of a report guarantees this.
 abbrev pub AreLawful : List Incoming → Type 0
 AreLawful [] = Unit {0}
 AreLawful (Report r ∷ events) = IsLawful r × AreLawful events
 AreLawful (e ∷ events) = AreLawful events
 
--- What came and isn't taken yet: a launch that waits for its file, and bytes after it.
+-- What came and isn't taken yet: a launch that waits for its file, and bytes.
 pub record Rest : Type 0 where
   pub launch : Option Launch
   pub bytes : List ℕ
 
+-- bytes, and no launch that waits
 abbrev pub only_bytes : List ℕ → Rest
 only_bytes bytes = record { launch = None; bytes = bytes }
 
--- the session takes items
+-- the session still takes items
 abbrev pub IsTaking : History → Type 0
 IsTaking past = ending_of past ≡ None
 
--- the content in front of the bytes, with the request that it is or none, and the bytes after it
+-- the content at the front of the bytes, with the request that it is, or none, and the bytes after it
 pub record IsInFront (bytes : List ℕ) (request : Option Request) (more : List ℕ) : Type 0 where
   pub content : List ℕ
   pub framed : IsFrameInFront bytes content more
   pub read : IsRequestOf content request
 
--- From past, with these bytes to read, contents that want no file are taken one after another, which leaves new and the
--- bytes left.
+-- From the history `past`, contents at the front of the bytes that want no file are taken one after another; the history is
+-- `new` then, and the bytes `left` remain.
 pub data Takes : History → List ℕ → History → List ℕ → Type 0 where
   none : {past : History} {bytes : List ℕ} → Takes past bytes past bytes
   one_more : {past mid new : History} {bytes more left : List ℕ} (request : Option Request) →
       IsTaking past → IsInFront bytes request more → wanted_in (situation past) request ≡ None →
       IsAfter past (Content request) mid → Takes mid more new left → Takes past bytes new left
 
--- Where no further content is taken: the session is closed; or nothing whole stands in front; or a framing fault does; or
--- a launch that waits for its file.
+-- No further content is taken: the session is closed; or nothing complete stands at the front of the bytes; or a framing
+-- fault does; or a launch does, which waits for its file.
 pub data Rests (past : History) (bytes : List ℕ) : History → Rest → Type 0 where
   closed : ¬ IsTaking past → Rests past bytes past (only_bytes bytes)
   open_ended : IsTaking past → IsOpen bytes → Rests past bytes past (only_bytes bytes)
@@ -67,7 +68,7 @@ pub data Rests (past : History) (bytes : List ℕ) : History → Rest → Type 0
   waits : (request : Option Request) (launch : Launch) (more : List ℕ) → IsTaking past → IsInFront bytes request more →
       wanted_in (situation past) request ≡ Some launch → Rests past bytes past (record { launch = Some launch; bytes = more })
 
--- the contents of the bytes are taken, all that can be
+-- all contents of the bytes are taken that can be
 pub record TakesAll (past : History) (bytes : List ℕ) (new : History) (rest : Rest) : Type 0 where
   pub mid : History
   pub left : List ℕ
@@ -78,7 +79,7 @@ pub record TakesAll (past : History) (bytes : List ℕ) (new : History) (rest : 
 abbrev pub MayTake : History → Item → History → Type 0
 MayTake past item new = ((¬ IsTaking past) × (new ≡ past)) ⊎ (IsTaking past × IsAfter past item new)
 
--- bytes after a launch that waits wait with it
+-- A piece of the stream. While a launch waits for its file, the bytes wait too.
 abbrev pub LeadsByPiece : History → Option Launch → List ℕ → History → Rest → Type 0
 LeadsByPiece past None bytes new left = TakesAll past bytes new left
 LeadsByPiece past (Some launch) bytes new left = (new ≡ past) × (left ≡ record { launch = Some launch; bytes = bytes })
@@ -90,7 +91,7 @@ pub record Loads (past : History) (launch : Launch) (file : Option (List ℕ)) (
   pub loaded : IsAfter past (Loaded launch file) mid
   pub after : TakesAll mid bytes new left
 
--- A file. One that wasn't wanted is passed over, also after the closing.
+-- A file. One that no launch waits for is ignored, and so is any after the session is closed.
 abbrev pub LeadsByFile : History → Rest → Option Launch → Result (List ℕ) LoadFault → History → Rest → Type 0
 LeadsByFile past rest None file new left = (new ≡ past) × (left ≡ rest)
 LeadsByFile past rest (Some launch) (Ok file) new left =
@@ -99,12 +100,12 @@ LeadsByFile past rest (Some launch) (Err load_fault.CannotRead) new left =
     ((¬ IsTaking past) × (new ≡ past) × (left ≡ rest)) ⊎ Loads past launch None rest.bytes new left
 LeadsByFile past rest (Some launch) (Err load_fault.NoMemory) new left = MayTake past MemoryFailure new × (left ≡ rest)
 
--- A report. One that isn't accepted is passed over.
+-- A report. One that isn't accepted is ignored.
 abbrev pub LeadsByReport : History → PlainReport → History → Type 0
 LeadsByReport past r new =
     ((¬ (IsTaking past × Accepts past r)) × (new ≡ past)) ⊎ (IsTaking past × Accepts past r × IsAfter past (Accepted r) new)
 
--- An event leads from past, with a rest that isn't taken yet, to new and another rest.
+-- An event leads from the history `past` and the rest to the history `new` and the rest `left`.
 abbrev pub Leads : History → Rest → Incoming → History → Rest → Type 0
 Leads past rest (Piece piece) new left = LeadsByPiece past rest.launch (rest.bytes ++ piece) new left
 Leads past rest End new left = MayTake past InputEnd new × (left ≡ rest)
@@ -119,6 +120,6 @@ LeadsAll past rest [] new left = (new ≡ past) × (left ≡ rest)
 LeadsAll past rest (e ∷ events) new left =
     (mid : History) × (between : Rest) × Leads past rest e mid between × LeadsAll mid between events new left
 
--- the history that a list of events gives, and what of them isn't taken yet
+-- the history that a list of events gives, and what came and isn't taken yet
 abbrev pub IsHistoryOf : List Incoming → History → Rest → Type 0
 IsHistoryOf events past rest = LeadsAll [] (only_bytes []) events past rest

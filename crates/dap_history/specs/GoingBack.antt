@@ -1,4 +1,4 @@
--- The laws of going back: what a run that goes back was asked for, and how it is ordered.
+-- States the laws of going back: which command asked for a run that goes back, and how the run is ordered.
 use Rattle.std.specs.Prelude.{◌≡◌, ◌++◌, ◌∷◌, ℕ, ◌+◌, true, if◌then◌else◌, List, Option, None, Some, IsSome, Ok}
 use Rattle.dap_msg.specs.declared.command.Command.{Command}
 use Rattle.dap_msg.specs.declared.command.Command.TheVariants as command
@@ -29,7 +29,8 @@ back_in _ = None
 abbrev pub back_of : Heading → Option Mode
 back_of run = if goes_back run.mode then Some run.mode else None
 
--- A run goes back just where `stepBack` or `reverseContinue` asks for it, and as that asks. Where that is granted, a run is ordered.
+-- A run goes back only where `stepBack` or `reverseContinue` asks for it, in the mode that the command asks for. Where the
+-- command is granted, a run is ordered.
 abbrev pub EachGoesBackAsAsked : Type 0
 EachGoesBackAsAsked =
     (events : List Incoming) (past : History) (rest : Rest) → AreLawful events → IsHistoryOf events past rest
@@ -37,14 +38,14 @@ EachGoesBackAsAsked =
     → ((run : Heading) → Orders step run → back_of run ≡ back_in step.item)
     × ((m : Mode) (seq : ℕ) (name : CommandName) (b : Body) → back_in step.item ≡ Some m → step.answer ≡ Some (Answer seq name (Ok b)) → IsSome (run_in step))
 
--- A run that follows one that went back counts from the position after the one where it begins.
+-- A run after one that went back counts from the position after the one where it begins.
 abbrev pub CountsBeginAnew : Type 0
 CountsBeginAnew =
     (events : List Incoming) (past : History) (rest : Rest) → AreLawful events → IsHistoryOf events past rest
     → (before : History) (step : Step) (after : History) (run : Heading) → past ≡ before ++ step ∷ after → Orders step run
     → is_back before ≡ true → run.counted_from ≡ run.start + 1
 
--- the run that an order holds, if it holds one
+-- the number of the run that an order holds, if it holds one
 abbrev pub held_by : PlainOrder → Option ℕ
 held_by (Hold run) = Some run
 held_by _ = None

@@ -1,4 +1,4 @@
--- What a session has taken, and what that caused.
+-- Defines the history of a session: the items that it has taken, and what each caused.
 use Rattle.std.specs.Prelude.{ℕ, ◌+◌, Bool, List, ◌∷◌, map, length, flat_map, Option, None, Some}
 use Rattle.dap_frame.specs.declared.fault.FramingFault.{FramingFault}
 use Rattle.dap_msg.specs.declared.request.Request.{Request}
@@ -18,8 +18,8 @@ pub record Launched : Type 0 where
   pub text : List ℕ
   pub program : Block
 
--- What a session takes: a content, with the request that it is or none; a launch, with its file's bytes or none where the
--- file can't be read; a report that is accepted; a framing fault; how the input came to its end.
+-- What a session takes: a content, with the request that it is, or none; a launch with its file's bytes, or none where the
+-- file can't be read; a report that is accepted; a framing fault; the end of the input; a failed read; a failed allocation.
 pub data Item : Type 0 where
   Content : Option Request → Item
   Loaded : Launch → Option (List ℕ) → Item
@@ -29,8 +29,8 @@ pub data Item : Type 0 where
   ReadFailure : Item
   MemoryFailure : Item
 
--- What an item causes after the answer, if it has one: events, and orders; the program that it launches, the plan that
--- it puts into the debuggee, and the breakpoints that wait until the runner gives the debuggee back.
+-- What an item causes after its answer, if it has one: events and orders; the program that it launches; the plan that it
+-- puts into the debuggee; and the breakpoints that wait until the runner returns the debuggee.
 pub record Effect : Type 0 where
   pub events : List EventBody
   pub orders : List PlainOrder
@@ -48,6 +48,7 @@ pub record Step : Type 0 where
 abbrev pub History : Type 0
 History = List Step
 
+-- an answer, if there is one, in front of other messages
 abbrev pub with_answer : Option Outgoing → List Outgoing → List Outgoing
 with_answer None messages = messages
 with_answer (Some answer) messages = answer ∷ messages
@@ -56,9 +57,11 @@ with_answer (Some answer) messages = answer ∷ messages
 abbrev pub messages : Step → List Outgoing
 messages step = with_answer step.answer (map Event step.effect.events)
 
+-- the messages of all steps, in order
 abbrev pub messages_of : History → List Outgoing
 messages_of past = flat_map messages past
 
+-- the orders of all steps, in order
 abbrev pub orders_of : History → List PlainOrder
 orders_of past = flat_map (λ step. step.effect.orders) past
 

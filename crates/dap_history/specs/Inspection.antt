@@ -1,4 +1,4 @@
--- Questions about the program where it stands: `stackTrace`, `scopes`, `variables`, `evaluate`.
+-- Defines the questions about the program where it stands: `stackTrace`, `scopes`, `variables`, `evaluate`.
 use Rattle.std.specs.Prelude.{◌≡◌, ℕ, ◌-◌, ◌⊎◌, ℤ, List, length, Option, None, Some, Result, Ok, Err}
 use Rattle.dap_msg.specs.declared.requests.stack_trace.StackTraceArguments.{StackTraceArguments}
 use Rattle.dap_msg.specs.declared.command.Command.{Command}
@@ -20,32 +20,36 @@ use Rattle.dap_history.specs.Breakpoints.{line_offset, column_offset}
 use Rattle.dap_history.specs.Frames.{Counting, frames_asked, scopes_from, variables_of, frame_by_id}
 use Rattle.dap_history.specs.Replies.{Reply, answered, refused, OfProgram, on_thread}
 
--- What is asked of a program, shown by its path and as the client counts.
+-- What a question is asked of: a program, its path, and how the client counts lines and columns.
 pub record Asked : Type 0 where
   pub program : Block
   pub path : List ℕ
   pub counting : Counting
 
+-- the reply to `stackTrace`
 abbrev pub stack_trace : Asked → StackTraceArguments → Configuration → Reply
 stack_trace of asked c =
     on_thread asked.thread_id (answered (body.StackTrace of.path (frames_asked of.program of.counting asked c) (length c)))
 
+-- the reply to `scopes`, by the frame with the id, if there is one
 abbrev pub scopes : Asked → ℕ → Configuration → Option Frame → Reply
 scopes of id c None = refused refusal.UnknownFrame
 scopes of id c (Some f) = answered (body.Scopes (scopes_from of.program c (id - 1)))
 
+-- the reply to `variables`, by the frame with the reference, if there is one
 abbrev pub variables : Asked → Option Frame → Reply
 variables of None = refused refusal.UnknownReference
 variables of (Some f) = answered (body.Variables (variables_of of.program f))
 
 -- ---- `evaluate`
 
+-- the reply with the result of an evaluation
 abbrev pub result_reply : Result ℤ EvalFault → Reply
 result_reply (Ok v) = answered (body.Value v)
 result_reply (Err Overflow) = refused refusal.Overflow
 result_reply (Err DivideByZero) = refused refusal.DivideByZero
 
--- the expression reads in the scope of frame f, whose number is i, and has this result there
+-- the text is an expression in the scope of frame f, whose number is i, and the reply is its result there
 pub record HasResult (main : Block) (c : Configuration) (i : ℕ) (f : Frame) (text : List ℕ) (reply : Reply) : Type 0 where
   pub expression : Expression
   pub reads : IsExpressionOf main f.block text expression
@@ -53,18 +57,19 @@ pub record HasResult (main : Block) (c : Configuration) (i : ℕ) (f : Frame) (t
   pub result_is : value main c i expression ≡ evaluated result
   pub reply_is : reply ≡ result_reply result
 
--- it doesn't read
+-- the text isn't an expression in the scope of frame f
 pub record HasNoReading (main : Block) (f : Frame) (text : List ℕ) (reply : Reply) : Type 0 where
   pub none : (e : Expression) → ¬ IsExpressionOf main f.block text e
   pub reply_is : reply ≡ refused refusal.BadExpression
 
+-- the reply to `evaluate`, by the frame with the id, if there is one
 abbrev pub EvaluatesIn : Block → Configuration → ℕ → Option Frame → List ℕ → Reply → Type 0
 EvaluatesIn main c id None text reply = reply ≡ refused refusal.UnknownFrame
 EvaluatesIn main c id (Some f) text reply = HasResult main c (id - 1) f text reply ⊎ HasNoReading main f text reply
 
 -- ---- questions
 
--- The reply to a question, asked where the program is in this configuration. Other commands are none.
+-- The reply to a question, asked where the program is in this configuration. Other commands are no questions.
 abbrev pub RepliesFrom : Asked → Configuration → Command → Reply → Type 0
 RepliesFrom of c (command.StackTrace asked) reply = reply ≡ stack_trace of asked c
 RepliesFrom of c (command.Scopes asked) reply = reply ≡ scopes of asked.frame_id c (frame_by_id c asked.frame_id)
@@ -73,10 +78,12 @@ RepliesFrom of c (command.Evaluate asked) reply =
     EvaluatesIn of.program c asked.frame_id (frame_by_id c asked.frame_id) asked.expression reply
 RepliesFrom of c _ reply = ⊥
 
+-- the same, where there is such a configuration
 abbrev pub RepliesAt : Asked → Option Configuration → Command → Reply → Type 0
 RepliesAt of None question reply = ⊥
 RepliesAt of (Some c) question reply = RepliesFrom of c question reply
 
+-- what a question is asked of in a session
 abbrev pub asked_of : History → Launched → Asked
 asked_of past l = record { program = l.program; path = l.path; counting = record { lines = line_offset past; columns = column_offset past } }
 
@@ -85,6 +92,7 @@ abbrev pub Inspects : History → Command → Reply → Type 0
 Inspects past question reply =
     OfProgram (launched past) (λ l. RepliesAt (asked_of past l) (at l.program (position past)) question reply)
 
+-- the reply to a question
 abbrev pub InspectsIn : Situation → History → Command → Reply → Type 0
 InspectsIn Running past question reply = reply ≡ refused refusal.NotStopped
 InspectsIn Stopped past question reply = Inspects past question reply

@@ -1,4 +1,4 @@
--- Which lists of events arise from what an inbox and a loader give.
+-- Defines which lists of events arise from what an inbox and a loader return.
 use Rattle.std.specs.Prelude.{◌≡◌, ◌⊎◌, ◌++◌, ◌∷◌, [], ℕ, List, Some, None, Result, Err}
 use Rattle.dap_history.specs.declared.launch.Launch.{Launch}
 use Rattle.dap_history.specs.declared.fault.LoadFault.{LoadFault}
@@ -21,7 +21,7 @@ pub record Awaits (events : List Incoming) (path : List ℕ) : Type 0 where
   pub waits : rest.launch ≡ Some launch
   pub path_is : path ≡ launch.arguments.program
 
--- none waits
+-- after these events no launch waits for a file
 pub record AwaitsNone (events : List Incoming) : Type 0 where
   pub past : History
   pub rest : Rest
@@ -33,16 +33,16 @@ abbrev pub IsLoad : List Incoming → Incoming → Load → Type 0
 IsLoad before (File file) load = (load.answer ≡ file) × Awaits before load.path
 IsLoad before _ load = ⊥
 
--- After the events so far, each further one is the file that the loader gave next, directly after the event that wanted
--- it, or, where none is wanted, what the inbox gave next.
+-- After the events so far, each further one is the next answer of the loader where a launch waits for its file, and
+-- otherwise the next event of the inbox.
 abbrev pub Interleaves : List Incoming → List Incoming → List Incoming → List Load → Type 0
 Interleaves before [] given loads = (given ≡ []) × (loads ≡ [])
 Interleaves before (e ∷ events) given loads =
     ((load : Load) × (more : List Load) × (loads ≡ load ∷ more) × IsLoad before e load × Interleaves (before ++ e ∷ []) events given more)
     ⊎ ((more : List Incoming) × (given ≡ e ∷ more) × AwaitsNone before × Interleaves (before ++ e ∷ []) events more loads)
 
--- A last answer of the loader that it had no memory may be missing among those that it stored: there was no memory for that
--- either. A launch waited for it.
+-- The last event is the loader's answer that it is out of memory, which the loader doesn't store. A launch waited for
+-- that answer.
 pub record LastLoadFails (events given : List Incoming) (loads : List Load) : Type 0 where
   pub before : List Incoming
   pub path : List ℕ
@@ -50,5 +50,6 @@ pub record LastLoadFails (events given : List Incoming) (loads : List Load) : Ty
   pub awaited : Awaits before path
   pub interleaves : Interleaves [] before given loads
 
+-- the events interleave, or all of them but such a last answer do
 abbrev pub InterleavesUpTo : List Incoming → List Incoming → List Load → Type 0
 InterleavesUpTo events given loads = Interleaves [] events given loads ⊎ LastLoadFails events given loads

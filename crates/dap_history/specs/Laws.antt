@@ -1,4 +1,4 @@
--- Laws of what a session sends, said without the rules of the commands and reports. `Stops` has the one on stops.
+-- States laws of what a session sends, without the rules of the commands and reports. `Stops` has those on stops.
 use Rattle.std.specs.Prelude.{◌≡◌, ◌++◌, ◌∷◌, [], ℕ, ◌+◌, ◌^◌, ◌<◌, List, map, Option, None, Some, option_map, slice_get, Ok}
 use Rattle.std.specs.List.{filter_map}
 use Rattle.dap_frame.specs.Frame.{Frames, IsOpen, frame_of}
@@ -39,7 +39,7 @@ HistoryIsOne =
     (events : List Incoming) (past other : History) (rest left : Rest) → IsHistoryOf events past rest → IsHistoryOf events other left
     → (past ≡ other) × (rest ≡ left)
 
--- An item leads from a history to one other: what it is answered with, and what it causes, is settled.
+-- An item leads from a history to at most one other: what it is answered with and what it causes is determined.
 abbrev pub ItemsLeadToOne : Type 0
 ItemsLeadToOne = (past : History) (item : Item) (new other : History) → IsAfter past item new → IsAfter past item other → new ≡ other
 
@@ -49,7 +49,7 @@ IsPlain (command.SetBreakpoints asked) = ⊥
 IsPlain (command.Evaluate asked) = ⊥
 IsPlain _ = Unit {0}
 
--- an item of that kind: no launch with its text
+-- an item of that kind; a launch with its text isn't one
 abbrev pub IsPlainItem : Item → Type 0
 IsPlainItem (Content (Some request)) = IsPlain request.body
 IsPlainItem (Loaded launch (Some text)) = ⊥
@@ -79,6 +79,7 @@ read_as (Content request) = Some request
 read_as (Loaded launch file) = Some (Some (launch_request launch))
 read_as _ = None
 
+-- what the content of a launch that waits is read as
 abbrev pub waiting : Option Launch → List (Option Request)
 waiting None = []
 waiting (Some launch) = Some (launch_request launch) ∷ []
@@ -87,7 +88,7 @@ waiting (Some launch) = Some (launch_request launch) ∷ []
 abbrev pub contents_read : History → Option Launch → List (Option Request)
 contents_read past launch = filter_map read_as (map (λ (step : Step). step.item) past) ++ waiting launch
 
--- each content is read so
+-- each content is read as this
 abbrev pub AreRead : List (List ℕ) → List (Option Request) → Type 0
 AreRead [] [] = Unit {0}
 AreRead (content ∷ contents) (request ∷ requests) = IsRequestOf content request × AreRead contents requests
@@ -105,8 +106,8 @@ CutsChangeNothing =
     (a b : List ℕ) (before after : List Incoming) (past : History) (rest : Rest)
     → IsHistoryOf (before ++ (Piece a ∷ Piece b ∷ after)) past rest → IsHistoryOf (before ++ (Piece (a ++ b) ∷ after)) past rest
 
--- While a session takes items, nothing whole is left unread: neither a frame nor a framing fault stands in front of the rest, but
--- after a launch that waits for its file, and one waits in Ready alone.
+-- While a session takes items, nothing complete is left unread: neither a frame nor a framing fault stands at the front of
+-- the rest, except while a launch waits for its file; and one waits only in the situation Ready.
 abbrev pub RestIsOpen : Type 0
 RestIsOpen =
     (events : List Incoming) (past : History) (rest : Rest) → IsHistoryOf events past rest → IsTaking past
@@ -114,11 +115,12 @@ RestIsOpen =
 
 -- ---- Answered once
 
--- the seq and the command that an answer names, and those of a request
+-- the seq and the command that an answer names
 abbrev pub answered : Outgoing → Option (ℕ × CommandName)
 answered (Answer seq command result) = Some (seq, command)
 answered (Event e) = None
 
+-- the seq and the command of the request that an item is, if it is one
 abbrev pub asked : Item → Option (ℕ × CommandName)
 asked (Content None) = None
 asked (Content (Some request)) = Some (request.seq, name_of request.body)
@@ -137,7 +139,7 @@ EachIsAnsweredOnce =
 
 -- ---- Numbering
 
--- The message numbered n is the nth: its frame is the nth.
+-- The nth frame is the frame of the nth message, with the seq n.
 abbrev pub SeqCountFromOne : Type 0
 SeqCountFromOne =
     (messages : List Outgoing) (n : ℕ)
@@ -162,10 +164,11 @@ DisconnectIsLast =
 
 -- ---- Closing
 
+-- the event is one of these
 abbrev pub IsAmong : Incoming → List Incoming → Type 0
 IsAmong event events = (front : List Incoming) × (back : List Incoming) × (events ≡ front ++ event ∷ back)
 
--- A session that the input's end or a failed read closed has taken that event.
+-- A session that was closed by the end of the input or a failed read has taken that event.
 abbrev pub ClosedByItsEvent : Type 0
 ClosedByItsEvent =
     (events : List Incoming) (past : History) (rest : Rest) → IsHistoryOf events past rest
@@ -178,12 +181,13 @@ QuitIsLast =
     (events : List Incoming) (past : History) (rest : Rest) → IsHistoryOf events past rest
     → (front more : List PlainOrder) → orders_of past ≡ front ++ Quit ∷ more → more ≡ []
 
--- the orders of a session that ended so, or didn't end: Quit is the last of them, or is none of them
+-- where the session was closed, Quit is the last of its orders; where it goes on or gave up, Quit isn't among them
 abbrev pub EndsWithQuit : Option Ending → List PlainOrder → Type 0
 EndsWithQuit (Some (ending.Closed by)) orders = (front : List PlainOrder) × (orders ≡ front ++ Quit ∷ [])
 EndsWithQuit _ orders = (front back : List PlainOrder) → ¬ (orders ≡ front ++ Quit ∷ back)
 
--- A session that `disconnect`, the input's end or a failed read closed ordered Quit last. One that goes on or gave up ordered none.
+-- A session that was closed by `disconnect`, the end of the input or a failed read ordered Quit last. One that goes on or
+-- gave up ordered no Quit.
 abbrev pub QuitCloses : Type 0
 QuitCloses =
     (events : List Incoming) (past : History) (rest : Rest) → IsHistoryOf events past rest → EndsWithQuit (ending_of past) (orders_of past)
@@ -198,7 +202,8 @@ NumbersAreWritten =
     → ((l : Launched) → launched past ≡ Some l → numbers (messages_of past) ≡ written l.program 0 (reached past))
     × (launched past ≡ None → numbers (messages_of past) ≡ [])
 
--- Before a stop stand just the numbers of the steps up to the furthest position that the program has reached then.
+-- The numbers reported before a stop are exactly those of the steps up to the furthest position
+-- that the program has reached then.
 abbrev pub StopsFollowNumbers : Type 0
 StopsFollowNumbers =
     (events : List Incoming) (past : History) (rest : Rest) → AreLawful events → IsHistoryOf events past rest
@@ -209,6 +214,7 @@ StopsFollowNumbers =
 
 -- ---- Logs
 
+-- the log that a message reports, if it reports one
 abbrev pub log_of : Outgoing → Option (List ℕ)
 log_of (Event (event.Log text)) = Some text
 log_of _ = None
@@ -224,7 +230,8 @@ LogsAreOfPositions =
     → ((l : Launched) → launched past ≡ Some l → logs (messages_of past) ≡ logged l past)
     × (launched past ≡ None → logs (messages_of past) ≡ [])
 
--- Before a log stand just the numbers of the steps up to the furthest position that the program has reached then.
+-- The numbers reported before a log are exactly those of the steps up to the furthest position
+-- that the program has reached then.
 abbrev pub LogsFollowNumbers : Type 0
 LogsFollowNumbers =
     (events : List Incoming) (past : History) (rest : Rest) → AreLawful events → IsHistoryOf events past rest
@@ -233,7 +240,7 @@ LogsFollowNumbers =
     → (before : List Outgoing) (text : List ℕ) (after : List Outgoing) → messages step ≡ before ++ Event (event.Log text) ∷ after
     → numbers (messages_of front ++ before) ≡ written l.program 0 (reached (front ++ step ∷ []))
 
--- Before a stop stand just the logs of the positions considered then.
+-- The logs reported before a stop are exactly those of the positions considered until then.
 abbrev pub StopsFollowLogs : Type 0
 StopsFollowLogs =
     (events : List Incoming) (past : History) (rest : Rest) → AreLawful events → IsHistoryOf events past rest

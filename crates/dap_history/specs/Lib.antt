@@ -1,23 +1,45 @@
--- What one must believe: the definitions that the laws and the contracts of a session cite, in reading order.
+-- The definitions that the laws and the contracts of a session cite, in reading order: they are what a reader must believe.
+-- the last element of a kind in a list
 pub mod Last
+-- a plan in force
 pub mod Plans
+-- the items that a session has taken, and what each caused
 pub mod History
+-- the readings of a history, by which a session acts
 pub mod Readings
+-- what a command is answered with and causes
 pub mod Replies
+-- `initialize` and `launch`
 pub mod Launching
+-- `setBreakpoints`
 pub mod Breakpoints
+-- the commands that start, resume, go back and interrupt
 pub mod Running
+-- what a client is shown of a configuration
 pub mod Frames
+-- the questions about the program where it stands
 pub mod Inspection
+-- which reports are accepted, and what they cause
 pub mod Reports
+-- what each item causes
 pub mod Emission
+-- which items a list of events gives
 pub mod Events
+-- which events arise from an inbox and a loader
 pub mod Interleaving
+-- the frames of the messages
 pub mod Output
+-- which positions were considered, and what they log
 pub mod Considered
+-- the laws of what a session sends
 pub mod Laws
+-- the laws of stops
 pub mod Stops
+-- the laws of going back
 pub mod GoingBack
+-- the laws of runs
 pub mod Runs
+-- the laws of breakpoints
 pub mod Lines
+-- how each reading changes with one more step
 pub mod ReadingLaws

@@ -1,4 +1,4 @@
--- The laws of breakpoints: each run is under those of the lines that were set last, and counts from where that was.
+-- States the laws of breakpoints: each run has those of the lines that were set last, and counts from where they were set.
 use Rattle.std.specs.Prelude.{◌≡◌, ◌++◌, ◌∷◌, [], ℕ, ◌+◌, Bool, true, false, ◌||◌, if◌then◌else◌, is_some, List, Option, None, Some, option_map, unwrap_or, Ok}
 use Rattle.std.specs.Option.{option_map_or}
 use Rattle.dap_msg.specs.declared.command.Command.{Command}
@@ -26,12 +26,12 @@ abbrev pub lines_at : List ℕ → Command → Option (List SourceBreakpoint)
 lines_at path (command.SetBreakpoints asked) = if is_at asked.path path then Some asked.breakpoints else None
 lines_at path _ = None
 
--- those that an item sets, where it is granted
+-- the lines that an item sets at this path, if it is granted and sets any
 abbrev pub lines_by : List ℕ → Item → Option Outgoing → Option (List SourceBreakpoint)
 lines_by path (Content (Some request)) (Some (Answer seq command (Ok body))) = lines_at path request.body
 lines_by path _ _ = None
 
--- those that were set last
+-- the lines that were set last at this path
 abbrev pub lines_set : List ℕ → History → Option (List SourceBreakpoint)
 lines_set path past = last_such (λ step. lines_by path step.item step.answer) past
 
@@ -40,7 +40,7 @@ abbrev pub AreOfLines : Launched → ℕ → Option (List SourceBreakpoint) → 
 AreOfLines l less None breakpoints = breakpoints ≡ []
 AreOfLines l less (Some lines) breakpoints = (answers : List Resolution) × IsResolved l.program less lines answers breakpoints
 
--- the session has the debuggee: before the program is started, and where it stands
+-- the session has the debuggee: the program isn't started yet, or stands
 abbrev pub HasDebuggee : Situation → Type 0
 HasDebuggee Configuring = Unit {0}
 HasDebuggee Stopped = Unit {0}
@@ -64,7 +64,8 @@ EachRunHasItsLines =
 
 -- ---- counting
 
--- A run that is ordered, and the start of the program, end what was set anew; lines that are set begin it.
+-- whether lines count as set anew after a step, if the step changes it: lines that are set make it so, and a run that is
+-- ordered or the start of the program ends it
 abbrev pub anew_mark : List ℕ → Step → Option Bool
 anew_mark path step =
     if is_some (run_in step) || starts_by step.answer then Some false else option_map (λ lines. true) (lines_by path step.item step.answer)
@@ -73,7 +74,7 @@ anew_mark path step =
 abbrev pub are_anew : List ℕ → History → Bool
 are_anew path past = unwrap_or (last_such (anew_mark path) past) false
 
--- from where a later run counts: anew, from the position after its beginning, or as the run before it, or from 0
+-- from where a run counts: from the position after its beginning, if anew; otherwise as the run before it, or from 0
 abbrev pub next_counted : Bool → Option Heading → ℕ → ℕ
 next_counted true last start = start + 1
 next_counted false last start = option_map_or (λ run. run.counted_from) last 0
@@ -83,8 +84,8 @@ abbrev pub counts_from : History → Launched → Option Outgoing → ℕ → �
 counts_from past l answer start =
     if starts_by answer then 0 else next_counted (are_anew l.path past || is_back past) (last_run past) start
 
--- The run that starts the program counts from position 0. Another counts from the position after the one where it begins, if
--- lines were set since the run before it, or if that went back; else from where that counts, or from 0 if there was none.
+-- The run that starts the program counts from position 0. A later run counts from the position after its beginning if lines
+-- were set since the run before it, or if that run went back; otherwise from where that run counts, or from 0 if none was.
 abbrev pub EachRunCountsFrom : Type 0
 EachRunCountsFrom =
     (events : List Incoming) (past : History) (rest : Rest) → AreLawful events → IsHistoryOf events past rest

@@ -1,4 +1,4 @@
--- A plan in force.
+-- Defines a plan in force.
 use Rattle.std.specs.Prelude.{ℕ, List, []}
 use Rattle.dbg_plan.specs.Breakpoints.{Breakpoint}
 
@@ -7,5 +7,6 @@ pub record Plan : Type 0 where
   pub breakpoints : List Breakpoint
   pub counted_from : ℕ
 
+-- the plan before any was put in
 abbrev pub no_plan : Plan
 no_plan = record { breakpoints = []; counted_from = 0 }

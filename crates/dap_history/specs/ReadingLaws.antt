@@ -1,10 +1,11 @@
--- How each reading goes on with one more step.
+-- States how each reading changes with one more step.
 use Rattle.std.specs.Prelude.{◌≡◌, ◌++◌, ◌∷◌, [], ◌+◌, length, unwrap_or}
 use Rattle.std.specs.List.{filter_map}
 use Rattle.dap_history.specs.Last.{or_else, last_such}
 use Rattle.dap_history.specs.History.{Step, History, messages, messages_of, orders_of, next_seq}
 use Rattle.dap_history.specs.Readings.{step_mark, situation, settings_by, settings, launched, go, last_run, runs, end_of, position, numbers, numbers_told, plan, waits_by, waiting_plan, pauses_by, waiting_pause, hold_mark, is_held, closing, ending_of}
 
+-- one equation for each reading
 pub record ReadingsGoOn : Type 0 where
   pub messages_are : (past : History) (step : Step) → messages_of (past ++ step ∷ []) ≡ messages_of past ++ messages step
   pub orders_are : (past : History) (step : Step) → orders_of (past ++ step ∷ []) ≡ orders_of past ++ step.effect.orders

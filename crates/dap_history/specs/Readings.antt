@@ -1,4 +1,4 @@
--- What a session goes by: each a question for the last such step, message or order of its history.
+-- Defines the readings of a history, by which a session acts; most say what the last such step, message or order was.
 use Rattle.std.specs.Prelude.{ℕ, ℤ, max, Bool, true, false, List, [], ◌∷◌, length, unwrap_or, Option, None, Some, option_map, Result, Ok, Err}
 use Rattle.std.specs.List.{filter_map}
 use Rattle.std.specs.Option.{option_map_or}
@@ -32,21 +32,23 @@ use Rattle.dap_history.specs.declared.fault.SessionFault.TheVariants.{Frame, NoM
 
 -- ---- the situation
 
--- where a successful answer leads
+-- the situation to which a successful answer leads, if it changes the situation
 abbrev pub command_mark : CommandName → Option Situation
 command_mark (name.Supported supported.Initialize) = Some Ready
 command_mark (name.Supported supported.Launch) = Some Configuring
 command_mark _ = None
 
+-- the same for any answer
 abbrev pub answer_mark : CommandName → Result Body Refusal → Option Situation
 answer_mark command (Ok body) = command_mark command
 answer_mark command (Err refusal) = None
 
--- where a stop leads
+-- the situation to which a stop leads
 abbrev pub stop_mark : StopReason → Situation
 stop_mark (reason.Exception fault) = Faulted
 stop_mark _ = Stopped
 
+-- the same for an event
 abbrev pub event_mark : EventBody → Option Situation
 event_mark (event.Stopped r) = Some (stop_mark r)
 event_mark (event.Exited code) = Some Ended
@@ -55,44 +57,52 @@ event_mark (event.Output v) = None
 event_mark (event.Log text) = None
 event_mark event.Terminated = None
 
+-- the same for a message
 abbrev pub message_mark : Outgoing → Option Situation
 message_mark (Answer seq command result) = answer_mark command result
 message_mark (Event e) = event_mark e
 
+-- the same for an order
 abbrev pub order_mark : PlainOrder → Option Situation
 order_mark (Go run) = Some Running
 order_mark (Hold run) = None
 order_mark Quit = None
 
--- the last mark of a step, its orders being after its messages
+-- the same for a step, whose orders come after its messages
 abbrev pub step_mark : Step → Option Situation
 step_mark step = or_else (last_such order_mark step.effect.orders) (last_such message_mark (messages step))
 
+-- how far the client and the program have come
 abbrev pub situation : History → Situation
 situation past = unwrap_or (last_such step_mark past) Fresh
 
 -- ---- the launched program
 
--- how the client counts lines and columns: as the `initialize` says that was answered with success
+-- how the client counts lines and columns, as a successful `initialize` says
 abbrev pub initialize_arguments : Command → Option InitializeArguments
 initialize_arguments (command.Initialize arguments) = Some arguments
 initialize_arguments _ = None
 
+-- the same for an item with its answer
 abbrev pub settings_by : Item → Option Outgoing → Option InitializeArguments
 settings_by (Content (Some request)) (Some (Answer seq command (Ok body))) = initialize_arguments request.body
 settings_by _ _ = None
 
+-- lines and columns count from 1
 abbrev pub from_one : InitializeArguments
 from_one = record { lines_start_at_1 = true; columns_start_at_1 = true }
 
+-- how the client counts: as it said in `initialize`, or from 1 before that
 abbrev pub settings : History → InitializeArguments
 settings past = unwrap_or (last_such (λ step. settings_by step.item step.answer) past) from_one
 
+-- the launched program, if there is one
 abbrev pub launched : History → Option Launched
 launched past = last_such (λ step. step.effect.launched) past
 
 -- ---- runs
 
+-- the run that an order starts, if it starts one
 abbrev pub go : PlainOrder → Option Heading
 go (Go run) = Some run
 go (Hold run) = None
@@ -102,14 +112,15 @@ go Quit = None
 abbrev pub last_run : History → Option Heading
 last_run past = last_such go (orders_of past)
 
--- how many were ordered, which is the number of the last
+-- how many runs were ordered, which is the number of the last
 abbrev pub runs : History → ℕ
 runs past = length (filter_map go (orders_of past))
 
--- that run goes back
+-- whether the run that was ordered last goes back
 abbrev pub is_back : History → Bool
 is_back past = option_map_or (λ run. goes_back run.mode) (last_run past) false
 
+-- the position at which an accepted report ends
 abbrev pub end_of : Item → Option ℕ
 end_of (Accepted r) = Some r.end
 end_of _ = None
@@ -123,6 +134,7 @@ abbrev pub reached : History → ℕ
 reached [] = 0
 reached (step ∷ past) = max (unwrap_or (end_of step.item) 0) (reached past)
 
+-- the number that a message reports, if it reports one
 abbrev pub output : Outgoing → Option ℤ
 output (Event (event.Output v)) = Some v
 output _ = None
@@ -139,8 +151,9 @@ numbers_told past = length (numbers (messages_of past))
 abbrev pub plan : History → Plan
 plan past = unwrap_or (last_such (λ step. step.effect.put_in) past) no_plan
 
--- ---- what waits in a run until the runner gives the debuggee back; with a Go nothing waits
+-- ---- what waits during a run until the runner returns the debuggee; when a run is ordered, nothing waits
 
+-- which breakpoints wait after a step, if it changes them
 abbrev pub waits_by : Step → Option (Option (List Breakpoint))
 waits_by step = or_else (option_map (λ run. None) (last_such go step.effect.orders)) (option_map Some step.effect.waits)
 
@@ -148,10 +161,12 @@ waits_by step = or_else (option_map (λ run. None) (last_such go step.effect.ord
 abbrev pub waiting_plan : History → Option (List Breakpoint)
 waiting_plan past = unwrap_or (last_such waits_by past) None
 
+-- whether an answer grants a pause
 abbrev pub is_pause : Option Outgoing → Option Bool
 is_pause (Some (Answer seq (name.Supported supported.Pause) (Ok body))) = Some true
 is_pause _ = None
 
+-- whether a pause waits after a step, if the step changes it
 abbrev pub pauses_by : Step → Option Bool
 pauses_by step = or_else (option_map (λ run. false) (last_such go step.effect.orders)) (is_pause step.answer)
 
@@ -159,6 +174,7 @@ pauses_by step = or_else (option_map (λ run. false) (last_such go step.effect.o
 abbrev pub waiting_pause : History → Bool
 waiting_pause past = unwrap_or (last_such pauses_by past) false
 
+-- whether the last run is held after an order, if the order changes it
 abbrev pub hold_mark : PlainOrder → Option Bool
 hold_mark (Go run) = Some false
 hold_mark (Hold run) = Some true
@@ -175,7 +191,7 @@ abbrev pub closing_command : Command → Option Ending
 closing_command command.Disconnect = Some (ending.Closed Disconnected)
 closing_command _ = None
 
--- how a report does
+-- how a report closes the session, if it does
 abbrev pub closing_report : SliceOutcome → Option Ending
 closing_report slice.NoMemory = Some (ending.Fault NoMemory)
 closing_report _ = None

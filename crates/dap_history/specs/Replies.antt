@@ -1,4 +1,4 @@
--- What a command is answered with, and what it causes after the answer.
+-- Defines what a command is answered with, and what it causes after the answer.
 use Rattle.std.specs.Prelude.{ℕ, nat_eq, if◌then◌else◌, List, [], ◌∷◌, map, Option, None, Some, Result, Ok, Err}
 use Rattle.dap_msg.specs.declared.outgoing.Body.{Body}
 use Rattle.dap_msg.specs.declared.outgoing.Refusal.{Refusal}
@@ -19,16 +19,20 @@ use Rattle.dbg_plan.specs.declared.mode.Reason.TheVariants as reason
 use Rattle.dbg_runner.specs.Plain.{PlainOrder}
 use Rattle.dap_history.specs.History.{Launched, Effect}
 
+-- the result of a command, and what it causes after the answer
 pub record Reply : Type 0 where
   pub result : Result Body Refusal
   pub effect : Effect
 
+-- no effect
 abbrev pub nothing : Effect
 nothing = record { events = []; orders = []; launched = None; put_in = None; waits = None }
 
+-- these events alone
 abbrev pub reporting : List EventBody → Effect
 reporting events = record nothing { events = events }
 
+-- these orders alone
 abbrev pub ordering : List PlainOrder → Effect
 ordering orders = record nothing { orders = orders }
 
@@ -44,29 +48,31 @@ refused why = record { result = Err why; effect = nothing }
 abbrev pub causing : Body → Effect → Reply
 causing body effect = record { result = Ok body; effect = effect }
 
--- the launched program is as said; there is one, since the situation asks for one
+-- a program is launched, and this holds of it
 abbrev pub OfProgram : Option Launched → (Launched → Type 0) → Type 0
 OfProgram None says = ⊥
 OfProgram (Some l) says = says l
 
 -- ---- stops
 
+-- the reason of a stop, as the client sees it
 abbrev pub stop_of : Reason → StopReason
 stop_of reason.Breakpoint = stop.Breakpoint
 stop_of reason.Entry = stop.Entry
 stop_of reason.Step = stop.Step
 
+-- the fault of a step, as the client sees it
 abbrev pub exception_of : RunFault → Exception
 exception_of run_fault.Overflow = exception.Overflow
 exception_of run_fault.DivideByZero = exception.DivideByZero
 exception_of run_fault.Depth = exception.Depth
 exception_of run_fault.StepLimit = exception.StepLimit
 
--- the program stands
+-- the event that the program stopped
 abbrev pub stops : StopReason → List EventBody
 stops r = event.Stopped r ∷ []
 
--- the program is over
+-- the events that the program has ended with this code
 abbrev pub ends : ℕ → List EventBody
 ends code = event.Exited code ∷ event.Terminated ∷ []
 
@@ -76,11 +82,12 @@ ends code = event.Exited code ∷ event.Terminated ∷ []
 abbrev pub text_of_log : List Breakpoint → Log → List ℕ
 text_of_log breakpoints log = log_text (parts_at breakpoints log.number) log.values
 
+-- logs as events
 abbrev pub told_logs : List Breakpoint → List Log → List EventBody
 told_logs breakpoints logs = map (λ log. event.Log (text_of_log breakpoints log)) logs
 
 -- ---- the thread
 
--- there is one thread, numbered 1
+-- the reply, if the thread is 1, the only one; otherwise a refusal
 abbrev pub on_thread : ℕ → Reply → Reply
 on_thread thread reply = if nat_eq thread 1 then reply else refused refusal.UnknownThread

@@ -1,4 +1,4 @@
--- Reports of the runner: which are accepted, and what they cause.
+-- Defines which reports of the runner are accepted, and what they cause.
 use Rattle.std.specs.Prelude.{◌≡◌, ℕ, ◌+◌, ◌-◌, Bool, true, false, if◌then◌else◌, List, [], ◌∷◌, ◌++◌, map, drop, Option, Some, option_map, unwrap_or}
 use Rattle.dap_msg.specs.declared.outgoing.EventBody.{EventBody}
 use Rattle.dap_msg.specs.declared.outgoing.EventBody.TheVariants as event
@@ -13,7 +13,7 @@ use Rattle.dap_history.specs.History.{History, Effect}
 use Rattle.dap_history.specs.Readings.{situation, last_run, runs, position, plan, numbers_told, waiting_plan, waiting_pause}
 use Rattle.dap_history.specs.Replies.{nothing, reporting, stop_of, exception_of, stops, ends, told_logs}
 
--- A report is accepted while the program runs, where it goes on with the run that was ordered last.
+-- A report is accepted while the program is running, if it continues the run that was ordered last.
 pub record Accepts (past : History) (r : PlainReport) : Type 0 where
   pub running : situation past ≡ Running
   pub run : Heading
@@ -22,7 +22,7 @@ pub record Accepts (past : History) (r : PlainReport) : Type 0 where
 
 -- ---- what an accepted report causes
 
--- First its numbers, in order, but for those that were reported before the program went back; then what is logged where it ends.
+-- First the report's numbers, in order, without those that were reported before the program went back; then its logs.
 abbrev pub outputs : History → PlainReport → List EventBody
 outputs past r = map event.Output (drop (numbers_told past - r.before) r.numbers) ++ told_logs r.plan r.logs
 
@@ -30,32 +30,34 @@ outputs past r = map event.Output (drop (numbers_told past - r.before) r.numbers
 abbrev pub from_next : ℕ → List Breakpoint → Plan
 from_next finish bs = record { breakpoints = bs; counted_from = finish + 1 }
 
--- those that wait are put in
+-- the plan that is put in where breakpoints wait
 abbrev pub put_in_at : ℕ → Option (List Breakpoint) → Option Plan
 put_in_at finish waits = option_map (from_next finish) waits
 
--- where a run that went back stops, those in force count anew if none wait
+-- the same; where a run that went back stops and no breakpoints wait, those in force are put in again and count anew
 abbrev pub put_in_by : History → PlainReport → Option Plan
 put_in_by past r =
     if goes_back r.mode
     then Some (from_next r.end (unwrap_or (waiting_plan past) (plan past).breakpoints))
     else put_in_at r.end (waiting_plan past)
 
--- what it tells, and then these events; the debuggee is here, and what waits is put in
+-- the report's numbers and logs, and then these events; the session has the debuggee, and breakpoints that wait are put in
 abbrev pub stands : History → PlainReport → List EventBody → Effect
 stands past r events = record nothing { events = outputs past r ++ events; put_in = put_in_by past r }
 
--- the run goes on as another one, in the same mode, where it was held
+-- the program goes on where it was held, in another run in the same mode
 abbrev pub goes_on : History → PlainReport → Effect
 goes_on past r =
     let put_in = put_in_by past r in
     let now = unwrap_or put_in (plan past) in
     record nothing { events = outputs past r; put_in = put_in; orders = Go (record { run = runs past + 1; text = r.text; plan = now.breakpoints; counted_from = now.counted_from; mode = r.mode; start = r.end }) ∷ [] }
 
+-- what the report of a held run causes, by whether a pause waits
 abbrev pub held : History → PlainReport → Bool → Effect
 held past r true = stands past r (stops stop.Pause)
 held past r false = goes_on past r
 
+-- what an accepted report causes
 abbrev pub report_effect : History → PlainReport → SliceOutcome → Effect
 report_effect past r slice.More = reporting (outputs past r)
 report_effect past r (slice.Due reason) = stands past r (stops (stop_of reason))

@@ -1,5 +1,5 @@
--- What starts a run, resumes one, goes back and interrupts a run: `configurationDone`, `continue`, `next`, `stepIn`, `stepOut`,
--- `stepBack`, `reverseContinue`, `pause`.
+-- Defines the commands that start a run, resume the program, go back or interrupt a run: `configurationDone`, `continue`,
+-- `next`, `stepIn`, `stepOut`, `stepBack`, `reverseContinue`, `pause`.
 use Rattle.std.specs.Prelude.{◌≡◌, ℕ, ◌+◌, List, [], ◌∷◌, ◌++◌, if◌then◌else◌, Option, None, Some}
 use Rattle.dap_msg.specs.declared.outgoing.Body.{Body}
 use Rattle.dap_msg.specs.declared.outgoing.Body.TheVariants as body
@@ -24,7 +24,7 @@ abbrev pub goes : History → Launched → ℕ → Plan → Mode → List PlainO
 goes past l begins p m =
     Go (record { run = runs past + 1; text = l.text; plan = p.breakpoints; counted_from = p.counted_from; mode = m; start = begins }) ∷ []
 
--- the same, where the session holds the debuggee
+-- the same, where the run begins where the program stands, under the plan in force
 abbrev pub resumes : History → Launched → Mode → List PlainOrder
 resumes past l m = goes past l (position past) (plan past) m
 
@@ -40,15 +40,17 @@ first_logs past l =
     let now = plan past in
     told_logs now.breakpoints (logs l.program now.breakpoints now.counted_from 0)
 
--- position 0 logs, and it is due, or the first run begins there
+-- position 0 logs, and then the program stops there if it is due, or the first run begins there
 abbrev pub enters : History → Launched → Option Reason → Effect
 enters past l (Some r) = reporting (first_logs past l ++ stops (stop_of r))
 enters past l None = record nothing { events = first_logs past l; orders = resumes past l mode.Continue }
 
+-- the reply to `configurationDone` where a program is launched
 abbrev pub Configures : History → Reply → Type 0
 Configures past reply = OfProgram (launched past) (λ l. reply
     ≡ causing body.None (enters past l (due l.program (plan past).breakpoints (plan past).counted_from (first_mode l) 0)))
 
+-- the reply to `configurationDone`
 abbrev pub ConfiguresIn : Situation → History → Reply → Type 0
 ConfiguresIn Configuring past reply = Configures past reply
 ConfiguresIn _ past reply = reply ≡ refused refusal.WrongPhase
@@ -62,23 +64,24 @@ pub data ResumeKind : Type 0 where
   ToStep : ResumeKind
   ToReturn : ResumeKind
 
--- the mode, by the depth where the program stands
+-- the mode of the run, by the number of live frames where the program stands
 abbrev pub mode_of : ResumeKind → ℕ → Mode
 mode_of ToStop depth = mode.Continue
 mode_of ToNext depth = mode.Over depth
 mode_of ToStep depth = mode.In
 mode_of ToReturn depth = mode.Out depth
 
--- `continue` alone is answered with a body
+-- the body of the answer: only `continue` has one
 abbrev pub body_of : ResumeKind → Body
 body_of ToStop = body.Continued
 body_of _ = body.None
 
+-- the reply to a resume where the program stands
 abbrev pub Resumes : History → ResumeKind → ℕ → Reply → Type 0
 Resumes past resume_kind thread reply = OfProgram (launched past) (λ l. reply
     ≡ on_thread thread (causing (body_of resume_kind) (ordering (resumes past l (mode_of resume_kind (depth_at l.program (position past)))))))
 
--- Profile: after a fault the program is over, with the code 1.
+-- The reply to a resume. Profile: before a fault, it ends the program with the code 1.
 abbrev pub ResumesIn : Situation → History → ResumeKind → ℕ → Reply → Type 0
 ResumesIn Running past resume_kind thread reply = reply ≡ refused refusal.NotStopped
 ResumesIn Stopped past resume_kind thread reply = Resumes past resume_kind thread reply
@@ -87,11 +90,12 @@ ResumesIn _ past resume_kind thread reply = reply ≡ refused refusal.WrongPhase
 
 -- ---- `stepBack`, `reverseContinue`
 
+-- the reply to going back where the program stands
 abbrev pub Retreats : History → Mode → ℕ → Reply → Type 0
 Retreats past m thread reply = OfProgram (launched past) (λ l. reply
     ≡ on_thread thread (causing body.None (ordering (resumes past l m))))
 
--- Going back is possible from a fault too.
+-- The reply to going back, which is possible from a fault too.
 abbrev pub RetreatsIn : Situation → History → Mode → ℕ → Reply → Type 0
 RetreatsIn Running past m thread reply = reply ≡ refused refusal.NotStopped
 RetreatsIn Stopped past m thread reply = Retreats past m thread reply
@@ -100,7 +104,7 @@ RetreatsIn _ past m thread reply = reply ≡ refused refusal.WrongPhase
 
 -- ---- `pause`
 
--- in a run the pause waits; where a run that goes back stops it is forgotten
+-- the reply to `pause`: during a run the pause waits; a run that goes back isn't held, and its stop drops the pause
 abbrev pub pause_in : Situation → History → ℕ → Reply
 pause_in Running past thread = on_thread thread (causing body.None (ordering (hold_once past)))
 pause_in Stopped past thread = on_thread thread (answered body.None)

@@ -1,4 +1,4 @@
--- The laws of runs: each has the next number, goes as it was asked to, and is held once.
+-- States the laws of runs: each has the next number, is in the mode that was asked for, and is held at most once.
 use Rattle.std.specs.Prelude.{◌≡◌, ◌++◌, ◌∷◌, [], ◌⊎◌, ℕ, ◌+◌, true, false, List, length, Option, None, Some, IsSome, option_map, Ok}
 use Rattle.std.specs.List.{filter_map}
 use Rattle.dap_msg.specs.declared.command.Command.{Command}
@@ -35,13 +35,13 @@ RunsCountFromOne =
 
 -- ---- modes
 
--- the step grants a request
+-- the step answers a request with success
 pub record Grants (step : Step) (request : Request) : Type 0 where
   pub item_is : step.item ≡ Content (Some request)
   pub body : Body
   pub answer_is : step.answer ≡ Some (Answer request.seq (name_of request.body) (Ok body))
 
--- the mode of the run that a command asks for, if it asks for one where this many frames are alive
+-- the mode of the run that a command asks for where this many frames are live, if it asks for a run
 abbrev pub mode_by : ℕ → Command → Option Mode
 mode_by depth command.ConfigurationDone = Some mode.Continue
 mode_by depth (command.Continue asked) = Some mode.Continue
@@ -52,7 +52,7 @@ mode_by depth (command.StepBack asked) = Some mode.StepBack
 mode_by depth (command.ReverseContinue asked) = Some mode.Reverse
 mode_by depth _ = None
 
--- a run that was held goes on in its mode
+-- the mode in which a held run goes on
 abbrev pub held_mode : SliceOutcome → Option Heading → Option Mode
 held_mode slice.Held last = option_map (λ run. run.mode) last
 held_mode _ last = None
@@ -70,19 +70,19 @@ EachRunIsAsAsked =
     → (before : History) (step : Step) (after : History) (run : Heading) → past ≡ before ++ step ∷ after → Orders step run
     → (l : Launched) × (launched before ≡ Some l) × (mode_asked before l.program step.item ≡ Some run.mode)
 
--- A granted command that asks for a run needn't order one where position 0 is due, or where the program stands before a fault.
+-- A granted command that asks for a run orders none where position 0 is due, or where the program stands before a fault.
 abbrev pub IsExcused : Situation → Command → List EventBody → Type 0
 IsExcused s command.ConfigurationDone events = IsSome (last_such stop_of_event events)
 IsExcused s _ events = (s ≡ Faulted) × (events ≡ event.Exited 1 ∷ event.Terminated ∷ [])
 
--- Where a command that asks for a run is granted, one is ordered, unless the program stops at position 0 or is over.
+-- Where a command that asks for a run is granted, one is ordered, unless the program stops at position 0 or ends.
 abbrev pub GrantedRunsAreOrdered : Type 0
 GrantedRunsAreOrdered =
     (events : List Incoming) (past : History) (rest : Rest) → IsHistoryOf events past rest
     → (before : History) (step : Step) (after : History) (request : Request) → past ≡ before ++ step ∷ after
     → Grants step request → IsSome (mode_by 0 request.body) → IsSome (run_in step) ⊎ IsExcused (situation before) request.body step.effect.events
 
--- A run that was held goes on where no pause waits.
+-- After a run was held, another run is ordered if no pause waits.
 abbrev pub HeldRunsGoOn : Type 0
 HeldRunsGoOn =
     (events : List Incoming) (past : History) (rest : Rest) → IsHistoryOf events past rest
@@ -91,20 +91,20 @@ HeldRunsGoOn =
 
 -- ---- holding
 
--- what waits in a run until that is held: a pause, or breakpoints at the launched path
+-- the command waits during a run until the run is held: it is a pause, or sets breakpoints at the launched path
 abbrev pub IsToWait : History → Command → Type 0
 IsToWait past (command.Pause asked) = Unit {0}
 IsToWait past (command.SetBreakpoints asked) = (l : Launched) × (launched past ≡ Some l) × (is_at asked.path l.path ≡ true)
 IsToWait past _ = ⊥
 
--- after these steps a request of that kind is granted
+-- after these steps such a command is granted
 pub record GrantsWait (past : History) (step : Step) : Type 0 where
   pub request : Request
   pub granted : Grants step request
   pub to_wait : IsToWait past request.body
 
--- A Hold is ordered where a pause or breakpoints that wait are granted, and directly after the Go of the run that it names, so
--- once for a run. That run doesn't go back.
+-- A Hold is ordered only where a pause or breakpoints that wait are granted, and directly after the Go of the run that it
+-- names, so at most once for a run. The run doesn't go back.
 abbrev pub HoldOnce : Type 0
 HoldOnce =
     (events : List Incoming) (past : History) (rest : Rest) → IsHistoryOf events past rest
@@ -112,7 +112,7 @@ HoldOnce =
     → (front back : List PlainOrder) (n : ℕ) → step.effect.orders ≡ front ++ Hold n ∷ back
     → GrantsWait before step × ((earlier : List PlainOrder) × (run : Heading) × (orders_of before ++ front ≡ earlier ++ Go run ∷ []) × (n ≡ run.run) × (goes_back run.mode ≡ false))
 
--- Where a pause or breakpoints are granted in a run that doesn't go back, its Hold is the last order then.
+-- After a pause or breakpoints were granted in a run that doesn't go back, the last order is that run's Hold.
 abbrev pub WaitsAreHeld : Type 0
 WaitsAreHeld =
     (events : List Incoming) (past : History) (rest : Rest) → IsHistoryOf events past rest

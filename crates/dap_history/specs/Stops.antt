@@ -1,4 +1,4 @@
--- The law of stops: each is where it has to be, and what is asked there is answered from there.
+-- States the laws of stops: each is where it has to be, and what a client asks there is answered from there.
 use Rattle.std.specs.Prelude.{◌≡◌, ◌++◌, ◌∷◌, [], ◌⊎◌, ℕ, ◌<◌, ◌≤◌, Bool, true, false, List, Option, None, Some, Ok, All}
 use Rattle.dap_msg.specs.Commands.{name_of}
 use Rattle.dap_msg.specs.declared.request.Request.{Request}
@@ -28,6 +28,7 @@ use Rattle.dap_history.specs.Running.{first_mode}
 use Rattle.dap_history.specs.Inspection.{RepliesAt, asked_of}
 use Rattle.dap_history.specs.Events.{Incoming, Rest, AreLawful, IsHistoryOf}
 
+-- the reason of a stop that an event reports, if it reports one
 abbrev pub stop_of_event : EventBody → Option StopReason
 stop_of_event (event.Stopped reason) = Some reason
 stop_of_event _ = None
@@ -36,7 +37,7 @@ stop_of_event _ = None
 abbrev pub stop_in : Step → Option StopReason
 stop_in step = last_such stop_of_event step.effect.events
 
--- In this history, after what came before, the program stopped at position m. Each stop that a step reports is meant.
+-- In the history `past`, the step after `before` reports that the program stopped at position m for this reason.
 pub record StopsAt (past before : History) (reason : StopReason) (m : ℕ) : Type 0 where
   pub step : Step
   pub after : History
@@ -50,7 +51,7 @@ pub record StopsAt (past before : History) (reason : StopReason) (m : ℕ) : Typ
 abbrev pub due_in : Launched → Heading → ℕ → Option Reason
 due_in l run m = due l.program run.plan run.counted_from run.mode m
 
--- no position that the run came to, up to, but not including, m, is due; the one where it began isn't asked
+-- no position is due that lies after the run's beginning and before m
 abbrev pub NoneDueBefore : Launched → Heading → ℕ → Type 0
 NoneDueBefore l run m = (k : ℕ) → run.start < k → k < m → due_in l run k ≡ None
 
@@ -58,8 +59,8 @@ NoneDueBefore l run m = (k : ℕ) → run.start < k → k < m → due_in l run k
 abbrev pub NoneDueUpTo : Launched → Heading → ℕ → Type 0
 NoneDueUpTo l run m = (k : ℕ) → run.start < k → k ≤ m → due_in l run k ≡ None
 
--- A run stopped at m for this reason: at the least position above its beginning that is due; where it was held; or before
--- the step that faults.
+-- A run that goes forward stopped at m for this reason: at the first due position after its beginning; where it was held;
+-- or before the step that faults.
 abbrev pub IsRunsStop : Launched → Heading → StopReason → ℕ → Type 0
 IsRunsStop l run stop.Pause m = (run.start ≤ m) × NoneDueUpTo l run m
 IsRunsStop l run (stop.Exception x) m =
@@ -67,16 +68,17 @@ IsRunsStop l run (stop.Exception x) m =
 IsRunsStop l run reason m =
     (r : Reason) × (reason ≡ stop_of r) × (due_in l run m ≡ Some r) × (run.start < m) × NoneDueBefore l run m
 
--- a run that goes back stopped at m for this reason: where its mode leads
+-- A run that goes back stopped at m for this reason: it is the position to which its mode leads.
 abbrev pub IsRetreatsStop : Launched → Heading → StopReason → ℕ → Type 0
 IsRetreatsStop l run reason m =
     (goal : Stop) × (goal_of l.program run.plan run.mode run.start ≡ Some goal) × (m ≡ goal.position) × (reason ≡ stop_of goal.reason)
 
+-- one of the two, by whether the run goes back
 abbrev pub IsStopOf : Bool → Launched → Heading → StopReason → ℕ → Type 0
 IsStopOf false l run reason m = IsRunsStop l run reason m
 IsStopOf true l run reason m = IsRetreatsStop l run reason m
 
--- A stop after these steps: of the last run, or, before any, at position 0.
+-- A stop after these steps: it is the last run's, or, where no run was ordered yet, at position 0.
 abbrev pub IsRightStop : Launched → History → Option Heading → StopReason → ℕ → Type 0
 IsRightStop l before (Some run) reason m = IsStopOf (goes_back run.mode) l run reason m
 IsRightStop l before None reason m =
@@ -96,12 +98,12 @@ IsOutput (event.Output v) = Unit {0}
 IsOutput (event.Log text) = Unit {0}
 IsOutput _ = ⊥
 
--- a run that was held stops where a pause waits
+-- what the report of a held run tells: a stop, where a pause waits
 abbrev pub tells_held : Bool → List EventBody
 tells_held true = event.Stopped stop.Pause ∷ []
 tells_held false = []
 
--- what a report tells after its numbers and logs: the stop, where it stops its run; or that the program is over
+-- what a report tells after its numbers and logs: the stop, where it stops its run; or the program's end
 abbrev pub tells : History → SliceOutcome → List EventBody
 tells past slice.More = []
 tells past (slice.Due reason) = event.Stopped (stop_of reason) ∷ []
@@ -164,7 +166,7 @@ EachRunStartsThere =
 
 -- ---- what is asked at a stop
 
--- the program stands: of runs that began, stops and ends, the last was a stop
+-- the program stands: the last event among beginnings of runs, stops and ends was a stop
 abbrev pub IsStanding : Situation → Type 0
 IsStanding Stopped = Unit {0}
 IsStanding Faulted = Unit {0}
@@ -181,6 +183,7 @@ pub record StoppedLastAt (past : History) (m : ℕ) : Type 0 where
   pub none_later : All (λ (s : Step). stop_in s ≡ None) later
   pub position_is : m ≡ position (early ++ step ∷ [])
 
+-- the command asks about the program where it stands
 abbrev pub IsQuestion : Command → Type 0
 IsQuestion (command.StackTrace asked) = Unit {0}
 IsQuestion (command.Scopes asked) = Unit {0}
@@ -188,7 +191,7 @@ IsQuestion (command.Variables asked) = Unit {0}
 IsQuestion (command.Evaluate asked) = Unit {0}
 IsQuestion _ = ⊥
 
--- after these steps the question was taken
+-- in the history `past`, the question was taken after the steps `before`
 pub record Asks (past before : History) (request : Request) (step : Step) : Type 0 where
   pub after : History
   pub past_is : past ≡ before ++ step ∷ after

@@ -1,19 +1,23 @@
+//! How a session ends.
+
 use crate::fault::SessionFault;
 
-/// What closed a session, by no fault.
+/// What closed a session without a fault.
 #[derive(Clone, Copy, Debug, PartialEq, Eq)]
 pub enum Closed {
-    /// The editor asked for it by `disconnect`.
+    /// The client asked for it by `disconnect`.
     Disconnected,
     /// The input came to its end.
     InputEnded,
-    /// The input can't be read any more.
+    /// Reading the input failed.
     ReadFailed,
 }
 
-/// How a session ended: closed, or given up.
+/// How a session ended.
 #[derive(Clone, Copy)]
 pub enum Ending {
+    /// It was closed without a fault.
     Closed(Closed),
+    /// It gave up because of a fault.
     Fault(SessionFault),
 }

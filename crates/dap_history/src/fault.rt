@@ -1,3 +1,5 @@
+//! The faults of a session, and of a file that it loads.
+
 use dap_frame::FramingFault;
 
 /// Why a session gave up.
@@ -5,9 +7,9 @@ use dap_frame::FramingFault;
 pub enum SessionFault {
     /// The input holds no frame where one should stand.
     Frame(FramingFault),
-    /// An allocation was refused, here, in the loader or in the runner.
+    /// An allocation failed, in the session, in the loader or in the runner.
     NoMemory,
-    /// A message would have a seq past 2^53 - 1.
+    /// The next message would have a seq greater than 2^53 - 1.
     SeqExhausted,
     /// The port for orders was full.
     OrdersFull,
@@ -17,10 +19,11 @@ pub enum SessionFault {
     WriterGone,
 }
 
-/// Why a file was not loaded.
+/// Why a file wasn't loaded.
 #[derive(Clone, Copy, Debug)]
 pub enum LoadFault {
+    /// The file can't be read.
     CannotRead,
-    /// An allocation was refused.
+    /// An allocation failed.
     NoMemory,
 }

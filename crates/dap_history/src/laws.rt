@@ -1,3 +1,5 @@
+//! The laws of the history of a session.
+
 ghost use Rattle.dap_history.specs.Laws.{HistoryIsOne, ItemsLeadToOne, EachItemLeads, ContentsAreOfTheStream, CutsChangeNothing, EachIsAnsweredOnce, SeqCountFromOne, FramesAreReadBack, DisconnectIsLast, ClosedByItsEvent, QuitIsLast, QuitCloses, RestIsOpen, NumbersAreWritten, StopsFollowNumbers, LogsAreOfPositions, LogsFollowNumbers, StopsFollowLogs};
 ghost use Rattle.dap_history.specs.ReadingLaws.{ReadingsGoOn};
 ghost use Rattle.dap_history.specs.GoingBack.{EachGoesBackAsAsked, CountsBeginAnew, RetreatsAreNotHeld};
@@ -47,8 +49,8 @@ pub fn history_laws()
     log_laws();
 }
 
-/// What holds of the runs that a session orders, and of what it tells of them, whatever events come. It does nothing: its
-/// contract is the laws.
+/// What holds of the runs that a session orders, and of what it reports of them, whatever events come. It does nothing:
+/// its contract is the laws.
 pub fn run_laws()
     ensures counted { RunsCountFromOne }
     ensures asked { EachRunIsAsAsked }
@@ -66,7 +68,7 @@ pub fn run_laws()
     meaning_laws();
 }
 
-/// How each reading of a history goes on with one more step.
+/// How each reading of a history changes with one more step. It does nothing: its contract is the law.
 pub fn reading_laws()
     ensures { ReadingsGoOn }
 {}

@@ -1,11 +1,11 @@
-//! The history of a session: which items its events are, what each item is answered with and causes, and the laws of all
-//! that leaves.
+//! The history of a session: which items its events give, what each item is answered with and causes, and the laws of all
+//! that a session sends.
 //!
-//! Its contracts are those of [`history_laws`] and [`run_laws`]. The definitions are in `specs`, in the order of
+//! The contracts are those of [`history_laws`] and [`run_laws`]. The definitions are in `specs`, in the order of
 //! `specs/Lib.antt`: what an item causes (`History`), the readings of the items so far (`Readings`), a file for each topic of
 //! commands (`Launching` to `Inspection`), reports (`Reports`), which items a list of events gives (`Events`), and the laws
-//! (`Laws` to `Runs`). They speak of plain data alone, so two lists of events with the same data have the same history. The
-//! code here is no more than the types that both a session and its definitions speak of.
+//! (`Laws` to `Lines`). They speak only of plain data, so two lists of events with the same data have the same history. The
+//! only code here is the types that both a session and its definitions speak of.
 #![tactic(auto)]
 
 mod ending;

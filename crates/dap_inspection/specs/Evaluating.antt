@@ -1,4 +1,4 @@
--- What an expression's text reads as in a frame.
+-- Defines what a text is read as in the scope of a frame.
 use Rattle.std.specs.Prelude.{ℕ, List, Option, None, Some}
 use Rattle.pl0_tree.specs.Tree.{Block, Expression}
 use Rattle.pl0_tree.specs.Plain.{plain_expression}
@@ -6,7 +6,7 @@ use Rattle.pl0_tree.specs.declared.tree.Expression.{Expression as DeclaredExpres
 use Rattle.pl0_tree.specs.Faults.{IsExpressionOf}
 use Rattle.pl0_meaning.specs.Values.{Frame}
 
--- the expression that a text is in the scope of a frame; none where it is no expression there
+-- the expression that a text is in the scope of a frame, or none where it isn't one there
 abbrev pub IsReadIn : Block → Option Frame → List ℕ → Option DeclaredExpression → Type 0
 IsReadIn main None text read = ⊥
 IsReadIn main (Some f) text None = (e : Expression) → ¬ IsExpressionOf main f.block text e

@@ -1,12 +1,12 @@
--- What public contracts cite.
--- a question that is asked of a debuggee
+-- Public contracts cite the first module.
+-- what a question is asked of, and its reply
 pub mod Questions
--- What only inner contracts cite.
+-- Only private contracts cite the others.
 -- what is shown of one frame
 pub mod Showing
--- the frame of an id
+-- live frames by their ids
 pub mod Alive
 -- the variables of a frame
 pub mod Locals
--- the value of an expression
+-- what a text is read as in the scope of a frame
 pub mod Evaluating

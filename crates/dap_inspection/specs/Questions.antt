@@ -1,4 +1,4 @@
--- A question that is asked of a debuggee.
+-- Defines what a question about a debuggee is asked of, and its reply.
 use Rattle.std.specs.Prelude.{List, ℕ, Result}
 use Rattle.dap_msg.specs.declared.outgoing.Body.{Body}
 use Rattle.dap_msg.specs.declared.outgoing.Refusal.{Refusal}
@@ -8,11 +8,11 @@ use Rattle.dap_history.specs.Breakpoints.{offset}
 use Rattle.dap_history.specs.Inspection.{Asked}
 use Rattle.dap_history.specs.Replies.{Reply, nothing}
 
--- what is asked of the debuggee's program, which has this path, by a client that counts so
+-- the debuggee's program, its path, and how a client with these settings counts
 abbrev pub question_of : Debugged → List ℕ → InitializeArguments → Asked
 question_of d path settings =
     record { program = program_of d; path = path; counting = record { lines = offset settings.lines_start_at_1; columns = offset settings.columns_start_at_1 } }
 
--- a question is answered or refused, and nothing else comes of it
+-- the reply with this result and no effect
 abbrev pub replied : Result Body Refusal → Reply
 replied result = record { result = result; effect = nothing }

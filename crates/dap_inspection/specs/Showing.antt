@@ -1,4 +1,4 @@
--- What a client is shown of one frame.
+-- Defines what a client is shown of one frame.
 use Rattle.std.specs.Prelude.{◌≡◌, ℕ, zero, suc, min, Option, Some, None}
 use Rattle.dap_msg.specs.declared.outgoing.StackFrame.{StackFrame}
 use Rattle.dap_msg.specs.declared.outgoing.Scope.{Scope}
@@ -12,7 +12,7 @@ use Rattle.dap_history.specs.Frames.{Counting, shown_frame, frame_name}
 abbrev pub counting_of : InitializeArguments → Counting
 counting_of settings = record { lines = offset settings.lines_start_at_1; columns = offset settings.columns_start_at_1 }
 
--- how many of those that are left are asked for: at most `levels`, all where that is 0
+-- how many of the frames that are left are asked for: at most this many, or all where it is 0
 abbrev pub asked_of : ℕ → ℕ → ℕ
 asked_of zero left = left
 asked_of (suc n) left = min (suc n) left
@@ -22,7 +22,7 @@ abbrev pub IsShownAs : Block → Counting → Option Frame → ℕ → StackFram
 IsShownAs main counting None id shown = ⊥
 IsShownAs main counting (Some f) id shown = shown ≡ shown_frame main counting f id
 
--- its own scope
+-- the scope of the frame with an id
 abbrev pub IsScopeOf : Block → Option Frame → ℕ → Scope → Type 0
 IsScopeOf main None id scope = ⊥
 IsScopeOf main (Some f) id scope = scope ≡ record { name = frame_name main f.block; reference = id }

@@ -1,11 +1,11 @@
-//! Frames alive, by their ids.
+//! Live frames by their ids.
 
 ghost use Rattle.pl0_machine.specs.Machine.{frames};
 ghost use Rattle.dap_inspection.specs.Alive.{NamesFrame};
 
 use pl0_machine::Machine;
 
-/// The number of the frame with an id, from 0, the main block's; none where no frame alive has it.
+/// Returns the number of the frame with an id, where 0 is the main block's; `None` where no live frame has it.
 pub(crate) fn frame_with_id(machine: &Machine, id: u64) -> Option<usize>
     ensures { NamesFrame (frames machine.now) id result }
 {

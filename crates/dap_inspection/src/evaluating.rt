@@ -1,4 +1,4 @@
-//! `evaluate`.
+//! The answer to `evaluate`.
 
 ghost use Rattle.std.specs.Prelude.{◌≡◌, ◌<◌, IfOk};
 ghost use Rattle.pl0_machine.specs.Machine.{program, frames, frame_of, depth_of};
@@ -17,7 +17,31 @@ use pl0_syntax::{Expression, Names, SyntaxFault, editor_laws, numbering_laws, pa
 use pl0_unit::Unit;
 use std::alloc::{AllocError, Global};
 
-/// The expression that a text is in the scope of a frame; none where it is no expression there.
+/// Answers `evaluate`: the value of an expression in a frame's scope.
+///
+/// # Errors
+///
+/// An allocation failed.
+pub fn evaluate(
+    alloc: Global,
+    debuggee: &Debuggee,
+    asked: &EvaluateArguments,
+) -> Result<Result<Body, Refusal>, AllocError>
+    requires { IsConsidered debuggee.now }
+    ensures { (of : Asked) → of.program ≡ program_of debuggee.now → IfOk result (λ r. RepliesFrom of (frames (machine_of debuggee.now)) (command.Evaluate asked.now) (replied r)) }
+{
+    let machine = debuggee.machine();
+    let Some(frame) = frame_with_id(machine, asked.frame_id) else {
+        return Ok(Err(Refusal::UnknownFrame));
+    };
+    let read = read_in(alloc, machine, frame, asked.expression.as_str())?;
+    let Some(expression) = read else {
+        return Ok(Err(Refusal::BadExpression));
+    };
+    Ok(reply_of(debuggee.evaluate(frame, &expression)))
+}
+
+/// Reads a text as an expression in the scope of a frame; `None` where it isn't one there.
 fn read_in(
     alloc: Global,
     machine: &Machine,
@@ -40,7 +64,7 @@ fn read_in(
     }
 }
 
-/// The reply that gives the result of an evaluation.
+/// Returns the reply with the result of an evaluation.
 fn reply_of(evaluated: Result<i64, EvalFault>) -> Result<Body, Refusal>
     ensures { replied result ≡ result_reply evaluated }
 {
@@ -49,28 +73,4 @@ fn reply_of(evaluated: Result<i64, EvalFault>) -> Result<Body, Refusal>
         Err(EvalFault::Overflow) => Err(Refusal::Overflow),
         Err(EvalFault::DivideByZero) => Err(Refusal::DivideByZero),
     }
-}
-
-/// The value of an expression, read in a frame's scope.
-///
-/// # Errors
-///
-/// An allocation failed.
-pub fn evaluate(
-    alloc: Global,
-    debuggee: &Debuggee,
-    asked: &EvaluateArguments,
-) -> Result<Result<Body, Refusal>, AllocError>
-    requires { IsConsidered debuggee.now }
-    ensures { (of : Asked) → of.program ≡ program_of debuggee.now → IfOk result (λ r. RepliesFrom of (frames (machine_of debuggee.now)) (command.Evaluate asked.now) (replied r)) }
-{
-    let machine = debuggee.machine();
-    let Some(frame) = frame_with_id(machine, asked.frame_id) else {
-        return Ok(Err(Refusal::UnknownFrame));
-    };
-    let read = read_in(alloc, machine, frame, asked.expression.as_str())?;
-    let Some(expression) = read else {
-        return Ok(Err(Refusal::BadExpression));
-    };
-    Ok(reply_of(debuggee.evaluate(frame, &expression)))
 }

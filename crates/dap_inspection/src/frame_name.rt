@@ -11,7 +11,7 @@ use pl0_syntax::block_name;
 use pl0_unit::Unit;
 use std::alloc::{AllocError, Global};
 
-/// The name of a block's frames: the procedure's, or `main`.
+/// Returns the name of a block's frames: the procedure's name, or `main` for the main block.
 ///
 /// # Errors
 ///

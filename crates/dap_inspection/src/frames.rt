@@ -1,4 +1,4 @@
-//! `stackTrace`.
+//! The answer to `stackTrace`.
 
 ghost use Rattle.std.specs.Prelude.{◌≡◌, ◌-◌, ◌<◌, ◌≤◌, IfOk};
 ghost use Rattle.pl0_machine.specs.Machine.{program, frames, frame_of, depth_of};
@@ -17,69 +17,7 @@ use pl0_machine::Machine;
 use pl0_unit::Unit;
 use std::alloc::{AllocError, Global};
 
-/// A line or a column, from 1, as the client counts.
-fn counted(number: u32, from_1: bool) -> u64
-    ensures { result ≡ number - offset from_1 }
-{
-    if from_1 {
-        u64::from(number)
-    } else {
-        u64::from(number).saturating_sub(1)
-    }
-}
-
-/// How many of the frames that are left are asked for.
-fn count_asked(levels: u64, left: usize) -> usize
-    ensures { result ≡ asked_of levels left }
-{
-    if levels == 0 {
-        return left;
-    }
-    (levels as usize).min(left)
-}
-
-/// The frame with this id.
-fn stack_frame(
-    alloc: Global,
-    machine: &Machine,
-    settings: InitializeArguments,
-    id: usize,
-) -> Result<StackFrame, AllocError>
-    requires positive { 0 < id }
-    requires alive { id ≤ depth_of machine.now }
-    ensures { IfOk result (λ shown. IsShownAs (program machine.now) (counting_of settings) (frame_of machine.now (id - 1)) id shown) }
-{
-    let unit: &Unit = machine.unit();
-    let view = machine.frame(id - 1);
-    let name = frame_name(alloc, unit, view.block)?;
-    let place = unit.steps[view.next_step].place;
-    Ok(StackFrame {
-        id: id as u64,
-        name,
-        line: counted(place.line, settings.lines_start_at_1),
-        column: counted(place.column, settings.columns_start_at_1),
-    })
-}
-
-/// The frames asked for, from the top down.
-fn asked_frames(
-    alloc: Global,
-    machine: &Machine,
-    settings: InitializeArguments,
-    asked: StackTraceArguments,
-) -> Result<Vec<StackFrame>, AllocError>
-    ensures { IfOk result (λ shown. shown.items ≡ frames_asked (program machine.now) (counting_of settings) asked (frames machine.now)) }
-{
-    let left = machine.depth().saturating_sub(asked.start_frame as usize);
-    let count = count_asked(asked.levels, left);
-    let mut shown = Vec::with_capacity(alloc, count)?;
-    for index in 0..count {
-        shown.push(stack_frame(alloc, machine, settings, left - index)?)?;
-    }
-    Ok(shown)
-}
-
-/// The frames asked for, from the top down.
+/// Answers `stackTrace`: the frames asked for, the top one first.
 ///
 /// # Errors
 ///
@@ -106,4 +44,66 @@ pub fn stack_trace(
         frames,
         total,
     }))
+}
+
+/// Returns what is shown of the frames asked for, the top one first.
+fn asked_frames(
+    alloc: Global,
+    machine: &Machine,
+    settings: InitializeArguments,
+    asked: StackTraceArguments,
+) -> Result<Vec<StackFrame>, AllocError>
+    ensures { IfOk result (λ shown. shown.items ≡ frames_asked (program machine.now) (counting_of settings) asked (frames machine.now)) }
+{
+    let left = machine.depth().saturating_sub(asked.start_frame as usize);
+    let count = count_asked(asked.levels, left);
+    let mut shown = Vec::with_capacity(alloc, count)?;
+    for index in 0..count {
+        shown.push(stack_frame(alloc, machine, settings, left - index)?)?;
+    }
+    Ok(shown)
+}
+
+/// How many of the `left` frames are asked for: at most `levels`, or all where that is 0.
+fn count_asked(levels: u64, left: usize) -> usize
+    ensures { result ≡ asked_of levels left }
+{
+    if levels == 0 {
+        return left;
+    }
+    (levels as usize).min(left)
+}
+
+/// Returns what is shown of the frame with this id.
+fn stack_frame(
+    alloc: Global,
+    machine: &Machine,
+    settings: InitializeArguments,
+    id: usize,
+) -> Result<StackFrame, AllocError>
+    requires positive { 0 < id }
+    requires alive { id ≤ depth_of machine.now }
+    ensures { IfOk result (λ shown. IsShownAs (program machine.now) (counting_of settings) (frame_of machine.now (id - 1)) id shown) }
+{
+    let unit: &Unit = machine.unit();
+    let view = machine.frame(id - 1);
+    let name = frame_name(alloc, unit, view.block)?;
+    let place = unit.steps[view.next_step].place;
+    Ok(StackFrame {
+        id: id as u64,
+        name,
+        line: counted(place.line, settings.lines_start_at_1),
+        column: counted(place.column, settings.columns_start_at_1),
+    })
+}
+
+/// Converts a line or a column that counts from 1 to how the client counts.
+fn counted(number: u32, from_1: bool) -> u64
+    ensures { result ≡ number - offset from_1 }
+{
+    if from_1 {
+        u64::from(number)
+    } else {
+        u64::from(number).saturating_sub(1)
+    }
 }

@@ -1,8 +1,8 @@
 //! What a client is shown of a program where it stands: its frames, their scopes and variables, and values of expressions.
 //!
-//! The one contract is that of the four questions, each a function: what is answered is what the definitions of `dap_history`
-//! show of the configuration that the meaning has at the debuggee's position (`RepliesFrom`). No session is needed: a
-//! debuggee, the path of its program and how the client counts are enough.
+//! Each of the four questions is a function, and they share one contract: the answer is what the definitions of
+//! `dap_history` show (`RepliesFrom`) of the configuration that the meaning of the program has at the debuggee's position.
+//! No session is needed: a debuggee, the path of its program and how the client counts are enough.
 #![tactic(auto)]
 
 mod alive;

@@ -1,4 +1,4 @@
-//! `variables`.
+//! The answer to `variables`.
 
 ghost use Rattle.std.specs.Prelude.{◌≡◌, ◌<◌, IfOk, length, map};
 ghost use Rattle.pl0_tree.specs.Plain.{plain_name};
@@ -18,40 +18,7 @@ use pl0_syntax::{Name, block};
 use pl0_unit::Unit;
 use std::alloc::{AllocError, Global};
 
-/// The names of the variables of a frame, in the order of declaration.
-fn declared_names(machine: &Machine, frame: usize) -> &[Name]
-    requires { frame < depth_of machine.now }
-    ensures names { map plain_name result.now ≡ names_in (program machine.now) (frame_of machine.now frame) }
-    ensures count { length result.now ≡ variables_of (frame_of machine.now frame) }
-{
-    let depth = machine.depth();
-    prove!(frame < depth);
-    let unit: &Unit = machine.unit();
-    let number = machine.frame(frame).block;
-    let declaring = block(&unit.tree.program, &unit.nestings, number);
-    &declaring.variables
-}
-
-/// The variables of a frame, which have these names.
-fn valued(
-    alloc: Global,
-    machine: &Machine,
-    frame: usize,
-    names: &[Name],
-) -> Result<Vec<Variable>, AllocError>
-    requires { length names.now ≡ variables_of (frame_of machine.now frame) }
-    ensures { IfOk result (λ list. list.items ≡ named (map plain_name names.now) (numbers_of (frame_of machine.now frame))) }
-{
-    let mut list = Vec::with_capacity(alloc, names.len())?;
-    for (index, name) in names.iter().enumerate() {
-        let name = Text::new(String::from_str(alloc, name.text.as_str())?);
-        let value = machine.value(frame, index);
-        list.push(Variable { name, value })?;
-    }
-    Ok(list)
-}
-
-/// The variables of a frame, in the order of declaration.
+/// Answers `variables`: a frame's variables, in the order of declaration.
 ///
 /// # Errors
 ///
@@ -71,4 +38,37 @@ pub fn variables(
     let names = declared_names(machine, frame);
     let list = valued(alloc, machine, frame, names)?;
     Ok(Ok(Body::Variables(Items::new(list))))
+}
+
+/// Returns the names of a frame's variables, in the order of declaration.
+fn declared_names(machine: &Machine, frame: usize) -> &[Name]
+    requires { frame < depth_of machine.now }
+    ensures names { map plain_name result.now ≡ names_in (program machine.now) (frame_of machine.now frame) }
+    ensures count { length result.now ≡ variables_of (frame_of machine.now frame) }
+{
+    let depth = machine.depth();
+    prove!(frame < depth);
+    let unit: &Unit = machine.unit();
+    let number = machine.frame(frame).block;
+    let declaring = block(&unit.tree.program, &unit.nestings, number);
+    &declaring.variables
+}
+
+/// Returns a frame's variables, which have these names.
+fn valued(
+    alloc: Global,
+    machine: &Machine,
+    frame: usize,
+    names: &[Name],
+) -> Result<Vec<Variable>, AllocError>
+    requires { length names.now ≡ variables_of (frame_of machine.now frame) }
+    ensures { IfOk result (λ list. list.items ≡ named (map plain_name names.now) (numbers_of (frame_of machine.now frame))) }
+{
+    let mut list = Vec::with_capacity(alloc, names.len())?;
+    for (index, name) in names.iter().enumerate() {
+        let name = Text::new(String::from_str(alloc, name.text.as_str())?);
+        let value = machine.value(frame, index);
+        list.push(Variable { name, value })?;
+    }
+    Ok(list)
 }

@@ -1,4 +1,4 @@
-//! `scopes`.
+//! The answer to `scopes`.
 
 ghost use Rattle.std.specs.Prelude.{◌≡◌, ◌-◌, ◌<◌, ◌≤◌, IfOk};
 ghost use Rattle.pl0_machine.specs.Machine.{program, frames, frame_of, depth_of};
@@ -15,37 +15,7 @@ use dbg_plan::Debuggee;
 use pl0_machine::Machine;
 use std::alloc::{AllocError, Global};
 
-/// The scope of the frame with this id.
-fn scope(alloc: Global, machine: &Machine, id: usize) -> Result<Scope, AllocError>
-    requires positive { 0 < id }
-    requires alive { id ≤ depth_of machine.now }
-    ensures { IfOk result (λ scope. IsScopeOf (program machine.now) (frame_of machine.now (id - 1)) id scope) }
-{
-    let view = machine.frame(id - 1);
-    let name = frame_name(alloc, machine.unit(), view.block)?;
-    Ok(Scope {
-        name,
-        reference: id as u64,
-    })
-}
-
-/// The scopes of a frame, from 0, the innermost first.
-fn scope_chain(alloc: Global, machine: &Machine, frame: usize) -> Result<Vec<Scope>, AllocError>
-    requires { frame < depth_of machine.now }
-    ensures { IfOk result (λ scopes. scopes.items ≡ scopes_from (program machine.now) (frames machine.now) frame) }
-{
-    let depth = machine.depth();
-    prove!(frame < depth);
-    let mut scopes = Vec::new(alloc);
-    let mut next = Some(frame);
-    while let Some(frame) = next {
-        scopes.push(scope(alloc, machine, frame + 1)?)?;
-        next = machine.static_parent(frame);
-    }
-    Ok(scopes)
-}
-
-/// The scopes of a frame, the innermost first.
+/// Answers `scopes`: the scopes of a frame, the innermost first.
 ///
 /// # Errors
 ///
@@ -65,4 +35,34 @@ pub fn scopes(
     }
     let scopes = scope_chain(alloc, machine, id - 1)?;
     Ok(Ok(Body::Scopes(Items::new(scopes))))
+}
+
+/// Returns the scopes of a frame, given by its number from 0, the innermost first.
+fn scope_chain(alloc: Global, machine: &Machine, frame: usize) -> Result<Vec<Scope>, AllocError>
+    requires { frame < depth_of machine.now }
+    ensures { IfOk result (λ scopes. scopes.items ≡ scopes_from (program machine.now) (frames machine.now) frame) }
+{
+    let depth = machine.depth();
+    prove!(frame < depth);
+    let mut scopes = Vec::new(alloc);
+    let mut next = Some(frame);
+    while let Some(frame) = next {
+        scopes.push(scope(alloc, machine, frame + 1)?)?;
+        next = machine.static_parent(frame);
+    }
+    Ok(scopes)
+}
+
+/// Returns the scope of the frame with this id.
+fn scope(alloc: Global, machine: &Machine, id: usize) -> Result<Scope, AllocError>
+    requires positive { 0 < id }
+    requires alive { id ≤ depth_of machine.now }
+    ensures { IfOk result (λ scope. IsScopeOf (program machine.now) (frame_of machine.now (id - 1)) id scope) }
+{
+    let view = machine.frame(id - 1);
+    let name = frame_name(alloc, machine.unit(), view.block)?;
+    Ok(Scope {
+        name,
+        reference: id as u64,
+    })
 }

@@ -1,7 +1,7 @@
--- What public contracts cite.
+-- Public contracts cite the first two modules.
 -- the run that the runner has
 pub mod Runs
 -- which histories a phase stands for
 pub mod Phases
--- What only inner contracts cite.
+-- for private contracts only: what the fields of a run stand for
 pub mod RunFields

@@ -1,4 +1,4 @@
--- Which histories a phase stands for.
+-- Defines which histories a phase stands for.
 use Rattle.std.specs.Prelude.{◌≡◌, Option, None, Some}
 use Rattle.pl0_unit.specs.declared.unit.Unit.{Unit as Compiled}
 use Rattle.pl0_machine.specs.Machine.{program_of}
@@ -20,6 +20,7 @@ use Rattle.dap_phase.specs.Runs.{Ordered, heading_in}
 
 -- ---- the situation, and what waits
 
+-- the situation of a phase
 abbrev pub situation_of : Phase → Situation
 situation_of phase.Fresh = situation_is.Fresh
 situation_of (phase.Ready s) = situation_is.Ready
@@ -30,12 +31,12 @@ situation_of (phase.Stopped t d) = situation_is.Stopped
 situation_of (phase.Faulted t d) = situation_is.Faulted
 situation_of (phase.Ended t u) = situation_is.Ended
 
--- the launch that waits for its file
+-- the launch that waits for its file, if there is one
 abbrev pub launch_of : Phase → Option Launch
 launch_of (phase.Launching s launch) = Some launch
 launch_of _ = None
 
--- The command wants no file: it is no launch, or it finds the session where a launch is refused.
+-- The command wants no file: it is no launch, or a launch is refused in this phase.
 abbrev pub WantsNoFile : Phase → Command → Type 0
 WantsNoFile (phase.Ready s) (command.Launch arguments) = ⊥
 WantsNoFile _ _ = Unit {0}
@@ -63,7 +64,7 @@ pub record IsDebuggee (d : Debugged) (past : History) : Type 0 where
   pub breakpoints_are : d.breakpoints ≡ (plan past).breakpoints
   pub counted_from_is : d.counted_from ≡ (plan past).counted_from
 
--- The run is the last that was ordered, wherever that began, and what waits is what waits there.
+-- The run is the one that was ordered last, come to where the program stands, and the same breakpoints and pause wait.
 pub record IsRun (run : Ordered) (past : History) : Type 0 where
   pub first : Heading
   pub ordered : last_run past ≡ Some first

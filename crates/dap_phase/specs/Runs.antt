@@ -1,4 +1,4 @@
--- What contracts see of the run that the runner has.
+-- Defines what contracts see of the run that the runner has.
 use Rattle.std.specs.Prelude.{ℕ, Bool, false, ◌||◌, not, List, Option, None, Some}
 use Rattle.pl0_unit.specs.declared.unit.Unit.{Unit as Compiled}
 use Rattle.dbg_plan.specs.Breakpoints.{Breakpoint}
@@ -8,7 +8,7 @@ use Rattle.dbg_runner.specs.Plain.{Heading, goes_back}
 use Rattle.dbg_runner.specs.Reported.{text_of}
 
 -- A run of a program in a mode, under breakpoints that count from position `counted_from`. Its next report starts at
--- `position`. Breakpoints wait, or a pause, until the runner gives the debuggee back, and the runner may have been asked to.
+-- `position`. Breakpoints or a pause may wait until the runner returns the debuggee, and `held` says that this was ordered.
 pub record Ordered : Type 0 where
   pub unit : Compiled
   pub mode : Mode
@@ -19,17 +19,17 @@ pub record Ordered : Type 0 where
   pub waiting_pause : Bool
   pub held : Bool
 
--- a run of this debuggee, which begins
+-- a run of this debuggee at its beginning
 abbrev pub begun : Debugged → Mode → Ordered
 begun d mode =
     record { unit = d.unit; mode = mode; position = d.position; breakpoints = d.breakpoints; counted_from = d.counted_from; waiting_plan = None; waiting_pause = false; held = false }
 
--- what the next report has to begin with, where the run has this number
+-- the heading that the next report must have, where the run has this number
 abbrev pub heading_in : ℕ → Ordered → Heading
 heading_in number run =
     record { run = number; text = text_of run.unit; plan = run.breakpoints; counted_from = run.counted_from; mode = run.mode; start = run.position }
 
--- after the debuggee was asked for, if it can be: a run that goes back isn't held
+-- the run after the order to hold it; a run that goes back isn't held
 abbrev pub asked_back : Ordered → Ordered
 asked_back run = record run { held = run.held || not (goes_back run.mode) }
 

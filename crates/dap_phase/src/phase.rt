@@ -11,21 +11,21 @@ use std::sync::Arc;
 /// How far a session has come. It holds the debuggee exactly in `Configuring`, `Stopped` and `Faulted`.
 #[derive(Drop)]
 pub enum Phase {
-    /// No `initialize` was answered with success.
+    /// No `initialize` has succeeded.
     Fresh,
-    /// One was, and no program is launched.
+    /// An `initialize` has succeeded, and no program is launched.
     Ready(InitializeArguments),
-    /// The same, and a launch waits for its file.
+    /// The same as `Ready`, and a launch waits for its file.
     Launching(InitializeArguments, Launch),
     /// A program is launched, and waits for `configurationDone`.
     Configuring(Target, Unstarted),
-    /// The runner has the debuggee.
+    /// The program is running: the runner has the debuggee.
     Running(Target, Run),
     /// The program stopped.
     Stopped(Target, StoppedDebuggee),
     /// The program stopped before a step that faults.
     Faulted(Target, StoppedDebuggee),
-    /// The program is over.
+    /// The program has ended.
     Ended(Target, Arc<Unit>),
 }
 
@@ -36,9 +36,10 @@ pub struct Target {
     pub settings: InitializeArguments,
     /// The path of the program.
     pub path: Text,
+    /// Whether the program stops before its first step.
     pub stop_on_entry: bool,
     /// How many runs were ordered, which is the number of the last.
     pub runs: u64,
-    /// How many numbers were reported.
+    /// How many numbers that the program wrote were reported.
     pub told: u64,
 }

@@ -16,7 +16,7 @@ use std::alloc::AllocError;
 use std::marker::Model;
 use std::sync::Arc;
 
-/// The run that the runner has, and what waits until it gives the debuggee back.
+/// The run that the runner has, and what waits until the runner returns the debuggee.
 #[derive(Drop)]
 pub struct Run {
     unit: Arc<Unit>,
@@ -47,16 +47,6 @@ impl Model for Run {
     ghost invariant = { IsFitting };
 }
 
-/// A share of a plan, if there is one.
-fn shared_plan(plan: &Option<Arc<Plan>>) -> Result<Option<Arc<Plan>>, AllocError>
-    ensures { IfOk result (λ share. breakpoints_of (option_map arc_value share) ≡ breakpoints_of (option_map arc_value plan.now)) }
-{
-    match plan {
-        None => Ok(None),
-        Some(plan) => Ok(Some(Arc::try_clone(plan)?)),
-    }
-}
-
 impl Run {
     ghost use Rattle.std.specs.Prelude.{◌≡◌, [], ◌∷◌, ◌||◌, true, Some, option_map, IfOk, Decides, if◌then◌else◌};
     ghost use Rattle.std.specs.Option.{option_to_list};
@@ -68,11 +58,11 @@ impl Run {
     ghost use Rattle.dbg_runner.specs.Reported.{heading, plain_report, text_of};
     ghost use Rattle.dap_phase.specs.Runs.{begun, heading_in, asked_back, with_waiting};
 
-    /// The run of this number, with its order to the runner. Nothing waits.
+    /// Begins the run of this number, and returns it with the order to the runner. Nothing waits.
     ///
     /// # Errors
     ///
-    /// An allocation failed; the debuggee is gone then.
+    /// An allocation failed. The debuggee is dropped then.
     pub fn begin(number: u64, debuggee: StoppedDebuggee, mode: Mode) -> Result<(Run, Order), AllocError>
         ensures run { IfOk result (λ r. r.0 ≡ begun debuggee mode) }
         ensures order { IfOk result (λ r. plain_order r.1 ≡ Go (heading number debuggee mode)) }
@@ -103,14 +93,14 @@ impl Run {
         &self.unit
     }
 
-    /// The program, when the run is over.
+    /// Returns the program, and drops the rest of the run.
     pub fn into_unit(self) -> Arc<Unit>
         ensures { result.value ≡ self.unit }
     {
         self.unit
     }
 
-    /// Its mode.
+    /// The mode of the run.
     pub fn mode(&self) -> Mode
         ensures { result ≡ self.now.mode }
     {
@@ -124,7 +114,8 @@ impl Run {
         self.waiting_pause
     }
 
-    /// Whether a report goes on with this run, whose number is given. What costs nothing is compared first.
+    /// Whether a report continues this run, which has this number. Texts and plans are compared last, as that takes
+    /// longest.
     pub fn expects(&self, number: u64, report: &Report) -> bool
         ensures { Decides result (heading_of (plain_report report.now) ≡ heading_in number self.now) }
     {
@@ -137,7 +128,7 @@ impl Run {
             && same_plan(&self.plan, report.plan())
     }
 
-    /// A plan waits, in place of one that waits already.
+    /// Makes a plan wait, in place of one that waited before.
     pub fn wait_for(&mut self, plan: Arc<Plan>)
         requires { IsPlanOf self.old.unit plan.value }
         ensures { self.new ≡ record self.old { waiting_plan = Some (plain_breakpoints plan.value.breakpoints) } }
@@ -145,14 +136,15 @@ impl Run {
         self.waiting_plan = Some(plan);
     }
 
-    /// A pause waits.
+    /// Makes a pause wait.
     pub fn wait_to_pause(&mut self)
         ensures { self.new ≡ record self.old { waiting_pause = true } }
     {
         self.waiting_pause = true;
     }
 
-    /// The order to give the debuggee of this run back, where none was given, and where the run doesn't go back.
+    /// Returns the order to hold this run, which has this number; `None` where that was ordered before or the run goes
+    /// back.
     pub fn hold(&mut self, number: u64) -> Option<Order>
         ensures order { option_to_list (option_map plain_order result) ≡ (if self.old.held || is_backward self.old.mode then [] else Hold number ∷ []) }
         ensures held { self.new ≡ asked_back self.old }
@@ -164,14 +156,14 @@ impl Run {
         Some(Order::Hold { run: number })
     }
 
-    /// The next report starts here.
+    /// Sets the position where the next report has to start.
     pub fn go_on_from(&mut self, position: u64)
         ensures { self.new ≡ record self.old { position = position } }
     {
         self.position = position;
     }
 
-    /// The debuggee that the runner gave back, with the plan that waited put in.
+    /// Puts the plan that waits, if there is one, into the debuggee that the runner returned.
     pub fn take_back(self, debuggee: Box<Debuggee>) -> StoppedDebuggee
         requires considered { IsConsidered debuggee.value }
         requires text { text_of debuggee.value.unit ≡ text_of self.unit }
@@ -182,7 +174,17 @@ impl Run {
     }
 }
 
-/// A debuggee with a plan put in, if there is one.
+/// Returns another share of a plan, if there is one.
+fn shared_plan(plan: &Option<Arc<Plan>>) -> Result<Option<Arc<Plan>>, AllocError>
+    ensures { IfOk result (λ share. breakpoints_of (option_map arc_value share) ≡ breakpoints_of (option_map arc_value plan.now)) }
+{
+    match plan {
+        None => Ok(None),
+        Some(plan) => Ok(Some(Arc::try_clone(plan)?)),
+    }
+}
+
+/// Puts a plan, if there is one, into a debuggee.
 fn with_plan(mut debuggee: Box<Debuggee>, plan: Option<Arc<Plan>>) -> StoppedDebuggee
     requires considered { IsConsidered debuggee.value }
     requires fits { MayBePlanOf debuggee.value.unit (option_map arc_value plan) }

@@ -10,7 +10,7 @@ use std::alloc::{AllocError, Global};
 use std::marker::Model;
 use std::sync::Arc;
 
-/// A debuggee that runs and stands at a position that is yet to be considered.
+/// A debuggee at a position that isn't considered yet.
 #[derive(Drop)]
 pub struct Unstarted {
     debuggee: Box<Debuggee>,
@@ -38,7 +38,7 @@ impl Unstarted {
     ghost use Rattle.dbg_plan.specs.Debugged.{due_now, logs_now};
     ghost use Rattle.dbg_plan.specs.Trail.{new_trail};
 
-    /// A program before its first step, under the empty plan.
+    /// Returns a program before its first step, with the empty plan.
     ///
     /// # Errors
     ///
@@ -58,7 +58,7 @@ impl Unstarted {
         self.debuggee.machine().unit()
     }
 
-    /// Puts a plan in, which counts from the position where the program stands.
+    /// Puts a plan in. It counts from the position where the program stands.
     pub fn set_plan(&mut self, plan: Arc<Plan>)
         requires { IsPlanOf self.old.unit plan.value }
         ensures { self.new ≡ record self.old { breakpoints = plain_breakpoints plan.value.breakpoints; counted_from = self.old.next } }
@@ -66,7 +66,8 @@ impl Unstarted {
         self.debuggee.set_plan(plan);
     }
 
-    /// Considers the position where the program stands: why it is due, if it is. What it logs is left in `logs`.
+    /// Considers the position where the program stands, and returns why it is due, if it is. `logs` then holds what it
+    /// logs.
     pub fn consider(self, mode: Mode, logs: &mut Logs) -> (Option<Reason>, StoppedDebuggee)
         ensures due { result.0 ≡ due_now self mode }
         ensures logs { logs.new ≡ logs_now self }

@@ -1,4 +1,4 @@
--- Answers after which the phase stays as it is.
+-- Defines, for private contracts, replies after which the phase is as before.
 use Rattle.std.specs.Prelude.{[], None, Result}
 use Rattle.dap_msg.specs.declared.command.Command.{Command}
 use Rattle.dap_msg.specs.declared.command.Command.TheVariants as command
@@ -12,7 +12,7 @@ use Rattle.dap_phase.specs.Phases.{IsPhase, situation_of}
 use Rattle.dap_replies.specs.declared.effect.Reply.{Reply as Given}
 use Rattle.dap_replies.specs.Replied.{HasReplied}
 
--- an answer to the command changes no reading, even with success
+-- an answer to the command changes no reading, even where it succeeds
 abbrev pub LeadsNowhere : Command → Type 0
 LeadsNowhere (command.Initialize asked) = ⊥
 LeadsNowhere (command.Launch asked) = ⊥
@@ -20,16 +20,16 @@ LeadsNowhere (command.Pause asked) = ⊥
 LeadsNowhere (command.BadArguments k) = ⊥
 LeadsNowhere _ = Unit {0}
 
--- the reply with this result that nothing follows
+-- the reply with this result, with no events and no order
 abbrev pub without_effect : Phase → Result Body Refusal → Given
 without_effect phase result = record { result = result; effect = record { events = []; order = None; phase = phase } }
 
--- It refuses whatever command is to be refused so.
+-- The reply is right for each command that is to be refused for this reason.
 abbrev pub Refuses : Refusal → Phase → Given → Type 0
 Refuses why phase given =
     (command : Command) (past : History) → IsPhase phase past → RepliesIn (situation_of phase) past command (refused why) → HasReplied command past given
 
--- It answers whatever command is to be answered so, and nothing comes of it.
+-- The reply is right for each command that is to be answered with this result and has no effect.
 abbrev pub Answers : Result Body Refusal → Phase → Given → Type 0
 Answers result phase given =
     (command : Command) → LeadsNowhere command → (past : History) → IsPhase phase past

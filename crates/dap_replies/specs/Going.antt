@@ -1,4 +1,4 @@
--- What only inner contracts cite: how the program goes on, stops or ends after an answer.
+-- Defines, for private contracts, how the program goes on, stops or ends after an answer.
 use Rattle.std.specs.Prelude.{◌≡◌, ◌+◌, List, ◌∷◌, [], ◌++◌, true, ◌||◌, if◌then◌else◌, None, Ok, option_map}
 use Rattle.std.specs.Option.{option_to_list}
 use Rattle.dap_msg.specs.declared.outgoing.Body.{Body}
@@ -32,12 +32,12 @@ pub record HasStopped (t : Target) (d : Debugged) (reason : Reason) (events : Li
   pub order_is : given.effect.order ≡ None
   pub phase_is : given.effect.phase ≡ phase.Stopped t d
 
--- the program of this target is over
+-- the program of this target has ended
 abbrev pub IsOver : Target → Compiled → Phase → Type 0
 IsOver target unit (phase.Ended t u) = (t ≡ target) × (u.value ≡ unit)
 IsOver target unit _ = ⊥
 
--- the program is over, with the code 1
+-- the program has ended with the code 1
 pub record HasEnded (t : Target) (u : Compiled) (body : Body) (given : Reply) : Type 0 where
   pub result_is : given.result ≡ Ok body
   pub events_are : given.effect.events ≡ ends 1

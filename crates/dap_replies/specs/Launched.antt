@@ -1,4 +1,4 @@
--- What a launch gives whose program reads.
+-- Defines what follows a launch whose file is a program without faults.
 use Rattle.std.specs.Prelude.{◌≡◌, [], ◌∷◌, None, Ok}
 use Rattle.dap_msg.specs.declared.requests.initialize.InitializeArguments.{InitializeArguments}
 use Rattle.dap_msg.specs.declared.requests.launch.LaunchArguments.{LaunchArguments}
@@ -12,7 +12,7 @@ use Rattle.dap_phase.specs.declared.phase.Phase.TheVariants as phase
 use Rattle.dap_phase.specs.declared.phase.Target.{Target}
 use Rattle.dap_replies.specs.declared.effect.Reply.{Reply as Given}
 
--- a launched program, of which no run was ordered
+-- the target of a launched program, before any run was ordered
 abbrev pub target_of : InitializeArguments → LaunchArguments → Target
 target_of settings arguments =
     record { settings = settings; path = arguments.program; stop_on_entry = arguments.stop_on_entry; runs = 0; told = 0 }

@@ -1,4 +1,4 @@
--- What holds of phases.
+-- States the law of phases.
 use Rattle.std.specs.Prelude.{◌++◌, ◌∷◌, [], None}
 use Rattle.dap_history.specs.History.{Content, Step, History}
 use Rattle.dap_history.specs.Replies.{nothing}

@@ -1,17 +1,18 @@
--- What public contracts cite.
--- what handlers promise
+-- Public contracts cite the first two modules.
+-- the contract of the functions that handle an item
 pub mod Replied
 -- the law of phases
 pub mod Laws
--- What only inner contracts cite.
--- answers after which the phase stays as it is
+-- Only private contracts cite the others.
+-- replies after which the phase is as before
 pub mod Answering
--- how the program is to go on
+-- the kinds of a resume and of going back
 pub mod ResumeKinds
+-- how the program goes on, stops or ends after an answer
 pub mod Going
--- what a launch gives whose program reads
+-- what follows a launch whose file is a program without faults
 pub mod Launched
--- what a report leads to
+-- what follows a report
 pub mod Reporting
--- what lines become
+-- what the lines of `setBreakpoints` are answered with
 pub mod Lines

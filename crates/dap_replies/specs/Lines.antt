@@ -1,4 +1,4 @@
--- What lines that the client asks for are answered with, and which source they are of.
+-- Defines, for private contracts, what the lines of `setBreakpoints` are answered with, and which source they are of.
 use Rattle.std.specs.Prelude.{◌≡◌, ℕ, ◌<◌, Bool, false, List, [], length, map, Option, Ok, not}
 use Rattle.pl0_tree.specs.Tree.{Block}
 use Rattle.pl0_tree.specs.Steps.{steps}
@@ -14,7 +14,7 @@ use Rattle.dap_phase.specs.declared.phase.Phase.{Phase}
 use Rattle.dap_phase.specs.declared.phase.Phase.TheVariants as phase
 use Rattle.dap_replies.specs.declared.effect.Reply.{Reply as Given}
 
--- Lines of the program's source are answered so, and give these breakpoints.
+-- Lines of the program's source have these answers and these breakpoints.
 pub record AreAnswered (main : Block) (less : ℕ) (lines : List SourceBreakpoint) (answers : List BreakpointAnswer) (breakpoints : List Breakpoint) : Type 0 where
   pub resolutions : List Resolution
   pub resolved : IsResolved main less lines resolutions breakpoints
@@ -34,6 +34,6 @@ is_other (phase.Faulted t d) path = not (is_at path t.path)
 is_other (phase.Ended t u) path = not (is_at path t.path)
 is_other _ path = false
 
--- these answers, then this order or none, and no events
+-- the reply with these answers, this order or none, and no events
 abbrev pub with_order : List BreakpointAnswer → Option Order → Phase → Given
 with_order answers order phase = record { result = Ok (body.Breakpoints answers); effect = record { events = []; order = order; phase = phase } }

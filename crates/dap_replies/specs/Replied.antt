@@ -1,5 +1,5 @@
--- What handlers promise: the answer, the events and the order are those of the definitions, and the phase afterwards stands for
--- the history with the item's step.
+-- Defines the contract of the functions that handle an item: the answer, the events and the order are those of the
+-- definitions, and the phase afterwards stands for the history with the item's step.
 use Rattle.std.specs.Prelude.{◌≡◌, ◌++◌, ◌∷◌, [], ℕ, List, Option, None, Some, option_map}
 use Rattle.std.specs.Option.{option_to_list}
 use Rattle.dap_msg.specs.Commands.{name_of}
@@ -25,18 +25,19 @@ use Rattle.dap_replies.specs.declared.effect.Reply.{Reply as Given}
 
 -- ---- the step of an item
 
+-- the step of an item with this answer and this effect
 abbrev pub step_of : Item → Option Outgoing → Effect → Step
 step_of item answer effect = record { item = item; answer = answer; effect = effect }
 
--- the step of a request that is replied so
+-- the step of a request with this reply
 abbrev pub request_step : Request → Reply → Step
 request_step request reply = step_of (Content (Some request)) (Some (Answer request.seq (name_of request.body) reply.result)) reply.effect
 
--- the step of a launch with its file
+-- the step of a launch with its file and this reply
 abbrev pub launch_step : Launch → Option (List ℕ) → Reply → Step
 launch_step launch file reply = step_of (Loaded launch file) (Some (Answer launch.seq (name.Supported supported.Launch) reply.result)) reply.effect
 
--- the step of a report that is accepted
+-- the step of an accepted report with this effect
 abbrev pub report_step : PlainReport → Effect → Step
 report_step r effect = step_of (Accepted r) None effect
 
@@ -47,30 +48,30 @@ pub record Does (done : Done) (effect : Effect) : Type 0 where
   pub events_are : done.events ≡ effect.events
   pub orders_are : option_to_list (option_map plain_order done.order) ≡ effect.orders
 
--- the reply is the one that is given
+-- what was done is the reply of the definitions
 pub record Gives (given : Given) (reply : Reply) : Type 0 where
   pub result_is : given.result ≡ reply.result
   pub effect_is : Does given.effect reply.effect
 
--- the command is replied to so, whatever its request's seq is
+-- this is a right reply to the command, whatever the seq of its request is
 pub record HasReplied (command : Command) (past : History) (given : Given) : Type 0 where
   pub reply : Reply
   pub replies : RepliesIn (situation past) past command reply
   pub gives : Gives given reply
   pub phase_is : (seq : ℕ) → IsPhase given.effect.phase (past ++ request_step (record { seq = seq; body = command }) reply ∷ [])
 
--- a handler's contract: so it is for each history that the phase stood for
+-- the contract of a function that replies: the same for each history that the phase stood for
 abbrev pub Replies : Command → Phase → Given → Type 0
 Replies command phase given = (past : History) → IsPhase phase past → HasReplied command past given
 
--- the launch is replied to so
+-- this is a right reply to the launch
 pub record HasLaunched (launch : Launch) (file : Option (List ℕ)) (past : History) (given : Given) : Type 0 where
   pub reply : Reply
   pub launches : Launches launch.arguments file reply
   pub gives : Gives given reply
   pub phase_is : IsPhase given.effect.phase (past ++ launch_step launch file reply ∷ [])
 
--- the report is followed by this
+-- this is what follows the report
 pub record HasReported (r : PlainReport) (past : History) (done : Done) : Type 0 where
   pub does : Does done (report_effect past r r.outcome)
   pub phase_is : IsPhase done.phase (past ++ report_step r (report_effect past r r.outcome) ∷ [])

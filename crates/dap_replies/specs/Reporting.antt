@@ -1,4 +1,4 @@
--- What the parts of a report's handler promise.
+-- Defines what the contracts of the functions speak of that handle a report.
 use Rattle.std.specs.Prelude.{◌≡◌, ℕ, ◌+◌, ◌-◌, ℤ, List, ◌++◌, ◌∷◌, [], length, drop, map}
 use Rattle.dap_msg.specs.declared.outgoing.EventBody.{EventBody}
 use Rattle.dap_msg.specs.declared.outgoing.EventBody.TheVariants as event
@@ -19,30 +19,30 @@ use Rattle.dap_phase.specs.Phases.{IsPhase}
 use Rattle.dap_replies.specs.declared.effect.Effect.{Effect as Done}
 use Rattle.dap_replies.specs.Replied.{Does, report_step}
 
--- the numbers of a report after those that were reported before, where so many were
+-- the numbers of a report that weren't reported before, where `told` numbers were
 abbrev pub fresh : ℕ → Reported → List ℤ
 fresh told r = drop (told - r.before) r.numbers
 
--- these and the logs, as events
+-- these numbers and the logs of the report, as events
 abbrev pub outputs_after : ℕ → Reported → List EventBody
 outputs_after told r = map event.Output (fresh told r) ++ told_logs r.plan r.logs
 
--- the target when these are reported
+-- the target after these numbers were reported
 abbrev pub with_told : Target → Reported → Target
 with_told t r = record t { told = t.told + length (fresh t.told r) }
 
--- a slice that ended so leaves a debuggee that stands in the report
+-- the report of a slice with this outcome contains the debuggee
 abbrev pub Stops : SliceOutcome → Type 0
 Stops (slice.Due reason) = Unit {0}
 Stops slice.Held = Unit {0}
 Stops (slice.Fault fault) = Unit {0}
 Stops _ = ⊥
 
--- the report goes on with the run
+-- the report continues the run
 abbrev pub GoesOnWith : Reported → Target → Ordered → Type 0
 GoesOnWith report target run = heading_of (plain_report report) ≡ heading_in target.runs run
 
--- the program stands, for this reason
+-- the phase of a program that stands for this reason
 abbrev pub standing : Target → Debugged → StopReason → Phase
 standing target d (stop.Exception fault) = phase.Faulted target d
 standing target d _ = phase.Stopped target d
@@ -52,7 +52,7 @@ pub record HasEffect (report : Reported) (effect : Effect) (past : History) (don
   pub does : Does done effect
   pub phase_is : IsPhase done.phase (past ++ report_step (plain_report report) effect ∷ [])
 
--- so it is for each history in which the run runs
+-- the same for each history that the phase with this run stands for
 abbrev pub Leads : Target → Ordered → Reported → (History → Effect) → Done → Type 0
 Leads target run report effect done =
     (past : History) → IsPhase (phase.Running target run) past → HasEffect report (effect past) past done

@@ -1,4 +1,4 @@
-//! `setBreakpoints`.
+//! The reply to `setBreakpoints`.
 
 ghost use Rattle.std.specs.Prelude.{◌≡◌, ◌≤◌, ◌+◌, map, true, All, IfOk};
 ghost use Rattle.dap_msg.specs.Laws.{AreWithin, LineIsWithin};
@@ -27,260 +27,11 @@ use pl0_unit::Unit;
 use std::alloc::{AllocError, Global};
 use std::sync::Arc;
 
-/// How much a line of the client's is less than the same one counted from 1.
-fn line_offset(settings: InitializeArguments) -> u32
-    ensures is { result ≡ offset settings.lines_start_at_1 }
-    ensures small { result ≤ 1 }
-{
-    if settings.lines_start_at_1 { 0 } else { 1 }
-}
-
-/// A line as a plan asks for it.
-fn asked_line(alloc: Global, line: &SourceBreakpoint, less: u32) -> Result<AskedLine, AllocError>
-    requires within { LineIsWithin line.now }
-    requires small { less ≤ 1 }
-    ensures { IfOk result (IsAskedAs less line.now) }
-{
-    Ok(AskedLine {
-        line: line.line + less,
-        condition: String::from_str(alloc, line.condition.as_str())?,
-        hit_condition: String::from_str(alloc, line.hit_condition.as_str())?,
-        log_message: String::from_str(alloc, line.log_message.as_str())?,
-    })
-}
-
-fn asked_lines(
-    alloc: Global,
-    lines: &[SourceBreakpoint],
-    less: u32,
-) -> Result<Vec<AskedLine>, AllocError>
-    requires within { All LineIsWithin lines.now }
-    requires small { less ≤ 1 }
-    ensures { IfOk result (λ asked. AreAskedAs less lines.now asked.items) }
-{
-    let mut asked = Vec::with_capacity(alloc, lines.len())?;
-    for line in lines {
-        asked.push(asked_line(alloc, line, less)?)?;
-    }
-    Ok(asked)
-}
-
-/// What a line of the program is answered with.
-fn line_answer(unit: &Unit, less: u32, resolution: Resolution) -> BreakpointAnswer
-    requires { IsAtStep (program_of unit.now) resolution }
-    ensures { result ≡ answer_of (program_of unit.now) less resolution }
-{
-    match resolution {
-        Resolution::At(step) => {
-            let line = unit.steps[step].place.line;
-            BreakpointAnswer::At(u64::from(line.saturating_sub(less)))
-        }
-        Resolution::NoStep => BreakpointAnswer::Unverified(BreakpointRefusal::NoStep),
-        Resolution::BadCondition => BreakpointAnswer::Unverified(BreakpointRefusal::BadCondition),
-        Resolution::BadHitCondition => BreakpointAnswer::Unverified(
-            BreakpointRefusal::BadHitCondition,
-        ),
-        Resolution::BadLogMessage => BreakpointAnswer::Unverified(BreakpointRefusal::BadLogMessage),
-    }
-}
-
-fn line_answers(
-    alloc: Global,
-    unit: &Unit,
-    less: u32,
-    resolutions: &[Resolution],
-) -> Result<Items<BreakpointAnswer>, AllocError>
-    requires { All (IsAtStep (program_of unit.now)) resolutions.now }
-    ensures { IfOk result (λ answers. answers ≡ map (answer_of (program_of unit.now) less) resolutions.now) }
-{
-    let mut answers = Vec::with_capacity(alloc, resolutions.len())?;
-    for resolution in resolutions {
-        answers.push(line_answer(unit, less, *resolution))?;
-    }
-    Ok(Items::new(answers))
-}
-
-/// The answers to lines of the program's source, and their plan.
-fn resolved(
-    alloc: Global,
-    unit: &Unit,
-    settings: InitializeArguments,
-    asked: &SetBreakpointsArguments,
-) -> Result<(Items<BreakpointAnswer>, Arc<Plan>), AllocError>
-    requires { AreWithin asked.now }
-    ensures answered { IfOk result (λ r. AreAnswered (program_of unit.now) (offset settings.lines_start_at_1) asked.now.breakpoints r.0 (plain_breakpoints r.1.value.breakpoints)) }
-    ensures plan { IfOk result (λ r. IsPlanOf unit.now r.1.value) }
-{
-    let less = line_offset(settings);
-    let lines = asked_lines(alloc, asked.breakpoints.as_slice(), less)?;
-    let (plan, resolutions) = resolve(alloc, unit, &lines)?;
-    let answers = line_answers(alloc, unit, less, &resolutions)?;
-    Ok((answers, Arc::new(alloc, plan)?))
-}
-
-/// The answers to lines of another source.
-fn other_source(
-    alloc: Global,
-    lines: &[SourceBreakpoint],
-) -> Result<Items<BreakpointAnswer>, AllocError>
-    ensures { IfOk result (λ answers. answers ≡ map (λ b. answer_is.Unverified why.OtherSource) lines.now) }
-{
-    let mut answers = Vec::with_capacity(alloc, lines.len())?;
-    for _line in lines {
-        answers.push(BreakpointAnswer::Unverified(BreakpointRefusal::OtherSource))?;
-    }
-    Ok(Items::new(answers))
-}
-
-/// Whether a path is the launched program's.
-fn is_launched(asked: &Option<Text>, target: &Target) -> bool
-    ensures { result ≡ is_at asked.now target.now.path }
-{
-    match asked {
-        None => false,
-        Some(path) => path.as_str() == target.path.as_str(),
-    }
-}
-
-/// Whether a program is launched, and not the one at a path.
-fn is_of_other_source(phase: &Phase, asked: &Option<Text>) -> bool
-    ensures { result ≡ is_other phase.now asked.now }
-{
-    match phase {
-        Phase::Fresh | Phase::Ready(_) | Phase::Launching(_, _) => false,
-        Phase::Configuring(target, _)
-        | Phase::Running(target, _)
-        | Phase::Stopped(target, _)
-        | Phase::Faulted(target, _)
-        | Phase::Ended(target, _) => !is_launched(asked, target),
-    }
-}
-
-/// These answers, an order or none, and the phase then.
-fn answered(
-    alloc: Global,
-    answers: Items<BreakpointAnswer>,
-    order: Option<Order>,
-    phase: Phase,
-) -> Reply
-    ensures { result ≡ with_order answers order phase }
-{
-    Reply {
-        result: Ok(Body::Breakpoints(answers)),
-        effect: Effect {
-            events: Items::new(Vec::new(alloc)),
-            order,
-            phase,
-        },
-    }
-}
-
-/// Before the program starts the plan is put in at once.
-fn before_start(
-    alloc: Global,
-    target: Target,
-    mut debuggee: Unstarted,
-    asked: &SetBreakpointsArguments,
-) -> Result<Reply, AllocError>
-    requires within { AreWithin asked.now }
-    requires same { is_at asked.now.path target.path ≡ true }
-    ensures { IfOk result (Replies (command.SetBreakpoints asked.now) (phase_is.Configuring target debuggee)) }
-{
-    reading_laws();
-    let (answers, plan) = resolved(alloc, debuggee.unit(), target.settings, asked)?;
-    debuggee.set_plan(plan);
-    Ok(answered(alloc, answers, None, Phase::Configuring(target, debuggee)))
-}
-
-/// In a run the plan waits, and the runner is to give the debuggee back.
-fn in_run(
-    alloc: Global,
-    target: Target,
-    mut run: Run,
-    asked: &SetBreakpointsArguments,
-) -> Result<Reply, AllocError>
-    requires within { AreWithin asked.now }
-    requires same { is_at asked.now.path target.path ≡ true }
-    ensures { IfOk result (Replies (command.SetBreakpoints asked.now) (phase_is.Running target run)) }
-{
-    reading_laws();
-    let (answers, plan) = resolved(alloc, run.unit(), target.settings, asked)?;
-    run.wait_for(plan);
-    let order = run.hold(target.runs);
-    Ok(answered(alloc, answers, order, Phase::Running(target, run)))
-}
-
-/// The answers, and a debuggee that stands, with their plan put in.
-fn put_in(
-    alloc: Global,
-    debuggee: StoppedDebuggee,
-    settings: InitializeArguments,
-    asked: &SetBreakpointsArguments,
-) -> Result<(Items<BreakpointAnswer>, StoppedDebuggee), AllocError>
-    requires { AreWithin asked.now }
-    ensures answered { IfOk result (λ r. AreAnswered (program_of debuggee.unit) (offset settings.lines_start_at_1) asked.now.breakpoints r.0 r.1.breakpoints) }
-    ensures plan { IfOk result (λ r. r.1 ≡ record debuggee { breakpoints = r.1.breakpoints; counted_from = debuggee.position + 1 }) }
-{
-    let mut debuggee = debuggee.into_debuggee();
-    let (answers, plan) = resolved(alloc, debuggee.machine().unit(), settings, asked)?;
-    debuggee.set_plan(plan);
-    Ok((answers, StoppedDebuggee::new(debuggee)))
-}
-
-fn at_stop(
-    alloc: Global,
-    target: Target,
-    debuggee: StoppedDebuggee,
-    asked: &SetBreakpointsArguments,
-) -> Result<Reply, AllocError>
-    requires within { AreWithin asked.now }
-    requires same { is_at asked.now.path target.path ≡ true }
-    ensures { IfOk result (Replies (command.SetBreakpoints asked.now) (phase_is.Stopped target debuggee)) }
-{
-    reading_laws();
-    let (answers, debuggee) = put_in(alloc, debuggee, target.settings, asked)?;
-    Ok(answered(alloc, answers, None, Phase::Stopped(target, debuggee)))
-}
-
-fn at_fault(
-    alloc: Global,
-    target: Target,
-    debuggee: StoppedDebuggee,
-    asked: &SetBreakpointsArguments,
-) -> Result<Reply, AllocError>
-    requires within { AreWithin asked.now }
-    requires same { is_at asked.now.path target.path ≡ true }
-    ensures { IfOk result (Replies (command.SetBreakpoints asked.now) (phase_is.Faulted target debuggee)) }
-{
-    reading_laws();
-    let (answers, debuggee) = put_in(alloc, debuggee, target.settings, asked)?;
-    Ok(answered(alloc, answers, None, Phase::Faulted(target, debuggee)))
-}
-
-/// After the end of the program the lines are answered, and no plan is kept.
-fn after_end(
-    alloc: Global,
-    target: Target,
-    unit: Arc<Unit>,
-    asked: &SetBreakpointsArguments,
-) -> Result<Reply, AllocError>
-    requires within { AreWithin asked.now }
-    requires same { is_at asked.now.path target.path ≡ true }
-    ensures { IfOk result (Replies (command.SetBreakpoints asked.now) (phase_is.Ended target unit)) }
-{
-    let (answers, _) = resolved(alloc, &unit, target.settings, asked)?;
-    Ok(answer(
-        alloc,
-        Phase::Ended(target, unit),
-        Body::Breakpoints(answers),
-    ))
-}
-
 /// Replies to `setBreakpoints`.
 ///
 /// # Errors
 ///
-/// An allocation failed; the phase is gone then.
+/// An allocation failed. The phase is dropped then.
 pub(crate) fn set_breakpoints(
     alloc: Global,
     phase: Phase,
@@ -305,5 +56,258 @@ pub(crate) fn set_breakpoints(
         Phase::Stopped(target, debuggee) => at_stop(alloc, target, debuggee, asked),
         Phase::Faulted(target, debuggee) => at_fault(alloc, target, debuggee, asked),
         Phase::Ended(target, unit) => after_end(alloc, target, unit, asked),
+    }
+}
+
+/// Whether a program is launched, and not the one at a path.
+fn is_of_other_source(phase: &Phase, asked: &Option<Text>) -> bool
+    ensures { result ≡ is_other phase.now asked.now }
+{
+    match phase {
+        Phase::Fresh | Phase::Ready(_) | Phase::Launching(_, _) => false,
+        Phase::Configuring(target, _)
+        | Phase::Running(target, _)
+        | Phase::Stopped(target, _)
+        | Phase::Faulted(target, _)
+        | Phase::Ended(target, _) => !is_launched(asked, target),
+    }
+}
+
+/// Whether a path is the path of the launched program.
+fn is_launched(asked: &Option<Text>, target: &Target) -> bool
+    ensures { result ≡ is_at asked.now target.now.path }
+{
+    match asked {
+        None => false,
+        Some(path) => path.as_str() == target.path.as_str(),
+    }
+}
+
+/// Returns the answers to lines of another source.
+fn other_source(
+    alloc: Global,
+    lines: &[SourceBreakpoint],
+) -> Result<Items<BreakpointAnswer>, AllocError>
+    ensures { IfOk result (λ answers. answers ≡ map (λ b. answer_is.Unverified why.OtherSource) lines.now) }
+{
+    let mut answers = Vec::with_capacity(alloc, lines.len())?;
+    for _line in lines {
+        answers.push(BreakpointAnswer::Unverified(BreakpointRefusal::OtherSource))?;
+    }
+    Ok(Items::new(answers))
+}
+
+/// Replies before the program has started: the plan is put in at once.
+fn before_start(
+    alloc: Global,
+    target: Target,
+    mut debuggee: Unstarted,
+    asked: &SetBreakpointsArguments,
+) -> Result<Reply, AllocError>
+    requires within { AreWithin asked.now }
+    requires same { is_at asked.now.path target.path ≡ true }
+    ensures { IfOk result (Replies (command.SetBreakpoints asked.now) (phase_is.Configuring target debuggee)) }
+{
+    reading_laws();
+    let (answers, plan) = resolved(alloc, debuggee.unit(), target.settings, asked)?;
+    debuggee.set_plan(plan);
+    Ok(answered(alloc, answers, None, Phase::Configuring(target, debuggee)))
+}
+
+/// Replies during a run: the plan waits, and the runner is ordered to return the debuggee.
+fn in_run(
+    alloc: Global,
+    target: Target,
+    mut run: Run,
+    asked: &SetBreakpointsArguments,
+) -> Result<Reply, AllocError>
+    requires within { AreWithin asked.now }
+    requires same { is_at asked.now.path target.path ≡ true }
+    ensures { IfOk result (Replies (command.SetBreakpoints asked.now) (phase_is.Running target run)) }
+{
+    reading_laws();
+    let (answers, plan) = resolved(alloc, run.unit(), target.settings, asked)?;
+    run.wait_for(plan);
+    let order = run.hold(target.runs);
+    Ok(answered(alloc, answers, order, Phase::Running(target, run)))
+}
+
+/// Replies where the program is stopped: the plan is put in at once.
+fn at_stop(
+    alloc: Global,
+    target: Target,
+    debuggee: StoppedDebuggee,
+    asked: &SetBreakpointsArguments,
+) -> Result<Reply, AllocError>
+    requires within { AreWithin asked.now }
+    requires same { is_at asked.now.path target.path ≡ true }
+    ensures { IfOk result (Replies (command.SetBreakpoints asked.now) (phase_is.Stopped target debuggee)) }
+{
+    reading_laws();
+    let (answers, debuggee) = put_in(alloc, debuggee, target.settings, asked)?;
+    Ok(answered(alloc, answers, None, Phase::Stopped(target, debuggee)))
+}
+
+/// Replies where the program is stopped before a fault: the plan is put in at once.
+fn at_fault(
+    alloc: Global,
+    target: Target,
+    debuggee: StoppedDebuggee,
+    asked: &SetBreakpointsArguments,
+) -> Result<Reply, AllocError>
+    requires within { AreWithin asked.now }
+    requires same { is_at asked.now.path target.path ≡ true }
+    ensures { IfOk result (Replies (command.SetBreakpoints asked.now) (phase_is.Faulted target debuggee)) }
+{
+    reading_laws();
+    let (answers, debuggee) = put_in(alloc, debuggee, target.settings, asked)?;
+    Ok(answered(alloc, answers, None, Phase::Faulted(target, debuggee)))
+}
+
+/// Resolves the lines, and puts the plan into a debuggee that stands.
+fn put_in(
+    alloc: Global,
+    debuggee: StoppedDebuggee,
+    settings: InitializeArguments,
+    asked: &SetBreakpointsArguments,
+) -> Result<(Items<BreakpointAnswer>, StoppedDebuggee), AllocError>
+    requires { AreWithin asked.now }
+    ensures answered { IfOk result (λ r. AreAnswered (program_of debuggee.unit) (offset settings.lines_start_at_1) asked.now.breakpoints r.0 r.1.breakpoints) }
+    ensures plan { IfOk result (λ r. r.1 ≡ record debuggee { breakpoints = r.1.breakpoints; counted_from = debuggee.position + 1 }) }
+{
+    let mut debuggee = debuggee.into_debuggee();
+    let (answers, plan) = resolved(alloc, debuggee.machine().unit(), settings, asked)?;
+    debuggee.set_plan(plan);
+    Ok((answers, StoppedDebuggee::new(debuggee)))
+}
+
+/// Replies after the program has ended: the lines are answered, and no plan is kept.
+fn after_end(
+    alloc: Global,
+    target: Target,
+    unit: Arc<Unit>,
+    asked: &SetBreakpointsArguments,
+) -> Result<Reply, AllocError>
+    requires within { AreWithin asked.now }
+    requires same { is_at asked.now.path target.path ≡ true }
+    ensures { IfOk result (Replies (command.SetBreakpoints asked.now) (phase_is.Ended target unit)) }
+{
+    let (answers, _) = resolved(alloc, &unit, target.settings, asked)?;
+    Ok(answer(
+        alloc,
+        Phase::Ended(target, unit),
+        Body::Breakpoints(answers),
+    ))
+}
+
+/// Resolves lines of the program's source, and returns the answers and the plan.
+fn resolved(
+    alloc: Global,
+    unit: &Unit,
+    settings: InitializeArguments,
+    asked: &SetBreakpointsArguments,
+) -> Result<(Items<BreakpointAnswer>, Arc<Plan>), AllocError>
+    requires { AreWithin asked.now }
+    ensures answered { IfOk result (λ r. AreAnswered (program_of unit.now) (offset settings.lines_start_at_1) asked.now.breakpoints r.0 (plain_breakpoints r.1.value.breakpoints)) }
+    ensures plan { IfOk result (λ r. IsPlanOf unit.now r.1.value) }
+{
+    let less = line_offset(settings);
+    let lines = asked_lines(alloc, asked.breakpoints.as_slice(), less)?;
+    let (plan, resolutions) = resolve(alloc, unit, &lines)?;
+    let answers = line_answers(alloc, unit, less, &resolutions)?;
+    Ok((answers, Arc::new(alloc, plan)?))
+}
+
+/// Returns how much a client's line number is less than the same one counted from 1.
+fn line_offset(settings: InitializeArguments) -> u32
+    ensures is { result ≡ offset settings.lines_start_at_1 }
+    ensures small { result ≤ 1 }
+{
+    if settings.lines_start_at_1 { 0 } else { 1 }
+}
+
+/// The same for each breakpoint.
+fn asked_lines(
+    alloc: Global,
+    lines: &[SourceBreakpoint],
+    less: u32,
+) -> Result<Vec<AskedLine>, AllocError>
+    requires within { All LineIsWithin lines.now }
+    requires small { less ≤ 1 }
+    ensures { IfOk result (λ asked. AreAskedAs less lines.now asked.items) }
+{
+    let mut asked = Vec::with_capacity(alloc, lines.len())?;
+    for line in lines {
+        asked.push(asked_line(alloc, line, less)?)?;
+    }
+    Ok(asked)
+}
+
+/// Converts a breakpoint that is asked for to one that counts lines from 1.
+fn asked_line(alloc: Global, line: &SourceBreakpoint, less: u32) -> Result<AskedLine, AllocError>
+    requires within { LineIsWithin line.now }
+    requires small { less ≤ 1 }
+    ensures { IfOk result (IsAskedAs less line.now) }
+{
+    Ok(AskedLine {
+        line: line.line + less,
+        condition: String::from_str(alloc, line.condition.as_str())?,
+        hit_condition: String::from_str(alloc, line.hit_condition.as_str())?,
+        log_message: String::from_str(alloc, line.log_message.as_str())?,
+    })
+}
+
+/// The same for each line.
+fn line_answers(
+    alloc: Global,
+    unit: &Unit,
+    less: u32,
+    resolutions: &[Resolution],
+) -> Result<Items<BreakpointAnswer>, AllocError>
+    requires { All (IsAtStep (program_of unit.now)) resolutions.now }
+    ensures { IfOk result (λ answers. answers ≡ map (answer_of (program_of unit.now) less) resolutions.now) }
+{
+    let mut answers = Vec::with_capacity(alloc, resolutions.len())?;
+    for resolution in resolutions {
+        answers.push(line_answer(unit, less, *resolution))?;
+    }
+    Ok(Items::new(answers))
+}
+
+/// Returns the answer to a line of the program, by how it was resolved.
+fn line_answer(unit: &Unit, less: u32, resolution: Resolution) -> BreakpointAnswer
+    requires { IsAtStep (program_of unit.now) resolution }
+    ensures { result ≡ answer_of (program_of unit.now) less resolution }
+{
+    match resolution {
+        Resolution::At(step) => {
+            let line = unit.steps[step].place.line;
+            BreakpointAnswer::At(u64::from(line.saturating_sub(less)))
+        }
+        Resolution::NoStep => BreakpointAnswer::Unverified(BreakpointRefusal::NoStep),
+        Resolution::BadCondition => BreakpointAnswer::Unverified(BreakpointRefusal::BadCondition),
+        Resolution::BadHitCondition => BreakpointAnswer::Unverified(
+            BreakpointRefusal::BadHitCondition,
+        ),
+        Resolution::BadLogMessage => BreakpointAnswer::Unverified(BreakpointRefusal::BadLogMessage),
+    }
+}
+
+/// Returns the reply with these answers, an order or none, and the phase after it.
+fn answered(
+    alloc: Global,
+    answers: Items<BreakpointAnswer>,
+    order: Option<Order>,
+    phase: Phase,
+) -> Reply
+    ensures { result ≡ with_order answers order phase }
+{
+    Reply {
+        result: Ok(Body::Breakpoints(answers)),
+        effect: Effect {
+            events: Items::new(Vec::new(alloc)),
+            order,
+            phase,
+        },
     }
 }

@@ -1,4 +1,4 @@
-//! `disconnect`.
+//! The reply to `disconnect`.
 
 ghost use Rattle.dap_msg.specs.declared.command.Command.TheVariants as command;
 ghost use Rattle.dap_replies.specs.Replied.{Replies};
@@ -10,7 +10,7 @@ use dap_phase::Phase;
 use dbg_runner::Order;
 use std::alloc::Global;
 
-/// Ends the session: the runner is to quit.
+/// Replies to `disconnect`: the runner is ordered to quit.
 pub(crate) fn disconnect(alloc: Global, phase: Phase) -> Reply
     ensures { Replies command.Disconnect phase result }
 {

@@ -1,4 +1,4 @@
-//! `initialize`.
+//! The reply to `initialize`.
 
 ghost use Rattle.dap_msg.specs.declared.command.Command.TheVariants as command;
 ghost use Rattle.dap_phase.specs.declared.phase.Phase.TheVariants as phase_is;
@@ -11,7 +11,7 @@ use dap_msg::{Body, InitializeArguments, Items, Refusal};
 use dap_phase::Phase;
 use std::alloc::Global;
 
-/// Begins the session, once.
+/// Replies to `initialize`, which may succeed once.
 pub(crate) fn initialize(alloc: Global, phase: Phase, asked: InitializeArguments) -> Reply
     ensures { Replies (command.Initialize asked) phase result }
 {
@@ -21,7 +21,7 @@ pub(crate) fn initialize(alloc: Global, phase: Phase, asked: InitializeArguments
     }
 }
 
-/// The session begins.
+/// Replies in a session that isn't initialized yet.
 fn begin(alloc: Global, asked: InitializeArguments) -> Reply
     ensures { Replies (command.Initialize asked) phase_is.Fresh result }
 {

@@ -1,4 +1,4 @@
-//! Questions about the program where it stands: `stackTrace`, `scopes`, `variables`, `evaluate`.
+//! The replies to questions about the program where it stands: `stackTrace`, `scopes`, `variables`, `evaluate`.
 
 ghost use Rattle.std.specs.Prelude.{IfOk};
 ghost use Rattle.pl0_machine.specs.Machine.{frames};
@@ -23,7 +23,7 @@ use std::alloc::{AllocError, Global};
 ///
 /// # Errors
 ///
-/// An allocation failed; the phase is gone then.
+/// An allocation failed. The phase is dropped then.
 pub(crate) fn inspect(alloc: Global, phase: Phase, command: &Command) -> Result<Reply, AllocError>
     requires { IsQuestion command.now }
     ensures { IfOk result (Replies command.now phase) }
@@ -32,7 +32,7 @@ pub(crate) fn inspect(alloc: Global, phase: Phase, command: &Command) -> Result<
     Ok(conclude(alloc, phase, result))
 }
 
-/// The result of a question, by the phase.
+/// Returns the result of a question, by the phase.
 fn result_in(
     alloc: Global,
     phase: &Phase,
@@ -54,7 +54,7 @@ fn result_in(
     }
 }
 
-/// The result of a question about a debuggee that stands.
+/// Returns the result of a question about a debuggee that stands.
 fn ask(
     alloc: Global,
     target: &Target,

@@ -1,4 +1,4 @@
-//! A launch with its file.
+//! The reply to a launch, once its file has come.
 
 ghost use Rattle.std.specs.Prelude.{◌≡◌, IfOk, option_map};
 ghost use Rattle.dap_history.specs.History.{History};
@@ -18,7 +18,7 @@ use pl0_syntax::{FaultKind, Place, SyntaxFault, Tree, parse};
 use std::alloc::{AllocError, Global};
 use std::sync::Arc;
 
-/// Launches the program in a file, of which there are no bytes where it can't be read.
+/// Launches the program in a file. `file` is `None` where the file can't be read.
 ///
 /// # Errors
 ///
@@ -45,7 +45,7 @@ pub fn launch(
     }
 }
 
-/// The refusal of a text with this fault.
+/// Returns the refusal of a text with this fault.
 fn syntax(kind: FaultKind, place: Place) -> Refusal
     ensures { result ≡ launching.syntax kind place }
 {

@@ -1,8 +1,10 @@
+//! The law of phases.
+
 ghost use Rattle.dap_replies.specs.Laws.{SkippingKeepsThePhase};
 
 use dap_history::reading_laws;
 
-/// What holds of phases. It does nothing: its contract is the law.
+/// A content that is no request leaves the phase as it is. It does nothing: its contract is the law.
 pub fn phase_laws()
     ensures { SkippingKeepsThePhase }
 {

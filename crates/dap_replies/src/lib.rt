@@ -1,9 +1,9 @@
 //! What a session does at a request, at the file of a launch and at a report, by its phase.
 //!
 //! The one contract is that of [`reply`]: the answer, the events after it and the order are those that the definitions of
-//! `dap_history` give for any history that the phase stands for, and the phase afterwards stands for the history with that step
-//! (`specs/Replied`). [`launch`] says the same of the file of a launch, and [`report`] of a report that is accepted. Each
-//! command has a file of its own.
+//! `dap_history` say for any history that the phase stands for, and the phase afterwards stands for the history with that
+//! step (`specs/Replied`). [`launch`] has the same contract for the file of a launch, and [`report`] for a report that is
+//! accepted. The commands have files of their own.
 #![tactic(auto)]
 
 mod breakpoints;

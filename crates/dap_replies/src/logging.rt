@@ -11,17 +11,7 @@ use dbg_plan::{Log, Part, Plan, log_text};
 use std::alloc::{AllocError, Global};
 use std::sync::Arc;
 
-/// The parts of a breakpoint's message, by the breakpoint's number; none where there is no plan.
-fn parts(plan: &Option<Arc<Plan>>, number: usize) -> &[Part]
-    ensures { plain_parts result.now ≡ parts_at (breakpoints_of (option_map arc_value plan.now)) number }
-{
-    match plan {
-        None => &[],
-        Some(plan) => plan.message(number),
-    }
-}
-
-/// Appends the logs of this plan.
+/// Appends what breakpoints of this plan logged to `events`.
 ///
 /// # Errors
 ///
@@ -39,4 +29,14 @@ pub(crate) fn push_logs(
         events.push(EventBody::Log(Text::new(text)))?;
     }
     Ok(())
+}
+
+/// Returns the parts of the log message of the breakpoint with this number; none where there is no plan.
+fn parts(plan: &Option<Arc<Plan>>, number: usize) -> &[Part]
+    ensures { plain_parts result.now ≡ parts_at (breakpoints_of (option_map arc_value plan.now)) number }
+{
+    match plan {
+        None => &[],
+        Some(plan) => plan.message(number),
+    }
 }

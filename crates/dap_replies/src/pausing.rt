@@ -1,4 +1,4 @@
-//! What interrupts a run: `pause`.
+//! The reply to `pause`, which interrupts a run.
 
 ghost use Rattle.dap_msg.specs.declared.command.Command.TheVariants as command_is;
 ghost use Rattle.dap_phase.specs.declared.phase.Phase.TheVariants as phase_is;
@@ -11,46 +11,6 @@ use dap_history::reading_laws;
 use dap_msg::{Body, Items, Refusal, ThreadArguments};
 use dap_phase::{Phase, Run, Target};
 use std::alloc::Global;
-
-/// A pause waits until the runner gives the debuggee back, which it is asked to once.
-fn wait(alloc: Global, target: Target, mut run: Run) -> Reply
-    ensures { WaitsToPause target run result }
-{
-    run.wait_to_pause();
-    let order = run.hold(target.runs);
-    Reply {
-        result: Ok(Body::None),
-        effect: Effect {
-            events: Items::new(Vec::new(alloc)),
-            order,
-            phase: Phase::Running(target, run),
-        },
-    }
-}
-
-/// Interrupts the run.
-fn interrupt(alloc: Global, target: Target, run: Run, asked: ThreadArguments) -> Reply
-    ensures { Replies (command_is.Pause asked) (phase_is.Running target run) result }
-{
-    reading_laws();
-    if asked.thread_id != 1 {
-        let phase = Phase::Running(target, run);
-        return refuse(alloc, phase, Refusal::UnknownThread);
-    }
-    wait(alloc, target, run)
-}
-
-/// Replies where the program stands already.
-fn remain(alloc: Global, phase: Phase, asked: ThreadArguments) -> Reply
-    requires { Stands phase }
-    ensures { Replies (command_is.Pause asked) phase result }
-{
-    reading_laws();
-    if asked.thread_id != 1 {
-        return refuse(alloc, phase, Refusal::UnknownThread);
-    }
-    without_effect(alloc, phase, Ok(Body::None))
-}
 
 /// Replies to `pause`.
 pub(crate) fn pause(alloc: Global, phase: Phase, asked: ThreadArguments) -> Reply
@@ -67,4 +27,44 @@ pub(crate) fn pause(alloc: Global, phase: Phase, asked: ThreadArguments) -> Repl
         }
         phase => refuse(alloc, phase, Refusal::WrongPhase),
     }
+}
+
+/// Replies during a run.
+fn interrupt(alloc: Global, target: Target, run: Run, asked: ThreadArguments) -> Reply
+    ensures { Replies (command_is.Pause asked) (phase_is.Running target run) result }
+{
+    reading_laws();
+    if asked.thread_id != 1 {
+        let phase = Phase::Running(target, run);
+        return refuse(alloc, phase, Refusal::UnknownThread);
+    }
+    wait(alloc, target, run)
+}
+
+/// Makes a pause wait until the runner returns the debuggee, which is ordered once.
+fn wait(alloc: Global, target: Target, mut run: Run) -> Reply
+    ensures { WaitsToPause target run result }
+{
+    run.wait_to_pause();
+    let order = run.hold(target.runs);
+    Reply {
+        result: Ok(Body::None),
+        effect: Effect {
+            events: Items::new(Vec::new(alloc)),
+            order,
+            phase: Phase::Running(target, run),
+        },
+    }
+}
+
+/// Replies where the program is stopped already.
+fn remain(alloc: Global, phase: Phase, asked: ThreadArguments) -> Reply
+    requires { Stands phase }
+    ensures { Replies (command_is.Pause asked) phase result }
+{
+    reading_laws();
+    if asked.thread_id != 1 {
+        return refuse(alloc, phase, Refusal::UnknownThread);
+    }
+    without_effect(alloc, phase, Ok(Body::None))
 }

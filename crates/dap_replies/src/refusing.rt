@@ -1,4 +1,4 @@
-//! Answers after which the phase stays as it is.
+//! Replies after which the phase is as before.
 
 ghost use Rattle.std.specs.Prelude.{◌≡◌, Ok, Err};
 ghost use Rattle.dap_replies.specs.Answering.{without_effect, Refuses, Answers};
@@ -33,7 +33,7 @@ pub(crate) fn conclude(alloc: Global, phase: Phase, given: Result<Body, Refusal>
     without_effect(alloc, phase, given)
 }
 
-/// A reply that nothing follows.
+/// Returns the reply with this result, with no events and no order.
 pub(crate) fn without_effect(alloc: Global, phase: Phase, given: Result<Body, Refusal>) -> Reply
     ensures { result ≡ without_effect phase given }
 {

@@ -1,4 +1,4 @@
-//! Replies to requests.
+//! The reply to a request, by its command.
 
 ghost use Rattle.std.specs.Prelude.{IfOk};
 ghost use Rattle.dap_msg.specs.Laws.{IsWithin};
@@ -19,11 +19,11 @@ use dap_msg::{Command, Refusal};
 use dap_phase::Phase;
 use std::alloc::{AllocError, Global};
 
-/// Replies to a command that wants no file.
+/// Replies to a command that needs no file.
 ///
 /// # Errors
 ///
-/// An allocation failed; the phase is gone then.
+/// An allocation failed, or no run number is left. The phase is dropped then.
 pub fn reply(alloc: Global, phase: Phase, command: &Command) -> Result<Reply, AllocError>
     requires fits { IsWithin command.now }
     requires no_file { WantsNoFile phase command.now }

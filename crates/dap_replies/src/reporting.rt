@@ -1,4 +1,4 @@
-//! Reports of the runner.
+//! What a session does at a report of the runner.
 
 ghost use Rattle.std.specs.Prelude.{◌≡◌, ◌≢◌, ◌+◌, ◌<◌, ◌^◌, ◌++◌, length, IfOk, OnOk};
 ghost use Rattle.dbg_runner.specs.declared.outcome.SliceOutcome.TheVariants as slice;
@@ -24,7 +24,7 @@ use dbg_runner::{StoppedDebuggee, Report, SliceOutcome};
 use pl0_meaning::RunFault;
 use std::alloc::{AllocError, Global};
 
-/// What follows a report that goes on with the run.
+/// Returns what follows a report that continues the run.
 ///
 /// # Errors
 ///
@@ -48,7 +48,7 @@ pub fn report(alloc: Global, target: Target, run: Run, report: Report) -> Result
     }
 }
 
-/// The run goes on.
+/// The run isn't over: it goes on.
 fn go_on(alloc: Global, target: Target, mut run: Run, report: &Report) -> Result<Effect, AllocError>
     ensures { IfOk result (Leads target run report.now (λ past. reporting (outputs past (plain_report report.now)))) }
 {
@@ -87,7 +87,7 @@ fn stand(
     })
 }
 
-/// The phase in which the program stands for this reason.
+/// Returns the phase of a program that stands for this reason.
 fn standing(target: Target, debuggee: StoppedDebuggee, reason: StopReason) -> Phase
     ensures { result ≡ standing target debuggee reason }
 {
@@ -99,7 +99,7 @@ fn standing(target: Target, debuggee: StoppedDebuggee, reason: StopReason) -> Ph
     }
 }
 
-/// The runner was asked for the debuggee: the program stands if a pause waits, and goes on otherwise.
+/// The runner returned the debuggee because it was ordered to: the program stands if a pause waits, and goes on otherwise.
 fn come_back(alloc: Global, target: Target, run: Run, report: Report) -> Result<Effect, AllocError>
     requires goes_on { GoesOnWith report target run }
     requires stops { Stops report.outcome }
@@ -112,7 +112,7 @@ fn come_back(alloc: Global, target: Target, run: Run, report: Report) -> Result<
     }
 }
 
-/// The program goes on where it was held, as another run.
+/// The program goes on where it was held, in another run.
 fn begin_again(
     alloc: Global,
     target: Target,
@@ -141,7 +141,7 @@ fn begin_again(
     })
 }
 
-/// The program is over.
+/// The program has ended.
 fn end(alloc: Global, target: Target, run: Run, report: &Report) -> Result<Effect, AllocError>
     ensures { IfOk result (Leads target run report.now (λ past. reporting (outputs past (plain_report report.now) ++ ends 0))) }
 {
@@ -157,7 +157,7 @@ fn end(alloc: Global, target: Target, run: Run, report: &Report) -> Result<Effec
     })
 }
 
-/// The numbers of a report after those that were reported before, where so many were.
+/// Returns the numbers of a report that weren't reported before, where `told` numbers were.
 fn fresh(told: u64, report: &Report) -> &[i64]
     ensures is { result.now ≡ fresh told report.now }
     // At most one number is written in a step.
@@ -172,7 +172,7 @@ fn fresh(told: u64, report: &Report) -> &[i64]
     }
 }
 
-/// What a report tells, as events, where so many numbers were reported before.
+/// Returns the new numbers and the logs of a report as events, where `told` numbers were reported before.
 fn outputs(alloc: Global, told: u64, report: &Report) -> Result<Vec<EventBody>, AllocError>
     ensures { IfOk result (λ events. events.items ≡ outputs_after told report.now) }
 {
@@ -185,7 +185,7 @@ fn outputs(alloc: Global, told: u64, report: &Report) -> Result<Vec<EventBody>, 
     Ok(events)
 }
 
-/// The target when the numbers of a report are reported.
+/// Counts the new numbers of a report as reported.
 fn tell(target: Target, report: &Report) -> Target
     ensures { result ≡ with_told target report.now }
 {
@@ -193,7 +193,7 @@ fn tell(target: Target, report: &Report) -> Target
     Target { told, ..target }
 }
 
-/// The reason of a stop, for the client.
+/// Returns the reason of a stop as the client sees it.
 pub(crate) fn stop_reason(reason: Reason) -> StopReason
     ensures { result ≡ stop_of reason }
 {
@@ -204,7 +204,7 @@ pub(crate) fn stop_reason(reason: Reason) -> StopReason
     }
 }
 
-/// The fault of a step, for the client.
+/// Returns the fault of a step as the client sees it.
 fn exception(fault: RunFault) -> Exception
     ensures { result ≡ exception_of fault }
 {
@@ -216,7 +216,7 @@ fn exception(fault: RunFault) -> Exception
     }
 }
 
-/// The debuggee that the report carries, with the plan that waited put in.
+/// Takes the debuggee out of the report, and puts the plan that waited into it.
 fn take_back(run: Run, report: Report) -> StoppedDebuggee
     requires stops { Stops report.outcome }
     requires text { text_of report.unit ≡ text_of run.unit }

@@ -1,4 +1,4 @@
-//! What goes back: `stepBack` and `reverseContinue`.
+//! The replies to the commands that go back: `stepBack` and `reverseContinue`.
 
 ghost use Rattle.std.specs.Prelude.{IfOk};
 ghost use Rattle.dap_phase.specs.declared.phase.Phase.TheVariants as phase_is;
@@ -20,7 +20,7 @@ use std::alloc::{AllocError, Global};
 pub(crate) enum Return {
     /// By one step: `stepBack`.
     ByStep,
-    /// To where it would have stopped last: `reverseContinue`.
+    /// To the last position before at which it would have stopped: `reverseContinue`.
     ToStop,
 }
 
@@ -37,42 +37,6 @@ impl Return {
             Return::ToStop => Mode::Reverse,
         }
     }
-}
-
-/// Goes back from a stop.
-fn go_back(
-    alloc: Global,
-    target: Target,
-    debuggee: StoppedDebuggee,
-    way: Return,
-    asked: ThreadArguments,
-) -> Result<Reply, AllocError>
-    ensures { IfOk result (Replies (return_by way asked) (phase_is.Stopped target debuggee)) }
-{
-    reading_laws();
-    if asked.thread_id != 1 {
-        let phase = Phase::Stopped(target, debuggee);
-        return Ok(refuse(alloc, phase, Refusal::UnknownThread));
-    }
-    go(target, debuggee, way.mode(), Body::None, Vec::new(alloc))
-}
-
-/// Goes back from a fault.
-fn go_back_faulted(
-    alloc: Global,
-    target: Target,
-    debuggee: StoppedDebuggee,
-    way: Return,
-    asked: ThreadArguments,
-) -> Result<Reply, AllocError>
-    ensures { IfOk result (Replies (return_by way asked) (phase_is.Faulted target debuggee)) }
-{
-    reading_laws();
-    if asked.thread_id != 1 {
-        let phase = Phase::Faulted(target, debuggee);
-        return Ok(refuse(alloc, phase, Refusal::UnknownThread));
-    }
-    go(target, debuggee, way.mode(), Body::None, Vec::new(alloc))
 }
 
 /// Replies to `stepBack` and `reverseContinue`.
@@ -98,4 +62,40 @@ pub(crate) fn retreat(
         Phase::Faulted(target, debuggee) => go_back_faulted(alloc, target, debuggee, way, asked),
         phase => Ok(refuse(alloc, phase, Refusal::WrongPhase)),
     }
+}
+
+/// Replies where the program is stopped.
+fn go_back(
+    alloc: Global,
+    target: Target,
+    debuggee: StoppedDebuggee,
+    way: Return,
+    asked: ThreadArguments,
+) -> Result<Reply, AllocError>
+    ensures { IfOk result (Replies (return_by way asked) (phase_is.Stopped target debuggee)) }
+{
+    reading_laws();
+    if asked.thread_id != 1 {
+        let phase = Phase::Stopped(target, debuggee);
+        return Ok(refuse(alloc, phase, Refusal::UnknownThread));
+    }
+    go(target, debuggee, way.mode(), Body::None, Vec::new(alloc))
+}
+
+/// Replies where the program is stopped before a fault.
+fn go_back_faulted(
+    alloc: Global,
+    target: Target,
+    debuggee: StoppedDebuggee,
+    way: Return,
+    asked: ThreadArguments,
+) -> Result<Reply, AllocError>
+    ensures { IfOk result (Replies (return_by way asked) (phase_is.Faulted target debuggee)) }
+{
+    reading_laws();
+    if asked.thread_id != 1 {
+        let phase = Phase::Faulted(target, debuggee);
+        return Ok(refuse(alloc, phase, Refusal::UnknownThread));
+    }
+    go(target, debuggee, way.mode(), Body::None, Vec::new(alloc))
 }

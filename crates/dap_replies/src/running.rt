@@ -1,4 +1,5 @@
-//! What starts a run or resumes one: `configurationDone`, `continue`, `next`, `stepIn` and `stepOut`.
+//! The replies to the commands that start or resume the program: `configurationDone`, `continue`, `next`, `stepIn` and
+//! `stepOut`.
 
 ghost use Rattle.std.specs.Prelude.{◌≡◌, if◌then◌else◌, IfOk};
 ghost use Rattle.dap_msg.specs.declared.command.Command.TheVariants as command_is;
@@ -21,10 +22,10 @@ use dbg_runner::StoppedDebuggee;
 use std::alloc::{AllocError, Global};
 use std::sync::Arc;
 
-/// How the program is to go on.
+/// The kind of a resume: how far the program is to go on.
 #[derive(Clone, Copy)]
 pub(crate) enum ResumeKind {
-    /// To a breakpoint: `continue`.
+    /// To a due breakpoint: `continue`.
     ToStop,
     /// To the next step that is no deeper: `next`.
     ToNext,
@@ -39,7 +40,7 @@ impl ResumeKind {
     ghost use Rattle.dap_history.specs.Running.{body_of, mode_of};
     ghost use Rattle.dap_replies.specs.ResumeKinds.{resume_kind_of};
 
-    /// The mode of a run that begins where this many frames are alive.
+    /// Returns the mode of a run that begins where this many frames are live.
     fn mode(self, depth: usize) -> Mode
         ensures { result ≡ mode_of (resume_kind_of self) depth }
     {
@@ -51,7 +52,7 @@ impl ResumeKind {
         }
     }
 
-    /// The body of the answer.
+    /// Returns the body of the answer.
     fn body(self) -> Body
         ensures { result ≡ body_of (resume_kind_of self) }
     {
@@ -64,7 +65,159 @@ impl ResumeKind {
     }
 }
 
-/// An answer, these events, and the next run of the debuggee.
+/// Replies to `configurationDone`.
+///
+/// # Errors
+///
+/// An allocation failed, or no run number is left.
+pub(crate) fn configuration_done(alloc: Global, phase: Phase) -> Result<Reply, AllocError>
+    ensures { IfOk result (Replies command_is.ConfigurationDone phase) }
+{
+    reading_laws();
+    match phase {
+        Phase::Configuring(target, unstarted) => enter(alloc, target, unstarted),
+        phase => Ok(refuse(alloc, phase, Refusal::WrongPhase)),
+    }
+}
+
+/// Starts the program. Position 0 is considered: the program stops there if it is due, or its first run begins.
+fn enter(alloc: Global, target: Target, unstarted: Unstarted) -> Result<Reply, AllocError>
+    ensures { IfOk result (Replies command_is.ConfigurationDone (phase_is.Configuring target unstarted)) }
+{
+    reading_laws();
+    let mut logs = Logs::new(alloc)?;
+    let (reason, debuggee) = unstarted.consider(first_mode(&target), &mut logs);
+    let events = logged(alloc, &debuggee, &logs)?;
+    match reason {
+        Some(reason) => stop(target, debuggee, reason, events),
+        None => go(target, debuggee, Mode::Continue, Body::None, events),
+    }
+}
+
+/// Returns the mode in which position 0 is considered.
+fn first_mode(target: &Target) -> Mode
+    ensures { result ≡ (if target.now.stop_on_entry then mode_is.Entry else mode_is.Continue) }
+{
+    if target.stop_on_entry {
+        Mode::Entry
+    } else {
+        Mode::Continue
+    }
+}
+
+/// Returns what breakpoints of a debuggee logged, as events.
+fn logged(alloc: Global, debuggee: &StoppedDebuggee, logs: &Logs) -> Result<Vec<EventBody>, AllocError>
+    ensures { IfOk result (λ events. events.items ≡ told_logs debuggee.now.breakpoints logs.now) }
+{
+    let mut events = Vec::new(alloc);
+    push_logs(
+        alloc,
+        debuggee.debuggee().plan(),
+        logs.as_slice(),
+        &mut events,
+    )?;
+    Ok(events)
+}
+
+/// Returns the reply with these events, after which the program stops where it stands.
+fn stop(
+    target: Target,
+    debuggee: StoppedDebuggee,
+    reason: Reason,
+    mut events: Vec<EventBody>,
+) -> Result<Reply, AllocError>
+    ensures { IfOk result (HasStopped target debuggee reason events.items) }
+{
+    events.push(EventBody::Stopped(stop_reason(reason)))?;
+    Ok(Reply {
+        result: Ok(Body::None),
+        effect: Effect {
+            events: Items::new(events),
+            order: None,
+            phase: Phase::Stopped(target, debuggee),
+        },
+    })
+}
+
+/// Replies to `continue`, `next`, `stepIn` and `stepOut`.
+///
+/// # Errors
+///
+/// An allocation failed, or no run number is left.
+pub(crate) fn resume(
+    alloc: Global,
+    phase: Phase,
+    resume_kind: ResumeKind,
+    asked: ThreadArguments,
+) -> Result<Reply, AllocError>
+    ensures { IfOk result (Replies (resumption resume_kind asked) phase) }
+{
+    reading_laws();
+    match phase {
+        Phase::Running(target, run) => {
+            let phase = Phase::Running(target, run);
+            Ok(refuse(alloc, phase, Refusal::NotStopped))
+        }
+        Phase::Stopped(target, debuggee) => go_on(alloc, target, debuggee, resume_kind, asked),
+        Phase::Faulted(target, debuggee) => end_faulted(alloc, target, debuggee, resume_kind, asked),
+        phase => Ok(refuse(alloc, phase, Refusal::WrongPhase)),
+    }
+}
+
+/// Replies where the program is stopped: it goes on.
+fn go_on(
+    alloc: Global,
+    target: Target,
+    debuggee: StoppedDebuggee,
+    resume_kind: ResumeKind,
+    asked: ThreadArguments,
+) -> Result<Reply, AllocError>
+    ensures { IfOk result (Replies (resumption resume_kind asked) (phase_is.Stopped target debuggee)) }
+{
+    reading_laws();
+    if asked.thread_id != 1 {
+        let phase = Phase::Stopped(target, debuggee);
+        return Ok(refuse(alloc, phase, Refusal::UnknownThread));
+    }
+    let mode = resume_kind.mode(debuggee.debuggee().machine().depth());
+    go(target, debuggee, mode, resume_kind.body(), Vec::new(alloc))
+}
+
+/// Replies where the program is stopped before a fault: whatever the kind of the resume, the program ends.
+fn end_faulted(
+    alloc: Global,
+    target: Target,
+    debuggee: StoppedDebuggee,
+    resume_kind: ResumeKind,
+    asked: ThreadArguments,
+) -> Result<Reply, AllocError>
+    ensures { IfOk result (Replies (resumption resume_kind asked) (phase_is.Faulted target debuggee)) }
+{
+    reading_laws();
+    if asked.thread_id != 1 {
+        let phase = Phase::Faulted(target, debuggee);
+        return Ok(refuse(alloc, phase, Refusal::UnknownThread));
+    }
+    end(alloc, target, debuggee, resume_kind.body())
+}
+
+/// Returns the reply with this answer, after which the program, which faulted, has ended.
+fn end(alloc: Global, target: Target, debuggee: StoppedDebuggee, body: Body) -> Result<Reply, AllocError>
+    ensures { IfOk result (HasEnded target debuggee.unit body) }
+{
+    let unit = Arc::try_clone(debuggee.debuggee().machine().unit())?;
+    let events = vec![in alloc; EventBody::Exited(1), EventBody::Terminated]?;
+    Ok(Reply {
+        result: Ok(body),
+        effect: Effect {
+            events: Items::new(events),
+            order: None,
+            phase: Phase::Ended(target, unit),
+        },
+    })
+}
+
+/// Returns the reply with this answer and these events, after which the next run of the debuggee begins.
 ///
 /// # Errors
 ///
@@ -92,156 +245,4 @@ pub(crate) fn go(
             phase: Phase::Running(target, run),
         },
     })
-}
-
-/// An answer, these events, and the stop where the program stands.
-fn stop(
-    target: Target,
-    debuggee: StoppedDebuggee,
-    reason: Reason,
-    mut events: Vec<EventBody>,
-) -> Result<Reply, AllocError>
-    ensures { IfOk result (HasStopped target debuggee reason events.items) }
-{
-    events.push(EventBody::Stopped(stop_reason(reason)))?;
-    Ok(Reply {
-        result: Ok(Body::None),
-        effect: Effect {
-            events: Items::new(events),
-            order: None,
-            phase: Phase::Stopped(target, debuggee),
-        },
-    })
-}
-
-/// The mode in which position 0 is considered.
-fn first_mode(target: &Target) -> Mode
-    ensures { result ≡ (if target.now.stop_on_entry then mode_is.Entry else mode_is.Continue) }
-{
-    if target.stop_on_entry {
-        Mode::Entry
-    } else {
-        Mode::Continue
-    }
-}
-
-/// The logs of a debuggee, as events.
-fn logged(alloc: Global, debuggee: &StoppedDebuggee, logs: &Logs) -> Result<Vec<EventBody>, AllocError>
-    ensures { IfOk result (λ events. events.items ≡ told_logs debuggee.now.breakpoints logs.now) }
-{
-    let mut events = Vec::new(alloc);
-    push_logs(
-        alloc,
-        debuggee.debuggee().plan(),
-        logs.as_slice(),
-        &mut events,
-    )?;
-    Ok(events)
-}
-
-/// Considers position 0: the program stops there, or its first run begins.
-fn enter(alloc: Global, target: Target, unstarted: Unstarted) -> Result<Reply, AllocError>
-    ensures { IfOk result (Replies command_is.ConfigurationDone (phase_is.Configuring target unstarted)) }
-{
-    reading_laws();
-    let mut logs = Logs::new(alloc)?;
-    let (reason, debuggee) = unstarted.consider(first_mode(&target), &mut logs);
-    let events = logged(alloc, &debuggee, &logs)?;
-    match reason {
-        Some(reason) => stop(target, debuggee, reason, events),
-        None => go(target, debuggee, Mode::Continue, Body::None, events),
-    }
-}
-
-/// Replies to `configurationDone`.
-///
-/// # Errors
-///
-/// An allocation failed, or no run number is left.
-pub(crate) fn configuration_done(alloc: Global, phase: Phase) -> Result<Reply, AllocError>
-    ensures { IfOk result (Replies command_is.ConfigurationDone phase) }
-{
-    reading_laws();
-    match phase {
-        Phase::Configuring(target, unstarted) => enter(alloc, target, unstarted),
-        phase => Ok(refuse(alloc, phase, Refusal::WrongPhase)),
-    }
-}
-
-/// An answer, and the end of the program, which faulted.
-fn end(alloc: Global, target: Target, debuggee: StoppedDebuggee, body: Body) -> Result<Reply, AllocError>
-    ensures { IfOk result (HasEnded target debuggee.unit body) }
-{
-    let unit = Arc::try_clone(debuggee.debuggee().machine().unit())?;
-    let events = vec![in alloc; EventBody::Exited(1), EventBody::Terminated]?;
-    Ok(Reply {
-        result: Ok(body),
-        effect: Effect {
-            events: Items::new(events),
-            order: None,
-            phase: Phase::Ended(target, unit),
-        },
-    })
-}
-
-/// Goes on from a stop.
-fn go_on(
-    alloc: Global,
-    target: Target,
-    debuggee: StoppedDebuggee,
-    resume_kind: ResumeKind,
-    asked: ThreadArguments,
-) -> Result<Reply, AllocError>
-    ensures { IfOk result (Replies (resumption resume_kind asked) (phase_is.Stopped target debuggee)) }
-{
-    reading_laws();
-    if asked.thread_id != 1 {
-        let phase = Phase::Stopped(target, debuggee);
-        return Ok(refuse(alloc, phase, Refusal::UnknownThread));
-    }
-    let mode = resume_kind.mode(debuggee.debuggee().machine().depth());
-    go(target, debuggee, mode, resume_kind.body(), Vec::new(alloc))
-}
-
-/// Ends the program from a fault, whatever was asked for.
-fn end_faulted(
-    alloc: Global,
-    target: Target,
-    debuggee: StoppedDebuggee,
-    resume_kind: ResumeKind,
-    asked: ThreadArguments,
-) -> Result<Reply, AllocError>
-    ensures { IfOk result (Replies (resumption resume_kind asked) (phase_is.Faulted target debuggee)) }
-{
-    reading_laws();
-    if asked.thread_id != 1 {
-        let phase = Phase::Faulted(target, debuggee);
-        return Ok(refuse(alloc, phase, Refusal::UnknownThread));
-    }
-    end(alloc, target, debuggee, resume_kind.body())
-}
-
-/// Replies to `continue`, `next`, `stepIn` and `stepOut`.
-///
-/// # Errors
-///
-/// An allocation failed, or no run number is left.
-pub(crate) fn resume(
-    alloc: Global,
-    phase: Phase,
-    resume_kind: ResumeKind,
-    asked: ThreadArguments,
-) -> Result<Reply, AllocError>
-    ensures { IfOk result (Replies (resumption resume_kind asked) phase) }
-{
-    reading_laws();
-    match phase {
-        Phase::Running(target, run) => {
-            let phase = Phase::Running(target, run);
-            Ok(refuse(alloc, phase, Refusal::NotStopped))
-        }
-        Phase::Stopped(target, debuggee) => go_on(alloc, target, debuggee, resume_kind, asked),
-        Phase::Faulted(target, debuggee) => end_faulted(alloc, target, debuggee, resume_kind, asked),
-        phase => Ok(refuse(alloc, phase, Refusal::WrongPhase)),
-    }
 }

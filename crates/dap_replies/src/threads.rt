@@ -1,4 +1,4 @@
-//! `threads`.
+//! The reply to `threads`.
 
 ghost use Rattle.dap_msg.specs.declared.command.Command.TheVariants as command;
 ghost use Rattle.dap_replies.specs.Replied.{Replies};
@@ -9,7 +9,7 @@ use dap_msg::{Body, Refusal};
 use dap_phase::Phase;
 use std::alloc::Global;
 
-/// Names the one thread.
+/// Replies to `threads` with the one thread.
 pub(crate) fn threads(alloc: Global, phase: Phase) -> Reply
     ensures { Replies command.Threads phase result }
 {

@@ -1,4 +1,4 @@
--- How a session closes where its input does.
+-- How a session closes when its input ends.
 use Rattle.std.proofs.Common.{◌≡◌, inl, inr, [], ◌∷◌, ◌++◌, None, Some, Result, Ok, Err, refl, sym, ◌∙◌, subst, append-nil, arith}
 use Rattle.std.specs.Prelude.{OnOk}
 use Rattle.dbg_runner.specs.Plain.{Quit}

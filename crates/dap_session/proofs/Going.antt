@@ -1,4 +1,4 @@
--- How far a session came, seen from further back.
+-- How far a session came, seen from an earlier history.
 use Rattle.std.proofs.Common.{◌≡◌, inl, inr, None, Result, Ok, Err, refl, sym, ◌∙◌}
 use Rattle.dap_history.specs.declared.fault.SessionFault.{SessionFault}
 use Rattle.dap_history.specs.declared.fault.SessionFault.TheVariants.{NoMemory}

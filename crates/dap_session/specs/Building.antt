@@ -1,4 +1,4 @@
--- What comes of building frames, of pushing an order and of putting frames.
+-- Defines, for private contracts, the results of building frames, of pushing an order and of putting frames.
 use Rattle.std.specs.Prelude.{◌≡◌, ◌<◌, ◌≤◌, ◌+◌, ◌^◌, ◌⊎◌, ◌++◌, ◌∷◌, [], ℕ, List, map, length, Vec}
 use Rattle.std.specs.declared.alloc.Global.{Global}
 use Rattle.dap_msg.specs.declared.outgoing.Outgoing.{Outgoing}
@@ -8,10 +8,11 @@ use Rattle.dap_history.specs.Output.{frames_from}
 use Rattle.dap_session.specs.Ports.{Written, Ordered}
 use Rattle.dap_session.specs.Sending.{Begins}
 
+-- frames as plain data
 abbrev pub plain_frames : List (Vec ℕ Global) → List (List ℕ)
 plain_frames frames = map (λ frame. frame.items) frames
 
--- frames, and the seq of the next message
+-- the frames built so far, and the seq of the next message
 pub record Built : Type 0 where
   pub frames : List (List ℕ)
   pub next_seq : ℕ
@@ -22,17 +23,17 @@ pub record AddsFrames (messages : List Outgoing) (old new : Built) : Type 0 wher
   pub seq_is : new.next_seq ≡ old.next_seq + length messages
   pub seq_fits : old.next_seq ≤ 2 ^ 53 → new.next_seq ≤ 2 ^ 53
 
--- why messages that would be numbered from first on have no frames
+-- why no frames were built for messages that would be numbered from `first` on
 abbrev pub IsNotBuilt : SessionFault → ℕ → List Outgoing → Type 0
 IsNotBuilt fault first messages = (fault ≡ NoMemory) ⊎ ((fault ≡ SeqExhausted) × (2 ^ 53 < first + length messages))
 
--- An order was refused, and the refusal counted.
+-- An order was refused, and the refusal was counted.
 abbrev pub IsNotPushed : SessionFault → Ordered → Ordered → Type 0
 IsNotPushed OrdersFull old new = (new.orders ≡ old.orders) × (old.fulls < new.fulls)
 IsNotPushed RunnerGone old new = (new.orders ≡ old.orders) × (old.refusals < new.refusals)
 IsNotPushed _ old new = ⊥
 
--- A frame was refused, and those before it put.
+-- A frame was refused, and those before it were put.
 pub record IsNotPut (fault : SessionFault) (frames : List (List ℕ)) (old new : Written) : Type 0 where
   pub fault_is : fault ≡ WriterGone
   pub put : List (List ℕ)

@@ -1,4 +1,4 @@
--- Where the next event of a session comes from.
+-- Defines where the next event of a session comes from.
 use Rattle.std.specs.Prelude.{◌≡◌, ◌++◌, ◌∷◌, [], ℕ, List, Option, None, Some, Result, Ok, Err}
 use Rattle.dap_history.specs.declared.fault.LoadFault.{LoadFault}
 use Rattle.dap_history.specs.declared.fault.LoadFault.TheVariants.{CannotRead, NoMemory}
@@ -6,21 +6,22 @@ use Rattle.dap_history.specs.Events.{Incoming, File}
 use Rattle.dap_history.specs.Interleaving.{Load}
 use Rattle.dap_session.specs.Ports.{load_of}
 
--- what a loader stores of its answer
+-- what a loader stores of an answer
 abbrev pub stored : List ℕ → Result (List ℕ) LoadFault → List Load
 stored path (Ok file) = load_of path (Ok file) ∷ []
 stored path (Err CannotRead) = load_of path (Err CannotRead) ∷ []
 stored path (Err NoMemory) = []
 
--- what an inbox and a loader gave so far
+-- what an inbox and a loader returned so far
 pub record Sources : Type 0 where
   pub given : List Incoming
   pub loaded : List Load
 
+-- both of them
 abbrev pub sources : List Incoming → List Load → Sources
 sources given loaded = record { given = given; loaded = loaded }
 
--- The event is the next of the inbox, or, where a file is wanted, the loader's answer.
+-- The event is the loader's answer where a file is wanted, and otherwise the next event of the inbox.
 abbrev pub ComesFrom : Option (List ℕ) → Incoming → Sources → Sources → Type 0
 ComesFrom None event old later = (later.given ≡ old.given ++ event ∷ []) × (later.loaded ≡ old.loaded)
 ComesFrom (Some path) (File answer) old later = (later.given ≡ old.given) × (later.loaded ≡ old.loaded ++ stored path answer)

@@ -1,4 +1,4 @@
--- What the functions leave that take an event: from the history that the session stood for, how far it came.
+-- Defines, for private contracts, how far a session came from the history that it stood for, by the parts of an event.
 use Rattle.std.specs.Prelude.{◌≡◌, ◌≢◌, ◌⊎◌, ◌++◌, ◌∷◌, [], ℕ, List, Vec, Option, None, Some, Result, Ok, Err}
 use Rattle.std.specs.declared.alloc.Global.{Global}
 use Rattle.dap_frame.specs.declared.fault.FramingFault.{FramingFault}
@@ -22,12 +22,12 @@ use Rattle.dap_session.specs.Sending.{Sends, RefusesNothing, BreaksOff}
 use Rattle.dap_session.specs.State.{State, Knows, GoesOn}
 use Rattle.dap_session.specs.Taking.{TowardByPiece, Toward}
 
--- The session is at this history: it ended as that did, or its fields are the readings.
+-- The session is at this history: it has the history's ending, and until then its fields are the readings.
 pub record IsAt (session : State) (past : History) : Type 0 where
   pub ending_is : session.ending ≡ ending_of past
   pub knows : IsTaking past → Knows session past
 
--- no fault ended it
+-- no fault ended the session
 abbrev pub IsWell : Option Ending → Type 0
 IsWell None = Unit {0}
 IsWell (Some (ending.Closed by)) = Unit {0}
@@ -35,7 +35,7 @@ IsWell (Some (ending.Fault fault)) = ⊥
 
 -- ---- one item
 
--- The item was taken, and all was sent that it causes.
+-- The item was taken, and everything that it causes was sent.
 pub record TakesItem (past : History) (item : Item) (session : State) (old later : Ports) : Type 0 where
   pub new : History
   pub after : IsAfter past item new
@@ -50,18 +50,19 @@ pub record FailsAtItem (fault : SessionFault) (past : History) (item : Item) (ol
   pub next_is : (next ≡ past) ⊎ IsAfter past item next
   pub breaks : BreaksOff fault past next old later
 
+-- one of the two, by the result
 abbrev pub HandlesItem : Result (Unit {0}) SessionFault → History → Item → State → Ports → Ports → Type 0
 HandlesItem (Ok u) past item session old later = TakesItem past item session old later
 HandlesItem (Err fault) past item session old later = FailsAtItem fault past item old later
 
 -- ---- one content
 
--- The content leads to new, or it is a launch, which waits for its file.
+-- The content leads to the history `new`, or it is a launch, which waits for its file.
 abbrev pub LeadsByContent : History → Option Request → Option Launch → History → Type 0
 LeadsByContent past request None new = (wanted_in (situation past) request ≡ None) × IsAfter past (Content request) new
 LeadsByContent past request (Some launch) new = (wanted_in (situation past) request ≡ Some launch) × (new ≡ past)
 
--- The content was taken, and all was sent that it gives.
+-- The content was taken, and everything that it causes was sent.
 pub record TakesContent (past : History) (request : Option Request) (session : State) (old later : Ports) : Type 0 where
   pub new : History
   pub is_at : IsAt session new
@@ -75,13 +76,14 @@ pub record FailsAtContent (fault : SessionFault) (past : History) (request : Opt
   pub next_is : (next ≡ past) ⊎ LeadsByContent past request None next
   pub breaks : BreaksOff fault past next old later
 
+-- one of the two, by the result
 abbrev pub HandlesContent : Result (Unit {0}) SessionFault → History → Option Request → State → Ports → Ports → Type 0
 HandlesContent (Ok u) past request session old later = TakesContent past request session old later
 HandlesContent (Err fault) past request session old later = FailsAtContent fault past request old later
 
 -- ---- one after another
 
--- The session came all the way that something leads, and all was sent that this adds.
+-- Everything that `leads` describes was taken, and everything that it adds to the history was sent.
 pub record Arrives (leads : History → Rest → Type 0) (past : History) (session : State) (old later : Ports) : Type 0 where
   pub new : History
   pub rest : Rest
@@ -91,7 +93,7 @@ pub record Arrives (leads : History → Rest → Type 0) (past : History) (sessi
   pub sends : Sends past new old later
   pub refuses_nothing : RefusesNothing old later
 
--- So it did, and a framing fault ended it there.
+-- The same, and then a framing fault ended the session.
 pub record ArrivesAtFault (leads : History → Rest → Type 0) (past : History) (fault : FramingFault) (old later : Ports) : Type 0 where
   pub new : History
   pub rest : Rest
@@ -100,7 +102,7 @@ pub record ArrivesAtFault (leads : History → Rest → Type 0) (past : History)
   pub sends : Sends past new old later
   pub refuses_nothing : RefusesNothing old later
 
--- It gave up on the way.
+-- The session gave up on the way.
 pub record StopsOnTheWay (toward : History → Type 0) (past : History) (fault : SessionFault) (old later : Ports) : Type 0 where
   pub mid : History
   pub way : toward mid
@@ -111,17 +113,18 @@ pub record StopsOnTheWay (toward : History → Type 0) (past : History) (fault :
   pub next_is : (next ≡ mid) ⊎ (toward next × ((item : Item) × IsAfter mid item next))
   pub breaks : BreaksOff fault mid next between later
 
+-- one of the three, by the result
 abbrev pub Goes : Result (Unit {0}) SessionFault → (History → Rest → Type 0) → (History → Type 0) → History → State → Ports → Ports → Type 0
 Goes (Ok u) leads toward past session old later = Arrives leads past session old later
 Goes (Err fault) leads toward past session old later =
     StopsOnTheWay toward past fault old later
     ⊎ ((k : FramingFault) × (fault ≡ Frame k) × ArrivesAtFault leads past k old later)
 
--- what comes of contents
+-- the same for the contents at the front of these bytes
 abbrev pub HandlesContents : Result (Unit {0}) SessionFault → History → List ℕ → State → Ports → Ports → Type 0
 HandlesContents result past bytes session old later = Goes result (TakesAll past bytes) (TowardByPiece past None bytes) past session old later
 
--- what comes of an event
+-- the same for an event
 abbrev pub Handles : Result (Unit {0}) SessionFault → History → Rest → Incoming → State → Ports → Ports → Type 0
 Handles result past rest event session old later = Goes result (Leads past rest event) (Toward past rest event) past session old later
 
@@ -130,7 +133,7 @@ abbrev pub NeededNoMemory : Result (Unit {0}) SessionFault → State → Type 0
 NeededNoMemory (Ok u) session = session.ending ≡ None → launch_of session.phase ≡ None
 NeededNoMemory (Err fault) session = fault ≢ NoMemory
 
--- what a file is as data
+-- a file as plain data
 abbrev pub plain_file : Result (Vec ℕ Global) LoadFault → Result (List ℕ) LoadFault
 plain_file (Ok file) = Ok file.items
 plain_file (Err fault) = Err fault

@@ -1,4 +1,4 @@
--- What holds of all that a session sends.
+-- States what holds of all that a session sends.
 use Rattle.std.specs.Prelude.{◌≡◌, ◌⊎◌, ◌+◌, ◌<◌, ◌^◌, ◌++◌, ◌∷◌, [], ℕ, List, length, slice_get, Some, Result, Err}
 use Rattle.dap_frame.specs.Frame.{frame_of}
 use Rattle.dap_msg.specs.declared.outgoing.Outgoing.{Outgoing}
@@ -15,7 +15,7 @@ use Rattle.dap_session.specs.Sending.{Begins, TriesQuit}
 use Rattle.dap_session.specs.Taking.{Toward}
 use Rattle.dap_session.specs.Serving.{Driven}
 
--- All events but the last were taken, and of the last one some items, perhaps none.
+-- All events but the last were taken, and some items of the last, perhaps none.
 pub record IsOnTheWay (events : List Incoming) (reached : History) : Type 0 where
   pub before : List Incoming
   pub last : Incoming
@@ -26,8 +26,8 @@ pub record IsOnTheWay (events : List Incoming) (reached : History) : Type 0 wher
   pub taking : IsTaking past
   pub toward : Toward past rest last reached
 
--- A session reached this history with the events: it took all of them, or gave up at the last one. A history of all of them,
--- if there is one, begins with it. It is itself the history of some lawful events, so the laws of histories hold of it.
+-- A session reached this history with the events: it took all of them, or gave up at the last one. The history is a prefix
+-- of any history of all the events. It is itself the history of some lawful events, so the laws of histories hold of it.
 pub record IsReached (events : List Incoming) (reached : History) : Type 0 where
   pub way : ((rest : Rest) × IsHistoryOf events reached rest) ⊎ IsOnTheWay events reached
   pub begins : (past : History) (rest : Rest) → IsHistoryOf events past rest → Begins reached past
@@ -45,8 +45,8 @@ pub record SendsPrefix (reached : History) (old later : Ports) : Type 0 where
   pub frames_begin : Begins frames (frames_from 1 (messages_of reached))
   pub orders_begin : Begins orders (orders_of reached)
 
--- Whatever fault ends a session, what it sent is a prefix of what the history gives that it reached; after that a Quit was
--- tried.
+-- Whatever fault ends a session, what it sent is a prefix of what the history that it reached says; after that, one Quit
+-- was pushed or refused.
 abbrev pub FaultsLeavePrefixes : Type 0
 FaultsLeavePrefixes =
     (fault : SessionFault) (given_before given_after : List Incoming) (loaded_before loaded_after : List Load) (old later : Ports)
@@ -62,7 +62,7 @@ pub record PutsNumbered (reached : History) (old later : Ports) : Type 0 where
   pub read : (n : ℕ) (frame : List ℕ) → slice_get frames n ≡ Some frame
       → (message : Outgoing) × (content : List ℕ) × (slice_get (messages_of reached) n ≡ Some message) × (frame ≡ frame_of content) × ReadsAsMessage message (n + 1) content
 
--- However a session ends, the frames that it put are numbered so, by the history that it reached.
+-- However a session ends, the frames that it put are numbered from 1, as the messages of the history that it reached.
 abbrev pub FramesAreNumbered : Type 0
 FramesAreNumbered =
     (result : Result Closed SessionFault) (given_before given_after : List Incoming) (loaded_before loaded_after : List Load) (old later : Ports)

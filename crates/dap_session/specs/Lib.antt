@@ -1,24 +1,24 @@
--- What public contracts cite.
--- what an event is as data
+-- Public contracts cite the modules up to `Laws`.
+-- an event as plain data
 pub mod Incoming
--- what a port has done so far
+-- what the ports have done so far
 pub mod Ports
--- what of a history was sent
+-- which part of a history was sent
 pub mod Sending
 -- what a session keeps
 pub mod State
--- what comes of one event
+-- what one event leads to
 pub mod Taking
--- what comes of all
+-- what a whole session sends
 pub mod Serving
--- what holds of it
+-- what holds of all that a session sends
 pub mod Laws
--- What only inner contracts cite.
--- what comes of one step
+-- Only private contracts cite the others.
+-- the result of sending one step
 pub mod Steps
--- what the functions leave that take an event
+-- how far a session came, by the parts of an event
 pub mod Handling
--- what comes of the parts of a step's sending
+-- the results of building frames, pushing an order and putting frames
 pub mod Building
 -- where the next event comes from
 pub mod Coming

@@ -1,24 +1,26 @@
--- What a port has done so far.
+-- Defines what the ports of a session have done so far.
 use Rattle.std.specs.Prelude.{ℕ, List, Result}
 use Rattle.dap_history.specs.declared.fault.LoadFault.{LoadFault}
 use Rattle.dap_history.specs.Interleaving.{Load}
 use Rattle.dbg_runner.specs.Plain.{PlainOrder}
 
--- The frames put, and those that were refused, the oldest first.
+-- The frames put and the frames refused, the oldest first.
 pub record Written : Type 0 where
   pub frames : List (List ℕ)
   pub refused : List (List ℕ)
 
--- The orders pushed, the oldest first, and how often one was refused: because there was no room, and because nobody takes any.
+-- The orders pushed, the oldest first, and how many were refused: `fulls` because there was no room, and `refusals` because
+-- nobody takes orders any more.
 pub record Ordered : Type 0 where
   pub orders : List PlainOrder
   pub fulls : ℕ
   pub refusals : ℕ
 
+-- an answer of a loader, with the path that it was asked for
 abbrev pub load_of : List ℕ → Result (List ℕ) LoadFault → Load
 load_of path answer = record { path = path; answer = answer }
 
--- both ports of a session
+-- what both sending ports of a session have done so far
 pub record Ports : Type 0 where
   pub frames : List (List ℕ)
   pub orders : List PlainOrder
@@ -26,5 +28,6 @@ pub record Ports : Type 0 where
   pub runner_gone : ℕ
   pub orders_full : ℕ
 
+-- both ports
 abbrev pub ports : Written → Ordered → Ports
 ports out orders = record { frames = out.frames; orders = orders.orders; refused = out.refused; runner_gone = orders.refusals; orders_full = orders.fulls }

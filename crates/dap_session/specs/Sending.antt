@@ -1,4 +1,4 @@
--- What of a history was sent.
+-- Defines which part of a history was sent.
 use Rattle.std.specs.Prelude.{◌≡◌, ◌<◌, ◌≤◌, ◌^◌, ◌⊎◌, ℕ, List, [], ◌∷◌, ◌++◌}
 use Rattle.dap_msg.specs.declared.outgoing.Outgoing.{Outgoing}
 use Rattle.dbg_runner.specs.Plain.{PlainOrder, Quit}
@@ -8,16 +8,16 @@ use Rattle.dap_history.specs.History.{History, messages_of, orders_of, next_seq}
 use Rattle.dap_history.specs.Output.{frames_from}
 use Rattle.dap_session.specs.Ports.{Ordered, Ports}
 
--- From one history to a longer one these messages and orders were added.
+-- The history `new` has these messages and orders after those of `past`.
 pub record Adds (past new : History) (messages : List Outgoing) (orders : List PlainOrder) : Type 0 where
   pub messages_are : messages_of new ≡ messages_of past ++ messages
   pub orders_are : orders_of new ≡ orders_of past ++ orders
 
--- no seq of a message is 2^53 or more, where none was before
+-- if no message had a seq of 2^53 or more before, none has now
 abbrev pub SeqsFit : History → History → Type 0
 SeqsFit past new = next_seq past ≤ 2 ^ 53 → next_seq new ≤ 2 ^ 53
 
--- The ports gained just what the history did: the frames of the messages, numbered on, and the orders.
+-- Exactly what the history gained was sent: the frames of the messages, numbered on, and the orders.
 pub record Sends (past new : History) (old later : Ports) : Type 0 where
   pub messages : List Outgoing
   pub orders : List PlainOrder
@@ -38,7 +38,7 @@ pub record RefusesNothing (old later : Ports) : Type 0 where
 abbrev pub Begins : {A : Type 0} → List A → List A → Type 0
 Begins {A} xs ys = (more : List A) × (xs ++ more ≡ ys)
 
--- The ports gained a prefix of the orders that the history did, and no frame.
+-- A prefix of the orders that the history gained was pushed, and no frame was put.
 pub record PushesSome (past new : History) (old later : Ports) : Type 0 where
   pub messages : List Outgoing
   pub orders : List PlainOrder
@@ -49,7 +49,7 @@ pub record PushesSome (past new : History) (old later : Ports) : Type 0 where
   pub orders_are : later.orders ≡ old.orders ++ pushed
   pub begins : Begins pushed orders
 
--- They gained all its orders, and the frames before one that was refused.
+-- All orders that the history gained were pushed, and the frames before one that was refused were put.
 pub record PutsSome (past new : History) (old later : Ports) : Type 0 where
   pub messages : List Outgoing
   pub orders : List PlainOrder
@@ -62,8 +62,8 @@ pub record PutsSome (past new : History) (old later : Ports) : Type 0 where
   pub begins : Begins (put ++ frame ∷ []) (frames_from (next_seq past) messages)
   pub seqs_fit : SeqsFit past new
 
--- What was sent of one more step, which leads from past to new, by the fault that broke it off, which has its cause: a port
--- refused just now, or a message would have no seq. Orders go before frames, and frames are built before either.
+-- What was sent of one more step, which leads from `past` to `new`, where this fault ended the sending. The fault has its
+-- cause: a port refused, or no seq is left for a message. Frames are built first, then orders pushed, then frames put.
 abbrev pub BreaksOff : SessionFault → History → History → Ports → Ports → Type 0
 BreaksOff (Frame k) past new old later = ⊥
 BreaksOff NoMemory past new old later = later ≡ old
@@ -72,7 +72,7 @@ BreaksOff OrdersFull past new old later = PushesSome past new old later × (old.
 BreaksOff RunnerGone past new old later = PushesSome past new old later × (old.runner_gone < later.runner_gone)
 BreaksOff WriterGone past new old later = PutsSome past new old later
 
--- One Quit was pushed, and none refused; or the port refused it, and one count says why.
+-- One Quit was pushed, and nothing was refused; or the port refused it, and the count for the reason has grown.
 abbrev pub HasTriedQuit : Ordered → Ordered → Type 0
 HasTriedQuit old later =
     ((later.orders ≡ old.orders ++ Quit ∷ []) × (later.fulls ≡ old.fulls) × (later.refusals ≡ old.refusals))
@@ -83,7 +83,7 @@ HasTriedQuit old later =
 abbrev pub ordered_at : Ports → Ordered
 ordered_at p = record { orders = p.orders; fulls = p.orders_full; refusals = p.runner_gone }
 
--- So it was, and nothing else was sent.
+-- One Quit was pushed or refused, and nothing else was sent.
 pub record TriesQuit (old later : Ports) : Type 0 where
   pub frames_are : later.frames ≡ old.frames
   pub refused_are : later.refused ≡ old.refused

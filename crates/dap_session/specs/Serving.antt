@@ -1,4 +1,4 @@
--- What a whole run of a session sends.
+-- Defines what a whole session sends.
 use Rattle.std.specs.Prelude.{◌≡◌, ◌≤◌, ◌^◌, ◌++◌, ◌∷◌, [], List, Some, Result, Ok, Err}
 use Rattle.dap_frame.specs.declared.fault.FramingFault.{FramingFault}
 use Rattle.dap_history.specs.declared.fault.SessionFault.{SessionFault}
@@ -16,8 +16,8 @@ use Rattle.dap_session.specs.Ports.{Ports}
 use Rattle.dap_session.specs.Sending.{Sends, RefusesNothing, TriesQuit}
 use Rattle.dap_session.specs.Taking.{NeedsNoMemory, FailsAt}
 
--- The events were taken until the session ended so, and all was sent that they give: the frames of the messages with
--- seq 1, 2, 3 and on, none of them 2^53 or more, and the orders.
+-- The events were taken until the session had this ending, and everything that they cause was sent: the frames of the
+-- messages, numbered 1, 2, 3 and so on, none of them 2^53 or more, and the orders.
 pub record Serves (events : List Incoming) (ending : Ending) (old later : Ports) : Type 0 where
   pub past : History
   pub rest : Rest
@@ -28,14 +28,14 @@ pub record Serves (events : List Incoming) (ending : Ending) (old later : Ports)
   pub seqs_fit : next_seq past ≤ 2 ^ 53
   pub refuses_nothing : RefusesNothing old later
 
--- A framing fault ended the session. All was sent that the events give, and then a Quit was tried.
+-- A framing fault ended the session. Everything that the events cause was sent, and then one Quit was pushed or refused.
 pub record ServesUntilFault (events : List Incoming) (fault : FramingFault) (old later : Ports) : Type 0 where
   pub mid : Ports
   pub serves : Serves events (ending.Fault (Frame fault)) old mid
   pub quit : TriesQuit mid later
 
--- The session, which the others hadn't ended, gave up at the last event. What the others give was sent, and a prefix of what
--- that one adds, and then a Quit was tried. It ran out of memory only at an event that needs some.
+-- The session gave up at the last event, and hadn't ended before it. What the others cause was sent, then a prefix of what
+-- the last one causes, and then one Quit was pushed or refused. `NoMemory` occurs only at an event that needs memory.
 pub record StopsShort (events : List Incoming) (fault : SessionFault) (old later : Ports) : Type 0 where
   pub before : List Incoming
   pub last : Incoming
@@ -52,15 +52,15 @@ pub record StopsShort (events : List Incoming) (fault : SessionFault) (old later
   pub fails : FailsAt fault past rest last mid stopped
   pub quit : TriesQuit stopped later
 
--- The faults at which what an event gives can't be sent: no seq is left, the queue of orders is full, or nobody takes orders
--- or frames any more.
+-- The faults at which what an event causes can't be sent: no seq is left, the queue of orders is full, or nobody takes
+-- orders or frames any more.
 pub data CannotSend : SessionFault → Type 0 where
   no_seq_is_left : CannotSend SeqExhausted
   orders_are_full : CannotSend OrdersFull
   runner_is_gone : CannotSend RunnerGone
   writer_is_gone : CannotSend WriterGone
 
--- What comes of the events that an inbox and a loader gave, and the answer.
+-- What the events that an inbox and a loader returned lead to, and the result.
 pub data Drives (events given : List Incoming) (loads : List Load) (old later : Ports) : Result Closed SessionFault → Type 0 where
   -- the session was closed
   closes : {by : Closed} → Interleaves [] events given loads → Serves events (ending.Closed by) old later
@@ -75,7 +75,7 @@ pub data Drives (events given : List Incoming) (loads : List Load) (old later : 
   gives_up : {fault : SessionFault} → CannotSend fault → Interleaves [] events given loads → StopsShort events fault old later
       → Drives events given loads old later (Err fault)
 
--- an inbox and a loader gave these events and answers, and this came of them
+-- an inbox and a loader returned these events and answers, and this is what they led to
 pub record Driven (result : Result Closed SessionFault) (given_before given_after : List Incoming) (loaded_before loaded_after : List Load) (old later : Ports) : Type 0 where
   pub events : List Incoming
   pub given : List Incoming

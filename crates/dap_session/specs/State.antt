@@ -1,4 +1,4 @@
--- What a session keeps, and which lists of events it stands for.
+-- Defines what a session keeps, and which lists of events it stands for.
 use Rattle.std.specs.Prelude.{◌≡◌, ℕ, List, String, string_bytes, Option, None, Some, Result, Ok, Err}
 use Rattle.std.specs.declared.alloc.Global.{Global}
 use Rattle.dap_frame.specs.Stream.{Stream}
@@ -14,13 +14,14 @@ use Rattle.dap_phase.specs.Phases.{IsPhase, launch_of}
 use Rattle.dap_session.specs.declared.want.Want.{Want}
 use Rattle.dap_session.specs.declared.want.Want.TheVariants as want_is
 
+-- the fields of a session, as contracts see them
 pub record State : Type 0 where
   pub stream : Stream
   pub phase : Phase
   pub ending : Option Ending
   pub next_seq : ℕ
 
--- the fields are the readings of the history
+-- the phase and the seq are the readings of the history
 pub record Knows (session : State) (past : History) : Type 0 where
   pub phase_is : IsPhase session.phase past
   pub seq_is : session.next_seq ≡ next_seq past
@@ -31,7 +32,7 @@ pub record GoesOn (session : State) (past : History) (rest : Rest) : Type 0 wher
   pub launch_is : launch_of session.phase ≡ rest.launch
   pub stream_is : session.stream ≡ record { rest = rest.bytes; fault = None }
 
--- The session stands for the events, whose history is past.
+-- The session stands for the events, whose history is `past`.
 pub record StandsFor (session : State) (events : List Incoming) (past : History) : Type 0 where
   pub rest : Rest
   pub history : IsHistoryOf events past rest
@@ -45,12 +46,13 @@ abbrev pub WantsHere : Want → Option Launch → Type 0
 WantsHere want None = want ≡ want_is.Event
 WantsHere want (Some launch) = (path : String Global) × (want ≡ want_is.File path) × (string_bytes path ≡ launch.arguments.program)
 
+-- what the session asks for next, by its ending
 abbrev pub Wants : Want → State → Option Ending → Type 0
 Wants want session None = WantsHere want (launch_of session.phase)
 Wants want session (Some (ending.Closed by)) = want ≡ want_is.Closed
 Wants want session (Some (ending.Fault fault)) = ⊥
 
--- what a session answers that is over
+-- what a session returns once it has ended
 abbrev pub answer_of : Ending → Result Want SessionFault
 answer_of (ending.Closed by) = Ok want_is.Closed
 answer_of (ending.Fault fault) = Err fault

@@ -1,4 +1,4 @@
--- What comes of sending one step.
+-- Defines, for private contracts, the result of sending one step.
 use Rattle.std.specs.Prelude.{◌≡◌, ◌++◌, ◌∷◌, [], Result, Ok, Err}
 use Rattle.std.specs.Option.{option_to_list}
 use Rattle.std.specs.Prelude.{map, Option, option_map}
@@ -17,7 +17,7 @@ pub record IsStepOf (answer : Option Outgoing) (done : Done) (step : Step) : Typ
   pub messages_are : messages step ≡ with_answer answer (map Event done.events)
   pub orders_are : step.effect.orders ≡ option_to_list (option_map plain_order done.order)
 
--- The step was sent after past, or broken off by the fault.
+-- The step after `past` was sent, or its sending was ended by the fault.
 abbrev pub IsSent : Result (Unit {0}) SessionFault → History → Step → State → Ports → Ports → Type 0
 IsSent (Ok u) past step session old later =
     Sends past (past ++ step ∷ []) old later × RefusesNothing old later × (session.next_seq ≡ next_seq (past ++ step ∷ []))

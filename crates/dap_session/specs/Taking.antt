@@ -1,4 +1,4 @@
--- What comes of one event that a session takes.
+-- Defines what one event that a session takes leads to.
 use Rattle.std.specs.Prelude.{◌≡◌, ◌⊎◌, ◌++◌, ◌∷◌, [], ℕ, List, Option, Some, None, Result, Ok, Err}
 use Rattle.dap_frame.specs.declared.fault.FramingFault.{FramingFault}
 use Rattle.dbg_runner.specs.Plain.{PlainReport, heading_of}
@@ -24,6 +24,7 @@ use Rattle.dap_session.specs.State.{State, StandsFor, Wants}
 
 -- ---- how far an event was taken
 
+-- from `past`, some contents at the front of the bytes were taken, or none while a launch waits
 abbrev pub TowardByPiece : History → Option Launch → List ℕ → History → Type 0
 TowardByPiece past None bytes new = (left : List ℕ) × Takes past bytes new left
 TowardByPiece past (Some launch) bytes new = new ≡ past
@@ -45,7 +46,7 @@ pub record LoadsToward (past : History) (rest : Rest) (answer : Result (List ℕ
   pub left : List ℕ
   pub taken : Takes mid rest.bytes new left
 
--- From past, items of the event were taken one after another, which led to new; perhaps not all of them.
+-- From the history `past`, items of the event were taken in order, perhaps not all of them, which led to `new`.
 abbrev pub Toward : History → Rest → Incoming → History → Type 0
 Toward past rest (Piece piece) new = TowardByPiece past rest.launch (rest.bytes ++ piece) new
 Toward past rest End new = (new ≡ past) ⊎ IsAfter past InputEnd new
@@ -56,13 +57,13 @@ Toward past rest (Report r) new = (new ≡ past) ⊎ (Accepts past r × IsAfter 
 
 -- ---- memory
 
--- the report goes on with the run
+-- the report continues the run
 abbrev pub Expects : Phase → PlainReport → Type 0
 Expects (phase.Running t run) r = heading_of r ≡ heading_in t.runs run
 Expects _ r = ⊥
 
--- The event is taken without any memory: the input ended or can't be read, or nothing comes of a file or a report, since
--- no launch waits and the report isn't accepted.
+-- The event needs no memory: it is the end of the input or a failed read, or a file that no launch waits for, or a report
+-- that isn't accepted while no launch waits.
 abbrev pub NeedsNoMemory : Option Launch → (PlainReport → Type 0) → Incoming → Type 0
 NeedsNoMemory launch accepts End = Unit {0}
 NeedsNoMemory launch accepts ReadFailed = Unit {0}
@@ -70,15 +71,15 @@ NeedsNoMemory launch accepts (File answer) = launch ≡ None
 NeedsNoMemory launch accepts (Report r) = (launch ≡ None) × (¬ accepts r)
 NeedsNoMemory launch accepts _ = ⊥
 
--- There was no memory: for a piece, or for the file that a launch waits for.
+-- The event says that memory was lacking, for a piece or for the file that a launch waits for.
 abbrev pub LacksMemory : Incoming → Option Launch → Type 0
 LacksMemory NoMemoryCame launch = Unit {0}
 LacksMemory (File (Err load_fault.NoMemory)) (Some launch) = Unit {0}
 LacksMemory _ _ = ⊥
 
--- ---- what comes of it
+-- ---- what an event leads to
 
--- The session gave up at the event. Whole steps of it were sent, and of one step more what the fault let through.
+-- The session gave up at the event. Some of its steps were sent completely, and one more step as far as the fault allowed.
 pub record FailsAt (fault : SessionFault) (past : History) (rest : Rest) (event : Incoming) (old later : Ports) : Type 0 where
   pub mid : History
   pub toward : Toward past rest event mid
@@ -89,7 +90,7 @@ pub record FailsAt (fault : SessionFault) (past : History) (rest : Rest) (event 
   pub next_is : (next ≡ mid) ⊎ (Toward past rest event next × ((item : Item) × IsAfter mid item next))
   pub breaks : BreaksOff fault mid next between later
 
--- A framing fault ended the session at the event, and all was sent that the event gives.
+-- A framing fault ended the session at the event, and everything that the event causes was sent.
 pub record EndsAt (fault : FramingFault) (events : List Incoming) (past : History) (event : Incoming) (old later : Ports) : Type 0 where
   pub new : History
   pub rest : Rest
@@ -98,7 +99,7 @@ pub record EndsAt (fault : FramingFault) (events : List Incoming) (past : Histor
   pub sends : Sends past new old later
   pub refuses_nothing : RefusesNothing old later
 
--- The session stands for the events and this one, and sent what this one adds.
+-- The session stands for the events and this one, and what this one causes was sent.
 pub record GoesWell (events : List Incoming) (past : History) (event : Incoming) (want : Want) (session : State) (old later : Ports) : Type 0 where
   pub new : History
   pub stands : StandsFor session (events ++ event ∷ []) new
@@ -106,7 +107,7 @@ pub record GoesWell (events : List Incoming) (past : History) (event : Incoming)
   pub refuses_nothing : RefusesNothing old later
   pub wants : Wants want session session.ending
 
--- What comes of an event, by the answer.
+-- What an event leads to, by the result.
 abbrev pub Comes : Result Want SessionFault → List Incoming → History → Rest → Incoming → State → Ports → Ports → Type 0
 Comes (Ok want) events past rest event session old later = GoesWell events past event want session old later
 Comes (Err (Frame fault)) events past rest event session old later = EndsAt fault events past event old later

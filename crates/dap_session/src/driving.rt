@@ -1,4 +1,4 @@
-//! The loop over events.
+//! A whole session: the loop over its events.
 
 ghost use Rattle.std.specs.Prelude.{◌≡◌, ◌++◌, ◌∷◌, [], option_map, string_bytes};
 ghost use Rattle.dap_history.specs.Events.{AreLawful};
@@ -17,13 +17,13 @@ use dbg_runner::Order;
 use std::alloc::Global;
 use std::sync::Wait;
 
-/// Takes events until the session is closed or gives up, and returns what closed it. The loader is asked for a file where
-/// one is wanted, at once.
+/// Takes events until the session is closed or gives up, and returns what closed it. Where the session wants a file, the
+/// loader is asked for it before the next event is taken. It blocks while the inbox or the loader does.
 ///
 /// # Errors
 ///
-/// At a framing fault all was sent that the contents before it give. At any other fault what was sent is a prefix of what
-/// the events give. Either way one order to quit is tried after that. `NoMemory` is returned only at an event that needs
+/// At a framing fault, all was sent that the contents before it cause. At any other fault, what was sent is a prefix of
+/// what the events cause. Either way one order to quit is pushed then. `NoMemory` is returned only at an event that needs
 /// memory.
 pub fn drive<I: Inbox, L: Loader, O: Out, D: Orders>(
     rt: &impl Wait,
@@ -44,7 +44,7 @@ pub fn drive<I: Inbox, L: Loader, O: Out, D: Orders>(
     take_all(rt, &mut session, inbox, loader, out, orders)
 }
 
-/// Takes events with a session that has taken none.
+/// Takes events in a session that has taken none, until it is closed or gives up.
 fn take_all<I: Inbox, L: Loader, O: Out, D: Orders>(
     rt: &impl Wait,
     session: &mut Session,
@@ -80,7 +80,7 @@ fn take_all<I: Inbox, L: Loader, O: Out, D: Orders>(
     unreachable!()
 }
 
-/// The file at a path that is wanted, or the next event.
+/// Returns the next event: the loader's answer where a file is wanted, and otherwise the next event of the inbox.
 fn next_event<I: Inbox, L: Loader>(wanted: &Option<String>, inbox: &mut I, loader: &mut L) -> Event
     ensures from { ComesFrom (option_map (λ path. string_bytes path) wanted.now) (incoming_of result)
         (sources (I.given inbox.old) (L.loaded loader.old))
@@ -94,7 +94,7 @@ fn next_event<I: Inbox, L: Loader>(wanted: &Option<String>, inbox: &mut I, loade
     }
 }
 
-/// The event itself. A report in it is lawful, as each report.
+/// Returns the event unchanged. It exists so that the proof can use that each report is lawful.
 fn lawful(event: Event) -> Event
     ensures same { result ≡ event }
     ensures lawful { AreLawful (incoming_of result ∷ []) }
@@ -108,7 +108,7 @@ fn lawful(event: Event) -> Event
     }
 }
 
-/// Pushes the order to quit. That it was refused is not reported.
+/// Pushes the order to quit. A refusal isn't reported.
 fn try_quit<D: Orders>(orders: &mut D)
     ensures quit { HasTriedQuit (D.seen orders.old) (D.seen orders.new) }
     ensures origin { D.origin orders.new ≡ D.origin orders.old }

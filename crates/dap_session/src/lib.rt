@@ -1,9 +1,9 @@
 //! A session of the Debug Adapter Protocol: events in, frames and orders out.
 //!
-//! The one contract is that of [`drive`]: for every interleaving of what an inbox and a loader give, what is put is the frames of
-//! the messages that these events give, numbered from 1, what is pushed is the orders that they cause, and the result names
-//! what closed the session. [`Session::take`] says the same of one event. What events give, and the laws of all that is sent,
-//! stand in `dap_history`; what a session does at one item in `dap_replies`.
+//! The one contract is that of [`drive`]: for every interleaving of the events of an inbox and the files of a loader, the
+//! frames put are those of the messages that the events cause, numbered from 1, the orders pushed are those that the events
+//! cause, and the result says what closed the session. [`Session::take`] has the same contract for one event. What events
+//! cause, and the laws of all that is sent, are in `dap_history`, and what a session does at one item is in `dap_replies`.
 //!
 //! No history is stored: a session's fields are readings of the steps so far (`specs/State`), and a contract speaks of every
 //! list of events that the session stands for.

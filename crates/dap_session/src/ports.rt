@@ -1,4 +1,4 @@
-//! The ports of a session.
+//! The ports of a session: where its events and files come from, and where its frames and orders go.
 
 use dap_history::LoadFault;
 use dbg_runner::{Order, Report};
@@ -10,17 +10,17 @@ pub enum Event {
     Piece(Vec<u8>),
     /// The input came to its end.
     End,
-    /// The input can't be read any more.
+    /// Reading the input failed.
     ReadFailed,
     /// An allocation failed while a piece was read.
     NoMemory,
     /// The file that a launch waits for.
     File(Result<Vec<u8>, LoadFault>),
-    /// What the runner did.
+    /// A report of the runner.
     Report(Report),
 }
 
-/// Why an order was not pushed.
+/// Why an order wasn't pushed.
 #[derive(Clone, Copy)]
 pub enum OrderFault {
     /// There is no room for it.
@@ -34,15 +34,19 @@ pub trait Out {
     ghost use Rattle.dap_session.specs.Ports.{Written};
     ghost use Rattle.std.specs.Prelude.{◌≡◌, ◌++◌, ◌∷◌, [], OnOk, OnErr, IfErr};
 
-    /// The frames put, and those that were refused.
+    /// The frames put, and the frames refused.
     ghost seen: { Self → Written };
 
-    /// What the port is over, which no call changes.
+    /// What underlies the port, which no call changes.
     ghost Origin: { Type 0 };
 
     ghost origin: { Self → Origin };
 
-    /// Puts a frame at the end, or hands it back.
+    /// Puts a frame after those put before.
+    ///
+    /// # Errors
+    ///
+    /// The frame itself, where it was refused.
     fn put(&mut self, frame: Vec<u8>) -> Result<(), Vec<u8>>
         ensures ok { OnOk result ((seen self.new).frames ≡ (seen self.old).frames ++ frame.items ∷ []) }
         ensures ok_refused { OnOk result ((seen self.new).refused ≡ (seen self.old).refused) }
@@ -59,18 +63,22 @@ pub trait Orders {
     ghost use Rattle.dap_session.specs.declared.ports.OrderFault.TheVariants.{Full, Gone};
     ghost use Rattle.std.specs.Prelude.{◌≡◌, ◌++◌, ◌∷◌, [], ◌<◌, OnOk, OnErr, Err};
 
-    /// The orders pushed, and how often one was refused.
+    /// The orders pushed, and how many were refused.
     ghost seen: { Self → Ordered };
 
     /// There is no room for an order.
     ghost is_full: { Self → Type 0 };
 
-    /// What the port is over, which no call changes.
+    /// What underlies the port, which no call changes.
     ghost Origin: { Type 0 };
 
     ghost origin: { Self → Origin };
 
-    /// Pushes an order at the end. Each refusal is counted by its kind, and by that alone.
+    /// Pushes an order after those pushed before.
+    ///
+    /// # Errors
+    ///
+    /// The order was refused. Each refusal is counted by its kind only.
     fn push(&mut self, order: Order) -> Result<(), OrderFault>
         ensures ok { OnOk result ((seen self.new).orders ≡ (seen self.old).orders ++ plain_order order ∷ []) }
         ensures ok_fulls { OnOk result ((seen self.new).fulls ≡ (seen self.old).fulls) }
@@ -90,15 +98,15 @@ pub trait Inbox {
     ghost use Rattle.dap_session.specs.Incoming.{incoming_of};
     ghost use Rattle.std.specs.Prelude.{◌≡◌, ◌++◌, ◌∷◌, [], List};
 
-    /// The events given so far, the oldest first.
+    /// The events returned so far, the oldest first.
     ghost given: { Self → List Incoming };
 
-    /// What the port is over, which no call changes.
+    /// What underlies the port, which no call changes.
     ghost Origin: { Type 0 };
 
     ghost origin: { Self → Origin };
 
-    /// The next event. It may wait for one, by a handle of its own.
+    /// Returns the next event. It may block until one comes.
     fn next(&mut self) -> Event
         ensures given { given self.new ≡ given self.old ++ incoming_of result ∷ [] }
         ensures origin { origin self.new ≡ origin self.old };
@@ -111,10 +119,10 @@ pub trait Loader {
     ghost use Rattle.dap_history.specs.declared.fault.LoadFault.TheVariants.{CannotRead, NoMemory};
     ghost use Rattle.std.specs.Prelude.{◌≡◌, ◌++◌, ◌∷◌, [], ◌≤◌, List, Ok, Err, length, IfOk};
 
-    /// The paths asked for and the answers given so far, the oldest first; an answer `NoMemory` isn't among them.
+    /// The paths asked for and the answers returned so far, the oldest first. An answer `NoMemory` isn't among them.
     ghost loaded: { Self → List Load };
 
-    /// The file's bytes, the first 65,537 of them where it has more.
+    /// Returns the bytes of the file at a path, or the first 65,537 of them where it has more.
     fn load(&mut self, path: &str) -> Result<Vec<u8>, LoadFault>
         ensures ok { IfOk result (λ file. loaded self.new ≡ loaded self.old ++ load_of path.now (Ok file.items) ∷ []) }
         ensures short { IfOk result (λ file. length file.items ≤ 65537) }

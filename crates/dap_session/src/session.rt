@@ -1,4 +1,4 @@
-//! A session.
+//! A session, and how it takes one event.
 
 ghost use Rattle.std.specs.Prelude.{◌≡◌, Some, None, IfErr, MatchOption};
 
@@ -54,7 +54,7 @@ impl Session {
     ghost use Rattle.dap_session.specs.Taking.{LacksMemory, Expects, NeedsNoMemory, Comes};
     ghost use Rattle.dap_session.specs.Handling.{Handles, IsWell, NeededNoMemory};
 
-    /// A session that has taken nothing. It takes no memory.
+    /// Returns a session that has taken no event. It takes no memory.
     pub fn new(alloc: Global) -> Session
         ensures { StandsFor result [] [] }
     {
@@ -67,7 +67,7 @@ impl Session {
         }
     }
 
-    /// What closed the session; `None` before that, and where it gave up.
+    /// Returns what closed the session; `None` while it isn't closed, and where it gave up.
     pub fn closed(&self) -> Option<Closed>
         ensures { MatchOption result (IsOpenEnded self.now.ending) (λ by. self.now.ending ≡ Some (ending.Closed by)) }
     {
@@ -77,29 +77,29 @@ impl Session {
         }
     }
 
-    /// Takes an event, sends what it gives, and returns what the session asks for next.
+    /// Takes an event, sends what it causes, and returns what the session asks for next.
     ///
     /// # Errors
     ///
-    /// At a framing fault all was sent that the contents before it give. At any other fault what was sent is a prefix of
-    /// what the event gives. Either way the session has given up: it sends nothing more and returns the same fault.
-    /// `NoMemory` is returned only at an event that needs memory, and the end of the input and a failed read need none.
+    /// At a framing fault, all was sent that the contents before it cause. At any other fault, what was sent is a prefix of
+    /// what the event causes. Either way the session has given up: every later call sends nothing and returns the same
+    /// fault. `NoMemory` is returned only at an event that needs memory; the end of the input and a failed read need none.
     pub fn take<O: Out, D: Orders>(
         &mut self,
         event: Event,
         out: &mut O,
         orders: &mut D,
     ) -> Result<Want, SessionFault>
-        // Whatever events the session stands for, this comes of one more.
+        // Whatever events the session stands for, this is what one more leads to.
         ensures comes { self.old.ending ≡ None → (events : List Incoming) (past : History) (stands : StandsFor self.old events past) →
             Comes result events past stands.rest (incoming_of event) self.new
             (ports (O.seen out.old) (D.seen orders.old))
             (ports (O.seen out.new) (D.seen orders.new)) }
         ensures failed { IfErr result (λ fault. self.new.ending ≡ Some (ending.Fault fault)) }
         ensures no_memory { self.old.ending ≡ None → LacksMemory (incoming_of event) (launch_of self.old.phase) → result ≡ Err NoMemory }
-        // An event that needs no memory never ends in that fault.
+        // An event that needs no memory never leads to `NoMemory`.
         ensures enough { self.old.ending ≡ None → NeedsNoMemory (launch_of self.old.phase) (Expects self.old.phase) (incoming_of event) → result ≢ Err NoMemory }
-        // Once it is closed or gave up, it answers so for good, and nothing changes.
+        // Once the session is closed or gave up, every call returns the same, and nothing changes.
         ensures answer { (over : AnEnding) → self.old.ending ≡ Some over → result ≡ answer_of over }
         ensures quiet { self.old.ending ≢ None → ports (O.seen out.new) (D.seen orders.new) ≡ ports (O.seen out.old) (D.seen orders.old) }
         ensures same { self.old.ending ≢ None → self.new ≡ self.old }
@@ -118,7 +118,7 @@ impl Session {
         result
     }
 
-    /// Takes an event while the session has not ended, and returns what the session asks for next.
+    /// Takes an event in a session that hasn't ended, and returns what the session asks for next.
     fn go_on<O: Out, D: Orders>(
         &mut self,
         event: Event,
@@ -140,7 +140,7 @@ impl Session {
         self.want()
     }
 
-    /// Takes an event while the session has not ended.
+    /// Takes an event in a session that hasn't ended.
     fn take_event<O: Out, D: Orders>(
         &mut self,
         event: Event,
@@ -169,7 +169,7 @@ impl Session {
         }
     }
 
-    /// What the session asks for next.
+    /// Returns what the session asks for next.
     fn want(&self) -> Result<Want, SessionFault>
         requires { IsWell self.now.ending }
         ensures ok { IfOk result (λ want. Wants want self.now self.now.ending) }

@@ -1,3 +1,5 @@
+//! What a session asks for.
+
 /// What a session asks for next.
 #[derive(Drop)]
 pub enum Want {

@@ -1,4 +1,4 @@
-//! How a session closes where its input does.
+//! How a session closes when its input ends.
 
 use super::Session;
 use super::sending::push;
@@ -11,7 +11,7 @@ impl Session {
     ghost use Rattle.dap_history.specs.declared.ending.Ending.TheVariants as ending;
     ghost use Rattle.dap_session.specs.Handling.{PushesQuit};
 
-    /// Closes the session where its input does.
+    /// Orders the runner to quit, and closes the session.
     pub(super) fn close<D: Orders>(
         &mut self,
         closed: Closed,

@@ -1,4 +1,4 @@
-//! Pieces of the input, and the contents in them.
+//! How a session takes pieces of the input, and the contents in them.
 
 ghost use Rattle.std.specs.Prelude.{◌≡◌, ◌⊎◌, IfOk, IfErr, OnOk, MatchOption, None};
 ghost use Rattle.dap_frame.specs.Frame.{IsFrameInFront, IsOpen};
@@ -57,7 +57,7 @@ impl Session {
         matches!(self.phase, Phase::Launching(..))
     }
 
-    /// Takes the contents that are whole, as far as the session takes any.
+    /// Takes the contents that have come completely, until a launch waits for its file or the session ends.
     pub(super) fn take_contents<O: Out, D: Orders>(
         &mut self,
         out: &mut O,
@@ -114,7 +114,7 @@ impl Session {
     }
 }
 
-/// The next content of a stream.
+/// Returns the next content of a stream, or `None` where no whole frame has come yet.
 fn next_content(decoder: &mut Decoder) -> Result<Option<Vec<u8>>, SessionFault>
     ensures content { IfOk result (λ next. MatchOption next
         (IsOpen decoder.old.rest × (decoder.new ≡ decoder.old))

@@ -1,4 +1,4 @@
-//! The file of a launch.
+//! How a session takes the file of a launch.
 
 ghost use Rattle.std.specs.Prelude.{◌≡◌, ℕ, Some, Vec, option_map, IfOk, IfErr};
 ghost use Rattle.std.specs.declared.alloc.Global.{Global};
@@ -26,7 +26,7 @@ impl Session {
     ghost use Rattle.dap_session.specs.State.{GoesOn};
     ghost use Rattle.dap_session.specs.Handling.{IsWell, NeededNoMemory, HandlesItem, Handles, plain_file};
 
-    /// Takes a file. One that no launch waits for is passed over.
+    /// Takes a file. One that no launch waits for is ignored.
     pub(super) fn take_file<O: Out, D: Orders>(
         &mut self,
         file: Result<Vec<u8>, LoadFault>,
@@ -52,7 +52,7 @@ impl Session {
         self.take_contents(out, orders)
     }
 
-    /// Takes the launch out of the phase that waits for its file, if there is one.
+    /// Takes the launch that waits for its file out of the phase, if there is one.
     fn take_launch(&mut self) -> Option<(InitializeArguments, Launch)>
         ensures found { IfSome result (λ taken. self.old.phase ≡ phase_is.Launching taken.0 taken.1) }
         ensures none { IfNone result (launch_of self.old.phase ≡ None) }
@@ -68,7 +68,7 @@ impl Session {
         }
     }
 
-    /// Launches the program in a file, of which there are no bytes where it can't be read.
+    /// Launches the program in a file. `file` is `None` where the file can't be read.
     fn load<O: Out, D: Orders>(
         &mut self,
         settings: InitializeArguments,
@@ -102,7 +102,7 @@ impl Session {
     }
 }
 
-/// The file that a launch is made with: its bytes, or none where it can't be read.
+/// Returns the file's bytes, or `None` where the file can't be read. The only error is `NoMemory`.
 fn readable(file: Result<Vec<u8>, LoadFault>) -> Result<Option<Vec<u8>>, SessionFault>
     ensures ok { IfOk result (λ bytes. file_of (plain_file file) ≡ Some (option_map (λ (v : Vec ℕ Global). v.items) bytes)) }
     ensures err { IfErr result (λ fault. fault ≡ faults.NoMemory) }

@@ -1,4 +1,4 @@
-//! Reports of the runner.
+//! How a session takes a report of the runner.
 
 use super::Session;
 use crate::ports::{Orders, Out};
@@ -21,7 +21,7 @@ impl Session {
     ghost use Rattle.dap_session.specs.Taking.{Expects};
     ghost use Rattle.dap_session.specs.Handling.{IsWell, NeededNoMemory, HandlesItem, Handles};
 
-    /// Takes a report. One that doesn't go on with the run is passed over.
+    /// Takes a report. One that doesn't continue the run is ignored.
     pub(super) fn take_report<O: Out, D: Orders>(
         &mut self,
         report: Report,
@@ -44,7 +44,7 @@ impl Session {
         self.accept(target, run, report, out, orders)
     }
 
-    /// Takes the run out of the phase that the report goes on with, if there is one.
+    /// Takes the run that the report continues out of the phase, if there is one.
     fn take_run(&mut self, report: &Report) -> Option<(Target, Run)>
         ensures found { IfSome result (λ taken. (self.old.phase ≡ phase_is.Running taken.0 taken.1)
             × (heading_of (plain_report report.now) ≡ heading_in taken.0.runs taken.1)) }
@@ -64,7 +64,7 @@ impl Session {
         None
     }
 
-    /// Accepts a report, which goes on with the run.
+    /// Accepts a report that continues the run, and sends what it causes.
     fn accept<O: Out, D: Orders>(
         &mut self,
         target: Target,

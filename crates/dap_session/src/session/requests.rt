@@ -1,4 +1,4 @@
-//! Requests.
+//! How a session takes a request.
 
 ghost use Rattle.std.specs.Prelude.{◌≡◌};
 ghost use Rattle.dap_history.specs.Readings.{closing_command};
@@ -20,7 +20,7 @@ impl Session {
     ghost use Rattle.dap_session.specs.Ports.{ports};
     ghost use Rattle.dap_session.specs.Handling.{IsAt, IsWell, HandlesItem, HandlesContent};
 
-    /// Takes a request: replies to it, or waits for the file of a launch.
+    /// Takes a request: answers it, or, where it is a launch, waits for the file.
     pub(super) fn take_request<O: Out, D: Orders>(
         &mut self,
         request: Request,
@@ -49,7 +49,7 @@ impl Session {
         }
     }
 
-    /// Answers a request that wants no file.
+    /// Answers a request that needs no file.
     fn answer<O: Out, D: Orders>(
         &mut self,
         phase: Phase,
@@ -85,7 +85,7 @@ impl Session {
     }
 }
 
-/// How a command ends the session, if it does.
+/// Returns how a command ends the session, if it does.
 fn ending_by(command: &Command) -> Option<Ending>
     ensures { result ≡ closing_command command.now }
 {

@@ -1,4 +1,4 @@
-//! How what an item leads to is sent: all frames are built first, then the order is pushed, then the frames are put.
+//! Sending: all frames of an item are built first, then its order is pushed, and then the frames are put.
 
 ghost use Rattle.std.specs.Prelude.{◌≡◌, ◌++◌, ◌∷◌, [], ◌⊎◌, ◌+◌, ◌≤◌, ◌<◌, ◌^◌, map, length, option_map, IfOk, IfErr, OnOk, None};
 ghost use Rattle.std.specs.Option.{option_to_list};
@@ -23,14 +23,15 @@ use dbg_runner::Order;
 use std::alloc::Global;
 use std::marker::Model;
 
-/// The first seq that no message may have.
+/// The least seq that no message may have.
 const SEQ_END: u64 = 1 << 53;
 
-/// The frames of messages.
+/// The frames of the messages built so far.
 #[derive(Drop)]
 struct Frames {
-    /// Holds one content after another, so that contents share its memory.
+    /// The content of the message that is being built. Its memory is used again for the next.
     content: Vec<u8>,
+    /// The frames, in order.
     frames: Vec<Vec<u8>>,
     /// The seq of the next message.
     next_seq: u64,
@@ -43,7 +44,7 @@ impl Session {
     ghost use Rattle.dap_session.specs.Ports.{ports};
     ghost use Rattle.dap_session.specs.Steps.{IsStepOf, IsSent};
 
-    /// Sends an answer, if there is one, and what follows it, and goes on in the phase after it, where no launch waits.
+    /// Sends an answer, if there is one, and its effect, and takes over the effect's phase. No launch waits after it.
     pub(super) fn send<O: Out, D: Orders>(
         &mut self,
         answer: Option<Outgoing>,
@@ -88,7 +89,7 @@ impl Model for Frames {
 }
 
 impl Frames {
-    /// The frames of an answer, if there is one, and of events, with seqs from `seq` on.
+    /// Builds the frames of an answer, if there is one, and of events, numbered from `seq` on.
     fn of(
         alloc: Global,
         seq: u64,
@@ -146,7 +147,7 @@ impl Frames {
     }
 }
 
-/// The phase, where a launch no longer waits.
+/// Returns the phase; if a launch waits in it, it waits no longer.
 fn without_launch(phase: Phase) -> Phase
     ensures free { launch_of result ≡ None }
     ensures phase { (past : History) → IsPhase phase past → IsPhase result past }
@@ -157,7 +158,7 @@ fn without_launch(phase: Phase) -> Phase
     }
 }
 
-/// The frame of a message. Its content is written in `content`, over what that held.
+/// Returns the frame of a message. Its content is written to `content`, which is cleared first.
 fn frame(message: &Outgoing, seq: u64, content: &mut Vec<u8>) -> Result<Vec<u8>, SessionFault>
     ensures frame { IfOk result (λ frame. frame.items ≡ frame_of (text_of message.now seq)) }
     ensures fits { OnOk result (seq < 2 ^ 53) }
