@@ -2,10 +2,10 @@
 //! that a session sends.
 //!
 //! The contracts are those of [`history_laws`] and [`run_laws`]. The definitions are in `specs`, in the order of
-//! `specs/Lib.antt`: what an item causes (`History`), the readings of the items so far (`Readings`), a file for each topic of
-//! commands (`Launching` to `Inspection`), reports (`Reports`), which items a list of events gives (`Events`), and the laws
-//! (`Laws` to `Lines`). They speak only of plain data, so two lists of events with the same data have the same history. The
-//! only code here is the types that both a session and its definitions speak of.
+//! `specs/Lib.antt`: what an item causes (`History`), the readings of the items so far (`Readings`), a file for each
+//! topic of commands (`Launching` to `Inspection`), reports (`Reports`), which items a list of events gives (`Events`),
+//! and the laws (`Laws` to `Lines`). They speak only of plain data, so two lists of events with the same data have the
+//! same history. The only code here is the types that both a session and its definitions speak of.
 #![tactic(auto)]
 
 mod ending;
