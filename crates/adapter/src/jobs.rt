@@ -22,8 +22,8 @@ use crate::tasks::{LastTask, Task};
 use byte_streams::{Sink, Source};
 use dap_session::{Closed, Loader, Order, Orders, SessionFault, drive};
 use dap_wires::{
-    ClientSender, EndedSender, EventReceiver, FrameReceiver, FrameSender, InboxLog,
-    OrderReceiver, OrderSender, WriterMessage, ReadEnd, ReceiveLog, ReportSender, WriteFailed, read_loop,
+    ClientSender, EndedSender, EventReceiver, FrameReceiver, FrameSender, InboxLog, OrderReceiver,
+    OrderSender, ReadEnd, ReceiveLog, ReportSender, WriteFailed, WriterMessage, read_loop,
     write_loop,
 };
 use dbg_runner::{Gate, Joined, work};
@@ -99,7 +99,11 @@ impl<'a, O, R: Wait + Drop> WriterTask<'a, O, R> {
 }
 
 impl<'a, O: Sink, R: Wait + Drop> Task for WriterTask<'a, O, R> {
-    type Output = (&'a mut O, ReceiveLog<WriterMessage>, Result<(), WriteFailed>);
+    type Output = (
+        &'a mut O,
+        ReceiveLog<WriterMessage>,
+        Result<(), WriteFailed>,
+    );
 
     ghost can_run = { λ _. ⊤ };
 
@@ -107,7 +111,13 @@ impl<'a, O: Sink, R: Wait + Drop> Task for WriterTask<'a, O, R> {
         × ((taken : List WriterMessage) × (messages_received r.1 ≡ messages_taken t.outbox ++ taken)
         × IsWrittenUntil r.2 taken (output_at (O.written t.output.now) (O.failures t.output.now)) (output_at (O.written r.0.now) (O.failures r.0.now))) };
 
-    fn run(self) -> (&'a mut O, ReceiveLog<WriterMessage>, Result<(), WriteFailed>) {
+    fn run(
+        self,
+    ) -> (
+        &'a mut O,
+        ReceiveLog<WriterMessage>,
+        Result<(), WriteFailed>,
+    ) {
         let WriterTask {
             rt,
             output,

@@ -14,8 +14,8 @@ use crate::tasks::run_beside;
 use byte_streams::{Sink, Source};
 use dap_session::{Closed, Loader, SessionFault};
 use dap_wires::{
-    ClientSender, OrderReceiver, WriterMessage, ReceiveLog, ReportSender, WriteFailed, inbox, orders, outbox,
-    reconcile_inbox, reconcile_orders, reconcile_outbox,
+    ClientSender, OrderReceiver, ReceiveLog, ReportSender, WriteFailed, WriterMessage, inbox,
+    orders, outbox, reconcile_inbox, reconcile_orders, reconcile_outbox,
 };
 use dbg_runner::Gate;
 use std::alloc::{AllocError, Global};

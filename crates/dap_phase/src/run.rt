@@ -9,7 +9,7 @@ ghost use Rattle.dbg_plan.specs.Plans.{Listed, breakpoints_of};
 ghost use Rattle.dap_phase.specs.Runs.{with_waiting};
 
 use dbg_plan::{Debuggee, Mode, Plan, same_plan};
-use dbg_runner::{StoppedDebuggee, Order, Report, goes_back};
+use dbg_runner::{Order, Report, StoppedDebuggee, goes_back};
 use pl0_code::code_laws;
 use pl0_unit::Unit;
 use std::alloc::AllocError;
@@ -63,7 +63,11 @@ impl Run {
     /// # Errors
     ///
     /// An allocation failed. The debuggee is dropped then.
-    pub fn begin(number: u64, debuggee: StoppedDebuggee, mode: Mode) -> Result<(Run, Order), AllocError>
+    pub fn begin(
+        number: u64,
+        debuggee: StoppedDebuggee,
+        mode: Mode,
+    ) -> Result<(Run, Order), AllocError>
         ensures run { IfOk result (λ r. r.0 ≡ begun debuggee mode) }
         ensures order { IfOk result (λ r. plain_order r.1 ≡ Go (heading number debuggee mode)) }
     {

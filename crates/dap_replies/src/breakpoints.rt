@@ -22,7 +22,7 @@ use dap_msg::{
 };
 use dap_phase::{Phase, Run, Target, Unstarted};
 use dbg_plan::{Plan, Resolution, SourceBreakpoint as AskedLine, resolve};
-use dbg_runner::{StoppedDebuggee, Order};
+use dbg_runner::{Order, StoppedDebuggee};
 use pl0_unit::Unit;
 use std::alloc::{AllocError, Global};
 use std::sync::Arc;

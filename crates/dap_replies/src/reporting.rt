@@ -20,7 +20,7 @@ use dap_history::reading_laws;
 use dap_msg::{EventBody, Exception, Items, StopReason};
 use dap_phase::{Phase, Run, Target};
 use dbg_plan::Reason;
-use dbg_runner::{StoppedDebuggee, Report, SliceOutcome};
+use dbg_runner::{Report, SliceOutcome, StoppedDebuggee};
 use pl0_meaning::RunFault;
 use std::alloc::{AllocError, Global};
 

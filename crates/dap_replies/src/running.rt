@@ -106,7 +106,11 @@ fn first_mode(target: &Target) -> Mode
 }
 
 /// Returns what breakpoints of a debuggee logged, as events.
-fn logged(alloc: Global, debuggee: &StoppedDebuggee, logs: &Logs) -> Result<Vec<EventBody>, AllocError>
+fn logged(
+    alloc: Global,
+    debuggee: &StoppedDebuggee,
+    logs: &Logs,
+) -> Result<Vec<EventBody>, AllocError>
     ensures { IfOk result (λ events. events.items ≡ told_logs debuggee.now.breakpoints logs.now) }
 {
     let mut events = Vec::new(alloc);
@@ -159,7 +163,13 @@ pub(crate) fn resume(
             Ok(refuse(alloc, phase, Refusal::NotStopped))
         }
         Phase::Stopped(target, debuggee) => go_on(alloc, target, debuggee, resume_kind, asked),
-        Phase::Faulted(target, debuggee) => end_faulted(alloc, target, debuggee, resume_kind, asked),
+        Phase::Faulted(target, debuggee) => end_faulted(
+            alloc,
+            target,
+            debuggee,
+            resume_kind,
+            asked,
+        ),
         phase => Ok(refuse(alloc, phase, Refusal::WrongPhase)),
     }
 }
@@ -202,7 +212,12 @@ fn end_faulted(
 }
 
 /// Returns the reply with this answer, after which the program, which faulted, has ended.
-fn end(alloc: Global, target: Target, debuggee: StoppedDebuggee, body: Body) -> Result<Reply, AllocError>
+fn end(
+    alloc: Global,
+    target: Target,
+    debuggee: StoppedDebuggee,
+    body: Body,
+) -> Result<Reply, AllocError>
     ensures { IfOk result (HasEnded target debuggee.unit body) }
 {
     let unit = Arc::try_clone(debuggee.debuggee().machine().unit())?;

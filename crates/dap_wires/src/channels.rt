@@ -4,7 +4,7 @@ ghost use Rattle.std.specs.Prelude.{◌≡◌, ◌<◌, true, false, [], IfOk, I
 ghost use Rattle.dap_wires.specs.Delivery.{log, put, took, May, of_first, of_second};
 ghost use Rattle.dap_wires.specs.Ends.{sender_log, receiver_log, receive_log, sender_queue, receiver_queue, receive_log_queue, sender_room, receiver_room};
 
-use crate::ends::{ReceiveLog, ReceiveEnd, SendEnd};
+use crate::ends::{ReceiveEnd, ReceiveLog, SendEnd};
 use crate::rule::{First, Puts, Second, Sent, Takes, Whole};
 use crossbeam_channel::{SendError, bounded_with};
 use std::alloc::{AllocError, Global};

@@ -10,7 +10,7 @@ ghost use Rattle.dap_wires.specs.Ends.{sender_log, receiver_log, receive_log, se
 ghost use Rattle.dap_wires.specs.Senders.{events_in, are_quiet};
 
 use crate::arrival::Arrival;
-use crate::ends::{ReceiveLog, ReceiveEnd, SendEnd};
+use crate::ends::{ReceiveEnd, ReceiveLog, SendEnd};
 use dap_session::Event;
 use dbg_runner::{GhostList, Report};
 use std::alloc::Global;

@@ -7,8 +7,8 @@ ghost use Rattle.dbg_runner.specs.PlainCode.{order_code, report_code};
 ghost use Rattle.dbg_runner.specs.NotedActs.{acts_of};
 ghost use Rattle.dbg_runner.specs.Queues.{order_in, sent_in, handed_back_in, passed_in};
 
-use crate::noted_act::NotedAct;
 use crate::ghost_list::GhostList;
+use crate::noted_act::NotedAct;
 use crate::order::Order;
 use crate::ports::Ports;
 use crate::queues::{Gate, OrdersIn, Reports};
