@@ -1,8 +1,8 @@
--- What inputs and outputs say of themselves, and what a write leaves.
+-- Defines what is known of an input and of an output, and what holds after bytes were written.
 use Rattle.std.specs.Prelude.{◌++◌, ◌≡◌, ◌⊎◌, ◌<◌, ℕ, List, Option}
 use Rattle.std.specs.Io.KnownBytes.{Appends}
 
--- What an input says: the bytes left to read, where they are known, and how often reading failed.
+-- What is known of an input: the bytes left to read, where they are known, and how many reads failed.
 pub record Supply : Type 0 where
   pub left : Option (List ℕ)
   pub failures : ℕ
@@ -10,7 +10,7 @@ pub record Supply : Type 0 where
 abbrev pub supply : Option (List ℕ) → ℕ → Supply
 supply left failures = record { left = left; failures = failures }
 
--- What an output says: the bytes written so far, where they are known, and how often writing failed.
+-- What is known of an output: the bytes written so far, where they are known, and how many writes failed.
 pub record Output : Type 0 where
   pub written : Option (List ℕ)
   pub failures : ℕ
@@ -18,18 +18,18 @@ pub record Output : Type 0 where
 abbrev pub output : Option (List ℕ) → ℕ → Output
 output written failures = record { written = written; failures = failures }
 
--- A beginning of the bytes was written.
+-- A prefix of the bytes was written.
 abbrev pub AppendsPart : Option (List ℕ) → Option (List ℕ) → List ℕ → Type 0
 AppendsPart written later bytes = (part : List ℕ) × Appends written later part × ((rest : List ℕ) × (part ++ rest ≡ bytes))
 
--- the bytes were written once, whole
+-- All bytes were written, once.
 abbrev pub WritesAll : List ℕ → Output → Output → Type 0
 WritesAll bytes before after = Appends before.written after.written bytes × (after.failures ≡ before.failures)
 
--- the output failed after a beginning of the bytes
+-- A prefix of the bytes was written, and then the output failed.
 abbrev pub FailsIn : List ℕ → Output → Output → Type 0
 FailsIn bytes before after = AppendsPart before.written after.written bytes × (before.failures < after.failures)
 
--- the bytes were written once, or the output failed after a beginning of them
+-- All bytes were written, once; or a prefix of them, and then the output failed.
 abbrev pub Says : List ℕ → Output → Output → Type 0
 Says bytes before after = WritesAll bytes before after ⊎ FailsIn bytes before after

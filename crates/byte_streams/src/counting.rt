@@ -4,7 +4,7 @@ ghost use Rattle.std.specs.Prelude.{◌≡◌, ◌+◌};
 
 use std::sync::Wait;
 
-/// One more. It waits for good where no count is left.
+/// Returns `count + 1`. Blocks forever where that doesn't fit 64 bits.
 pub fn next_count(rt: &impl Wait, count: u64) -> u64
     ensures { result ≡ count + 1 }
 {

@@ -1,4 +1,4 @@
-//! Bytes in and bytes out.
+//! Sources and sinks of bytes, and one of each over std's `Read` and `Write`.
 ghost use Rattle.std.specs.Prelude.{◌≡◌, ◌≢◌, ◌+◌};
 
 use crate::counting::next_count;
@@ -8,8 +8,9 @@ use std::sync::Wait;
 /// Why a read or a write did nothing.
 #[derive(Clone, Copy)]
 pub enum IoFault {
+    /// It failed. The source or the sink counts this.
     Failed,
-    /// Nothing happened: it may be tried again.
+    /// It was interrupted before anything happened, and may be tried again.
     Interrupted,
 }
 
@@ -22,10 +23,15 @@ pub trait Source {
     /// The bytes that are left to read, where they are known.
     ghost left: { Self → Option (List ℕ) };
 
-    /// How often a read failed.
+    /// How many reads failed.
     ghost failures: { Self → ℕ };
 
-    /// Reads some bytes to the front of `room`, and says how many: none only at the end, or with no room.
+    /// Reads some bytes into the front of `room`, and returns how many. It returns 0 only at the end, or where `room` is
+    /// empty.
+    ///
+    /// # Errors
+    ///
+    /// `Failed` and `Interrupted`: no byte was read.
     fn read(&mut self, room: &mut [u8]) -> Result<usize, IoFault>
         ensures within { IfOk result (λ n. n ≤ length room.old) }
         ensures bytes { ReadConsumes (left self.old) (left self.new) result room.new }
@@ -43,10 +49,14 @@ pub trait Sink {
     /// The bytes written so far, where they are known.
     ghost written: { Self → Option (List ℕ) };
 
-    /// How often a write failed; one that takes nothing of some bytes is such a failure.
+    /// How many writes failed. A write that takes none of one or more bytes is one of them.
     ghost failures: { Self → ℕ };
 
-    /// Writes the front of `bytes`, and says how many of them.
+    /// Writes a prefix of `bytes`, and returns its length.
+    ///
+    /// # Errors
+    ///
+    /// `Failed` and `Interrupted`: no byte was written.
     fn write(&mut self, bytes: &[u8]) -> Result<usize, IoFault>
         ensures within { IfOk result (λ n. n ≤ length bytes.now) }
         ensures bytes { WriteAppends (written self.old) (written self.new) result bytes.now }
@@ -56,7 +66,7 @@ pub trait Sink {
         ensures interrupted { result ≡ Err Interrupted → failures self.new ≡ failures self.old };
 }
 
-/// A source over std's `Read`. It waits for good where a failure could not be counted any more.
+/// A source over std's `Read`. It blocks forever where one more failure can't be counted in 64 bits.
 #[derive(Drop)]
 pub struct Reading<'a, R: Wait, I: Read + Drop> {
     rt: &'a R,
@@ -65,7 +75,7 @@ pub struct Reading<'a, R: Wait, I: Read + Drop> {
 }
 
 impl<'a, R: Wait, I: Read + Drop> Reading<'a, R, I> {
-    /// A source of which no read failed yet.
+    /// A source of which no read has failed yet.
     pub fn new(rt: &'a R, inner: I) -> Reading<'a, R, I>
         ensures inner { result.inner ≡ inner }
         ensures failures { result.failures ≡ 0 }
@@ -95,8 +105,8 @@ impl<R: Wait, I: Read + Drop> Source for Reading<'_, R, I> {
     }
 }
 
-/// A sink over std's `Write`. It doesn't flush: standard output has no buffer of its own here. It waits for good where a
-/// failure could not be counted any more.
+/// A sink over std's `Write`. It doesn't flush: standard output has no buffer of its own here. It blocks forever where one
+/// more failure can't be counted in 64 bits.
 #[derive(Drop)]
 pub struct Writing<'a, R: Wait, O: Write + Drop> {
     rt: &'a R,
@@ -105,7 +115,7 @@ pub struct Writing<'a, R: Wait, O: Write + Drop> {
 }
 
 impl<'a, R: Wait, O: Write + Drop> Writing<'a, R, O> {
-    /// A sink of which no write failed yet.
+    /// A sink of which no write has failed yet.
     pub fn new(rt: &'a R, inner: O) -> Writing<'a, R, O>
         ensures inner { result.inner ≡ inner }
         ensures failures { result.failures ≡ 0 }
@@ -143,7 +153,7 @@ ghost use Rattle.std.specs.IoError.{error_kind};
 ghost use Rattle.std.specs.declared.io.ErrorKind.TheVariants as kind;
 ghost use Rattle.byte_streams.specs.declared.streams.IoFault.TheVariants.{Failed, Interrupted};
 
-/// The fault that an error of std is: an interruption exactly where that is its kind.
+/// Returns `Interrupted` for an error of that kind, and `Failed` for all others.
 fn io_fault(error: &io::Error) -> IoFault
     ensures interrupted { result ≡ Interrupted → error_kind error.now ≡ kind.Interrupted }
     ensures failed { result ≡ Failed → error_kind error.now ≢ kind.Interrupted }
@@ -154,7 +164,8 @@ fn io_fault(error: &io::Error) -> IoFault
     }
 }
 
-/// The count of failures after this fault.
+/// Returns the count of failures after this fault: one more after `Failed`, and the same after `Interrupted`. Blocks
+/// forever where one more doesn't fit 64 bits.
 fn counted(rt: &impl Wait, fault: IoFault, failures: u64) -> u64
     ensures failed { fault ≡ Failed → result ≡ failures + 1 }
     ensures interrupted { fault ≡ Interrupted → result ≡ failures }

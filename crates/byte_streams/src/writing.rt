@@ -1,4 +1,4 @@
-//! Bytes written whole.
+//! Writing all of some bytes to a sink.
 ghost use Rattle.std.specs.Prelude.{◌≡◌, ◌<◌, map, MatchBool};
 ghost use Rattle.std.specs.List.{concat};
 ghost use Rattle.std.specs.Io.KnownBytes.{Appends};
@@ -7,7 +7,7 @@ ghost use Rattle.byte_streams.specs.Streams.{AppendsPart, Says, output as output
 use crate::streams::{IoFault, Sink};
 use std::sync::Wait;
 
-/// Writes texts one after another. Where the output fails, a beginning of them was written, and the others are dropped.
+/// Writes texts one after another. Where the output fails, a prefix of their bytes was written, and the rest is dropped.
 pub fn say<O: Sink>(rt: &impl Wait, output: &mut O, texts: &[&str])
     ensures { Says (concat (map (λ text. text.now) texts.entry.now))
         (output_at (O.written output.old) (O.failures output.old))
@@ -20,7 +20,8 @@ pub fn say<O: Sink>(rt: &impl Wait, output: &mut O, texts: &[&str])
     }
 }
 
-/// Writes all bytes, or a beginning of them where the output fails. An interrupted write is tried again.
+/// Writes all bytes and returns `true`, or writes a prefix of them and returns `false` where the output fails. An
+/// interrupted write is tried again.
 pub fn write_all<O: Sink>(rt: &impl Wait, output: &mut O, bytes: &[u8]) -> bool
     ensures written { MatchBool result
         (Appends (O.written output.old) (O.written output.new) bytes.now)

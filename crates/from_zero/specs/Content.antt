@@ -1,6 +1,7 @@
--- One content renumbered: JSON (RFC 8259) by the definitions of the kit's `json`, over which `serde_json` and so `dap_msg` read.
--- The Debug Adapter Protocol's base protocol: "seq: Sequence number of the message (also known as message ID). The `seq` for the
--- first message sent by a client or debug adapter is 1, and for each subsequent message is 1 greater than the previous".
+-- Defines how one content is renumbered. Its JSON (RFC 8259) is that of the crate `json`, on whose definitions `serde_json`
+-- and so `dap_msg` build. The Debug Adapter Protocol's base protocol: "seq: Sequence number of the message (also known as
+-- message ID). The `seq` for the first message sent by a client or debug adapter is 1, and for each subsequent message is 1
+-- greater than the previous".
 use Rattle.std.specs.Prelude.{◌≡◌, ℕ, ◌+◌, ◌-◌, ◌^◌, ◌||◌, Bool, false, nat_lt, List, codes, decimal, if◌then◌else◌, Option, None, Some, option_map, option_and_then}
 use Rattle.std.specs.Option.{option_map_or, is_some}
 use Rattle.std.specs.Str.{IsUtf8, bytes_eq, is_utf8}
@@ -19,18 +20,19 @@ use Rattle.from_zero.specs.declared.change.Change.TheVariants.{RaiseSeq, LowerRe
 abbrev pub whole_of : List ℕ → Option ℕ
 whole_of text = option_and_then as_u64 (number_of text)
 
--- the member that changes
+-- the key of the member that changes
 abbrev pub key_of : Change → List ℕ
 key_of RaiseSeq = codes "seq"
 key_of LowerRequestSeq = codes "request_seq"
 
--- one more, or one less, where that fits 64 bits too
+-- the number plus one, or minus one, where that is a number of 64 bits too
 abbrev pub next_to : Change → ℕ → Option ℕ
 next_to RaiseSeq n = if nat_lt (n + 1) (2 ^ 64) then Some (n + 1) else None
 next_to LowerRequestSeq n = if nat_lt 0 n then Some (n - 1) else None
 
 -- ---- members
 
+-- the whole number that a value is, if it is one
 abbrev pub whole_in : Json → Option ℕ
 whole_in null = None
 whole_in (boolean b) = None
@@ -43,10 +45,11 @@ whole_in (object ms) = None
 abbrev pub changes_to : Change → List ℕ → Json → Option ℕ
 changes_to change key value = if bytes_eq key (key_of change) then option_and_then (next_to change) (whole_in value) else None
 
+-- the value of this member, with its number changed where it does
 abbrev pub changed : Change → List ℕ → Json → Json
 changed change key value = option_map_or (λ n. number (decimal n)) (changes_to change key value) value
 
--- the members with that number changed, also where the key comes twice
+-- the members with that number changed, in each place where the key stands
 abbrev pub changed_members : Change → Members → Members
 changed_members change no_members = no_members
 changed_members change (member key value ms) = member key (changed change key value) (changed_members change ms)
@@ -63,6 +66,7 @@ abbrev pub renumbered_members : Change → Members → Option (List ℕ)
 renumbered_members change ms =
     if any_changes change ms then Some (print (json_tokens (object (changed_members change ms)))) else None
 
+-- the same of a value, which must be an object to change
 abbrev pub renumbered_value : Change → Json → Option (List ℕ)
 renumbered_value change null = None
 renumbered_value change (boolean b) = None
@@ -79,7 +83,7 @@ value_of content = if is_utf8 content then document content else None
 abbrev pub new_content : Change → List ℕ → Option (List ℕ)
 new_content change content = option_and_then (renumbered_value change) (value_of content)
 
--- and else as it is, byte for byte
+-- the content renumbered, or as it is, byte for byte, where nothing in it changes
 abbrev pub renumbered : Change → List ℕ → List ℕ
 renumbered change content = option_map_or (λ new. new) (new_content change content) content
 
@@ -90,11 +94,13 @@ HasNumberChanged change content new =
 
 -- ---- as `serde_json` reads it, and so `dap_msg`
 
+-- a number after the change
 abbrev pub changed_num : Change → read_as.Num → read_as.Num
 changed_num change (read_as.unsigned n) = option_map_or read_as.unsigned (next_to change n) (read_as.unsigned n)
 changed_num change (read_as.negative z) = read_as.negative z
 changed_num change (read_as.float x) = read_as.float x
 
+-- a value after the change, which only a number takes part in
 abbrev pub changed_data : Change → read_as.Data → read_as.Data
 changed_data change read_as.null = read_as.null
 changed_data change (read_as.boolean b) = read_as.boolean b
@@ -103,11 +109,11 @@ changed_data change (read_as.string text) = read_as.string text
 changed_data change (read_as.array ds) = read_as.array ds
 changed_data change (read_as.object ms) = read_as.object ms
 
--- what a member of this key is then
+-- what is found under this key after the change
 abbrev pub changed_at : Change → List ℕ → Option read_as.Data → Option read_as.Data
 changed_at change key found = if bytes_eq key (key_of change) then option_map (changed_data change) found else found
 
--- The new content is read where the old one is, as a value of the same members, but for the one that changes.
+-- Where the old content is read, the new one is read too, as a value with the same members but for the one that changes.
 abbrev pub IsReadChanged : Change → List ℕ → List ℕ → Type 0
 IsReadChanged change content new =
     (d : read_as.Data) → IsUtf8 content → read content ≡ Some d → (e : read_as.Data) × (read new ≡ Some e)

@@ -1,4 +1,4 @@
--- A stream renumbered: frame by frame, and as it is from the first place where no frame stands.
+-- Defines a stream renumbered: frame by frame, and as it is from the first place where no frame stands.
 use Rattle.std.specs.Prelude.{ℕ, zero, suc, List, ◌++◌, length}
 use Rattle.std.proofs.Common.{inl, inr}
 use Rattle.dap_frame.specs.Frame.{frame_of}
@@ -12,12 +12,12 @@ abbrev pub by_front : (bytes : List ℕ) → IsOneOfThree bytes → (List ℕ �
 by_front bytes (inl frame) go = go frame.0 frame.1
 by_front bytes (inr other) go = bytes
 
--- at most so many frames
+-- the stream with at most n frames renumbered, the first ones
 unfoldable pub renumbered_frames : ℕ → Change → List ℕ → List ℕ
 renumbered_frames zero change bytes = bytes
 renumbered_frames (suc n) change bytes =
     by_front bytes (decide bytes) (λ content rest. frame_of (renumbered change content) ++ renumbered_frames n change rest)
 
--- a stream has fewer frames than bytes
+-- the stream with all frames renumbered, of which it has fewer than bytes
 unfoldable pub renumbered_stream : Change → List ℕ → List ℕ
 renumbered_stream change bytes = renumbered_frames (length bytes) change bytes

@@ -1,4 +1,4 @@
-//! One content renumbered.
+//! Renumbering one content, which is a message without its frame.
 ghost use Rattle.std.specs.Prelude.{◌≡◌, ◌==◌, slice_index, IfSome, ◌+◌, ◌-◌, IfOk, OnOk, IfErr, map, option_map};
 ghost use Rattle.json.specs.Json.{object};
 ghost use Rattle.json.specs.Tree.{json_tokens, HasNumbers, MembersHaveNumbers};
@@ -13,11 +13,11 @@ use fast_float::Numeral;
 use json::{Error, Scratch, Value, Writer};
 use std::alloc::{AllocError, Global};
 
-/// The content renumbered, or `None` where nothing in it changes: it stays as it is then, byte for byte.
+/// Returns the content renumbered, or `None` where nothing in it changes: then it stays as it is, byte for byte.
 ///
 /// # Errors
 ///
-/// `AllocError` alone, where an allocation failed.
+/// `AllocError`, where an allocation failed.
 pub fn renumber(
     alloc: Global,
     change: Change,
@@ -26,7 +26,7 @@ pub fn renumber(
     ensures content { IfOk result (λ new. option_map (λ v. v.items) new ≡ new_content change content.now) }
     // It is the same object with the number changed.
     ensures reads_back { IfOk result (λ new. IfSome new (λ v. HasNumberChanged change content.now v.items)) }
-    // So it is for `serde_json`, which `dap_msg` reads by.
+    // `serde_json`, with which `dap_msg` reads, reads the new content as the old one but for that number.
     ensures read { OnOk result (IsReadChanged change content.now (renumbered change content.now)) }
 {
     let mut scratch = Scratch::new(alloc);
@@ -37,7 +37,7 @@ pub fn renumber(
     }
 }
 
-/// The text of this value with the number changed, or `None` where none changes.
+/// Returns the text of this value with the number changed, or `None` where no number changes.
 fn renumber_value(
     alloc: Global,
     change: Change,
@@ -52,7 +52,7 @@ fn renumber_value(
     }
 }
 
-/// The text of these members with the number changed, or `None` where none changes.
+/// Returns the text of these members with the number changed, or `None` where no number changes.
 fn renumber_members(
     alloc: Global,
     change: Change,
@@ -69,6 +69,7 @@ fn renumber_members(
     Ok(Some(out.into_inner()))
 }
 
+/// Whether any member changes.
 fn any_changes(change: Change, members: &Vec<(&str, Value)>) -> bool
     ensures { result ≡ any_changes change (members_view members.now.items) }
 {
@@ -96,6 +97,7 @@ fn write_members(
     out.end_object()
 }
 
+/// Writes one member, with its number changed where it does.
 fn write_member(
     out: &mut Writer,
     change: Change,
@@ -112,7 +114,7 @@ fn write_member(
     }
 }
 
-/// The number to which this member's value changes, if it does.
+/// Returns the number to which this member's value changes, if it does.
 fn changes_to(change: Change, key: &str, value: &Value) -> Option<u64>
     ensures { result ≡ changes_to change key.now (value_view value.now) }
 {
@@ -123,7 +125,7 @@ fn changes_to(change: Change, key: &str, value: &Value) -> Option<u64>
     next_to(change, whole_of(text)?)
 }
 
-/// The member that changes.
+/// The key of the member that changes.
 fn name(change: Change) -> &'static str
     ensures { result.now ≡ key_of change }
 {
@@ -133,7 +135,7 @@ fn name(change: Change) -> &'static str
     }
 }
 
-/// One more, or one less, where that fits.
+/// Returns the number plus one, or minus one; `None` where that is below 0 or doesn't fit 64 bits.
 fn next_to(change: Change, number: u64) -> Option<u64>
     ensures { result ≡ next_to change number }
 {
@@ -143,7 +145,8 @@ fn next_to(change: Change, number: u64) -> Option<u64>
     }
 }
 
-/// The whole number that a number's text is, if it is one and fits.
+/// Returns the whole number that a number's text stands for; `None` where the text has a minus sign, a fraction or an
+/// exponent, or the number doesn't fit 64 bits.
 fn whole_of(text: &str) -> Option<u64>
     ensures { result ≡ whole_of text.now }
 {
@@ -154,6 +157,7 @@ fn whole_of(text: &str) -> Option<u64>
     Numeral::scan(bytes).to_u64()
 }
 
+/// Whether the first byte is a minus sign.
 fn has_minus(bytes: &[u8]) -> bool
     ensures { result ≡ (slice_index bytes.now 0 == 45) }
 {

@@ -1,4 +1,4 @@
-//! Histories that take no memory.
+//! Lists that only proofs read, and that take no memory.
 
 ghost use Rattle.std.specs.Prelude.{◌≡◌, List, [], ◌∷◌, ◌++◌};
 ghost use Rattle.std.specs.Borrow.{ftrue};
@@ -16,18 +16,18 @@ impl<T> Model for GhostList<T> {
     ghost also_owns = { λ _. ftrue };
 }
 
-// It has no value of `T`.
+// It holds no value of `T`.
 unsafe impl<T> Send for GhostList<T> {}
 
 impl<T> GhostList<T> {
-    /// The empty history.
+    /// The empty list.
     pub fn new() -> GhostList<T>
         ensures { result.entries ≡ [] }
     {
         GhostList { of: PhantomData }
     }
 
-    /// This history with one entry more, the value that is shown.
+    /// Returns this list with the value of `entry` after its last entry.
     pub fn and(&self, entry: &T) -> GhostList<T>
         ensures { result.entries ≡ self.now.entries ++ entry.now ∷ [] }
     {

@@ -1,8 +1,8 @@
+//! The laws of renumbered streams.
+
 ghost use Rattle.from_zero.specs.Laws.{FramesAreRenumbered, OthersStay};
 
-/// What a renumbered stream is.
-///
-/// Does nothing: its contract is the laws.
+/// Says what a renumbered stream is, in two equations. It does nothing: its contract is the laws.
 pub fn renumbering_laws()
     ensures frames { FramesAreRenumbered }
     ensures others { OthersStay }

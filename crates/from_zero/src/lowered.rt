@@ -1,4 +1,4 @@
-//! The client's output.
+//! The client's output: a sink that renumbers what the session writes.
 ghost use Rattle.std.specs.Prelude.{◌≡◌, ◌+◌, [], ℕ, List, Option, Some, false};
 ghost use Rattle.from_zero.specs.Lowering.{Written, IsLowered, Passes};
 
@@ -12,9 +12,10 @@ use std::marker::Model;
 use std::snapshot::Snapshot;
 use std::sync::Wait;
 
-/// A sink whose bytes go to another, with the `request_seq` of each content one less.
+/// A sink that writes its bytes to another one, with the `request_seq` of each content one less.
 ///
-/// It takes a byte at a time, and holds a frame until it is whole. After a write that failed, all later ones fail.
+/// It takes one byte per write, and holds the bytes of a frame until the frame is whole. After a write that failed, all
+/// later ones fail.
 #[derive(Drop)]
 pub struct Lowered<'a, R: Wait, O: Sink + Drop> {
     rt: &'a R,
@@ -22,9 +23,9 @@ pub struct Lowered<'a, R: Wait, O: Sink + Drop> {
     inner: O,
     stream: Renumberer,
     is_failed: bool,
-    // Writes that failed because memory ran out, or after another that failed.
+    // How many writes failed because memory ran out, or after another that failed.
     failures: u64,
-    // The other sink at first.
+    // The other sink as it was when this one was made.
     begun: Snapshot<O>,
     // All that was written to this one.
     session: GhostList<u8>,
@@ -50,7 +51,7 @@ impl<'a, R: Wait, O: Sink + Drop> Model for Lowered<'a, R, O> {
 }
 
 impl<'a, R: Wait, O: Sink + Drop> Lowered<'a, R, O> {
-    /// A sink over one to which nothing was written of a frame that is not whole.
+    /// A sink over another one, to which only whole frames were written so far.
     pub fn new(rt: &'a R, alloc: Global, inner: O) -> Lowered<'a, R, O>
         ensures begun { result.begun ≡ O.written inner }
         ensures session { result.session ≡ [] }
@@ -71,8 +72,8 @@ impl<'a, R: Wait, O: Sink + Drop> Lowered<'a, R, O> {
         }
     }
 
-    /// The other sink. To it was written what was written to this one, renumbered, but for a frame that is not whole; or a
-    /// prefix of that, where a write failed.
+    /// Returns the other sink. What was written to this one was written to it, renumbered, but for a frame that is not
+    /// whole. Where a write failed, only a prefix was, which may reach into what the failed write would have added.
     pub fn into_inner(self) -> O
         ensures { Passes self.entry.is_failed self.entry.begun (O.written result) self.entry.session
             self.entry.begun_failures self.entry.failures }

@@ -1,10 +1,12 @@
+//! How a stream goes on.
+
 /// How a stream goes on.
 #[derive(Clone, Copy)]
 pub(crate) enum Mode {
-    /// By frames.
+    /// Frame by frame, each renumbered.
     Framed,
-    /// As it is: its end came, or a fault stands where a frame should.
+    /// As it is, since it has ended, or a fault stands where a frame should.
     Raw,
-    /// Not at all: memory ran out.
+    /// Not at all, since memory ran out.
     Broken,
 }

@@ -1,4 +1,4 @@
-//! A piece of a source that is not yet taken.
+//! The piece of a source that was read last, from which bytes are taken one by one.
 ghost use Rattle.std.specs.Prelude.{◌≡◌, ◌+◌, ◌-◌, ◌<◌, ◌≤◌, ◌∷◌, [], ℕ, List, length, take, drop, None, MatchOption, IfOk, OnOk, OnErr, Err, MatchResult};
 ghost use Rattle.std.specs.Io.KnownBytes.{Consumes, IsAtEnd, Keeps};
 ghost use Rattle.from_zero.specs.Passing.{Fills};
@@ -6,7 +6,7 @@ ghost use Rattle.from_zero.specs.Passing.{Fills};
 use byte_streams::{IoFault, Source};
 use std::marker::Model;
 
-/// The most bytes of a piece.
+/// The largest length of a piece, in bytes.
 const PIECE_LIMIT: usize = 4096;
 
 /// The bytes of a piece that are not yet taken.
@@ -28,6 +28,7 @@ impl Model for Piece {
 }
 
 impl Piece {
+    /// A piece with no bytes.
     pub(crate) fn new() -> Piece
         ensures { result ≡ [] }
     {
@@ -38,7 +39,7 @@ impl Piece {
         }
     }
 
-    /// The first byte.
+    /// Returns the first byte, or `None` where none is left.
     pub(crate) fn first(&self) -> Option<u8>
         ensures { MatchOption result (self.now ≡ []) (λ byte. self.now ≡ byte ∷ drop 1 self.now) }
     {
@@ -57,7 +58,11 @@ impl Piece {
         self.front += 1;
     }
 
-    /// Reads the next piece. It is empty at the end of the source alone.
+    /// Reads the next piece, after all bytes of the last were taken. It is empty only at the end of the source.
+    ///
+    /// # Errors
+    ///
+    /// The error of the source. Nothing was read, and the piece stays empty.
     pub(crate) fn fill<I: Source>(&mut self, source: &mut I) -> Result<(), IoFault>
         requires { self.old ≡ [] }
         ensures read { Fills result (I.left source.old) (I.left source.new) self.new }

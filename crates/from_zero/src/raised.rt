@@ -1,4 +1,4 @@
-//! The client's input.
+//! The client's input: a source that renumbers what the client sent.
 ghost use Rattle.std.specs.Prelude.{◌≡◌, ◌+◌, ◌<◌, ◌∷◌, [], ℕ, List, Option, option_map, drop, true, Ok, Err, OnOk};
 ghost use Rattle.std.specs.Io.KnownBytes.{IsAtEnd, Keeps};
 ghost use Rattle.byte_streams.specs.declared.streams.IoFault.TheVariants.{Failed, Interrupted};
@@ -16,27 +16,28 @@ use std::collections::VecDeque;
 use std::io::Read;
 use std::sync::Wait;
 
-/// A source whose bytes are those of another, with the `seq` of each content one more.
+/// A source of the bytes of another one, with the `seq` of each content one more.
 ///
-/// A fault of the framing, with all after it, and the prefix of a frame at the end come as they are. Where memory runs out
-/// a read fails, and so do all after it.
+/// The bytes from a framing fault on, and the prefix of a frame at the end, stay as they are. Where memory runs out a read
+/// fails, and what is left to read stays the same; later reads may fail again.
 #[derive(Drop)]
 pub struct Raised<'a, R: Wait, I: Source + Drop> {
     rt: &'a R,
     alloc: Global,
     inner: I,
-    // What was read and not yet renumbered.
+    // What was read and is not renumbered yet.
     piece: Piece,
     stream: Renumberer,
+    // What is renumbered and was not returned yet.
     ready: VecDeque<u8>,
-    // Reads that failed because memory ran out.
+    // How many reads failed because memory ran out.
     failures: u64,
 }
 
 impl<'a, R: Wait, I: Source + Drop> Raised<'a, R, I> {
-    /// A source over one that is at the start of a stream.
+    /// A source over another one, which stands at the start of a stream.
     pub fn new(rt: &'a R, alloc: Global, inner: I) -> Raised<'a, R, I>
-        // What is left to read is what is left of that one, renumbered.
+        // What is left to read is what is left of the other one, renumbered.
         ensures left { left_to_read result.ready.items result.stream result.piece (I.left result.inner)
             ≡ option_map (renumbered_stream RaiseSeq) (I.left inner) }
         ensures failures { I.failures result.inner + result.failures ≡ I.failures inner }
@@ -52,7 +53,7 @@ impl<'a, R: Wait, I: Source + Drop> Raised<'a, R, I> {
         }
     }
 
-    /// Takes the next byte, or reads the next piece where none is left of the last. Returns whether the source ended.
+    /// Takes the next byte, or reads the next piece where no byte is left of the last. Returns whether the source ended.
     fn go_on(&mut self) -> Result<bool, IoFault>
         requires { self.old.ready.items ≡ [] }
         ensures left { Keeps (left_to_read self.old.ready.items self.old.stream self.old.piece (I.left self.old.inner))
@@ -74,7 +75,7 @@ impl<'a, R: Wait, I: Source + Drop> Raised<'a, R, I> {
         }
     }
 
-    /// Takes the first byte of the piece.
+    /// Takes the first byte of the piece, and makes ready what it completes.
     fn take(&mut self, byte: u8) -> Result<(), IoFault>
         requires ready { self.old.ready.items ≡ [] }
         requires first { self.old.piece ≡ byte ∷ drop 1 self.old.piece }
@@ -95,7 +96,7 @@ impl<'a, R: Wait, I: Source + Drop> Raised<'a, R, I> {
         Ok(())
     }
 
-    /// Reads the next piece, or ends the stream at the end. Returns whether it ended.
+    /// Reads the next piece, or ends the stream at the end of the source. Returns whether it ended.
     fn fill(&mut self) -> Result<bool, IoFault>
         requires ready { self.old.ready.items ≡ [] }
         requires piece { self.old.piece ≡ [] }

@@ -1,4 +1,4 @@
-//! A stream renumbered as its bytes come.
+//! Renumbering a stream byte by byte.
 ghost use Rattle.std.specs.Prelude.{◌≡◌, ◌≢◌, MatchBool, ◌++◌, ◌∷◌, [], ℕ, List, true, None, OnOk, OnErr, IfOk};
 ghost use Rattle.dap_frame.specs.declared.fault.FramingFault.TheVariants.{NoMemory};
 ghost use Rattle.dap_frame.specs.Frame.{IsOpen, frame_of};
@@ -14,12 +14,12 @@ use dap_frame::{Decoder, FramingFault, encode};
 use std::alloc::{AllocError, Global};
 use std::marker::Model;
 
-/// A stream of which each frame is renumbered.
+/// The state of a stream in which each frame is renumbered.
 #[derive(Drop)]
 pub(crate) struct Renumberer {
     alloc: Global,
     change: Change,
-    // It has as much of the stream as `held`: a prefix of a frame.
+    // It was fed the bytes of `held`, which are a prefix of a frame.
     decoder: Decoder,
     held: Vec<u8>,
     mode: Mode,
@@ -39,7 +39,7 @@ impl Model for Renumberer {
 impl Renumberer {
     ghost use Rattle.from_zero.specs.declared.mode.Mode.TheVariants.{Framed};
 
-    /// The start of a stream.
+    /// The state at the start of a stream.
     pub(crate) fn new(alloc: Global, change: Change) -> Renumberer
         ensures { result ≡ record { change = change; held = []; mode = Framed } }
     {
@@ -62,11 +62,12 @@ impl Renumberer {
         }
     }
 
-    /// Takes the next byte, and appends to `out` what then comes out.
+    /// Takes the next byte, and appends to `out` the renumbered bytes that it completes, if any.
     ///
     /// # Errors
     ///
-    /// `AllocError` where memory ran out: the byte is not taken, and no later one is, unless the rest passes as it is.
+    /// `AllocError`, where memory ran out. The byte was not taken, and no later one will be, unless the rest of the stream
+    /// passes as it is.
     pub(crate) fn take(&mut self, byte: u8, out: &mut Vec<u8>) -> Result<(), AllocError>
         ensures ok { OnOk result ((more : List ℕ) → out.old.items ++ coming self.old (byte ∷ more) ≡ out.new.items ++ coming self.new more) }
         ensures unfinished { OnOk result (IsOpen (coming self.new [])) }
@@ -105,7 +106,7 @@ impl Renumberer {
     ///
     /// # Errors
     ///
-    /// `AllocError` where memory ran out: nothing changed.
+    /// `AllocError`, where memory ran out. Nothing has changed.
     pub(crate) fn end(&mut self, out: &mut Vec<u8>) -> Result<(), AllocError>
         ensures ok { OnOk result ((is_raw self.new.mode ≡ true) × (out.old.items ++ coming self.old [] ≡ out.new.items)) }
         ensures err { OnErr result ((out.new.items ≡ out.old.items) × ((more : List ℕ) → coming self.new more ≡ coming self.old more)) }
@@ -123,7 +124,12 @@ impl Renumberer {
     }
 }
 
-/// Goes on by the last byte of those that are held, which the decoder lacks. Returns how the stream goes on.
+/// Feeds the decoder `byte`, the last of the bytes that are held. Appends to `out` the renumbered frame that is whole then,
+/// or all held bytes at a framing fault. Returns how the stream goes on.
+///
+/// # Errors
+///
+/// `AllocError`, where memory ran out. Nothing was appended, and the same bytes are held.
 fn go_on(
     alloc: Global,
     change: Change,
@@ -160,7 +166,7 @@ fn go_on(
     }
 }
 
-/// Feeds one byte.
+/// Feeds the decoder one byte.
 fn feed(decoder: &mut Decoder, byte: u8) -> Result<(), AllocError>
     requires { decoder.old.fault ≡ None }
     ensures { OnOk result (decoder.new ≡ record { rest = decoder.old.rest ++ byte ∷ []; fault = None }) }
@@ -171,16 +177,7 @@ fn feed(decoder: &mut Decoder, byte: u8) -> Result<(), AllocError>
     }
 }
 
-fn is_no_memory(fault: FramingFault) -> bool
-    ensures { MatchBool result (fault ≡ NoMemory) (fault ≢ NoMemory) }
-{
-    match fault {
-        FramingFault::NoMemory => true,
-        _ => false,
-    }
-}
-
-/// Appends the frame of the renumbered content.
+/// Appends to `out` the frame of the renumbered content. On an error nothing is appended.
 fn append_frame(
     alloc: Global,
     change: Change,
@@ -197,5 +194,15 @@ fn append_frame(
     match encoded {
         Ok(()) => Ok(()),
         Err(_) => Err(AllocError),
+    }
+}
+
+/// Whether the fault is that memory ran out.
+fn is_no_memory(fault: FramingFault) -> bool
+    ensures { MatchBool result (fault ≡ NoMemory) (fault ≢ NoMemory) }
+{
+    match fault {
+        FramingFault::NoMemory => true,
+        _ => false,
     }
 }

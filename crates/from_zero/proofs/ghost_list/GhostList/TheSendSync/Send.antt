@@ -1,4 +1,4 @@
--- A history owns nothing, so it may go to another thread.
+-- A ghost list owns nothing, so it may go to another thread.
 use denote.RattleType.{RattleType}
 use denote.Param.Send.{IsSend, owning_send, sendable}
 use Rattle.from_zero.specs.contracts.ghost_list.GhostList.{the_row, the_type}
