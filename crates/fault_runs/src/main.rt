@@ -1,10 +1,11 @@
-//! The program `pl0dap` again, for a stored run that ends in a framing fault: with status 2, and with a last line that isn't on
-//! standard output.
+//! The program `pl0dap` again, for a stored run that ends in a framing fault: with status 2, and with a last line that
+//! isn't on standard output.
 #![tactic(auto)]
 
 use adapter::{Reading, Writing, run};
 use std::process::ExitCode;
 
+/// Does what the `main` of `pl0dap` does.
 fn main(rt: HostRuntime) -> ExitCode {
     let input = &mut Reading::new(&rt, rt.stdin());
     let output = &mut Writing::new(&rt, rt.stdout());
