@@ -1,4 +1,4 @@
--- The command line of the program, and what its arguments ask for.
+-- Defines the command line of the program, and what its arguments ask for.
 use Rattle.std.specs.Prelude.{◌≡◌, ◌≢◌, List, [], ◌∷◌, Option, Some, None, Result, Ok, Err, codes}
 use Rattle.clap.specs.Words.{App, Kinds, Rule, Text, fault_of, first_of, matches_of}
 use Rattle.clap.specs.Words.{new_app, new_rule, with_rule}
@@ -34,7 +34,7 @@ checked_file arguments = first_of (codes "check") (matches_of command_line argum
 abbrev pub Reads : List Text → Option Text → Type 0
 Reads arguments file = (refusals arguments ≡ []) × (checked_file arguments ≡ file)
 
--- what reading the arguments answers; memory can run out at any
+-- what reading the arguments returns; memory can run out for any
 abbrev pub IsParsed : List Text → Result Invocation ArgumentsFault → Type 0
 IsParsed arguments (Ok Serve) = Reads arguments None
 IsParsed arguments (Ok (Check file)) = Reads arguments (Some file.now)

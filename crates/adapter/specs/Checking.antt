@@ -1,4 +1,4 @@
--- How the judging of a program text ends.
+-- Defines how the check of a program text ends.
 use Rattle.std.specs.Prelude.{◌≡◌, ◌⊎◌, ℕ, List, [], ◌∷◌, ◌++◌, Option, Result, Ok, Err}
 use Rattle.pl0_tree.specs.Tree.{Block}
 use Rattle.pl0_tree.specs.Steps.{steps}
@@ -14,7 +14,7 @@ use Rattle.byte_streams.specs.Streams.{Output, WritesAll, FailsIn}
 use Rattle.adapter.specs.declared.checking.CheckFault.{CheckFault}
 use Rattle.adapter.specs.declared.checking.CheckFault.TheVariants.{CannotRead, Syntax, WriteFailed, NoMemory}
 
--- The listing of a program text: of the steps of its program, and of code that belongs to its program.
+-- The text is the listing of a file: of the steps of its program, and of code that belongs to this program.
 pub record IsListingOf (file text : List ℕ) : Type 0 where
   pub main : Block
   pub program : IsTreeOf file main
@@ -24,7 +24,7 @@ pub record IsListingOf (file text : List ℕ) : Type 0 where
   pub coded : ∥ IsUnitOf main code begun table ∥₁
   pub text_is : text ≡ listing_text (steps main) code begun
 
--- the loader was asked once, for this path, and gave this file
+-- The loader was asked once, for this path, and returned this file.
 abbrev pub Gives : List ℕ → List ℕ → List Load → List Load → Type 0
 Gives path file old new = new ≡ old ++ load_of path (Ok file) ∷ []
 

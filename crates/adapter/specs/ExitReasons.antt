@@ -1,4 +1,4 @@
--- How the program ends: its exit status and the last line on standard error.
+-- Defines how the program ends: its exit status and the last line on standard error.
 use Rattle.std.specs.Prelude.{ℕ, List, [], ◌++◌, codes, decimal, Result, Ok, Err}
 use Rattle.dap_frame.specs.declared.fault.FramingFault.{FramingFault}
 use Rattle.dap_frame.specs.declared.fault.FramingFault.TheVariants as frame
@@ -34,6 +34,7 @@ reason_of_session session.OrdersFull = Refused 4
 reason_of_session session.RunnerGone = Refused 5
 reason_of_session session.WriterGone = Refused 6
 
+-- the reason after serving; a thread that can't be started is a refusal too
 abbrev pub reason_of_serve : Result Served ServeFault → ExitReason
 reason_of_serve (Ok served) = Success
 reason_of_serve (Err serve.WriteFailed) = WriteFailed
@@ -55,6 +56,7 @@ reason_of_arguments arguments.Help = Success
 reason_of_arguments arguments.NotUnderstood = NotUnderstood
 reason_of_arguments arguments.NoMemory = NoMemory
 
+-- the exit status
 abbrev pub status_of : ExitReason → ℕ
 status_of Success = 0
 status_of ReadFailed = 1

@@ -1,4 +1,4 @@
--- What the session's thread leaves.
+-- Defines what the session's thread leaves when it ends.
 use Rattle.std.specs.Prelude.{◌≡◌, ◌≢◌, ◌⊎◌, [], false, List, Result}
 use Rattle.dap_history.specs.declared.fault.SessionFault.{SessionFault}
 use Rattle.dap_history.specs.declared.ending.Closed.{Closed}
@@ -9,8 +9,8 @@ use Rattle.dap_session.specs.Serving.{Driven}
 use Rattle.dap_wires.specs.declared.writer_message.WriterMessage.{WriterMessage}
 use Rattle.dap_wires.specs.Parcels.{frames_in, has_end, AreEnded}
 
--- A session was driven over its ends: these messages were put, and these orders pushed. The end was put after the
--- frames, or not at all, and where a frame was refused it was not.
+-- A session was driven over its ends: these messages were put, and these orders pushed. `End` was put after the frames, or
+-- not at all; and where a frame was refused, it was not put.
 pub record Drove (result : Result Closed SessionFault) (given later_given : List Incoming) (loads later_loads : List Load) (old : Ports) (messages : List WriterMessage) (pushed : Ordered) : Type 0 where
   pub later : Ports
   pub driven : Driven result given later_given loads later_loads old later

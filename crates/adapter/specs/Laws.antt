@@ -1,4 +1,4 @@
--- Laws of a whole run: what `Serving` says, in the form in which one looks for it.
+-- States laws of a whole run, which follow from `Serving`, in the form in which a reader looks for them.
 use Rattle.std.specs.Prelude.{◌≡◌, ◌≢◌, ◌⊎◌, ◌++◌, ◌∷◌, [], ℕ, List, Some, Result, Ok, Err}
 use Rattle.std.specs.Io.KnownBytes.{Consumes, IsAtEnd}
 use Rattle.dap_msg.specs.declared.command.Command.TheVariants as command
@@ -82,20 +82,20 @@ RunsEndOnce =
 
 -- ---- Faults of the session
 
--- `serve` never answers that nobody takes frames or orders any more.
+-- `serve` never returns the fault that nobody takes frames or orders any more.
 abbrev pub NobodyIsGone : Type 0
 NobodyIsGone =
     (outcome : Result Served ServeFault) (loads later_loads : List Load) (passed later_passed : List (ℕ × ℕ)) (old later : Streams)
     → IsServed outcome loads later_loads passed later_passed old later
     → (outcome ≢ Err (Session WriterGone)) × (outcome ≢ Err (Session RunnerGone))
 
--- the session gave up since the queue of orders was full, and four of the orders that it pushed had been inside together
+-- The session gave up since the queue of orders was full, and four of the orders that it pushed had been inside together.
 pub record FindsFour (loads later_loads : List Load) (passed later_passed : List (ℕ × ℕ)) (old later : Streams) : Type 0 where
   pub wrote : Result (Unit {0}) WriteFailed
   pub driven : IsDriven wrote (Err OrdersFull) loads later_loads passed later_passed old later
   pub four : FourWereInside driven.sent.orders
 
--- `serve` answers that the queue of orders was full only where four orders were inside together.
+-- `serve` returns the fault that the queue of orders was full only where four orders were inside together.
 abbrev pub FullIsFour : Type 0
 FullIsFour =
     (loads later_loads : List Load) (passed later_passed : List (ℕ × ℕ)) (old later : Streams)

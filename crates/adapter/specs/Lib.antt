@@ -1,11 +1,20 @@
--- what one must believe: cited by the contracts of public functions
+-- What public contracts cite.
+-- What a whole run over an input and an output reads and writes.
 pub mod Serving
+-- The laws of a whole run.
 pub mod Laws
+-- The exit status and the last line on standard error.
 pub mod ExitReasons
+-- What a loader of files was asked for and returned.
 pub mod Loading
+-- What the arguments ask for.
 pub mod Arguments
+-- The text of a listing.
 pub mod Listing
+-- How the check of a program text ends.
 pub mod Checking
+-- What the program does with its arguments, and how it ends.
 pub mod Running
--- inner ones
+-- What private contracts cite.
+-- What the session's thread leaves when it ends.
 pub mod Jobs

@@ -1,4 +1,4 @@
--- The text of a listing: a line for each step of a program, an empty line, and a line for each instruction.
+-- Defines the text of a listing: a line for each step of a program, an empty line, and a line for each instruction.
 use Rattle.std.specs.Prelude.{ℕ, ◌+◌, List, [], ◌∷◌, ◌++◌, codes, decimal, Option, Some, None, slice_get}
 use Rattle.std.specs.Fmt.{signed_decimal}
 use Rattle.pl0_tree.specs.declared.tree.Place.{Place}
@@ -18,6 +18,7 @@ abbrev pub lines_from : {A : Type 0} (line : ℕ → A → List ℕ) (n : ℕ) �
 lines_from line n [] = []
 lines_from line n (x ∷ xs) = line n x ++ lines_from line (n + 1) xs
 
+-- the name of a kind of step
 abbrev pub kind_name : StepKind → List ℕ
 kind_name kind.Assign = codes "assign"
 kind_name kind.Call = codes "call"
@@ -31,7 +32,7 @@ abbrev pub step_line : ℕ → StepKind → Place → List ℕ
 step_line n kind place =
     decimal n ++ (codes " " ++ (decimal place.line ++ (codes " " ++ (decimal place.column ++ (codes " " ++ (kind_name kind ++ line_feed))))))
 
--- the numbers that Wirth gave to what an OPR does; 14 writes a number
+-- the numbers that Wirth gave to the operations of OPR; 14 writes a number
 abbrev pub operation_number : Operation → ℕ
 operation_number operation.Return = 0
 operation_number operation.Negate = 1
@@ -59,11 +60,12 @@ instruction_text (Enter cells) = codes "INT 0 " ++ decimal cells
 instruction_text (Jump address) = codes "JMP 0 " ++ decimal address
 instruction_text (JumpIfZero address) = codes "JPC 0 " ++ decimal address
 
--- the step that an instruction begins, of those beside the instructions
+-- the step that an instruction begins, by what stands beside it, if anything does
 abbrev pub begun_by : Option (Option ℕ) → Option ℕ
 begun_by (Some begun) = begun
 begun_by None = None
 
+-- the mark of the step that an instruction begins
 abbrev pub begun_text : Option ℕ → List ℕ
 begun_text (Some n) = codes " @" ++ decimal n
 begun_text None = []

@@ -1,4 +1,4 @@
--- What the program does with its arguments, and how it ends.
+-- Defines what the program does with its arguments, and how it ends.
 use Rattle.std.specs.Prelude.{◌≡◌, ◌⊎◌, ℕ, List, [], ◌∷◌, ◌++◌, Some, None, Result, Err}
 use Rattle.clap.specs.Words.{Text}
 use Rattle.clap.specs.declared.error.kind.ErrorKind.TheVariants.{DisplayHelp}
@@ -28,7 +28,7 @@ pub record EndsServing (reason : ExitReason) (loads later_loads : List Load) (ol
 abbrev pub KeepsInput : Streams → Streams → Type 0
 KeepsInput old later = (later.left ≡ old.left) × (later.read_failures ≡ old.read_failures)
 
--- The file at the path was judged, and the reason says how that went.
+-- The file at the path was checked, and the reason says how that went.
 pub record EndsChecking (path : Text) (reason : ExitReason) (loads later_loads : List Load) (old later : Streams) : Type 0 where
   pub outcome : Result (Unit {0}) CheckFault
   pub checked : IsChecked path outcome loads later_loads (output_of old) (output_of later)
@@ -68,13 +68,13 @@ pub record Executes (arguments : List Text) (reason : ExitReason) (loads later_l
   pub performs : Performs arguments reason loads later_loads old later
   pub reports : Reports reason errors later_errors
 
--- The system gave no arguments, or none that are text, or there was no memory for them.
+-- The system has no arguments, or some that are not text, or there was no memory for them.
 pub record GetsNoArguments (reason : ExitReason) (old later : Streams) (errors later_errors : Output) : Type 0 where
   pub reason_is : (reason ≡ NoMemory) ⊎ (reason ≡ NotUnderstood)
   pub kept : later ≡ old
   pub reports : Reports reason errors later_errors
 
--- The program ran on the arguments that the system gave, with a loader that was asked for nothing before.
+-- The program ran on the arguments that the system has, with a loader that was asked for no file before.
 abbrev pub Runs : ExitReason → Streams → Streams → Output → Output → Type 0
 Runs reason old later errors later_errors =
     ((arguments : List Text) × (loads : List Load) × Executes arguments reason [] loads old later errors later_errors)

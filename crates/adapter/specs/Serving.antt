@@ -1,4 +1,4 @@
--- What a whole run over an input and an output reads and writes.
+-- Defines what a whole run over an input and an output reads and writes.
 use Rattle.std.specs.Prelude.{◌≡◌, ◌≢◌, ◌⊎◌, ◌++◌, [], true, ℕ, List, Option, Result, Ok, Err}
 use Rattle.std.specs.Result.{is_err}
 use Rattle.std.specs.List.{concat, flat_map}
@@ -25,7 +25,7 @@ use Rattle.dap_wires.specs.Reading.{IsReadUntil}
 use Rattle.dap_wires.specs.Senders.{from_client, reports_among}
 use Rattle.byte_streams.specs.Streams.{Supply, supply, Output, output, WritesAll, FailsIn}
 
--- The input's bytes left and the output's bytes written, where they are known, and how often reading and writing failed.
+-- The input's bytes left and the output's bytes written, where they are known, and how many reads and writes failed.
 pub record Streams : Type 0 where
   pub left : Option (List ℕ)
   pub written : Option (List ℕ)
@@ -42,10 +42,11 @@ input_of s = supply s.left s.read_failures
 abbrev pub output_of : Streams → Output
 output_of s = output s.written s.write_failures
 
+-- what a session has sent before it starts
 abbrev pub nothing_sent : Ports
 nothing_sent = record { frames = []; orders = []; refused = []; runner_gone = 0; orders_full = 0 }
 
--- the bytes were written, or the output failed after a prefix of them
+-- The bytes were written, or the output failed after a prefix of them.
 abbrev pub Writes : Result (Unit {0}) WriteFailed → List ℕ → Output → Output → Type 0
 Writes (Ok done) bytes old later = WritesAll bytes old later
 Writes (Err failed) bytes old later = FailsIn bytes old later
@@ -67,9 +68,9 @@ TakesAllOrders (Err fault) acts pushed = Begins (flat_map order_in acts) pushed
 
 -- ---- reader, runner, session and writer, side by side
 
--- Each came to its end. What the session took is, of the reader and of the runner, a prefix of what that sent; what the
--- loader gave is what its launches wanted; the runner took a prefix of the orders that the session pushed, and its slices
--- passed the gate; and the frames that the session put were written.
+-- Each came to its end. What the session took is, of the reader and of the runner, a prefix of what each sent; what the
+-- loader returned is what the session's launches asked for; the runner took a prefix of the orders that the session pushed,
+-- and its slices passed the gate; and the frames that the session put were written.
 pub record IsDriven (wrote : Result (Unit {0}) WriteFailed) (result : Result Closed SessionFault) (loads later_loads : List Load) (passed later_passed : List (ℕ × ℕ)) (old later : Streams) : Type 0 where
   -- the session
   pub events : List Incoming
@@ -98,7 +99,7 @@ pub record IsDriven (wrote : Result (Unit {0}) WriteFailed) (result : Result Clo
   -- the writer
   pub written : Writes wrote (concat sent.frames) (output_of old) (output_of later)
 
--- how serving went, by how the writer and the session ended
+-- how serving ended, by how the writer and the session ended
 abbrev pub outcome_of : Result (Unit {0}) WriteFailed → Result Closed SessionFault → Result Served ServeFault
 outcome_of (Err failed) result = Err fault.WriteFailed
 outcome_of (Ok done) (Ok closed.Disconnected) = Ok served.Disconnected
@@ -106,8 +107,8 @@ outcome_of (Ok done) (Ok closed.InputEnded) = Ok served.InputEnded
 outcome_of (Ok done) (Ok closed.ReadFailed) = Err fault.ReadFailed
 outcome_of (Ok done) (Err f) = Err (fault.Session f)
 
--- Serving went so. Where there was no memory for the queues, nothing was done; of a thread that can't be started nothing is
--- said.
+-- Serving ended with this outcome. Where there was no memory for the queues, nothing was done. Where a thread can't be
+-- started, nothing more is known.
 pub data IsServed (outcome : Result Served ServeFault) (loads later_loads : List Load) (passed later_passed : List (ℕ × ℕ)) (old later : Streams) : Type 0 where
   drove : (wrote : Result (Unit {0}) WriteFailed) (result : Result Closed SessionFault) → outcome ≡ outcome_of wrote result
       → IsDriven wrote result loads later_loads passed later_passed old later → IsServed outcome loads later_loads passed later_passed old later

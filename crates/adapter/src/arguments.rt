@@ -48,20 +48,20 @@ Exit status:
   4  the command line was not understood
 ";
 
-/// What is said last of arguments that were not understood.
+/// What standard error gets last where the arguments were not understood.
 pub const USAGE: &str = "
 Usage: pl0dap [--check FILE]
 
 For more information, try '--help'.
 ";
 
-/// Reads the arguments, of which the first is the program's name: none after it is `Serve`, and `--check FILE` or
-/// `--check=FILE` is `Check`.
+/// Reads the arguments, the program's name first. No further argument means `Serve`, and `--check FILE` or `--check=FILE`
+/// means `Check`.
 ///
 /// # Errors
 ///
-/// `Help` where the arguments up to `-h` or `--help` are understood, `NotUnderstood` at all others, and `NoMemory` where
-/// memory ran out.
+/// `Help` where `-h` or `--help` is found and the arguments before it are understood, `NotUnderstood` for all others, and
+/// `NoMemory` where memory ran out.
 pub fn parse_arguments<'a>(
     alloc: Global,
     arguments: &'a [&str],
@@ -84,8 +84,12 @@ pub fn parse_arguments<'a>(
     }
 }
 
-/// What of the arguments `parse_arguments` did not understand, in a line or more, which may come with a hint; nothing of
-/// arguments that it understands.
+/// Returns what `parse_arguments` did not understand of the arguments, in one or more lines, which may hold a hint. The
+/// text is empty for arguments that it understands.
+///
+/// # Errors
+///
+/// `AllocError`, where an allocation failed.
 pub(crate) fn objection(alloc: Global, arguments: &[&str]) -> Result<String, AllocError> {
     let command = command_line(alloc)?;
     let Err(error) = command.try_get_matches_from(arguments) else {
@@ -99,6 +103,7 @@ pub(crate) fn objection(alloc: Global, arguments: &[&str]) -> Result<String, All
     }
 }
 
+/// The command line of the program: the option `--check FILE`, with the help that `clap` adds.
 fn command_line<'a>(alloc: Global) -> Result<Command<'a>, AllocError>
     ensures { IfOk result (λ command. app_of command ≡ command_line) }
 {

@@ -1,4 +1,4 @@
-//! Judging a program text: its listing, or its first fault.
+//! Checking a program text: its listing, or its first fault.
 
 ghost use Rattle.std.specs.Prelude.{string_bytes, IfOk, IfErr};
 ghost use Rattle.pl0_tree.specs.Faults.{IsFirstFault, FaultIs};
@@ -21,7 +21,7 @@ pub enum CheckFault {
     CannotRead,
     /// The text has this fault first.
     Syntax { kind: FaultKind, place: Place },
-    /// The output failed. A beginning of the listing may be written.
+    /// The output failed. A prefix of the listing was written, which may be empty.
     WriteFailed,
     /// Memory ran out.
     NoMemory,
@@ -31,7 +31,7 @@ pub enum CheckFault {
 ///
 /// # Errors
 ///
-/// Nothing was written, but at `WriteFailed` a prefix of the listing.
+/// `WriteFailed` leaves a prefix of the listing written. After all others nothing was written.
 pub fn check<R: Wait, L: Loader, O: Sink>(
     rt: &R,
     alloc: Global,
@@ -60,7 +60,11 @@ pub fn check<R: Wait, L: Loader, O: Sink>(
     }
 }
 
-/// The listing of a program text, or its first fault.
+/// Returns the listing of a program text.
+///
+/// # Errors
+///
+/// The first fault of the text, or `NoMemory`.
 fn list(alloc: Global, text: &[u8]) -> Result<String, SyntaxFault>
     ensures ok { IfOk result (λ listing. IsListingOf text.now (string_bytes listing)) }
     ensures err { IfErr result (FaultIs (IsFirstFault text.now)) }

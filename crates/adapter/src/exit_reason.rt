@@ -11,8 +11,8 @@ use dap_session::SessionFault;
 use pl0_tree::Place;
 use std::fmt;
 
-/// Why a run of the program ends. `Display` writes the last line on standard error, without its line feed; nothing at
-/// `Success`, nor at `NotUnderstood`, of which standard error gets the usage.
+/// Why a run of the program ends. `Display` writes the last line on standard error, without its line feed. It writes
+/// nothing for `Success`, and nothing for `NotUnderstood`, where standard error gets the usage instead.
 #[derive(Clone, Copy, Debug)]
 pub enum ExitReason {
     /// All went well.
@@ -25,11 +25,11 @@ pub enum ExitReason {
     Framing(u8),
     /// Any other refusal of the session, by its number.
     Refused(u8),
-    /// The file to judge can't be read.
+    /// The file to check can't be read.
     CannotRead,
-    /// The first fault of the text that was judged, by its number, and where it stands.
+    /// The first fault of the text that was checked, by its number, and where it stands.
     Syntax { number: u8, place: Place },
-    /// Memory ran out where nobody is served.
+    /// Memory ran out while arguments were read or a file was checked.
     NoMemory,
     /// The command line was not understood.
     NotUnderstood,
@@ -115,6 +115,7 @@ pub fn end_of_serve(outcome: &Result<Served, ServeFault>) -> ExitReason
     }
 }
 
+/// How the program ends after a fault of the session.
 fn end_of_session(fault: SessionFault) -> ExitReason
     ensures { result ≡ reason_of_session fault }
 {
@@ -128,6 +129,7 @@ fn end_of_session(fault: SessionFault) -> ExitReason
     }
 }
 
+/// How the program ends after a framing fault.
 fn end_of_framing(fault: FramingFault) -> ExitReason
     ensures { result ≡ reason_of_framing fault }
 {

@@ -1,4 +1,4 @@
-//! Program files.
+//! Loading program files.
 
 ghost use Rattle.std.specs.Prelude.{◌≡◌, []};
 ghost use Rattle.adapter.specs.Loading.{loads};
@@ -12,7 +12,7 @@ use std::io::{self, ErrorKind, Read};
 use std::rt::Files;
 use std::sync::Wait;
 
-/// Loads files of the system, and keeps what it was asked for and what it gave.
+/// Loads files of the system, and keeps each path that it was asked for with the answer.
 #[derive(Drop)]
 pub struct FileLoader<'a, R: Files + Wait> {
     rt: &'a R,
@@ -28,7 +28,7 @@ struct Given {
 }
 
 impl<'a, R: Files + Wait> FileLoader<'a, R> {
-    /// A loader that was asked for nothing yet.
+    /// A loader that was asked for no file yet.
     pub fn new(rt: &'a R, alloc: Global) -> FileLoader<'a, R>
         ensures { loads result.given.items ≡ [] }
     {
@@ -77,7 +77,11 @@ impl<R: Files + Wait> Loader for FileLoader<'_, R> {
 ghost use Rattle.std.specs.Prelude.{◌≤◌, length, IfOk};
 ghost use Rattle.adapter.specs.Loading.{IsOfFile};
 
-/// The first bytes of a file, 65,537 of them where it has more, if it was opened.
+/// Returns the first 65,537 bytes of a file, or all where it has fewer.
+///
+/// # Errors
+///
+/// `CannotRead` where the file can't be opened or read, and `NoMemory` where memory ran out.
 fn read_file<R: Wait, I: Read + Drop>(
     rt: &R,
     alloc: Global,

@@ -1,4 +1,4 @@
-//! What the slices of a run pass.
+//! Gates, which the slices of a run pass.
 
 ghost use Rattle.std.specs.Prelude.{◌≡◌, ◌++◌, []};
 ghost use Rattle.std.specs.List.{flat_map};
@@ -15,6 +15,7 @@ pub struct OpenGate {
 }
 
 impl OpenGate {
+    /// A gate that no slice has passed yet.
     pub fn new() -> OpenGate
         ensures { result.passed.entries ≡ [] }
     {
@@ -32,8 +33,8 @@ impl Gate for OpenGate {
     }
 }
 
-/// Ports of a runner whose slices pass a gate that was lent, too. Its type keeps that what passed the gate since then is
-/// what the acts say.
+/// Ports of a runner with a gate that was lent, which each slice passes too. The type keeps true that what passed the gate
+/// since it was lent is what the acts say.
 pub struct Gated<'a, P: Ports, G: Gate> {
     ports: P,
     gate: &'a mut G,
@@ -42,6 +43,7 @@ pub struct Gated<'a, P: Ports, G: Gate> {
 }
 
 impl<'a, P: Ports, G: Gate> Gated<'a, P, G> {
+    /// Adds a gate to ports of a runner that has done nothing yet.
     pub fn new(ports: P, gate: &'a mut G) -> Gated<'a, P, G>
         requires { P.acts ports ≡ [] }
         ensures ports { result.ports ≡ ports }
@@ -52,6 +54,7 @@ impl<'a, P: Ports, G: Gate> Gated<'a, P, G> {
         Gated { ports, gate, lent }
     }
 
+    /// Returns the ports and the gate.
     pub fn into_parts(self) -> (P, &'a mut G)
         ensures ports { result.0 ≡ self.entry.ports }
         ensures same_gate { result.1.ghost_name ≡ self.entry.gate.ghost_name }

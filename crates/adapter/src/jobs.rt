@@ -1,4 +1,4 @@
-//! What each thread of `serve` does, with all that it needs.
+//! The task of each thread of `serve`, with all that it needs.
 
 ghost use Rattle.std.specs.Prelude.{◌≡◌, ◌++◌, [], List, true, ⊤};
 ghost use Rattle.std.specs.List.{flat_map};
@@ -40,6 +40,7 @@ pub struct ReaderTask<'a, I, R: Wait + Drop> {
 }
 
 impl<'a, I, R: Wait + Drop> ReaderTask<'a, I, R> {
+    /// A task that reads `input` and sends to `inbox` what it read.
     pub fn new(
         rt: R,
         alloc: Global,
@@ -89,6 +90,7 @@ pub struct WriterTask<'a, O, R: Wait + Drop> {
 }
 
 impl<'a, O, R: Wait + Drop> WriterTask<'a, O, R> {
+    /// A task that writes to `output` the frames of `outbox`.
     pub fn new(rt: R, output: &'a mut O, outbox: FrameReceiver<R>) -> WriterTask<'a, O, R>
         ensures same_output { result.output.ghost_name ≡ output.entry.ghost_name }
         ensures output { result.output.now ≡ output.old }
@@ -139,6 +141,7 @@ pub struct RunnerTask<'a, G, R: Wait + Drop> {
 }
 
 impl<'a, G, R: Wait + Drop> RunnerTask<'a, G, R> {
+    /// A task that carries out `orders` and sends `reports`, and whose slices pass `gate`.
     pub fn new(
         rt: R,
         alloc: Global,
@@ -199,6 +202,7 @@ pub struct SessionTask<'a, L, R: Wait + Drop> {
 }
 
 impl<'a, L, R: Wait + Drop> SessionTask<'a, L, R> {
+    /// A task that drives a session over these ends, which loads programs with `loader`.
     pub fn new(
         rt: R,
         alloc: Global,

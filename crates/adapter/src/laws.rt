@@ -1,11 +1,11 @@
-//! Laws.
+//! The laws of serving.
 
 ghost use Rattle.adapter.specs.Laws.{InputIsTakenWhole, FirstDisconnectCloses, RunsEndOnce, NobodyIsGone, FullIsFour};
 
 use dap_history::history_laws;
 use dbg_runner::runner_laws;
 
-/// What holds of all that [`serve`](crate::serve) does, however its threads take turns. It does nothing: its contract
+/// Says what holds of every call of [`serve`](crate::serve), however its threads take turns. It does nothing: its contract
 /// is the laws.
 pub fn serving_laws()
     ensures input { InputIsTakenWhole }

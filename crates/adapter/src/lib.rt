@@ -1,11 +1,11 @@
 //! The adapter that the program `pl0dap` is: a debug adapter for PL/0 over an input and an output.
 //!
-//! The one contract is that of [`execute`]: what the arguments ask for was done over these ports, the reason names how
-//! that ended, and standard error has it in a last line. It cites three others.
-//! [`parse_arguments`](arguments::parse_arguments) says what the arguments ask for; [`serve`], that reader, runner,
-//! session and writer, each in a thread, did together what `specs/Serving` defines; and [`check`], that the listing of
-//! a file's text was written, which `specs/Listing` defines. The hard lemmas are in `proofs/Gathered`: what the ends of
-//! the queues say, when all threads were joined, makes one whole.
+//! The one contract is that of [`execute`]: what the arguments ask for was done over these ports, the reason that it
+//! returns says how that ended, and standard error has it as its last line. The contract cites three others:
+//! [`parse_arguments`](arguments::parse_arguments) says what the arguments ask for; [`serve`] says that reader, runner,
+//! session and writer, each in a thread, did together what `specs/Serving` defines; and [`check`] says that the listing of
+//! a file's text was written, which `specs/Listing` defines. The hard lemmas are in `proofs/Gathered`: they put together
+//! what the ends of the queues say when all threads were joined.
 #![tactic(auto)]
 
 pub mod arguments;

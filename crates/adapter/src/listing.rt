@@ -9,8 +9,12 @@ use pl0_code::{Instruction, Operation, Unit};
 use pl0_tree::{Step, StepKind, StepNumber};
 use std::alloc::{AllocError, Global};
 
-/// The listing of a program: a line for each step, with its number, line, column and kind; an empty line; and a line for
-/// each instruction, with its number, name, level and address, and ` @n` where it begins step n.
+/// Returns the listing of a program: a line for each step, with its number, line, column and kind; an empty line; and a
+/// line for each instruction, with its number, name, level and address, and ` @n` where it begins step n.
+///
+/// # Errors
+///
+/// `AllocError`, where an allocation failed.
 pub fn listing(alloc: Global, unit: &Unit) -> Result<String, AllocError>
     ensures { IfOk result (λ text. string_bytes text
         ≡ listing_text (steps (plain_block unit.now.tree.program)) unit.now.code.items unit.now.begun_steps.items) }
@@ -22,6 +26,7 @@ pub fn listing(alloc: Global, unit: &Unit) -> Result<String, AllocError>
     Ok(text)
 }
 
+/// Appends a line for each step.
 fn write_steps(text: &mut String, steps: &[Step]) -> Result<(), AllocError>
     ensures { OnOk result (string_bytes text.new
         ≡ string_bytes text.old ++ lines_from (λ n s. step_line n s.kind s.place) 0 steps.now) }
@@ -32,6 +37,7 @@ fn write_steps(text: &mut String, steps: &[Step]) -> Result<(), AllocError>
     Ok(())
 }
 
+/// Appends the line of one step.
 fn write_step(text: &mut String, number: StepNumber, step: Step) -> Result<(), AllocError>
     ensures { OnOk result (string_bytes text.new ≡ string_bytes text.old ++ step_line number step.kind step.place) }
 {
@@ -41,6 +47,7 @@ fn write_step(text: &mut String, number: StepNumber, step: Step) -> Result<(), A
     writeln!(text, "{number} {line} {column} {kind}")
 }
 
+/// The name of a kind of step in the listing.
 fn name_of_kind(kind: StepKind) -> &'static str
     ensures { result.now ≡ kind_name kind }
 {
@@ -54,7 +61,7 @@ fn name_of_kind(kind: StepKind) -> &'static str
     }
 }
 
-/// The instructions, each with the step beside it that it begins.
+/// Appends a line for each instruction. `begun` has, at each instruction's number, the step that it begins, if any.
 fn write_code(
     text: &mut String,
     code: &[Instruction],
@@ -69,7 +76,7 @@ fn write_code(
     Ok(())
 }
 
-/// The step that an instruction begins.
+/// Returns the step that the instruction with this number begins, if any.
 fn step_begun(begun: &[Option<StepNumber>], number: usize) -> Option<StepNumber>
     ensures { result ≡ begun_by (slice_get begun.now number) }
 {
@@ -79,6 +86,7 @@ fn step_begun(begun: &[Option<StepNumber>], number: usize) -> Option<StepNumber>
     }
 }
 
+/// Appends the line of one instruction.
 fn write_instruction(
     text: &mut String,
     number: usize,
@@ -93,7 +101,7 @@ fn write_instruction(
     text.push_str("\n")
 }
 
-/// An instruction's name, level and address.
+/// Appends an instruction's name, level and address.
 fn write_operation(text: &mut String, instruction: Instruction) -> Result<(), AllocError>
     ensures { OnOk result (string_bytes text.new ≡ string_bytes text.old ++ instruction_text instruction) }
 {
@@ -112,12 +120,14 @@ fn write_operation(text: &mut String, instruction: Instruction) -> Result<(), Al
     }
 }
 
+/// The number of an operation in the listing.
 fn number_of_operation(operation: Operation) -> u8
     ensures { result ≡ operation_number operation }
 {
     operation as u8
 }
 
+/// Appends ` @n` where the instruction begins step n, and else nothing.
 fn write_begun(text: &mut String, begins: Option<StepNumber>) -> Result<(), AllocError>
     ensures { OnOk result (string_bytes text.new ≡ string_bytes text.old ++ begun_text begins) }
 {

@@ -29,15 +29,15 @@ use std::sync::Wait;
 use std::thread::Threads;
 use std::{env, io};
 
-/// Does what the arguments of this process ask for, as [`execute`] does, with the files of the system. What is left to a
-/// `main` is to end with the reason's status.
+/// Does what the arguments of this process ask for, as [`execute`] does, with the files of the system. A `main` has only to
+/// exit with the status of the reason that is returned.
 pub fn run<R, I, O, E>(rt: &R, input: &mut I, output: &mut O, errors: &mut E) -> ExitReason
 where
     R: Threads + Wait + Env + Files + Eprint + AllocGlobal + Copy + Drop + Send,
     I: Source + Send,
     O: Sink + Send,
     E: Sink,
-    // It does so for some arguments and some files: what the system gives, no contract can say.
+    // It does so for some arguments and some files, since no contract can say which ones the system has.
     ensures { Runs result
         (streams (I.left input.old) (I.failures input.old) (O.written output.old) (O.failures output.old))
         (streams (I.left input.new) (I.failures input.new) (O.written output.new) (O.failures output.new))
@@ -55,46 +55,7 @@ where
     execute(rt, arguments.as_slice(), &mut files, input, output, errors)
 }
 
-/// The arguments of this process, the program's name first.
-fn given_arguments(rt: &(impl Env + AllocGlobal)) -> io::Result<Vec<String>> {
-    Ok(env::args(rt)?.collect(rt.alloc())?)
-}
-
-fn texts(alloc: Global, arguments: &[String]) -> Result<Vec<&str>, AllocError> {
-    arguments
-        .iter()
-        .map(|argument| argument.as_str())
-        .collect(alloc)
-}
-
-/// Why the arguments can't be had: there was no memory for them, or one of them is no text.
-fn end_of_reading(error: &io::Error) -> ExitReason
-    ensures reason { (result ≡ NoMemory) ⊎ (result ≡ NotUnderstood) }
-    ensures no_memory { result ≡ NoMemory → error_kind error.now ≡ kind.OutOfMemory }
-    ensures not_understood { result ≡ NotUnderstood → error_kind error.now ≢ kind.OutOfMemory }
-{
-    match error.kind() {
-        ErrorKind::OutOfMemory => ExitReason::NoMemory,
-        _ => ExitReason::NotUnderstood,
-    }
-}
-
-/// Ends where the system gave no arguments.
-fn refuse_arguments<R: Wait + Eprint + AllocGlobal, E: Sink>(
-    rt: &R,
-    reason: ExitReason,
-    errors: &mut E,
-) -> ExitReason
-    ensures reason { result ≡ reason }
-    ensures reports { Reports result
-        (output_at (E.written errors.old) (E.failures errors.old))
-        (output_at (E.written errors.new) (E.failures errors.new)) }
-{
-    report(rt, &[], reason, errors);
-    reason
-}
-
-/// Does what the arguments ask for, of which the first is the program's name, and reports the end on `errors`: nothing at
+/// Does what the arguments ask for, the program's name first, and returns how that ended. It writes to `errors` nothing at
 /// status 0, the usage at status 4, and else the last line. Where `errors` fails, nothing else changes.
 pub fn execute<R, L, I, O, E>(
     rt: &R,
@@ -121,7 +82,51 @@ where
     reason
 }
 
-/// Does what the arguments ask for.
+/// Returns the arguments of this process, the program's name first.
+///
+/// # Errors
+///
+/// Memory ran out, or an argument is not text.
+fn given_arguments(rt: &(impl Env + AllocGlobal)) -> io::Result<Vec<String>> {
+    Ok(env::args(rt)?.collect(rt.alloc())?)
+}
+
+/// Returns the arguments as borrowed texts.
+fn texts(alloc: Global, arguments: &[String]) -> Result<Vec<&str>, AllocError> {
+    arguments
+        .iter()
+        .map(|argument| argument.as_str())
+        .collect(alloc)
+}
+
+/// Returns why the arguments can't be read: there was no memory for them, or one of them is not text.
+fn end_of_reading(error: &io::Error) -> ExitReason
+    ensures reason { (result ≡ NoMemory) ⊎ (result ≡ NotUnderstood) }
+    ensures no_memory { result ≡ NoMemory → error_kind error.now ≡ kind.OutOfMemory }
+    ensures not_understood { result ≡ NotUnderstood → error_kind error.now ≢ kind.OutOfMemory }
+{
+    match error.kind() {
+        ErrorKind::OutOfMemory => ExitReason::NoMemory,
+        _ => ExitReason::NotUnderstood,
+    }
+}
+
+/// Reports on `errors` that there are no arguments, and returns the reason.
+fn refuse_arguments<R: Wait + Eprint + AllocGlobal, E: Sink>(
+    rt: &R,
+    reason: ExitReason,
+    errors: &mut E,
+) -> ExitReason
+    ensures reason { result ≡ reason }
+    ensures reports { Reports result
+        (output_at (E.written errors.old) (E.failures errors.old))
+        (output_at (E.written errors.new) (E.failures errors.new)) }
+{
+    report(rt, &[], reason, errors);
+    reason
+}
+
+/// Does what the arguments ask for, and returns how that ended.
 fn perform<R, L, I, O>(
     rt: &R,
     arguments: &[&str],
@@ -151,7 +156,7 @@ where
     }
 }
 
-/// Writes the help.
+/// Writes the help to `output`.
 fn show_help<O: Sink>(rt: &impl Wait, output: &mut O) -> ExitReason
     ensures { EndsHelping result
         (output_at (O.written output.old) (O.failures output.old))
@@ -164,7 +169,7 @@ fn show_help<O: Sink>(rt: &impl Wait, output: &mut O) -> ExitReason
     }
 }
 
-/// Logs the end, and says on `errors` what it has to say there.
+/// Logs the reason, and writes to `errors` what is said of it there.
 fn report<R: Wait + Eprint + AllocGlobal, E: Sink>(
     rt: &R,
     arguments: &[&str],
@@ -189,7 +194,7 @@ fn report<R: Wait + Eprint + AllocGlobal, E: Sink>(
     }
 }
 
-/// At status 1 to 3 a note goes to the log, which stands before the last line.
+/// Writes the reason to the log at status 1 to 3. On standard error it stands before the last line.
 fn log_end<R: Eprint>(rt: &R, reason: ExitReason) {
     if 0 < reason.status() && reason.status() < 4 {
         let notes = Logged::new(rt, Level::Error, Console(rt));
@@ -197,6 +202,7 @@ fn log_end<R: Eprint>(rt: &R, reason: ExitReason) {
     }
 }
 
+/// Writes `text`, the number in decimal, and a line feed.
 fn say_number<E: Sink>(rt: &impl Wait, errors: &mut E, text: &str, number: u8)
     ensures { Says (text.now ++ (decimal number ++ line_feed))
         (output_at (E.written errors.old) (E.failures errors.old))
@@ -206,6 +212,7 @@ fn say_number<E: Sink>(rt: &impl Wait, errors: &mut E, text: &str, number: u8)
     say(rt, errors, &[text, digits.format(number), "\n"]);
 }
 
+/// Writes the last line for a fault of a program text.
 fn say_syntax<E: Sink>(rt: &impl Wait, errors: &mut E, number: u8, place: Place)
     ensures { Says (last_line (Syntax number place) ++ line_feed)
         (output_at (E.written errors.old) (E.failures errors.old))
@@ -226,7 +233,7 @@ fn say_syntax<E: Sink>(rt: &impl Wait, errors: &mut E, number: u8, place: Place)
     say(rt, errors, &texts);
 }
 
-/// Says what was wrong with the arguments, where there is memory for it, and then the usage.
+/// Writes what was wrong with the arguments, where there is memory for it, and then the usage.
 fn say_usage<R: Wait + AllocGlobal, E: Sink>(rt: &R, errors: &mut E, arguments: &[&str])
     ensures { (text : List ℕ) × IsUsage text × Says text
         (output_at (E.written errors.old) (E.failures errors.old))

@@ -1,4 +1,5 @@
-//! A client over an input and an output: reader, runner and writer in threads of their own, the session in this one.
+//! Serving a client over an input and an output: reader, runner and writer in threads of their own, the session in this
+//! one.
 
 ghost use Rattle.std.specs.Prelude.{◌≡◌, ◌≢◌, true};
 ghost use Rattle.dap_session.specs.Sending.{Begins};
@@ -22,19 +23,25 @@ use std::alloc::{AllocError, Global};
 use std::sync::Wait;
 use std::thread::Threads;
 
-/// How serving went well.
+/// How serving ended without a failure.
 #[derive(Clone, Copy, Debug, PartialEq, Eq)]
 pub enum Served {
+    /// The client disconnected.
     Disconnected,
+    /// The input ended.
     InputEnded,
 }
 
 /// Why serving failed.
 #[derive(Clone, Copy, Debug, PartialEq, Eq)]
 pub enum ServeFault {
+    /// The output failed.
     WriteFailed,
+    /// The input failed.
     ReadFailed,
+    /// The session gave up with this fault.
     Session(SessionFault),
+    /// A thread can't be started.
     NoThread,
 }
 
@@ -49,17 +56,17 @@ impl From<AllocError> for ServeFault {
     }
 }
 
-/// Serves an input and an output: a reader, a runner and a writer work in threads of their own, the session in this
-/// one, and all are joined. The loader is asked for the program of each launch, and each slice of a run passes the
-/// gate.
+/// Serves an input and an output: a reader, a runner and a writer work in threads of their own, the session in this one,
+/// and all are joined. The loader is asked for the program of each launch, and each slice of a run passes the gate.
 ///
-/// After the answer to `disconnect` the reader ends at its next read that returns; what that gives changes nothing.
+/// After the answer to `disconnect` the reader ends when its next read returns. What was read then changes nothing.
 ///
 /// # Errors
 ///
-/// After a failed write, or a session fault that is no framing fault, a beginning was written of what the client's messages
-/// and the runs give; after a failed read or a framing fault all of it. Of several, a failed write is reported first, and a
-/// failed read last. Where a thread can't be started, those that were started are joined.
+/// After a failed write, or a session fault that is not a framing fault, a prefix was written of what the client's messages
+/// and the runs call for; after a failed read or a framing fault, all of it was written. Where several failed, a failed
+/// write is returned before a session fault, and that before a failed read. Where a thread can't be started, those that
+/// were started are joined.
 pub fn serve<R, I, O, L, G>(
     rt: &R,
     alloc: Global,
@@ -100,7 +107,8 @@ where
     outcome(wrote, closed)
 }
 
-/// Compares both sides of each queue, when all threads have ended.
+/// Brings the logs of all ends of each queue together, when all threads were joined, and proves that what was received is a
+/// prefix of what was sent.
 fn reconcile<R: Wait + Drop>(
     client: ClientSender<R>,
     reports: ReportSender<R>,
@@ -128,7 +136,7 @@ fn reconcile<R: Wait + Drop>(
     reconcile_orders(orders, taken);
 }
 
-/// How serving went, by how the writer and the session ended.
+/// Returns how serving ended, by how the writer and the session ended.
 fn outcome(
     wrote: Result<(), WriteFailed>,
     closed: Result<Closed, SessionFault>,
@@ -146,7 +154,8 @@ fn outcome(
     }
 }
 
-/// Ties a reference that came back to the parameter that lent it.
+/// Ends the loan of a reference that a task returned. It does nothing: its contract ties what the reference has now to the
+/// parameter that was lent.
 fn end_loan<T>(x: &mut T)
     ensures { x.new ≡ x.old }
 {}

@@ -1,5 +1,5 @@
-//! Tasks for threads of a scope, which may be refused. What a task has and gives is said through a type parameter, so
-//! that it may have a `&mut` and return it.
+//! Tasks for the threads of a scope, where a thread may not be startable. Contracts speak of what a task has and returns
+//! through a type parameter, so that it may own a `&mut` and return it.
 
 ghost use Rattle.std.specs.Prelude.{◌≡◌, IfSome};
 
@@ -10,24 +10,29 @@ use std::thread::{Promise, PromisedHandle, Scope, Threads};
 
 /// Work for a thread.
 pub trait Task: Drop {
+    /// What it returns.
     type Output: Drop;
 
+    /// What must hold for it to run.
     ghost can_run: { Self → Type 0 };
 
+    /// What holds of the task and what it returned.
     ghost gives: { Self → Self.Output → Type 0 };
 
+    /// Does the work.
     fn run(self) -> Self::Output
         requires { can_run self }
         ensures { gives self result };
 }
 
-/// A task that can let those know who wait for it that it will not be done.
+/// A task that can let others who wait for it know that it will not be done.
 pub trait LastTask: Task {
+    /// Lets those others know, and drops the task.
     fn give_up(self)
         requires { Self.can_run self };
 }
 
-/// The token that a task was run.
+/// The promise that a task was run.
 #[derive(Drop)]
 pub struct Ran<T: Task>(Snapshot<T>);
 
@@ -35,26 +40,8 @@ impl<T: Task> Promise<T::Output> for Ran<T> {
     ghost kept_by = { λ p r. T.gives p.0.value r };
 }
 
-/// Starts a thread of a scope that does a task, or drops the task, where no thread can be made.
-fn start<'s, E, T: Task<Output = A> + Send + 's, A: Send + Drop + 's>(
-    scope: &Scope<'s, E>,
-    task: T,
-) -> Option<PromisedHandle<A, Ran<T>>>
-    requires { T.can_run task }
-    ensures { IfSome result (λ handle. handle.promise.0.value ≡ task) }
-{
-    let started = scope.spawn_with(
-        Ran(Snapshot::of(&task)),
-        move || -> A
-            requires { T.can_run task }
-            ensures { T.gives task result }
-        { task.run() },
-    );
-    started.ok()
-}
-
 /// Does three tasks in threads of their own and the last one in this thread, and joins all. Where a thread can't be
-/// started, the last task is given up, the threads that were started are joined, and the answer is none.
+/// started, the last task is given up, the threads that were started are joined, and `None` is returned.
 pub fn run_beside<
     R: Threads + Wait,
     S: Task<Output = A> + Send,
@@ -92,4 +79,22 @@ pub fn run_beside<
             Some((one.join(rt), two.join(rt), three.join(rt), d))
         },
     )
+}
+
+/// Starts a thread of a scope that does a task. Where no thread can be made, it drops the task and returns `None`.
+fn start<'s, E, T: Task<Output = A> + Send + 's, A: Send + Drop + 's>(
+    scope: &Scope<'s, E>,
+    task: T,
+) -> Option<PromisedHandle<A, Ran<T>>>
+    requires { T.can_run task }
+    ensures { IfSome result (λ handle. handle.promise.0.value ≡ task) }
+{
+    let started = scope.spawn_with(
+        Ran(Snapshot::of(&task)),
+        move || -> A
+            requires { T.can_run task }
+            ensures { T.gives task result }
+        { task.run() },
+    );
+    started.ok()
 }

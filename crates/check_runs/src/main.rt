@@ -5,6 +5,7 @@
 use adapter::{FileLoader, Reading, Writing, execute};
 use std::env;
 
+/// Checks each file in turn, with what is said on standard error printed to standard output.
 fn main(rt: HostRuntime) -> Result<(), anyhow::Error> {
     let errors = &mut Writing::new(&rt, rt.stdout());
     let mut files = FileLoader::new(&rt, rt.alloc());

@@ -1,4 +1,4 @@
--- The rule of a queue, whoever puts and takes between two moments: what was taken and then what is inside is, of each
+-- Defines the rule of a queue, which holds after each step of any end: what was taken and then what is inside is, of each
 -- sender, what it put, in its order.
 use Rattle.std.specs.Prelude.{◌≡◌, ℕ, Bool, true, false, not, cond, List, [], ◌∷◌, ◌++◌, filter}
 use mathlib.Core.Option.{some}
@@ -6,6 +6,7 @@ use lib.ListN.{get_elem?}
 use Rattle.dap_wires.specs.declared.end_log.EndLog.{EndLog}
 
 module _ {M : Type 0} where
+  -- the log of an end, of its parts
   abbrev pub log : Bool → Bool → Bool → List M → List M → List M → EndLog M
   log first second takes put_first put_second taken =
       record { first = first; second = second; takes = takes; put_first = put_first; put_second = put_second; taken = taken }
@@ -18,8 +19,8 @@ module _ {M : Type 0} where
     abbrev pub of_second : List M → List M
     of_second ms = filter by_second ms
 
-    -- An end that puts, as one sender or the other, knows all that this sender put; the one that takes knows all that
-    -- was taken.
+    -- An end that puts, as one sender or the other, knows all that this sender put; the one that takes knows all that was
+    -- taken.
     pub record Fits (one two taker : ℕ) (taken inside : List M) (end : ℕ) (v : EndLog M) : Type 0 where
       pub first : v.first ≡ true → (end ≡ one) × (v.put_first ≡ of_first (taken ++ inside))
       pub second : v.second ≡ true → (end ≡ two) × (v.put_second ≡ of_second (taken ++ inside))
@@ -37,7 +38,7 @@ module _ {M : Type 0} where
     abbrev pub May : EndLog M → M → Type 0
     May v m = cond (by_second m) v.second v.first ≡ true
 
-    -- after a message was put
+    -- the log after a message was put
     abbrev pub put : EndLog M → M → EndLog M
     put v m = log v.first v.second v.takes (v.put_first ++ of_first (m ∷ [])) (v.put_second ++ of_second (m ∷ [])) v.taken
 
@@ -52,27 +53,31 @@ module _ {M : Type 0} where
     abbrev pub Balances : EndLog M → List M → Type 0
     Balances v inside = (v.put_first ≡ of_first (v.taken ++ inside)) × (v.put_second ≡ of_second (v.taken ++ inside))
 
-  -- after a message was taken
+  -- the log after a message was taken
   abbrev pub took : EndLog M → M → EndLog M
   took v m = log v.first v.second v.takes v.put_first v.put_second (v.taken ++ m ∷ [])
 
-  -- ---- ends that give a right away, and get it back
+  -- ---- rights that are split off and joined again
 
+  -- the log of an end that has one sender's right alone
   abbrev pub only_first : EndLog M → EndLog M
   only_first v = log v.first false false v.put_first [] []
 
   abbrev pub only_second : EndLog M → EndLog M
   only_second v = log false v.second false [] v.put_second []
 
+  -- the log that is left without that right
   abbrev pub without_first : EndLog M → EndLog M
   without_first v = log false v.second v.takes [] v.put_second v.taken
 
   abbrev pub without_second : EndLog M → EndLog M
   without_second v = log v.first false v.takes v.put_first [] v.taken
 
+  -- the log of an end that has no right
   abbrev pub idle : EndLog M
   idle = log false false false [] [] []
 
+  -- the log with one sender's right and messages joined from another log
   abbrev pub with_first : EndLog M → EndLog M → EndLog M
   with_first v w = log true v.second v.takes w.put_first v.put_second v.taken
 

@@ -1,4 +1,4 @@
--- What clauses say of the ends of a queue.
+-- Defines what contracts say of the ends of a queue: the log, the queue, and its room.
 use Rattle.std.specs.Prelude.{ℕ}
 use Rattle.atomic_table.specs.declared.badge.Badge.{Badge}
 use Rattle.atomic_table.specs.Seated.{TableId}
@@ -10,7 +10,7 @@ use Rattle.dap_wires.specs.declared.ends.SendEnd.{SendEnd}
 use Rattle.dap_wires.specs.declared.ends.ReceiveEnd.{ReceiveEnd}
 use Rattle.dap_wires.specs.declared.ends.ReceiveLog.{ReceiveLog}
 
--- which queue an end belongs to
+-- the identity of a queue, which is the same at all of its ends
 abbrev pub QueueId : Type 0 → Type 0
 QueueId M = TableId × Badge (Key M)
 
@@ -22,6 +22,7 @@ module _ {M R : Type 0} where
   abbrev pub receiver_log : ReceiveEnd M R → EndLog M
   receiver_log e = view e.pass
 
+  -- which queue an end belongs to
   abbrev pub sender_queue : SendEnd M R → QueueId M
   sender_queue e = (e.pass.table_id, e.pass.me.0.of)
 
@@ -36,6 +37,7 @@ module _ {M R : Type 0} where
   receiver_room e = ruled_capacity (receives_on e.receiver)
 
 module _ {M : Type 0} where
+  -- the log of an end that its receiver has left, and which queue it belongs to
   abbrev pub receive_log : ReceiveLog M → EndLog M
   receive_log r = view r.pass
 

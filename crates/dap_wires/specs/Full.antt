@@ -1,4 +1,4 @@
--- When a queue of orders is full.
+-- Defines when a queue of orders was full.
 use Rattle.std.specs.Prelude.{◌≡◌, ◌++◌, List, length}
 use Rattle.dbg_runner.specs.Plain.{PlainOrder}
 use Rattle.dap_session.specs.Sending.{Begins}

@@ -1,4 +1,4 @@
--- What went through an inbox, as plain data.
+-- Defines what went through an inbox, as plain data.
 use Rattle.std.specs.Prelude.{List, map, ◌++◌}
 use Rattle.std.specs.List.{flat_map}
 use Rattle.dap_session.specs.Incoming.{incoming_of}
@@ -13,7 +13,7 @@ use Rattle.dap_wires.specs.declared.event_ends.InboxLog.{InboxLog}
 use Rattle.dap_wires.specs.Ends.{QueueId, sender_log, sender_queue, receiver_queue, receive_log_queue}
 use Rattle.dap_wires.specs.Senders.{events_in, reports_among}
 
--- the events that came by these arrivals
+-- the events in these messages of the queue
 abbrev pub came : List Arrival → List Incoming
 came arrivals = map incoming_of (flat_map events_in arrivals)
 
@@ -22,21 +22,23 @@ module _ {R : Type 0} where
   abbrev pub client_events : ClientSender R → List Incoming
   client_events e = came (sender_log e.end).put_first
 
-  -- the reports that the runner sent: those that it put into the queue, and then those that are kept; and the reports that
-  -- were returned to it
+  -- the reports that the runner put into the queue
   abbrev pub put_reports : ReportSender R → List PlainReport
   put_reports e = reports_among (came (sender_log e.end).put_second)
 
+  -- the reports that the runner sent: those that it put into the queue, and then those that are kept
   abbrev pub sent_reports : ReportSender R → List PlainReport
   sent_reports e = put_reports e ++ map plain_report e.kept.items
 
+  -- the reports that were handed back to the runner
   abbrev pub refused_reports : ReportSender R → List PlainReport
   refused_reports e = map plain_report e.handed_back.entries
 
-  -- what the session was given
+  -- what the session received
   abbrev pub taken_events : EventReceiver R → List Incoming
   taken_events e = map incoming_of e.given.entries
 
+  -- which queue an end belongs to
   abbrev pub client_queue : ClientSender R → QueueId Arrival
   client_queue e = sender_queue e.end
 
@@ -46,7 +48,7 @@ module _ {R : Type 0} where
   abbrev pub event_queue : EventReceiver R → QueueId Arrival
   event_queue e = receiver_queue e.end
 
--- what the session was given by an inbox that it has left
+-- what the session received from an inbox that it has left, and which queue that is of
 abbrev pub received : InboxLog → List Incoming
 received r = map incoming_of r.given.entries
 

@@ -1,12 +1,23 @@
 -- What public contracts cite.
+-- What a read of an input yields.
 pub mod Transfer
+-- The rule of a queue.
 pub mod Delivery
+-- The ends of a queue: the log, the queue, and its room.
 pub mod Ends
+-- What stands in an inbox, and who sends it.
 pub mod Senders
+-- What went through an inbox.
 pub mod Inbox
+-- The frames and the end among messages to a writer.
 pub mod Parcels
+-- What went through an outbox.
 pub mod Outbox
+-- When a queue of orders was full.
 pub mod Full
+-- What went through a queue of orders.
 pub mod Orders
+-- What a reader has read and sent when it ends.
 pub mod Reading
+-- What a writer has taken and written when it ends.
 pub mod Writing

@@ -1,4 +1,4 @@
--- What went through a queue of orders, as plain data.
+-- Defines what went through a queue of orders, as plain data.
 use Rattle.std.specs.Prelude.{◌≡◌, List, length, map, ◌++◌}
 use Rattle.atomic_table.specs.Seated.{TableId}
 use Rattle.crossbeam_queue.specs.Passes.{view}

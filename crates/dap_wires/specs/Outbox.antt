@@ -1,4 +1,4 @@
--- What went through an outbox, as plain data.
+-- Defines what went through an outbox, as plain data.
 use Rattle.std.specs.Prelude.{List, map}
 use Rattle.dap_wires.specs.declared.ends.ReceiveLog.{ReceiveLog}
 use Rattle.dap_wires.specs.declared.writer_message.WriterMessage.{WriterMessage}
@@ -14,16 +14,18 @@ module _ {R : Type 0} where
   abbrev pub put_frames : FrameSender R → Written
   put_frames e = record { frames = frames_in (sender_log e.end).put_first; refused = map (λ frame. frame.items) e.refused.entries }
 
+  -- which queue an end belongs to, and which the end that nobody uses
   abbrev pub frame_queue : FrameSender R → QueueId WriterMessage
   frame_queue e = sender_queue e.end
 
   abbrev pub unused_queue : FrameSender R → QueueId WriterMessage
   unused_queue e = sender_queue e.unused
 
-  -- all that was put until the session ended, with the end where it was put too
+  -- all that was put until the session ended, with `End` where that was put
   abbrev pub messages_put : EndedSender R → List WriterMessage
   messages_put e = (sender_log e.end).put_first
 
+  -- which queue the ends belong to when no more is put
   abbrev pub ended_queue : EndedSender R → QueueId WriterMessage
   ended_queue e = sender_queue e.end
 
@@ -34,9 +36,10 @@ module _ {R : Type 0} where
   abbrev pub messages_taken : FrameReceiver R → List WriterMessage
   messages_taken e = (receiver_log e.end).taken
 
+  -- which queue the writer's end belongs to
   abbrev pub writer_queue : FrameReceiver R → QueueId WriterMessage
   writer_queue e = receiver_queue e.end
 
--- what was taken from an outbox that the writer has left
+-- what the writer received from an outbox that it has left
 abbrev pub messages_received : ReceiveLog WriterMessage → List WriterMessage
 messages_received r = (receive_log r).taken

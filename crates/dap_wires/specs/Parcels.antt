@@ -1,4 +1,4 @@
--- What a writer gets.
+-- Defines which frames are among messages to a writer, and whether `End` is.
 use Rattle.std.specs.Prelude.{ℕ, Bool, true, false, List, [], ◌∷◌}
 use Rattle.dap_wires.specs.declared.writer_message.WriterMessage.{WriterMessage}
 use Rattle.dap_wires.specs.declared.writer_message.WriterMessage.TheVariants.{Frame, End}
@@ -9,13 +9,13 @@ frames_in [] = []
 frames_in (Frame frame ∷ messages) = frame.items ∷ frames_in messages
 frames_in (End ∷ messages) = frames_in messages
 
--- the end is among these
+-- whether `End` is among these
 abbrev pub has_end : List WriterMessage → Bool
 has_end [] = false
 has_end (Frame frame ∷ messages) = has_end messages
 has_end (End ∷ messages) = true
 
--- frames, and then the end
+-- frames, and then `End`
 abbrev pub AreEnded : List WriterMessage → Type 0
 AreEnded [] = ⊥
 AreEnded (Frame frame ∷ messages) = AreEnded messages

@@ -1,4 +1,4 @@
--- What a reader sends until it ends.
+-- Defines what a reader has read and sent when it ends.
 use Rattle.std.specs.Prelude.{◌≡◌, ◌++◌, ◌∷◌, [], ℕ, List, map, Option, Some, None}
 use Rattle.dap_history.specs.Events.{Incoming, Piece, End, ReadFailed, File, Report}
 use Rattle.dap_history.specs.Events.{NoMemory as NoMemoryCame}
@@ -14,7 +14,7 @@ last_of Failed = ReadFailed ∷ []
 last_of NoMemory = NoMemoryCame ∷ []
 last_of HandedBack = []
 
--- an event that was returned was read all the same
+-- what was read and not sent: the event that was handed back, or nothing
 abbrev pub Loses : ReadEnd → Supply → Supply → Type 0
 Loses HandedBack mid later = (event : Incoming) × IsRead event mid later
 Loses _ mid later = later ≡ mid
@@ -28,7 +28,7 @@ pub record IsReadUntil (end : ReadEnd) (sent : List Incoming) (old later : Suppl
   pub read : AreRead sent old mid
   pub loses : Loses end mid later
 
--- how reading ends by this event, if it does
+-- how reading ends with this event, if it does
 abbrev pub end_by : Incoming → Option ReadEnd
 end_by (Piece bytes) = None
 end_by End = Some Ended

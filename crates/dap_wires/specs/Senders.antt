@@ -1,4 +1,4 @@
--- What stands in an inbox, and who sends it.
+-- Defines what stands in an inbox, and who sends it.
 use Rattle.std.specs.Prelude.{Bool, true, false, ◌&&◌, List, [], ◌∷◌, map}
 use Rattle.dap_session.specs.declared.ports.Event.{Event}
 use Rattle.dap_session.specs.declared.ports.Event.TheVariants as event
@@ -10,7 +10,7 @@ use Rattle.dap_history.specs.Events.{Incoming, Piece, End, ReadFailed, NoMemory,
 use Rattle.dap_wires.specs.declared.arrival.Arrival.{Arrival}
 use Rattle.dap_wires.specs.declared.arrival.Arrival.TheVariants as arrival
 
--- the runner sends it
+-- whether the runner sends it
 abbrev pub is_report : Event → Bool
 is_report (event.Piece piece) = false
 is_report event.End = false
@@ -23,12 +23,12 @@ abbrev pub is_by_runner : Arrival → Bool
 is_by_runner (arrival.Event e) = is_report e
 is_by_runner (arrival.Quiet reports) = true
 
--- the events in an arrival, in their order
+-- the events in a message of the queue, in their order
 abbrev pub events_in : Arrival → List Event
 events_in (arrival.Event e) = e ∷ []
 events_in (arrival.Quiet reports) = map event.Report reports.items
 
--- of these events those that a client sent
+-- those of these events that a client sent
 abbrev pub from_client : List Incoming → List Incoming
 from_client [] = []
 from_client (Piece bytes ∷ events) = Piece bytes ∷ from_client events
@@ -44,9 +44,9 @@ reports_among [] = []
 reports_among (Report r ∷ events) = r ∷ reports_among events
 reports_among (e ∷ events) = reports_among events
 
--- ---- reports that tell a client nothing
+-- ---- quiet reports, for which a client gets no message
 
--- the run goes on after a slice that ended so
+-- whether the run goes on after a slice with this outcome
 abbrev pub goes_on : SliceOutcome → Bool
 goes_on out.More = true
 goes_on (out.Due reason) = false
@@ -55,15 +55,16 @@ goes_on out.Done = false
 goes_on (out.Fault fault) = false
 goes_on out.NoMemory = false
 
+-- whether the list is empty
 abbrev pub is_none_of : {A : Type 0} → List A → Bool
 is_none_of [] = true
 is_none_of (x ∷ xs) = false
 
--- its run goes on, and it has no numbers and no logs
+-- whether a report is quiet: its run goes on, and it has no numbers and no logs
 abbrev pub is_quiet : Reported → Bool
 is_quiet r = goes_on r.outcome && is_none_of r.numbers && is_none_of r.logs
 
--- each of them is such a report
+-- whether each of them is quiet
 abbrev pub are_quiet : List Reported → Bool
 are_quiet [] = true
 are_quiet (r ∷ reports) = is_quiet r && are_quiet reports

@@ -1,15 +1,11 @@
--- What a read brings.
+-- Defines what a read of an input yields.
 use Rattle.std.specs.Prelude.{◌≡◌, ◌<◌, ◌≤◌, [], ◌∷◌, ℕ, List, Option, length, take}
 use Rattle.std.specs.Io.KnownBytes.{Consumes, IsAtEnd}
 use Rattle.dap_history.specs.Events.{Incoming, Piece, End, ReadFailed, NoMemory, File, Report}
 use Rattle.byte_streams.specs.Streams.{Supply}
 
--- the most bytes of a piece
-abbrev pub piece_limit : ℕ
-piece_limit = 4096
-
--- What an input gives with an event: a piece, which is never empty, or its end, or a failure. A report comes from
--- elsewhere, and an inbox gives no file.
+-- What was read of an input for an event: a piece, which is never empty, or the end, or nothing at a failure. A report
+-- comes from elsewhere, and no file is read so.
 abbrev pub IsRead : Incoming → Supply → Supply → Type 0
 IsRead (Piece bytes) old later = Consumes old.left later.left bytes × (length bytes ≤ piece_limit) × (later.failures ≡ old.failures) × (0 < length bytes)
 IsRead End old later = Consumes old.left later.left [] × IsAtEnd later.left × (later.failures ≡ old.failures)
@@ -23,7 +19,7 @@ abbrev pub AreRead : List Incoming → Supply → Supply → Type 0
 AreRead [] old later = later ≡ old
 AreRead (e ∷ events) old later = (mid : Supply) × IsRead e old mid × AreRead events mid later
 
--- These are the first bytes of those left, 65,537 of them where there are more, and else all.
+-- These are the first 65,537 of the bytes left, or all where there are fewer.
 pub record BeginsWith (bytes : List ℕ) (left later : Option (List ℕ)) : Type 0 where
   pub read : List ℕ
   pub consumed : Consumes left later read

@@ -1,4 +1,4 @@
-//! What stands in an inbox.
+//! The messages in the queue of an inbox.
 
 ghost use Rattle.std.specs.Prelude.{◌≡◌};
 ghost use Rattle.dap_wires.specs.Senders.{goes_on, is_quiet};
@@ -8,23 +8,23 @@ use dap_session::Event;
 use dbg_runner::{Report, SliceOutcome};
 use std::collections::VecDeque;
 
-/// What stands in an inbox.
+/// A message in the queue of an inbox.
 #[derive(Drop)]
 pub enum Arrival {
     /// An event.
     Event(Event),
-    /// Reports that tell a client nothing, the oldest first.
+    /// Quiet reports, for which a client gets no message, the oldest first.
     Quiet(VecDeque<Report>),
 }
 
-/// A reader sends all but reports, which a runner sends.
+/// The reader sends every event but a report, which the runner sends.
 impl Sent for Arrival {
     ghost use Rattle.dap_wires.specs.Senders.{is_by_runner};
 
     ghost by_second = { is_by_runner };
 }
 
-/// Whether a report tells a client nothing: its run goes on, and it has no numbers and no logs.
+/// Whether a report is quiet: its run goes on, and it has no numbers and no logs.
 #[inline(always)]
 pub(crate) fn is_quiet(report: &Report) -> bool
     ensures { result ≡ is_quiet report.now }
@@ -32,7 +32,7 @@ pub(crate) fn is_quiet(report: &Report) -> bool
     goes_on(report.summary().outcome) && report.numbers().is_empty() && report.logs().is_empty()
 }
 
-/// Whether a run goes on after a slice that ended so.
+/// Whether a run goes on after a slice with this outcome.
 fn goes_on(outcome: SliceOutcome) -> bool
     ensures { result ≡ goes_on outcome }
 {

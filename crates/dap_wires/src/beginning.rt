@@ -1,4 +1,4 @@
-//! The first bytes of a file.
+//! Reading the first bytes of a source.
 
 ghost use Rattle.std.specs.Prelude.{◌≡◌, ◌<◌, ◌≤◌, length, Err, IfOk, OnOk};
 ghost use Rattle.dap_history.specs.declared.fault.LoadFault.TheVariants.{CannotRead, NoMemory};
@@ -10,15 +10,14 @@ use dap_session::LoadFault;
 use std::alloc::Global;
 use std::sync::Wait;
 
-/// The most bytes of a file that are given: one more than a program's text may have, so that a longer one shows.
+/// The largest number of bytes that are returned: one more than a program's text may have, so that a longer one is noticed.
 const MOST: usize = 65_537;
 
-/// The first bytes of a source, 65,537 of them where it has more, and else all up to its end. An interrupted read is tried
-/// again.
+/// Returns the first 65,537 bytes of a source, or all up to its end where it has fewer. An interrupted read is tried again.
 ///
 /// # Errors
 ///
-/// `CannotRead` where a read failed, and `NoMemory`.
+/// `CannotRead` where a read failed, and `NoMemory` where memory ran out.
 pub fn read_beginning<R: Wait, S: Source>(
     rt: &R,
     alloc: Global,

@@ -11,10 +11,15 @@ use std::alloc::{AllocError, Global};
 use std::hint;
 use std::sync::Wait;
 
-/// How often a receiver looks for a message before it sleeps: for some 20 microseconds.
+/// How many times a receiver looks for a message before it sleeps. It takes about 20 microseconds.
 const POLLS: usize = 256;
 
-/// A queue with room for `capacity` messages: the ends of the first sender, of the second, and of the receiver.
+/// Makes a queue with room for `capacity` messages. Returns the ends of the first sender, of the second and of the
+/// receiver.
+///
+/// # Errors
+///
+/// `AllocError`, where an allocation failed.
 pub(crate) fn channel<M: Sent + Drop, R: Wait + Copy + Drop>(
     rt: R,
     alloc: Global,
@@ -46,7 +51,8 @@ pub(crate) fn channel<M: Sent + Drop, R: Wait + Copy + Drop>(
     ))
 }
 
-/// When all have ended: of each sender, what was taken and then what is left inside is what it sent.
+/// Brings the logs of all ends together, when all threads were joined, and proves that of each sender what was received,
+/// and then what is left inside, is what it sent.
 pub(crate) fn reconcile<M: Sent + Drop, R: Wait + Drop>(
     first: SendEnd<M, R>,
     second: SendEnd<M, R>,
@@ -73,7 +79,11 @@ pub(crate) fn reconcile<M: Sent + Drop, R: Wait + Drop>(
 }
 
 impl<M: Sent + Drop, R: Wait + Drop> SendEnd<M, R> {
-    /// Sends a message, waiting while the queue is full; or hands it back, where the receiver is gone.
+    /// Sends a message. Blocks while the queue is full.
+    ///
+    /// # Errors
+    ///
+    /// The message, where the receiver has left.
     pub(crate) fn send(&mut self, message: M) -> Result<(), M>
         requires { May M.by_second (sender_log self.old) message }
         ensures sent { OnOk result (sender_log self.new ≡ put M.by_second (sender_log self.old) message) }
@@ -93,7 +103,8 @@ impl<M: Sent + Drop, R: Wait + Drop> SendEnd<M, R> {
 }
 
 impl<M: Sent + Drop, R: Wait + Drop> ReceiveEnd<M, R> {
-    /// Waits for the next message, and takes it; or none, where the senders are gone or an allocation failed.
+    /// Takes the next message. Blocks until there is one. Returns `None` where the senders are gone or an allocation
+    /// failed.
     pub(crate) fn receive(&mut self) -> Option<M>
         requires { (receiver_log self.old).takes ≡ true }
         ensures some { IfSome result (λ m. receiver_log self.new ≡ took (receiver_log self.old) m) }
@@ -102,7 +113,8 @@ impl<M: Sent + Drop, R: Wait + Drop> ReceiveEnd<M, R> {
         ensures room { receiver_room self.new ≡ receiver_room self.old }
     {
         let ReceiveEnd { rt, receiver, pass } = self;
-        // What comes within microseconds, as the next report of a run, is taken before a thread that sleeps could be woken.
+        // A message that comes within microseconds, such as the next report of a run, is taken before a sleeping thread
+        // could be woken.
         for _ in 0..POLLS {
             if let Ok(message) = receiver.try_recv_as::<Takes, R>(rt, pass) {
                 return Some(message);
@@ -112,7 +124,7 @@ impl<M: Sent + Drop, R: Wait + Drop> ReceiveEnd<M, R> {
         receiver.recv_as::<Takes, R>(rt, pass).ok()
     }
 
-    /// Leaves the queue: from now on a send hands its message back.
+    /// Leaves the queue: from now on `send` returns its message as an error.
     pub(crate) fn leave(self) -> ReceiveLog<M>
         ensures log { receive_log result ≡ receiver_log self }
         ensures queue { receive_log_queue result ≡ receiver_queue self }

@@ -1,4 +1,4 @@
-//! The ends of a queue, each with a pass that carries what was done at it.
+//! The ends of a queue, each with a pass that carries the log of what was done at it.
 
 ghost use Rattle.std.specs.Prelude.{◌≡◌, []};
 ghost use Rattle.crossbeam_channel.specs.Claims.{IsSeatAt};
@@ -27,7 +27,7 @@ pub(crate) struct ReceiveEnd<M: Sent + Drop, R: Wait + Drop> {
     ghost seated: { IsSeatAt (receives_on receiver) pass },
 }
 
-/// What was taken from a queue that its receiver has left.
+/// The log of what was received at an end of a queue that its receiver has left.
 #[derive(Drop)]
 pub struct ReceiveLog<M: Drop> {
     pub(crate) pass: Pass<M, EndLog<M>>,

@@ -30,8 +30,9 @@ pub struct ClientSender<R: Wait + Drop> {
 pub struct ReportSender<R: Wait + Drop> {
     pub(crate) alloc: Global,
     pub(crate) end: SendEnd<Arrival, R>,
-    // What was sent and isn't in the queue yet: reports that tell a client nothing, and few.
+    // What was sent and isn't in the queue yet: at most 16 reports, all of them quiet.
     pub(crate) kept: VecDeque<Report>,
+    // What was returned as an error.
     pub(crate) handed_back: GhostList<Report>,
     ghost puts: { (sender_log end).second ≡ true },
     ghost room: { sender_room end ≡ 64 },
@@ -39,20 +40,21 @@ pub struct ReportSender<R: Wait + Drop> {
     ghost few: { deque_len kept ≤ 16 },
 }
 
-/// The end of the session, which takes events.
+/// The end of the session, which receives events.
 #[derive(Drop)]
 pub struct EventReceiver<R: Wait + Drop> {
     pub(crate) rt: R,
     pub(crate) end: ReceiveEnd<Arrival, R>,
-    // What was taken from the queue and isn't given yet.
+    // What was taken from the queue and isn't returned to the session yet.
     pub(crate) rest: VecDeque<Report>,
+    // What was returned to the session.
     pub(crate) given: GhostList<Event>,
     ghost takes: { (receiver_log end).takes ≡ true },
     ghost room: { receiver_room end ≡ 64 },
     ghost in_order: { flat_map events_in (receiver_log end).taken ≡ given.entries ++ map event.Report rest.items } by { Coded-set (coded_list event_row.the_row.coded) _ _ },
 }
 
-/// What a session was given by an inbox that it has left.
+/// The log of what a session received from an inbox that it has left.
 #[derive(Drop)]
 pub struct InboxLog {
     pub(crate) log: ReceiveLog<Arrival>,

@@ -1,4 +1,4 @@
-//! The inbox of a session: what a client sends, and the reports of the runner.
+//! The inbox of a session: a queue of what a client sends and of the runner's reports.
 
 ghost use Rattle.std.specs.Prelude.{◌≡◌, ◌++◌, ◌∷◌, [], true, false, IfOk, IfErr, OnOk, OnErr, IsTrue};
 ghost use Rattle.dap_session.specs.Incoming.{incoming_of};
@@ -17,17 +17,18 @@ use std::collections::VecDeque;
 use std::mem;
 use std::sync::Wait;
 
-/// How many arrivals an inbox holds.
+/// How many messages the queue of an inbox has room for.
 const INBOX_CAPACITY: usize = 64;
 
-/// How many reports that tell a client nothing cross an inbox at once. To send each by itself takes longer than its slice.
+/// The largest number of quiet reports that cross an inbox in one message. Sending each by itself would take longer than
+/// its slice.
 const QUIET_LIMIT: usize = 16;
 
-/// An inbox: the ends of the reader, of the runner, and of the session.
+/// Makes an inbox. Returns the ends of the reader, of the runner and of the session.
 ///
 /// # Errors
 ///
-/// An allocation failed.
+/// `AllocError`, where an allocation failed.
 pub fn inbox<R: Wait + Copy + Drop>(
     rt: R,
     alloc: Global,
@@ -55,8 +56,8 @@ pub fn inbox<R: Wait + Copy + Drop>(
     ))
 }
 
-/// When all have ended: what the session was given of the reader's is a prefix of what that sent, and of the runner's
-/// likewise.
+/// Brings the logs of all ends together, when all threads were joined, and proves that what the session received is, of the
+/// reader and of the runner, a prefix of what each sent.
 pub fn reconcile_inbox<R: Wait + Drop>(
     client: ClientSender<R>,
     reports: ReportSender<R>,
@@ -70,7 +71,11 @@ pub fn reconcile_inbox<R: Wait + Drop>(
 }
 
 impl<R: Wait + Drop> ClientSender<R> {
-    /// Sends an event that is no report, waiting while the inbox is full; or hands it back, where the session is gone.
+    /// Sends an event that is not a report. Blocks while the inbox is full.
+    ///
+    /// # Errors
+    ///
+    /// The event, where the session has left the inbox.
     pub fn send(&mut self, event: Event) -> Result<(), Event>
         requires { is_report event ≡ false }
         ensures sent { OnOk result (client_events self.new ≡ client_events self.old ++ incoming_of event ∷ []) }
@@ -86,60 +91,7 @@ impl<R: Wait + Drop> ClientSender<R> {
     }
 }
 
-impl<R: Wait + Drop> ReportSender<R> {
-    /// Puts what was kept into the queue: whether it is there, or nothing was kept.
-    fn put_kept(&mut self) -> bool
-        ensures sent { sent_reports self.new ≡ sent_reports self.old }
-        ensures refused { self.new.handed_back ≡ self.old.handed_back }
-        ensures queue { report_queue self.new ≡ report_queue self.old }
-        ensures none { IsTrue result → self.new.kept.items ≡ [] }
-    {
-        if self.kept.is_empty() {
-            return true;
-        }
-        let kept = mem::replace(&mut self.kept, VecDeque::new(self.alloc));
-        match self.end.send(Arrival::Quiet(kept)) {
-            Ok(()) => true,
-            Err(Arrival::Quiet(back)) => {
-                self.kept = back;
-                false
-            }
-            Err(Arrival::Event(_)) => unreachable!(),
-        }
-    }
-
-    /// Puts a report into the queue after what was kept.
-    #[tactic(auto, using(crate::proofs::Sending::report_put))]
-    fn put(&mut self, report: Report) -> Result<(), Report>
-        ensures sent { OnOk result (sent_reports self.new ≡ sent_reports self.old ++ plain_report report ∷ []) }
-        ensures keeps_refused { OnOk result (refused_reports self.new ≡ refused_reports self.old) }
-        ensures refused { OnErr result (refused_reports self.new ≡ refused_reports self.old ++ plain_report report ∷ []) }
-        ensures keeps_sent { OnErr result (sent_reports self.new ≡ sent_reports self.old) }
-        ensures back { IfErr result (λ back. back ≡ report) }
-        ensures queue { report_queue self.new ≡ report_queue self.old }
-    {
-        if !self.put_kept() {
-            return Err(self.hand_back(report));
-        }
-        match self.end.send(Arrival::Event(Event::Report(report))) {
-            Ok(()) => Ok(()),
-            Err(Arrival::Event(Event::Report(back))) => Err(self.hand_back(back)),
-            Err(_) => unreachable!(),
-        }
-    }
-
-    /// Notes a report that is returned.
-    fn hand_back(&mut self, report: Report) -> Report
-        ensures back { result ≡ report }
-        ensures refused { refused_reports self.new ≡ refused_reports self.old ++ plain_report report ∷ [] }
-        ensures rest { self.new ≡ record self.old { handed_back = self.new.handed_back } }
-    {
-        self.handed_back = self.handed_back.and(&report);
-        report
-    }
-}
-
-/// Sends a report. One that tells a client nothing is kept, until one that does is sent or QUIET_LIMIT are kept.
+/// A quiet report is kept until one is sent that isn't quiet, or one more than QUIET_LIMIT were sent.
 impl<R: Wait + Drop> Reports for ReportSender<R> {
     ghost use Rattle.dap_wires.specs.declared.arrival.Arrival.{Arrival};
     ghost use Rattle.dap_wires.specs.Ends.{QueueId};
@@ -165,8 +117,66 @@ impl<R: Wait + Drop> Reports for ReportSender<R> {
     }
 }
 
+impl<R: Wait + Drop> ReportSender<R> {
+    /// Puts a report into the queue after those that were kept.
+    ///
+    /// # Errors
+    ///
+    /// The report, where the session has left the inbox.
+    #[tactic(auto, using(crate::proofs::Sending::report_put))]
+    fn put(&mut self, report: Report) -> Result<(), Report>
+        ensures sent { OnOk result (sent_reports self.new ≡ sent_reports self.old ++ plain_report report ∷ []) }
+        ensures keeps_refused { OnOk result (refused_reports self.new ≡ refused_reports self.old) }
+        ensures refused { OnErr result (refused_reports self.new ≡ refused_reports self.old ++ plain_report report ∷ []) }
+        ensures keeps_sent { OnErr result (sent_reports self.new ≡ sent_reports self.old) }
+        ensures back { IfErr result (λ back. back ≡ report) }
+        ensures queue { report_queue self.new ≡ report_queue self.old }
+    {
+        if !self.put_kept() {
+            return Err(self.hand_back(report));
+        }
+        match self.end.send(Arrival::Event(Event::Report(report))) {
+            Ok(()) => Ok(()),
+            Err(Arrival::Event(Event::Report(back))) => Err(self.hand_back(back)),
+            Err(_) => unreachable!(),
+        }
+    }
+
+    /// Puts the reports that were kept into the queue. Returns `true` where none is kept any more, and `false` where the
+    /// session has left the inbox.
+    fn put_kept(&mut self) -> bool
+        ensures sent { sent_reports self.new ≡ sent_reports self.old }
+        ensures refused { self.new.handed_back ≡ self.old.handed_back }
+        ensures queue { report_queue self.new ≡ report_queue self.old }
+        ensures none { IsTrue result → self.new.kept.items ≡ [] }
+    {
+        if self.kept.is_empty() {
+            return true;
+        }
+        let kept = mem::replace(&mut self.kept, VecDeque::new(self.alloc));
+        match self.end.send(Arrival::Quiet(kept)) {
+            Ok(()) => true,
+            Err(Arrival::Quiet(back)) => {
+                self.kept = back;
+                false
+            }
+            Err(Arrival::Event(_)) => unreachable!(),
+        }
+    }
+
+    /// Notes that a report is returned as an error, and returns it.
+    fn hand_back(&mut self, report: Report) -> Report
+        ensures back { result ≡ report }
+        ensures refused { refused_reports self.new ≡ refused_reports self.old ++ plain_report report ∷ [] }
+        ensures rest { self.new ≡ record self.old { handed_back = self.new.handed_back } }
+    {
+        self.handed_back = self.handed_back.and(&report);
+        report
+    }
+}
+
 impl<R: Wait + Drop> EventReceiver<R> {
-    /// Leaves the inbox: from now on an event that is sent is returned.
+    /// Leaves the inbox: from now on each event or report that is sent is returned as an error.
     pub fn leave(self) -> InboxLog
         ensures received { received result ≡ taken_events self }
         ensures queue { left_queue result ≡ event_queue self }

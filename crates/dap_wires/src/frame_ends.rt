@@ -15,8 +15,9 @@ pub struct FrameSender<R: Wait + Drop> {
     pub(crate) end: SendEnd<WriterMessage, R>,
     // The second sender's end, which nobody uses.
     pub(crate) unused: SendEnd<WriterMessage, R>,
+    // What was returned as an error.
     pub(crate) refused: GhostList<Vec<u8>>,
-    // A frame was refused.
+    // Whether a frame was refused.
     pub(crate) is_gone: bool,
     ghost puts: { (sender_log end).first ≡ true },
     ghost unused_puts: { (sender_log unused).second ≡ true },
@@ -25,7 +26,7 @@ pub struct FrameSender<R: Wait + Drop> {
     ghost gone: { is_gone ≡ false → refused.entries ≡ [] },
 }
 
-/// The end of a session that puts no more.
+/// The end of a session that puts no more frames.
 #[derive(Drop)]
 pub struct EndedSender<R: Wait + Drop> {
     pub(crate) end: SendEnd<WriterMessage, R>,

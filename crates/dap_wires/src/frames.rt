@@ -1,4 +1,4 @@
-//! The outbox of a session: the frames that go to a writer.
+//! The outbox of a session: a queue of the frames that go to a writer.
 
 ghost use Rattle.std.specs.Prelude.{◌≡◌, ◌≢◌, ◌⊎◌, ◌++◌, ◌∷◌, [], true, false, ℕ, IfOk, IfSome, IfNone};
 ghost use Rattle.dap_session.specs.Sending.{Begins};
@@ -15,14 +15,14 @@ use dbg_runner::GhostList;
 use std::alloc::{AllocError, Global};
 use std::sync::Wait;
 
-/// How many frames an outbox holds.
+/// How many messages the queue of an outbox has room for.
 const OUTBOX_CAPACITY: usize = 64;
 
-/// An outbox: the ends of the session and of the writer.
+/// Makes an outbox. Returns the ends of the session and of the writer.
 ///
 /// # Errors
 ///
-/// An allocation failed.
+/// `AllocError`, where an allocation failed.
 pub fn outbox<R: Wait + Copy + Drop>(
     rt: R,
     alloc: Global,
@@ -43,18 +43,19 @@ pub fn outbox<R: Wait + Copy + Drop>(
     ))
 }
 
-/// When both have ended: where the writer took the end, it took all frames that were put before; else it took the first of
-/// them.
-pub fn reconcile_outbox<R: Wait + Drop>(frames: EndedSender<R>, log: ReceiveLog<WriterMessage>)
-    requires one { (ended_unused_queue frames ≡ ended_queue frames) × (receive_log_queue log ≡ ended_queue frames) }
-    requires receiver { (receive_log log).takes ≡ true }
-    ensures taken { Begins (messages_received log) (messages_put frames) }
+/// Brings the logs of all ends together, when all threads were joined, and proves that the messages that the writer
+/// received are a prefix of those that the session put.
+pub fn reconcile_outbox<R: Wait + Drop>(frames: EndedSender<R>, received: ReceiveLog<WriterMessage>)
+    requires one { (ended_unused_queue frames ≡ ended_queue frames) × (receive_log_queue received ≡ ended_queue frames) }
+    requires received { (receive_log received).takes ≡ true }
+    ensures taken { Begins (messages_received received) (messages_put frames) }
 {
     reconcile(frames.end, frames.unused, log);
 }
 
 impl<R: Wait + Drop> FrameSender<R> {
-    /// Puts the end after all frames, unless a frame was refused: where the end was put, every frame was put before it.
+    /// Puts `WriterMessage::End` after all frames, unless a frame was refused. So where `End` was put, every frame was put
+    /// before it.
     pub fn finish(self) -> EndedSender<R>
         ensures put { (has_end (messages_put result) ≡ false) ⊎ AreEnded (messages_put result) }
         ensures refused { (put_frames self).refused ≢ [] → has_end (messages_put result) ≡ false }
@@ -100,7 +101,8 @@ impl<R: Wait + Drop> Out for FrameSender<R> {
 }
 
 impl<R: Wait + Drop> FrameReceiver<R> {
-    /// Waits for the next frame, or the end, and takes it; or none, where it is to be tried again.
+    /// Takes the next message. Blocks until there is one. Returns `None` where an allocation failed or the session's ends
+    /// are gone: the caller may try again.
     pub fn receive(&mut self) -> Option<WriterMessage>
         ensures some { IfSome result (λ message. messages_taken self.new ≡ messages_taken self.old ++ message ∷ []) }
         ensures none { IfNone result (messages_taken self.new ≡ messages_taken self.old) }
@@ -109,7 +111,7 @@ impl<R: Wait + Drop> FrameReceiver<R> {
         self.end.receive()
     }
 
-    /// Leaves the outbox: from now on a frame that is put is returned.
+    /// Leaves the outbox: from now on a frame that is put is returned as an error.
     pub fn leave(self) -> ReceiveLog<WriterMessage>
         ensures received { messages_received result ≡ messages_taken self }
         ensures takes { (receive_log result).takes ≡ true }

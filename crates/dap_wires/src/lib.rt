@@ -1,13 +1,14 @@
-//! What connects a session and a runner with the world and with each other: queues between threads, and the loops at an
-//! input and at an output.
+//! What connects a session and a runner with the world and with each other: queues between threads, and the loops that read
+//! an input and write an output.
 //!
 //! The one contract is the rule of the queues (`specs/Delivery`): what was taken and then what is inside is, of each
-//! sender, what it put, in its order, each once. [`inbox`], [`outbox`] and [`orders`] make a queue each; their ends
-//! meet the ports of [`dap_session`] and [`dbg_runner`], and [`reconcile_inbox`], [`reconcile_outbox`] and
-//! [`reconcile_orders`] compare them when all threads have ended. Reports that tell a client nothing cross an inbox
-//! several at once, and the session is given them one by one. [`read_loop`] and [`write_loop`] stand between a queue
-//! and a source or a sink of [`byte_streams`]: what the one sends is what it read, and what the other wrote is what it
-//! took. Each rule and each loop is of use without the others.
+//! sender, what it put, in its order, each once. [`inbox`], [`outbox`] and [`orders`] make a queue each, whose ends
+//! implement the ports of [`dap_session`] and [`dbg_runner`]. [`reconcile_inbox`], [`reconcile_outbox`] and
+//! [`reconcile_orders`] bring the logs of all ends together when all threads were joined, and prove that what was received
+//! is a prefix of what was sent. Quiet reports, for which a client gets no message, cross an inbox several at once, and the
+//! session receives them one by one. [`read_loop`] and [`write_loop`] stand between a queue and a source or a sink of
+//! [`byte_streams`]: the one sends what it read, and the other writes what it took. Each queue and each loop can be used
+//! without the others.
 #![tactic(auto)]
 
 mod arrival;

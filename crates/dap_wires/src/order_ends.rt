@@ -13,13 +13,14 @@ use dbg_runner::{GhostList, Order};
 use std::alloc::Global;
 use std::sync::{Arc, Wait};
 
-/// A session sends all orders.
+/// The session sends all orders, as the first sender.
 impl Sent for Order {
     ghost use Rattle.std.specs.Prelude.{false};
 
     ghost by_second = { λ _. false };
 }
 
+/// The queue of orders between a session and a runner.
 pub(crate) type OrderQueue = RuledArrayQueue<Order, EndLog<Order>, InOrder>;
 
 /// The end of the session, which pushes orders.
@@ -29,7 +30,7 @@ pub struct OrderSender<R: Wait + Drop> {
     pub(crate) queue: Arc<OrderQueue, Global>,
     pub(crate) pass: Pass<Order, EndLog<Order>>,
     pub(crate) unparker: Unparker,
-    // An entry for each order that found the queue full.
+    // An entry for each time that the queue was full.
     pub(crate) fulls: GhostList<()>,
     ghost seated: { IsPassOf (arc_value queue) pass },
     ghost four: { ruled_capacity (arc_value queue) ≡ 4 },

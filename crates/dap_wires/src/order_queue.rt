@@ -1,4 +1,4 @@
-//! The queue of orders, with a parker at which the runner sleeps. Nothing about orders rests on the parker.
+//! The queue of orders, with a parker at which the runner sleeps. No contract about orders depends on the parker.
 
 ghost use Rattle.std.specs.Prelude.{◌≡◌, ◌≢◌, ◌≤◌, ◌∷◌, ◌++◌, [], List, length, map, option_map, true, IfOk, OnOk, OnErr};
 ghost use Rattle.std.specs.Option.{option_to_list};
@@ -19,14 +19,14 @@ use dbg_runner::{GhostList, Order, OrdersIn};
 use std::alloc::{AllocError, Global};
 use std::sync::{Arc, Wait};
 
-/// How many orders the queue holds: an old run is held, a new one goes, is held, and the runner quits.
+/// How many orders the queue has room for: to hold an old run, to start a new one, to hold that, and to quit.
 const ORDERS_CAPACITY: usize = 4;
 
-/// A queue of orders: the ends of the session and of the runner.
+/// Makes a queue of orders. Returns the ends of the session and of the runner.
 ///
 /// # Errors
 ///
-/// An allocation failed.
+/// `AllocError`, where an allocation failed.
 pub fn orders<R: Wait + Copy + Drop>(
     rt: R,
     alloc: Global,
@@ -58,7 +58,8 @@ pub fn orders<R: Wait + Copy + Drop>(
     ))
 }
 
-/// When both have ended: the orders that the runner took are a prefix of those that the session pushed.
+/// Brings the logs of both ends together, when both threads were joined, and proves that the orders that the runner took
+/// are a prefix of those that the session pushed.
 pub fn reconcile_orders<R: Wait + Drop>(session: OrderSender<R>, runner: OrderReceiver<R>)
     requires { pop_queue runner ≡ push_queue session }
     ensures taken { Begins (taken_orders runner) (pushed_orders session).orders }
@@ -72,75 +73,6 @@ pub fn reconcile_orders<R: Wait + Drop>(session: OrderSender<R>, runner: OrderRe
     let OrderReceiver { mut pass, .. } = runner;
     queue.absorb::<First>(&mut pass, first);
     queue.learn_as::<Whole>(&mut pass);
-}
-
-/// Pushes an order, or hands it back where the queue was full.
-fn offer<R: Wait>(
-    rt: &R,
-    queue: &Arc<OrderQueue, Global>,
-    pass: &mut Pass<Order, EndLog<Order>>,
-    order: Order,
-) -> Result<(), Order>
-    requires seated { IsPassOf (arc_value queue.now) pass.old }
-    requires four { ruled_capacity (arc_value queue.now) ≡ 4 }
-    requires pushes { (view pass.old).first ≡ true }
-    ensures seated { IsPassOf (arc_value queue.now) pass.new }
-    ensures queue { pass.new.table_id ≡ pass.old.table_id }
-    ensures pushes { (view pass.new).first ≡ true }
-    ensures pushed { OnOk result (map plain_order (view pass.new).put_first ≡ map plain_order (view pass.old).put_first ++ plain_order order ∷ []) }
-    ensures refused { OnErr result (view pass.new ≡ view pass.old) }
-    ensures full { OnErr result ((taken inside : List Order) × ((view pass.old).put_first ≡ taken ++ inside) × (length inside ≡ 4)) }
-    ensures many { OnErr result (4 ≤ length (map plain_order (view pass.new).put_first)) }
-    ensures grows { 4 ≤ length (map plain_order (view pass.old).put_first) → 4 ≤ length (map plain_order (view pass.new).put_first) }
-{
-    match queue.push_as::<Puts, R>(rt, pass, order) {
-        Ok(()) => Ok(()),
-        Err(back) => Err(back),
-    }
-}
-
-/// Takes the next order, if one is there.
-fn take<R: Wait>(
-    rt: &R,
-    queue: &Arc<OrderQueue, Global>,
-    pass: &mut Pass<Order, EndLog<Order>>,
-) -> Option<Order>
-    requires seated { IsPassOf (arc_value queue.now) pass.old }
-    requires takes { (view pass.old).takes ≡ true }
-    ensures seated { IsPassOf (arc_value queue.now) pass.new }
-    ensures queue { pass.new.table_id ≡ pass.old.table_id }
-    ensures takes { (view pass.new).takes ≡ true }
-    ensures joins { (view pass.new).second ≡ (view pass.old).second }
-    ensures taken { map plain_order (view pass.new).taken ≡ map plain_order (view pass.old).taken ++ option_to_list (option_map plain_order result) }
-{
-    match queue.pop_as::<Takes, R>(rt, pass) {
-        None => None,
-        Some(order) => Some(order),
-    }
-}
-
-/// Waits for the next order, and takes it.
-fn take_next<R: Wait>(
-    rt: &R,
-    queue: &Arc<OrderQueue, Global>,
-    pass: &mut Pass<Order, EndLog<Order>>,
-    parker: &Parker,
-) -> Order
-    requires seated { IsPassOf (arc_value queue.now) pass.old }
-    requires takes { (view pass.old).takes ≡ true }
-    ensures seated { IsPassOf (arc_value queue.now) pass.new }
-    ensures queue { pass.new.table_id ≡ pass.old.table_id }
-    ensures takes { (view pass.new).takes ≡ true }
-    ensures joins { (view pass.new).second ≡ (view pass.old).second }
-    ensures taken { map plain_order (view pass.new).taken ≡ map plain_order (view pass.old).taken ++ plain_order result ∷ [] }
-{
-    for _ in rt.forever() {
-        if let Some(order) = take(rt, queue, pass) {
-            return order;
-        }
-        parker.park(rt);
-    }
-    unreachable!()
 }
 
 impl<R: Wait + Drop> Orders for OrderSender<R> {
@@ -205,4 +137,77 @@ impl<R: Wait + Drop> OrdersIn for OrderReceiver<R> {
         } = self;
         take_next(rt, queue, pass, parker)
     }
+}
+
+/// Pushes an order.
+///
+/// # Errors
+///
+/// The order, where the queue was full.
+fn offer<R: Wait>(
+    rt: &R,
+    queue: &Arc<OrderQueue, Global>,
+    pass: &mut Pass<Order, EndLog<Order>>,
+    order: Order,
+) -> Result<(), Order>
+    requires seated { IsPassOf (arc_value queue.now) pass.old }
+    requires four { ruled_capacity (arc_value queue.now) ≡ 4 }
+    requires pushes { (view pass.old).first ≡ true }
+    ensures seated { IsPassOf (arc_value queue.now) pass.new }
+    ensures queue { pass.new.table_id ≡ pass.old.table_id }
+    ensures pushes { (view pass.new).first ≡ true }
+    ensures pushed { OnOk result (map plain_order (view pass.new).put_first ≡ map plain_order (view pass.old).put_first ++ plain_order order ∷ []) }
+    ensures refused { OnErr result (view pass.new ≡ view pass.old) }
+    ensures full { OnErr result ((taken inside : List Order) × ((view pass.old).put_first ≡ taken ++ inside) × (length inside ≡ 4)) }
+    ensures many { OnErr result (4 ≤ length (map plain_order (view pass.new).put_first)) }
+    ensures grows { 4 ≤ length (map plain_order (view pass.old).put_first) → 4 ≤ length (map plain_order (view pass.new).put_first) }
+{
+    match queue.push_as::<Puts, R>(rt, pass, order) {
+        Ok(()) => Ok(()),
+        Err(back) => Err(back),
+    }
+}
+
+/// Takes the next order, or returns `None` where none is there.
+fn take<R: Wait>(
+    rt: &R,
+    queue: &Arc<OrderQueue, Global>,
+    pass: &mut Pass<Order, EndLog<Order>>,
+) -> Option<Order>
+    requires seated { IsPassOf (arc_value queue.now) pass.old }
+    requires takes { (view pass.old).takes ≡ true }
+    ensures seated { IsPassOf (arc_value queue.now) pass.new }
+    ensures queue { pass.new.table_id ≡ pass.old.table_id }
+    ensures takes { (view pass.new).takes ≡ true }
+    ensures joins { (view pass.new).second ≡ (view pass.old).second }
+    ensures taken { map plain_order (view pass.new).taken ≡ map plain_order (view pass.old).taken ++ option_to_list (option_map plain_order result) }
+{
+    match queue.pop_as::<Takes, R>(rt, pass) {
+        None => None,
+        Some(order) => Some(order),
+    }
+}
+
+/// Takes the next order. Blocks until there is one.
+fn take_next<R: Wait>(
+    rt: &R,
+    queue: &Arc<OrderQueue, Global>,
+    pass: &mut Pass<Order, EndLog<Order>>,
+    parker: &Parker,
+) -> Order
+    requires seated { IsPassOf (arc_value queue.now) pass.old }
+    requires takes { (view pass.old).takes ≡ true }
+    ensures seated { IsPassOf (arc_value queue.now) pass.new }
+    ensures queue { pass.new.table_id ≡ pass.old.table_id }
+    ensures takes { (view pass.new).takes ≡ true }
+    ensures joins { (view pass.new).second ≡ (view pass.old).second }
+    ensures taken { map plain_order (view pass.new).taken ≡ map plain_order (view pass.old).taken ++ plain_order result ∷ [] }
+{
+    for _ in rt.forever() {
+        if let Some(order) = take(rt, queue, pass) {
+            return order;
+        }
+        parker.park(rt);
+    }
+    unreachable!()
 }

@@ -1,4 +1,4 @@
-//! From an input to the inbox.
+//! The loop that reads an input and sends what it read to an inbox.
 
 ghost use Rattle.std.specs.Prelude.{◌≡◌, ◌++◌, List};
 ghost use Rattle.dap_history.specs.Events.{Incoming};
@@ -23,12 +23,12 @@ pub enum ReadEnd {
     Failed,
     /// An allocation failed.
     NoMemory,
-    /// The inbox handed an event back.
+    /// The session had left the inbox, so an event was returned as an error.
     HandedBack,
 }
 
-/// Reads pieces and sends them, until the end of the input, a failure, an allocation that fails, or an event that the inbox
-/// returns.
+/// Reads pieces of an input and sends them, until the input ends, a read or an allocation fails, or the session has left
+/// the inbox. Returns which of these it was. All but the last are sent to the inbox too.
 pub fn read_loop<I: Source, R: Wait + Drop>(
     rt: &impl Wait,
     alloc: Global,
@@ -53,7 +53,7 @@ pub fn read_loop<I: Source, R: Wait + Drop>(
     unreachable!()
 }
 
-/// How reading ends by this event, if it does.
+/// Returns how reading ends with this event, or `None` where it goes on.
 fn end_of(event: &Event) -> Option<ReadEnd>
     ensures { result ≡ end_by (incoming_of event.now) }
 {

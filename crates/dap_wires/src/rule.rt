@@ -4,15 +4,15 @@ use crate::end_log::EndLog;
 use crossbeam_channel::protocol::{Join, Lesson, Outcome, Protocol, Split};
 use crossbeam_queue::protocol as queue;
 
-/// What is sent through a queue by two senders.
+/// A message that one of two senders sends through a queue.
 pub(crate) trait Sent {
     ghost use Rattle.std.specs.Prelude.{Bool};
 
-    /// The second sender sends it.
+    /// Whether the second sender sends it.
     ghost by_second: { Self → Bool };
 }
 
-/// What is taken and then what is inside is, of each sender, what it put.
+/// The rule: what was taken and then what is inside is, of each sender, what it put.
 pub(crate) struct InOrder;
 
 impl<M: Sent> Protocol<M, EndLog<M>> for InOrder {
@@ -24,7 +24,7 @@ impl<M: Sent> Protocol<M, EndLog<M>> for InOrder {
     ghost first = { log true true true [] [] [] };
 }
 
-/// Puts a message.
+/// The step that puts a message.
 pub(crate) struct Puts;
 
 impl<M: Sent> Outcome<M, EndLog<M>> for Puts {
@@ -40,7 +40,7 @@ impl<M: Sent> Lesson<M, EndLog<M>> for Puts {
     ghost fact = { WasInside M.by_second };
 }
 
-/// Takes a message.
+/// The step that takes a message.
 pub(crate) struct Takes;
 
 impl<M: Sent> Outcome<M, EndLog<M>> for Takes {
@@ -50,14 +50,14 @@ impl<M: Sent> Outcome<M, EndLog<M>> for Takes {
     ghost then = { λ v x w. w ≡ took v x };
 }
 
-// A receiver learns nothing from the fact that nothing was inside at one moment.
+// A receiver has no use for what was inside at one moment, so it learns nothing.
 impl<M: Sent> Lesson<M, EndLog<M>> for Takes {
     ghost use Rattle.std.specs.Prelude.{⊤};
 
     ghost fact = { λ v inside. ⊤ };
 }
 
-/// What is known by who has every right.
+/// What an end with every right knows.
 pub(crate) struct Whole;
 
 impl<M: Sent> Lesson<M, EndLog<M>> for Whole {
@@ -66,7 +66,7 @@ impl<M: Sent> Lesson<M, EndLog<M>> for Whole {
     ghost fact = { Balances M.by_second };
 }
 
-/// The right of the first sender, which goes away and comes back.
+/// The right of the first sender, which is split off and joined again.
 pub(crate) struct First;
 
 impl<M> Split<EndLog<M>> for First {
@@ -85,7 +85,7 @@ impl<M> Join<EndLog<M>> for First {
     ghost spent = { idle };
 }
 
-/// The right of the second sender, which goes away and comes back.
+/// The right of the second sender, which is split off and joined again.
 pub(crate) struct Second;
 
 impl<M> Split<EndLog<M>> for Second {
@@ -104,7 +104,7 @@ impl<M> Join<EndLog<M>> for Second {
     ghost spent = { idle };
 }
 
-// The same rule for a queue of `crossbeam_queue`, whose traits are others.
+// The same rule for a queue of `crossbeam_queue`, which has traits of its own.
 
 impl<M: Sent> queue::Protocol<M, EndLog<M>> for InOrder {
     ghost use Rattle.std.specs.Prelude.{true, []};

@@ -1,4 +1,4 @@
-//! From the input to events.
+//! Reading one event from an input.
 ghost use Rattle.std.specs.Prelude.{◌≡◌, false};
 ghost use Rattle.byte_streams.specs.Streams.{supply};
 ghost use Rattle.dap_session.specs.Incoming.{incoming_of};
@@ -10,11 +10,11 @@ use dap_session::Event;
 use std::alloc::Global;
 use std::sync::Wait;
 
-/// A piece has at most this many bytes.
+/// The largest length of a piece, in bytes.
 pub(crate) const PIECE_LIMIT: usize = 4096;
 
-/// Reads the next piece, or says why there is none. An interrupted read is tried again. What stands in `room` doesn't
-/// matter: it is lent, so that it need not be cleared for each read.
+/// Reads the next piece, and returns it as an event, or an event that says why there is none. An interrupted read is tried
+/// again. The contents of `room` don't matter: the caller lends it so that it isn't cleared for each read.
 pub(crate) fn read_event<I: Source>(
     rt: &impl Wait,
     alloc: Global,
@@ -24,7 +24,7 @@ pub(crate) fn read_event<I: Source>(
     ensures read { IsRead (incoming_of result) (supply (I.left input.old) (I.failures input.old)) (supply (I.left input.new) (I.failures input.new)) }
     ensures own { is_report result ≡ false }
 {
-    // Before the read: what was read can't be unread.
+    // This comes before the read, since what was read can't be put back.
     let Ok(mut piece) = Vec::with_capacity(alloc, PIECE_LIMIT) else {
         return Event::NoMemory;
     };

@@ -1,8 +1,8 @@
-//! What goes to a writer.
+//! The messages in the queue of an outbox.
 
 use crate::rule::Sent;
 
-/// What goes to a writer.
+/// A message to a writer.
 #[derive(Drop)]
 pub enum WriterMessage {
     /// The next frame.
@@ -11,7 +11,7 @@ pub enum WriterMessage {
     End,
 }
 
-/// A session sends all.
+/// The session sends all of them, as the first sender.
 impl Sent for WriterMessage {
     ghost use Rattle.std.specs.Prelude.{false};
 

@@ -1,4 +1,4 @@
-//! From the outbox to an output.
+//! The loop that takes frames from an outbox and writes them to an output.
 
 ghost use Rattle.std.specs.Prelude.{◌≡◌, ◌++◌, List};
 ghost use Rattle.dap_wires.specs.declared.writer_message.WriterMessage.{WriterMessage};
@@ -15,11 +15,11 @@ use std::sync::Wait;
 #[derive(Clone, Copy)]
 pub struct WriteFailed;
 
-/// Writes the frames that come, each whole before it waits for the next, until the end comes.
+/// Takes frames from an outbox and writes each whole before it takes the next, until `WriterMessage::End` comes.
 ///
 /// # Errors
 ///
-/// The output failed: a prefix of the frames that were taken was written.
+/// `WriteFailed`, where the output failed. A prefix of the frames that were taken was written.
 pub fn write_loop<O: Sink, R: Wait + Drop>(
     rt: &impl Wait,
     output: &mut O,

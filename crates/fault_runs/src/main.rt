@@ -5,6 +5,7 @@
 use adapter::{Reading, Writing, run};
 use std::process::ExitCode;
 
+/// Does what the `main` of `pl0dap` does.
 fn main(rt: HostRuntime) -> ExitCode {
     let input = &mut Reading::new(&rt, rt.stdin());
     let output = &mut Writing::new(&rt, rt.stdout());

@@ -1,7 +1,7 @@
--- Defines how one content is renumbered. Its JSON (RFC 8259) is that of the crate `json`, on whose definitions
--- `serde_json` and so `dap_msg` build. The Debug Adapter Protocol's base protocol: "seq: Sequence number of the message
--- (also known as message ID). The `seq` for the first message sent by a client or debug adapter is 1, and for each
--- subsequent message is 1 greater than the previous".
+-- Defines how one content is renumbered. Its JSON (RFC 8259) is that of the crate `json`, on whose definitions `serde_json`
+-- and so `dap_msg` build. The Debug Adapter Protocol's base protocol: "seq: Sequence number of the message (also known as
+-- message ID). The `seq` for the first message sent by a client or debug adapter is 1, and for each subsequent message is 1
+-- greater than the previous".
 use Rattle.std.specs.Prelude.{◌≡◌, ℕ, ◌+◌, ◌-◌, ◌^◌, ◌||◌, Bool, false, nat_lt, List, codes, decimal, if◌then◌else◌, Option, None, Some, option_map, option_and_then}
 use Rattle.std.specs.Option.{option_map_or, is_some}
 use Rattle.std.specs.Str.{IsUtf8, bytes_eq, is_utf8}

@@ -124,8 +124,8 @@ impl Renumberer {
     }
 }
 
-/// Feeds the decoder `byte`, the last of the bytes that are held. Appends to `out` the renumbered frame that is whole
-/// then, or all held bytes at a framing fault. Returns how the stream goes on.
+/// Feeds the decoder `byte`, the last of the bytes that are held. Appends to `out` the renumbered frame that is whole then,
+/// or all held bytes at a framing fault. Returns how the stream goes on.
 ///
 /// # Errors
 ///
@@ -177,16 +177,6 @@ fn feed(decoder: &mut Decoder, byte: u8) -> Result<(), AllocError>
     }
 }
 
-/// Whether the fault is that memory ran out.
-fn is_no_memory(fault: FramingFault) -> bool
-    ensures { MatchBool result (fault ≡ NoMemory) (fault ≢ NoMemory) }
-{
-    match fault {
-        FramingFault::NoMemory => true,
-        _ => false,
-    }
-}
-
 /// Appends to `out` the frame of the renumbered content. On an error nothing is appended.
 fn append_frame(
     alloc: Global,
@@ -204,5 +194,15 @@ fn append_frame(
     match encoded {
         Ok(()) => Ok(()),
         Err(_) => Err(AllocError),
+    }
+}
+
+/// Whether the fault is that memory ran out.
+fn is_no_memory(fault: FramingFault) -> bool
+    ensures { MatchBool result (fault ≡ NoMemory) (fault ≢ NoMemory) }
+{
+    match fault {
+        FramingFault::NoMemory => true,
+        _ => false,
     }
 }

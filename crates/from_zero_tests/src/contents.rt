@@ -1,4 +1,4 @@
-//! Contents, and what becomes of them.
+//! Tests of contents and what they are renumbered to.
 
 use from_zero::{Change, renumber};
 

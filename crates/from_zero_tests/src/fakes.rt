@@ -19,6 +19,7 @@ pub struct Input<'a, R: Abort> {
 }
 
 impl<'a, R: Abort> Input<'a, R> {
+    /// A source that never fails.
     pub fn new(rt: &'a R, bytes: &'a [u8], step: usize) -> Input<'a, R> {
         Input {
             rt,
@@ -88,6 +89,7 @@ impl<R: Abort> Sink for Output<'_, R> {
     }
 }
 
+/// Returns `count + 1`. Aborts where that doesn't fit 64 bits.
 fn next_count<R: Abort>(rt: &R, count: u64) -> u64
     ensures { result ≡ count + 1 }
 {

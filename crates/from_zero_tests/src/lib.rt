@@ -1,5 +1,5 @@
-//! Tests of renumbered streams, over public calls alone: contents as editors send them and as no editor does, however
-//! they are cut. It is never installed.
+//! Tests of renumbered streams, over public calls alone: contents as editors send them and as no editor does, however the
+//! streams are cut. It is never installed.
 #![tactic(auto)]
 
 #[cfg(test)]

@@ -1,4 +1,4 @@
-//! Streams, however they are cut.
+//! Tests of renumbered streams, however they are cut.
 
 use crate::fakes::{Input, Output};
 use byte_streams::{IoFault, Sink, Source, write_all};
@@ -7,7 +7,7 @@ use std::alloc::Global;
 use std::process::Abort;
 use std::sync::Wait;
 
-/// What the client sends, and what the session reads.
+/// What a client sends, and what the session reads.
 const READ: [(&str, &str); 8] = [
     ("", ""),
     (
@@ -40,7 +40,7 @@ const READ: [(&str, &str); 8] = [
     ),
 ];
 
-/// All that a source gives, in reads of at most `room` bytes, and whether a read failed at last.
+/// Returns all that a source returns in reads of at most `room` bytes, and whether the last read failed.
 fn read_all<R: Abort + Wait, I: Source>(
     rt: &R,
     alloc: Global,
@@ -95,7 +95,8 @@ fn passes_a_failed_read_on(rt: HostRuntime) {
     }
 }
 
-/// What the client reads of what the session writes in pieces of `piece` bytes, and whether all was written.
+/// Returns what the client reads where the session writes `bytes` in pieces of `piece` bytes and the client takes at most
+/// `room` bytes, and whether all was written.
 fn written<R: Abort + Wait>(
     rt: &R,
     alloc: Global,

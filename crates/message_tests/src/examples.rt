@@ -1,4 +1,4 @@
-//! The example calls at the heads of `dap_frame` and `dap_msg`.
+//! The examples in the documentation of `dap_frame` and `dap_msg`.
 
 use dap_frame::{Decoder, encode};
 use dap_msg::{Body, Outgoing, read, write};

@@ -1,11 +1,11 @@
-//! Frames out of streams, however the streams are cut, and the frames of contents.
+//! Tests of frames: read from streams, however the streams are cut, and written for contents.
 
 use crate::text::repeated;
 use dap_frame::{Decoder, encode};
 use std::alloc::Global;
 use std::process::Abort;
 
-/// A stream, and what comes out of it: each content with a line feed after it, then the fault.
+/// Streams, and what is read from each: each content with a line feed after it, then the fault.
 const STREAMS: [(&str, &str); 29] = [
     ("", ""),
     ("Content-Length: 2\r\n\r\n{", ""),
@@ -44,7 +44,7 @@ const STREAMS: [(&str, &str); 29] = [
     ("Content-Length: 9999999\r\n", "TooLarge"),
 ];
 
-/// Feeds a piece, and takes all contents that are whole then. After a fault a decoder answers it for good.
+/// Feeds a piece, and appends to `seen` all contents that are whole then. After a fault a decoder returns it on every call.
 fn take_piece(rt: &impl Abort, decoder: &mut Decoder, piece: &[u8], seen: &mut Vec<u8>) {
     if decoder.feed(piece).is_err() {
         return;
@@ -59,7 +59,8 @@ fn take_piece(rt: &impl Abort, decoder: &mut Decoder, piece: &[u8], seen: &mut V
     }
 }
 
-/// Whether this comes out of a stream whose first bytes come in one piece, and the others in pieces of `step` bytes.
+/// Whether `expected` is read from a stream of which the first bytes are fed in one piece, and the others in pieces of
+/// `step` bytes.
 fn gives(
     rt: &impl Abort,
     alloc: Global,
@@ -125,7 +126,7 @@ fn decodes_headers_up_to_the_limit(rt: HostRuntime) {
     }
 }
 
-/// A content of 1,048,576 bytes is given, and not refused as out of memory.
+/// A content of 1,048,576 bytes is returned, and not refused as out of memory.
 #[test]
 fn decodes_the_largest_content(rt: HostRuntime) {
     let alloc = rt.alloc();

@@ -1,8 +1,8 @@
 //! Tests of frames and messages, over the public calls of their two crates alone: what no contract says, as the texts that
 //! editors know, and that each call can succeed at the largest sizes. It is never installed.
 //!
-//! `examples` has those of the crates' pages, `frames` tries the decoder, `requests` reading and `messages` writing. `text`
-//! makes long texts for them.
+//! `examples` has the examples of the crates' documentation, `frames` tests the decoder, `requests` tests reading and
+//! `messages` writing. `text` makes long texts for them.
 #![tactic(auto)]
 
 #[cfg(test)]

@@ -1,4 +1,4 @@
-//! Messages written as contents.
+//! Tests of messages written as contents.
 
 use crate::text::repeated;
 use dap_msg::{
@@ -8,10 +8,12 @@ use dap_msg::{
 use std::alloc::Global;
 use std::process::Abort;
 
+/// A text of a message.
 fn text(rt: &impl Abort, alloc: Global, text: &str) -> Text {
     Text::new(String::from_str(alloc, text).expect(rt, "memory"))
 }
 
+/// An answer to the request 4.
 fn answer(command: Supported, outcome: Result<Body, Refusal>) -> Outgoing {
     Outgoing::Answer {
         request_seq: 4,
@@ -20,7 +22,7 @@ fn answer(command: Supported, outcome: Result<Body, Refusal>) -> Outgoing {
     }
 }
 
-/// Whether a message is written as this content, after what stood there.
+/// Whether a message is written as this content, after the bytes that were there before.
 fn is_written(
     rt: &impl Abort,
     alloc: Global,
@@ -47,7 +49,7 @@ fn is_body_written(
     is_ended_so(rt, alloc, &answer, expected, end)
 }
 
-/// Whether a message is written as this beginning and this end of a content.
+/// Whether a message is written as a content with `first` and then `end` in it.
 fn is_ended_so(rt: &impl Abort, alloc: Global, message: &Outgoing, first: &str, end: &str) -> bool {
     let content = format!(in alloc; "{{{first},{end}}}").expect(rt, "memory");
     is_written(rt, alloc, message, 6, content.as_str())
@@ -102,7 +104,7 @@ fn writes_breakpoints(rt: HostRuntime) {
     assert!(rt; is_body_written(&rt, alloc, Supported::SetBreakpoints, body, expected));
 }
 
-/// So many frames of the main block.
+/// Returns `count` frames of the main block.
 fn frames(rt: &impl Abort, alloc: Global, count: usize) -> Vec<StackFrame> {
     let mut frames = Vec::new(alloc);
     for _ in 0..count {
@@ -230,7 +232,7 @@ fn writes_names_as_they_came(rt: HostRuntime) {
     assert!(rt; is_written(&rt, alloc, &answer, 1, expected));
 }
 
-/// Events, and the beginning of the content of each.
+/// Events, and what the content of each begins with.
 const EVENTS: [(EventBody, &str); 4] = [
     (EventBody::Initialized, r#""event":"initialized""#),
     (

@@ -1,10 +1,11 @@
-//! Contents read as requests.
+//! Tests of contents read as requests.
 
 use crate::text::repeated;
 use dap_msg::{Request, read};
 use std::alloc::Global;
 use std::process::Abort;
 
+/// What the request 1 for `initialize`, without arguments, is read as.
 const INITIALIZE_1: &str =
     "Some(Request { seq: 1, body: Initialize(InitializeArguments { lines_start_at_1: true, columns_start_at_1: true }) })";
 
@@ -50,7 +51,7 @@ const CONTENTS: [(&[u8], &str); 14] = [
     ),
 ];
 
-/// Values of `seq`, and what a request under them is read as.
+/// Values of `seq`, and what a request with each of them is read as.
 const SEQS: [(&str, &str); 9] = [
     ("0", "None"),
     ("1.0", "None"),
@@ -66,9 +67,10 @@ const SEQS: [(&str, &str); 9] = [
     ),
 ];
 
-/// Commands, their arguments, and what is asked.
+/// A command, its arguments, and what is asked.
 type Row = (&'static str, &'static str, &'static str);
 
+/// Requests for `initialize`.
 const INITIALIZE: [Row; 6] = [
     ("initialize", "null", "BadArguments(Initialize)"),
     ("initialize", "[]", "BadArguments(Initialize)"),
@@ -94,6 +96,7 @@ const INITIALIZE: [Row; 6] = [
     ),
 ];
 
+/// Requests for `launch`.
 const LAUNCH: [Row; 11] = [
     (
         "launch",
@@ -128,6 +131,7 @@ const LAUNCH: [Row; 11] = [
     ),
 ];
 
+/// Requests for `setBreakpoints`.
 const SET_BREAKPOINTS: [Row; 13] = [
     (
         "setBreakpoints",
@@ -192,12 +196,14 @@ const SET_BREAKPOINTS: [Row; 13] = [
     ),
 ];
 
+/// Requests for commands that read no arguments.
 const WITHOUT_ARGUMENTS: [Row; 3] = [
     ("configurationDone", "null", "ConfigurationDone"),
     ("threads", "\"x\"", "Threads"),
     ("disconnect", "null", "Disconnect"),
 ];
 
+/// Requests for commands that name a thread.
 const THREADS: [Row; 15] = [
     (
         "continue",
@@ -248,6 +254,7 @@ const THREADS: [Row; 15] = [
     ("pause", "null", "BadArguments(Pause)"),
 ];
 
+/// Requests for `stackTrace`, `scopes` and `variables`.
 const FRAMES: [Row; 9] = [
     (
         "stackTrace",
@@ -288,6 +295,7 @@ const FRAMES: [Row; 9] = [
     ("variables", r#"{"frameId":3}"#, "BadArguments(Variables)"),
 ];
 
+/// Requests for `evaluate`, and one for a command that is not supported.
 const EXPRESSIONS: [Row; 6] = [
     (
         "evaluate",
@@ -371,7 +379,7 @@ fn reads_arguments(rt: HostRuntime) {
     }
 }
 
-/// Arguments with a part that may stand at most so often.
+/// Arguments with a part that may be repeated at most `most` times.
 struct Limit {
     command: &'static str,
     first: &'static str,
@@ -380,6 +388,7 @@ struct Limit {
     last: &'static str,
 }
 
+/// The limits of the arguments, one by one.
 const LIMITS: [Limit; 6] = [
     Limit {
         command: "launch",
@@ -425,7 +434,7 @@ const LIMITS: [Limit; 6] = [
     },
 ];
 
-/// Whether the arguments fit with their part so often.
+/// Whether the arguments are accepted with their part repeated `times` times.
 fn fits(rt: &impl Abort, alloc: Global, limit: &Limit, times: usize) -> bool {
     let command = limit.command;
     let head = format!(in alloc;

@@ -1,8 +1,8 @@
-//! Texts with a part that is repeated.
+//! Long texts for tests, with a part that is repeated.
 use std::alloc::Global;
 use std::process::Abort;
 
-/// `first`, then `middle` as often as `times` says, then `last`.
+/// Returns `first`, then `middle` `times` times, then `last`.
 pub fn repeated(
     rt: &impl Abort,
     alloc: Global,

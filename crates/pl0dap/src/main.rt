@@ -4,6 +4,7 @@
 use adapter::{Reading, Writing, run};
 use std::process::ExitCode;
 
+/// Serves or checks as the arguments ask, and exits with the status of how that ended.
 fn main(rt: HostRuntime) -> ExitCode {
     let input = &mut Reading::new(&rt, rt.stdin());
     let output = &mut Writing::new(&rt, rt.stdout());

@@ -1,5 +1,5 @@
-//! `pl0dap_from_zero`: the program `pl0dap` for editors that number their requests from 0. Where it serves, standard
-//! input and output are renumbered, as said in `from_zero`; the listing and the help are written as they are.
+//! `pl0dap_from_zero`: the program `pl0dap` for editors that number their requests from 0. Where it serves, standard input
+//! and output are renumbered, as said in `from_zero`; the listing and the help are written as they are.
 #![tactic(auto)]
 
 use adapter::arguments::{Invocation, parse_arguments};
@@ -9,6 +9,7 @@ use std::process::ExitCode;
 use std::rt::Env;
 use std::{env, io};
 
+/// Does what `pl0dap` does, over renumbered streams where the arguments ask to serve.
 fn main(rt: HostRuntime) -> ExitCode {
     let mut input = Reading::new(&rt, rt.stdin());
     let mut output = Writing::new(&rt, rt.stdout());
@@ -21,7 +22,7 @@ fn main(rt: HostRuntime) -> ExitCode {
     ExitCode::from(run(&rt, &mut input, &mut output, &mut errors).status())
 }
 
-/// Whether the arguments of this process ask to serve. Where they can't be had they don't.
+/// Whether the arguments of this process ask to serve. Returns `false` where they can't be read.
 fn serves(rt: &(impl Env + AllocGlobal)) -> bool {
     let Ok(given) = given_arguments(rt) else {
         return false;
@@ -36,7 +37,11 @@ fn serves(rt: &(impl Env + AllocGlobal)) -> bool {
     }
 }
 
-/// The arguments of this process, the program's name first.
+/// Returns the arguments of this process, the program's name first.
+///
+/// # Errors
+///
+/// Memory ran out, or an argument is not text.
 fn given_arguments(rt: &(impl Env + AllocGlobal)) -> io::Result<Vec<String>> {
     Ok(env::args(rt)?.collect(rt.alloc())?)
 }

@@ -1,4 +1,4 @@
-//! The code of a text.
+//! Compiling a program text.
 
 ghost use Rattle.std.specs.Prelude.{◌≡◌, IfOk, IfErr};
 ghost use Rattle.pl0_tree.specs.Faults.{IsFirstFault, FaultIs};
@@ -9,11 +9,11 @@ use pl0_unit::Unit;
 use std::alloc::Global;
 use std::sync::Arc;
 
-/// The program of a text, with its code.
+/// Returns the program of a text, with its code.
 ///
 /// # Errors
 ///
-/// The first fault of the text, or out of memory.
+/// The first fault of the text, or `NoMemory`.
 pub fn compiled(alloc: Global, text: &str) -> Result<Arc<Unit>, SyntaxFault>
     ensures kept { IfOk result (λ unit. unit.value.tree.text.items ≡ text.now) }
     ensures fault { IfErr result (FaultIs (IsFirstFault text.now)) }

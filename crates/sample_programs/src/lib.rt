@@ -1,7 +1,7 @@
 //! PL/0 programs for tests to run: worked ones, and random ones, each from a seed. Nothing here is installed.
 //!
-//! `worked` has the worked ones, and `writer` writes the random ones, by the numbers of `random`. `compiling` makes the
-//! code of any.
+//! `worked` has the worked ones, and `writer` writes the random ones, by the numbers of `random`. `compiling` compiles any
+//! of them.
 #![tactic(auto)]
 
 mod compiling;

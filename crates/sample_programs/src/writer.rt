@@ -1,12 +1,15 @@
-//! Random programs.
+//! Writing random programs.
 
 use crate::random::Random;
 use std::alloc::{AllocError, Global};
 
+/// The names of variables. A block declares the first few.
 const VARIABLES: [&str; 4] = ["a", "b", "c", "d"];
 
+/// The names of constants.
 const CONSTANTS: [&str; 2] = ["most", "six"];
 
+/// The numbers that stand in programs.
 const NUMBERS: [&str; 10] = [
     "0",
     "1",
@@ -20,11 +23,13 @@ const NUMBERS: [&str; 10] = [
     "9223372036854775807",
 ];
 
+/// The operators of expressions. Some stand twice, to be picked more often.
 const OPERATORS: [&str; 7] = [" + ", " - ", " * ", " / ", " + ", " - ", " / "];
 
+/// The relations of conditions.
 const RELATIONS: [&str; 6] = [" = ", " # ", " < ", " <= ", " > ", " >= "];
 
-/// A text under way.
+/// A program text that is being written.
 #[derive(Drop)]
 struct Writer {
     random: Random,
@@ -40,11 +45,11 @@ struct Writer {
     failed: bool,
 }
 
-/// The text of a random program. It is meant to be lawful, which no contract says: tests compile it.
+/// Returns the text of a random program. It should have no fault, which no contract says: tests compile it.
 ///
 /// # Errors
 ///
-/// An allocation failed.
+/// `AllocError`, where an allocation failed.
 pub fn random_program(alloc: Global, seed: u64) -> Result<String, AllocError> {
     let mut writer = Writer {
         random: Random { state: seed },
@@ -64,17 +69,8 @@ pub fn random_program(alloc: Global, seed: u64) -> Result<String, AllocError> {
 }
 
 impl Writer {
-    fn put(&mut self, word: &str) {
-        self.failed |= self.text.push_str(word).is_err();
-    }
-
-    /// A procedure's name.
-    fn put_procedure(&mut self, number: u32) {
-        self.failed |= write!(self.text, "p{number}").is_err();
-    }
-
-    /// A block, in which blocks are nested to this depth. Each declares the first few names, so an inner block's names hide
-    /// those of the blocks around it.
+    /// Writes a block, in which blocks are nested at most `depth` deep. Each declares the first few names, so an inner
+    /// block's names hide those of the blocks around it.
     fn block(&mut self, depth: u32) {
         let variables = self.variables;
         let constants = self.constants;
@@ -100,6 +96,7 @@ impl Writer {
         self.callable.truncate(callable);
     }
 
+    /// Declares the constants, or none.
     fn declare_constants(&mut self) {
         if self.random.percent(30) {
             self.put("const most = 9223372036854775807, six = ");
@@ -110,7 +107,7 @@ impl Writer {
         }
     }
 
-    /// The main block declares some, and each other block none or some.
+    /// Declares some variables. A block inside another one may declare none.
     fn declare_variables(&mut self) {
         if self.variables != 0 && self.random.percent(40) {
             return;
@@ -127,7 +124,8 @@ impl Writer {
         self.variables = self.variables.max(count);
     }
 
-    /// The heading of a procedure, which can call itself, and can be called in what follows it in the block around it.
+    /// Writes the heading of a procedure, which can call itself and can be called in what follows it in the block around
+    /// it.
     fn heading(&mut self) {
         let number = self.procedures;
         self.procedures = number.saturating_add(1);
@@ -137,7 +135,7 @@ impl Writer {
         self.put(";\n");
     }
 
-    /// A statement, in which statements are nested to this depth.
+    /// Writes a statement, in which statements are nested at most `depth` deep.
     fn statement(&mut self, depth: u32) {
         let kind = self.random.below(100);
         if kind < 35 || depth == 0 {
@@ -162,17 +160,20 @@ impl Writer {
         }
     }
 
+    /// Writes an assignment.
     fn assignment(&mut self) {
         self.variable();
         self.put(" := ");
         self.expression(3);
     }
 
+    /// Writes the name of a variable that is declared.
     fn variable(&mut self) {
         let name = self.random.pick(&VARIABLES, self.variables);
         self.put(name);
     }
 
+    /// Writes a call of a procedure, or an assignment where none may be called.
     fn call(&mut self) {
         let index = self.random.below(self.callable.len());
         match self.callable.get(index).copied() {
@@ -184,6 +185,7 @@ impl Writer {
         }
     }
 
+    /// Writes a condition.
     fn condition(&mut self) {
         if self.random.percent(20) {
             self.put("odd ");
@@ -196,7 +198,7 @@ impl Writer {
         self.expression(2);
     }
 
-    /// An expression, in which expressions are nested to this depth.
+    /// Writes an expression, in which expressions are nested at most `depth` deep.
     fn expression(&mut self, depth: u32) {
         if depth == 0 || self.random.percent(40) {
             self.factor();
@@ -220,6 +222,7 @@ impl Writer {
         }
     }
 
+    /// Writes a variable, a constant or a number.
     fn factor(&mut self) {
         if self.random.percent(50) {
             self.variable();
@@ -231,5 +234,15 @@ impl Writer {
             self.random.pick(&NUMBERS, NUMBERS.len())
         };
         self.put(word);
+    }
+
+    /// Appends a word.
+    fn put(&mut self, word: &str) {
+        self.failed |= self.text.push_str(word).is_err();
+    }
+
+    /// Appends a procedure's name.
+    fn put_procedure(&mut self, number: u32) {
+        self.failed |= write!(self.text, "p{number}").is_err();
     }
 }
