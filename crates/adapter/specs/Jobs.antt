@@ -7,7 +7,7 @@ use Rattle.dap_history.specs.Interleaving.{Load}
 use Rattle.dap_session.specs.Ports.{Ports, Ordered}
 use Rattle.dap_session.specs.Serving.{Driven}
 use Rattle.dap_wires.specs.declared.writer_message.WriterMessage.{WriterMessage}
-use Rattle.dap_wires.specs.Parcels.{frames_in, has_end, AreEnded}
+use Rattle.dap_wires.specs.WriterMessages.{frames_in, has_end, AreEnded}
 
 -- A session was driven over its ends: these messages were put, and these orders pushed. `End` was put after the frames, or
 -- not at all; and where a frame was refused, it was not put.

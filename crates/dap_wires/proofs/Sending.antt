@@ -17,7 +17,7 @@ use Rattle.dap_wires.specs.declared.writer_message.WriterMessage.TheVariants as 
 use Rattle.dap_wires.specs.declared.end_log.EndLog.{EndLog}
 use Rattle.dap_wires.specs.Delivery.{of_first, of_second, put}
 use Rattle.dap_wires.specs.Inbox.{came}
-use Rattle.dap_wires.specs.Parcels.{frames_in, has_end, AreEnded}
+use Rattle.dap_wires.specs.WriterMessages.{frames_in, has_end, AreEnded}
 use Rattle.dap_wires.specs.Senders.{is_by_runner, events_in, from_client, reports_among, is_quiet, are_quiet}
 use Rattle.dap_wires.proofs.Delivered.{all_first}
 

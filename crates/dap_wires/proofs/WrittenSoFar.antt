@@ -6,7 +6,7 @@ use Rattle.std.specs.Io.KnownBytes.{Appends}
 use Rattle.std.proofs.lemmas.List.Folds.{concat-append}
 use Rattle.dap_wires.specs.declared.writer_message.WriterMessage.{WriterMessage}
 use Rattle.dap_wires.specs.declared.writer_message.WriterMessage.TheVariants as message
-use Rattle.dap_wires.specs.Parcels.{frames_in, has_end, AreEnded}
+use Rattle.dap_wires.specs.WriterMessages.{frames_in, has_end, AreEnded}
 use Rattle.byte_streams.specs.Streams.{Output, AppendsPart, WritesAll, FailsIn}
 use Rattle.dap_wires.proofs.Growing.{one_more}
 use Rattle.byte_streams.proofs.Known.{appends_none, appends_both}

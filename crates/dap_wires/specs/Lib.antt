@@ -10,7 +10,7 @@ pub mod Senders
 -- What went through an inbox.
 pub mod Inbox
 -- The frames and the end among messages to a writer.
-pub mod Parcels
+pub mod WriterMessages
 -- What went through an outbox.
 pub mod Outbox
 -- When a queue of orders was full.

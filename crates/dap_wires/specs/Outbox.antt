@@ -6,7 +6,7 @@ use Rattle.dap_wires.specs.declared.frame_ends.FrameSender.{FrameSender}
 use Rattle.dap_wires.specs.declared.frame_ends.EndedSender.{EndedSender}
 use Rattle.dap_wires.specs.declared.frame_ends.FrameReceiver.{FrameReceiver}
 use Rattle.dap_wires.specs.Ends.{QueueId, sender_log, sender_queue, receiver_log, receiver_queue, receive_log}
-use Rattle.dap_wires.specs.Parcels.{frames_in}
+use Rattle.dap_wires.specs.WriterMessages.{frames_in}
 use Rattle.dap_session.specs.Ports.{Written}
 
 module _ {R : Type 0} where

@@ -4,6 +4,10 @@ use Rattle.std.specs.Io.KnownBytes.{Consumes, IsAtEnd}
 use Rattle.dap_history.specs.Events.{Incoming, Piece, End, ReadFailed, NoMemory, File, Report}
 use Rattle.byte_streams.specs.Streams.{Supply}
 
+-- the most bytes of a piece
+abbrev pub piece_limit : ℕ
+piece_limit = 4096
+
 -- What was read of an input for an event: a piece, which is never empty, or the end, or nothing at a failure. A report
 -- comes from elsewhere, and no file is read so.
 abbrev pub IsRead : Incoming → Supply → Supply → Type 0

@@ -2,7 +2,7 @@
 
 ghost use Rattle.std.specs.Prelude.{◌≡◌, true, false, []};
 ghost use Rattle.dap_wires.specs.Ends.{sender_log, receiver_log, sender_room, receiver_room};
-ghost use Rattle.dap_wires.specs.Parcels.{has_end};
+ghost use Rattle.dap_wires.specs.WriterMessages.{has_end};
 
 use crate::ends::{ReceiveEnd, SendEnd};
 use crate::writer_message::WriterMessage;

@@ -4,7 +4,7 @@ ghost use Rattle.std.specs.Prelude.{◌≡◌, ◌≢◌, ◌⊎◌, ◌++◌, �
 ghost use Rattle.dap_session.specs.Sending.{Begins};
 ghost use Rattle.dap_wires.specs.Ends.{receive_log, receive_log_queue};
 ghost use Rattle.dap_wires.specs.Outbox.{put_frames, frame_queue, unused_queue, messages_put, ended_queue, ended_unused_queue, messages_taken, writer_queue, messages_received};
-ghost use Rattle.dap_wires.specs.Parcels.{frames_in, has_end, AreEnded};
+ghost use Rattle.dap_wires.specs.WriterMessages.{frames_in, has_end, AreEnded};
 
 use crate::channels::{channel, reconcile};
 use crate::ends::ReceiveLog;
@@ -45,10 +45,10 @@ pub fn outbox<R: Wait + Copy + Drop>(
 
 /// Brings the logs of all ends together, when all threads were joined, and proves that the messages that the writer
 /// received are a prefix of those that the session put.
-pub fn reconcile_outbox<R: Wait + Drop>(frames: EndedSender<R>, received: ReceiveLog<WriterMessage>)
-    requires one { (ended_unused_queue frames ≡ ended_queue frames) × (receive_log_queue received ≡ ended_queue frames) }
-    requires received { (receive_log received).takes ≡ true }
-    ensures taken { Begins (messages_received received) (messages_put frames) }
+pub fn reconcile_outbox<R: Wait + Drop>(frames: EndedSender<R>, log: ReceiveLog<WriterMessage>)
+    requires one { (ended_unused_queue frames ≡ ended_queue frames) × (receive_log_queue log ≡ ended_queue frames) }
+    requires receiver { (receive_log log).takes ≡ true }
+    ensures taken { Begins (messages_received log) (messages_put frames) }
 {
     reconcile(frames.end, frames.unused, log);
 }

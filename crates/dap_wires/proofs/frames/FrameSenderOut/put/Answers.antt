@@ -1,7 +1,7 @@
 use Rattle.std.proofs.Common.{◌∙◌, ap, [], ◌∷◌}
 use Rattle.dap_wires.specs.declared.writer_message.WriterMessage.TheVariants.{Frame}
 use Rattle.dap_wires.specs.Ends.{sender_log}
-use Rattle.dap_wires.specs.Parcels.{frames_in, has_end}
+use Rattle.dap_wires.specs.WriterMessages.{frames_in, has_end}
 use Rattle.dap_wires.proofs.Sending.{frame_keeps_open, frames_append}
 use Rattle.dap_wires.proofs.frames.FrameSenderOut.put.Goals as goal
 
