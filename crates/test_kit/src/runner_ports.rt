@@ -68,8 +68,9 @@ impl OrdersIn for OneRun<'_> {
     }
 
     fn poll(&mut self) -> Option<Order> {
-        self.looks = self.looks.saturating_add(1);
-        let Some(run) = self.held_at(self.looks) else {
+        let look = self.looks.saturating_add(1);
+        self.looks = look;
+        let Some(run) = self.held_at(look) else {
             return None;
         };
         let order = Order::Hold { run };
