@@ -73,11 +73,11 @@ fn events_of<'a>(rt: &impl Abort, alloc: Global, transcript: &'a str) -> Vec<&'a
 
 /// Runs a session with the client's bytes in pieces of this size at most: what came of it, and how many events were given.
 /// `p.pl0` is the program, and `dot.pl0` the smallest one; no other can be read.
-fn run<R: Abort + Wait>(
-    rt: &R,
+fn run<'a, R: Abort + Wait>(
+    rt: &'a R,
     alloc: Global,
-    program: &str,
-    events: &[&str],
+    program: &'a str,
+    events: &'a [&'a str],
     piece: usize,
 ) -> (Outcome, usize) {
     let shared = Shared::new();
