@@ -16,13 +16,14 @@
 
 use crate::client::Client;
 use crate::expected::content;
+use crate::files::Files;
 use crate::text::expanded;
 use crate::verbs::spelled_out;
 use dap_session::{Closed, SessionFault};
 use std::alloc::{AllocError, Global};
 use std::process::Abort;
 use std::sync::Wait;
-use test_kit::{Files, Outcome, Room, Shared, framed, run_session};
+use test_kit::{Outcome, Room, Shared, framed, run_session};
 
 /// The text of the program.
 fn program_of(rt: &impl Abort, alloc: Global, session: &str) -> String {
@@ -73,17 +74,16 @@ fn events_of<'a>(rt: &impl Abort, alloc: Global, transcript: &'a str) -> Vec<&'a
 
 /// Runs a session with the client's bytes in pieces of this size at most: what came of it, and how many events were given.
 /// `p.pl0` is the program, and `dot.pl0` the smallest one; no other can be read.
-fn run<'a, R: Abort + Wait>(
-    rt: &'a R,
+fn run<R: Abort + Wait>(
+    rt: &R,
     alloc: Global,
-    program: &'a str,
-    events: &'a [&'a str],
+    program: &str,
+    events: &[&str],
     piece: usize,
 ) -> (Outcome, usize) {
     let shared = Shared::new();
     let client = Client::new(rt, alloc, program, events, piece, &shared);
-    let named = [("p.pl0", program.as_bytes()), ("dot.pl0", b".".as_slice())];
-    let mut files = Files::named(alloc, named.as_slice());
+    let mut files = Files::new(rt, alloc, program);
     let outcome = run_session(rt, alloc, &shared, client, &mut files, Room::AMPLE);
     (outcome, shared.given.get())
 }
