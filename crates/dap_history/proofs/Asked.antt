@@ -4,6 +4,7 @@ use Rattle.std.specs.Prelude.{option_map, if◌then◌else◌}
 use Rattle.std.specs.Option.{option_map_or}
 use Rattle.std.specs.List.{filter_map}
 use Rattle.std.proofs.lemmas.List.Elements.{filter_map-append}
+use Rattle.dap_msg.specs.declared.requests.resume.ResumeKind.{ResumeKind}
 use Rattle.dap_msg.specs.declared.command.Command.{Command}
 use Rattle.dap_msg.specs.declared.command.Command.TheVariants as command
 use Rattle.pl0_meaning.specs.Laws.{WrittenJoins}
@@ -22,7 +23,7 @@ use Rattle.dap_history.specs.History.{Launched, Item, Content, Loaded, Accepted,
 use Rattle.dap_history.specs.Readings.{go, situation, runs, is_held, is_back, launched, last_run, position, waiting_pause}
 use Rattle.dap_history.specs.Replies.{Reply}
 use Rattle.dap_history.specs.Breakpoints.{hold_once, effect_in}
-use Rattle.dap_history.specs.Running.{ResumeKind, ToStop, ToNext, ToStep, ToReturn, mode_of, enters}
+use Rattle.dap_history.specs.Running.{mode_of, enters}
 use Rattle.dap_history.specs.Reports.{Accepts, held, report_effect}
 use Rattle.dap_history.specs.Considered.{all_runs}
 use Rattle.dap_history.specs.Emission.{Causes}
@@ -72,15 +73,11 @@ runs_count events past rest history front back run orders_are =
 -- ---- modes
 
 resume_kind_mode : (depth : ℕ) (asked : Command) (resume_kind : ResumeKind) → resume_kind_by asked ≡ Some resume_kind → mode_by depth asked ≡ Some (mode_of resume_kind depth)
-resume_kind_mode depth (command.Continue a) resume_kind is = let same : ToStop ≡ resume_kind = cc in ap (λ p. Some (mode_of p depth)) same
-resume_kind_mode depth (command.Next a) resume_kind is = let same : ToNext ≡ resume_kind = cc in ap (λ p. Some (mode_of p depth)) same
-resume_kind_mode depth (command.StepIn a) resume_kind is = let same : ToStep ≡ resume_kind = cc in ap (λ p. Some (mode_of p depth)) same
-resume_kind_mode depth (command.StepOut a) resume_kind is = let same : ToReturn ≡ resume_kind = cc in ap (λ p. Some (mode_of p depth)) same
+resume_kind_mode depth (command.Resume k a) resume_kind is = let same : k ≡ resume_kind = cc in ap (λ p. Some (mode_of p depth)) same
 resume_kind_mode depth _ resume_kind is = absurd cc
 
 back_mode : (depth : ℕ) (asked : Command) (m : Mode) → back_by asked ≡ Some m → mode_by depth asked ≡ Some m
-back_mode depth (command.StepBack a) m is = is
-back_mode depth (command.ReverseContinue a) m is = is
+back_mode depth (command.Retreat k a) m is = is
 back_mode depth _ m is = absurd cc
 
 -- the run is of the launched program, in the mode that the command asks for

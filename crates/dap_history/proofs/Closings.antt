@@ -1,6 +1,9 @@
 -- A session that was closed by the end of its input has taken that event, and Quit is its last order.
 use Rattle.std.proofs.Common.{◌≡◌, ◌⊎◌, inl, inr, ℕ, List, [], ◌∷◌, ◌++◌, Bool, true, false, ◌||◌, Option, None, Some, Result, Ok, Err, refl, sym, ◌∙◌, ap, subst}
 use Rattle.std.specs.Prelude.{nat_eq, if◌then◌else◌, ℤ}
+use Rattle.dap_history.proofs.Questions.{no_effect}
+use Rattle.dap_msg.specs.declared.question.Question.{Question}
+use Rattle.dap_msg.specs.declared.requests.resume.ResumeKind.{ResumeKind}
 use Rattle.dap_msg.specs.declared.command.Command.{Command}
 use Rattle.dap_msg.specs.declared.command.Command.TheVariants as command
 use Rattle.dap_msg.specs.declared.outgoing.Body.TheVariants as body
@@ -29,9 +32,9 @@ use Rattle.dap_history.specs.Replies.{Reply, refused, causing, ordering, OfProgr
 use Rattle.dap_history.specs.Reports.{report_effect, held}
 use Rattle.dap_history.specs.Launching.{initialize_in, Launches}
 use Rattle.dap_history.specs.Breakpoints.{hold_once, effect_in, SetsOf, Sets, SetsIn, is_at}
-use Rattle.dap_history.specs.Running.{ResumeKind, mode_of, body_of, resumes, first_mode, enters, ConfiguresIn, ResumesIn, RetreatsIn, pause_in}
+use Rattle.dap_history.specs.Running.{mode_of, body_of, resumes, first_mode, enters, ConfiguresIn, ResumesIn, RetreatsIn, pause_in}
 use Rattle.dap_history.specs.Frames.{frame_by_id}
-use Rattle.dap_history.specs.Inspection.{asked_of, scopes, variables, result_reply, EvaluatesIn, RepliesAt, Inspects, InspectsIn}
+use Rattle.dap_history.specs.Inspection.{InspectsIn}
 use Rattle.dap_history.specs.Emission.{threads_in, RepliesIn, Causes, IsAfter}
 use Rattle.dap_history.specs.Interleaving.{Load, IsLoad, Interleaves}
 use Rattle.dap_history.specs.Events.{Incoming, Piece, End, ReadFailed, NoMemory, File, Report, Rest, IsTaking, IsHistoryOf}
@@ -240,44 +243,8 @@ pause_quiet Stopped past thread = thread_quiet thread _ tt
 pause_quiet Faulted past thread = thread_quiet thread _ tt
 pause_quiet _ past thread = tt
 
-result_quiet : (r : Result ℤ EvalFault) → IsQuiet (result_reply r)
-result_quiet (Ok v) = tt
-result_quiet (Err Overflow) = tt
-result_quiet (Err DivideByZero) = tt
-
-by_option : {A : Type 0} (o : Option A) (P : Option A → Type 0) → P None → ((x : A) → P (Some x)) → P o
-by_option None P at_none at_some = at_none
-by_option (Some x) P at_none at_some = at_some x
-
-inspects_quiet : (past : History) (question : Command) (reply : Reply) → Inspects past question reply → IsQuiet reply
-inspects_quiet past (command.StackTrace a) reply is =
-    of_program (launched past) _ reply
-    (λ l says. by_option _ (λ c. RepliesAt (asked_of past l) c (command.StackTrace a) reply → IsQuiet reply) (λ no_state. absurd no_state)
-    (λ c found. quiet_if reply _ (thread_quiet a.thread_id _ tt) found) says) is
-inspects_quiet past (command.Scopes a) reply is =
-    of_program (launched past) _ reply
-    (λ l says. by_option _ (λ c. RepliesAt (asked_of past l) c (command.Scopes a) reply → IsQuiet reply) (λ no_state. absurd no_state)
-    (λ c found. quiet_if reply _ (by_option (frame_by_id c a.frame_id) (λ f. IsQuiet (scopes (asked_of past l) a.frame_id c f)) tt (λ f. tt)) found) says) is
-inspects_quiet past (command.Variables a) reply is =
-    of_program (launched past) _ reply
-    (λ l says. by_option _ (λ c. RepliesAt (asked_of past l) c (command.Variables a) reply → IsQuiet reply) (λ no_state. absurd no_state)
-    (λ c found. quiet_if reply _ (by_option (frame_by_id c a.variables_reference) (λ f. IsQuiet (variables (asked_of past l) f)) tt (λ f. tt)) found) says) is
-inspects_quiet past (command.Evaluate a) reply is =
-    of_program (launched past) _ reply
-    (λ l says. by_option _ (λ c. RepliesAt (asked_of past l) c (command.Evaluate a) reply → IsQuiet reply) (λ no_state. absurd no_state)
-    (λ c found. by_option (frame_by_id c a.frame_id) (λ f. EvaluatesIn l.program c a.frame_id f a.expression reply → IsQuiet reply)
-    (λ refused_is. quiet_if reply _ tt refused_is)
-    (λ f either. elim either as (λ e. IsQuiet reply) [ inl has ↦ quiet_if reply _ (result_quiet has.result) has.reply_is | inr has ↦ quiet_if reply _ tt has.reply_is ])
-    found) says) is
-inspects_quiet past question reply is =
-    of_program (launched past) _ reply
-    (λ l says. by_option _ (λ c. RepliesAt (asked_of past l) c question reply → IsQuiet reply) (λ no_state. absurd no_state) (λ c found. absurd found) says) is
-
-inspects_in_quiet : (s : Situation) (past : History) (question : Command) (reply : Reply) → InspectsIn s past question reply → IsQuiet reply
-inspects_in_quiet Running past question reply is = quiet_if reply _ tt is
-inspects_in_quiet Stopped past question reply is = inspects_quiet past question reply is
-inspects_in_quiet Faulted past question reply is = inspects_quiet past question reply is
-inspects_in_quiet _ past question reply is = quiet_if reply _ tt is
+inspects_in_quiet : (s : Situation) (past : History) (question : Question) (reply : Reply) → InspectsIn s past question reply → IsQuiet reply
+inspects_in_quiet s past question reply is = subst NoQuit (ap (λ (e : Effect). e.orders) (sym (no_effect s past question reply is))) tt
 
 -- a Quit alone, where the session is closed by no fault; else orders without a Quit
 abbrev QuitsBy : List PlainOrder → Option Ending → Type 0
@@ -290,17 +257,10 @@ replies_quit s past (command.Launch a) reply is = quiet_if reply _ tt is
 replies_quit s past (command.SetBreakpoints a) reply is = sets_in_quiet s past a reply is
 replies_quit s past command.ConfigurationDone reply is = configures_in_quiet s past reply is
 replies_quit s past command.Threads reply is = quiet_if reply _ (threads_quiet s) is
-replies_quit s past (command.Continue a) reply is = resumes_in_quiet s past _ a.thread_id reply is
-replies_quit s past (command.Next a) reply is = resumes_in_quiet s past _ a.thread_id reply is
-replies_quit s past (command.StepIn a) reply is = resumes_in_quiet s past _ a.thread_id reply is
-replies_quit s past (command.StepOut a) reply is = resumes_in_quiet s past _ a.thread_id reply is
-replies_quit s past (command.StepBack a) reply is = retreats_in_quiet s past _ a.thread_id reply is
-replies_quit s past (command.ReverseContinue a) reply is = retreats_in_quiet s past _ a.thread_id reply is
+replies_quit s past (command.Resume k a) reply is = resumes_in_quiet s past _ a.thread_id reply is
+replies_quit s past (command.Retreat k a) reply is = retreats_in_quiet s past _ a.thread_id reply is
 replies_quit s past (command.Pause a) reply is = quiet_if reply _ (pause_quiet s past a.thread_id) is
-replies_quit s past (command.StackTrace a) reply is = inspects_in_quiet s past _ reply is
-replies_quit s past (command.Scopes a) reply is = inspects_in_quiet s past _ reply is
-replies_quit s past (command.Variables a) reply is = inspects_in_quiet s past _ reply is
-replies_quit s past (command.Evaluate a) reply is = inspects_in_quiet s past _ reply is
+replies_quit s past (command.Inspect q) reply is = inspects_in_quiet s past q reply is
 replies_quit s past command.Disconnect reply is = ap (λ (r : Reply). r.effect.orders) is
 replies_quit s past (command.Unsupported a) reply is = quiet_if reply _ tt is
 replies_quit s past (command.BadArguments a) reply is = quiet_if reply _ tt is

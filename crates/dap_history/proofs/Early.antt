@@ -1,6 +1,7 @@
 -- In Fresh and Ready nothing is launched: only the first `initialize` leads to Ready.
 use Rattle.std.proofs.Common.{◌≡◌, ◌⊎◌, inl, inr, ℕ, List, [], ◌∷◌, Option, None, Some, Ok, Err, refl, subst}
 use Rattle.std.specs.Prelude.{map, unwrap_or, Result}
+use Rattle.dap_msg.specs.Questions.{kind_of}
 use Rattle.dap_msg.specs.Commands.{name_of}
 use Rattle.dap_msg.specs.declared.command.Command.{Command}
 use Rattle.dap_msg.specs.declared.command.Command.TheVariants as command
@@ -102,17 +103,10 @@ early_reply s past (command.Launch a) reply is early = absurd (result_late (name
 early_reply s past (command.SetBreakpoints a) reply is early = absurd (result_late (name.Supported supported.SetBreakpoints) (λ x. x) reply.result early)
 early_reply s past command.ConfigurationDone reply is early = absurd (result_late (name.Supported supported.ConfigurationDone) (λ x. x) reply.result early)
 early_reply s past command.Threads reply is early = absurd (result_late (name.Supported supported.Threads) (λ x. x) reply.result early)
-early_reply s past (command.Continue a) reply is early = absurd (result_late (name.Supported supported.Continue) (λ x. x) reply.result early)
-early_reply s past (command.Next a) reply is early = absurd (result_late (name.Supported supported.Next) (λ x. x) reply.result early)
-early_reply s past (command.StepIn a) reply is early = absurd (result_late (name.Supported supported.StepIn) (λ x. x) reply.result early)
-early_reply s past (command.StepOut a) reply is early = absurd (result_late (name.Supported supported.StepOut) (λ x. x) reply.result early)
-early_reply s past (command.StepBack a) reply is early = absurd (result_late (name.Supported supported.StepBack) (λ x. x) reply.result early)
-early_reply s past (command.ReverseContinue a) reply is early = absurd (result_late (name.Supported supported.ReverseContinue) (λ x. x) reply.result early)
+early_reply s past (command.Resume k a) reply is early = absurd (result_late (name.Supported (supported.Resume k)) (λ x. x) reply.result early)
+early_reply s past (command.Retreat k a) reply is early = absurd (result_late (name.Supported (supported.Retreat k)) (λ x. x) reply.result early)
 early_reply s past (command.Pause a) reply is early = absurd (result_late (name.Supported supported.Pause) (λ x. x) reply.result early)
-early_reply s past (command.StackTrace a) reply is early = absurd (result_late (name.Supported supported.StackTrace) (λ x. x) reply.result early)
-early_reply s past (command.Scopes a) reply is early = absurd (result_late (name.Supported supported.Scopes) (λ x. x) reply.result early)
-early_reply s past (command.Variables a) reply is early = absurd (result_late (name.Supported supported.Variables) (λ x. x) reply.result early)
-early_reply s past (command.Evaluate a) reply is early = absurd (result_late (name.Supported supported.Evaluate) (λ x. x) reply.result early)
+early_reply s past (command.Inspect q) reply is early = absurd (result_late (name.Supported (supported.Inspect (kind_of q))) (λ x. x) reply.result early)
 early_reply s past command.Disconnect reply is early = absurd (result_late (name.Supported supported.Disconnect) (λ x. x) reply.result early)
 early_reply s past (command.Unsupported text) reply is early = absurd (result_late (name.Unsupported text) (λ x. x) reply.result early)
 early_reply s past (command.BadArguments k) reply is early =

@@ -3,6 +3,9 @@ use Rattle.std.proofs.Common.{◌≡◌, inl, inr, ℕ, zero, suc, ◌+◌, ◌-
 use Rattle.std.specs.Prelude.{All, slice_get}
 use Rattle.std.specs.Option.{option_map_or}
 use Rattle.std.proofs.lemmas.List.Elements.{All-nil, All-cons, All-take, All-drop, All-map}
+use Rattle.dap_msg.specs.declared.question.Question.TheVariants as question
+use Rattle.dap_msg.specs.declared.question.Question.{Question}
+use Rattle.dap_msg.specs.declared.requests.resume.ResumeKind.{ResumeKind}
 use Rattle.dap_msg.specs.declared.command.Command.{Command}
 use Rattle.dap_msg.specs.declared.command.Command.TheVariants as command
 use Rattle.dap_msg.specs.declared.command.CommandName.{CommandName}
@@ -43,7 +46,7 @@ use Rattle.dap_history.specs.Readings.{situation, launched, position, waiting_pa
 use Rattle.dap_history.specs.Replies.{Reply, nothing, ordering, refused, on_thread, OfProgram, stops, ends, told_logs}
 use Rattle.dap_history.specs.Launching.{initialize_in, Launches}
 use Rattle.dap_history.specs.Breakpoints.{answer_of, effect_in, SetsOf, SetsIn, is_at}
-use Rattle.dap_history.specs.Running.{ResumeKind, ToStop, ToNext, ToStep, ToReturn, body_of, resumes, first_logs, enters, ConfiguresIn, ResumesIn, RetreatsIn, pause_in}
+use Rattle.dap_history.specs.Running.{body_of, resumes, first_logs, enters, ConfiguresIn, ResumesIn, RetreatsIn, pause_in}
 use Rattle.dap_history.specs.Frames.{Counting, line_of, column_of, frame_name, shown_frame, shown_frames, at_most, scopes_from, frame_by_id}
 use Rattle.dap_history.specs.Inspection.{Asked, stack_trace, scopes, variables, result_reply, EvaluatesIn, RepliesFrom, RepliesAt, asked_of, InspectsIn}
 use Rattle.dap_history.specs.Reports.{outputs, held, report_effect}
@@ -197,14 +200,13 @@ module _ (few : FramesAreFew) where
   evaluates_fit main c id (Some f) text reply (inl is) = fits_if reply _ (result_fits is.result) is.reply_is
   evaluates_fit main c id (Some f) text reply (inr is) = fits_if reply _ (refused_fits _) is.reply_is
 
-  replies_fit : (of : Asked) (n : ℕ) (c : Configuration) (question : Command) (reply : Reply) → BlockNear of.program → at of.program n ≡ Some c → RepliesFrom of c question reply → ReplyFits reply
-  replies_fit of n c (command.StackTrace a) reply near is says = fits_if reply _ (stack_fits of a n c near is) says
-  replies_fit of n c (command.Scopes a) reply near is says = fits_if reply _ (scopes_reply_fits of a.frame_id n c (frame_by_id c a.frame_id) is) says
-  replies_fit of n c (command.Variables a) reply near is says = fits_if reply _ (variables_fit of (frame_by_id c a.variables_reference)) says
-  replies_fit of n c (command.Evaluate a) reply near is says = evaluates_fit of.program c a.frame_id (frame_by_id c a.frame_id) a.expression reply says
-  replies_fit of n c _ reply near is says = absurd says
+  replies_fit : (of : Asked) (n : ℕ) (c : Configuration) (question : Question) (reply : Reply) → BlockNear of.program → at of.program n ≡ Some c → RepliesFrom of c question reply → ReplyFits reply
+  replies_fit of n c (question.StackTrace a) reply near is says = fits_if reply _ (stack_fits of a n c near is) says
+  replies_fit of n c (question.Scopes a) reply near is says = fits_if reply _ (scopes_reply_fits of a.frame_id n c (frame_by_id c a.frame_id) is) says
+  replies_fit of n c (question.Variables a) reply near is says = fits_if reply _ (variables_fit of (frame_by_id c a.variables_reference)) says
+  replies_fit of n c (question.Evaluate a) reply near is says = evaluates_fit of.program c a.frame_id (frame_by_id c a.frame_id) a.expression reply says
 
-  replies_at_fit : (of : Asked) (n : ℕ) (o : Option Configuration) (question : Command) (reply : Reply) → BlockNear of.program → at of.program n ≡ o → RepliesAt of o question reply → ReplyFits reply
+  replies_at_fit : (of : Asked) (n : ℕ) (o : Option Configuration) (question : Question) (reply : Reply) → BlockNear of.program → at of.program n ≡ o → RepliesAt of o question reply → ReplyFits reply
   replies_at_fit of n None question reply near is says = absurd says
   replies_at_fit of n (Some c) question reply near is says = replies_fit of n c question reply near is says
 
@@ -212,11 +214,11 @@ module _ (few : FramesAreFew) where
   LaunchedNear None = Unit {0}
   LaunchedNear (Some l) = BlockNear l.program
 
-  inspects_fit : (l : Option Launched) (past : History) (question : Command) (reply : Reply) → LaunchedNear l → OfProgram l (λ l. RepliesAt (asked_of past l) (at l.program (position past)) question reply) → ReplyFits reply
+  inspects_fit : (l : Option Launched) (past : History) (question : Question) (reply : Reply) → LaunchedNear l → OfProgram l (λ l. RepliesAt (asked_of past l) (at l.program (position past)) question reply) → ReplyFits reply
   inspects_fit None past question reply near says = absurd says
   inspects_fit (Some l) past question reply near says = replies_at_fit (asked_of past l) (position past) (at l.program (position past)) question reply near refl says
 
-  inspects_in_fit : (s : Situation) (past : History) (question : Command) (reply : Reply) → LaunchedNear (launched past) → InspectsIn s past question reply → ReplyFits reply
+  inspects_in_fit : (s : Situation) (past : History) (question : Question) (reply : Reply) → LaunchedNear (launched past) → InspectsIn s past question reply → ReplyFits reply
   inspects_in_fit Stopped past question reply near says = inspects_fit (launched past) past question reply near says
   inspects_in_fit Faulted past question reply near says = inspects_fit (launched past) past question reply near says
   inspects_in_fit Running past question reply near says = fits_if reply _ (refused_fits _) says
@@ -338,17 +340,10 @@ module _ (few : FramesAreFew) where
   command_fits s past (command.SetBreakpoints a) reply near says = sets_in_fit s past a reply near says
   command_fits s past command.ConfigurationDone reply near says = configures_in_fit s past reply says
   command_fits s past command.Threads reply near says = fits_if reply _ (threads_fit s) says
-  command_fits s past (command.Continue a) reply near says = resumes_in_fit s past ToStop a.thread_id reply says
-  command_fits s past (command.Next a) reply near says = resumes_in_fit s past ToNext a.thread_id reply says
-  command_fits s past (command.StepIn a) reply near says = resumes_in_fit s past ToStep a.thread_id reply says
-  command_fits s past (command.StepOut a) reply near says = resumes_in_fit s past ToReturn a.thread_id reply says
-  command_fits s past (command.StepBack a) reply near says = retreats_in_fit s past _ a.thread_id reply says
-  command_fits s past (command.ReverseContinue a) reply near says = retreats_in_fit s past _ a.thread_id reply says
+  command_fits s past (command.Resume k a) reply near says = resumes_in_fit s past k a.thread_id reply says
+  command_fits s past (command.Retreat k a) reply near says = retreats_in_fit s past _ a.thread_id reply says
   command_fits s past (command.Pause a) reply near says = fits_if reply _ (pause_fits s past a.thread_id) says
-  command_fits s past (command.StackTrace a) reply near says = inspects_in_fit s past (command.StackTrace a) reply near says
-  command_fits s past (command.Scopes a) reply near says = inspects_in_fit s past (command.Scopes a) reply near says
-  command_fits s past (command.Variables a) reply near says = inspects_in_fit s past (command.Variables a) reply near says
-  command_fits s past (command.Evaluate a) reply near says = inspects_in_fit s past (command.Evaluate a) reply near says
+  command_fits s past (command.Inspect q) reply near says = inspects_in_fit s past q reply near says
   command_fits s past command.Disconnect reply near says = fits_if reply _ (record { result = tt; events = tt }) says
   command_fits s past (command.Unsupported a) reply near says = fits_if reply _ (refused_fits _) says
   command_fits s past (command.BadArguments a) reply near says = fits_if reply _ (refused_fits _) says

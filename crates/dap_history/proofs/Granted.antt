@@ -2,6 +2,7 @@
 use Rattle.std.proofs.Common.{◌≡◌, ◌⊎◌, inl, inr, List, [], ◌∷◌, ◌++◌, Bool, true, false, Option, None, Some, Ok, refl, sym, ◌∙◌, ap, subst}
 use Rattle.std.specs.Prelude.{IsSome, is_some, unwrap_or}
 use Rattle.std.proofs.lemmas.List.Elements.{All-nil}
+use Rattle.dap_msg.specs.declared.requests.resume.ResumeKind.{ResumeKind}
 use Rattle.dap_msg.specs.declared.command.Command.{Command}
 use Rattle.dap_msg.specs.declared.command.Command.TheVariants as command
 use Rattle.dap_msg.specs.declared.outgoing.Body.{Body}
@@ -17,7 +18,7 @@ use Rattle.dap_history.specs.Last.{last_such}
 use Rattle.dap_history.specs.History.{Launched, Content, Accepted, Step, History, Effect}
 use Rattle.dap_history.specs.Readings.{go, situation, plan, waiting_pause}
 use Rattle.dap_history.specs.Replies.{Reply, stops, stop_of}
-use Rattle.dap_history.specs.Running.{ResumeKind, first_logs, enters}
+use Rattle.dap_history.specs.Running.{first_logs, enters}
 use Rattle.dap_history.specs.Reports.{held, report_effect}
 use Rattle.dap_history.specs.Emission.{Causes}
 use Rattle.dap_history.specs.Stops.{IsOutput, TellsFirst, TellsBy, EachReplyIsTold}
@@ -38,17 +39,11 @@ use Rattle.dap_history.proofs.Holding.{result_of}
 -- no events are told by any command
 tells_nothing : (s : Situation) (asked : Command) (events : List EventBody) → events ≡ [] → TellsBy s asked events
 tells_nothing s command.ConfigurationDone events is = ([], All-nil IsOutput, inl is)
-tells_nothing s (command.Continue a) events is = inl is
-tells_nothing s (command.Next a) events is = inl is
-tells_nothing s (command.StepIn a) events is = inl is
-tells_nothing s (command.StepOut a) events is = inl is
+tells_nothing s (command.Resume k a) events is = inl is
 tells_nothing s _ events is = is
 
 tells_end : (s : Situation) (asked : Command) (resume_kind : ResumeKind) (events : List EventBody) → resume_kind_by asked ≡ Some resume_kind → s ≡ Faulted → events ≡ event.Exited 1 ∷ event.Terminated ∷ [] → TellsBy s asked events
-tells_end s (command.Continue a) resume_kind events by here is = inr (here, is)
-tells_end s (command.Next a) resume_kind events by here is = inr (here, is)
-tells_end s (command.StepIn a) resume_kind events by here is = inr (here, is)
-tells_end s (command.StepOut a) resume_kind events by here is = inr (here, is)
+tells_end s (command.Resume k a) resume_kind events by here is = inr (here, is)
 tells_end s _ resume_kind events by here is = absurd cc
 
 enters_tells : (past : History) (l : Launched) (why : Option Reason) (events : List EventBody) → events ≡ (enters past l why).events → TellsFirst events
@@ -82,10 +77,7 @@ calm_asks_none past s (command.Initialize a) calm asks = absurd cc
 calm_asks_none past s (command.SetBreakpoints a) calm asks = absurd cc
 calm_asks_none past s command.Threads calm asks = absurd cc
 calm_asks_none past s (command.Pause a) calm asks = absurd cc
-calm_asks_none past s (command.StackTrace a) calm asks = absurd cc
-calm_asks_none past s (command.Scopes a) calm asks = absurd cc
-calm_asks_none past s (command.Variables a) calm asks = absurd cc
-calm_asks_none past s (command.Evaluate a) calm asks = absurd cc
+calm_asks_none past s (command.Inspect q) calm asks = absurd cc
 calm_asks_none past s _ calm asks = calm
 
 -- the reply orders a run, or needn't

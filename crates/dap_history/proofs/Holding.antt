@@ -4,6 +4,7 @@ use Rattle.std.specs.Prelude.{if◌then◌else◌, unwrap_or, Result}
 use Rattle.std.specs.Option.{option_map_or}
 use Rattle.std.specs.List.{filter_map}
 use Rattle.std.proofs.lemmas.List.{append_assoc}
+use Rattle.dap_msg.specs.declared.requests.resume.ResumeKind.{ResumeKind}
 use Rattle.dap_msg.specs.declared.request.Request.{Request}
 use Rattle.dap_msg.specs.Commands.{name_of}
 use Rattle.dap_msg.specs.declared.command.Command.{Command}
@@ -28,7 +29,7 @@ use Rattle.dap_history.specs.Readings.{go, situation, step_mark, runs, is_held, 
 use Rattle.dap_history.specs.Replies.{Reply}
 use Rattle.dap_history.specs.Launching.{Launches}
 use Rattle.dap_history.specs.Breakpoints.{hold_once, effect_in, is_at}
-use Rattle.dap_history.specs.Running.{ResumeKind, enters}
+use Rattle.dap_history.specs.Running.{enters}
 use Rattle.dap_history.specs.Reports.{held, report_effect}
 use Rattle.dap_history.specs.Emission.{RepliesIn, Answers, Causes}
 use Rattle.dap_history.specs.GoingBack.{back_by}

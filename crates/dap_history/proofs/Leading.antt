@@ -2,6 +2,9 @@
 use Rattle.std.proofs.Common.{◌≡◌, ◌⊎◌, inl, inr, ℕ, zero, suc, ◌-◌, ◌<◌, ◌≤◌, length, List, [], ◌∷◌, ◌++◌, Bool, true, false, Option, None, Some, Result, Ok, Err, refl, sym, ◌∙◌, ap, subst, arith}
 use Rattle.std.specs.Prelude.{if◌then◌else◌, is_some, IsSome, unwrap_or}
 use Rattle.std.specs.Option.{option_map_or}
+use Rattle.dap_msg.specs.declared.question.Question.TheVariants as question
+use Rattle.dap_msg.specs.declared.question.Question.{Question}
+use Rattle.dap_msg.specs.declared.requests.resume.ResumeKind.{ResumeKind}
 use Rattle.dap_msg.specs.declared.request.Request.{Request}
 use Rattle.dap_msg.specs.Commands.{name_of}
 use Rattle.dap_msg.specs.declared.command.Command.{Command}
@@ -37,7 +40,7 @@ use Rattle.dap_history.specs.History.{Launched, Item, Content, Loaded, Accepted,
 use Rattle.dap_history.specs.Readings.{situation, step_mark, launched, end_of, position}
 use Rattle.dap_history.specs.Replies.{Reply, nothing, ordering, refused, causing, OfProgram, on_thread}
 use Rattle.dap_history.specs.Launching.{initialize_in, Launches, launches}
-use Rattle.dap_history.specs.Running.{ResumeKind, resumes, enters, ConfiguresIn, ResumesIn, RetreatsIn}
+use Rattle.dap_history.specs.Running.{resumes, enters, ConfiguresIn, ResumesIn, RetreatsIn}
 use Rattle.dap_history.specs.Inspection.{RepliesFrom, RepliesAt, asked_of, InspectsIn}
 use Rattle.dap_history.specs.Reports.{Accepts, report_effect}
 use Rattle.dap_history.specs.Emission.{RepliesIn, Causes, IsAfter}
@@ -115,10 +118,7 @@ calm_early past s seq (command.Initialize a) b early calm = inl tt
 calm_early past s seq (command.SetBreakpoints a) b early calm = inl early
 calm_early past s seq command.Threads b early calm = inl early
 calm_early past s seq (command.Pause a) b early calm = inl early
-calm_early past s seq (command.StackTrace a) b early calm = inl early
-calm_early past s seq (command.Scopes a) b early calm = inl early
-calm_early past s seq (command.Variables a) b early calm = inl early
-calm_early past s seq (command.Evaluate a) b early calm = inl early
+calm_early past s seq (command.Inspect q) b early calm = inl early
 calm_early past s seq _ b early calm = absurd calm
 
 calm_early_result : (past : History) (s : Situation) (seq : ℕ) (asked : Command) (result : Result Body Refusal) → IsEarly s → IsCalm past s asked → EarlyOr s (answering seq asked result nothing)
@@ -288,7 +288,7 @@ module _ (one : OneProgram) (joins : WrittenJoins) (no_gaps : RunsHaveNoGaps) wh
     goes_back_by Ended is m thread = (_, refl)
 
     -- a question that every configuration answers
-    module _ (asked : Command) (answers : (l : Launched) (c : Configuration) → Answered (RepliesFrom (asked_of past l) c asked)) where
+    module _ (asked : Question) (answers : (l : Launched) (c : Configuration) → Answered (RepliesFrom (asked_of past l) c asked)) where
       at_some : (l : Launched) (o : Option Configuration) → IsSome o → Answered (RepliesAt (asked_of past l) o asked)
       at_some l (Some c) is = answers l c
       at_some l None is = absurd cc
@@ -310,16 +310,12 @@ module _ (one : OneProgram) (joins : WrittenJoins) (no_gaps : RunsHaveNoGaps) wh
     replies (command.Launch a) plain = (_, refl)
     replies command.ConfigurationDone plain = configures (situation past) refl
     replies command.Threads plain = (_, refl)
-    replies (command.Continue a) plain = goes_on (situation past) refl _ a.thread_id
-    replies (command.Next a) plain = goes_on (situation past) refl _ a.thread_id
-    replies (command.StepIn a) plain = goes_on (situation past) refl _ a.thread_id
-    replies (command.StepOut a) plain = goes_on (situation past) refl _ a.thread_id
-    replies (command.StepBack a) plain = goes_back_by (situation past) refl _ a.thread_id
-    replies (command.ReverseContinue a) plain = goes_back_by (situation past) refl _ a.thread_id
+    replies (command.Resume k a) plain = goes_on (situation past) refl _ a.thread_id
+    replies (command.Retreat k a) plain = goes_back_by (situation past) refl _ a.thread_id
     replies (command.Pause a) plain = (_, refl)
-    replies (command.StackTrace a) plain = inspects (command.StackTrace a) (λ l c. (_, refl)) (situation past) refl
-    replies (command.Scopes a) plain = inspects (command.Scopes a) (λ l c. (_, refl)) (situation past) refl
-    replies (command.Variables a) plain = inspects (command.Variables a) (λ l c. (_, refl)) (situation past) refl
+    replies (command.Inspect (question.StackTrace a)) plain = inspects (question.StackTrace a) (λ l c. (_, refl)) (situation past) refl
+    replies (command.Inspect (question.Scopes a)) plain = inspects (question.Scopes a) (λ l c. (_, refl)) (situation past) refl
+    replies (command.Inspect (question.Variables a)) plain = inspects (question.Variables a) (λ l c. (_, refl)) (situation past) refl
     replies command.Disconnect plain = (_, refl)
     replies (command.Unsupported text) plain = (_, refl)
     replies (command.BadArguments k) plain = (_, refl)

@@ -2,6 +2,7 @@
 use Rattle.std.proofs.Common.{◌≡◌, inl, inr, ℕ, ◌+◌, List, [], ◌∷◌, ◌++◌, Bool, true, false, ◌||◌, Option, None, Some, Result, Ok, Err, refl, sym, ◌∙◌, ap, subst, append-nil}
 use Rattle.std.specs.Prelude.{if◌then◌else◌, is_some, map, option_map, unwrap_or}
 use Rattle.std.specs.Option.{option_map_or}
+use Rattle.dap_msg.specs.declared.requests.resume.ResumeKind.{ResumeKind}
 use Rattle.dap_msg.specs.Commands.{name_of}
 use Rattle.dap_msg.specs.declared.command.Command.{Command}
 use Rattle.dap_msg.specs.declared.command.Command.TheVariants as command
@@ -36,7 +37,7 @@ use Rattle.dap_history.specs.Readings.{go, situation, step_mark, message_mark, o
 use Rattle.dap_history.specs.Replies.{Reply, nothing, ordering, refused, causing, stops, ends, stop_of, exception_of}
 use Rattle.dap_history.specs.Launching.{Launches, launches}
 use Rattle.dap_history.specs.Breakpoints.{offset, line_offset, IsResolved, answer_of, effect_in, is_at}
-use Rattle.dap_history.specs.Running.{ResumeKind, body_of, resumes, enters}
+use Rattle.dap_history.specs.Running.{body_of, resumes, enters}
 use Rattle.dap_history.specs.Reports.{Accepts, outputs, from_next, put_in_at, put_in_by, held, report_effect}
 use Rattle.dap_history.specs.Considered.{starts_by}
 use Rattle.dap_history.specs.Emission.{Causes}
@@ -141,24 +142,16 @@ same_step step item answer effect a b c =
 
 -- the commands that ask for a run, but that which starts the program
 abbrev IsGoing : Command → Type 0
-IsGoing (command.Continue asked) = Unit {0}
-IsGoing (command.Next asked) = Unit {0}
-IsGoing (command.StepIn asked) = Unit {0}
-IsGoing (command.StepOut asked) = Unit {0}
-IsGoing (command.StepBack asked) = Unit {0}
-IsGoing (command.ReverseContinue asked) = Unit {0}
+IsGoing (command.Resume k asked) = Unit {0}
+IsGoing (command.Retreat k asked) = Unit {0}
 IsGoing _ = ⊥
 
 resuming_goes : (asked : Command) (resume_kind : ResumeKind) → resume_kind_by asked ≡ Some resume_kind → IsGoing asked
-resuming_goes (command.Continue a) resume_kind is = tt
-resuming_goes (command.Next a) resume_kind is = tt
-resuming_goes (command.StepIn a) resume_kind is = tt
-resuming_goes (command.StepOut a) resume_kind is = tt
+resuming_goes (command.Resume k a) resume_kind is = tt
 resuming_goes _ resume_kind is = absurd cc
 
 back_goes : (asked : Command) (m : Mode) → back_by asked ≡ Some m → IsGoing asked
-back_goes (command.StepBack a) m is = tt
-back_goes (command.ReverseContinue a) m is = tt
+back_goes (command.Retreat k a) m is = tt
 back_goes _ m is = absurd cc
 
 stop_marks : (r : Reason) → message_mark (Event (event.Stopped (stop_of r))) ≡ Some Stopped
@@ -174,12 +167,8 @@ module _ (l : Launched) (v : View) where
 
   -- a run is ordered where the program stands
   goes_planned : (seq : ℕ) (asked : Command) → IsGoing asked → (b : Body) (s : Situation) (run : Heading) → run.counted_from ≡ v.now.counted_from → Stands l v → After l s (answering seq asked (Ok b) (ordering (Go run ∷ []))) v
-  goes_planned seq (command.Continue a) going b s run counted here = (here.0, run, refl, sym counted, refl)
-  goes_planned seq (command.Next a) going b s run counted here = (here.0, run, refl, sym counted, refl)
-  goes_planned seq (command.StepIn a) going b s run counted here = (here.0, run, refl, sym counted, refl)
-  goes_planned seq (command.StepOut a) going b s run counted here = (here.0, run, refl, sym counted, refl)
-  goes_planned seq (command.StepBack a) going b s run counted here = (here.0, run, refl, sym counted, refl)
-  goes_planned seq (command.ReverseContinue a) going b s run counted here = (here.0, run, refl, sym counted, refl)
+  goes_planned seq (command.Resume k a) going b s run counted here = (here.0, run, refl, sym counted, refl)
+  goes_planned seq (command.Retreat k a) going b s run counted here = (here.0, run, refl, sym counted, refl)
   goes_planned seq _ going b s run counted here = absurd going
 
   other_lines : (s : Situation) (bs : List SourceBreakpoint) (same : Bool) → same ≡ false → Planned l s v
@@ -195,10 +184,7 @@ module _ (l : Launched) (v : View) where
       other_lines s a.breakpoints (is_at a.path l.path) (ap (λ (k : Launched). is_at a.path k.path) (sym same) ∙ calm.2) here
   calm_planned past seq s command.Threads b there calm here = here
   calm_planned past seq s (command.Pause a) b there calm here = here
-  calm_planned past seq s (command.StackTrace a) b there calm here = here
-  calm_planned past seq s (command.Scopes a) b there calm here = here
-  calm_planned past seq s (command.Variables a) b there calm here = here
-  calm_planned past seq s (command.Evaluate a) b there calm here = here
+  calm_planned past seq s (command.Inspect q) b there calm here = here
   calm_planned past seq s _ b there calm here = absurd calm
 
   calm_result : (past : History) (seq : ℕ) (s : Situation) (asked : Command) (result : Result Body Refusal) → launched past ≡ Some l → IsCalm past s asked → Planned l s v → After l s (answering seq asked result nothing) v
@@ -365,12 +351,8 @@ sets_none : (item : Item) (answer : Option Outgoing) (effect : Effect) → ((pat
 sets_none item answer effect lines put = record { lines = lines; put_in = put }
 
 going_none : (path : List ℕ) (asked : Command) → IsGoing asked → lines_at path asked ≡ None
-going_none path (command.Continue a) going = refl
-going_none path (command.Next a) going = refl
-going_none path (command.StepIn a) going = refl
-going_none path (command.StepOut a) going = refl
-going_none path (command.StepBack a) going = refl
-going_none path (command.ReverseContinue a) going = refl
+going_none path (command.Resume k a) going = refl
+going_none path (command.Retreat k a) going = refl
 going_none path _ going = absurd going
 
 module _ (past : History) (none : launched past ≡ None) where
@@ -382,10 +364,7 @@ module _ (past : History) (none : launched past ≡ None) where
   calm_none path s (command.Pause a) calm = refl
   calm_none path s (command.Initialize a) calm = refl
   calm_none path s command.Threads calm = refl
-  calm_none path s (command.StackTrace a) calm = refl
-  calm_none path s (command.Scopes a) calm = refl
-  calm_none path s (command.Variables a) calm = refl
-  calm_none path s (command.Evaluate a) calm = refl
+  calm_none path s (command.Inspect q) calm = refl
   calm_none path s _ calm = absurd calm
 
   by_result : (path : List ℕ) (seq : ℕ) (asked : Command) (result : Result Body Refusal) → lines_at path asked ≡ None
@@ -518,12 +497,8 @@ module _ (one : OneProgram) (joins : WrittenJoins) where
   RunsSo past answer run = (l : Launched) × (launched past ≡ Some l) × AreOfLines l (line_offset past) (lines_set l.path past) run.plan × (run.counted_from ≡ counts_from past l answer run.start)
 
   not_a_start : (seq : ℕ) (asked : Command) (b : Body) → IsGoing asked → starts_by (Some (Answer seq (name_of asked) (Ok b))) ≡ false
-  not_a_start seq (command.Continue a) b going = refl
-  not_a_start seq (command.Next a) b going = refl
-  not_a_start seq (command.StepIn a) b going = refl
-  not_a_start seq (command.StepOut a) b going = refl
-  not_a_start seq (command.StepBack a) b going = refl
-  not_a_start seq (command.ReverseContinue a) b going = refl
+  not_a_start seq (command.Resume k a) b going = refl
+  not_a_start seq (command.Retreat k a) b going = refl
   not_a_start seq _ b going = absurd going
 
   -- a run from where the program stands

@@ -4,6 +4,9 @@ use Rattle.std.specs.Prelude.{string_bytes, map}
 use Rattle.std.specs.Fmt.{decimal}
 use Rattle.std.proofs.Math.Logic.{∥∥₁_elim}
 use Rattle.std.proofs.lemmas.Fmt.{decimal_injective, first_decimal}
+use Rattle.dap_msg.specs.declared.question.Question.TheVariants as question
+use Rattle.dap_msg.specs.declared.question.Question.{Question}
+use Rattle.dap_msg.specs.declared.requests.resume.ResumeKind.{ResumeKind}
 use Rattle.dap_msg.specs.declared.command.Command.{Command}
 use Rattle.dap_msg.specs.declared.command.Command.TheVariants as command
 use Rattle.dap_msg.specs.declared.command.CommandName.{CommandName}
@@ -309,23 +312,22 @@ module _ (once : IsTextOnce) where
   one_evaluates main c id (Some f) text r s (inr a) (inl b) = absurd (a.none b.expression b.reads)
   one_evaluates main c id (Some f) text r s (inr a) (inr b) = a.reply_is ∙ sym b.reply_is
 
-  one_from : (of : Of) (c : Configuration) (question : Command) (r s : Reply) → RepliesFrom of c question r → RepliesFrom of c question s → r ≡ s
-  one_from of c (command.StackTrace asked) r s a b = a ∙ sym b
-  one_from of c (command.Scopes asked) r s a b = a ∙ sym b
-  one_from of c (command.Variables asked) r s a b = a ∙ sym b
-  one_from of c (command.Evaluate asked) r s a b = one_evaluates of.program c asked.frame_id (frame_by_id c asked.frame_id) asked.expression r s a b
-  one_from of c _ r s a b = absurd a
+  one_from : (of : Of) (c : Configuration) (question : Question) (r s : Reply) → RepliesFrom of c question r → RepliesFrom of c question s → r ≡ s
+  one_from of c (question.StackTrace asked) r s a b = a ∙ sym b
+  one_from of c (question.Scopes asked) r s a b = a ∙ sym b
+  one_from of c (question.Variables asked) r s a b = a ∙ sym b
+  one_from of c (question.Evaluate asked) r s a b = one_evaluates of.program c asked.frame_id (frame_by_id c asked.frame_id) asked.expression r s a b
 
-  one_at : (of : Of) (c : Option Configuration) (question : Command) (r s : Reply) → RepliesAt of c question r → RepliesAt of c question s → r ≡ s
+  one_at : (of : Of) (c : Option Configuration) (question : Question) (r s : Reply) → RepliesAt of c question r → RepliesAt of c question s → r ≡ s
   one_at of None question r s a b = absurd a
   one_at of (Some c) question r s a b = one_from of c question r s a b
 
-  one_inspects : (past : History) (question : Command) (r s : Reply) → Inspects past question r → Inspects past question s → r ≡ s
+  one_inspects : (past : History) (question : Question) (r s : Reply) → Inspects past question r → Inspects past question s → r ≡ s
   one_inspects past question r s a b =
       one_of_program (launched past) (λ l reply. RepliesAt (asked_of past l) (at l.program (position past)) question reply) r s
       (λ l x y. one_at (asked_of past l) (at l.program (position past)) question r s x y) a b
 
-  one_inspects_in : (s : Situation) (past : History) (question : Command) (r t : Reply) → InspectsIn s past question r → InspectsIn s past question t → r ≡ t
+  one_inspects_in : (s : Situation) (past : History) (question : Question) (r t : Reply) → InspectsIn s past question r → InspectsIn s past question t → r ≡ t
   one_inspects_in Running past question r t a b = a ∙ sym b
   one_inspects_in Stopped past question r t a b = one_inspects past question r t a b
   one_inspects_in Faulted past question r t a b = one_inspects past question r t a b
@@ -342,17 +344,10 @@ module _ (once : IsTextOnce) where
   one_reply s past (command.SetBreakpoints a) r t x y = one_sets_in s past a r t x y
   one_reply s past command.ConfigurationDone r t x y = one_configures_in s past r t x y
   one_reply s past command.Threads r t x y = x ∙ sym y
-  one_reply s past (command.Continue a) r t x y = one_resumes_in s past _ a.thread_id r t x y
-  one_reply s past (command.Next a) r t x y = one_resumes_in s past _ a.thread_id r t x y
-  one_reply s past (command.StepIn a) r t x y = one_resumes_in s past _ a.thread_id r t x y
-  one_reply s past (command.StepOut a) r t x y = one_resumes_in s past _ a.thread_id r t x y
-  one_reply s past (command.StepBack a) r t x y = one_retreats_in s past _ a.thread_id r t x y
-  one_reply s past (command.ReverseContinue a) r t x y = one_retreats_in s past _ a.thread_id r t x y
+  one_reply s past (command.Resume k a) r t x y = one_resumes_in s past _ a.thread_id r t x y
+  one_reply s past (command.Retreat k a) r t x y = one_retreats_in s past _ a.thread_id r t x y
   one_reply s past (command.Pause a) r t x y = x ∙ sym y
-  one_reply s past (command.StackTrace a) r t x y = one_inspects_in s past (command.StackTrace a) r t x y
-  one_reply s past (command.Scopes a) r t x y = one_inspects_in s past (command.Scopes a) r t x y
-  one_reply s past (command.Variables a) r t x y = one_inspects_in s past (command.Variables a) r t x y
-  one_reply s past (command.Evaluate a) r t x y = one_inspects_in s past (command.Evaluate a) r t x y
+  one_reply s past (command.Inspect q) r t x y = one_inspects_in s past q r t x y
   one_reply s past command.Disconnect r t x y = x ∙ sym y
   one_reply s past (command.Unsupported a) r t x y = x ∙ sym y
   one_reply s past (command.BadArguments a) r t x y = x ∙ sym y

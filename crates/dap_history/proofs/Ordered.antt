@@ -7,6 +7,10 @@ use Rattle.dap_msg.specs.declared.outgoing.Body.{Body}
 use Rattle.dap_msg.specs.declared.outgoing.Body.TheVariants as body
 use Rattle.dap_msg.specs.declared.outgoing.Refusal.{Refusal}
 use Rattle.dap_msg.specs.declared.outgoing.Refusal.TheVariants as refusal
+use Rattle.dap_msg.specs.declared.requests.resume.ResumeKind.{ResumeKind}
+use Rattle.dap_msg.specs.declared.requests.resume.ResumeKind.TheVariants as resume
+use Rattle.dap_msg.specs.declared.requests.resume.RetreatKind.{RetreatKind}
+use Rattle.dap_msg.specs.declared.requests.resume.RetreatKind.TheVariants as retreat
 use Rattle.dap_msg.specs.declared.requests.set_breakpoints.SetBreakpointsArguments.{SetBreakpointsArguments}
 use Rattle.pl0_meaning.specs.Values.{Configuration, Frame}
 use Rattle.pl0_meaning.specs.Runs.{at}
@@ -26,11 +30,12 @@ use Rattle.dap_history.specs.Readings.{go, launched, runs, is_back, is_held, pla
 use Rattle.dap_history.specs.Replies.{Reply, nothing, refused, causing, ordering, OfProgram, on_thread}
 use Rattle.dap_history.specs.Launching.{initialize_in}
 use Rattle.dap_history.specs.Breakpoints.{effect_in, SetsOf, SetsIn, is_at}
-use Rattle.dap_history.specs.Running.{ResumeKind, ToStop, ToNext, ToStep, ToReturn, mode_of, resumes, first_mode, enters, ConfiguresIn, ResumesIn, RetreatsIn, pause_in}
+use Rattle.dap_history.specs.Running.{mode_of, retreat_mode, resumes, first_mode, enters, ConfiguresIn, ResumesIn, RetreatsIn, pause_in}
 use Rattle.dap_history.specs.Frames.{frame_by_id}
 use Rattle.dap_history.specs.Inspection.{Asked, asked_of, scopes, variables, result_reply, EvaluatesIn, RepliesFrom, RepliesAt, InspectsIn}
 use Rattle.dap_history.specs.Emission.{threads_in, RepliesIn}
 use Rattle.dap_history.specs.GoingBack.{back_by, back_of, held_by}
+use Rattle.dap_history.proofs.Questions.{effect_is, no_effect}
 use Rattle.dap_history.proofs.Silent.{resuming}
 
 -- where a reply may order a run
@@ -91,55 +96,6 @@ threads_nothing Running = refl
 threads_nothing Stopped = refl
 threads_nothing Faulted = refl
 threads_nothing Ended = refl
-
-thread_nothing : (reply : Reply) (same : Bool) → reply.effect ≡ nothing → (if same then reply else refused refusal.UnknownThread).effect ≡ nothing
-thread_nothing reply true is = is
-thread_nothing reply false is = refl
-
-scopes_nothing : (of : Asked) (id : ℕ) (c : Configuration) (f : Option Frame) → (scopes of id c f).effect ≡ nothing
-scopes_nothing of id c None = refl
-scopes_nothing of id c (Some f) = refl
-
-variables_nothing : (of : Asked) (f : Option Frame) → (variables of f).effect ≡ nothing
-variables_nothing of None = refl
-variables_nothing of (Some f) = refl
-
-result_nothing : (r : Result ℤ EvalFault) → (result_reply r).effect ≡ nothing
-result_nothing (Ok v) = refl
-result_nothing (Err Overflow) = refl
-result_nothing (Err DivideByZero) = refl
-
-pub effect_is : (reply other : Reply) → reply ≡ other → other.effect ≡ nothing → reply.effect ≡ nothing
-effect_is reply other is none = ap (λ (r : Reply). r.effect) is ∙ none
-
-evaluates_nothing : (of : Asked) (c : Configuration) (id : ℕ) (f : Option Frame) (text : List ℕ) (reply : Reply) → EvaluatesIn of.program c id f text reply → reply.effect ≡ nothing
-evaluates_nothing of c id None text reply is = effect_is reply _ is refl
-evaluates_nothing of c id (Some f) text reply (inl is) = effect_is reply _ is.reply_is (result_nothing is.result)
-evaluates_nothing of c id (Some f) text reply (inr is) = effect_is reply _ is.reply_is refl
-
-replies_nothing : (of : Asked) (c : Configuration) (question : Command) (reply : Reply) → RepliesFrom of c question reply → reply.effect ≡ nothing
-replies_nothing of c (command.StackTrace a) reply is = effect_is reply _ is (thread_nothing _ (nat_eq a.thread_id 1) refl)
-replies_nothing of c (command.Scopes a) reply is = effect_is reply _ is (scopes_nothing of a.frame_id c (frame_by_id c a.frame_id))
-replies_nothing of c (command.Variables a) reply is = effect_is reply _ is (variables_nothing of (frame_by_id c a.variables_reference))
-replies_nothing of c (command.Evaluate a) reply is = evaluates_nothing of c a.frame_id (frame_by_id c a.frame_id) a.expression reply is
-replies_nothing of c _ reply is = absurd is
-
-inspects_nothing : (l : Option Launched) (past : History) (question : Command) (reply : Reply) → OfProgram l (λ l. RepliesAt (asked_of past l) (at l.program (position past)) question reply) → reply.effect ≡ nothing
-inspects_nothing None past question reply is = absurd is
-inspects_nothing (Some l) past question reply is = by_place (at l.program (position past)) is
-  where
-    by_place : (c : Option Configuration) → RepliesAt (asked_of past l) c question reply → reply.effect ≡ nothing
-    by_place None is = absurd is
-    by_place (Some c) is = replies_nothing (asked_of past l) c question reply is
-
-pub inspects_in : (s : Situation) (past : History) (question : Command) (reply : Reply) → InspectsIn s past question reply → reply.effect ≡ nothing
-inspects_in Fresh past question reply is = effect_is reply _ is refl
-inspects_in Ready past question reply is = effect_is reply _ is refl
-inspects_in Configuring past question reply is = effect_is reply _ is refl
-inspects_in Running past question reply is = effect_is reply _ is refl
-inspects_in Stopped past question reply is = inspects_nothing (launched past) past question reply is
-inspects_in Faulted past question reply is = inspects_nothing (launched past) past question reply is
-inspects_in Ended past question reply is = effect_is reply _ is refl
 
 -- ---- `setBreakpoints`, `pause`
 
@@ -211,10 +167,14 @@ configures_in_orders Ended past reply is = if_refused past reply _ is
 -- ---- `continue`, `next`, `stepIn`, `stepOut`
 
 forward : (resume_kind : ResumeKind) (depth : ℕ) → goes_back (mode_of resume_kind depth) ≡ false
-forward ToStop depth = refl
-forward ToNext depth = refl
-forward ToStep depth = refl
-forward ToReturn depth = refl
+forward resume.Continue depth = refl
+forward resume.Next depth = refl
+forward resume.StepIn depth = refl
+forward resume.StepOut depth = refl
+
+pub backward : (kind : RetreatKind) → goes_back (retreat_mode kind) ≡ true
+backward retreat.StepBack = refl
+backward retreat.ReverseContinue = refl
 
 resumes_orders : (s : Situation) → CanRun s → (l : Option Launched) (past : History) (resume_kind : ResumeKind) (thread : ℕ) (reply : Reply) → OfProgram l (λ l. reply ≡ resuming past resume_kind thread l) → OrdersAs None s past reply.effect
 resumes_orders s can None past resume_kind thread reply is = absurd is
@@ -277,8 +237,7 @@ granted_in Running past m thread reply b is granted = absurd (no_body reply _ b 
 granted_in Ended past m thread reply b is granted = absurd (no_body reply _ b is granted)
 
 pub granted_back : (s : Situation) (past : History) (asked : Command) (reply : Reply) (m : Mode) (b : Body) → RepliesIn s past asked reply → back_by asked ≡ Some m → reply.result ≡ Ok b → IsSome (last_such go reply.effect.orders)
-granted_back s past (command.StepBack a) reply m b is asks granted = granted_in s past _ a.thread_id reply b is granted
-granted_back s past (command.ReverseContinue a) reply m b is asks granted = granted_in s past _ a.thread_id reply b is granted
+granted_back s past (command.Retreat k a) reply m b is asks granted = granted_in s past _ a.thread_id reply b is granted
 granted_back s past _ reply m b is asks granted = absurd cc
 
 -- ---- by command
@@ -289,17 +248,10 @@ all_orders s past (command.Launch a) reply here is = if_refused past reply _ is
 all_orders s past (command.SetBreakpoints a) reply here is = sets_in_orders s past a reply here is
 all_orders s past command.ConfigurationDone reply here is = configures_in_orders s past reply is
 all_orders s past command.Threads reply here is = if_nothing past reply.effect (effect_is reply _ is (threads_nothing s))
-all_orders s past (command.Continue a) reply here is = resumes_in_orders s past _ a.thread_id reply is
-all_orders s past (command.Next a) reply here is = resumes_in_orders s past _ a.thread_id reply is
-all_orders s past (command.StepIn a) reply here is = resumes_in_orders s past _ a.thread_id reply is
-all_orders s past (command.StepOut a) reply here is = resumes_in_orders s past _ a.thread_id reply is
-all_orders s past (command.StepBack a) reply here is = retreats_in_orders _ refl s past a.thread_id reply is
-all_orders s past (command.ReverseContinue a) reply here is = retreats_in_orders _ refl s past a.thread_id reply is
+all_orders s past (command.Resume k a) reply here is = resumes_in_orders s past _ a.thread_id reply is
+all_orders s past (command.Retreat k a) reply here is = retreats_in_orders _ (backward k) s past a.thread_id reply is
 all_orders s past (command.Pause a) reply here is = if_reply past reply _ (pause_orders s past a.thread_id) is
-all_orders s past (command.StackTrace a) reply here is = if_nothing past reply.effect (inspects_in s past (command.StackTrace a) reply is)
-all_orders s past (command.Scopes a) reply here is = if_nothing past reply.effect (inspects_in s past (command.Scopes a) reply is)
-all_orders s past (command.Variables a) reply here is = if_nothing past reply.effect (inspects_in s past (command.Variables a) reply is)
-all_orders s past (command.Evaluate a) reply here is = if_nothing past reply.effect (inspects_in s past (command.Evaluate a) reply is)
+all_orders s past (command.Inspect q) reply here is = if_nothing past reply.effect (no_effect s past q reply is)
 all_orders s past command.Disconnect reply here is = if_reply past reply _ (record { run = runs_none; put = tt; hold = λ goes. refl }) is
 all_orders s past (command.Unsupported a) reply here is = if_refused past reply _ is
 all_orders s past (command.BadArguments a) reply here is = if_refused past reply _ is

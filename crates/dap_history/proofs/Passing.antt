@@ -2,6 +2,7 @@
 use Rattle.std.proofs.Common.{◌≡◌, ◌⊎◌, inl, inr, ⊎_elim, ℕ, ◌<◌, ◌≤◌, List, [], ◌∷◌, true, Option, None, Some, Ok, Err, refl, sym, ◌∙◌, ap, subst, arith}
 use Rattle.std.specs.Prelude.{map, unwrap_or, Result}
 use Rattle.std.proofs.lemmas.Bool.{cases_lt}
+use Rattle.dap_msg.specs.Questions.{kind_of}
 use Rattle.dap_msg.specs.Commands.{name_of}
 use Rattle.dap_msg.specs.declared.command.Command.{Command}
 use Rattle.dap_msg.specs.declared.command.Command.TheVariants as command
@@ -116,17 +117,10 @@ reply_not s past (command.Initialize a) reply is mark = result_not (name.Support
 reply_not s past (command.SetBreakpoints a) reply is mark = result_not (name.Supported supported.SetBreakpoints) (λ x. x) reply.result mark
 reply_not s past command.ConfigurationDone reply is mark = result_not (name.Supported supported.ConfigurationDone) (λ x. x) reply.result mark
 reply_not s past command.Threads reply is mark = result_not (name.Supported supported.Threads) (λ x. x) reply.result mark
-reply_not s past (command.Continue a) reply is mark = result_not (name.Supported supported.Continue) (λ x. x) reply.result mark
-reply_not s past (command.Next a) reply is mark = result_not (name.Supported supported.Next) (λ x. x) reply.result mark
-reply_not s past (command.StepIn a) reply is mark = result_not (name.Supported supported.StepIn) (λ x. x) reply.result mark
-reply_not s past (command.StepOut a) reply is mark = result_not (name.Supported supported.StepOut) (λ x. x) reply.result mark
-reply_not s past (command.StepBack a) reply is mark = result_not (name.Supported supported.StepBack) (λ x. x) reply.result mark
-reply_not s past (command.ReverseContinue a) reply is mark = result_not (name.Supported supported.ReverseContinue) (λ x. x) reply.result mark
+reply_not s past (command.Resume k a) reply is mark = result_not (name.Supported (supported.Resume k)) (λ x. x) reply.result mark
+reply_not s past (command.Retreat k a) reply is mark = result_not (name.Supported (supported.Retreat k)) (λ x. x) reply.result mark
 reply_not s past (command.Pause a) reply is mark = result_not (name.Supported supported.Pause) (λ x. x) reply.result mark
-reply_not s past (command.StackTrace a) reply is mark = result_not (name.Supported supported.StackTrace) (λ x. x) reply.result mark
-reply_not s past (command.Scopes a) reply is mark = result_not (name.Supported supported.Scopes) (λ x. x) reply.result mark
-reply_not s past (command.Variables a) reply is mark = result_not (name.Supported supported.Variables) (λ x. x) reply.result mark
-reply_not s past (command.Evaluate a) reply is mark = result_not (name.Supported supported.Evaluate) (λ x. x) reply.result mark
+reply_not s past (command.Inspect q) reply is mark = result_not (name.Supported (supported.Inspect (kind_of q))) (λ x. x) reply.result mark
 reply_not s past command.Disconnect reply is mark = result_not (name.Supported supported.Disconnect) (λ x. x) reply.result mark
 reply_not s past (command.Unsupported text) reply is mark = result_not (name.Unsupported text) (λ x. x) reply.result mark
 

@@ -7,6 +7,7 @@ use Rattle.dap_msg.specs.declared.command.Command.TheVariants as command
 use Rattle.dap_msg.specs.Commands.{name_of}
 use Rattle.dap_msg.specs.declared.command.CommandName.TheVariants as name
 use Rattle.dap_msg.specs.declared.command.Supported.TheVariants as supported
+use Rattle.dap_msg.specs.declared.requests.resume.RetreatKind.TheVariants as retreat
 use Rattle.dap_msg.specs.declared.outgoing.Outgoing.TheVariants.{Answer}
 use Rattle.dap_msg.specs.declared.outgoing.Body.TheVariants as body
 use Rattle.dap_msg.specs.declared.outgoing.EventBody.TheVariants as event
@@ -126,13 +127,13 @@ module _ (text : List ℕ) (program : Block) (path : List ℕ) (bs : List Breakp
   tells_one = refl
 
   -- `reverseContinue` orders run 2 in the mode Reverse
-  reverses : (reply : Reply) → RepliesIn (situation stopped) stopped (command.ReverseContinue (record { thread_id = 1 })) reply
+  reverses : (reply : Reply) → RepliesIn (situation stopped) stopped (command.Retreat retreat.ReverseContinue (record { thread_id = 1 })) reply
       → reply ≡ record { result = Ok body.None; effect = record nothing { orders = Go (record { run = 2; text = text; plan = []; counted_from = 0; mode = mode.Reverse; start = 15 }) ∷ [] } }
   reverses reply is = is
 
   abbrev going_back : History
   going_back =
-      stopped ++ taken 5 (command.ReverseContinue (record { thread_id = 1 })) (record { result = Ok body.None; effect = record nothing { orders = Go (record { run = 2; text = text; plan = []; counted_from = 0; mode = mode.Reverse; start = 15 }) ∷ [] } }) ∷ []
+      stopped ++ taken 5 (command.Retreat retreat.ReverseContinue (record { thread_id = 1 })) (record { result = Ok body.None; effect = record nothing { orders = Go (record { run = 2; text = text; plan = []; counted_from = 0; mode = mode.Reverse; start = 15 }) ∷ [] } }) ∷ []
 
   -- a pause and breakpoints hold nothing there
   pauses_not : (reply : Reply) → RepliesIn (situation going_back) going_back (command.Pause (record { thread_id = 1 })) reply → reply ≡ answered body.None

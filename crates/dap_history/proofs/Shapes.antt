@@ -6,6 +6,7 @@ use Rattle.dap_msg.specs.declared.command.Command.TheVariants as command
 use Rattle.dap_msg.specs.declared.outgoing.Body.TheVariants as body
 use Rattle.dap_msg.specs.declared.outgoing.Refusal.{Refusal}
 use Rattle.dap_msg.specs.declared.outgoing.Refusal.TheVariants as refusal
+use Rattle.dap_msg.specs.declared.requests.resume.ResumeKind.{ResumeKind}
 use Rattle.dap_msg.specs.declared.requests.resume.ThreadArguments.{ThreadArguments}
 use Rattle.dap_msg.specs.declared.requests.set_breakpoints.SetBreakpointsArguments.{SetBreakpointsArguments}
 use Rattle.dbg_plan.specs.Due.{depth_at}
@@ -17,19 +18,17 @@ use Rattle.dap_history.specs.History.{Launched, History}
 use Rattle.dap_history.specs.Readings.{launched, position}
 use Rattle.dap_history.specs.Replies.{Reply, nothing, reporting, ordering, answered, refused, causing, OfProgram, ends, on_thread}
 use Rattle.dap_history.specs.Breakpoints.{hold_once, Resolves, SetsOf, SetsIn, is_at}
-use Rattle.dap_history.specs.Running.{ResumeKind, ToStop, ToNext, ToStep, ToReturn, mode_of, body_of, resumes, enters, ConfiguresIn, ResumesIn, RetreatsIn, pause_in}
+use Rattle.dap_history.specs.Running.{mode_of, body_of, resumes, enters, ConfiguresIn, ResumesIn, RetreatsIn, pause_in}
 use Rattle.dap_history.specs.Emission.{RepliesIn}
 use Rattle.dap_history.specs.GoingBack.{back_by}
 use Rattle.dap_history.specs.Stops.{IsStanding}
+use Rattle.dap_history.proofs.Questions.{effect_is, no_effect}
 use Rattle.dap_history.proofs.Silent.{resuming, due_first}
-use Rattle.dap_history.proofs.Ordered.{initialize_nothing, threads_nothing, effect_is, inspects_in}
+use Rattle.dap_history.proofs.Ordered.{initialize_nothing, threads_nothing, backward}
 
 -- how a command asks the program to go on, if it does
 abbrev pub resume_kind_by : Command → Option ResumeKind
-resume_kind_by (command.Continue asked) = Some ToStop
-resume_kind_by (command.Next asked) = Some ToNext
-resume_kind_by (command.StepIn asked) = Some ToStep
-resume_kind_by (command.StepOut asked) = Some ToReturn
+resume_kind_by (command.Resume k asked) = Some k
 resume_kind_by _ = None
 
 -- a command that is answered and has no effect: a pause where the program stands, lines of another source, or a question
@@ -38,10 +37,7 @@ IsCalm past s (command.Pause asked) = IsStanding s
 IsCalm past s (command.SetBreakpoints asked) = (l : Launched) × (launched past ≡ Some l) × (is_at asked.path l.path ≡ false)
 IsCalm past s (command.Initialize asked) = Unit {0}
 IsCalm past s command.Threads = Unit {0}
-IsCalm past s (command.StackTrace asked) = Unit {0}
-IsCalm past s (command.Scopes asked) = Unit {0}
-IsCalm past s (command.Variables asked) = Unit {0}
-IsCalm past s (command.Evaluate asked) = Unit {0}
+IsCalm past s (command.Inspect q) = Unit {0}
 IsCalm past s _ = ⊥
 
 pub data Shape (past : History) (s : Situation) (asked : Command) (reply : Reply) : Type 0 where
@@ -157,17 +153,10 @@ module _ (past : History) (reply : Reply) where
   shaped s (command.SetBreakpoints a) is = sets_in_shape s a is
   shaped s command.ConfigurationDone is = configures_shape s is
   shaped s command.Threads is = is_calm tt (effect_is reply _ is (threads_nothing s))
-  shaped s (command.Continue a) is = resumes_shape s (command.Continue a) _ a.thread_id refl is
-  shaped s (command.Next a) is = resumes_shape s (command.Next a) _ a.thread_id refl is
-  shaped s (command.StepIn a) is = resumes_shape s (command.StepIn a) _ a.thread_id refl is
-  shaped s (command.StepOut a) is = resumes_shape s (command.StepOut a) _ a.thread_id refl is
-  shaped s (command.StepBack a) is = retreats_shape (command.StepBack a) _ refl refl s a.thread_id is
-  shaped s (command.ReverseContinue a) is = retreats_shape (command.ReverseContinue a) _ refl refl s a.thread_id is
+  shaped s (command.Resume k a) is = resumes_shape s (command.Resume k a) k a.thread_id refl is
+  shaped s (command.Retreat k a) is = retreats_shape (command.Retreat k a) _ refl (backward k) s a.thread_id is
   shaped s (command.Pause a) is = pause_shape s a is
-  shaped s (command.StackTrace a) is = is_calm tt (inspects_in s past (command.StackTrace a) reply is)
-  shaped s (command.Scopes a) is = is_calm tt (inspects_in s past (command.Scopes a) reply is)
-  shaped s (command.Variables a) is = is_calm tt (inspects_in s past (command.Variables a) reply is)
-  shaped s (command.Evaluate a) is = is_calm tt (inspects_in s past (command.Evaluate a) reply is)
+  shaped s (command.Inspect q) is = is_calm tt (no_effect s past q reply is)
   shaped s command.Disconnect is = quits refl is
   shaped s (command.Unsupported a) is = refuses _ is
   shaped s (command.BadArguments a) is = refuses _ is

@@ -2,6 +2,9 @@
 use Rattle.std.proofs.Common.{◌≡◌, inl, inr, ℕ, ◌+◌, List, [], ◌∷◌, ◌++◌, Bool, true, false, ◌||◌, Option, None, Some, Ok, Err, refl, sym, ◌∙◌, ap, subst, append-nil}
 use Rattle.std.specs.Prelude.{map, nat_eq, if◌then◌else◌, ℤ, Result}
 use Rattle.std.specs.List.{filter_map}
+use Rattle.dap_history.proofs.Questions.{no_effect}
+use Rattle.dap_msg.specs.declared.question.Question.{Question}
+use Rattle.dap_msg.specs.declared.requests.resume.ResumeKind.{ResumeKind}
 use Rattle.dap_msg.specs.declared.command.Command.{Command}
 use Rattle.dap_msg.specs.declared.command.Command.TheVariants as command
 use Rattle.dap_msg.specs.declared.outgoing.Body.TheVariants as body
@@ -34,9 +37,9 @@ use Rattle.dap_history.specs.Readings.{go, launched, runs, is_back, is_held, pla
 use Rattle.dap_history.specs.Replies.{Reply, nothing, refused, causing, ordering, OfProgram, on_thread, stop_of, stops as stop_events}
 use Rattle.dap_history.specs.Launching.{initialize_in}
 use Rattle.dap_history.specs.Breakpoints.{effect_in, SetsOf, Sets, SetsIn, is_at}
-use Rattle.dap_history.specs.Running.{ResumeKind, mode_of, body_of, resumes, first_mode, first_logs, enters, ConfiguresIn, ResumesIn, RetreatsIn, pause_in}
+use Rattle.dap_history.specs.Running.{mode_of, body_of, resumes, first_mode, first_logs, enters, ConfiguresIn, ResumesIn, RetreatsIn, pause_in}
 use Rattle.dap_history.specs.Frames.{frame_by_id}
-use Rattle.dap_history.specs.Inspection.{Asked, asked_of, scopes, variables, result_reply, EvaluatesIn, RepliesFrom, RepliesAt, InspectsIn}
+use Rattle.dap_history.specs.Inspection.{InspectsIn}
 use Rattle.dap_history.specs.Emission.{threads_in, RepliesIn}
 use Rattle.dap_history.specs.Stops.{stop_of_event}
 use Rattle.dap_msg.specs.declared.outgoing.StopReason.{StopReason}
@@ -240,61 +243,8 @@ pause_silent Stopped past thread = thread_silent past _ (nat_eq thread 1) (nothi
 pause_silent Faulted past thread = thread_silent past _ (nat_eq thread 1) (nothing_silent past)
 pause_silent Ended past thread = nothing_silent past
 
-scopes_silent : {s : Situation} (past : History) (of : Asked) (id : ℕ) (c : Configuration) (f : Option Frame) → IsSilent false s past (scopes of id c f).effect
-scopes_silent past of id c None = nothing_silent past
-scopes_silent past of id c (Some f) = nothing_silent past
-
-variables_silent : {s : Situation} (past : History) (of : Asked) (f : Option Frame) → IsSilent false s past (variables of f).effect
-variables_silent past of None = nothing_silent past
-variables_silent past of (Some f) = nothing_silent past
-
-result_silent : {s : Situation} (past : History) (r : Result ℤ EvalFault) → IsSilent false s past (result_reply r).effect
-result_silent past (Ok v) = nothing_silent past
-result_silent past (Err Overflow) = nothing_silent past
-result_silent past (Err DivideByZero) = nothing_silent past
-
-evaluates_silent : {s : Situation} (past : History) (of : Asked) (c : Configuration) (id : ℕ) (f : Option Frame) (text : List ℕ) (reply : Reply) → EvaluatesIn of.program c id f text reply → IsSilent false s past reply.effect
-evaluates_silent past of c id None text reply is = silent_if past reply _ (nothing_silent past) is
-evaluates_silent past of c id (Some f) text reply (inl is) = silent_if past reply _ (result_silent past is.result) is.reply_is
-evaluates_silent past of c id (Some f) text reply (inr is) = silent_if past reply _ (nothing_silent past) is.reply_is
-
-replies_silent : {s : Situation} (past : History) (of : Asked) (c : Configuration) (question : Command) (reply : Reply) → RepliesFrom of c question reply → IsSilent false s past reply.effect
-replies_silent past of c (command.StackTrace a) reply is = silent_if past reply _ (thread_silent past _ (nat_eq a.thread_id 1) (nothing_silent past)) is
-replies_silent past of c (command.Scopes a) reply is = silent_if past reply _ (scopes_silent past of a.frame_id c (frame_by_id c a.frame_id)) is
-replies_silent past of c (command.Variables a) reply is = silent_if past reply _ (variables_silent past of (frame_by_id c a.variables_reference)) is
-replies_silent past of c (command.Evaluate a) reply is = evaluates_silent past of c a.frame_id (frame_by_id c a.frame_id) a.expression reply is
-replies_silent past of c (command.Initialize a) reply is = absurd is
-replies_silent past of c (command.Launch a) reply is = absurd is
-replies_silent past of c (command.SetBreakpoints a) reply is = absurd is
-replies_silent past of c command.ConfigurationDone reply is = absurd is
-replies_silent past of c command.Threads reply is = absurd is
-replies_silent past of c (command.Continue a) reply is = absurd is
-replies_silent past of c (command.Next a) reply is = absurd is
-replies_silent past of c (command.StepIn a) reply is = absurd is
-replies_silent past of c (command.StepOut a) reply is = absurd is
-replies_silent past of c (command.StepBack a) reply is = absurd is
-replies_silent past of c (command.ReverseContinue a) reply is = absurd is
-replies_silent past of c (command.Pause a) reply is = absurd is
-replies_silent past of c command.Disconnect reply is = absurd is
-replies_silent past of c (command.Unsupported a) reply is = absurd is
-replies_silent past of c (command.BadArguments a) reply is = absurd is
-
-replies_at_silent : {s : Situation} (past : History) (of : Asked) (c : Option Configuration) (question : Command) (reply : Reply) → RepliesAt of c question reply → IsSilent false s past reply.effect
-replies_at_silent past of None question reply is = absurd is
-replies_at_silent past of (Some c) question reply is = replies_silent past of c question reply is
-
-inspects_silent : {s : Situation} (l : Option Launched) (past : History) (question : Command) (reply : Reply) → OfProgram l (λ l. RepliesAt (asked_of past l) (at l.program (position past)) question reply) → IsSilent false s past reply.effect
-inspects_silent None past question reply is = absurd is
-inspects_silent (Some l) past question reply is = replies_at_silent past (asked_of past l) (at l.program (position past)) question reply is
-
-inspects_in_silent : (s : Situation) (past : History) (question : Command) (reply : Reply) → InspectsIn s past question reply → IsSilent false s past reply.effect
-inspects_in_silent Fresh past question reply is = silent_if past reply _ (nothing_silent past) is
-inspects_in_silent Ready past question reply is = silent_if past reply _ (nothing_silent past) is
-inspects_in_silent Configuring past question reply is = silent_if past reply _ (nothing_silent past) is
-inspects_in_silent Running past question reply is = silent_if past reply _ (nothing_silent past) is
-inspects_in_silent Stopped past question reply is = inspects_silent (launched past) past question reply is
-inspects_in_silent Faulted past question reply is = inspects_silent (launched past) past question reply is
-inspects_in_silent Ended past question reply is = silent_if past reply _ (nothing_silent past) is
+inspects_in_silent : (s : Situation) (past : History) (question : Question) (reply : Reply) → InspectsIn s past question reply → IsSilent false s past reply.effect
+inspects_in_silent s past question reply is = subst (IsSilent false s past) (sym (no_effect s past question reply is)) (nothing_silent past)
 
 pub all_silent : (s : Situation) (past : History) (asked : Command) (reply : Reply) → RepliesIn s past asked reply → SilentReply (name_of asked) s past reply
 all_silent s past (command.Initialize a) reply is = as_other (name_of (command.Initialize a)) past reply refl (silent_if past reply _ (initialize_silent s past) is)
@@ -302,17 +252,10 @@ all_silent s past (command.Launch a) reply is = as_refusal (name_of (command.Lau
 all_silent s past (command.SetBreakpoints a) reply is = as_other (name_of (command.SetBreakpoints a)) past reply refl (sets_in_silent s past a reply is)
 all_silent s past command.ConfigurationDone reply is = configures_in_silent s past reply is
 all_silent s past command.Threads reply is = as_other (name_of command.Threads) past reply refl (silent_if past reply _ (threads_silent s past) is)
-all_silent s past (command.Continue a) reply is = as_other (name_of (command.Continue a)) past reply refl (resumes_in_silent s past _ a.thread_id reply is)
-all_silent s past (command.Next a) reply is = as_other (name_of (command.Next a)) past reply refl (resumes_in_silent s past _ a.thread_id reply is)
-all_silent s past (command.StepIn a) reply is = as_other (name_of (command.StepIn a)) past reply refl (resumes_in_silent s past _ a.thread_id reply is)
-all_silent s past (command.StepOut a) reply is = as_other (name_of (command.StepOut a)) past reply refl (resumes_in_silent s past _ a.thread_id reply is)
-all_silent s past (command.StepBack a) reply is = as_other (name_of (command.StepBack a)) past reply refl (retreats_in_silent s past _ a.thread_id reply is)
-all_silent s past (command.ReverseContinue a) reply is = as_other (name_of (command.ReverseContinue a)) past reply refl (retreats_in_silent s past _ a.thread_id reply is)
+all_silent s past (command.Resume k a) reply is = as_other (name_of (command.Resume k a)) past reply refl (resumes_in_silent s past _ a.thread_id reply is)
+all_silent s past (command.Retreat k a) reply is = as_other (name_of (command.Retreat k a)) past reply refl (retreats_in_silent s past _ a.thread_id reply is)
 all_silent s past (command.Pause a) reply is = as_other (name_of (command.Pause a)) past reply refl (silent_if past reply _ (pause_silent s past a.thread_id) is)
-all_silent s past (command.StackTrace a) reply is = as_other (name_of (command.StackTrace a)) past reply refl (inspects_in_silent s past (command.StackTrace a) reply is)
-all_silent s past (command.Scopes a) reply is = as_other (name_of (command.Scopes a)) past reply refl (inspects_in_silent s past (command.Scopes a) reply is)
-all_silent s past (command.Variables a) reply is = as_other (name_of (command.Variables a)) past reply refl (inspects_in_silent s past (command.Variables a) reply is)
-all_silent s past (command.Evaluate a) reply is = as_other (name_of (command.Evaluate a)) past reply refl (inspects_in_silent s past (command.Evaluate a) reply is)
+all_silent s past (command.Inspect q) reply is = as_other (name_of (command.Inspect q)) past reply refl (inspects_in_silent s past q reply is)
 all_silent s past command.Disconnect reply is =
     as_other (name_of command.Disconnect) past reply refl
     (silent_if past reply _ (record { no_numbers = refl; no_launch = refl; goes = no_go; runs_are = no_runs; stops = no_stop; logs = no_logs refl }) is)

@@ -3,6 +3,7 @@ use Rattle.std.proofs.Common.{◌≡◌, ◌⊎◌, inl, inr, ℕ, List, [], ◌
 use Rattle.std.specs.Prelude.{map, unwrap_or, Result}
 use Rattle.std.proofs.lemmas.List.{append_assoc}
 use Rattle.std.proofs.lemmas.List.Elements.{All-nil, All-cons, All-append}
+use Rattle.dap_msg.specs.declared.question.Question.{Question}
 use Rattle.dap_msg.specs.Commands.{name_of}
 use Rattle.dap_msg.specs.declared.request.Request.{Request}
 use Rattle.dap_msg.specs.declared.command.Command.{Command}
@@ -27,7 +28,7 @@ use Rattle.dap_history.specs.Readings.{situation, position, launched, end_of, co
 use Rattle.dap_history.specs.Replies.{Reply, OfProgram, refused}
 use Rattle.dap_history.specs.Inspection.{RepliesAt, asked_of, Inspects, InspectsIn}
 use Rattle.dap_history.specs.Emission.{RepliesIn, Answers, Causes}
-use Rattle.dap_history.specs.Stops.{stop_of_event, stop_in, IsStanding, StoppedLastAt, IsQuestion, AnswersFrom, QuestionsAreAnsweredThere}
+use Rattle.dap_history.specs.Stops.{stop_of_event, stop_in, IsStanding, StoppedLastAt, AnswersFrom, QuestionsAreAnsweredThere}
 use Rattle.dap_history.specs.Events.{Incoming}
 use Rattle.dap_history.proofs.Readings.{situation-snoc, position-snoc}
 use Rattle.dap_history.proofs.Along.{IsTaken, IsKept, any_events, along}
@@ -191,49 +192,42 @@ stood_kept Q = record {
 
 -- ---- questions
 
-inspects_of : (s : Situation) (past : History) (c : Command) (reply : Reply) → IsQuestion c → RepliesIn s past c reply → InspectsIn s past c reply
-inspects_of s past (command.StackTrace a) reply is replies = replies
-inspects_of s past (command.Scopes a) reply is replies = replies
-inspects_of s past (command.Variables a) reply is replies = replies
-inspects_of s past (command.Evaluate a) reply is replies = replies
-inspects_of s past _ reply is replies = absurd is
-
-inspects_here : (s : Situation) (past : History) (c : Command) (reply : Reply) → IsStanding s → InspectsIn s past c reply → Inspects past c reply
-inspects_here Stopped past c reply is inspects = inspects
-inspects_here Faulted past c reply is inspects = inspects
-inspects_here _ past c reply is inspects = absurd is
+inspects_here : (s : Situation) (past : History) (q : Question) (reply : Reply) → IsStanding s → InspectsIn s past q reply → Inspects past q reply
+inspects_here Stopped past q reply is inspects = inspects
+inspects_here Faulted past q reply is inspects = inspects
+inspects_here _ past q reply is inspects = absurd is
 
 -- a refusal is no body
 no_body : (reply : Reply) (why : Refusal) (b : Body) → reply ≡ refused why → ¬ (reply.result ≡ Ok b)
 no_body reply why b is body = let e = ap (λ (r : Reply). r.result) (sym is) ∙ body in absurd cc
 
-standing_of : (s : Situation) (past : History) (c : Command) (reply : Reply) (b : Body) → InspectsIn s past c reply → reply.result ≡ Ok b → IsStanding s
-standing_of Stopped past c reply b is body = tt
-standing_of Faulted past c reply b is body = tt
-standing_of Fresh past c reply b is body = absurd (no_body reply _ b is body)
-standing_of Ready past c reply b is body = absurd (no_body reply _ b is body)
-standing_of Configuring past c reply b is body = absurd (no_body reply _ b is body)
-standing_of Running past c reply b is body = absurd (no_body reply _ b is body)
-standing_of Ended past c reply b is body = absurd (no_body reply _ b is body)
+standing_of : (s : Situation) (past : History) (q : Question) (reply : Reply) (b : Body) → InspectsIn s past q reply → reply.result ≡ Ok b → IsStanding s
+standing_of Stopped past q reply b is body = tt
+standing_of Faulted past q reply b is body = tt
+standing_of Fresh past q reply b is body = absurd (no_body reply _ b is body)
+standing_of Ready past q reply b is body = absurd (no_body reply _ b is body)
+standing_of Configuring past q reply b is body = absurd (no_body reply _ b is body)
+standing_of Running past q reply b is body = absurd (no_body reply _ b is body)
+standing_of Ended past q reply b is body = absurd (no_body reply _ b is body)
 
 -- the program that is inspected, shown where it stopped last
-shown : (before : History) (request : Request) (step : Step) (reply : Reply) (l : Option Launched) → launched before ≡ l
-    → OfProgram l (λ l. RepliesAt (asked_of before l) (at l.program (position before)) request.body reply)
+shown : (before : History) (request : Request) (question : Question) (step : Step) (reply : Reply) (l : Option Launched) → launched before ≡ l
+    → OfProgram l (λ l. RepliesAt (asked_of before l) (at l.program (position before)) question reply)
     → Answers request.seq (name_of request.body) reply step → (m : ℕ) × StoppedLastAt before m × (m ≡ position before)
-    → (l : Launched) × (m : ℕ) × (launched before ≡ Some l) × StoppedLastAt before m × AnswersFrom l before m request step
-shown before request step reply None is inspects answers stood = absurd inspects
-shown before request step reply (Some l) is inspects answers stood = (
+    → (l : Launched) × (m : ℕ) × (launched before ≡ Some l) × StoppedLastAt before m × AnswersFrom l before m request question step
+shown before request question step reply None is inspects answers stood = absurd inspects
+shown before request question step reply (Some l) is inspects answers stood = (
   l,
   stood.0,
   is,
   stood.1,
-  record { reply = reply; shown = subst (λ n. RepliesAt (asked_of before l) (at l.program n) request.body reply) (sym stood.2) inspects; answer_is = answers.answer_is },
+  record { reply = reply; shown = subst (λ n. RepliesAt (asked_of before l) (at l.program n) question reply) (sym stood.2) inspects; answer_is = answers.answer_is },
 )
 
 pub questions_answered : QuestionsAreAnsweredThere
-questions_answered events past rest history before request step asks = (
-  λ standing. shown before request step causes.0 (launched before) refl (inspects_here (situation before) before request.body causes.0 standing inspects) causes.2 (was.held standing),
-  λ b answer. standing_of (situation before) before request.body causes.0 b inspects (let e = sym causes.2.answer_is ∙ answer in cc),
+questions_answered events past rest history before request question step asks = (
+  λ standing. shown before request question step causes.0 (launched before) refl (inspects_here (situation before) before question causes.0 standing inspects) causes.2 (was.held standing),
+  λ b answer. standing_of (situation before) before question causes.0 b inspects (let e = sym causes.2.answer_is ∙ answer in cc),
 )
   where
     each : EachTaken (λ e. Unit {0}) Stood past
@@ -245,5 +239,5 @@ questions_answered events past rest history before request step asks = (
     causes : (reply : Reply) × RepliesIn (situation before) before request.body reply × Answers request.seq (name_of request.body) reply step
     causes = subst (λ i. Causes before i step) asks.item_is was.causes
 
-    inspects : InspectsIn (situation before) before request.body causes.0
-    inspects = inspects_of (situation before) before request.body causes.0 asks.question causes.1
+    inspects : InspectsIn (situation before) before question causes.0
+    inspects = subst (λ c. RepliesIn (situation before) before c causes.0) asks.question_is causes.1

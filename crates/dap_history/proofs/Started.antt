@@ -1,6 +1,7 @@
 -- The program is started once, in Configuring.
 use Rattle.std.proofs.Common.{◌≡◌, ◌⊎◌, inl, inr, ℕ, [], ◌∷◌, ◌++◌, Bool, true, false, Option, None, Some, Result, Ok, Err, refl, sym, ◌∙◌, ap, subst}
 use Rattle.std.specs.Prelude.{map, if◌then◌else◌, option_map}
+use Rattle.dap_msg.specs.Questions.{kind_of}
 use Rattle.dap_msg.specs.Commands.{name_of}
 use Rattle.dap_msg.specs.declared.command.Command.{Command}
 use Rattle.dap_msg.specs.declared.command.Command.TheVariants as command
@@ -144,17 +145,10 @@ starts_so s past (command.Initialize a) reply is starts = never (name.Supported 
 starts_so s past (command.Launch a) reply is starts = never (name.Supported supported.Launch) reply.result refl starts
 starts_so s past (command.SetBreakpoints a) reply is starts = never (name.Supported supported.SetBreakpoints) reply.result refl starts
 starts_so s past command.Threads reply is starts = never (name.Supported supported.Threads) reply.result refl starts
-starts_so s past (command.Continue a) reply is starts = never (name.Supported supported.Continue) reply.result refl starts
-starts_so s past (command.Next a) reply is starts = never (name.Supported supported.Next) reply.result refl starts
-starts_so s past (command.StepIn a) reply is starts = never (name.Supported supported.StepIn) reply.result refl starts
-starts_so s past (command.StepOut a) reply is starts = never (name.Supported supported.StepOut) reply.result refl starts
-starts_so s past (command.StepBack a) reply is starts = never (name.Supported supported.StepBack) reply.result refl starts
-starts_so s past (command.ReverseContinue a) reply is starts = never (name.Supported supported.ReverseContinue) reply.result refl starts
+starts_so s past (command.Resume k a) reply is starts = never (name.Supported (supported.Resume k)) reply.result refl starts
+starts_so s past (command.Retreat k a) reply is starts = never (name.Supported (supported.Retreat k)) reply.result refl starts
 starts_so s past (command.Pause a) reply is starts = never (name.Supported supported.Pause) reply.result refl starts
-starts_so s past (command.StackTrace a) reply is starts = never (name.Supported supported.StackTrace) reply.result refl starts
-starts_so s past (command.Scopes a) reply is starts = never (name.Supported supported.Scopes) reply.result refl starts
-starts_so s past (command.Variables a) reply is starts = never (name.Supported supported.Variables) reply.result refl starts
-starts_so s past (command.Evaluate a) reply is starts = never (name.Supported supported.Evaluate) reply.result refl starts
+starts_so s past (command.Inspect q) reply is starts = never (name.Supported (supported.Inspect (kind_of q))) reply.result refl starts
 starts_so s past command.Disconnect reply is starts = never (name.Supported supported.Disconnect) reply.result refl starts
 
 -- an answer leads nowhere where what follows it does

@@ -9,7 +9,6 @@ use Rattle.dap_msg.specs.declared.command.Supported.TheVariants as supported
 use Rattle.dap_msg.specs.declared.outgoing.Outgoing.TheVariants.{Answer}
 use Rattle.dap_msg.specs.declared.outgoing.Body.TheVariants as body
 use Rattle.dap_msg.specs.declared.outgoing.Refusal.TheVariants as refusal
-use Rattle.dbg_plan.specs.declared.mode.Mode.TheVariants as mode
 use Rattle.dap_history.specs.declared.situation.Situation.{Situation}
 use Rattle.dap_history.specs.declared.situation.Situation.TheVariants.{Fresh}
 use Rattle.dbg_runner.specs.Plain.{Quit}
@@ -18,7 +17,7 @@ use Rattle.dap_history.specs.Readings.{situation}
 use Rattle.dap_history.specs.Replies.{Reply, nothing, ordering, answered, refused, causing}
 use Rattle.dap_history.specs.Launching.{initialize_in, Launches}
 use Rattle.dap_history.specs.Breakpoints.{SetsIn}
-use Rattle.dap_history.specs.Running.{ConfiguresIn, ResumesIn, ToStop, ToNext, ToStep, ToReturn, RetreatsIn, pause_in}
+use Rattle.dap_history.specs.Running.{ConfiguresIn, ResumesIn, retreat_mode, RetreatsIn, pause_in}
 use Rattle.dap_history.specs.Inspection.{InspectsIn}
 use Rattle.dap_history.specs.Reports.{report_effect}
 
@@ -34,17 +33,10 @@ RepliesIn s past (command.Launch asked) reply = reply ≡ refused refusal.WrongP
 RepliesIn s past (command.SetBreakpoints asked) reply = SetsIn s past asked reply
 RepliesIn s past command.ConfigurationDone reply = ConfiguresIn s past reply
 RepliesIn s past command.Threads reply = reply ≡ threads_in s
-RepliesIn s past (command.Continue asked) reply = ResumesIn s past ToStop asked.thread_id reply
-RepliesIn s past (command.Next asked) reply = ResumesIn s past ToNext asked.thread_id reply
-RepliesIn s past (command.StepIn asked) reply = ResumesIn s past ToStep asked.thread_id reply
-RepliesIn s past (command.StepOut asked) reply = ResumesIn s past ToReturn asked.thread_id reply
-RepliesIn s past (command.StepBack asked) reply = RetreatsIn s past mode.StepBack asked.thread_id reply
-RepliesIn s past (command.ReverseContinue asked) reply = RetreatsIn s past mode.Reverse asked.thread_id reply
+RepliesIn s past (command.Resume kind asked) reply = ResumesIn s past kind asked.thread_id reply
+RepliesIn s past (command.Retreat kind asked) reply = RetreatsIn s past (retreat_mode kind) asked.thread_id reply
 RepliesIn s past (command.Pause asked) reply = reply ≡ pause_in s past asked.thread_id
-RepliesIn s past (command.StackTrace asked) reply = InspectsIn s past (command.StackTrace asked) reply
-RepliesIn s past (command.Scopes asked) reply = InspectsIn s past (command.Scopes asked) reply
-RepliesIn s past (command.Variables asked) reply = InspectsIn s past (command.Variables asked) reply
-RepliesIn s past (command.Evaluate asked) reply = InspectsIn s past (command.Evaluate asked) reply
+RepliesIn s past (command.Inspect question) reply = InspectsIn s past question reply
 RepliesIn s past command.Disconnect reply = reply ≡ causing body.None (ordering (Quit ∷ []))
 RepliesIn s past (command.Unsupported text) reply = reply ≡ refused refusal.Unsupported
 RepliesIn s past (command.BadArguments k) reply = reply ≡ refused refusal.BadArguments

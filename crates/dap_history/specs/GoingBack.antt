@@ -6,18 +6,17 @@ use Rattle.dap_msg.specs.declared.command.CommandName.{CommandName}
 use Rattle.dap_msg.specs.declared.outgoing.Outgoing.TheVariants.{Answer}
 use Rattle.dap_msg.specs.declared.outgoing.Body.{Body}
 use Rattle.dbg_plan.specs.declared.mode.Mode.{Mode}
-use Rattle.dbg_plan.specs.declared.mode.Mode.TheVariants as mode
 use Rattle.dbg_runner.specs.Plain.{Heading, PlainOrder, Hold, goes_back}
 use Rattle.dap_history.specs.Last.{last_such}
 use Rattle.dap_history.specs.History.{Item, Content, Step, History}
 use Rattle.dap_history.specs.Readings.{is_back}
+use Rattle.dap_history.specs.Running.{retreat_mode}
 use Rattle.dap_history.specs.Events.{Incoming, Rest, AreLawful, IsHistoryOf}
 use Rattle.dap_history.specs.Stops.{run_in, Orders}
 
 -- the mode in which a command goes back, if it does
 abbrev pub back_by : Command → Option Mode
-back_by (command.StepBack asked) = Some mode.StepBack
-back_by (command.ReverseContinue asked) = Some mode.Reverse
+back_by (command.Retreat kind asked) = Some (retreat_mode kind)
 back_by _ = None
 
 -- the mode in which an item asks to go back, if it does

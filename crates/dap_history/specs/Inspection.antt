@@ -1,8 +1,8 @@
 -- Defines the questions about the program where it stands: `stackTrace`, `scopes`, `variables`, `evaluate`.
 use Rattle.std.specs.Prelude.{◌≡◌, ℕ, ◌-◌, ◌⊎◌, ℤ, List, length, Option, None, Some, Result, Ok, Err}
 use Rattle.dap_msg.specs.declared.requests.stack_trace.StackTraceArguments.{StackTraceArguments}
-use Rattle.dap_msg.specs.declared.command.Command.{Command}
-use Rattle.dap_msg.specs.declared.command.Command.TheVariants as command
+use Rattle.dap_msg.specs.declared.question.Question.{Question}
+use Rattle.dap_msg.specs.declared.question.Question.TheVariants as question
 use Rattle.dap_msg.specs.declared.outgoing.Body.TheVariants as body
 use Rattle.dap_msg.specs.declared.outgoing.Refusal.TheVariants as refusal
 use Rattle.pl0_tree.specs.Tree.{Block, Expression}
@@ -69,17 +69,16 @@ EvaluatesIn main c id (Some f) text reply = HasResult main c (id - 1) f text rep
 
 -- ---- questions
 
--- The reply to a question, asked where the program is in this configuration. Other commands are no questions.
-abbrev pub RepliesFrom : Asked → Configuration → Command → Reply → Type 0
-RepliesFrom of c (command.StackTrace asked) reply = reply ≡ stack_trace of asked c
-RepliesFrom of c (command.Scopes asked) reply = reply ≡ scopes of asked.frame_id c (frame_by_id c asked.frame_id)
-RepliesFrom of c (command.Variables asked) reply = reply ≡ variables of (frame_by_id c asked.variables_reference)
-RepliesFrom of c (command.Evaluate asked) reply =
+-- the reply to a question, asked where the program is in this configuration
+abbrev pub RepliesFrom : Asked → Configuration → Question → Reply → Type 0
+RepliesFrom of c (question.StackTrace asked) reply = reply ≡ stack_trace of asked c
+RepliesFrom of c (question.Scopes asked) reply = reply ≡ scopes of asked.frame_id c (frame_by_id c asked.frame_id)
+RepliesFrom of c (question.Variables asked) reply = reply ≡ variables of (frame_by_id c asked.variables_reference)
+RepliesFrom of c (question.Evaluate asked) reply =
     EvaluatesIn of.program c asked.frame_id (frame_by_id c asked.frame_id) asked.expression reply
-RepliesFrom of c _ reply = ⊥
 
 -- the same, where there is such a configuration
-abbrev pub RepliesAt : Asked → Option Configuration → Command → Reply → Type 0
+abbrev pub RepliesAt : Asked → Option Configuration → Question → Reply → Type 0
 RepliesAt of None question reply = ⊥
 RepliesAt of (Some c) question reply = RepliesFrom of c question reply
 
@@ -88,12 +87,12 @@ abbrev pub asked_of : History → Launched → Asked
 asked_of past l = record { program = l.program; path = l.path; counting = record { lines = line_offset past; columns = column_offset past } }
 
 -- the reply where the program stands
-abbrev pub Inspects : History → Command → Reply → Type 0
+abbrev pub Inspects : History → Question → Reply → Type 0
 Inspects past question reply =
     OfProgram (launched past) (λ l. RepliesAt (asked_of past l) (at l.program (position past)) question reply)
 
 -- the reply to a question
-abbrev pub InspectsIn : Situation → History → Command → Reply → Type 0
+abbrev pub InspectsIn : Situation → History → Question → Reply → Type 0
 InspectsIn Running past question reply = reply ≡ refused refusal.NotStopped
 InspectsIn Stopped past question reply = Inspects past question reply
 InspectsIn Faulted past question reply = Inspects past question reply

@@ -8,6 +8,7 @@ use Rattle.dap_history.specs.declared.launch.Launch.{Launch}
 use Rattle.dap_msg.specs.Commands.{name_of}
 use Rattle.dap_msg.specs.declared.command.Command.{Command}
 use Rattle.dap_msg.specs.declared.command.Command.TheVariants as command
+use Rattle.dap_msg.specs.declared.question.Question.TheVariants as question
 use Rattle.dap_msg.specs.declared.command.CommandName.{CommandName}
 use Rattle.dap_msg.specs.declared.command.CommandName.TheVariants as name
 use Rattle.dap_msg.specs.declared.command.Supported.TheVariants as supported
@@ -46,7 +47,7 @@ ItemsLeadToOne = (past : History) (item : Item) (new other : History) → IsAfte
 -- a command whose answer needs no reading of a text: neither breakpoints nor an expression
 abbrev pub IsPlain : Command → Type 0
 IsPlain (command.SetBreakpoints asked) = ⊥
-IsPlain (command.Evaluate asked) = ⊥
+IsPlain (command.Inspect (question.Evaluate asked)) = ⊥
 IsPlain _ = Unit {0}
 
 -- an item of that kind; a launch with its text isn't one

@@ -5,6 +5,10 @@ use Rattle.dap_msg.specs.declared.outgoing.Body.{Body}
 use Rattle.dap_msg.specs.declared.outgoing.Body.TheVariants as body
 use Rattle.dap_msg.specs.declared.outgoing.Refusal.TheVariants as refusal
 use Rattle.dap_msg.specs.declared.outgoing.EventBody.{EventBody}
+use Rattle.dap_msg.specs.declared.requests.resume.ResumeKind.{ResumeKind}
+use Rattle.dap_msg.specs.declared.requests.resume.ResumeKind.TheVariants as resume
+use Rattle.dap_msg.specs.declared.requests.resume.RetreatKind.{RetreatKind}
+use Rattle.dap_msg.specs.declared.requests.resume.RetreatKind.TheVariants as retreat
 use Rattle.dbg_plan.specs.declared.mode.Mode.{Mode}
 use Rattle.dbg_plan.specs.declared.mode.Mode.TheVariants as mode
 use Rattle.dbg_plan.specs.declared.mode.Reason.{Reason}
@@ -57,23 +61,16 @@ ConfiguresIn _ past reply = reply ≡ refused refusal.WrongPhase
 
 -- ---- `continue`, `next`, `stepIn`, `stepOut`
 
--- how the program is to go on
-pub data ResumeKind : Type 0 where
-  ToStop : ResumeKind
-  ToNext : ResumeKind
-  ToStep : ResumeKind
-  ToReturn : ResumeKind
-
 -- the mode of the run, by the number of live frames where the program stands
 abbrev pub mode_of : ResumeKind → ℕ → Mode
-mode_of ToStop depth = mode.Continue
-mode_of ToNext depth = mode.Over depth
-mode_of ToStep depth = mode.In
-mode_of ToReturn depth = mode.Out depth
+mode_of resume.Continue depth = mode.Continue
+mode_of resume.Next depth = mode.Over depth
+mode_of resume.StepIn depth = mode.In
+mode_of resume.StepOut depth = mode.Out depth
 
 -- the body of the answer: only `continue` has one
 abbrev pub body_of : ResumeKind → Body
-body_of ToStop = body.Continued
+body_of resume.Continue = body.Continued
 body_of _ = body.None
 
 -- the reply to a resume where the program stands
@@ -89,6 +86,11 @@ ResumesIn Faulted past resume_kind thread reply = reply ≡ on_thread thread (ca
 ResumesIn _ past resume_kind thread reply = reply ≡ refused refusal.WrongPhase
 
 -- ---- `stepBack`, `reverseContinue`
+
+-- the mode of the run
+abbrev pub retreat_mode : RetreatKind → Mode
+retreat_mode retreat.StepBack = mode.StepBack
+retreat_mode retreat.ReverseContinue = mode.Reverse
 
 -- the reply to going back where the program stands
 abbrev pub Retreats : History → Mode → ℕ → Reply → Type 0

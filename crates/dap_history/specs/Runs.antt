@@ -20,6 +20,7 @@ use Rattle.dap_history.specs.declared.situation.Situation.{Situation}
 use Rattle.dap_history.specs.declared.situation.Situation.TheVariants.{Running, Faulted}
 use Rattle.dap_history.specs.Last.{last_such}
 use Rattle.dap_history.specs.History.{Launched, Item, Content, Accepted, Step, History, orders_of}
+use Rattle.dap_history.specs.Running.{mode_of, retreat_mode}
 use Rattle.dap_history.specs.Readings.{go, situation, launched, last_run, position, waiting_pause}
 use Rattle.dap_history.specs.Breakpoints.{is_at}
 use Rattle.dap_history.specs.Events.{Incoming, Rest, AreLawful, IsHistoryOf}
@@ -44,12 +45,8 @@ pub record Grants (step : Step) (request : Request) : Type 0 where
 -- the mode of the run that a command asks for where this many frames are live, if it asks for a run
 abbrev pub mode_by : ℕ → Command → Option Mode
 mode_by depth command.ConfigurationDone = Some mode.Continue
-mode_by depth (command.Continue asked) = Some mode.Continue
-mode_by depth (command.Next asked) = Some (mode.Over depth)
-mode_by depth (command.StepIn asked) = Some mode.In
-mode_by depth (command.StepOut asked) = Some (mode.Out depth)
-mode_by depth (command.StepBack asked) = Some mode.StepBack
-mode_by depth (command.ReverseContinue asked) = Some mode.Reverse
+mode_by depth (command.Resume kind asked) = Some (mode_of kind depth)
+mode_by depth (command.Retreat kind asked) = Some (retreat_mode kind)
 mode_by depth _ = None
 
 -- the mode in which a held run goes on

@@ -4,6 +4,7 @@ use Rattle.dap_msg.specs.Commands.{name_of}
 use Rattle.dap_msg.specs.declared.request.Request.{Request}
 use Rattle.dap_msg.specs.declared.command.Command.{Command}
 use Rattle.dap_msg.specs.declared.command.Command.TheVariants as command
+use Rattle.dap_msg.specs.declared.question.Question.{Question}
 use Rattle.dap_msg.specs.declared.outgoing.Outgoing.TheVariants.{Answer}
 use Rattle.dap_msg.specs.declared.outgoing.Body.{Body}
 use Rattle.dap_msg.specs.declared.outgoing.EventBody.{EventBody}
@@ -131,10 +132,7 @@ TellsEnd s events = (events ≡ []) ⊎ ((s ≡ Faulted) × (events ≡ event.Ex
 -- what a command tells besides its answer
 abbrev pub TellsBy : Situation → Command → List EventBody → Type 0
 TellsBy s command.ConfigurationDone events = TellsFirst events
-TellsBy s (command.Continue asked) events = TellsEnd s events
-TellsBy s (command.Next asked) events = TellsEnd s events
-TellsBy s (command.StepIn asked) events = TellsEnd s events
-TellsBy s (command.StepOut asked) events = TellsEnd s events
+TellsBy s (command.Resume kind asked) events = TellsEnd s events
 TellsBy s _ events = events ≡ []
 
 -- A request tells nothing besides its answer, unless it starts the program, or asks one that stands before a fault to
@@ -184,25 +182,17 @@ pub record StoppedLastAt (past : History) (m : ℕ) : Type 0 where
   pub none_later : All (λ (s : Step). stop_in s ≡ None) later
   pub position_is : m ≡ position (early ++ step ∷ [])
 
--- the command asks about the program where it stands
-abbrev pub IsQuestion : Command → Type 0
-IsQuestion (command.StackTrace asked) = Unit {0}
-IsQuestion (command.Scopes asked) = Unit {0}
-IsQuestion (command.Variables asked) = Unit {0}
-IsQuestion (command.Evaluate asked) = Unit {0}
-IsQuestion _ = ⊥
-
 -- in the history `past`, the question was taken after the steps `before`
-pub record Asks (past before : History) (request : Request) (step : Step) : Type 0 where
+pub record Asks (past before : History) (request : Request) (question : Question) (step : Step) : Type 0 where
   pub after : History
   pub past_is : past ≡ before ++ step ∷ after
   pub item_is : step.item ≡ Content (Some request)
-  pub question : IsQuestion request.body
+  pub question_is : request.body ≡ command.Inspect question
 
 -- the step answers the question by what the program shows at position m
-pub record AnswersFrom (l : Launched) (before : History) (m : ℕ) (request : Request) (step : Step) : Type 0 where
+pub record AnswersFrom (l : Launched) (before : History) (m : ℕ) (request : Request) (question : Question) (step : Step) : Type 0 where
   pub reply : Reply
-  pub shown : RepliesAt (asked_of before l) (at l.program m) request.body reply
+  pub shown : RepliesAt (asked_of before l) (at l.program m) question reply
   pub answer_is : step.answer ≡ Some (Answer request.seq (name_of request.body) reply.result)
 
 -- Where the program stands, frames, scopes, variables and values are those of the launched program at its last stop.
@@ -210,6 +200,6 @@ pub record AnswersFrom (l : Launched) (before : History) (m : ℕ) (request : Re
 abbrev pub QuestionsAreAnsweredThere : Type 0
 QuestionsAreAnsweredThere =
     (events : List Incoming) (past : History) (rest : Rest) → IsHistoryOf events past rest
-    → (before : History) (request : Request) (step : Step) → Asks past before request step
-    → (IsStanding (situation before) → (l : Launched) × (m : ℕ) × (launched before ≡ Some l) × StoppedLastAt before m × AnswersFrom l before m request step)
+    → (before : History) (request : Request) (question : Question) (step : Step) → Asks past before request question step
+    → (IsStanding (situation before) → (l : Launched) × (m : ℕ) × (launched before ≡ Some l) × StoppedLastAt before m × AnswersFrom l before m request question step)
     × ((b : Body) → step.answer ≡ Some (Answer request.seq (name_of request.body) (Ok b)) → IsStanding (situation before))

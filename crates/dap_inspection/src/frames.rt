@@ -6,7 +6,7 @@ ghost use Rattle.dbg_plan.specs.Debugged.{machine_of, IsConsidered};
 ghost use Rattle.dap_history.specs.Breakpoints.{offset};
 ghost use Rattle.dap_history.specs.Frames.{frames_asked};
 ghost use Rattle.dap_history.specs.Inspection.{RepliesFrom};
-ghost use Rattle.dap_msg.specs.declared.command.Command.TheVariants as command;
+ghost use Rattle.dap_msg.specs.declared.question.Question.TheVariants as question;
 ghost use Rattle.dap_inspection.specs.Questions.{question_of, replied};
 ghost use Rattle.dap_inspection.specs.Showing.{counting_of, asked_of, IsShownAs};
 
@@ -30,7 +30,7 @@ pub fn stack_trace(
     asked: StackTraceArguments,
 ) -> Result<Result<Body, Refusal>, AllocError>
     requires { IsConsidered debuggee.now }
-    ensures { IfOk result (λ r. RepliesFrom (question_of debuggee.now path.now settings) (frames (machine_of debuggee.now)) (command.StackTrace asked) (replied r)) }
+    ensures { IfOk result (λ r. RepliesFrom (question_of debuggee.now path.now settings) (frames (machine_of debuggee.now)) (question.StackTrace asked) (replied r)) }
 {
     if asked.thread_id != 1 {
         return Ok(Err(Refusal::UnknownThread));

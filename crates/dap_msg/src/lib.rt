@@ -25,7 +25,8 @@
 //! Each command has a file in `src/requests` (its arguments, and the body of its answer) and one in
 //! `specs` that defines them; `Request` in `specs` says which request a content is, and `Outgoing`
 //! what the content of a message is. A further command needs a variant of [`Supported`], of
-//! [`Command`] and of [`Body`], and such a pair of files. [`message_laws`] says of all contents
+//! [`Command`] and of [`Body`], and such a pair of files; one that asks about the program where it stands
+//! needs a variant of [`Question`] and of [`QuestionKind`] in place of the first two. [`message_laws`] says of all contents
 //! what doesn't depend on the commands: a content is one request or none (`proofs/Once`), and a
 //! request has the `seq` and the `command` of its content (`proofs/WellFormed`).
 #![tactic(auto)]
@@ -38,6 +39,7 @@ mod laws;
 mod members;
 mod outgoing;
 mod printable;
+mod question;
 mod reading;
 mod request;
 mod requests;
@@ -51,12 +53,13 @@ pub use outgoing::{
     Body, BreakpointAnswer, BreakpointRefusal, EventBody, Exception, Outgoing, Refusal, Scope,
     StackFrame, StopReason, Variable,
 };
+pub use question::{Question, QuestionKind};
 pub use reading::read;
 pub use request::Request;
 pub use requests::evaluate::EvaluateArguments;
 pub use requests::initialize::InitializeArguments;
 pub use requests::launch::LaunchArguments;
-pub use requests::resume::ThreadArguments;
+pub use requests::resume::{ResumeKind, RetreatKind, ThreadArguments};
 pub use requests::scopes::ScopesArguments;
 pub use requests::set_breakpoints::{SetBreakpointsArguments, SourceBreakpoint};
 pub use requests::stack_trace::StackTraceArguments;

@@ -1,14 +1,14 @@
 //! The run that the runner has.
 
-ghost use Rattle.std.specs.Prelude.{◌≡◌, option_map, IfOk};
+ghost use Rattle.std.specs.Prelude.{◌≡◌, option_map};
 ghost use Rattle.std.specs.Arc.{arc_value};
 ghost use Rattle.dbg_plan.specs.Breakpoints.{plain_breakpoints};
 ghost use Rattle.dbg_plan.specs.Counting.{MayBePlanOf};
 ghost use Rattle.dbg_plan.specs.Debugged.{IsConsidered};
-ghost use Rattle.dbg_plan.specs.Plans.{Listed, breakpoints_of};
+ghost use Rattle.dbg_plan.specs.Plans.{Listed};
 ghost use Rattle.dap_phase.specs.Runs.{with_waiting};
 
-use dbg_plan::{Debuggee, Mode, Plan, same_plan};
+use dbg_plan::{Debuggee, Mode, Plan, same_plan, share_plan};
 use dbg_runner::{Order, Report, StoppedDebuggee, goes_back};
 use pl0_code::code_laws;
 use pl0_unit::Unit;
@@ -76,7 +76,7 @@ impl Run {
             unit: Arc::try_clone(of.machine().unit())?,
             mode,
             position: of.machine().position(),
-            plan: shared_plan(of.plan())?,
+            plan: share_plan(of.plan())?,
             counted_from: of.counted_from(),
             waiting_plan: None,
             waiting_pause: false,
@@ -175,16 +175,6 @@ impl Run {
     {
         code_laws();
         with_plan(debuggee, self.waiting_plan)
-    }
-}
-
-/// Returns another share of a plan, if there is one.
-fn shared_plan(plan: &Option<Arc<Plan>>) -> Result<Option<Arc<Plan>>, AllocError>
-    ensures { IfOk result (λ share. breakpoints_of (option_map arc_value share) ≡ breakpoints_of (option_map arc_value plan.now)) }
-{
-    match plan {
-        None => Ok(None),
-        Some(plan) => Ok(Some(Arc::try_clone(plan)?)),
     }
 }
 

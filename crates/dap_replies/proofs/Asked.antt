@@ -4,8 +4,8 @@ use Rattle.pl0_meaning.specs.Values.{Configuration}
 use Rattle.pl0_meaning.specs.Runs.{at}
 use Rattle.pl0_machine.specs.Machine.{frames, frames_of, program_of}
 use Rattle.dbg_plan.specs.Debugged.{Debugged, machine_of, IsConsidered}
-use Rattle.dap_msg.specs.declared.command.Command.{Command}
-use Rattle.dap_msg.specs.declared.command.Command.TheVariants as command
+use Rattle.dap_msg.specs.declared.command.Command.TheVariants.{Inspect}
+use Rattle.dap_msg.specs.declared.question.Question.{Question}
 use Rattle.dap_msg.specs.declared.outgoing.Body.{Body}
 use Rattle.dap_msg.specs.declared.outgoing.Refusal.{Refusal}
 use Rattle.dap_history.specs.declared.situation.Situation.{Situation}
@@ -20,24 +20,6 @@ use Rattle.dap_phase.specs.declared.phase.Target.{Target}
 use Rattle.dap_phase.specs.declared.phase.Phase.{Phase}
 use Rattle.dap_phase.specs.declared.phase.Phase.TheVariants as phase
 use Rattle.dap_phase.specs.Phases.{IsPhase, IsTarget, IsDebuggee, situation_of}
-use Rattle.dap_replies.specs.Answering.{LeadsNowhere}
-use Rattle.dap_history.specs.Stops.{IsQuestion}
-
--- an answer to a question changes no reading
-pub question_leads_nowhere : (command : Command) → IsQuestion command → LeadsNowhere command
-question_leads_nowhere (command.StackTrace asked) is = tt
-question_leads_nowhere (command.Scopes asked) is = tt
-question_leads_nowhere (command.Variables asked) is = tt
-question_leads_nowhere (command.Evaluate asked) is = tt
-question_leads_nowhere _ is = absurd is
-
--- questions are replied to by the rules of inspection
-pub question_replied : (s : Situation) (past : History) (command : Command) (reply : Reply) → IsQuestion command → InspectsIn s past command reply → RepliesIn s past command reply
-question_replied s past (command.StackTrace asked) reply is inspects = inspects
-question_replied s past (command.Scopes asked) reply is inspects = inspects
-question_replied s past (command.Variables asked) reply is inspects = inspects
-question_replied s past (command.Evaluate asked) reply is inspects = inspects
-question_replied s past _ reply is inspects = absurd is
 
 -- where frames are alive there is a configuration
 there : (c : Option Configuration) → 0 < length (frames_of c) → c ≡ Some (frames_of c)
@@ -47,28 +29,28 @@ there (Some c) alive = refl
 -- the answer of the debuggee is that of the program where it stands
 pub inspected :
     (t : Target) (d : Debugged) (past : History) → IsTarget t d.unit past → IsDebuggee d past → IsConsidered d
-    → (command : Command) (reply : Reply) → RepliesFrom (question_of d t.path t.settings) (frames (machine_of d)) command reply → Inspects past command reply
-inspected t d past target stands considered command reply from =
+    → (question : Question) (reply : Reply) → RepliesFrom (question_of d t.path t.settings) (frames (machine_of d)) question reply → Inspects past question reply
+inspected t d past target stands considered question reply from =
     let l : Launched = record { path = t.path; stop_on_entry = t.stop_on_entry; text = d.unit.tree.text.items; program = program_of d.unit } in
-    subst (λ o. OfProgram o (λ l. RepliesAt (asked_of past l) (at l.program (position past)) command reply)) (sym target.launched_is)
-    (subst (λ n. RepliesAt (asked_of past l) (at l.program n) command reply) stands.position_is
-    (subst (λ s. RepliesAt (question_of d t.path s) (at l.program d.position) command reply) target.settings_are
-    (subst (λ o. RepliesAt (question_of d t.path t.settings) o command reply) (sym (there (at l.program d.position) considered.running)) from)))
+    subst (λ o. OfProgram o (λ l. RepliesAt (asked_of past l) (at l.program (position past)) question reply)) (sym target.launched_is)
+    (subst (λ n. RepliesAt (asked_of past l) (at l.program n) question reply) stands.position_is
+    (subst (λ s. RepliesAt (question_of d t.path s) (at l.program d.position) question reply) target.settings_are
+    (subst (λ o. RepliesAt (question_of d t.path t.settings) o question reply) (sym (there (at l.program d.position) considered.running)) from)))
 
 -- the answer of the debuggee of a phase that stands
 pub answers_there :
     (p : Phase) (t : Target) (kept d : Debugged) → (p ≡ phase.Stopped t kept) ⊎ (p ≡ phase.Faulted t kept) → d ≡ kept → IsConsidered d
-    → (command : Command) → IsQuestion command → (result : Result Body Refusal)
-    → RepliesFrom (question_of d t.path t.settings) (frames (machine_of d)) command (replied result)
-    → (past : History) → IsPhase p past → RepliesIn (situation_of p) past command (replied result)
-answers_there p t kept d stands same considered command is result from past phase_is =
+    → (question : Question) (result : Result Body Refusal)
+    → RepliesFrom (question_of d t.path t.settings) (frames (machine_of d)) question (replied result)
+    → (past : History) → IsPhase p past → RepliesIn (situation_of p) past (Inspect question) (replied result)
+answers_there p t kept d stands same considered question result from past phase_is =
     elim stands [
-      | inl stopped ↦ subst (λ p. RepliesIn (situation_of p) past command (replied result)) (sym stopped)
-          (question_replied Stopped past command (replied result) is (inspects (subst (λ p. IsPhase p past) stopped phase_is).keeps))
-      | inr faulted ↦ subst (λ p. RepliesIn (situation_of p) past command (replied result)) (sym faulted)
-          (question_replied Faulted past command (replied result) is (inspects (subst (λ p. IsPhase p past) faulted phase_is).keeps))
+      | inl stopped ↦ subst (λ p. RepliesIn (situation_of p) past (Inspect question) (replied result)) (sym stopped)
+          (inspects (subst (λ p. IsPhase p past) stopped phase_is).keeps)
+      | inr faulted ↦ subst (λ p. RepliesIn (situation_of p) past (Inspect question) (replied result)) (sym faulted)
+          (inspects (subst (λ p. IsPhase p past) faulted phase_is).keeps)
     ]
   where
-    inspects : IsTarget t kept.unit past × IsDebuggee kept past → Inspects past command (replied result)
+    inspects : IsTarget t kept.unit past × IsDebuggee kept past → Inspects past question (replied result)
     inspects there =
-        inspected t d past (subst (λ d. IsTarget t d.unit past) (sym same) there.0) (subst (λ d. IsDebuggee d past) (sym same) there.1) considered command (replied result) from
+        inspected t d past (subst (λ d. IsTarget t d.unit past) (sym same) there.0) (subst (λ d. IsDebuggee d past) (sym same) there.1) considered question (replied result) from

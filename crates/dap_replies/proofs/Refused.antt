@@ -3,7 +3,8 @@ use Rattle.std.proofs.Common.{◌≡◌, ℕ, refl, rules}
 use Rattle.dap_msg.specs.declared.outgoing.Refusal.TheVariants as refusal
 use Rattle.dap_history.specs.History.{History}
 use Rattle.dap_history.specs.Replies.{Reply, refused, on_thread}
-use Rattle.dap_history.specs.Running.{ResumeKind, ConfiguresIn, ResumesIn, RetreatsIn}
+use Rattle.dap_msg.specs.declared.requests.resume.ResumeKind.{ResumeKind}
+use Rattle.dap_history.specs.Running.{ConfiguresIn, ResumesIn, RetreatsIn}
 use Rattle.dap_phase.specs.declared.phase.Phase.{Phase}
 use Rattle.dap_phase.specs.declared.phase.Phase.TheVariants as phase
 use Rattle.dap_phase.specs.declared.phase.Target.{Target}

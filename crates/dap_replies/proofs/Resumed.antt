@@ -29,7 +29,7 @@ use Rattle.dap_history.specs.History.{Launched, History, Effect}
 use Rattle.dap_history.specs.Readings.{situation, launched, runs, position, plan, initialize_arguments, answer_mark, message_mark}
 use Rattle.dap_history.specs.ReadingLaws.{ReadingsGoOn}
 use Rattle.dap_history.specs.Replies.{Reply, nothing, reporting, ordering, causing, refused, stop_of, stops, ends, told_logs, OfProgram, on_thread}
-use Rattle.dap_history.specs.Running.{goes, resumes, first_mode, first_logs, enters, ConfiguresIn, ResumesIn, Retreats, RetreatsIn, mode_of, body_of}
+use Rattle.dap_history.specs.Running.{goes, resumes, first_mode, first_logs, enters, ConfiguresIn, ResumesIn, Retreats, RetreatsIn, retreat_mode, mode_of, body_of}
 use Rattle.dap_history.proofs.Told.{numbers_in, numbers_of_logs, mark_of_logs}
 use Rattle.dap_history.specs.Emission.{RepliesIn}
 use Rattle.dap_phase.specs.declared.phase.Phase.{Phase}
@@ -37,11 +37,8 @@ use Rattle.dap_phase.specs.declared.phase.Phase.TheVariants as phase
 use Rattle.dap_phase.specs.declared.phase.Target.{Target}
 use Rattle.dap_phase.specs.Phases.{IsTarget, IsDebuggee, IsPhase}
 use Rattle.dap_replies.specs.declared.effect.Reply.{Reply as Given}
-use Rattle.dap_replies.specs.declared.running.ResumeKind.{ResumeKind}
-use Rattle.dap_replies.specs.declared.running.ResumeKind.TheVariants as resume_kind
-use Rattle.dap_replies.specs.declared.retreating.Return.{Return}
-use Rattle.dap_replies.specs.declared.retreating.Return.TheVariants as way
-use Rattle.dap_replies.specs.ResumeKinds.{resume_kind_of, resumption, return_by, return_mode}
+use Rattle.dap_msg.specs.declared.requests.resume.ResumeKind.{ResumeKind}
+use Rattle.dap_msg.specs.declared.requests.resume.RetreatKind.{RetreatKind}
 use Rattle.dap_replies.specs.Replied.{request_step, HasReplied}
 use Rattle.dap_replies.specs.Going.{HasGone, HasStopped, HasEnded, IsOver}
 use Rattle.dap_replies.proofs.Situations.{launched_as}
@@ -78,19 +75,6 @@ configures t d m why past m_is why_is is =
     ∙ ap (λ bs. due l.program bs d.counted_from (first_mode l) d.position) is_d.breakpoints_are
     ∙ ap (λ n. due l.program (plan past).breakpoints n (first_mode l) d.position) is_d.counted_from_is
     ∙ ap (λ n. due l.program (plan past).breakpoints (plan past).counted_from (first_mode l) n) is.keeps.2)))
-
--- a command that resumes is replied to as its resume_kind says
-pub as_resumed : (resume_kind : ResumeKind) (asked : ThreadArguments) (s : Situation) (past : History) (reply : Reply) → ResumesIn s past (resume_kind_of resume_kind) asked.thread_id reply → RepliesIn s past (resumption resume_kind asked) reply
-as_resumed resume_kind.ToStop asked s past reply is = is
-as_resumed resume_kind.ToNext asked s past reply is = is
-as_resumed resume_kind.ToStep asked s past reply is = is
-as_resumed resume_kind.ToReturn asked s past reply is = is
-
-pub no_settings : (resume_kind : ResumeKind) (asked : ThreadArguments) → initialize_arguments (resumption resume_kind asked) ≡ None
-no_settings resume_kind.ToStop asked = refl
-no_settings resume_kind.ToNext asked = refl
-no_settings resume_kind.ToStep asked = refl
-no_settings resume_kind.ToReturn asked = refl
 
 -- ---- what follows an answer
 
@@ -208,45 +192,33 @@ pub depth_there : (m : Standing) (depth : ℕ) → configuration m ≡ Some (fra
 depth_there m depth there depth_is = depth_is ∙ ap (λ c. unwrap_or (option_map length c) 0) (sym there)
 
 -- the program goes on from a stop
-pub resumes_there : ReadingsGoOn → (t : Target) (d : Debugged) (m : Mode) (body : Body) (resume_kind : ResumeKind) (asked : ThreadArguments) (past : History) (given : Given) → asked.thread_id ≡ 1 → body ≡ body_of (resume_kind_of resume_kind)
-    → m ≡ mode_of (resume_kind_of resume_kind) (depth_at (program_of d.unit) d.position) → HasGone t d m body [] given → IsPhase (phase.Stopped t d) past → HasReplied (resumption resume_kind asked) past given
-resumes_there laws t d m body resume_kind asked past given one body_is m_is gone is =
+pub resumes_there : ReadingsGoOn → (t : Target) (d : Debugged) (m : Mode) (body : Body) (kind : ResumeKind) (asked : ThreadArguments) (past : History) (given : Given) → asked.thread_id ≡ 1 → body ≡ body_of kind
+    → m ≡ mode_of kind (depth_at (program_of d.unit) d.position) → HasGone t d m body [] given → IsPhase (phase.Stopped t d) past → HasReplied (command.Resume kind asked) past given
+resumes_there laws t d m body kind asked past given one body_is m_is gone is =
     let l = launched_as t d.unit in
-    goes_on laws (resumption resume_kind asked) t d m body [] past given (no_settings resume_kind asked) refl is.keeps.0 is.keeps.1 gone
-    (as_resumed resume_kind asked (situation past) past (causing body (ordering (resumes past l m)))
-    (subst (λ s. ResumesIn s past (resume_kind_of resume_kind) asked.thread_id (causing body (ordering (resumes past l m)))) (sym is.situation_is)
-    (of_program (launched past) l (λ k. causing body (ordering (resumes past l m)) ≡ on_thread asked.thread_id (causing (body_of (resume_kind_of resume_kind)) (ordering (resumes past k (mode_of (resume_kind_of resume_kind) (depth_at k.program (position past)))))))
+    goes_on laws (command.Resume kind asked) t d m body [] past given refl refl is.keeps.0 is.keeps.1 gone
+    (subst (λ s. ResumesIn s past kind asked.thread_id (causing body (ordering (resumes past l m)))) (sym is.situation_is)
+    (of_program (launched past) l (λ k. causing body (ordering (resumes past l m)) ≡ on_thread asked.thread_id (causing (body_of kind) (ordering (resumes past k (mode_of kind (depth_at k.program (position past)))))))
     is.keeps.0.launched_is
     (ap (λ b. causing b (ordering (resumes past l m))) body_is
-    ∙ ap (λ m. causing (body_of (resume_kind_of resume_kind)) (ordering (resumes past l m))) (m_is ∙ ap (λ n. mode_of (resume_kind_of resume_kind) (depth_at l.program n)) is.keeps.1.position_is)
-    ∙ ap (λ n. on_thread n (causing (body_of (resume_kind_of resume_kind)) (ordering (resumes past l (mode_of (resume_kind_of resume_kind) (depth_at l.program (position past))))))) (sym one)))))
+    ∙ ap (λ m. causing (body_of kind) (ordering (resumes past l m))) (m_is ∙ ap (λ n. mode_of kind (depth_at l.program n)) is.keeps.1.position_is)
+    ∙ ap (λ n. on_thread n (causing (body_of kind) (ordering (resumes past l (mode_of kind (depth_at l.program (position past))))))) (sym one))))
 
 -- a program that faulted is over
-pub ends_faulted : ReadingsGoOn → (t : Target) (d : Debugged) (body : Body) (resume_kind : ResumeKind) (asked : ThreadArguments) (past : History) (given : Given) → asked.thread_id ≡ 1 → body ≡ body_of (resume_kind_of resume_kind)
-    → HasEnded t d.unit body given → IsPhase (phase.Faulted t d) past → HasReplied (resumption resume_kind asked) past given
-ends_faulted laws t d body resume_kind asked past given one body_is ended is =
-    ends_there laws (resumption resume_kind asked) t d.unit body past given (no_settings resume_kind asked) is.keeps.0 ended
-    (as_resumed resume_kind asked (situation past) past (causing body (reporting (ends 1)))
-    (subst (λ s. ResumesIn s past (resume_kind_of resume_kind) asked.thread_id (causing body (reporting (ends 1)))) (sym is.situation_is)
-    (ap (λ b. causing b (reporting (ends 1))) body_is ∙ ap (λ n. on_thread n (causing (body_of (resume_kind_of resume_kind)) (reporting (ends 1)))) (sym one))))
+pub ends_faulted : ReadingsGoOn → (t : Target) (d : Debugged) (body : Body) (kind : ResumeKind) (asked : ThreadArguments) (past : History) (given : Given) → asked.thread_id ≡ 1 → body ≡ body_of kind
+    → HasEnded t d.unit body given → IsPhase (phase.Faulted t d) past → HasReplied (command.Resume kind asked) past given
+ends_faulted laws t d body kind asked past given one body_is ended is =
+    ends_there laws (command.Resume kind asked) t d.unit body past given refl is.keeps.0 ended
+    (subst (λ s. ResumesIn s past kind asked.thread_id (causing body (reporting (ends 1)))) (sym is.situation_is)
+    (ap (λ b. causing b (reporting (ends 1))) body_is ∙ ap (λ n. on_thread n (causing (body_of kind) (reporting (ends 1)))) (sym one)))
 
 -- another thread is asked for, where the program stands
-pub stands_refusing : (t : Target) (d : Debugged) (resume_kind : ResumeKind) (asked : ThreadArguments) (past : History) → (asked.thread_id ≡ 1 → ⊥) → IsPhase (phase.Stopped t d) past
-    → RepliesIn situation_is.Stopped past (resumption resume_kind asked) (refused refusal.UnknownThread)
-stands_refusing t d resume_kind asked past other is =
-    as_resumed resume_kind asked situation_is.Stopped past (refused refusal.UnknownThread)
-    (of_program (launched past) (launched_as t d.unit) _ is.keeps.0.launched_is (unknown_thread asked.thread_id _ other))
+pub stands_refusing : (t : Target) (d : Debugged) (kind : ResumeKind) (asked : ThreadArguments) (past : History) → (asked.thread_id ≡ 1 → ⊥) → IsPhase (phase.Stopped t d) past
+    → RepliesIn situation_is.Stopped past (command.Resume kind asked) (refused refusal.UnknownThread)
+stands_refusing t d kind asked past other is =
+    of_program (launched past) (launched_as t d.unit) _ is.keeps.0.launched_is (unknown_thread asked.thread_id _ other)
 
 -- ---- `stepBack` and `reverseContinue`
-
--- such a command is replied to as its mode says
-pub as_returning : (way : Return) (asked : ThreadArguments) (s : Situation) (past : History) (reply : Reply) → RetreatsIn s past (return_mode way) asked.thread_id reply → RepliesIn s past (return_by way asked) reply
-as_returning way.ByStep asked s past reply is = is
-as_returning way.ToStop asked s past reply is = is
-
-return_settings : (way : Return) (asked : ThreadArguments) → initialize_arguments (return_by way asked) ≡ None
-return_settings way.ByStep asked = refl
-return_settings way.ToStop asked = refl
 
 -- the reply of the definitions
 retreats : (t : Target) (d : Debugged) (m : Mode) (thread : ℕ) (past : History) → thread ≡ 1 → IsTarget t d.unit past
@@ -256,24 +228,22 @@ retreats t d m thread past one is_t =
     of_program (launched past) l (λ k. causing body.None (goes_after [] (resumes past l m)) ≡ on_thread thread (causing body.None (ordering (resumes past k m)))) is_t.launched_is
     (ap (λ n. on_thread n (causing body.None (ordering (resumes past l m)))) (sym one))
 
-pub returns_there : ReadingsGoOn → (t : Target) (d : Debugged) (way : Return) (asked : ThreadArguments) (past : History) (given : Given) → asked.thread_id ≡ 1
-    → HasGone t d (return_mode way) body.None [] given → IsPhase (phase.Stopped t d) past → HasReplied (return_by way asked) past given
-returns_there laws t d way asked past given one gone is =
-    goes_on laws (return_by way asked) t d (return_mode way) body.None [] past given (return_settings way asked) refl is.keeps.0 is.keeps.1 gone
-    (as_returning way asked (situation past) past _
-    (subst (λ s. RetreatsIn s past (return_mode way) asked.thread_id (causing body.None (goes_after [] (resumes past (launched_as t d.unit) (return_mode way))))) (sym is.situation_is)
-    (retreats t d (return_mode way) asked.thread_id past one is.keeps.0)))
+pub returns_there : ReadingsGoOn → (t : Target) (d : Debugged) (kind : RetreatKind) (asked : ThreadArguments) (past : History) (given : Given) → asked.thread_id ≡ 1
+    → HasGone t d (retreat_mode kind) body.None [] given → IsPhase (phase.Stopped t d) past → HasReplied (command.Retreat kind asked) past given
+returns_there laws t d kind asked past given one gone is =
+    goes_on laws (command.Retreat kind asked) t d (retreat_mode kind) body.None [] past given refl refl is.keeps.0 is.keeps.1 gone
+    (subst (λ s. RetreatsIn s past (retreat_mode kind) asked.thread_id (causing body.None (goes_after [] (resumes past (launched_as t d.unit) (retreat_mode kind))))) (sym is.situation_is)
+    (retreats t d (retreat_mode kind) asked.thread_id past one is.keeps.0))
 
-pub returns_faulted : ReadingsGoOn → (t : Target) (d : Debugged) (way : Return) (asked : ThreadArguments) (past : History) (given : Given) → asked.thread_id ≡ 1
-    → HasGone t d (return_mode way) body.None [] given → IsPhase (phase.Faulted t d) past → HasReplied (return_by way asked) past given
-returns_faulted laws t d way asked past given one gone is =
-    goes_on laws (return_by way asked) t d (return_mode way) body.None [] past given (return_settings way asked) refl is.keeps.0 is.keeps.1 gone
-    (as_returning way asked (situation past) past _
-    (subst (λ s. RetreatsIn s past (return_mode way) asked.thread_id (causing body.None (goes_after [] (resumes past (launched_as t d.unit) (return_mode way))))) (sym is.situation_is)
-    (retreats t d (return_mode way) asked.thread_id past one is.keeps.0)))
+pub returns_faulted : ReadingsGoOn → (t : Target) (d : Debugged) (kind : RetreatKind) (asked : ThreadArguments) (past : History) (given : Given) → asked.thread_id ≡ 1
+    → HasGone t d (retreat_mode kind) body.None [] given → IsPhase (phase.Faulted t d) past → HasReplied (command.Retreat kind asked) past given
+returns_faulted laws t d kind asked past given one gone is =
+    goes_on laws (command.Retreat kind asked) t d (retreat_mode kind) body.None [] past given refl refl is.keeps.0 is.keeps.1 gone
+    (subst (λ s. RetreatsIn s past (retreat_mode kind) asked.thread_id (causing body.None (goes_after [] (resumes past (launched_as t d.unit) (retreat_mode kind))))) (sym is.situation_is)
+    (retreats t d (retreat_mode kind) asked.thread_id past one is.keeps.0))
 
 -- another thread is asked for, where the program stands
-pub returns_refusing : (t : Target) (d : Debugged) (way : Return) (asked : ThreadArguments) (past : History) → (asked.thread_id ≡ 1 → ⊥) → IsTarget t d.unit past
-    → Retreats past (return_mode way) asked.thread_id (refused refusal.UnknownThread)
-returns_refusing t d way asked past other is_t =
+pub returns_refusing : (t : Target) (d : Debugged) (kind : RetreatKind) (asked : ThreadArguments) (past : History) → (asked.thread_id ≡ 1 → ⊥) → IsTarget t d.unit past
+    → Retreats past (retreat_mode kind) asked.thread_id (refused refusal.UnknownThread)
+returns_refusing t d kind asked past other is_t =
     of_program (launched past) (launched_as t d.unit) _ is_t.launched_is (unknown_thread asked.thread_id _ other)

@@ -6,8 +6,6 @@ pub mod Laws
 -- Only private contracts cite the others.
 -- replies after which the phase is as before
 pub mod Answering
--- the kinds of a resume and of going back
-pub mod ResumeKinds
 -- how the program goes on, stops or ends after an answer
 pub mod Going
 -- what follows a launch whose file is a program without faults

@@ -3,18 +3,18 @@
 ghost use Rattle.std.specs.Prelude.{IfOk};
 ghost use Rattle.pl0_machine.specs.Machine.{frames};
 ghost use Rattle.dbg_plan.specs.Debugged.{machine_of, IsConsidered};
+ghost use Rattle.dap_msg.specs.declared.command.Command.TheVariants.{Inspect};
 ghost use Rattle.dap_history.specs.History.{History};
 ghost use Rattle.dap_history.specs.Inspection.{RepliesFrom};
 ghost use Rattle.dap_history.specs.Emission.{RepliesIn};
 ghost use Rattle.dap_inspection.specs.Questions.{question_of, replied};
 ghost use Rattle.dap_phase.specs.Phases.{IsPhase, situation_of};
-ghost use Rattle.dap_history.specs.Stops.{IsQuestion};
 ghost use Rattle.dap_replies.specs.Replied.{Replies};
 
 use crate::effect::Reply;
 use crate::refusing::conclude;
 use dap_inspection::{evaluate, scopes, stack_trace, variables};
-use dap_msg::{Body, Command, Refusal};
+use dap_msg::{Body, Question, Refusal};
 use dap_phase::{Phase, Target};
 use dbg_plan::Debuggee;
 use std::alloc::{AllocError, Global};
@@ -24,11 +24,10 @@ use std::alloc::{AllocError, Global};
 /// # Errors
 ///
 /// An allocation failed. The phase is dropped then.
-pub(crate) fn inspect(alloc: Global, phase: Phase, command: &Command) -> Result<Reply, AllocError>
-    requires { IsQuestion command.now }
-    ensures { IfOk result (Replies command.now phase) }
+pub(crate) fn inspect(alloc: Global, phase: Phase, question: &Question) -> Result<Reply, AllocError>
+    ensures { IfOk result (Replies (Inspect question.now) phase) }
 {
-    let result = result_in(alloc, &phase, command)?;
+    let result = result_in(alloc, &phase, question)?;
     Ok(conclude(alloc, phase, result))
 }
 
@@ -36,10 +35,9 @@ pub(crate) fn inspect(alloc: Global, phase: Phase, command: &Command) -> Result<
 fn result_in(
     alloc: Global,
     phase: &Phase,
-    command: &Command,
+    question: &Question,
 ) -> Result<Result<Body, Refusal>, AllocError>
-    requires { IsQuestion command.now }
-    ensures { IfOk result (λ r. (past : History) → IsPhase phase.now past → RepliesIn (situation_of phase.now) past command.now (replied r)) }
+    ensures { IfOk result (λ r. (past : History) → IsPhase phase.now past → RepliesIn (situation_of phase.now) past (Inspect question.now) (replied r)) }
 {
     match phase {
         Phase::Fresh
@@ -49,7 +47,7 @@ fn result_in(
         | Phase::Ended(_, _) => Ok(Err(Refusal::WrongPhase)),
         Phase::Running(_, _) => Ok(Err(Refusal::NotStopped)),
         Phase::Stopped(target, debuggee) | Phase::Faulted(target, debuggee) => {
-            ask(alloc, target, debuggee.debuggee(), command)
+            ask(alloc, target, debuggee.debuggee(), question)
         }
     }
 }
@@ -59,19 +57,17 @@ fn ask(
     alloc: Global,
     target: &Target,
     debuggee: &Debuggee,
-    command: &Command,
+    question: &Question,
 ) -> Result<Result<Body, Refusal>, AllocError>
     requires considered { IsConsidered debuggee.now }
-    requires question { IsQuestion command.now }
-    ensures { IfOk result (λ r. RepliesFrom (question_of debuggee.now target.now.path target.now.settings) (frames (machine_of debuggee.now)) command.now (replied r)) }
+    ensures { IfOk result (λ r. RepliesFrom (question_of debuggee.now target.now.path target.now.settings) (frames (machine_of debuggee.now)) question.now (replied r)) }
 {
-    match command {
-        Command::StackTrace(asked) => {
+    match question {
+        Question::StackTrace(asked) => {
             stack_trace(alloc, debuggee, &target.path, target.settings, *asked)
         }
-        Command::Scopes(asked) => scopes(alloc, debuggee, *asked),
-        Command::Variables(asked) => variables(alloc, debuggee, *asked),
-        Command::Evaluate(asked) => evaluate(alloc, debuggee, asked),
-        _ => unreachable!(),
+        Question::Scopes(asked) => scopes(alloc, debuggee, *asked),
+        Question::Variables(asked) => variables(alloc, debuggee, *asked),
+        Question::Evaluate(asked) => evaluate(alloc, debuggee, asked),
     }
 }

@@ -12,8 +12,8 @@ use crate::initialize::initialize;
 use crate::inspecting::inspect;
 use crate::pausing::pause;
 use crate::refusing::refuse;
-use crate::retreating::{Return, retreat};
-use crate::running::{ResumeKind, configuration_done, resume};
+use crate::retreating::retreat;
+use crate::running::{configuration_done, resume};
 use crate::threads::threads;
 use dap_msg::{Command, Refusal};
 use dap_phase::Phase;
@@ -35,17 +35,10 @@ pub fn reply(alloc: Global, phase: Phase, command: &Command) -> Result<Reply, Al
         Command::SetBreakpoints(asked) => set_breakpoints(alloc, phase, asked),
         Command::ConfigurationDone => configuration_done(alloc, phase),
         Command::Threads => Ok(threads(alloc, phase)),
-        Command::Continue(asked) => resume(alloc, phase, ResumeKind::ToStop, *asked),
-        Command::Next(asked) => resume(alloc, phase, ResumeKind::ToNext, *asked),
-        Command::StepIn(asked) => resume(alloc, phase, ResumeKind::ToStep, *asked),
-        Command::StepOut(asked) => resume(alloc, phase, ResumeKind::ToReturn, *asked),
-        Command::StepBack(asked) => retreat(alloc, phase, Return::ByStep, *asked),
-        Command::ReverseContinue(asked) => retreat(alloc, phase, Return::ToStop, *asked),
+        Command::Resume(kind, asked) => resume(alloc, phase, *kind, *asked),
+        Command::Retreat(kind, asked) => retreat(alloc, phase, *kind, *asked),
         Command::Pause(asked) => Ok(pause(alloc, phase, *asked)),
-        Command::StackTrace(_)
-        | Command::Scopes(_)
-        | Command::Variables(_)
-        | Command::Evaluate(_) => inspect(alloc, phase, command),
+        Command::Inspect(question) => inspect(alloc, phase, question),
         Command::Disconnect => Ok(disconnect(alloc, phase)),
         Command::Unsupported(_) => Ok(refuse(alloc, phase, Refusal::Unsupported)),
         Command::BadArguments(_) => Ok(refuse(alloc, phase, Refusal::BadArguments)),

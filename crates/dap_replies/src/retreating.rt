@@ -1,43 +1,20 @@
 //! The replies to the commands that go back: `stepBack` and `reverseContinue`.
 
-ghost use Rattle.std.specs.Prelude.{IfOk};
+ghost use Rattle.std.specs.Prelude.{◌≡◌, IfOk};
+ghost use Rattle.dap_msg.specs.declared.command.Command.TheVariants as command_is;
+ghost use Rattle.dap_history.specs.Running.{retreat_mode};
 ghost use Rattle.dap_phase.specs.declared.phase.Phase.TheVariants as phase_is;
-ghost use Rattle.dap_replies.specs.ResumeKinds.{return_by};
 ghost use Rattle.dap_replies.specs.Replied.{Replies};
 
 use crate::effect::Reply;
 use crate::refusing::refuse;
 use crate::running::go;
 use dap_history::reading_laws;
-use dap_msg::{Body, Refusal, ThreadArguments};
+use dap_msg::{Body, Refusal, RetreatKind, ThreadArguments};
 use dap_phase::{Phase, Target};
 use dbg_plan::Mode;
 use dbg_runner::StoppedDebuggee;
 use std::alloc::{AllocError, Global};
-
-/// How the program is to go back.
-#[derive(Clone, Copy)]
-pub(crate) enum Return {
-    /// By one step: `stepBack`.
-    ByStep,
-    /// To the last position before at which it would have stopped: `reverseContinue`.
-    ToStop,
-}
-
-impl Return {
-    ghost use Rattle.std.specs.Prelude.{◌≡◌};
-    ghost use Rattle.dap_replies.specs.ResumeKinds.{return_mode};
-
-    /// The mode of the run.
-    fn mode(self) -> Mode
-        ensures { result ≡ return_mode self }
-    {
-        match self {
-            Return::ByStep => Mode::StepBack,
-            Return::ToStop => Mode::Reverse,
-        }
-    }
-}
 
 /// Replies to `stepBack` and `reverseContinue`.
 ///
@@ -47,10 +24,10 @@ impl Return {
 pub(crate) fn retreat(
     alloc: Global,
     phase: Phase,
-    way: Return,
+    kind: RetreatKind,
     asked: ThreadArguments,
 ) -> Result<Reply, AllocError>
-    ensures { IfOk result (Replies (return_by way asked) phase) }
+    ensures { IfOk result (Replies (command_is.Retreat kind asked) phase) }
 {
     reading_laws();
     match phase {
@@ -58,8 +35,8 @@ pub(crate) fn retreat(
             let phase = Phase::Running(target, run);
             Ok(refuse(alloc, phase, Refusal::NotStopped))
         }
-        Phase::Stopped(target, debuggee) => go_back(alloc, target, debuggee, way, asked),
-        Phase::Faulted(target, debuggee) => go_back_faulted(alloc, target, debuggee, way, asked),
+        Phase::Stopped(target, debuggee) => go_back(alloc, target, debuggee, kind, asked),
+        Phase::Faulted(target, debuggee) => go_back_faulted(alloc, target, debuggee, kind, asked),
         phase => Ok(refuse(alloc, phase, Refusal::WrongPhase)),
     }
 }
@@ -69,17 +46,23 @@ fn go_back(
     alloc: Global,
     target: Target,
     debuggee: StoppedDebuggee,
-    way: Return,
+    kind: RetreatKind,
     asked: ThreadArguments,
 ) -> Result<Reply, AllocError>
-    ensures { IfOk result (Replies (return_by way asked) (phase_is.Stopped target debuggee)) }
+    ensures { IfOk result (Replies (command_is.Retreat kind asked) (phase_is.Stopped target debuggee)) }
 {
     reading_laws();
     if asked.thread_id != 1 {
         let phase = Phase::Stopped(target, debuggee);
         return Ok(refuse(alloc, phase, Refusal::UnknownThread));
     }
-    go(target, debuggee, way.mode(), Body::None, Vec::new(alloc))
+    go(
+        target,
+        debuggee,
+        retreat_mode(kind),
+        Body::None,
+        Vec::new(alloc),
+    )
 }
 
 /// Replies where the program is stopped before a fault.
@@ -87,15 +70,31 @@ fn go_back_faulted(
     alloc: Global,
     target: Target,
     debuggee: StoppedDebuggee,
-    way: Return,
+    kind: RetreatKind,
     asked: ThreadArguments,
 ) -> Result<Reply, AllocError>
-    ensures { IfOk result (Replies (return_by way asked) (phase_is.Faulted target debuggee)) }
+    ensures { IfOk result (Replies (command_is.Retreat kind asked) (phase_is.Faulted target debuggee)) }
 {
     reading_laws();
     if asked.thread_id != 1 {
         let phase = Phase::Faulted(target, debuggee);
         return Ok(refuse(alloc, phase, Refusal::UnknownThread));
     }
-    go(target, debuggee, way.mode(), Body::None, Vec::new(alloc))
+    go(
+        target,
+        debuggee,
+        retreat_mode(kind),
+        Body::None,
+        Vec::new(alloc),
+    )
+}
+
+/// Returns the mode of a run that goes back.
+fn retreat_mode(kind: RetreatKind) -> Mode
+    ensures { result ≡ retreat_mode kind }
+{
+    match kind {
+        RetreatKind::StepBack => Mode::StepBack,
+        RetreatKind::ReverseContinue => Mode::Reverse,
+    }
 }

@@ -6,8 +6,8 @@ ghost use Rattle.dap_msg.specs.declared.command.Command.TheVariants as command_i
 ghost use Rattle.dbg_plan.specs.declared.mode.Mode.TheVariants as mode_is;
 ghost use Rattle.dap_phase.specs.declared.phase.Phase.TheVariants as phase_is;
 ghost use Rattle.dap_history.specs.Replies.{told_logs};
+ghost use Rattle.dap_history.specs.Running.{body_of, mode_of};
 ghost use Rattle.dap_replies.specs.Going.{HasGone, HasStopped, HasEnded};
-ghost use Rattle.dap_replies.specs.ResumeKinds.{resumption};
 ghost use Rattle.dap_replies.specs.Replied.{Replies};
 
 use crate::effect::{Effect, Reply};
@@ -15,55 +15,12 @@ use crate::logging::push_logs;
 use crate::refusing::refuse;
 use crate::reporting::stop_reason;
 use dap_history::reading_laws;
-use dap_msg::{Body, EventBody, Items, Refusal, ThreadArguments};
+use dap_msg::{Body, EventBody, Items, Refusal, ResumeKind, ThreadArguments};
 use dap_phase::{Phase, Run, Target, Unstarted};
 use dbg_plan::{Logs, Mode, Reason};
 use dbg_runner::StoppedDebuggee;
 use std::alloc::{AllocError, Global};
 use std::sync::Arc;
-
-/// The kind of a resume: how far the program is to go on.
-#[derive(Clone, Copy)]
-pub(crate) enum ResumeKind {
-    /// To a due breakpoint: `continue`.
-    ToStop,
-    /// To the next step that is no deeper: `next`.
-    ToNext,
-    /// To the next step: `stepIn`.
-    ToStep,
-    /// Until the procedure has returned: `stepOut`.
-    ToReturn,
-}
-
-impl ResumeKind {
-    ghost use Rattle.std.specs.Prelude.{◌≡◌};
-    ghost use Rattle.dap_history.specs.Running.{body_of, mode_of};
-    ghost use Rattle.dap_replies.specs.ResumeKinds.{resume_kind_of};
-
-    /// Returns the mode of a run that begins where this many frames are live.
-    fn mode(self, depth: usize) -> Mode
-        ensures { result ≡ mode_of (resume_kind_of self) depth }
-    {
-        match self {
-            ResumeKind::ToStop => Mode::Continue,
-            ResumeKind::ToNext => Mode::Over(depth),
-            ResumeKind::ToStep => Mode::In,
-            ResumeKind::ToReturn => Mode::Out(depth),
-        }
-    }
-
-    /// Returns the body of the answer.
-    fn body(self) -> Body
-        ensures { result ≡ body_of (resume_kind_of self) }
-    {
-        match self {
-            ResumeKind::ToStop => Body::Continued,
-            ResumeKind::ToNext => Body::None,
-            ResumeKind::ToStep => Body::None,
-            ResumeKind::ToReturn => Body::None,
-        }
-    }
-}
 
 /// Replies to `configurationDone`.
 ///
@@ -151,10 +108,10 @@ fn stop(
 pub(crate) fn resume(
     alloc: Global,
     phase: Phase,
-    resume_kind: ResumeKind,
+    kind: ResumeKind,
     asked: ThreadArguments,
 ) -> Result<Reply, AllocError>
-    ensures { IfOk result (Replies (resumption resume_kind asked) phase) }
+    ensures { IfOk result (Replies (command_is.Resume kind asked) phase) }
 {
     reading_laws();
     match phase {
@@ -162,14 +119,8 @@ pub(crate) fn resume(
             let phase = Phase::Running(target, run);
             Ok(refuse(alloc, phase, Refusal::NotStopped))
         }
-        Phase::Stopped(target, debuggee) => go_on(alloc, target, debuggee, resume_kind, asked),
-        Phase::Faulted(target, debuggee) => end_faulted(
-            alloc,
-            target,
-            debuggee,
-            resume_kind,
-            asked,
-        ),
+        Phase::Stopped(target, debuggee) => go_on(alloc, target, debuggee, kind, asked),
+        Phase::Faulted(target, debuggee) => end_faulted(alloc, target, debuggee, kind, asked),
         phase => Ok(refuse(alloc, phase, Refusal::WrongPhase)),
     }
 }
@@ -179,36 +130,60 @@ fn go_on(
     alloc: Global,
     target: Target,
     debuggee: StoppedDebuggee,
-    resume_kind: ResumeKind,
+    kind: ResumeKind,
     asked: ThreadArguments,
 ) -> Result<Reply, AllocError>
-    ensures { IfOk result (Replies (resumption resume_kind asked) (phase_is.Stopped target debuggee)) }
+    ensures { IfOk result (Replies (command_is.Resume kind asked) (phase_is.Stopped target debuggee)) }
 {
     reading_laws();
     if asked.thread_id != 1 {
         let phase = Phase::Stopped(target, debuggee);
         return Ok(refuse(alloc, phase, Refusal::UnknownThread));
     }
-    let mode = resume_kind.mode(debuggee.debuggee().machine().depth());
-    go(target, debuggee, mode, resume_kind.body(), Vec::new(alloc))
+    let mode = resume_mode(kind, debuggee.debuggee().machine().depth());
+    go(target, debuggee, mode, resume_body(kind), Vec::new(alloc))
 }
 
-/// Replies where the program is stopped before a fault: whatever the kind of the resume, the program ends.
+/// Returns the mode of a run that is resumed where this many frames are live.
+fn resume_mode(kind: ResumeKind, depth: usize) -> Mode
+    ensures { result ≡ mode_of kind depth }
+{
+    match kind {
+        ResumeKind::Continue => Mode::Continue,
+        ResumeKind::Next => Mode::Over(depth),
+        ResumeKind::StepIn => Mode::In,
+        ResumeKind::StepOut => Mode::Out(depth),
+    }
+}
+
+/// Returns the body of the answer: only `continue` has one.
+fn resume_body(kind: ResumeKind) -> Body
+    ensures { result ≡ body_of kind }
+{
+    match kind {
+        ResumeKind::Continue => Body::Continued,
+        ResumeKind::Next => Body::None,
+        ResumeKind::StepIn => Body::None,
+        ResumeKind::StepOut => Body::None,
+    }
+}
+
+/// Replies where the program is stopped before a fault: however it is resumed, the program ends.
 fn end_faulted(
     alloc: Global,
     target: Target,
     debuggee: StoppedDebuggee,
-    resume_kind: ResumeKind,
+    kind: ResumeKind,
     asked: ThreadArguments,
 ) -> Result<Reply, AllocError>
-    ensures { IfOk result (Replies (resumption resume_kind asked) (phase_is.Faulted target debuggee)) }
+    ensures { IfOk result (Replies (command_is.Resume kind asked) (phase_is.Faulted target debuggee)) }
 {
     reading_laws();
     if asked.thread_id != 1 {
         let phase = Phase::Faulted(target, debuggee);
         return Ok(refuse(alloc, phase, Refusal::UnknownThread));
     }
-    end(alloc, target, debuggee, resume_kind.body())
+    end(alloc, target, debuggee, resume_body(kind))
 }
 
 /// Returns the reply with this answer, after which the program, which faulted, has ended.

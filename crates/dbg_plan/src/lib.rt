@@ -65,5 +65,5 @@ pub use logging::log_text;
 pub use logs::{Log, Logs};
 pub use message::{BoundExpression, EXPRESSION_LIMIT, LogMessage, Part};
 pub use mode::{Mode, Reason};
-pub use plan::{Plan, same_plan};
+pub use plan::{Plan, same_plan, share_plan};
 pub use resolving::{Resolution, SourceBreakpoint, resolve};

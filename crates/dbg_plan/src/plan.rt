@@ -130,6 +130,20 @@ impl Plan {
     }
 }
 
+/// Returns a share of a plan, if there is one.
+///
+/// # Errors
+///
+/// The count of its shares is full.
+pub fn share_plan(plan: &Option<Arc<Plan>>) -> Result<Option<Arc<Plan>>, AllocError>
+    ensures { IfOk result (λ share. breakpoints_of (option_map arc_value share) ≡ breakpoints_of (option_map arc_value plan.now)) }
+{
+    match plan {
+        None => Ok(None),
+        Some(plan) => Ok(Some(Arc::try_clone(plan)?)),
+    }
+}
+
 /// Whether two plans have the same breakpoints in the same order. `None` is the empty plan.
 pub fn same_plan(left: &Option<Arc<Plan>>, right: &Option<Arc<Plan>>) -> bool
     ensures { Decides result (breakpoints_of (option_map arc_value left.now) ≡ breakpoints_of (option_map arc_value right.now)) }

@@ -3,7 +3,8 @@
 use crate::text::repeated;
 use dap_msg::{
     Body, BreakpointAnswer, BreakpointRefusal, CommandName, EventBody, Exception, Items, Outgoing,
-    Refusal, Scope, StackFrame, StopReason, Supported, Text, Variable, write,
+    QuestionKind, Refusal, ResumeKind, Scope, StackFrame, StopReason, Supported, Text, Variable,
+    write,
 };
 use std::alloc::Global;
 use std::process::Abort;
@@ -69,12 +70,12 @@ fn writes_small_bodies(rt: HostRuntime) {
             r#""body":{"threads":[{"id":1,"name":"main"}]},"command":"threads""#,
         ),
         (
-            Supported::Continue,
+            Supported::Resume(ResumeKind::Continue),
             Body::Continued,
             r#""body":{"allThreadsContinued":true},"command":"continue""#,
         ),
         (
-            Supported::Evaluate,
+            Supported::Inspect(QuestionKind::Evaluate),
             Body::Value(i64::MIN),
             r#""body":{"result":"-9223372036854775808","variablesReference":0},"command":"evaluate""#,
         ),
@@ -143,7 +144,13 @@ fn writes_frames(rt: HostRuntime) {
             last,
         );
         assert!(rt;
-            is_body_written(&rt, alloc, Supported::StackTrace, body, expected.as_str()),
+            is_body_written(
+                &rt,
+                alloc,
+                Supported::Inspect(QuestionKind::StackTrace),
+                body,
+                expected.as_str()
+            ),
             "{count}"
         );
     }
@@ -160,7 +167,15 @@ fn writes_scopes(rt: HostRuntime) {
     let body = Body::Scopes(Items::new(scopes));
     let expected =
         r#""body":{"scopes":[{"expensive":false,"name":"p","variablesReference":3},{"expensive":false,"name":"main","variablesReference":1}]},"command":"scopes""#;
-    assert!(rt; is_body_written(&rt, alloc, Supported::Scopes, body, expected));
+    assert!(rt;
+        is_body_written(
+            &rt,
+            alloc,
+            Supported::Inspect(QuestionKind::Scopes),
+            body,
+            expected
+        )
+    );
 }
 
 #[test]
@@ -168,7 +183,15 @@ fn writes_variables(rt: HostRuntime) {
     let alloc = rt.alloc();
     let none = Body::Variables(Items::new(Vec::new(alloc)));
     let expected = r#""body":{"variables":[]},"command":"variables""#;
-    assert!(rt; is_body_written(&rt, alloc, Supported::Variables, none, expected));
+    assert!(rt;
+        is_body_written(
+            &rt,
+            alloc,
+            Supported::Inspect(QuestionKind::Variables),
+            none,
+            expected
+        )
+    );
     let mut variables = Vec::new(alloc);
     let name = text(&rt, alloc, "x");
     let value = i64::MAX;
@@ -178,7 +201,15 @@ fn writes_variables(rt: HostRuntime) {
     let body = Body::Variables(Items::new(variables));
     let expected =
         r#""body":{"variables":[{"name":"x","value":"9223372036854775807","variablesReference":0}]},"command":"variables""#;
-    assert!(rt; is_body_written(&rt, alloc, Supported::Variables, body, expected));
+    assert!(rt;
+        is_body_written(
+            &rt,
+            alloc,
+            Supported::Inspect(QuestionKind::Variables),
+            body,
+            expected
+        )
+    );
 }
 
 /// Refusals, and the message of each.

@@ -208,49 +208,61 @@ const THREADS: [Row; 15] = [
     (
         "continue",
         r#"{"threadId":1}"#,
-        "Continue(ThreadArguments { thread_id: 1 })",
+        "Resume(Continue, ThreadArguments { thread_id: 1 })",
     ),
     (
         "next",
         r#"{"threadId":2}"#,
-        "Next(ThreadArguments { thread_id: 2 })",
+        "Resume(Next, ThreadArguments { thread_id: 2 })",
     ),
     (
         "stepIn",
         r#"{"threadId":0}"#,
-        "StepIn(ThreadArguments { thread_id: 0 })",
+        "Resume(StepIn, ThreadArguments { thread_id: 0 })",
     ),
     (
         "stepOut",
         r#"{"threadId":9007199254740991}"#,
-        "StepOut(ThreadArguments { thread_id: 9007199254740991 })",
+        "Resume(StepOut, ThreadArguments { thread_id: 9007199254740991 })",
     ),
     (
         "stepBack",
         r#"{"threadId":1,"granularity":"line"}"#,
-        "StepBack(ThreadArguments { thread_id: 1 })",
+        "Retreat(StepBack, ThreadArguments { thread_id: 1 })",
     ),
     (
         "reverseContinue",
         r#"{"threadId":1}"#,
-        "ReverseContinue(ThreadArguments { thread_id: 1 })",
+        "Retreat(ReverseContinue, ThreadArguments { thread_id: 1 })",
     ),
     (
         "pause",
         r#"{"threadId":1,"granularity":"line"}"#,
         "Pause(ThreadArguments { thread_id: 1 })",
     ),
-    ("continue", "{}", "BadArguments(Continue)"),
-    ("continue", r#"{"threadId":1e0}"#, "BadArguments(Continue)"),
-    ("next", r#"{"threadId":-1}"#, "BadArguments(Next)"),
-    ("stepIn", r#"{"threadId":"1"}"#, "BadArguments(StepIn)"),
+    ("continue", "{}", "BadArguments(Resume(Continue))"),
+    (
+        "continue",
+        r#"{"threadId":1e0}"#,
+        "BadArguments(Resume(Continue))",
+    ),
+    ("next", r#"{"threadId":-1}"#, "BadArguments(Resume(Next))"),
+    (
+        "stepIn",
+        r#"{"threadId":"1"}"#,
+        "BadArguments(Resume(StepIn))",
+    ),
     (
         "stepOut",
         r#"{"threadId":9007199254740992}"#,
-        "BadArguments(StepOut)",
+        "BadArguments(Resume(StepOut))",
     ),
-    ("stepBack", "{}", "BadArguments(StepBack)"),
-    ("reverseContinue", "[]", "BadArguments(ReverseContinue)"),
+    ("stepBack", "{}", "BadArguments(Retreat(StepBack))"),
+    (
+        "reverseContinue",
+        "[]",
+        "BadArguments(Retreat(ReverseContinue))",
+    ),
     ("pause", "null", "BadArguments(Pause)"),
 ];
 
@@ -259,40 +271,48 @@ const FRAMES: [Row; 9] = [
     (
         "stackTrace",
         r#"{"threadId":1}"#,
-        "StackTrace(StackTraceArguments { thread_id: 1, start_frame: 0, levels: 0 })",
+        "Inspect(StackTrace(StackTraceArguments { thread_id: 1, start_frame: 0, levels: 0 }))",
     ),
     (
         "stackTrace",
         r#"{"threadId":1,"startFrame":1,"levels":2}"#,
-        "StackTrace(StackTraceArguments { thread_id: 1, start_frame: 1, levels: 2 })",
+        "Inspect(StackTrace(StackTraceArguments { thread_id: 1, start_frame: 1, levels: 2 }))",
     ),
     (
         "stackTrace",
         r#"{"startFrame":1}"#,
-        "BadArguments(StackTrace)",
+        "BadArguments(Inspect(StackTrace))",
     ),
     (
         "stackTrace",
         r#"{"threadId":1,"startFrame":-1}"#,
-        "BadArguments(StackTrace)",
+        "BadArguments(Inspect(StackTrace))",
     ),
     (
         "stackTrace",
         r#"{"threadId":1,"levels":null}"#,
-        "BadArguments(StackTrace)",
+        "BadArguments(Inspect(StackTrace))",
     ),
     (
         "scopes",
         r#"{"frameId":4}"#,
-        "Scopes(ScopesArguments { frame_id: 4 })",
+        "Inspect(Scopes(ScopesArguments { frame_id: 4 }))",
     ),
-    ("scopes", r#"{"frameId":4.0}"#, "BadArguments(Scopes)"),
+    (
+        "scopes",
+        r#"{"frameId":4.0}"#,
+        "BadArguments(Inspect(Scopes))",
+    ),
     (
         "variables",
         r#"{"variablesReference":3}"#,
-        "Variables(VariablesArguments { variables_reference: 3 })",
+        "Inspect(Variables(VariablesArguments { variables_reference: 3 }))",
     ),
-    ("variables", r#"{"frameId":3}"#, "BadArguments(Variables)"),
+    (
+        "variables",
+        r#"{"frameId":3}"#,
+        "BadArguments(Inspect(Variables))",
+    ),
 ];
 
 /// Requests for `evaluate`, and one for a command that is not supported.
@@ -300,19 +320,27 @@ const EXPRESSIONS: [Row; 6] = [
     (
         "evaluate",
         r#"{"expression":"k + n","frameId":4}"#,
-        r#"Evaluate(EvaluateArguments { expression: Text { text: "k + n" }, frame_id: 4 })"#,
+        r#"Inspect(Evaluate(EvaluateArguments { expression: Text { text: "k + n" }, frame_id: 4 }))"#,
     ),
     (
         "evaluate",
         r#"{"expression":"1 / n"}"#,
-        r#"Evaluate(EvaluateArguments { expression: Text { text: "1 / n" }, frame_id: 1 })"#,
+        r#"Inspect(Evaluate(EvaluateArguments { expression: Text { text: "1 / n" }, frame_id: 1 }))"#,
     ),
-    ("evaluate", r#"{"frameId":4}"#, "BadArguments(Evaluate)"),
-    ("evaluate", r#"{"expression":7}"#, "BadArguments(Evaluate)"),
+    (
+        "evaluate",
+        r#"{"frameId":4}"#,
+        "BadArguments(Inspect(Evaluate))",
+    ),
+    (
+        "evaluate",
+        r#"{"expression":7}"#,
+        "BadArguments(Inspect(Evaluate))",
+    ),
     (
         "evaluate",
         r#"{"expression":"k","frameId":null}"#,
-        "BadArguments(Evaluate)",
+        "BadArguments(Inspect(Evaluate))",
     ),
     (
         "completions",

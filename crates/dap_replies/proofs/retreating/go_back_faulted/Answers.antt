@@ -7,22 +7,21 @@ use Rattle.dap_history.specs.declared.situation.Situation.TheVariants as situati
 use Rattle.dap_history.specs.Replies.{refused}
 use Rattle.dap_phase.specs.declared.phase.Phase.TheVariants as phase
 use Rattle.dap_replies.specs.Going.{HasGone}
-use Rattle.dap_replies.specs.ResumeKinds.{return_by}
 use Rattle.dap_replies.specs.Replied.{Replies}
-use Rattle.dap_replies.proofs.Resumed.{as_returning, returns_faulted, returns_refusing}
+use Rattle.dap_replies.proofs.Resumed.{returns_faulted, returns_refusing}
+use Rattle.dap_msg.specs.declared.command.Command.TheVariants as command
 use Rattle.dap_replies.proofs.retreating.go_back_faulted.Goals as goal
 
 pub returns-then-asked-ne1 : goal.returns-then-asked-ne1
 returns-then-asked-ne1 c = λ past is.
-    c.refuse.ensures.refuses (return_by c.args.way c.args.asked) past is
-    (as_returning c.args.way c.args.asked situation_is.Faulted past (refused refusal.UnknownThread)
-    (returns_refusing c.args.target c.args.debuggee c.args.way c.args.asked past c.if-asked-ne1.true is.keeps.0))
+    c.refuse.ensures.refuses (command.Retreat c.args.kind c.args.asked) past is
+    (returns_refusing c.args.target c.args.debuggee c.args.kind c.args.asked past c.if-asked-ne1.true is.keeps.0)
 
 pub returns : goal.returns
 returns c =
     let t = c.args.target in
     let d = c.args.debuggee in
-    IfOk-weaker c.go.result (HasGone t d c.mode.result body.None c.new.result.items) (Replies (return_by c.args.way c.args.asked) (phase.Faulted t d))
-    (λ given gone past is. returns_faulted c.reading_laws.ensures t d c.args.way c.args.asked past given c.if-asked-ne1.false
-    (subst (λ (m : Mode). HasGone t d m body.None [] given) c.mode.ensures (subst (λ es. HasGone t d c.mode.result body.None es given) c.new.ensures.items gone)) is)
+    IfOk-weaker c.go.result (HasGone t d c.retreat_mode.result body.None c.new.result.items) (Replies (command.Retreat c.args.kind c.args.asked) (phase.Faulted t d))
+    (λ given gone past is. returns_faulted c.reading_laws.ensures t d c.args.kind c.args.asked past given c.if-asked-ne1.false
+    (subst (λ (m : Mode). HasGone t d m body.None [] given) c.retreat_mode.ensures (subst (λ es. HasGone t d c.retreat_mode.result body.None es given) c.new.ensures.items gone)) is)
     c.go.ensures
