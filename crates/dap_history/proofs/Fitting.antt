@@ -6,6 +6,7 @@ use Rattle.std.proofs.lemmas.List.Elements.{All-nil, All-cons, All-take, All-dro
 use Rattle.dap_msg.specs.declared.question.Question.TheVariants as question
 use Rattle.dap_msg.specs.declared.question.Question.{Question}
 use Rattle.dap_msg.specs.declared.requests.resume.ResumeKind.{ResumeKind}
+use Rattle.dap_msg.specs.declared.requests.resume.ResumeKind.TheVariants as resume
 use Rattle.dap_msg.specs.declared.command.Command.{Command}
 use Rattle.dap_msg.specs.declared.command.Command.TheVariants as command
 use Rattle.dap_msg.specs.declared.command.CommandName.{CommandName}
@@ -291,10 +292,10 @@ module _ (few : FramesAreFew) where
   configures_in_fit Ended past reply says = fits_if reply _ (refused_fits _) says
 
   resume_kind_fits : (resume_kind : ResumeKind) → BodyFits (body_of resume_kind)
-  resume_kind_fits ToStop = tt
-  resume_kind_fits ToNext = tt
-  resume_kind_fits ToStep = tt
-  resume_kind_fits ToReturn = tt
+  resume_kind_fits resume.Continue = tt
+  resume_kind_fits resume.Next = tt
+  resume_kind_fits resume.StepIn = tt
+  resume_kind_fits resume.StepOut = tt
 
   resumes_fit : (o : Option Launched) (reply : Reply) (resume_kind : ResumeKind) (thread : ℕ) (effect : Launched → Effect) → ((l : Launched) → EventsFit (effect l).events)
       → OfProgram o (λ l. reply ≡ on_thread thread (record { result = Ok (body_of resume_kind); effect = effect l })) → ReplyFits reply

@@ -10,6 +10,8 @@ pub mod Numbered
 pub mod Last
 -- What numbers and logs say among events; for `history_laws` and `run_laws`.
 pub mod Told
+-- The reply to a question has no effect; for `history_laws` and `run_laws`.
+pub mod Questions
 -- No reply reports a number or launches a program but that of a launch, and each Go of a reply is of the launched text;
 -- for `history_laws` and `run_laws`.
 pub mod Silent

@@ -41,7 +41,7 @@ use Rattle.dap_history.specs.Readings.{situation, launched, position}
 use Rattle.dap_history.specs.Replies.{Reply, refused, ordering, causing, OfProgram, on_thread}
 use Rattle.dap_history.specs.Launching.{Launches, launches, syntax}
 use Rattle.dap_history.specs.Breakpoints.{IsAskedAs, AreAskedAs, answer_of, effect_in, line_offset, Resolves, SetsOf, Sets, SetsIn, is_at}
-use Rattle.dap_history.specs.Running.{ResumeKind, enters, resumes, ConfiguresIn, ResumesIn, RetreatsIn}
+use Rattle.dap_history.specs.Running.{enters, resumes, ConfiguresIn, ResumesIn, RetreatsIn}
 use Rattle.dap_history.specs.Frames.{frame_by_id}
 use Rattle.dap_history.specs.Inspection.{Asked as Of, asked_of, result_reply, EvaluatesIn, RepliesFrom, RepliesAt, Inspects, InspectsIn}
 use Rattle.dap_history.specs.Emission.{RepliesIn, Answers, HasEffect, Causes, IsAfter}
