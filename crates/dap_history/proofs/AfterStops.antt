@@ -14,7 +14,8 @@ module _ (A B : Type 0) (P : A → Type 0) (f : A → Option B) where
   Quiet (x ∷ xs) = (P x → filter_map f xs ≡ []) × Quiet xs
 
   -- so what it gives before such an element is all
-  pub all_before : (xs before : List A) (x : A) (after : List A) → P x → filter_map f (x ∷ []) ≡ [] → Quiet xs → xs ≡ before ++ x ∷ after → filter_map f before ≡ filter_map f xs
+  pub all_before : (xs before : List A) (x : A) (after : List A) → P x → filter_map f (x ∷ []) ≡ [] → Quiet xs
+      → xs ≡ before ++ x ∷ after → filter_map f before ≡ filter_map f xs
   all_before [] [] x after kind none quiet is = absurd cc
   all_before [] (b ∷ before) x after kind none quiet is = absurd cc
   all_before (y ∷ xs) [] x after kind none quiet is =

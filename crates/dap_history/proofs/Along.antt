@@ -18,8 +18,8 @@ use Rattle.dap_history.proofs.Readings.{ending_of-snoc}
 use Rattle.dap_history.specs.Launching.{wanted_in}
 use Rattle.dap_history.specs.Events.{Incoming, Piece, End, ReadFailed, NoMemory, File, Report, AreLawful, Rest, only_bytes, IsTaking, Takes, none, one_more, Rests, closed, open_ended, faulty, waits, TakesAll, MayTake, LeadsByPiece, LeadsByFile, LeadsByReport, Loads, Leads, LeadsAll, IsHistoryOf}
 
--- an item is taken only so: a content that wants no file, a launch in Ready, a report that is accepted; and what an event
--- brings is as Q says of it
+-- an item is taken only so: a content that wants no file, a launch in Ready, a report that is accepted; and what an
+-- event brings is as Q says of it
 abbrev pub IsTaken : (Incoming → Type 0) → History → Item → Type 0
 IsTaken Q past (Content request) = wanted_in (situation past) request ≡ None
 IsTaken Q past (Loaded launch file) = situation past ≡ Ready
@@ -30,7 +30,8 @@ IsTaken Q past _ = Unit {0}
 
 -- what one more item keeps, while the session takes any
 pub record IsKept (Q : Incoming → Type 0) (P : History → Type 0) : Type 0 where
-  pub step : (past : History) (item : Item) (new : History) → IsTaking past → IsTaken Q past item → IsAfter past item new → P past → P new
+  pub step : (past : History) (item : Item) (new : History) → IsTaking past → IsTaken Q past item
+      → IsAfter past item new → P past → P new
 
 -- each of the events is as Q says
 abbrev pub AllEvents : (Incoming → Type 0) → List Incoming → Type 0
@@ -59,7 +60,8 @@ abbrev pub WaitsWell : History → Rest → Type 0
 WaitsWell past rest = IsTaking past → (launch : Launch) → rest.launch ≡ Some launch → situation past ≡ Ready
 
 -- a launch that is wanted is wanted in Ready
-wanted_ready : (s : Situation) (request : Option Request) (launch : Launch) → wanted_in s request ≡ Some launch → s ≡ Ready
+wanted_ready : (s : Situation) (request : Option Request) (launch : Launch) → wanted_in s request ≡ Some launch
+    → s ≡ Ready
 wanted_ready Fresh request launch is = absurd cc
 wanted_ready Ready request launch is = refl
 wanted_ready Configuring request launch is = absurd cc
@@ -69,7 +71,8 @@ wanted_ready Faulted request launch is = absurd cc
 wanted_ready Ended request launch is = absurd cc
 
 -- no item is taken after one that closes
-pub closes_for_good : (past : History) (item : Item) (new : History) (by : Ending) → closing item ≡ Some by → IsAfter past item new → ¬ IsTaking new
+pub closes_for_good : (past : History) (item : Item) (new : History) (by : Ending) → closing item ≡ Some by
+    → IsAfter past item new → ¬ IsTaking new
 closes_for_good past item new by is after taking =
     let e = sym taking ∙ ap ending_of after.new_is ∙ ending_of-snoc past after.step
     ∙ ap (λ i. or_else (closing i) (ending_of past)) after.item_is ∙ ap (λ o. or_else o (ending_of past)) is in
@@ -80,12 +83,14 @@ module _ (Q : Incoming → Type 0) (P : History → Type 0) (kept : IsKept Q P) 
   abbrev Holds : History → Rest → Type 0
   Holds past rest = P past × WaitsWell past rest
 
-  along_takes : {past : History} {bytes : List ℕ} {new : History} {left : List ℕ} → Takes past bytes new left → P past → P new
+  along_takes : {past : History} {bytes : List ℕ} {new : History} {left : List ℕ} → Takes past bytes new left → P past
+      → P new
   along_takes none here = here
   along_takes (one_more {past = past} {mid = mid} request taking front unwanted after more) here =
       along_takes more (kept.step past (Content request) mid taking unwanted after here)
 
-  along_rests : (past : History) (bytes : List ℕ) {new : History} {rest : Rest} → Rests past bytes new rest → P past → Holds new rest
+  along_rests : (past : History) (bytes : List ℕ) {new : History} {rest : Rest} → Rests past bytes new rest → P past
+      → Holds new rest
   along_rests past bytes (closed not) here = (here, λ taking launch is. absurd (not taking))
   along_rests past bytes (open_ended taking is) here = (here, λ taking launch is. absurd cc)
   along_rests past bytes (faulty k new taking is after) here =
@@ -93,60 +98,85 @@ module _ (Q : Incoming → Type 0) (P : History → Type 0) (kept : IsKept Q P) 
   along_rests past bytes (waits request launch more taking front wanted) here =
       (here, λ taking launch is. wanted_ready (situation past) request _ wanted)
 
-  along_all : (past : History) (bytes : List ℕ) (new : History) (rest : Rest) → TakesAll past bytes new rest → P past → Holds new rest
+  along_all : (past : History) (bytes : List ℕ) (new : History) (rest : Rest) → TakesAll past bytes new rest → P past
+      → Holds new rest
   along_all past bytes new rest all here = along_rests all.mid all.left all.rests (along_takes all.taken here)
 
-  along_may : (past : History) (rest : Rest) (item : Item) (new : History) (by : Ending) → IsTaken Q past item → closing item ≡ Some by → MayTake past item new → Holds past rest → Holds new rest
+  along_may : (past : History) (rest : Rest) (item : Item) (new : History) (by : Ending) → IsTaken Q past item
+      → closing item ≡ Some by → MayTake past item new → Holds past rest → Holds new rest
   along_may past rest item new by may closes (inl closed_) here = subst (λ h. Holds h rest) (sym closed_.1) here
-  along_may past rest item new by may closes (inr is) here =
-      (kept.step past item new is.0 may is.1 here.0, λ taking launch waits_. absurd (closes_for_good past item new by closes is.1 taking))
+  along_may past rest item new by may closes (inr is) here = (
+    kept.step past item new is.0 may is.1 here.0,
+    λ taking launch waits_. absurd
+        (closes_for_good past item new by closes is.1 taking),
+  )
 
-  along_piece : (past : History) (rest : Rest) (launch : Option Launch) (bytes : List ℕ) (new : History) (left : Rest) → rest.launch ≡ launch → LeadsByPiece past launch bytes new left → Holds past rest → Holds new left
+  along_piece : (past : History) (rest : Rest) (launch : Option Launch) (bytes : List ℕ) (new : History) (left : Rest)
+      → rest.launch ≡ launch → LeadsByPiece past launch bytes new left → Holds past rest → Holds new left
   along_piece past rest None bytes new left same all here = along_all past bytes new left all here.0
   along_piece past rest (Some launch) bytes new left same is here =
       subst (λ h. Holds h left) (sym is.0) (here.0, λ taking other waits_. here.1 taking launch same)
 
-  along_loads : (past : History) (launch : Launch) (file : Option (List ℕ)) (bytes : List ℕ) (new : History) (left : Rest) → situation past ≡ Ready → Loads past launch file bytes new left → P past → Holds new left
+  along_loads : (past : History) (launch : Launch) (file : Option (List ℕ)) (bytes : List ℕ) (new : History)
+      (left : Rest) → situation past ≡ Ready → Loads past launch file bytes new left → P past → Holds new left
   along_loads past launch file bytes new left ready loads here =
-      along_all loads.mid bytes new left loads.after (kept.step past (Loaded launch file) loads.mid loads.taking ready loads.loaded here)
+      along_all loads.mid bytes new left loads.after
+      (kept.step past (Loaded launch file) loads.mid loads.taking ready loads.loaded here)
 
-  along_file : (past : History) (rest : Rest) (launch : Option Launch) (file : Result (List ℕ) LoadFault) (new : History) (left : Rest) → rest.launch ≡ launch → LeadsByFile past rest launch file new left → Holds past rest → Holds new left
-  along_file past rest None file new left same is here = subst (λ h. Holds h left) (sym is.0) (subst (λ r. Holds past r) (sym is.1) here)
-  along_file past rest (Some launch) (Ok file) new left same (inl is) here = subst (λ h. Holds h left) (sym is.1) (subst (λ r. Holds past r) (sym is.2) here)
+  along_file : (past : History) (rest : Rest) (launch : Option Launch) (file : Result (List ℕ) LoadFault)
+      (new : History) (left : Rest) → rest.launch ≡ launch → LeadsByFile past rest launch file new left
+      → Holds past rest → Holds new left
+  along_file past rest None file new left same is here =
+      subst (λ h. Holds h left) (sym is.0) (subst (λ r. Holds past r) (sym is.1) here)
+  along_file past rest (Some launch) (Ok file) new left same (inl is) here =
+      subst (λ h. Holds h left) (sym is.1) (subst (λ r. Holds past r) (sym is.2) here)
   along_file past rest (Some launch) (Ok file) new left same (inr loads) here =
       along_loads past launch (Some file) rest.bytes new left (here.1 loads.taking launch same) loads here.0
-  along_file past rest (Some launch) (Err load_fault.CannotRead) new left same (inl is) here = subst (λ h. Holds h left) (sym is.1) (subst (λ r. Holds past r) (sym is.2) here)
+  along_file past rest (Some launch) (Err load_fault.CannotRead) new left same (inl is) here =
+      subst (λ h. Holds h left) (sym is.1) (subst (λ r. Holds past r) (sym is.2) here)
   along_file past rest (Some launch) (Err load_fault.CannotRead) new left same (inr loads) here =
       along_loads past launch None rest.bytes new left (here.1 loads.taking launch same) loads here.0
   along_file past rest (Some launch) (Err load_fault.NoMemory) new left same is here =
       subst (λ r. Holds new r) (sym is.1) (along_may past rest MemoryFailure new _ tt refl is.0 here)
 
-  along_report : (past : History) (rest : Rest) (r : PlainReport) (new : History) → Q (Report r) → LeadsByReport past r new → Holds past rest → Holds new rest
+  along_report : (past : History) (rest : Rest) (r : PlainReport) (new : History) → Q (Report r)
+      → LeadsByReport past r new → Holds past rest → Holds new rest
   along_report past rest r new good (inl is) here = subst (λ h. Holds h rest) (sym is.1) here
   along_report past rest r new good (inr is) here = (
     kept.step past (Accepted r) new is.0 (is.1, good) is.2 here.0,
     λ taking launch waits_. let e = sym is.1.running ∙ here.1 is.0 launch waits_ in absurd cc,
   )
 
-  along_event : (past : History) (rest : Rest) (event : Incoming) (new : History) (left : Rest) → Q event → Leads past rest event new left → Holds past rest → Holds new left
-  along_event past rest (Piece piece) new left good leads here = along_piece past rest rest.launch (rest.bytes ++ piece) new left refl leads here
-  along_event past rest End new left good leads here = subst (λ r. Holds new r) (sym leads.1) (along_may past rest InputEnd new _ good refl leads.0 here)
-  along_event past rest ReadFailed new left good leads here = subst (λ r. Holds new r) (sym leads.1) (along_may past rest ReadFailure new _ good refl leads.0 here)
-  along_event past rest NoMemory new left good leads here = subst (λ r. Holds new r) (sym leads.1) (along_may past rest MemoryFailure new _ tt refl leads.0 here)
-  along_event past rest (File file) new left good leads here = along_file past rest rest.launch file new left refl leads here
-  along_event past rest (Report r) new left good leads here = subst (λ l. Holds new l) (sym leads.1) (along_report past rest r new good leads.0 here)
+  along_event : (past : History) (rest : Rest) (event : Incoming) (new : History) (left : Rest) → Q event
+      → Leads past rest event new left → Holds past rest → Holds new left
+  along_event past rest (Piece piece) new left good leads here =
+      along_piece past rest rest.launch (rest.bytes ++ piece) new left refl leads here
+  along_event past rest End new left good leads here =
+      subst (λ r. Holds new r) (sym leads.1) (along_may past rest InputEnd new _ good refl leads.0 here)
+  along_event past rest ReadFailed new left good leads here =
+      subst (λ r. Holds new r) (sym leads.1) (along_may past rest ReadFailure new _ good refl leads.0 here)
+  along_event past rest NoMemory new left good leads here =
+      subst (λ r. Holds new r) (sym leads.1) (along_may past rest MemoryFailure new _ tt refl leads.0 here)
+  along_event past rest (File file) new left good leads here =
+      along_file past rest rest.launch file new left refl leads here
+  along_event past rest (Report r) new left good leads here =
+      subst (λ l. Holds new l) (sym leads.1) (along_report past rest r new good leads.0 here)
 
-  along_from : (past : History) (rest : Rest) (events : List Incoming) (new : History) (left : Rest) → AllEvents Q events → LeadsAll past rest events new left → Holds past rest → Holds new left
-  along_from past rest [] new left good all here = subst (λ h. Holds h left) (sym all.0) (subst (λ r. Holds past r) (sym all.1) here)
+  along_from : (past : History) (rest : Rest) (events : List Incoming) (new : History) (left : Rest)
+      → AllEvents Q events → LeadsAll past rest events new left → Holds past rest → Holds new left
+  along_from past rest [] new left good all here =
+      subst (λ h. Holds h left) (sym all.0) (subst (λ r. Holds past r) (sym all.1) here)
   along_from past rest (e ∷ events) new left good all here =
       along_from all.0 all.1 events new left good.1 all.3 (along_event past rest e all.0 all.1 good.0 all.2 here)
 
   -- What holds of no steps, and is kept, holds of each history.
-  pub along : P [] → (events : List Incoming) (past : History) (rest : Rest) → AllEvents Q events → IsHistoryOf events past rest → P past
+  pub along : P [] → (events : List Incoming) (past : History) (rest : Rest) → AllEvents Q events
+      → IsHistoryOf events past rest → P past
   along first events past rest good history =
       (along_from [] (only_bytes []) events past rest good history (first, λ taking launch is. absurd cc)).0
 
   -- a launch waits in Ready alone
-  pub along_waits : P [] → (events : List Incoming) (past : History) (rest : Rest) → AllEvents Q events → IsHistoryOf events past rest → WaitsWell past rest
+  pub along_waits : P [] → (events : List Incoming) (past : History) (rest : Rest) → AllEvents Q events
+      → IsHistoryOf events past rest → WaitsWell past rest
   along_waits first events past rest good history =
       (along_from [] (only_bytes []) events past rest good history (first, λ taking launch is. absurd cc)).1

@@ -22,17 +22,20 @@ events_answer_nothing : (events : List EventBody) → filter_map answered (map E
 events_answer_nothing [] = refl
 events_answer_nothing (e ∷ events) = events_answer_nothing events
 
-answers_once : (seq : ℕ) (command : CommandName) (reply : Reply) (step : Step) → Answers seq command reply step → filter_map answered (messages step) ≡ (seq, command) ∷ []
+answers_once : (seq : ℕ) (command : CommandName) (reply : Reply) (step : Step) → Answers seq command reply step
+    → filter_map answered (messages step) ≡ (seq, command) ∷ []
 answers_once seq command reply step is =
     ap (λ a. filter_map answered (with_answer a (map Event step.effect.events))) is.answer_is
     ∙ ap (λ l. (seq, command) ∷ l) (events_answer_nothing step.effect.events)
 
 answers_never : (step : Step) → step.answer ≡ None → filter_map answered (messages step) ≡ []
 answers_never step is =
-    ap (λ a. filter_map answered (with_answer a (map Event step.effect.events))) is ∙ events_answer_nothing step.effect.events
+    ap (λ a. filter_map answered (with_answer a (map Event step.effect.events))) is
+    ∙ events_answer_nothing step.effect.events
 
 -- an item has one answer if it asks, and else none
-once_here : (past : History) (item : Item) (step : Step) → Causes past item step → filter_map answered (messages step) ≡ filter_map asked (item ∷ [])
+once_here : (past : History) (item : Item) (step : Step) → Causes past item step
+    → filter_map answered (messages step) ≡ filter_map asked (item ∷ [])
 once_here past (Content None) step is = answers_never step is.answer_is
 once_here past (Content (Some request)) step is = answers_once _ _ is.0 step is.2
 once_here past (Loaded launch file) step is = answers_once _ _ is.0 step is.2
@@ -42,12 +45,14 @@ once_here past InputEnd step is = answers_never step is.answer_is
 once_here past ReadFailure step is = answers_never step is.answer_is
 once_here past MemoryFailure step is = answers_never step is.answer_is
 
-once_more : (past : History) (item : Item) (step : Step) → step.item ≡ item → Causes past item step → Once past → Once (past ++ step ∷ [])
+once_more : (past : History) (item : Item) (step : Step) → step.item ≡ item → Causes past item step → Once past
+    → Once (past ++ step ∷ [])
 once_more past item step item_is causes here =
     ap (filter_map answered) (messages_of-snoc past step)
     ∙ filter_map-append answered (messages_of past) (messages step)
     ∙ ap (λ l. l ++ filter_map answered (messages step)) here
-    ∙ ap (λ l. filter_map asked (map (λ (s : Step). s.item) past) ++ l) (once_here past item step causes ∙ ap (λ i. filter_map asked (i ∷ [])) (sym item_is))
+    ∙ ap (λ l. filter_map asked (map (λ (s : Step). s.item) past) ++ l)
+    (once_here past item step causes ∙ ap (λ i. filter_map asked (i ∷ [])) (sym item_is))
     ∙ sym (filter_map-append asked (map (λ (s : Step). s.item) past) (step.item ∷ []))
     ∙ ap (filter_map asked) (sym (map-append (λ (s : Step). s.item) past (step ∷ [])))
 
@@ -58,4 +63,5 @@ once_kept = record {
 }
 
 pub each_answered : EachIsAnsweredOnce
-each_answered events past rest history = along (λ e. Unit {0}) Once once_kept refl events past rest (any_events events) history
+each_answered events past rest history =
+    along (λ e. Unit {0}) Once once_kept refl events past rest (any_events events) history

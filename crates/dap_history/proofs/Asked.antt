@@ -48,7 +48,8 @@ use Rattle.dap_history.proofs.Once.{ordered_last}
 abbrev AreInOrder : History → Type 0
 AreInOrder past = AreNumbered 1 (all_runs past)
 
-numbered_more : (past : History) (more : List Heading) → AreInOrder past → NextRuns past more → AreNumbered 1 (all_runs past ++ more)
+numbered_more : (past : History) (more : List Heading) → AreInOrder past → NextRuns past more
+    → AreNumbered 1 (all_runs past ++ more)
 numbered_more past [] here no_runs = subst (AreNumbered 1) (sym (append-nil (all_runs past))) here
 numbered_more past (run ∷ rest) here (next_run run' is) = numbered-snoc 1 (all_runs past) run here (omega (arith, is))
 
@@ -59,21 +60,27 @@ in_order_kept Q = record {
       (numbered_more past (filter_map go after.step.effect.orders) here (next_runs past item after.step after.causes));
 }
 
-number_at : (n : ℕ) (front : List Heading) (run : Heading) (back : List Heading) → AreNumbered n (front ++ run ∷ back) → run.run ≡ n + length front
+number_at : (n : ℕ) (front : List Heading) (run : Heading) (back : List Heading) → AreNumbered n (front ++ run ∷ back)
+    → run.run ≡ n + length front
 number_at n [] run back are = omega (arith, are.0)
 number_at n (r ∷ front) run back are = let h = number_at (n + 1) front run back are.1 in omega (arith, h)
 
 pub runs_count : RunsCountFromOne
 runs_count events past rest history front back run orders_are =
-    let parts : all_runs past ≡ filter_map go front ++ run ∷ filter_map go back = ap (filter_map go) orders_are ∙ filter_map-append go front (Go run ∷ back) in
-    let here = along (λ e. Unit {0}) AreInOrder (in_order_kept (λ e. Unit {0})) tt events past rest (any_events events) history in
+    let parts : all_runs past ≡ filter_map go front ++ run ∷ filter_map go back =
+    ap (filter_map go) orders_are ∙ filter_map-append go front (Go run ∷ back) in
+    let here =
+    along (λ e. Unit {0}) AreInOrder (in_order_kept (λ e. Unit {0})) tt events past rest (any_events events) history
+    in
     let number = number_at 1 (filter_map go front) run (filter_map go back) (subst (AreNumbered 1) parts here) in
     omega (arith, number)
 
 -- ---- modes
 
-resume_kind_mode : (depth : ℕ) (asked : Command) (resume_kind : ResumeKind) → resume_kind_by asked ≡ Some resume_kind → mode_by depth asked ≡ Some (mode_of resume_kind depth)
-resume_kind_mode depth (command.Resume k a) resume_kind is = let same : k ≡ resume_kind = cc in ap (λ p. Some (mode_of p depth)) same
+resume_kind_mode : (depth : ℕ) (asked : Command) (resume_kind : ResumeKind) → resume_kind_by asked ≡ Some resume_kind
+    → mode_by depth asked ≡ Some (mode_of resume_kind depth)
+resume_kind_mode depth (command.Resume k a) resume_kind is =
+    let same : k ≡ resume_kind = cc in ap (λ p. Some (mode_of p depth)) same
 resume_kind_mode depth _ resume_kind is = absurd cc
 
 back_mode : (depth : ℕ) (asked : Command) (m : Mode) → back_by asked ≡ Some m → mode_by depth asked ≡ Some m
@@ -82,7 +89,8 @@ back_mode depth _ m is = absurd cc
 
 -- the run is of the launched program, in the mode that the command asks for
 abbrev AsAsked : History → Command → Heading → Type 0
-AsAsked past asked run = (l : Launched) × (launched past ≡ Some l) × (mode_by (depth_at l.program (position past)) asked ≡ Some run.mode)
+AsAsked past asked run =
+    (l : Launched) × (launched past ≡ Some l) × (mode_by (depth_at l.program (position past)) asked ≡ Some run.mode)
 
 pub no_go_held : (past : History) → last_such go (hold_once past) ≡ None
 no_go_held past = by_test (is_held past || is_back past)
@@ -91,7 +99,8 @@ no_go_held past = by_test (is_held past || is_back past)
     by_test true = refl
     by_test false = refl
 
-pub no_go_in : (s : Situation) (past : History) (bs : List Breakpoint) → last_such go (effect_in s past bs).orders ≡ None
+pub no_go_in : (s : Situation) (past : History) (bs : List Breakpoint)
+    → last_such go (effect_in s past bs).orders ≡ None
 no_go_in Running past bs = no_go_held past
 no_go_in Fresh past bs = refl
 no_go_in Ready past bs = refl
@@ -100,34 +109,49 @@ no_go_in Stopped past bs = refl
 no_go_in Faulted past bs = refl
 no_go_in Ended past bs = refl
 
-no_go_by : (past : History) (asked : Command) (run : Heading) (orders os : List PlainOrder) → orders ≡ os → last_such go os ≡ None → last_such go orders ≡ Some run → AsAsked past asked run
+no_go_by : (past : History) (asked : Command) (run : Heading) (orders os : List PlainOrder) → orders ≡ os
+    → last_such go os ≡ None → last_such go orders ≡ Some run → AsAsked past asked run
 no_go_by past asked run orders os is none some = let e = sym some ∙ ap (last_such go) is ∙ none in absurd cc
 
-begun_mode : (past : History) (l : Launched) (why : Option Reason) (run : Heading) → last_such go (enters past l why).orders ≡ Some run → run.mode ≡ mode.Continue
+begun_mode : (past : History) (l : Launched) (why : Option Reason) (run : Heading)
+    → last_such go (enters past l why).orders ≡ Some run → run.mode ≡ mode.Continue
 begun_mode past l None run is = ap (λ o. option_map_or (λ (h : Heading). h.mode) o mode.Continue) (sym is)
 begun_mode past l (Some r) run is = absurd cc
 
-reply_mode : (past : History) (s : Situation) (asked : Command) (reply : Reply) → Shape past s asked reply → (run : Heading) → last_such go reply.effect.orders ≡ Some run → AsAsked past asked run
-reply_mode past s asked reply (refuses why is) run goes = no_go_by past asked run reply.effect.orders _ (ap (λ (r : Reply). r.effect.orders) is) refl goes
-reply_mode past s asked reply (is_calm calm is) run goes = no_go_by past asked run reply.effect.orders _ (ap (λ (e : Effect). e.orders) is) refl goes
+reply_mode : (past : History) (s : Situation) (asked : Command) (reply : Reply) → Shape past s asked reply
+    → (run : Heading) → last_such go reply.effect.orders ≡ Some run → AsAsked past asked run
+reply_mode past s asked reply (refuses why is) run goes =
+    no_go_by past asked run reply.effect.orders _ (ap (λ (r : Reply). r.effect.orders) is) refl goes
+reply_mode past s asked reply (is_calm calm is) run goes =
+    no_go_by past asked run reply.effect.orders _ (ap (λ (e : Effect). e.orders) is) refl goes
 reply_mode past s asked reply (sets a l by there same resolves) run goes =
-    no_go_by past asked run reply.effect.orders _ (ap (λ (r : Reply). r.effect.orders) resolves.reply_is) (no_go_in (situation past) past resolves.breakpoints) goes
+    no_go_by past asked run reply.effect.orders _ (ap (λ (r : Reply). r.effect.orders) resolves.reply_is)
+    (no_go_in (situation past) past resolves.breakpoints) goes
 reply_mode past s asked reply (begins l by here there is) run goes =
-    let m = begun_mode past l (due_first past l) run (ap (λ (r : Reply). last_such go r.effect.orders) (sym is) ∙ goes) in
+    let m = begun_mode past l (due_first past l) run (ap (λ (r : Reply). last_such go r.effect.orders) (sym is) ∙ goes)
+    in
     (l, there, ap (mode_by (depth_at l.program (position past))) by ∙ ap Some (sym m))
 reply_mode past s asked reply (resumes_by resume_kind l by here there is) run goes =
     let depth = depth_at l.program (position past) in
-    let same : mode_of resume_kind depth ≡ run.mode = ap (λ o. option_map_or (λ (h : Heading). h.mode) o (mode_of resume_kind depth)) (ap (λ (r : Reply). last_such go r.effect.orders) (sym is) ∙ goes) in
+    let same : mode_of resume_kind depth ≡ run.mode =
+    ap (λ o. option_map_or (λ (h : Heading). h.mode) o (mode_of resume_kind depth))
+    (ap (λ (r : Reply). last_such go r.effect.orders) (sym is) ∙ goes) in
     (l, there, resume_kind_mode depth asked resume_kind by ∙ ap Some same)
-reply_mode past s asked reply (is_over resume_kind by here is) run goes = no_go_by past asked run reply.effect.orders _ (ap (λ (r : Reply). r.effect.orders) is) refl goes
+reply_mode past s asked reply (is_over resume_kind by here is) run goes =
+    no_go_by past asked run reply.effect.orders _ (ap (λ (r : Reply). r.effect.orders) is) refl goes
 reply_mode past s asked reply (retreats m l by back stands there is) run goes =
-    let same : m ≡ run.mode = ap (λ o. option_map_or (λ (h : Heading). h.mode) o m) (ap (λ (r : Reply). last_such go r.effect.orders) (sym is) ∙ goes) in
+    let same : m ≡ run.mode =
+    ap (λ o. option_map_or (λ (h : Heading). h.mode) o m)
+    (ap (λ (r : Reply). last_such go r.effect.orders) (sym is) ∙ goes) in
     (l, there, back_mode (depth_at l.program (position past)) asked m by ∙ ap Some same)
-reply_mode past s asked reply (interrupts a by here is) run goes = no_go_by past asked run reply.effect.orders _ (ap (λ (r : Reply). r.effect.orders) is) (no_go_held past) goes
-reply_mode past s asked reply (quits by is) run goes = no_go_by past asked run reply.effect.orders _ (ap (λ (r : Reply). r.effect.orders) is) refl goes
+reply_mode past s asked reply (interrupts a by here is) run goes =
+    no_go_by past asked run reply.effect.orders _ (ap (λ (r : Reply). r.effect.orders) is) (no_go_held past) goes
+reply_mode past s asked reply (quits by is) run goes =
+    no_go_by past asked run reply.effect.orders _ (ap (λ (r : Reply). r.effect.orders) is) refl goes
 
 -- a run that a report orders is in the mode of the run that was held
-report_mode : (past : History) (r : PlainReport) (e : SliceOutcome) → Accepts past r → (run : Heading) → last_such go (report_effect past r e).orders ≡ Some run → held_mode e (last_run past) ≡ Some run.mode
+report_mode : (past : History) (r : PlainReport) (e : SliceOutcome) → Accepts past r → (run : Heading)
+    → last_such go (report_effect past r e).orders ≡ Some run → held_mode e (last_run past) ≡ Some run.mode
 report_mode past r slice.More accepts run goes = absurd cc
 report_mode past r (slice.Due reason) accepts run goes = absurd cc
 report_mode past r slice.Done accepts run goes = absurd cc
@@ -135,36 +159,54 @@ report_mode past r (slice.Fault fault) accepts run goes = absurd cc
 report_mode past r slice.NoMemory accepts run goes = absurd cc
 report_mode past r slice.Held accepts run goes = by_pause (waiting_pause past) goes
   where
-    by_pause : (pauses : Bool) → last_such go (held past r pauses).orders ≡ Some run → held_mode slice.Held (last_run past) ≡ Some run.mode
+    by_pause : (pauses : Bool) → last_such go (held past r pauses).orders ≡ Some run
+        → held_mode slice.Held (last_run past) ≡ Some run.mode
     by_pause true goes = absurd cc
     by_pause false goes =
         let same : r.mode ≡ run.mode = ap (λ o. option_map_or (λ (h : Heading). h.mode) o r.mode) goes in
-        ap (option_map (λ (h : Heading). h.mode)) accepts.run_is ∙ ap Some (sym (ap (λ (h : Heading). h.mode) accepts.expected) ∙ same)
+        ap (option_map (λ (h : Heading). h.mode)) accepts.run_is
+        ∙ ap Some (sym (ap (λ (h : Heading). h.mode) accepts.expected) ∙ same)
 
 module _ (one : OneProgram) (joins : WrittenJoins) where
   -- the run is of the launched program, in the mode that the item asks for
   abbrev ModeIs : History → Item → Heading → Type 0
   ModeIs past item run = (l : Launched) × (launched past ≡ Some l) × (mode_asked past l.program item ≡ Some run.mode)
 
-  item_mode : (past : History) (item : Item) (step : Step) → IsTaken IsLawfulEvent past item → Causes past item step → Ran one joins past → (run : Heading) → run_in step ≡ Some run → ModeIs past item run
-  item_mode past (Content None) step taken is ran run goes = let e = sym goes ∙ ap (λ (e : Effect). last_such go e.orders) is.effect_is in absurd cc
+  item_mode : (past : History) (item : Item) (step : Step) → IsTaken IsLawfulEvent past item → Causes past item step
+      → Ran one joins past → (run : Heading) → run_in step ≡ Some run → ModeIs past item run
+  item_mode past (Content None) step taken is ran run goes =
+      let e = sym goes ∙ ap (λ (e : Effect). last_such go e.orders) is.effect_is in absurd cc
   item_mode past (Content (Some request)) step taken is ran run goes =
-      reply_mode past (situation past) request.body is.0 (shaped past is.0 (situation past) request.body is.1) run (ap (λ (e : Effect). last_such go e.orders) (sym is.2.effect_is) ∙ goes)
-  item_mode past (Loaded launch file) step taken is ran run goes = let e = sym goes ∙ ap (λ (e : Effect). last_such go e.orders) is.2.effect_is ∙ loaded_orders launch file is.0 is.1 in absurd cc
+      reply_mode past (situation past) request.body is.0 (shaped past is.0 (situation past) request.body is.1) run
+      (ap (λ (e : Effect). last_such go e.orders) (sym is.2.effect_is) ∙ goes)
+  item_mode past (Loaded launch file) step taken is ran run goes =
+      let e = sym goes ∙ ap (λ (e : Effect). last_such go e.orders) is.2.effect_is
+      ∙ loaded_orders launch file is.0 is.1 in absurd cc
   item_mode past (Accepted r) step taken is ran run goes =
-      let there = of_launched one joins past (Accepted r) step taken is ran run goes in
-      (there.0, there.1, report_mode past r r.outcome taken.0 run (ap (λ (e : Effect). last_such go e.orders) (sym is.effect_is) ∙ goes))
-  item_mode past (Fault k) step taken is ran run goes = let e = sym goes ∙ ap (λ (e : Effect). last_such go e.orders) is.effect_is in absurd cc
-  item_mode past InputEnd step taken is ran run goes = let e = sym goes ∙ ap (λ (e : Effect). last_such go e.orders) is.effect_is in absurd cc
-  item_mode past ReadFailure step taken is ran run goes = let e = sym goes ∙ ap (λ (e : Effect). last_such go e.orders) is.effect_is in absurd cc
-  item_mode past MemoryFailure step taken is ran run goes = let e = sym goes ∙ ap (λ (e : Effect). last_such go e.orders) is.effect_is in absurd cc
+      let there = of_launched one joins past (Accepted r) step taken is ran run goes in (
+        there.0,
+        there.1,
+        report_mode past r r.outcome taken.0 run
+            (ap (λ (e : Effect). last_such go e.orders) (sym is.effect_is) ∙ goes),
+      )
+  item_mode past (Fault k) step taken is ran run goes =
+      let e = sym goes ∙ ap (λ (e : Effect). last_such go e.orders) is.effect_is in absurd cc
+  item_mode past InputEnd step taken is ran run goes =
+      let e = sym goes ∙ ap (λ (e : Effect). last_such go e.orders) is.effect_is in absurd cc
+  item_mode past ReadFailure step taken is ran run goes =
+      let e = sym goes ∙ ap (λ (e : Effect). last_such go e.orders) is.effect_is in absurd cc
+  item_mode past MemoryFailure step taken is ran run goes =
+      let e = sym goes ∙ ap (λ (e : Effect). last_such go e.orders) is.effect_is in absurd cc
 
   pub each_as_asked : EachRunIsAsAsked
   each_as_asked events past rest lawful history before step after run past_is orders =
       item_mode before step.item step was.taken was.causes was.held run (ordered_last before step run was.causes orders)
     where
       each : EachTaken IsLawfulEvent (Ran one joins) past
-      each = along IsLawfulEvent (EachTaken IsLawfulEvent (Ran one joins)) (each_kept IsLawfulEvent (Ran one joins) (ran_kept one joins)) (each_first IsLawfulEvent (Ran one joins) (ran_first one joins)) events past rest (lawful_events events lawful) history
+      each = along IsLawfulEvent (EachTaken IsLawfulEvent (Ran one joins))
+          (each_kept IsLawfulEvent (Ran one joins) (ran_kept one joins))
+          (each_first IsLawfulEvent (Ran one joins) (ran_first one joins)) events past rest
+          (lawful_events events lawful) history
 
       was : WasTaken IsLawfulEvent (Ran one joins) before step
       was = each.each before step after past_is

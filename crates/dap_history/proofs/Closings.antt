@@ -1,6 +1,6 @@
 -- A session that was closed by the end of its input has taken that event, and Quit is its last order.
-use Rattle.std.proofs.Common.{◌≡◌, ◌⊎◌, inl, inr, ℕ, List, [], ◌∷◌, ◌++◌, Bool, true, false, ◌||◌, Option, None, Some, Result, Ok, Err, refl, sym, ◌∙◌, ap, subst}
-use Rattle.std.specs.Prelude.{nat_eq, if◌then◌else◌, ℤ}
+use Rattle.std.proofs.Common.{◌≡◌, ◌⊎◌, inl, inr, ℕ, List, [], ◌∷◌, ◌++◌, Bool, true, false, ◌||◌, Option, None, Some, refl, sym, ◌∙◌, ap, subst}
+use Rattle.std.specs.Prelude.{nat_eq, if◌then◌else◌}
 use Rattle.dap_history.proofs.Questions.{no_effect}
 use Rattle.dap_msg.specs.declared.question.Question.{Question}
 use Rattle.dap_msg.specs.declared.requests.resume.ResumeKind.{ResumeKind}
@@ -11,8 +11,6 @@ use Rattle.dap_msg.specs.declared.outgoing.Refusal.TheVariants as refusal
 use Rattle.dap_msg.specs.declared.requests.set_breakpoints.SetBreakpointsArguments.{SetBreakpointsArguments}
 use Rattle.dbg_plan.specs.Breakpoints.{Breakpoint}
 use Rattle.dbg_plan.specs.Due.{due, depth_at}
-use Rattle.dbg_plan.specs.declared.evaluation.EvalFault.{EvalFault}
-use Rattle.dbg_plan.specs.declared.evaluation.EvalFault.TheVariants.{Overflow, DivideByZero}
 use Rattle.dbg_plan.specs.declared.mode.Mode.{Mode}
 use Rattle.dbg_plan.specs.declared.mode.Reason.{Reason}
 use Rattle.dbg_runner.specs.declared.outcome.SliceOutcome.{SliceOutcome}
@@ -33,7 +31,6 @@ use Rattle.dap_history.specs.Reports.{report_effect, held}
 use Rattle.dap_history.specs.Launching.{initialize_in, Launches}
 use Rattle.dap_history.specs.Breakpoints.{hold_once, effect_in, SetsOf, Sets, SetsIn, is_at}
 use Rattle.dap_history.specs.Running.{mode_of, body_of, resumes, first_mode, enters, ConfiguresIn, ResumesIn, RetreatsIn, pause_in}
-use Rattle.dap_history.specs.Frames.{frame_by_id}
 use Rattle.dap_history.specs.Inspection.{InspectsIn}
 use Rattle.dap_history.specs.Emission.{threads_in, RepliesIn, Causes, IsAfter}
 use Rattle.dap_history.specs.Interleaving.{Load, IsLoad, Interleaves}
@@ -43,9 +40,11 @@ use Rattle.dap_history.proofs.Readings.{or_else-none, orders_of-snoc, ending_of-
 use Rattle.dap_history.proofs.Along.{IsTaken, IsKept, AllEvents, any_events, along}
 
 -- a session that took the item goes on only where the item doesn't close
-ends_by : (past : History) (item : Item) (new : History) → IsTaking past → IsAfter past item new → ending_of new ≡ closing item
+ends_by : (past : History) (item : Item) (new : History) → IsTaking past → IsAfter past item new
+    → ending_of new ≡ closing item
 ends_by past item new taking after =
-    ap ending_of after.new_is ∙ ending_of-snoc past after.step ∙ ap (λ i. or_else (closing i) (ending_of past)) after.item_is
+    ap ending_of after.new_is ∙ ending_of-snoc past after.step
+    ∙ ap (λ i. or_else (closing i) (ending_of past)) after.item_is
     ∙ ap (λ o. or_else (closing item) o) taking ∙ or_else-none (closing item)
 
 -- ---- the event that closed the session
@@ -55,12 +54,14 @@ module _ (own : Incoming) (is_own : (e : Incoming) → (own ≡ e) ⊎ ¬ (own �
   stands_or_not [] = inr tt
   stands_or_not (e ∷ events) = onward (is_own e) (stands_or_not events)
     where
-      onward : (own ≡ e) ⊎ ¬ (own ≡ e) → IsAmong own events ⊎ AllEvents (λ x. ¬ (own ≡ x)) events → IsAmong own (e ∷ events) ⊎ AllEvents (λ x. ¬ (own ≡ x)) (e ∷ events)
+      onward : (own ≡ e) ⊎ ¬ (own ≡ e) → IsAmong own events ⊎ AllEvents (λ x. ¬ (own ≡ x)) events
+          → IsAmong own (e ∷ events) ⊎ AllEvents (λ x. ¬ (own ≡ x)) (e ∷ events)
       onward (inl same) there = inl ([], events, ap (λ x. x ∷ events) (sym same))
       onward (inr other) (inl there) = inl (e ∷ there.0, there.1, ap (λ l. e ∷ l) there.2)
       onward (inr other) (inr none) = inr (other, none)
 
-  module _ (by : Closed) (asked : ¬ (closed.Disconnected ≡ by)) (at_end : closed.InputEnded ≡ by → own ≡ End) (at_failure : closed.ReadFailed ≡ by → own ≡ ReadFailed) where
+  module _ (by : Closed) (asked : ¬ (closed.Disconnected ≡ by)) (at_end : closed.InputEnded ≡ by → own ≡ End)
+      (at_failure : closed.ReadFailed ≡ by → own ≡ ReadFailed) where
     abbrev IsNotClosed : History → Type 0
     IsNotClosed past = ¬ (ending_of past ≡ Some (ending.Closed by))
 
@@ -73,7 +74,8 @@ module _ (own : Incoming) (is_own : (e : Incoming) → (own ≡ e) ⊎ ¬ (own �
     report_not _ is = absurd cc
 
     -- no item closes so that another event brings
-    item_not : (past : History) (item : Item) → IsTaken (λ e. ¬ (own ≡ e)) past item → ¬ (closing item ≡ Some (ending.Closed by))
+    item_not : (past : History) (item : Item) → IsTaken (λ e. ¬ (own ≡ e)) past item
+        → ¬ (closing item ≡ Some (ending.Closed by))
     item_not past (Content None) taken is = absurd cc
     item_not past (Content (Some request)) taken is = command_not request.body is
     item_not past (Loaded launch file) taken is = absurd cc
@@ -85,15 +87,19 @@ module _ (own : Incoming) (is_own : (e : Incoming) → (own ≡ e) ⊎ ¬ (own �
 
     not_closed_kept : IsKept (λ e. ¬ (own ≡ e)) IsNotClosed
     not_closed_kept = record {
-      step = λ past item new taking taken after here is. item_not past item taken (sym (ends_by past item new taking after) ∙ is);
+      step = λ past item new taking taken after here is. item_not past item taken
+          (sym (ends_by past item new taking after) ∙ is);
     }
 
-    closed_by : (events : List Incoming) (past : History) (rest : Rest) → IsHistoryOf events past rest → ending_of past ≡ Some (ending.Closed by) → IsAmong own events
+    closed_by : (events : List Incoming) (past : History) (rest : Rest) → IsHistoryOf events past rest
+        → ending_of past ≡ Some (ending.Closed by) → IsAmong own events
     closed_by events past rest history is = found (stands_or_not events)
       where
         found : IsAmong own events ⊎ AllEvents (λ e. ¬ (own ≡ e)) events → IsAmong own events
         found (inl there) = there
-        found (inr none) = absurd (along (λ e. ¬ (own ≡ e)) IsNotClosed not_closed_kept (λ first. absurd cc) events past rest none history is)
+        found (inr none) =
+            absurd (along (λ e. ¬ (own ≡ e)) IsNotClosed not_closed_kept (λ first. absurd cc) events past rest none
+            history is)
 
 is_end : (e : Incoming) → (End ≡ e) ⊎ ¬ (End ≡ e)
 is_end (Piece p) = inr (λ same. absurd cc)
@@ -112,12 +118,15 @@ is_failure (File f) = inr (λ same. absurd cc)
 is_failure (Report r) = inr (λ same. absurd cc)
 
 -- A session that the input's end closed has taken it.
-pub closed_by_end : (events : List Incoming) (past : History) (rest : Rest) → IsHistoryOf events past rest → ending_of past ≡ Some (ending.Closed closed.InputEnded) → IsAmong End events
+pub closed_by_end : (events : List Incoming) (past : History) (rest : Rest) → IsHistoryOf events past rest
+    → ending_of past ≡ Some (ending.Closed closed.InputEnded) → IsAmong End events
 closed_by_end = closed_by End is_end closed.InputEnded (λ same. absurd cc) (λ same. refl) (λ same. absurd cc)
 
 -- A session that a failed read closed has taken it.
-pub closed_by_failure : (events : List Incoming) (past : History) (rest : Rest) → IsHistoryOf events past rest → ending_of past ≡ Some (ending.Closed closed.ReadFailed) → IsAmong ReadFailed events
-closed_by_failure = closed_by ReadFailed is_failure closed.ReadFailed (λ same. absurd cc) (λ same. absurd cc) (λ same. refl)
+pub closed_by_failure : (events : List Incoming) (past : History) (rest : Rest) → IsHistoryOf events past rest
+    → ending_of past ≡ Some (ending.Closed closed.ReadFailed) → IsAmong ReadFailed events
+closed_by_failure =
+    closed_by ReadFailed is_failure closed.ReadFailed (λ same. absurd cc) (λ same. absurd cc) (λ same. refl)
 
 -- ---- Quit among orders
 
@@ -146,7 +155,8 @@ no_quit_in (Quit ∷ orders) front more quiet is = quiet
 no_quit_in (Go run ∷ orders) (x ∷ front) more quiet is = no_quit_in orders front more quiet (ap later_orders is)
 no_quit_in (Hold run ∷ orders) (x ∷ front) more quiet is = no_quit_in orders front more quiet (ap later_orders is)
 
-quit_ends : (orders front more : List PlainOrder) → NoQuit orders → orders ++ Quit ∷ [] ≡ front ++ Quit ∷ more → more ≡ []
+quit_ends : (orders front more : List PlainOrder) → NoQuit orders → orders ++ Quit ∷ [] ≡ front ++ Quit ∷ more
+    → more ≡ []
 quit_ends [] [] more quiet is = sym (ap later_orders is)
 quit_ends [] (x ∷ []) more quiet is = let e = ap later_orders is in absurd cc
 quit_ends [] (x ∷ y ∷ front) more quiet is = let e = ap later_orders is in absurd cc
@@ -196,19 +206,22 @@ effect_quiet Fresh past bs = tt
 effect_quiet Ready past bs = tt
 
 -- what is so of each launched program is so of the one that there is
-of_program : (l : Option Launched) (says : Launched → Type 0) (reply : Reply) → ((l : Launched) → says l → IsQuiet reply) → OfProgram l says → IsQuiet reply
+of_program : (l : Option Launched) (says : Launched → Type 0) (reply : Reply)
+    → ((l : Launched) → says l → IsQuiet reply) → OfProgram l says → IsQuiet reply
 of_program None says reply quiet is = absurd is
 of_program (Some l) says reply quiet is = quiet l is
 
 sets_quiet : (past : History) (a : SetBreakpointsArguments) (reply : Reply) → Sets past a reply → IsQuiet reply
 sets_quiet past a reply is =
-    of_program (launched past) (λ l. SetsOf (is_at a.path l.path) past l a.breakpoints reply) reply (λ l says. by_source (is_at a.path l.path) l says) is
+    of_program (launched past) (λ l. SetsOf (is_at a.path l.path) past l a.breakpoints reply) reply
+    (λ l says. by_source (is_at a.path l.path) l says) is
   where
     by_source : (same : Bool) (l : Launched) → SetsOf same past l a.breakpoints reply → IsQuiet reply
     by_source true l says = quiet_if reply _ (effect_quiet (situation past) past says.breakpoints) says.reply_is
     by_source false l says = quiet_if reply _ tt says
 
-sets_in_quiet : (s : Situation) (past : History) (a : SetBreakpointsArguments) (reply : Reply) → SetsIn s past a reply → IsQuiet reply
+sets_in_quiet : (s : Situation) (past : History) (a : SetBreakpointsArguments) (reply : Reply) → SetsIn s past a reply
+    → IsQuiet reply
 sets_in_quiet Fresh past a reply is = quiet_if reply _ tt is
 sets_in_quiet Ready past a reply is = quiet_if reply _ tt is
 sets_in_quiet _ past a reply is = sets_quiet past a reply is
@@ -220,21 +233,28 @@ enters_quiet past l (Some r) = tt
 configures_in_quiet : (s : Situation) (past : History) (reply : Reply) → ConfiguresIn s past reply → IsQuiet reply
 configures_in_quiet Configuring past reply is =
     of_program (launched past) _ reply
-    (λ l says. quiet_if reply _ (enters_quiet past l (due l.program (plan past).breakpoints (plan past).counted_from (first_mode l) 0)) says) is
+    (λ l says. quiet_if reply _ (enters_quiet past l
+    (due l.program (plan past).breakpoints (plan past).counted_from (first_mode l) 0)) says) is
 configures_in_quiet _ past reply is = quiet_if reply _ tt is
 
-resumes_in_quiet : (s : Situation) (past : History) (resume_kind : ResumeKind) (thread : ℕ) (reply : Reply) → ResumesIn s past resume_kind thread reply → IsQuiet reply
+resumes_in_quiet : (s : Situation) (past : History) (resume_kind : ResumeKind) (thread : ℕ) (reply : Reply)
+    → ResumesIn s past resume_kind thread reply → IsQuiet reply
 resumes_in_quiet Stopped past resume_kind thread reply is =
     of_program (launched past) _ reply
-    (λ l says. quiet_if reply _ (thread_quiet thread (causing (body_of resume_kind) (ordering (resumes past l (mode_of resume_kind (depth_at l.program (position past)))))) tt) says) is
+    (λ l says. quiet_if reply _ (thread_quiet thread
+    (causing (body_of resume_kind) (ordering
+    (resumes past l (mode_of resume_kind (depth_at l.program (position past)))))) tt) says) is
 resumes_in_quiet Faulted past resume_kind thread reply is = quiet_if reply _ (thread_quiet thread _ tt) is
 resumes_in_quiet _ past resume_kind thread reply is = quiet_if reply _ tt is
 
-retreats_in_quiet : (s : Situation) (past : History) (m : Mode) (thread : ℕ) (reply : Reply) → RetreatsIn s past m thread reply → IsQuiet reply
+retreats_in_quiet : (s : Situation) (past : History) (m : Mode) (thread : ℕ) (reply : Reply)
+    → RetreatsIn s past m thread reply → IsQuiet reply
 retreats_in_quiet Stopped past m thread reply is =
-    of_program (launched past) _ reply (λ l says. quiet_if reply _ (thread_quiet thread (causing body.None (ordering (resumes past l m))) tt) says) is
+    of_program (launched past) _ reply (λ l says. quiet_if reply _
+    (thread_quiet thread (causing body.None (ordering (resumes past l m))) tt) says) is
 retreats_in_quiet Faulted past m thread reply is =
-    of_program (launched past) _ reply (λ l says. quiet_if reply _ (thread_quiet thread (causing body.None (ordering (resumes past l m))) tt) says) is
+    of_program (launched past) _ reply (λ l says. quiet_if reply _
+    (thread_quiet thread (causing body.None (ordering (resumes past l m))) tt) says) is
 retreats_in_quiet _ past m thread reply is = quiet_if reply _ tt is
 
 pause_quiet : (s : Situation) (past : History) (thread : ℕ) → IsQuiet (pause_in s past thread)
@@ -243,15 +263,18 @@ pause_quiet Stopped past thread = thread_quiet thread _ tt
 pause_quiet Faulted past thread = thread_quiet thread _ tt
 pause_quiet _ past thread = tt
 
-inspects_in_quiet : (s : Situation) (past : History) (question : Question) (reply : Reply) → InspectsIn s past question reply → IsQuiet reply
-inspects_in_quiet s past question reply is = subst NoQuit (ap (λ (e : Effect). e.orders) (sym (no_effect s past question reply is))) tt
+inspects_in_quiet : (s : Situation) (past : History) (question : Question) (reply : Reply)
+    → InspectsIn s past question reply → IsQuiet reply
+inspects_in_quiet s past question reply is =
+    subst NoQuit (ap (λ (e : Effect). e.orders) (sym (no_effect s past question reply is))) tt
 
 -- a Quit alone, where the session is closed by no fault; else orders without a Quit
 abbrev QuitsBy : List PlainOrder → Option Ending → Type 0
 QuitsBy orders (Some (ending.Closed by)) = orders ≡ Quit ∷ []
 QuitsBy orders _ = NoQuit orders
 
-replies_quit : (s : Situation) (past : History) (asked : Command) (reply : Reply) → RepliesIn s past asked reply → QuitsBy reply.effect.orders (closing_command asked)
+replies_quit : (s : Situation) (past : History) (asked : Command) (reply : Reply) → RepliesIn s past asked reply
+    → QuitsBy reply.effect.orders (closing_command asked)
 replies_quit s past (command.Initialize a) reply is = quiet_if reply _ (initialize_quiet s) is
 replies_quit s past (command.Launch a) reply is = quiet_if reply _ tt is
 replies_quit s past (command.SetBreakpoints a) reply is = sets_in_quiet s past a reply is
@@ -265,12 +288,14 @@ replies_quit s past command.Disconnect reply is = ap (λ (r : Reply). r.effect.o
 replies_quit s past (command.Unsupported a) reply is = quiet_if reply _ tt is
 replies_quit s past (command.BadArguments a) reply is = quiet_if reply _ tt is
 
-launches_quiet : (launch : Launch) (file : Option (List ℕ)) (reply : Reply) → Launches launch.arguments file reply → IsQuiet reply
+launches_quiet : (launch : Launch) (file : Option (List ℕ)) (reply : Reply) → Launches launch.arguments file reply
+    → IsQuiet reply
 launches_quiet launch None reply is = quiet_if reply _ tt is
 launches_quiet launch (Some text) reply (inl is) = quiet_if reply _ tt is.reply_is
 launches_quiet launch (Some text) reply (inr is) = quiet_if reply _ tt is.reply_is
 
-report_quiet : (past : History) (r : PlainReport) (outcome : SliceOutcome) → NoQuit (report_effect past r outcome).orders
+report_quiet : (past : History) (r : PlainReport) (outcome : SliceOutcome)
+    → NoQuit (report_effect past r outcome).orders
 report_quiet past r slice.Held = by_test (waiting_pause past)
   where
     by_test : (pauses : Bool) → NoQuit (held past r pauses).orders
@@ -279,18 +304,23 @@ report_quiet past r slice.Held = by_test (waiting_pause past)
 report_quiet past r _ = tt
 
 -- a report orders none, also where it closes the session
-report_quits : (past : History) (outcome : SliceOutcome) (orders : List PlainOrder) → NoQuit orders → QuitsBy orders (closing_report outcome)
+report_quits : (past : History) (outcome : SliceOutcome) (orders : List PlainOrder) → NoQuit orders
+    → QuitsBy orders (closing_report outcome)
 report_quits past slice.NoMemory orders quiet = quiet
 report_quits past _ orders quiet = quiet
 
 -- What an item orders has a Quit just where the item closes the session by no fault.
-item_quits : (past : History) (item : Item) (step : Step) → Causes past item step → QuitsBy step.effect.orders (closing item)
+item_quits : (past : History) (item : Item) (step : Step) → Causes past item step
+    → QuitsBy step.effect.orders (closing item)
 item_quits past (Content None) step is = subst (λ (e : Effect). NoQuit e.orders) (sym is.effect_is) tt
 item_quits past (Content (Some request)) step is =
-    subst (λ (e : Effect). QuitsBy e.orders (closing_command request.body)) (sym is.2.effect_is) (replies_quit (situation past) past request.body is.0 is.1)
-item_quits past (Loaded launch file) step is = subst (λ (e : Effect). NoQuit e.orders) (sym is.2.effect_is) (launches_quiet launch file is.0 is.1)
+    subst (λ (e : Effect). QuitsBy e.orders (closing_command request.body)) (sym is.2.effect_is)
+    (replies_quit (situation past) past request.body is.0 is.1)
+item_quits past (Loaded launch file) step is =
+    subst (λ (e : Effect). NoQuit e.orders) (sym is.2.effect_is) (launches_quiet launch file is.0 is.1)
 item_quits past (Accepted r) step is =
-    report_quits past r.outcome step.effect.orders (subst (λ (e : Effect). NoQuit e.orders) (sym is.effect_is) (report_quiet past r r.outcome))
+    report_quits past r.outcome step.effect.orders
+    (subst (λ (e : Effect). NoQuit e.orders) (sym is.effect_is) (report_quiet past r r.outcome))
 item_quits past (Fault k) step is = subst (λ (e : Effect). NoQuit e.orders) (sym is.effect_is) tt
 item_quits past InputEnd step is = ap (λ (e : Effect). e.orders) is.effect_is
 item_quits past ReadFailure step is = ap (λ (e : Effect). e.orders) is.effect_is
@@ -305,8 +335,10 @@ record Quits (past : History) : Type 0 where
   pub closes : EndsWithQuit (ending_of past) (orders_of past)
 
 -- how the orders so far end with those of one more item
-quits_more : (past : History) (item : Item) (new : History) → IsTaking past → IsAfter past item new → Quits past → Quits new
-quits_more past item new taking after here = by_closing (closing item) refl (item_quits past item after.step after.causes)
+quits_more : (past : History) (item : Item) (new : History) → IsTaking past → IsAfter past item new → Quits past
+    → Quits new
+quits_more past item new taking after here =
+    by_closing (closing item) refl (item_quits past item after.step after.causes)
   where
     orders_are : orders_of new ≡ orders_of past ++ after.step.effect.orders
     orders_are = ap orders_of after.new_is ∙ orders_of-snoc past after.step
@@ -315,7 +347,9 @@ quits_more past item new taking after here = by_closing (closing item) refl (ite
     ends = ends_by past item new taking after
 
     none_ordered : NoQuit after.step.effect.orders → NoQuit (orders_of new)
-    none_ordered quiet = subst NoQuit (sym orders_are) (no_quit-append (orders_of past) after.step.effect.orders (here.before taking) quiet)
+    none_ordered quiet =
+        subst NoQuit (sym orders_are) (no_quit-append (orders_of past) after.step.effect.orders (here.before taking)
+        quiet)
 
     if_quiet : NoQuit after.step.effect.orders → EndsWithQuit (ending_of new) (orders_of new) → Quits new
     if_quiet quiet closes = record {
@@ -324,13 +358,16 @@ quits_more past item new taking after here = by_closing (closing item) refl (ite
       closes = closes;
     }
 
-    by_closing : (closes : Option Ending) → closing item ≡ closes → QuitsBy after.step.effect.orders (closing item) → Quits new
+    by_closing : (closes : Option Ending) → closing item ≡ closes → QuitsBy after.step.effect.orders (closing item)
+        → Quits new
     by_closing None is quits =
         let quiet : NoQuit after.step.effect.orders = subst (QuitsBy after.step.effect.orders) is quits in
-        if_quiet quiet (subst (λ e. EndsWithQuit e (orders_of new)) (sym (ends ∙ is)) (λ front back there. no_quit_in (orders_of new) front back (none_ordered quiet) there))
+        if_quiet quiet (subst (λ e. EndsWithQuit e (orders_of new)) (sym (ends ∙ is))
+        (λ front back there. no_quit_in (orders_of new) front back (none_ordered quiet) there))
     by_closing (Some (ending.Fault fault)) is quits =
         let quiet : NoQuit after.step.effect.orders = subst (QuitsBy after.step.effect.orders) is quits in
-        if_quiet quiet (subst (λ e. EndsWithQuit e (orders_of new)) (sym (ends ∙ is)) (λ front back there. no_quit_in (orders_of new) front back (none_ordered quiet) there))
+        if_quiet quiet (subst (λ e. EndsWithQuit e (orders_of new)) (sym (ends ∙ is))
+        (λ front back there. no_quit_in (orders_of new) front back (none_ordered quiet) there))
     by_closing (Some (ending.Closed by)) is quits =
         let alone : after.step.effect.orders ≡ Quit ∷ [] = subst (QuitsBy after.step.effect.orders) is quits in
         let parts : orders_of new ≡ orders_of past ++ Quit ∷ [] = orders_are ∙ ap (λ l. orders_of past ++ l) alone in
@@ -352,11 +389,13 @@ quits_first = record {
 
 -- Nothing is ordered after a Quit.
 pub quit_is_last : QuitIsLast
-quit_is_last events past rest history = (along (λ e. Unit {0}) Quits quits_kept quits_first events past rest (any_events events) history).last
+quit_is_last events past rest history =
+    (along (λ e. Unit {0}) Quits quits_kept quits_first events past rest (any_events events) history).last
 
 -- A session that was closed by no fault has ordered Quit.
 pub quit_closes : QuitCloses
-quit_closes events past rest history = (along (λ e. Unit {0}) Quits quits_kept quits_first events past rest (any_events events) history).closes
+quit_closes events past rest history =
+    (along (λ e. Unit {0}) Quits quits_kept quits_first events past rest (any_events events) history).closes
 
 -- ---- what an inbox gave
 
@@ -377,8 +416,10 @@ later_events [] = []
 later_events (e ∷ events) = events
 
 -- An event that is no file comes from the inbox.
-pub interleaved_event : (own : Incoming) → ¬ IsFile own → (before events given : List Incoming) (loads : List Load) → Interleaves before events given loads
-    → (front back : List Incoming) → events ≡ front ++ own ∷ back → (f : List Incoming) × (b : List Incoming) × (given ≡ f ++ own ∷ b)
+pub interleaved_event : (own : Incoming) → ¬ IsFile own → (before events given : List Incoming) (loads : List Load)
+    → Interleaves before events given loads
+    → (front back : List Incoming) → events ≡ front ++ own ∷ back → (f : List Incoming) × (b : List Incoming)
+    × (given ≡ f ++ own ∷ b)
 interleaved_event own no_file before [] given loads from [] back is = absurd cc
 interleaved_event own no_file before [] given loads from (x ∷ front) back is = absurd cc
 interleaved_event own no_file before (e ∷ events) given loads (inl from) [] back is =
@@ -388,13 +429,18 @@ interleaved_event own no_file before (e ∷ events) given loads (inl from) (x �
 interleaved_event own no_file before (e ∷ events) given loads (inr from) [] back is =
     ([], from.0, from.1 ∙ ap (λ x. x ∷ from.0) (ap (first_event own) is))
 interleaved_event own no_file before (e ∷ events) given loads (inr from) (x ∷ front) back is =
-    let there = interleaved_event own no_file (before ++ e ∷ []) events from.0 loads from.3 front back (ap later_events is) in
+    let there =
+    interleaved_event own no_file (before ++ e ∷ []) events from.0 loads from.3 front back (ap later_events is) in
     (e ∷ there.0, there.1, from.1 ∙ ap (λ l. e ∷ l) there.2)
 
-pub interleaved_end : (events given : List Incoming) (loads : List Load) → Interleaves [] events given loads → (front back : List Incoming) → events ≡ front ++ End ∷ back
+pub interleaved_end : (events given : List Incoming) (loads : List Load) → Interleaves [] events given loads
+    → (front back : List Incoming) → events ≡ front ++ End ∷ back
     → (f : List Incoming) × (b : List Incoming) × (given ≡ f ++ End ∷ b)
-interleaved_end events given loads from front back is = interleaved_event End (λ file. file) [] events given loads from front back is
+interleaved_end events given loads from front back is =
+    interleaved_event End (λ file. file) [] events given loads from front back is
 
-pub interleaved_failure : (events given : List Incoming) (loads : List Load) → Interleaves [] events given loads → (front back : List Incoming) → events ≡ front ++ ReadFailed ∷ back
+pub interleaved_failure : (events given : List Incoming) (loads : List Load) → Interleaves [] events given loads
+    → (front back : List Incoming) → events ≡ front ++ ReadFailed ∷ back
     → (f : List Incoming) × (b : List Incoming) × (given ≡ f ++ ReadFailed ∷ b)
-interleaved_failure events given loads from front back is = interleaved_event ReadFailed (λ file. file) [] events given loads from front back is
+interleaved_failure events given loads from front back is =
+    interleaved_event ReadFailed (λ file. file) [] events given loads from front back is

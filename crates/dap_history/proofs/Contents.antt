@@ -25,7 +25,8 @@ use Rattle.dap_history.specs.Laws.{stream_of, launch_request, read_as, waiting, 
 
 -- ---- what is read
 
-read-append : (cs ds : List (List ℕ)) (rs ss : List (Option Request)) → AreRead cs rs → AreRead ds ss → AreRead (cs ++ ds) (rs ++ ss)
+read-append : (cs ds : List (List ℕ)) (rs ss : List (Option Request)) → AreRead cs rs → AreRead ds ss
+    → AreRead (cs ++ ds) (rs ++ ss)
 read-append [] ds [] ss a b = b
 read-append [] ds (r ∷ rs) ss a b = absurd a
 read-append (c ∷ cs) ds [] ss a b = absurd a
@@ -34,7 +35,8 @@ read-append (c ∷ cs) ds (r ∷ rs) ss a b = (a.0, read-append cs ds rs ss a.1 
 abbrev reads : History → List (Option Request)
 reads past = filter_map read_as (map (λ (step : Step). step.item) past)
 
-reads_after : (past : History) (item : Item) (new : History) → IsAfter past item new → reads new ≡ reads past ++ filter_map read_as (item ∷ [])
+reads_after : (past : History) (item : Item) (new : History) → IsAfter past item new → reads new ≡ reads past
+    ++ filter_map read_as (item ∷ [])
 reads_after past item new after =
     ap reads after.new_is
     ∙ ap (filter_map read_as) (map-append (λ (s : Step). s.item) past (after.step ∷ []))
@@ -52,14 +54,19 @@ record Gives (bytes left : List ℕ) (requests : List (Option Request)) : Type 0
 gives_nothing : (bytes : List ℕ) → Gives bytes bytes []
 gives_nothing bytes = record { contents = []; framed = refl; read = tt }
 
-gives_one : (bytes : List ℕ) (request : Option Request) (more : List ℕ) → IsInFront bytes request more → Gives bytes more (request ∷ [])
-gives_one bytes request more front = record { contents = front.content ∷ []; framed = (more, front.framed, refl); read = (front.read, tt) }
+gives_one : (bytes : List ℕ) (request : Option Request) (more : List ℕ) → IsInFront bytes request more
+    → Gives bytes more (request ∷ [])
+gives_one bytes request more front =
+    record { contents = front.content ∷ []; framed = (more, front.framed, refl); read = (front.read, tt) }
 
-gives_more : (bytes left : List ℕ) (requests : List (Option Request)) (more : List ℕ) → Gives bytes left requests → Gives (bytes ++ more) (left ++ more) requests
-gives_more bytes left requests more is = record { contents = is.contents; framed = frames_longer bytes left more is.contents is.framed; read = is.read }
+gives_more : (bytes left : List ℕ) (requests : List (Option Request)) (more : List ℕ) → Gives bytes left requests
+    → Gives (bytes ++ more) (left ++ more) requests
+gives_more bytes left requests more is =
+    record { contents = is.contents; framed = frames_longer bytes left more is.contents is.framed; read = is.read }
 
 module _ (join : FramesJoin) where
-  gives_both : (bytes mid left : List ℕ) (rs ss : List (Option Request)) → Gives bytes mid rs → Gives mid left ss → Gives bytes left (rs ++ ss)
+  gives_both : (bytes mid left : List ℕ) (rs ss : List (Option Request)) → Gives bytes mid rs → Gives mid left ss
+      → Gives bytes left (rs ++ ss)
   gives_both bytes mid left rs ss a b = record {
     contents = a.contents ++ b.contents;
     framed = join bytes mid left a.contents b.contents a.framed b.framed;
@@ -68,34 +75,46 @@ module _ (join : FramesJoin) where
 
   -- what is taken from bytes, up to what is left
   abbrev Gains : History → List ℕ → History → List ℕ → Option Launch → Type 0
-  Gains past bytes new left launch = (rs : List (Option Request)) × Gives bytes left rs × (contents_read new launch ≡ reads past ++ rs)
+  Gains past bytes new left launch =
+      (rs : List (Option Request)) × Gives bytes left rs × (contents_read new launch ≡ reads past ++ rs)
 
   takes_gain : {past new : History} {bytes left : List ℕ} → Takes past bytes new left → Gains past bytes new left None
   takes_gain {past = past} {bytes = bytes} none = ([], gives_nothing bytes, refl)
-  takes_gain {past = past} {new = new} {bytes = bytes} {left = left} (one_more {mid = mid} {more = more} request taking front unwanted after taken) =
+  takes_gain {past = past} {new = new} {bytes = bytes} {left = left}
+      (one_more {mid = mid} {more = more} request taking front unwanted after taken) =
       let rest = takes_gain taken in (
         request ∷ rest.0,
         gives_both bytes more left (request ∷ []) rest.0 (gives_one bytes request more front) rest.1,
-        rest.2 ∙ ap (λ rs. rs ++ rest.0) (reads_after past (Content request) mid after) ∙ append_assoc (reads past) (request ∷ []) rest.0,
+        rest.2 ∙ ap (λ rs. rs ++ rest.0) (reads_after past (Content request) mid after)
+            ∙ append_assoc (reads past) (request ∷ []) rest.0,
       )
 
-  wanted_is : (seq : ℕ) (body : Command) (launch : Launch) → wanted_by seq body ≡ Some launch → ◌≡◌ {A = Request} (record { seq = seq; body = body }) (launch_request launch)
-  wanted_is seq (command.Launch arguments) launch is = let same : ◌≡◌ {A = Launch} (record { seq = seq; arguments = arguments }) launch = cc in ap launch_request same
+  wanted_is : (seq : ℕ) (body : Command) (launch : Launch) → wanted_by seq body ≡ Some launch
+      → ◌≡◌ {A = Request} (record { seq = seq; body = body }) (launch_request launch)
+  wanted_is seq (command.Launch arguments) launch is =
+      let same : ◌≡◌ {A = Launch} (record { seq = seq; arguments = arguments }) launch = cc in ap launch_request same
   wanted_is seq _ launch is = absurd cc
 
-  request_is : (s : Situation) (request : Option Request) (launch : Launch) → wanted_in s request ≡ Some launch → request ≡ Some (launch_request launch)
+  request_is : (s : Situation) (request : Option Request) (launch : Launch) → wanted_in s request ≡ Some launch
+      → request ≡ Some (launch_request launch)
   request_is Ready (Some request) launch is = ap Some (wanted_is request.seq request.body launch is)
   request_is _ request launch is = absurd cc
 
-  rests_gain : {past new : History} {bytes : List ℕ} {rest : Rest} → Rests past bytes new rest → Gains past bytes new rest.bytes rest.launch
+  rests_gain : {past new : History} {bytes : List ℕ} {rest : Rest} → Rests past bytes new rest
+      → Gains past bytes new rest.bytes rest.launch
   rests_gain {bytes = bytes} (closed not) = ([], gives_nothing bytes, refl)
   rests_gain {bytes = bytes} (open_ended taking is) = ([], gives_nothing bytes, refl)
   rests_gain {past = past} {bytes = bytes} (faulty k new taking fault after) =
       ([], gives_nothing bytes, ap (λ rs. rs ++ []) (reads_after past (Fault k) new after ∙ append-nil (reads past)))
-  rests_gain {past = past} {bytes = bytes} (waits request launch more taking front wanted) =
-      (request ∷ [], gives_one bytes request more front, ap (λ r. reads past ++ r ∷ []) (sym (request_is (situation past) request launch wanted)))
+  rests_gain {past = past} {bytes = bytes} (waits request launch more taking front wanted) = (
+    request ∷ [],
+    gives_one bytes request more front,
+    ap (λ r. reads past ++ r ∷ [])
+        (sym (request_is (situation past) request launch wanted)),
+  )
 
-  all_gain : (past : History) (bytes : List ℕ) (new : History) (rest : Rest) → TakesAll past bytes new rest → Gains past bytes new rest.bytes rest.launch
+  all_gain : (past : History) (bytes : List ℕ) (new : History) (rest : Rest) → TakesAll past bytes new rest
+      → Gains past bytes new rest.bytes rest.launch
   all_gain past bytes new rest all =
       let a = takes_gain all.taken in
       let b = rests_gain all.rests in (
@@ -111,37 +130,47 @@ module _ (join : FramesJoin) where
   Holds stream past rest = Gives stream rest.bytes (contents_read past rest.launch)
 
   -- with nothing waiting, what more is taken of the bytes is what the stream gives further
-  goes_on : (stream : List ℕ) (past : History) (bytes : List ℕ) (new : History) (rest : Rest) → Gives stream bytes (reads past) → Gains past bytes new rest.bytes rest.launch → Holds stream new rest
+  goes_on : (stream : List ℕ) (past : History) (bytes : List ℕ) (new : History) (rest : Rest)
+      → Gives stream bytes (reads past) → Gains past bytes new rest.bytes rest.launch → Holds stream new rest
   goes_on stream past bytes new rest here gains =
-      subst (Gives stream rest.bytes) (sym gains.2) (gives_both stream bytes rest.bytes (reads past) gains.0 here gains.1)
+      subst (Gives stream rest.bytes) (sym gains.2)
+      (gives_both stream bytes rest.bytes (reads past) gains.0 here gains.1)
 
-  piece_holds : (stream piece : List ℕ) (past : History) (before : Rest) (launch : Option Launch) (new : History) (rest : Rest) → before.launch ≡ launch → LeadsByPiece past launch (before.bytes ++ piece) new rest
+  piece_holds : (stream piece : List ℕ) (past : History) (before : Rest) (launch : Option Launch) (new : History)
+      (rest : Rest) → before.launch ≡ launch → LeadsByPiece past launch (before.bytes ++ piece) new rest
       → Holds stream past before → Holds (stream ++ piece) new rest
   piece_holds stream piece past before None new rest is leads here =
       goes_on (stream ++ piece) past (before.bytes ++ piece) new rest
-      (subst (Gives (stream ++ piece) (before.bytes ++ piece)) (ap (contents_read past) is ∙ append-nil (reads past)) (gives_more stream before.bytes (contents_read past before.launch) piece here))
+      (subst (Gives (stream ++ piece) (before.bytes ++ piece)) (ap (contents_read past) is ∙ append-nil (reads past))
+      (gives_more stream before.bytes (contents_read past before.launch) piece here))
       (all_gain past (before.bytes ++ piece) new rest leads)
   piece_holds stream piece past before (Some launch) new rest is leads here =
       subst (λ h. Holds (stream ++ piece) h rest) (sym leads.0)
       (subst (λ r. Holds (stream ++ piece) past r) (sym leads.1)
-      (subst (Gives (stream ++ piece) (before.bytes ++ piece)) (ap (contents_read past) is) (gives_more stream before.bytes (contents_read past before.launch) piece here)))
+      (subst (Gives (stream ++ piece) (before.bytes ++ piece)) (ap (contents_read past) is)
+      (gives_more stream before.bytes (contents_read past before.launch) piece here)))
 
-  loads_hold : (stream : List ℕ) (past : History) (before : Rest) (launch : Launch) (file : Option (List ℕ)) (new : History) (rest : Rest) → before.launch ≡ Some launch → Loads past launch file before.bytes new rest
+  loads_hold : (stream : List ℕ) (past : History) (before : Rest) (launch : Launch) (file : Option (List ℕ))
+      (new : History) (rest : Rest) → before.launch ≡ Some launch → Loads past launch file before.bytes new rest
       → Holds stream past before → Holds stream new rest
   loads_hold stream past before launch file new rest is loads here =
       goes_on stream loads.mid before.bytes new rest
-      (subst (Gives stream before.bytes) (ap (contents_read past) is ∙ sym (reads_after past (Loaded launch file) loads.mid loads.loaded)) here)
+      (subst (Gives stream before.bytes) (ap (contents_read past) is
+      ∙ sym (reads_after past (Loaded launch file) loads.mid loads.loaded)) here)
       (all_gain loads.mid before.bytes new rest loads.after)
 
   -- an item that is no content changes nothing here
-  same_holds : (stream : List ℕ) (past : History) (before : Rest) (new : History) (rest : Rest) → reads new ≡ reads past → rest ≡ before → Holds stream past before → Holds stream new rest
+  same_holds : (stream : List ℕ) (past : History) (before : Rest) (new : History) (rest : Rest) → reads new ≡ reads past
+      → rest ≡ before → Holds stream past before → Holds stream new rest
   same_holds stream past before new rest same rest_is here =
-      subst (λ r. Holds stream new r) (sym rest_is) (subst (λ rs. Gives stream before.bytes (rs ++ waiting before.launch)) (sym same) here)
+      subst (λ r. Holds stream new r) (sym rest_is)
+      (subst (λ rs. Gives stream before.bytes (rs ++ waiting before.launch)) (sym same) here)
 
   abbrev NoContent : Item → Type 0
   NoContent item = read_as item ≡ None
 
-  after_same : (past : History) (item : Item) (new : History) → NoContent item → IsAfter past item new → reads new ≡ reads past
+  after_same : (past : History) (item : Item) (new : History) → NoContent item → IsAfter past item new
+      → reads new ≡ reads past
   after_same past item new is after =
       reads_after past item new after ∙ ap (λ rs. reads past ++ rs) (none_read is) ∙ append-nil (reads past)
     where
@@ -161,34 +190,57 @@ module _ (join : FramesJoin) where
           by_item ReadFailure is = refl
           by_item MemoryFailure is = refl
 
-  may_same : (past : History) (item : Item) (new : History) → NoContent item → MayTake past item new → reads new ≡ reads past
+  may_same : (past : History) (item : Item) (new : History) → NoContent item → MayTake past item new
+      → reads new ≡ reads past
   may_same past item new is (inl not) = ap reads not.1
   may_same past item new is (inr taken) = after_same past item new is taken.1
 
-  file_holds : (stream : List ℕ) (past : History) (before : Rest) (launch : Option Launch) (file : Result (List ℕ) LoadFault) (new : History) (rest : Rest) → before.launch ≡ launch → LeadsByFile past before launch file new rest
+  file_holds : (stream : List ℕ) (past : History) (before : Rest) (launch : Option Launch)
+      (file : Result (List ℕ) LoadFault) (new : History) (rest : Rest) → before.launch ≡ launch
+      → LeadsByFile past before launch file new rest
       → Holds stream past before → Holds stream new rest
-  file_holds stream past before None file new rest is leads here = same_holds stream past before new rest (ap reads leads.0) leads.1 here
-  file_holds stream past before (Some launch) (Ok file) new rest is (inl leads) here = same_holds stream past before new rest (ap reads leads.1) leads.2 here
-  file_holds stream past before (Some launch) (Ok file) new rest is (inr leads) here = loads_hold stream past before launch (Some file) new rest is leads here
-  file_holds stream past before (Some launch) (Err load_fault.CannotRead) new rest is (inl leads) here = same_holds stream past before new rest (ap reads leads.1) leads.2 here
-  file_holds stream past before (Some launch) (Err load_fault.CannotRead) new rest is (inr leads) here = loads_hold stream past before launch None new rest is leads here
-  file_holds stream past before (Some launch) (Err load_fault.NoMemory) new rest is leads here = same_holds stream past before new rest (may_same past MemoryFailure new refl leads.0) leads.1 here
+  file_holds stream past before None file new rest is leads here =
+      same_holds stream past before new rest (ap reads leads.0) leads.1 here
+  file_holds stream past before (Some launch) (Ok file) new rest is (inl leads) here =
+      same_holds stream past before new rest (ap reads leads.1) leads.2 here
+  file_holds stream past before (Some launch) (Ok file) new rest is (inr leads) here =
+      loads_hold stream past before launch (Some file) new rest is leads here
+  file_holds stream past before (Some launch) (Err load_fault.CannotRead) new rest is (inl leads) here =
+      same_holds stream past before new rest (ap reads leads.1) leads.2 here
+  file_holds stream past before (Some launch) (Err load_fault.CannotRead) new rest is (inr leads) here =
+      loads_hold stream past before launch None new rest is leads here
+  file_holds stream past before (Some launch) (Err load_fault.NoMemory) new rest is leads here =
+      same_holds stream past before new rest (may_same past MemoryFailure new refl leads.0) leads.1 here
 
   report_same : (past : History) (r : PlainReport) (new : History) → LeadsByReport past r new → reads new ≡ reads past
   report_same past r new (inl not) = ap reads not.1
   report_same past r new (inr is) = after_same past (Accepted r) new refl is.2
 
-  events_hold : (stream : List ℕ) (past : History) (before : Rest) (events : List Incoming) (new : History) (rest : Rest) → LeadsAll past before events new rest → Holds stream past before → Holds (stream ++ stream_of events) new rest
+  events_hold : (stream : List ℕ) (past : History) (before : Rest) (events : List Incoming) (new : History)
+      (rest : Rest) → LeadsAll past before events new rest → Holds stream past before
+      → Holds (stream ++ stream_of events) new rest
   events_hold stream past before [] new rest all here =
-      subst (λ s. Holds s new rest) (sym (append-nil stream)) (same_holds stream past before new rest (ap reads all.0) all.1 here)
+      subst (λ s. Holds s new rest) (sym (append-nil stream))
+      (same_holds stream past before new rest (ap reads all.0) all.1 here)
   events_hold stream past before (Piece piece ∷ events) new rest all here =
       subst (λ s. Holds s new rest) (append_assoc stream piece (stream_of events))
-      (events_hold (stream ++ piece) all.0 all.1 events new rest all.3 (piece_holds stream piece past before before.launch all.0 all.1 refl all.2 here))
-  events_hold stream past before (End ∷ events) new rest all here = events_hold stream all.0 all.1 events new rest all.3 (same_holds stream past before all.0 all.1 (may_same past InputEnd all.0 refl all.2.0) all.2.1 here)
-  events_hold stream past before (ReadFailed ∷ events) new rest all here = events_hold stream all.0 all.1 events new rest all.3 (same_holds stream past before all.0 all.1 (may_same past ReadFailure all.0 refl all.2.0) all.2.1 here)
-  events_hold stream past before (NoMemory ∷ events) new rest all here = events_hold stream all.0 all.1 events new rest all.3 (same_holds stream past before all.0 all.1 (may_same past MemoryFailure all.0 refl all.2.0) all.2.1 here)
-  events_hold stream past before (File file ∷ events) new rest all here = events_hold stream all.0 all.1 events new rest all.3 (file_holds stream past before before.launch file all.0 all.1 refl all.2 here)
-  events_hold stream past before (Report r ∷ events) new rest all here = events_hold stream all.0 all.1 events new rest all.3 (same_holds stream past before all.0 all.1 (report_same past r all.0 all.2.0) all.2.1 here)
+      (events_hold (stream ++ piece) all.0 all.1 events new rest all.3
+      (piece_holds stream piece past before before.launch all.0 all.1 refl all.2 here))
+  events_hold stream past before (End ∷ events) new rest all here =
+      events_hold stream all.0 all.1 events new rest all.3
+      (same_holds stream past before all.0 all.1 (may_same past InputEnd all.0 refl all.2.0) all.2.1 here)
+  events_hold stream past before (ReadFailed ∷ events) new rest all here =
+      events_hold stream all.0 all.1 events new rest all.3
+      (same_holds stream past before all.0 all.1 (may_same past ReadFailure all.0 refl all.2.0) all.2.1 here)
+  events_hold stream past before (NoMemory ∷ events) new rest all here =
+      events_hold stream all.0 all.1 events new rest all.3
+      (same_holds stream past before all.0 all.1 (may_same past MemoryFailure all.0 refl all.2.0) all.2.1 here)
+  events_hold stream past before (File file ∷ events) new rest all here =
+      events_hold stream all.0 all.1 events new rest all.3
+      (file_holds stream past before before.launch file all.0 all.1 refl all.2 here)
+  events_hold stream past before (Report r ∷ events) new rest all here =
+      events_hold stream all.0 all.1 events new rest all.3
+      (same_holds stream past before all.0 all.1 (report_same past r all.0 all.2.0) all.2.1 here)
 
   pub contents_of_stream : ContentsAreOfTheStream
   contents_of_stream events past rest history =

@@ -18,7 +18,8 @@ none_first [] step more e = absurd cc
 none_first (x ∷ xs) step more e = absurd cc
 
 -- a list with one more element splits before that element, or at it
-pub splits : (past : History) (s : Step) (front : History) (step : Step) (more : History) → past ++ s ∷ [] ≡ front ++ step ∷ more
+pub splits : (past : History) (s : Step) (front : History) (step : Step) (more : History) → past ++ s ∷ [] ≡ front
+    ++ step ∷ more
     → ((past ≡ front) × (s ≡ step) × (more ≡ [])) ⊎ ((rest : History) × (past ≡ front ++ step ∷ rest))
 splits [] s [] step more is = inl (refl, ap (λ xs. head_of xs s) is, sym (ap tail_of is))
 splits [] s (x ∷ front) step more is = absurd (none_first front step more (ap tail_of is))
@@ -29,7 +30,8 @@ splits (p ∷ past) s (x ∷ front) step more is = onward (splits past s front s
     same = ap (λ xs. head_of xs s) is
 
     onward : (((past ≡ front) × (s ≡ step) × (more ≡ [])) ⊎ ((rest : History) × (past ≡ front ++ step ∷ rest)))
-        → ((p ∷ past ≡ x ∷ front) × (s ≡ step) × (more ≡ [])) ⊎ ((rest : History) × (p ∷ past ≡ (x ∷ front) ++ step ∷ rest))
+        → ((p ∷ past ≡ x ∷ front) × (s ≡ step) × (more ≡ []))
+        ⊎ ((rest : History) × (p ∷ past ≡ (x ∷ front) ++ step ∷ rest))
     onward (inl e) = inl (ap (λ y. y ∷ past) same ∙ ap (λ ys. x ∷ ys) e.0, e.1, e.2)
     onward (inr e) = inr (e.0, ap (λ y. y ∷ past) same ∙ ap (λ ys. x ∷ ys) e.1)
 
@@ -49,12 +51,15 @@ pub each_kept : (Q : Incoming → Type 0) (P : History → Type 0) → IsKept Q 
 each_kept Q P kept = record {
   step = λ past item new taking taken after here. record {
     now = kept.step past item new taking taken after here.now;
-    each = λ front step more is. one_of past item new taking taken after here front step more (splits past after.step front step more (sym after.new_is ∙ is));
+    each = λ front step more is. one_of past item new taking taken after here front step more
+        (splits past after.step front step more (sym after.new_is ∙ is));
   };
 }
   where
-    one_of : (past : History) (item : Item) (new : History) → IsTaking past → IsTaken Q past item → (after : IsAfter past item new) → EachTaken Q P past → (front : History) (step : Step) (more : History)
-        → (((past ≡ front) × (after.step ≡ step) × (more ≡ [])) ⊎ ((rest : History) × (past ≡ front ++ step ∷ rest))) → WasTaken Q P front step
+    one_of : (past : History) (item : Item) (new : History) → IsTaking past → IsTaken Q past item
+        → (after : IsAfter past item new) → EachTaken Q P past → (front : History) (step : Step) (more : History)
+        → (((past ≡ front) × (after.step ≡ step) × (more ≡ [])) ⊎ ((rest : History) × (past ≡ front ++ step ∷ rest)))
+        → WasTaken Q P front step
     one_of past item new taking taken after here front step more (inr e) = here.each front step e.0 e.1
     one_of past item new taking taken after here front step more (inl e) =
         subst (λ f. WasTaken Q P f step) e.0 (subst (λ s. WasTaken Q P past s) e.1 (record {

@@ -65,28 +65,36 @@ event_late event.Terminated is = is
 
 events_late : (es : List EventBody) → ¬ IsEarlyMark (last_such message_mark (map Event es))
 events_late [] is = is
-events_late (e ∷ es) is = neither (last_such message_mark (map Event es)) (event_mark e) (events_late es) (event_late e) is
+events_late (e ∷ es) is =
+    neither (last_such message_mark (map Event es)) (event_mark e) (events_late es) (event_late e) is
 
 -- a step without an answer leads to neither
 pub unanswered_late : (step : Step) → step.answer ≡ None → ¬ IsEarlyMark (step_mark step)
 unanswered_late step none is =
     neither (last_such order_mark step.effect.orders) (last_such message_mark (map Event step.effect.events))
     (orders_late step.effect.orders) (events_late step.effect.events)
-    (subst (λ a. IsEarlyMark (or_else (last_such order_mark step.effect.orders) (last_such message_mark (with_answer a (map Event step.effect.events))))) none is)
+    (subst (λ a. IsEarlyMark (or_else (last_such order_mark step.effect.orders)
+    (last_such message_mark (with_answer a (map Event step.effect.events))))) none is)
 
 -- nor one whose answer doesn't
-pub answered_late : (seq : ℕ) (command : CommandName) (reply : Reply) (step : Step) → Answers seq command reply step → ¬ IsEarlyMark (answer_mark command reply.result) → ¬ IsEarlyMark (step_mark step)
+pub answered_late : (seq : ℕ) (command : CommandName) (reply : Reply) (step : Step) → Answers seq command reply step
+    → ¬ IsEarlyMark (answer_mark command reply.result) → ¬ IsEarlyMark (step_mark step)
 answered_late seq command reply step answers not is =
-    neither (last_such order_mark step.effect.orders) (or_else (last_such message_mark (map Event step.effect.events)) (answer_mark command reply.result))
+    neither (last_such order_mark step.effect.orders)
+    (or_else (last_such message_mark (map Event step.effect.events)) (answer_mark command reply.result))
     (orders_late step.effect.orders)
-    (neither (last_such message_mark (map Event step.effect.events)) (answer_mark command reply.result) (events_late step.effect.events) not)
-    (subst (λ a. IsEarlyMark (or_else (last_such order_mark step.effect.orders) (last_such message_mark (with_answer a (map Event step.effect.events))))) answers.answer_is is)
+    (neither (last_such message_mark (map Event step.effect.events)) (answer_mark command reply.result)
+    (events_late step.effect.events) not)
+    (subst (λ a. IsEarlyMark (or_else (last_such order_mark step.effect.orders)
+    (last_such message_mark (with_answer a (map Event step.effect.events))))) answers.answer_is is)
 
-pub result_late : (command : CommandName) → ¬ IsEarlyMark (command_mark command) → (result : Result Body Refusal) → ¬ IsEarlyMark (answer_mark command result)
+pub result_late : (command : CommandName) → ¬ IsEarlyMark (command_mark command) → (result : Result Body Refusal)
+    → ¬ IsEarlyMark (answer_mark command result)
 result_late command not (Ok b) is = not is
 result_late command not (Err r) is = is
 
-initialize_late : (s : Situation) → IsEarlyMark (answer_mark (name.Supported supported.Initialize) (initialize_in s).result) → s ≡ Fresh
+initialize_late : (s : Situation) → IsEarlyMark
+    (answer_mark (name.Supported supported.Initialize) (initialize_in s).result) → s ≡ Fresh
 initialize_late Fresh is = refl
 initialize_late Ready is = absurd is
 initialize_late Configuring is = absurd is
@@ -96,22 +104,35 @@ initialize_late Faulted is = absurd is
 initialize_late Ended is = absurd is
 
 -- an answer that leads to Ready is given in Fresh
-pub early_reply : (s : Situation) (past : History) (asked : Command) (reply : Reply) → RepliesIn s past asked reply → IsEarlyMark (answer_mark (name_of asked) reply.result) → s ≡ Fresh
+pub early_reply : (s : Situation) (past : History) (asked : Command) (reply : Reply) → RepliesIn s past asked reply
+    → IsEarlyMark (answer_mark (name_of asked) reply.result) → s ≡ Fresh
 early_reply s past (command.Initialize a) reply is early =
-    initialize_late s (subst (λ (r : Reply). IsEarlyMark (answer_mark (name.Supported supported.Initialize) r.result)) is early)
-early_reply s past (command.Launch a) reply is early = absurd (result_late (name.Supported supported.Launch) (λ x. x) reply.result early)
-early_reply s past (command.SetBreakpoints a) reply is early = absurd (result_late (name.Supported supported.SetBreakpoints) (λ x. x) reply.result early)
-early_reply s past command.ConfigurationDone reply is early = absurd (result_late (name.Supported supported.ConfigurationDone) (λ x. x) reply.result early)
-early_reply s past command.Threads reply is early = absurd (result_late (name.Supported supported.Threads) (λ x. x) reply.result early)
-early_reply s past (command.Resume k a) reply is early = absurd (result_late (name.Supported (supported.Resume k)) (λ x. x) reply.result early)
-early_reply s past (command.Retreat k a) reply is early = absurd (result_late (name.Supported (supported.Retreat k)) (λ x. x) reply.result early)
-early_reply s past (command.Pause a) reply is early = absurd (result_late (name.Supported supported.Pause) (λ x. x) reply.result early)
-early_reply s past (command.Inspect q) reply is early = absurd (result_late (name.Supported (supported.Inspect (kind_of q))) (λ x. x) reply.result early)
-early_reply s past command.Disconnect reply is early = absurd (result_late (name.Supported supported.Disconnect) (λ x. x) reply.result early)
-early_reply s past (command.Unsupported text) reply is early = absurd (result_late (name.Unsupported text) (λ x. x) reply.result early)
+    initialize_late s (subst (λ (r : Reply). IsEarlyMark (answer_mark (name.Supported supported.Initialize) r.result))
+    is early)
+early_reply s past (command.Launch a) reply is early =
+    absurd (result_late (name.Supported supported.Launch) (λ x. x) reply.result early)
+early_reply s past (command.SetBreakpoints a) reply is early =
+    absurd (result_late (name.Supported supported.SetBreakpoints) (λ x. x) reply.result early)
+early_reply s past command.ConfigurationDone reply is early =
+    absurd (result_late (name.Supported supported.ConfigurationDone) (λ x. x) reply.result early)
+early_reply s past command.Threads reply is early =
+    absurd (result_late (name.Supported supported.Threads) (λ x. x) reply.result early)
+early_reply s past (command.Resume k a) reply is early =
+    absurd (result_late (name.Supported (supported.Resume k)) (λ x. x) reply.result early)
+early_reply s past (command.Retreat k a) reply is early =
+    absurd (result_late (name.Supported (supported.Retreat k)) (λ x. x) reply.result early)
+early_reply s past (command.Pause a) reply is early =
+    absurd (result_late (name.Supported supported.Pause) (λ x. x) reply.result early)
+early_reply s past (command.Inspect q) reply is early =
+    absurd (result_late (name.Supported (supported.Inspect (kind_of q))) (λ x. x) reply.result early)
+early_reply s past command.Disconnect reply is early =
+    absurd (result_late (name.Supported supported.Disconnect) (λ x. x) reply.result early)
+early_reply s past (command.Unsupported text) reply is early =
+    absurd (result_late (name.Unsupported text) (λ x. x) reply.result early)
 early_reply s past (command.BadArguments k) reply is early =
     absurd (subst (λ (r : Reply). IsEarlyMark (answer_mark (name.Supported k) r.result)) is early)
 
-pub early_unwrap : (o : Option Situation) (s : Situation) → IsEarly (unwrap_or o s) → IsEarlyMark o ⊎ ((o ≡ None) × IsEarly s)
+pub early_unwrap : (o : Option Situation) (s : Situation) → IsEarly (unwrap_or o s) → IsEarlyMark o
+    ⊎ ((o ≡ None) × IsEarly s)
 early_unwrap None s is = inr (refl, is)
 early_unwrap (Some t) s is = inl is

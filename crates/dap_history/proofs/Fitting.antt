@@ -112,15 +112,18 @@ line_small : (less : ℕ) (o : Option StepAt) → MayBeNear o → option_map_or 
 line_small less None near = omega arith
 line_small less (Some s) near = omega (arith, near.0)
 
-place_line_small : (counting : Counting) (o : Option StepAt) → MayBeNear o → line_of counting (option_map (λ s. s.place) o) < 2 ^ 64
+place_line_small : (counting : Counting) (o : Option StepAt) → MayBeNear o
+    → line_of counting (option_map (λ s. s.place) o) < 2 ^ 64
 place_line_small counting None near = omega arith
 place_line_small counting (Some s) near = omega (arith, near.0)
 
-place_column_small : (counting : Counting) (o : Option StepAt) → MayBeNear o → column_of counting (option_map (λ s. s.place) o) < 2 ^ 64
+place_column_small : (counting : Counting) (o : Option StepAt) → MayBeNear o
+    → column_of counting (option_map (λ s. s.place) o) < 2 ^ 64
 place_column_small counting None near = omega arith
 place_column_small counting (Some s) near = omega (arith, near.1)
 
-scopes_if : (b : Bool) (n i : ℕ) (word : List ℕ) (rest other : List Scope) → nat_eq n i ≡ b → n < frame_limit → All ReferenceFits rest → All ReferenceFits other
+scopes_if : (b : Bool) (n i : ℕ) (word : List ℕ) (rest other : List Scope) → nat_eq n i ≡ b → n < frame_limit
+    → All ReferenceFits rest → All ReferenceFits other
     → All ReferenceFits (cond b (record { name = word; reference = i + 1 } ∷ rest) other)
 scopes_if true n i word rest other is few near far =
     let same : n ≡ i = eqb-true n i is in
@@ -128,11 +131,13 @@ scopes_if true n i word rest other is few near far =
     All-cons ReferenceFits _ rest small near
 scopes_if false n i word rest other is few near far = far
 
-scopes_fit : (main : Block) (c : Configuration) (i : ℕ) → length c ≤ frame_limit → All ReferenceFits (scopes_from main c i)
+scopes_fit : (main : Block) (c : Configuration) (i : ℕ) → length c ≤ frame_limit
+    → All ReferenceFits (scopes_from main c i)
 scopes_fit main [] i few = All-nil ReferenceFits
 scopes_fit main (f ∷ below) i few =
     let less : length below ≤ frame_limit = omega (arith, few) in
-    scopes_if (nat_eq (length below) i) (length below) i (frame_name main f.block) (scopes_from main below f.link) (scopes_from main below i) refl (omega (arith, few))
+    scopes_if (nat_eq (length below) i) (length below) i (frame_name main f.block) (scopes_from main below f.link)
+    (scopes_from main below i) refl (omega (arith, few))
     (scopes_fit main below f.link less) (scopes_fit main below i less)
 
 module _ (main : Block) (near : BlockNear main) where
@@ -146,13 +151,18 @@ module _ (main : Block) (near : BlockNear main) where
       one_fits BadHitCondition = tt
       one_fits BadLogMessage = tt
 
-  shown_fit : (counting : Counting) (c : Configuration) → FramesNear c → length c ≤ frame_limit → All FrameFits (shown_frames main counting c)
+  shown_fit : (counting : Counting) (c : Configuration) → FramesNear c → length c ≤ frame_limit
+      → All FrameFits (shown_frames main counting c)
   shown_fit counting [] frames few = All-nil FrameFits
   shown_fit counting (f ∷ below) frames few =
       let less : length below ≤ frame_limit = omega (arith, few) in
       let there = next_step_near main near f frames.0 in
-      All-cons FrameFits (shown_frame main counting f (length below + 1)) (shown_frames main counting below)
-      (omega (arith, few), place_line_small counting (next_step main f) there, place_column_small counting (next_step main f) there)
+      All-cons FrameFits (shown_frame main counting f (length below + 1)) (shown_frames main counting below) (
+        omega (arith, few),
+        place_line_small counting (next_step main f) there,
+        place_column_small counting
+            (next_step main f) there,
+      )
       (shown_fit counting below frames.1 less)
 
 at_most_fit : (n : ℕ) (frames : List StackFrame) → All FrameFits frames → All FrameFits (at_most n frames)
@@ -174,7 +184,8 @@ ItemsFit (step ∷ past) = ItemFits step.item × ItemsFit past
 -- ---- replies
 
 module _ (few : FramesAreFew) where
-  stack_fits : (of : Asked) (asked : StackTraceArguments) (n : ℕ) (c : Configuration) → BlockNear of.program → at of.program n ≡ Some c → ReplyFits (stack_trace of asked c)
+  stack_fits : (of : Asked) (asked : StackTraceArguments) (n : ℕ) (c : Configuration) → BlockNear of.program
+      → at of.program n ≡ Some c → ReplyFits (stack_trace of asked c)
   stack_fits of asked n c near is =
       let less = few of.program n c is in
       let shown = shown_fit of.program near of.counting c (frames_near of.program near n c is) less in
@@ -183,9 +194,11 @@ module _ (few : FramesAreFew) where
         events = tt;
       })
 
-  scopes_reply_fits : (of : Asked) (id n : ℕ) (c : Configuration) (f : Option Frame) → at of.program n ≡ Some c → ReplyFits (scopes of id c f)
+  scopes_reply_fits : (of : Asked) (id n : ℕ) (c : Configuration) (f : Option Frame) → at of.program n ≡ Some c
+      → ReplyFits (scopes of id c f)
   scopes_reply_fits of id n c None is = refused_fits _
-  scopes_reply_fits of id n c (Some f) is = record { result = scopes_fit of.program c (id - 1) (few of.program n c is); events = tt }
+  scopes_reply_fits of id n c (Some f) is =
+      record { result = scopes_fit of.program c (id - 1) (few of.program n c is); events = tt }
 
   variables_fit : (of : Asked) (f : Option Frame) → ReplyFits (variables of f)
   variables_fit of None = refused_fits _
@@ -196,18 +209,24 @@ module _ (few : FramesAreFew) where
   result_fits (Err Overflow) = refused_fits _
   result_fits (Err DivideByZero) = refused_fits _
 
-  evaluates_fit : (main : Block) (c : Configuration) (id : ℕ) (f : Option Frame) (text : List ℕ) (reply : Reply) → EvaluatesIn main c id f text reply → ReplyFits reply
+  evaluates_fit : (main : Block) (c : Configuration) (id : ℕ) (f : Option Frame) (text : List ℕ) (reply : Reply)
+      → EvaluatesIn main c id f text reply → ReplyFits reply
   evaluates_fit main c id None text reply is = fits_if reply _ (refused_fits _) is
   evaluates_fit main c id (Some f) text reply (inl is) = fits_if reply _ (result_fits is.result) is.reply_is
   evaluates_fit main c id (Some f) text reply (inr is) = fits_if reply _ (refused_fits _) is.reply_is
 
-  replies_fit : (of : Asked) (n : ℕ) (c : Configuration) (question : Question) (reply : Reply) → BlockNear of.program → at of.program n ≡ Some c → RepliesFrom of c question reply → ReplyFits reply
+  replies_fit : (of : Asked) (n : ℕ) (c : Configuration) (question : Question) (reply : Reply) → BlockNear of.program
+      → at of.program n ≡ Some c → RepliesFrom of c question reply → ReplyFits reply
   replies_fit of n c (question.StackTrace a) reply near is says = fits_if reply _ (stack_fits of a n c near is) says
-  replies_fit of n c (question.Scopes a) reply near is says = fits_if reply _ (scopes_reply_fits of a.frame_id n c (frame_by_id c a.frame_id) is) says
-  replies_fit of n c (question.Variables a) reply near is says = fits_if reply _ (variables_fit of (frame_by_id c a.variables_reference)) says
-  replies_fit of n c (question.Evaluate a) reply near is says = evaluates_fit of.program c a.frame_id (frame_by_id c a.frame_id) a.expression reply says
+  replies_fit of n c (question.Scopes a) reply near is says =
+      fits_if reply _ (scopes_reply_fits of a.frame_id n c (frame_by_id c a.frame_id) is) says
+  replies_fit of n c (question.Variables a) reply near is says =
+      fits_if reply _ (variables_fit of (frame_by_id c a.variables_reference)) says
+  replies_fit of n c (question.Evaluate a) reply near is says =
+      evaluates_fit of.program c a.frame_id (frame_by_id c a.frame_id) a.expression reply says
 
-  replies_at_fit : (of : Asked) (n : ℕ) (o : Option Configuration) (question : Question) (reply : Reply) → BlockNear of.program → at of.program n ≡ o → RepliesAt of o question reply → ReplyFits reply
+  replies_at_fit : (of : Asked) (n : ℕ) (o : Option Configuration) (question : Question) (reply : Reply)
+      → BlockNear of.program → at of.program n ≡ o → RepliesAt of o question reply → ReplyFits reply
   replies_at_fit of n None question reply near is says = absurd says
   replies_at_fit of n (Some c) question reply near is says = replies_fit of n c question reply near is says
 
@@ -215,11 +234,14 @@ module _ (few : FramesAreFew) where
   LaunchedNear None = Unit {0}
   LaunchedNear (Some l) = BlockNear l.program
 
-  inspects_fit : (l : Option Launched) (past : History) (question : Question) (reply : Reply) → LaunchedNear l → OfProgram l (λ l. RepliesAt (asked_of past l) (at l.program (position past)) question reply) → ReplyFits reply
+  inspects_fit : (l : Option Launched) (past : History) (question : Question) (reply : Reply) → LaunchedNear l
+      → OfProgram l (λ l. RepliesAt (asked_of past l) (at l.program (position past)) question reply) → ReplyFits reply
   inspects_fit None past question reply near says = absurd says
-  inspects_fit (Some l) past question reply near says = replies_at_fit (asked_of past l) (position past) (at l.program (position past)) question reply near refl says
+  inspects_fit (Some l) past question reply near says =
+      replies_at_fit (asked_of past l) (position past) (at l.program (position past)) question reply near refl says
 
-  inspects_in_fit : (s : Situation) (past : History) (question : Question) (reply : Reply) → LaunchedNear (launched past) → InspectsIn s past question reply → ReplyFits reply
+  inspects_in_fit : (s : Situation) (past : History) (question : Question) (reply : Reply)
+      → LaunchedNear (launched past) → InspectsIn s past question reply → ReplyFits reply
   inspects_in_fit Stopped past question reply near says = inspects_fit (launched past) past question reply near says
   inspects_in_fit Faulted past question reply near says = inspects_fit (launched past) past question reply near says
   inspects_in_fit Running past question reply near says = fits_if reply _ (refused_fits _) says
@@ -255,17 +277,24 @@ module _ (few : FramesAreFew) where
   effect_fits Fresh past bs = tt
   effect_fits Ready past bs = tt
 
-  sets_of_fit : (same : Bool) (past : History) (l : Launched) (lines : List SourceBreakpoint) (reply : Reply) → BlockNear l.program → SetsOf same past l lines reply → ReplyFits reply
+  sets_of_fit : (same : Bool) (past : History) (l : Launched) (lines : List SourceBreakpoint) (reply : Reply)
+      → BlockNear l.program → SetsOf same past l lines reply → ReplyFits reply
   sets_of_fit true past l lines reply near says =
-      fits_if reply _ (record { result = answers_fit l.program near _ says.answers; events = effect_fits (situation past) past says.breakpoints }) says.reply_is
+      fits_if reply _ (record {
+        result = answers_fit l.program near _ says.answers;
+        events = effect_fits
+            (situation past) past says.breakpoints;
+      }) says.reply_is
   sets_of_fit false past l lines reply near says =
       fits_if reply _ (record { result = All-map LineFits _ lines (λ k d lt. tt); events = tt }) says
 
-  sets_fit : (l : Option Launched) (past : History) (a : SetBreakpointsArguments) (reply : Reply) → LaunchedNear l → OfProgram l (λ l. SetsOf (is_at a.path l.path) past l a.breakpoints reply) → ReplyFits reply
+  sets_fit : (l : Option Launched) (past : History) (a : SetBreakpointsArguments) (reply : Reply) → LaunchedNear l
+      → OfProgram l (λ l. SetsOf (is_at a.path l.path) past l a.breakpoints reply) → ReplyFits reply
   sets_fit None past a reply near says = absurd says
   sets_fit (Some l) past a reply near says = sets_of_fit (is_at a.path l.path) past l a.breakpoints reply near says
 
-  sets_in_fit : (s : Situation) (past : History) (a : SetBreakpointsArguments) (reply : Reply) → LaunchedNear (launched past) → SetsIn s past a reply → ReplyFits reply
+  sets_in_fit : (s : Situation) (past : History) (a : SetBreakpointsArguments) (reply : Reply)
+      → LaunchedNear (launched past) → SetsIn s past a reply → ReplyFits reply
   sets_in_fit Fresh past a reply near says = fits_if reply _ (refused_fits _) says
   sets_in_fit Ready past a reply near says = fits_if reply _ (refused_fits _) says
   sets_in_fit Configuring past a reply near says = sets_fit (launched past) past a reply near says
@@ -278,9 +307,11 @@ module _ (few : FramesAreFew) where
   enters_fit past l None = logs_fit _ _
   enters_fit past l (Some r) = events_fit-append (first_logs past l) (stops _) (logs_fit _ _) (tt, tt)
 
-  configures_fit : (o : Option Launched) (past : History) (reply : Reply) (why : Launched → Option Reason) → OfProgram o (λ l. reply ≡ record { result = Ok body.None; effect = enters past l (why l) }) → ReplyFits reply
+  configures_fit : (o : Option Launched) (past : History) (reply : Reply) (why : Launched → Option Reason)
+      → OfProgram o (λ l. reply ≡ record { result = Ok body.None; effect = enters past l (why l) }) → ReplyFits reply
   configures_fit None past reply why says = absurd says
-  configures_fit (Some l) past reply why says = fits_if reply _ (record { result = tt; events = enters_fit past l (why l) }) says
+  configures_fit (Some l) past reply why says =
+      fits_if reply _ (record { result = tt; events = enters_fit past l (why l) }) says
 
   configures_in_fit : (s : Situation) (past : History) (reply : Reply) → ConfiguresIn s past reply → ReplyFits reply
   configures_in_fit Configuring past reply says = configures_fit (launched past) past reply _ says
@@ -297,27 +328,36 @@ module _ (few : FramesAreFew) where
   resume_kind_fits resume.StepIn = tt
   resume_kind_fits resume.StepOut = tt
 
-  resumes_fit : (o : Option Launched) (reply : Reply) (resume_kind : ResumeKind) (thread : ℕ) (effect : Launched → Effect) → ((l : Launched) → EventsFit (effect l).events)
-      → OfProgram o (λ l. reply ≡ on_thread thread (record { result = Ok (body_of resume_kind); effect = effect l })) → ReplyFits reply
+  resumes_fit : (o : Option Launched) (reply : Reply) (resume_kind : ResumeKind) (thread : ℕ)
+      (effect : Launched → Effect) → ((l : Launched) → EventsFit (effect l).events)
+      → OfProgram o (λ l. reply ≡ on_thread thread (record { result = Ok (body_of resume_kind); effect = effect l }))
+      → ReplyFits reply
   resumes_fit None reply resume_kind thread effect fit says = absurd says
-  resumes_fit (Some l) reply resume_kind thread effect fit says = fits_if reply _ (thread_fits thread _ (record { result = resume_kind_fits resume_kind; events = fit l })) says
+  resumes_fit (Some l) reply resume_kind thread effect fit says =
+      fits_if reply _ (thread_fits thread _ (record { result = resume_kind_fits resume_kind; events = fit l })) says
 
-  resumes_in_fit : (s : Situation) (past : History) (resume_kind : ResumeKind) (thread : ℕ) (reply : Reply) → ResumesIn s past resume_kind thread reply → ReplyFits reply
+  resumes_in_fit : (s : Situation) (past : History) (resume_kind : ResumeKind) (thread : ℕ) (reply : Reply)
+      → ResumesIn s past resume_kind thread reply → ReplyFits reply
   resumes_in_fit Running past resume_kind thread reply says = fits_if reply _ (refused_fits _) says
-  resumes_in_fit Stopped past resume_kind thread reply says = resumes_fit (launched past) reply resume_kind thread _ (λ l. tt) says
+  resumes_in_fit Stopped past resume_kind thread reply says =
+      resumes_fit (launched past) reply resume_kind thread _ (λ l. tt) says
   resumes_in_fit Faulted past resume_kind thread reply says =
-      fits_if reply _ (thread_fits thread _ (record { result = resume_kind_fits resume_kind; events = (near_small 1 (lit≤ tt), (tt, tt)) })) says
+      fits_if reply _ (thread_fits thread _
+      (record { result = resume_kind_fits resume_kind; events = (near_small 1 (lit≤ tt), (tt, tt)) })) says
   resumes_in_fit Fresh past resume_kind thread reply says = fits_if reply _ (refused_fits _) says
   resumes_in_fit Ready past resume_kind thread reply says = fits_if reply _ (refused_fits _) says
   resumes_in_fit Configuring past resume_kind thread reply says = fits_if reply _ (refused_fits _) says
   resumes_in_fit Ended past resume_kind thread reply says = fits_if reply _ (refused_fits _) says
 
   retreats_fit : (o : Option Launched) (past : History) (m : Mode) (thread : ℕ) (reply : Reply)
-      → OfProgram o (λ l. reply ≡ on_thread thread (record { result = Ok body.None; effect = ordering (resumes past l m) })) → ReplyFits reply
+      → OfProgram o (λ l. reply ≡ on_thread thread
+      (record { result = Ok body.None; effect = ordering (resumes past l m) })) → ReplyFits reply
   retreats_fit None past m thread reply says = absurd says
-  retreats_fit (Some l) past m thread reply says = fits_if reply _ (thread_fits thread _ (record { result = tt; events = tt })) says
+  retreats_fit (Some l) past m thread reply says =
+      fits_if reply _ (thread_fits thread _ (record { result = tt; events = tt })) says
 
-  retreats_in_fit : (s : Situation) (past : History) (m : Mode) (thread : ℕ) (reply : Reply) → RetreatsIn s past m thread reply → ReplyFits reply
+  retreats_in_fit : (s : Situation) (past : History) (m : Mode) (thread : ℕ) (reply : Reply)
+      → RetreatsIn s past m thread reply → ReplyFits reply
   retreats_in_fit Stopped past m thread reply says = retreats_fit (launched past) past m thread reply says
   retreats_in_fit Faulted past m thread reply says = retreats_fit (launched past) past m thread reply says
   retreats_in_fit Running past m thread reply says = fits_if reply _ (refused_fits _) says
@@ -335,7 +375,8 @@ module _ (few : FramesAreFew) where
   pause_fits Configuring past thread = refused_fits _
   pause_fits Ended past thread = refused_fits _
 
-  command_fits : (s : Situation) (past : History) (asked : Command) (reply : Reply) → LaunchedNear (launched past) → RepliesIn s past asked reply → ReplyFits reply
+  command_fits : (s : Situation) (past : History) (asked : Command) (reply : Reply) → LaunchedNear (launched past)
+      → RepliesIn s past asked reply → ReplyFits reply
   command_fits s past (command.Initialize a) reply near says = fits_if reply _ (initialize_fits s) says
   command_fits s past (command.Launch a) reply near says = fits_if reply _ (refused_fits _) says
   command_fits s past (command.SetBreakpoints a) reply near says = sets_in_fit s past a reply near says
@@ -349,10 +390,12 @@ module _ (few : FramesAreFew) where
   command_fits s past (command.Unsupported a) reply near says = fits_if reply _ (refused_fits _) says
   command_fits s past (command.BadArguments a) reply near says = fits_if reply _ (refused_fits _) says
 
-  launch_fits : (arguments : LaunchArguments) (file : Option (List ℕ)) (reply : Reply) → Launches arguments file reply → ReplyFits reply
+  launch_fits : (arguments : LaunchArguments) (file : Option (List ℕ)) (reply : Reply) → Launches arguments file reply
+      → ReplyFits reply
   launch_fits arguments None reply says = fits_if reply _ (refused_fits _) says
   launch_fits arguments (Some text) reply (inl says) = fits_if reply _ (refused_fits _) says.reply_is
-  launch_fits arguments (Some text) reply (inr says) = fits_if reply _ (record { result = tt; events = (tt, tt) }) says.reply_is
+  launch_fits arguments (Some text) reply (inr says) =
+      fits_if reply _ (record { result = tt; events = (tt, tt) }) says.reply_is
 
   -- ---- reports
 
@@ -371,28 +414,35 @@ module _ (few : FramesAreFew) where
   report_fits past r slice.More = outputs_fit past r
   report_fits past r (slice.Due reason) = events_fit-append (outputs past r) (stops _) (outputs_fit past r) (tt, tt)
   report_fits past r slice.Held = held_fits past r (waiting_pause past)
-  report_fits past r slice.Done = events_fit-append (outputs past r) (ends 0) (outputs_fit past r) (near_small 0 (lit≤ tt), (tt, tt))
+  report_fits past r slice.Done =
+      events_fit-append (outputs past r) (ends 0) (outputs_fit past r) (near_small 0 (lit≤ tt), (tt, tt))
   report_fits past r (slice.Fault fault) = events_fit-append (outputs past r) (stops _) (outputs_fit past r) (tt, tt)
   report_fits past r slice.NoMemory = tt
 
   -- ---- steps
 
-  effect_step : (step : Step) (effect : Effect) → HasEffect effect step → EventsFit effect.events → MessagesFit (messages step)
+  effect_step : (step : Step) (effect : Effect) → HasEffect effect step → EventsFit effect.events
+      → MessagesFit (messages step)
   effect_step step effect has fit =
-      subst (λ a. MessagesFit (with_answer a (map Event step.effect.events))) (sym has.answer_is) (subst (λ (e : Effect). EventsFit e.events) (sym has.effect_is) fit)
+      subst (λ a. MessagesFit (with_answer a (map Event step.effect.events))) (sym has.answer_is)
+      (subst (λ (e : Effect). EventsFit e.events) (sym has.effect_is) fit)
 
-  answer_step : (step : Step) (seq : ℕ) (command : CommandName) (reply : Reply) → Answers seq command reply step → seq < 2 ^ 64 → ReplyFits reply → MessagesFit (messages step)
+  answer_step : (step : Step) (seq : ℕ) (command : CommandName) (reply : Reply) → Answers seq command reply step
+      → seq < 2 ^ 64 → ReplyFits reply → MessagesFit (messages step)
   answer_step step seq command reply answers small fit =
       subst (λ a. MessagesFit (with_answer a (map Event step.effect.events))) (sym answers.answer_is)
       ((small, fit.result), subst (λ (e : Effect). EventsFit e.events) (sym answers.effect_is) fit.events)
 
-  step_fits : (past : History) (item : Item) (step : Step) → LaunchedNear (launched past) → ItemFits item → Causes past item step → MessagesFit (messages step)
+  step_fits : (past : History) (item : Item) (step : Step) → LaunchedNear (launched past) → ItemFits item
+      → Causes past item step → MessagesFit (messages step)
   step_fits past (Content None) step near small causes = effect_step step nothing causes tt
   step_fits past (Content (Some request)) step near small causes =
-      answer_step step request.seq _ causes.0 causes.2 small (command_fits (situation past) past request.body causes.0 near causes.1)
+      answer_step step request.seq _ causes.0 causes.2 small
+      (command_fits (situation past) past request.body causes.0 near causes.1)
   step_fits past (Loaded launch file) step near small causes =
       answer_step step launch.seq _ causes.0 causes.2 small (launch_fits launch.arguments file causes.0 causes.1)
-  step_fits past (Accepted r) step near small causes = effect_step step (report_effect past r r.outcome) causes (report_fits past r r.outcome)
+  step_fits past (Accepted r) step near small causes =
+      effect_step step (report_effect past r r.outcome) causes (report_fits past r r.outcome)
   step_fits past (Fault k) step near small causes = effect_step step nothing causes tt
   step_fits past InputEnd step near small causes = effect_step step (ordering _) causes tt
   step_fits past ReadFailure step near small causes = effect_step step (ordering _) causes tt
@@ -407,19 +457,24 @@ module _ (few : FramesAreFew) where
   none_near : (o : Option Launched) → o ≡ None → LaunchedNear o
   none_near o is = subst LaunchedNear (sym is) tt
 
-  launch_near : (arguments : LaunchArguments) (file : Option (List ℕ)) (reply : Reply) → Launches arguments file reply → LaunchedNear reply.effect.launched
+  launch_near : (arguments : LaunchArguments) (file : Option (List ℕ)) (reply : Reply) → Launches arguments file reply
+      → LaunchedNear reply.effect.launched
   launch_near arguments None reply says = none_near _ (ap (λ (r : Reply). r.effect.launched) says)
   launch_near arguments (Some text) reply (inl says) = none_near _ (ap (λ (r : Reply). r.effect.launched) says.reply_is)
   launch_near arguments (Some text) reply (inr says) =
       subst (λ (r : Reply). LaunchedNear r.effect.launched) (sym says.reply_is) (read_near text says.program says.reads)
 
-  step_launches_near : (past : History) (item : Item) (step : Step) → Causes past item step → LaunchedNear step.effect.launched
+  step_launches_near : (past : History) (item : Item) (step : Step) → Causes past item step
+      → LaunchedNear step.effect.launched
   step_launches_near past (Content None) step causes = none_near _ (ap (λ (e : Effect). e.launched) causes.effect_is)
   step_launches_near past (Content (Some request)) step causes =
-      none_near _ (ap (λ (e : Effect). e.launched) causes.2.effect_is ∙ (all_silent (situation past) past request.body causes.0 causes.1).no_launch)
+      none_near _ (ap (λ (e : Effect). e.launched) causes.2.effect_is
+      ∙ (all_silent (situation past) past request.body causes.0 causes.1).no_launch)
   step_launches_near past (Loaded launch file) step causes =
-      subst (λ (e : Effect). LaunchedNear e.launched) (sym causes.2.effect_is) (launch_near launch.arguments file causes.0 causes.1)
-  step_launches_near past (Accepted r) step causes = none_near _ (ap (λ (e : Effect). e.launched) causes.effect_is ∙ report_launches past r r.outcome)
+      subst (λ (e : Effect). LaunchedNear e.launched) (sym causes.2.effect_is)
+      (launch_near launch.arguments file causes.0 causes.1)
+  step_launches_near past (Accepted r) step causes =
+      none_near _ (ap (λ (e : Effect). e.launched) causes.effect_is ∙ report_launches past r r.outcome)
   step_launches_near past (Fault k) step causes = none_near _ (ap (λ (e : Effect). e.launched) causes.effect_is)
   step_launches_near past InputEnd step causes = none_near _ (ap (λ (e : Effect). e.launched) causes.effect_is)
   step_launches_near past ReadFailure step causes = none_near _ (ap (λ (e : Effect). e.launched) causes.effect_is)
@@ -435,21 +490,27 @@ module _ (few : FramesAreFew) where
     near : LaunchedNear (launched past)
     fit : ItemsFit past → MessagesFit (messages_of past)
 
-  fitting_more : (past : History) (step : Step) → Causes past step.item step → Fitting past → Fitting (past ++ step ∷ [])
+  fitting_more : (past : History) (step : Step) → Causes past step.item step → Fitting past
+      → Fitting (past ++ step ∷ [])
   fitting_more past step causes so_far = record {
-    near = subst LaunchedNear (sym (launched-snoc past step)) (later_near step.effect.launched (launched past) (step_launches_near past step.item step causes) so_far.near);
+    near = subst LaunchedNear (sym (launched-snoc past step))
+        (later_near step.effect.launched (launched past) (step_launches_near past step.item step causes) so_far.near);
     fit = λ items.
         let apart = items_apart past step items in
         subst MessagesFit (sym (messages_of-snoc past step))
-        (messages_fit-append (messages_of past) (messages step) (so_far.fit apart.0) (step_fits past step.item step so_far.near apart.1 causes));
+        (messages_fit-append (messages_of past) (messages step) (so_far.fit apart.0)
+        (step_fits past step.item step so_far.near apart.1 causes));
   }
 
   fitting_kept : IsKept (λ e. Unit {0}) Fitting
   fitting_kept = record {
     step = λ past item new taking taken after here.
-        subst Fitting (sym after.new_is) (fitting_more past after.step (subst (λ i. Causes past i after.step) (sym after.item_is) after.causes) here);
+        subst Fitting (sym after.new_is) (fitting_more past after.step
+        (subst (λ i. Causes past i after.step) (sym after.item_is) after.causes) here);
   }
 
-  pub history_fits : (events : List Incoming) (past : History) (rest : Rest) → IsHistoryOf events past rest → ItemsFit past → MessagesFit (messages_of past)
+  pub history_fits : (events : List Incoming) (past : History) (rest : Rest) → IsHistoryOf events past rest
+      → ItemsFit past → MessagesFit (messages_of past)
   history_fits events past rest history items =
-      (along (λ e. Unit {0}) Fitting fitting_kept (record { near = tt; fit = λ is. tt }) events past rest (any_events events) history).fit items
+      (along (λ e. Unit {0}) Fitting fitting_kept (record { near = tt; fit = λ is. tt }) events past rest
+      (any_events events) history).fit items

@@ -48,7 +48,8 @@ module _ (Q : Incoming → Type 0) where
   pub anything_kept : IsKept Q Anything
   anything_kept = record { step = λ past item new taking taken after here. tt }
 
-granted_by : (past : History) (item : Item) (step : Step) (m : Mode) (seq : ℕ) (name : CommandName) (b : Body) → Causes past item step → back_in item ≡ Some m → step.answer ≡ Some (Answer seq name (Ok b)) → IsSome (run_in step)
+granted_by : (past : History) (item : Item) (step : Step) (m : Mode) (seq : ℕ) (name : CommandName) (b : Body)
+    → Causes past item step → back_in item ≡ Some m → step.answer ≡ Some (Answer seq name (Ok b)) → IsSome (run_in step)
 granted_by past (Content (Some request)) step m seq name b is asks answers =
     subst (λ (e : Effect). IsSome (last_such go e.orders)) (sym is.2.effect_is)
     (granted_back (situation past) past request.body is.0 m b is.1 asks (let e = sym is.2.answer_is ∙ answers in cc))
@@ -62,12 +63,15 @@ granted_by past MemoryFailure step m seq name b is asks answers = absurd cc
 
 pub each_goes_back : EachGoesBackAsAsked
 each_goes_back events past rest lawful history before step after past_is = (
-  λ run orders. ordered_back before (back_in step.item) step.effect.put_in (run_in step) (item_ordered before step.item step was.taken was.causes) run (ordered_last before step run was.causes orders),
+  λ run orders. ordered_back before (back_in step.item) step.effect.put_in (run_in step)
+      (item_ordered before step.item step was.taken was.causes) run (ordered_last before step run was.causes orders),
   λ m seq name b asks answers. granted_by before step.item step m seq name b was.causes asks answers,
 )
   where
     each : EachTaken IsLawfulEvent (Anything IsLawfulEvent) past
-    each = along IsLawfulEvent (EachTaken IsLawfulEvent (Anything IsLawfulEvent)) (each_kept IsLawfulEvent (Anything IsLawfulEvent) (anything_kept IsLawfulEvent)) (each_first IsLawfulEvent (Anything IsLawfulEvent) tt) events past rest (lawful_events events lawful) history
+    each = along IsLawfulEvent (EachTaken IsLawfulEvent (Anything IsLawfulEvent))
+        (each_kept IsLawfulEvent (Anything IsLawfulEvent) (anything_kept IsLawfulEvent))
+        (each_first IsLawfulEvent (Anything IsLawfulEvent) tt) events past rest (lawful_events events lawful) history
 
     was : WasTaken IsLawfulEvent (Anything IsLawfulEvent) before step
     was = each.each before step after past_is
@@ -76,10 +80,13 @@ abbrev AnyEvent : Incoming → Type 0
 AnyEvent e = Unit {0}
 
 pub retreats_not_held : RetreatsAreNotHeld
-retreats_not_held events past rest history before step after past_is back = item_holds before step.item step was.causes back
+retreats_not_held events past rest history before step after past_is back =
+    item_holds before step.item step was.causes back
   where
     each : EachTaken AnyEvent (Anything AnyEvent) past
-    each = along AnyEvent (EachTaken AnyEvent (Anything AnyEvent)) (each_kept AnyEvent (Anything AnyEvent) (anything_kept AnyEvent)) (each_first AnyEvent (Anything AnyEvent) tt) events past rest (any_events events) history
+    each = along AnyEvent (EachTaken AnyEvent (Anything AnyEvent))
+        (each_kept AnyEvent (Anything AnyEvent) (anything_kept AnyEvent)) (each_first AnyEvent (Anything AnyEvent) tt)
+        events past rest (any_events events) history
 
     was : WasTaken AnyEvent (Anything AnyEvent) before step
     was = each.each before step after past_is
@@ -90,7 +97,8 @@ marks_are : (os : List PlainOrder) → last_such order_mark os ≡ option_map (�
 marks_are [] = refl
 marks_are (o ∷ os) = ap (λ m. or_else m (order_mark o)) (marks_are os) ∙ each o (last_such go os)
   where
-    each : (o : PlainOrder) (l : Option Heading) → or_else (option_map (λ (run : Heading). Running) l) (order_mark o) ≡ option_map (λ (run : Heading). Running) (or_else l (go o))
+    each : (o : PlainOrder) (l : Option Heading) → or_else (option_map (λ (run : Heading). Running) l)
+        (order_mark o) ≡ option_map (λ (run : Heading). Running) (or_else l (go o))
     each (Go run) None = refl
     each (Go run) (Some other) = refl
     each (Hold n) None = refl
@@ -98,10 +106,12 @@ marks_are (o ∷ os) = ap (λ m. or_else m (order_mark o)) (marks_are os) ∙ ea
     each Quit None = refl
     each Quit (Some other) = refl
 
-leads_to_running : (past : History) (step : Step) (run : Heading) → last_such go step.effect.orders ≡ Some run → situation (past ++ step ∷ []) ≡ Running
+leads_to_running : (past : History) (step : Step) (run : Heading) → last_such go step.effect.orders ≡ Some run
+    → situation (past ++ step ∷ []) ≡ Running
 leads_to_running past step run is =
     situation-snoc past step
-    ∙ ap (λ o. unwrap_or (or_else o (last_such message_mark (messages step))) (situation past)) (marks_are step.effect.orders ∙ ap (option_map (λ (run : Heading). Running)) is)
+    ∙ ap (λ o. unwrap_or (or_else o (last_such message_mark (messages step))) (situation past))
+    (marks_are step.effect.orders ∙ ap (option_map (λ (run : Heading). Running)) is)
 
 -- ---- counts begin anew
 
@@ -110,42 +120,53 @@ abbrev BackStood : History → Type 0
 BackStood past = is_back past ≡ true → IsStanding (situation past) → (plan past).counted_from ≡ position past + 1
 
 abbrev Counted : History → Item → Effect → Type 0
-Counted past item effect = (unwrap_or effect.put_in (plan past)).counted_from ≡ unwrap_or (end_of item) (position past) + 1
+Counted past item effect =
+    (unwrap_or effect.put_in (plan past)).counted_from ≡ unwrap_or (end_of item) (position past) + 1
 
 no_run_back : (past : History) → last_run past ≡ None → is_back past ≡ false
 no_run_back past none = ap (λ o. option_map_or (λ (run : Heading). goes_back run.mode) o false) none
 
-counted_put : (past : History) (put : Option Plan) → PutsIn (situation past) past put → IsStanding (situation past) → (plan past).counted_from ≡ position past + 1 → (unwrap_or put (plan past)).counted_from ≡ position past + 1
+counted_put : (past : History) (put : Option Plan) → PutsIn (situation past) past put → IsStanding (situation past)
+    → (plan past).counted_from ≡ position past + 1 → (unwrap_or put (plan past)).counted_from ≡ position past + 1
 counted_put past None puts stands was = was
 counted_put past (Some p) (inl configuring) stands was = absurd (subst IsStanding configuring stands)
 counted_put past (Some p) (inr counts) stands was = counts
 
-stops_configuring : (s : Situation) (past : History) (o : Option StopReason) (r : StopReason) → StopsBy s past o → o ≡ Some r → s ≡ Configuring
+stops_configuring : (s : Situation) (past : History) (o : Option StopReason) (r : StopReason) → StopsBy s past o
+    → o ≡ Some r → s ≡ Configuring
 stops_configuring s past None r no_stop is = absurd cc
 stops_configuring s past (Some other) r (at_first l why here launch due) is = here
 
 module _ (one : OneProgram) (joins : WrittenJoins) where
   -- a step that only has an effect like this reports no stop
-  no_stop_by : (step : Step) (effect : Effect) → step.effect ≡ effect → last_such stop_of_event effect.events ≡ None → ReportsStop step.effect.events → ⊥
-  no_stop_by step effect is none stops = let e = sym stops.1 ∙ ap (λ (e : Effect). last_such stop_of_event e.events) is ∙ none in cc
+  no_stop_by : (step : Step) (effect : Effect) → step.effect ≡ effect → last_such stop_of_event effect.events ≡ None
+      → ReportsStop step.effect.events → ⊥
+  no_stop_by step effect is none stops =
+      let e = sym stops.1 ∙ ap (λ (e : Effect). last_such stop_of_event e.events) is ∙ none in cc
 
   -- where a run that goes back has come to its stop
-  come : (past : History) (r : PlainReport) (main : Block) (e : SliceOutcome) → goes_back r.mode ≡ true → GoesBackBy main r e → MarkIs IsStanding (mark_of_effect (report_effect past r e)) → Counted past (Accepted r) (report_effect past r e)
+  come : (past : History) (r : PlainReport) (main : Block) (e : SliceOutcome) → goes_back r.mode ≡ true
+      → GoesBackBy main r e → MarkIs IsStanding (mark_of_effect (report_effect past r e))
+      → Counted past (Accepted r) (report_effect past r e)
   come past r main slice.More back by mark =
-      absurd (subst (MarkIs IsStanding) (ap (λ es. last_such message_mark (map Event es)) (sym (append-nil (outputs past r))) ∙ outputs_mark past r []) mark)
+      absurd (subst (MarkIs IsStanding) (ap (λ es. last_such message_mark (map Event es))
+      (sym (append-nil (outputs past r))) ∙ outputs_mark past r []) mark)
   come past r main (slice.Due reason) back by mark =
-      ap (λ b. (unwrap_or (if b then Some (from_next r.end (unwrap_or (waiting_plan past) (plan past).breakpoints)) else put_in_at r.end (waiting_plan past)) (plan past)).counted_from) back
+      ap (λ b. (unwrap_or (if b then Some (from_next r.end (unwrap_or (waiting_plan past) (plan past).breakpoints)) else
+      put_in_at r.end (waiting_plan past)) (plan past)).counted_from) back
   come past r main slice.NoMemory back by mark = absurd mark
   come past r main slice.Held back by mark = elim by [ ]
   come past r main slice.Done back by mark = elim by [ ]
   come past r main (slice.Fault fault) back by mark = elim by [ ]
 
-  module _ (past : History) (step : Step) (ran : Ran one joins past) (stood : BackStood past) (back : is_back past ≡ true) where
+  module _ (past : History) (step : Step) (ran : Ran one joins past) (stood : BackStood past)
+      (back : is_back past ≡ true) where
     not_begun : last_run past ≡ None → ⊥
     not_begun none = let e = sym (no_run_back past none) ∙ back in cc
 
     -- nothing is put in, and no stop is reported
-    still : (item : Item) (effect : Effect) → step.effect ≡ effect → effect.put_in ≡ None → last_such stop_of_event effect.events ≡ None → end_of item ≡ None
+    still : (item : Item) (effect : Effect) → step.effect ≡ effect → effect.put_in ≡ None
+        → last_such stop_of_event effect.events ≡ None → end_of item ≡ None
         → (ReportsStop step.effect.events ⊎ IsStanding (situation past)) → Counted past item step.effect
     still item effect is none no_stops stays (inl stops) = absurd (no_stop_by step effect is no_stops stops)
     still item effect is none no_stops stays (inr stands) =
@@ -158,24 +179,32 @@ module _ (one : OneProgram) (joins : WrittenJoins) where
     abbrev Leads : Type 0
     Leads = MarkIs IsStanding (step_mark step) ⊎ ((step_mark step ≡ None) × IsStanding (situation past))
 
-    by_stop : (item : Item) → Causes past item step → Leads → ReportsStop step.effect.events ⊎ IsStanding (situation past)
+    by_stop : (item : Item) → Causes past item step → Leads → ReportsStop step.effect.events
+        ⊎ IsStanding (situation past)
     by_stop item causes (inl mark) = inl (step_stops step (answers_only past item step causes) mark)
     by_stop item causes (inr is) = inr is.1
 
-    counted_by : (item : Item) → IsTaken IsLawfulEvent past item → Causes past item step → Leads → Counted past item step.effect
-    counted_by (Content None) taken is leads = still (Content None) nothing is.effect_is refl refl refl (by_stop (Content None) is leads)
+    counted_by : (item : Item) → IsTaken IsLawfulEvent past item → Causes past item step → Leads
+        → Counted past item step.effect
+    counted_by (Content None) taken is leads =
+        still (Content None) nothing is.effect_is refl refl refl (by_stop (Content None) is leads)
     counted_by (Content (Some request)) taken is leads = by_request (by_stop (Content (Some request)) is leads)
       where
-        by_request : ReportsStop step.effect.events ⊎ IsStanding (situation past) → Counted past (Content (Some request)) step.effect
+        by_request : ReportsStop step.effect.events ⊎ IsStanding (situation past)
+            → Counted past (Content (Some request)) step.effect
         by_request (inl stops) =
-            let configuring = stops_configuring (situation past) past (last_such stop_of_event is.0.effect.events) stops.0 (all_silent (situation past) past request.body is.0 is.1).stops
+            let configuring =
+            stops_configuring (situation past) past (last_such stop_of_event is.0.effect.events) stops.0
+            (all_silent (situation past) past request.body is.0 is.1).stops
             (ap (λ (e : Effect). last_such stop_of_event e.events) (sym is.2.effect_is) ∙ stops.1) in
             absurd (not_begun (ran.configuring (subst IsConfiguring (sym configuring) tt)).0)
         by_request (inr stands) =
             ap (λ (e : Effect). (unwrap_or e.put_in (plan past)).counted_from) is.2.effect_is
-            ∙ counted_put past is.0.effect.put_in (all_orders (situation past) past request.body is.0 refl is.1).put stands (stood back stands)
+            ∙ counted_put past is.0.effect.put_in (all_orders (situation past) past request.body is.0 refl is.1).put
+            stands (stood back stands)
     counted_by (Loaded launch file) taken is leads =
-        absurd (not_begun (let progress = ran.so_far.progress None (ran.so_far.early (subst IsEarly (sym taken) tt)) in progress.1))
+        absurd (not_begun (let progress = ran.so_far.progress None (ran.so_far.early (subst IsEarly (sym taken) tt)) in
+        progress.1))
     counted_by (Accepted r) taken is leads = by_mark leads
       where
         goes : goes_back r.mode ≡ true
@@ -184,29 +213,38 @@ module _ (one : OneProgram) (joins : WrittenJoins) where
         by_mark : Leads → Counted past (Accepted r) step.effect
         by_mark (inl mark) =
             subst (Counted past (Accepted r)) (sym is.effect_is)
-            (come past r taken.1.program r.outcome goes (subst (λ b. Went taken.1.program r b) goes taken.1.lawful.went).outcome
+            (come past r taken.1.program r.outcome goes
+            (subst (λ b. Went taken.1.program r b) goes taken.1.lawful.went).outcome
             (subst (MarkIs IsStanding) (mark_of (report_effect past r r.outcome) step is) mark))
         by_mark (inr stands) = absurd (subst IsStanding taken.0.running stands.1)
     counted_by (Fault k) taken is leads = still (Fault k) _ is.effect_is refl refl refl (by_stop (Fault k) is leads)
     counted_by InputEnd taken is leads = still InputEnd _ is.effect_is refl refl refl (by_stop InputEnd is leads)
-    counted_by ReadFailure taken is leads = still ReadFailure _ is.effect_is refl refl refl (by_stop ReadFailure is leads)
-    counted_by MemoryFailure taken is leads = still MemoryFailure _ is.effect_is refl refl refl (by_stop MemoryFailure is leads)
+    counted_by ReadFailure taken is leads =
+        still ReadFailure _ is.effect_is refl refl refl (by_stop ReadFailure is leads)
+    counted_by MemoryFailure taken is leads =
+        still MemoryFailure _ is.effect_is refl refl refl (by_stop MemoryFailure is leads)
 
   -- both are kept
   record Back (past : History) : Type 0 where
     ran : Ran one joins past
     stood : BackStood past
 
-  stood_more : (past : History) (step : Step) → IsTaken IsLawfulEvent past step.item → Causes past step.item step → Back past → BackStood (past ++ step ∷ [])
+  stood_more : (past : History) (step : Step) → IsTaken IsLawfulEvent past step.item → Causes past step.item step
+      → Back past → BackStood (past ++ step ∷ [])
   stood_more past step taken causes here back standing = by_run (last_such go step.effect.orders) refl
     where
-      by_run : (o : Option Heading) → last_such go step.effect.orders ≡ o → (plan (past ++ step ∷ [])).counted_from ≡ position (past ++ step ∷ []) + 1
+      by_run : (o : Option Heading) → last_such go step.effect.orders ≡ o
+          → (plan (past ++ step ∷ [])).counted_from ≡ position (past ++ step ∷ []) + 1
       by_run (Some run) is = absurd (subst IsStanding (leads_to_running past step run is) standing)
       by_run None none =
-          let same : last_run (past ++ step ∷ []) ≡ last_run past = last_run-snoc past step ∙ ap (λ o. or_else o (last_run past)) none in
-          let was : is_back past ≡ true = ap (λ o. option_map_or (λ (run : Heading). goes_back run.mode) o false) (sym same) ∙ back in
+          let same : last_run (past ++ step ∷ []) ≡ last_run past =
+          last_run-snoc past step ∙ ap (λ o. or_else o (last_run past)) none in
+          let was : is_back past ≡ true =
+          ap (λ o. option_map_or (λ (run : Heading). goes_back run.mode) o false) (sym same) ∙ back in
           ap (λ (p : Plan). p.counted_from) (plan-snoc past step)
-          ∙ counted_by past step here.ran here.stood was step.item taken causes (mark_unwrap IsStanding (step_mark step) (situation past) (subst IsStanding (situation-snoc past step) standing))
+          ∙ counted_by past step here.ran here.stood was step.item taken causes
+          (mark_unwrap IsStanding (step_mark step) (situation past)
+          (subst IsStanding (situation-snoc past step) standing))
           ∙ ap (λ n. n + 1) (sym (position-snoc past step))
 
   back_kept : IsKept IsLawfulEvent Back
@@ -214,7 +252,11 @@ module _ (one : OneProgram) (joins : WrittenJoins) where
     step = λ past item new taking taken after here.
         let of_item = subst (IsTaken IsLawfulEvent past) (sym after.item_is) taken in
         let causes = subst (λ i. Causes past i after.step) (sym after.item_is) after.causes in
-        subst Back (sym after.new_is) (record { ran = ran_more one joins past after.step of_item causes here.ran; stood = stood_more past after.step of_item causes here });
+        subst Back (sym after.new_is) (record {
+          ran = ran_more one joins past after.step of_item causes here.ran;
+          stood = stood_more past after.step
+              of_item causes here;
+        });
   }
 
   back_first : Back []
@@ -222,18 +264,26 @@ module _ (one : OneProgram) (joins : WrittenJoins) where
 
   pub counts_begin_anew : CountsBeginAnew
   counts_begin_anew events past rest lawful history before step after run past_is orders back =
-      by_place (ordered_from before (back_in step.item) step.effect.put_in (run_in step) (item_ordered before step.item step was.taken was.causes) run (ordered_last before step run was.causes orders))
+      by_place (ordered_from before (back_in step.item) step.effect.put_in (run_in step)
+      (item_ordered before step.item step was.taken was.causes) run
+      (ordered_last before step run was.causes orders))
     where
       each : EachTaken IsLawfulEvent Back past
-      each = along IsLawfulEvent (EachTaken IsLawfulEvent Back) (each_kept IsLawfulEvent Back back_kept) (each_first IsLawfulEvent Back back_first) events past rest (lawful_events events lawful) history
+      each = along IsLawfulEvent (EachTaken IsLawfulEvent Back) (each_kept IsLawfulEvent Back back_kept)
+          (each_first IsLawfulEvent Back back_first) events past rest (lawful_events events lawful) history
 
       was : WasTaken IsLawfulEvent Back before step
       was = each.each before step after past_is
 
-      by_situation : (s : Situation) → situation before ≡ s → CanRun s → run.counted_from ≡ (plan before).counted_from → run.start ≡ position before → run.counted_from ≡ run.start + 1
-      by_situation Configuring is can counted starts = absurd (not_begun before step was.held.ran was.held.stood back (was.held.ran.configuring (subst IsConfiguring (sym is) tt)).0)
-      by_situation Stopped is can counted starts = counted ∙ was.held.stood back (subst IsStanding (sym is) tt) ∙ ap (λ n. n + 1) (sym starts)
-      by_situation Faulted is can counted starts = counted ∙ was.held.stood back (subst IsStanding (sym is) tt) ∙ ap (λ n. n + 1) (sym starts)
+      by_situation : (s : Situation) → situation before ≡ s → CanRun s → run.counted_from ≡ (plan before).counted_from
+          → run.start ≡ position before → run.counted_from ≡ run.start + 1
+      by_situation Configuring is can counted starts =
+          absurd (not_begun before step was.held.ran was.held.stood back
+          (was.held.ran.configuring (subst IsConfiguring (sym is) tt)).0)
+      by_situation Stopped is can counted starts =
+          counted ∙ was.held.stood back (subst IsStanding (sym is) tt) ∙ ap (λ n. n + 1) (sym starts)
+      by_situation Faulted is can counted starts =
+          counted ∙ was.held.stood back (subst IsStanding (sym is) tt) ∙ ap (λ n. n + 1) (sym starts)
       by_situation _ is can counted starts = absurd can
 
       by_place : IsResumed before run ⊎ (is_back before ≡ false) → run.counted_from ≡ run.start + 1

@@ -51,64 +51,88 @@ use Rattle.dap_history.proofs.Once.{none_within, rest_of}
 data OrdersBy (past : History) (step : Step) : Type 0 where
   orders_none : step.effect.orders ≡ [] → OrdersBy past step
   orders_go : (run : Heading) → run.run ≡ runs past + 1 → step.effect.orders ≡ Go run ∷ [] → OrdersBy past step
-  orders_hold : GrantsWait past step → situation past ≡ Running → is_held past ≡ false → is_back past ≡ false → step.effect.orders ≡ Hold (runs past) ∷ [] → OrdersBy past step
+  orders_hold : GrantsWait past step → situation past ≡ Running → is_held past ≡ false → is_back past ≡ false
+      → step.effect.orders ≡ Hold (runs past) ∷ [] → OrdersBy past step
   orders_quit : (by : Ending) → closing step.item ≡ Some by → step.effect.orders ≡ Quit ∷ [] → OrdersBy past step
 
 -- the request that a step answers with this reply, and the orders of that reply
-module _ (past : History) (request : Request) (reply : Reply) (step : Step) (item_is : step.item ≡ Content (Some request)) (answers : Answers request.seq (name_of request.body) reply step) where
-  orders_are : step.effect.orders ≡ reply.effect.orders
-  orders_are = ap (λ (e : Effect). e.orders) answers.effect_is
+module _ (past : History) (request : Request) (reply : Reply) (step : Step)
+    (item_is : step.item ≡ Content (Some request)) (answers : Answers request.seq (name_of request.body) reply step)
+  where
+    orders_are : step.effect.orders ≡ reply.effect.orders
+    orders_are = ap (λ (e : Effect). e.orders) answers.effect_is
 
-  grants : (b : Body) → reply.result ≡ Ok b → IsToWait past request.body → GrantsWait past step
-  grants b is to_wait = record {
-    request = request;
-    granted = record { item_is = item_is; body = b; answer_is = answers.answer_is ∙ ap (λ r. Some (Answer request.seq (name_of request.body) r)) is };
-    to_wait = to_wait;
-  }
+    grants : (b : Body) → reply.result ≡ Ok b → IsToWait past request.body → GrantsWait past step
+    grants b is to_wait = record {
+      request = request;
+      granted =
+          record {
+            item_is = item_is;
+            body = b;
+            answer_is = answers.answer_is
+                ∙ ap (λ r. Some (Answer request.seq (name_of request.body) r)) is;
+          };
+      to_wait = to_wait;
+    }
 
-  -- a request that waits is granted
-  holds_by : (b : Body) → reply.result ≡ Ok b → IsToWait past request.body → situation past ≡ Running → reply.effect.orders ≡ hold_once past → OrdersBy past step
-  holds_by b is to_wait here holds = by_tests (is_held past) (is_back past) refl refl
-    where
-      by_tests : (held back : Bool) → is_held past ≡ held → is_back past ≡ back → OrdersBy past step
-      by_tests true back held_is back_is = orders_none (orders_are ∙ holds ∙ ap (λ t. if t || is_back past then [] else Hold (runs past) ∷ []) held_is)
-      by_tests false true held_is back_is =
-          orders_none (orders_are ∙ holds ∙ ap (λ t. if t || is_back past then [] else Hold (runs past) ∷ []) held_is ∙ ap (λ t. if t then [] else Hold (runs past) ∷ []) back_is)
-      by_tests false false held_is back_is =
-          orders_hold (grants b is to_wait) here held_is back_is
-          (orders_are ∙ holds ∙ ap (λ t. if t || is_back past then [] else Hold (runs past) ∷ []) held_is ∙ ap (λ t. if t then [] else Hold (runs past) ∷ []) back_is)
+    -- a request that waits is granted
+    holds_by : (b : Body) → reply.result ≡ Ok b → IsToWait past request.body → situation past ≡ Running
+        → reply.effect.orders ≡ hold_once past → OrdersBy past step
+    holds_by b is to_wait here holds = by_tests (is_held past) (is_back past) refl refl
+      where
+        by_tests : (held back : Bool) → is_held past ≡ held → is_back past ≡ back → OrdersBy past step
+        by_tests true back held_is back_is =
+            orders_none (orders_are ∙ holds ∙ ap (λ t. if t || is_back past then [] else Hold (runs past) ∷ []) held_is)
+        by_tests false true held_is back_is =
+            orders_none (orders_are ∙ holds ∙ ap (λ t. if t || is_back past then [] else Hold (runs past) ∷ []) held_is
+            ∙ ap (λ t. if t then [] else Hold (runs past) ∷ []) back_is)
+        by_tests false false held_is back_is =
+            orders_hold (grants b is to_wait) here held_is back_is
+            (orders_are ∙ holds ∙ ap (λ t. if t || is_back past then [] else Hold (runs past) ∷ []) held_is
+            ∙ ap (λ t. if t then [] else Hold (runs past) ∷ []) back_is)
 
-  sets_by : (s : Situation) (bs : List Breakpoint) (b : Body) → situation past ≡ s → reply.result ≡ Ok b → IsToWait past request.body → reply.effect.orders ≡ (effect_in s past bs).orders → OrdersBy past step
-  sets_by Running bs b here is to_wait orders = holds_by b is to_wait here orders
-  sets_by Fresh bs b here is to_wait orders = orders_none (orders_are ∙ orders)
-  sets_by Ready bs b here is to_wait orders = orders_none (orders_are ∙ orders)
-  sets_by Configuring bs b here is to_wait orders = orders_none (orders_are ∙ orders)
-  sets_by Stopped bs b here is to_wait orders = orders_none (orders_are ∙ orders)
-  sets_by Faulted bs b here is to_wait orders = orders_none (orders_are ∙ orders)
-  sets_by Ended bs b here is to_wait orders = orders_none (orders_are ∙ orders)
+    sets_by : (s : Situation) (bs : List Breakpoint) (b : Body) → situation past ≡ s → reply.result ≡ Ok b
+        → IsToWait past request.body → reply.effect.orders ≡ (effect_in s past bs).orders → OrdersBy past step
+    sets_by Running bs b here is to_wait orders = holds_by b is to_wait here orders
+    sets_by Fresh bs b here is to_wait orders = orders_none (orders_are ∙ orders)
+    sets_by Ready bs b here is to_wait orders = orders_none (orders_are ∙ orders)
+    sets_by Configuring bs b here is to_wait orders = orders_none (orders_are ∙ orders)
+    sets_by Stopped bs b here is to_wait orders = orders_none (orders_are ∙ orders)
+    sets_by Faulted bs b here is to_wait orders = orders_none (orders_are ∙ orders)
+    sets_by Ended bs b here is to_wait orders = orders_none (orders_are ∙ orders)
 
-  begins_by : (l : Launched) (why : Option Reason) → reply.effect.orders ≡ (enters past l why).orders → OrdersBy past step
-  begins_by l None is = orders_go _ refl (orders_are ∙ is)
-  begins_by l (Some r) is = orders_none (orders_are ∙ is)
+    begins_by : (l : Launched) (why : Option Reason) → reply.effect.orders ≡ (enters past l why).orders
+        → OrdersBy past step
+    begins_by l None is = orders_go _ refl (orders_are ∙ is)
+    begins_by l (Some r) is = orders_none (orders_are ∙ is)
 
-  reply_orders : Shape past (situation past) request.body reply → OrdersBy past step
-  reply_orders (refuses why is) = orders_none (orders_are ∙ ap (λ (r : Reply). r.effect.orders) is)
-  reply_orders (is_calm calm is) = orders_none (orders_are ∙ ap (λ (e : Effect). e.orders) is)
-  reply_orders (sets a l by there same resolves) =
-      sets_by (situation past) resolves.breakpoints _ refl (ap (λ (r : Reply). r.result) resolves.reply_is) (subst (IsToWait past) (sym by) (l, there, same)) (ap (λ (r : Reply). r.effect.orders) resolves.reply_is)
-  reply_orders (begins l by here there is) = begins_by l (due_first past l) (ap (λ (r : Reply). r.effect.orders) is)
-  reply_orders (resumes_by resume_kind l by here there is) = orders_go _ refl (orders_are ∙ ap (λ (r : Reply). r.effect.orders) is)
-  reply_orders (is_over resume_kind by here is) = orders_none (orders_are ∙ ap (λ (r : Reply). r.effect.orders) is)
-  reply_orders (retreats m l by back stands there is) = orders_go _ refl (orders_are ∙ ap (λ (r : Reply). r.effect.orders) is)
-  reply_orders (interrupts a by here is) = holds_by _ (ap (λ (r : Reply). r.result) is) (subst (IsToWait past) (sym by) tt) here (ap (λ (r : Reply). r.effect.orders) is)
-  reply_orders (quits by is) = orders_quit _ (ap closing item_is ∙ ap (λ c. closing (Content (Some (record { seq = request.seq; body = c })))) by) (orders_are ∙ ap (λ (r : Reply). r.effect.orders) is)
+    reply_orders : Shape past (situation past) request.body reply → OrdersBy past step
+    reply_orders (refuses why is) = orders_none (orders_are ∙ ap (λ (r : Reply). r.effect.orders) is)
+    reply_orders (is_calm calm is) = orders_none (orders_are ∙ ap (λ (e : Effect). e.orders) is)
+    reply_orders (sets a l by there same resolves) =
+        sets_by (situation past) resolves.breakpoints _ refl (ap (λ (r : Reply). r.result) resolves.reply_is)
+        (subst (IsToWait past) (sym by) (l, there, same)) (ap (λ (r : Reply). r.effect.orders) resolves.reply_is)
+    reply_orders (begins l by here there is) = begins_by l (due_first past l) (ap (λ (r : Reply). r.effect.orders) is)
+    reply_orders (resumes_by resume_kind l by here there is) =
+        orders_go _ refl (orders_are ∙ ap (λ (r : Reply). r.effect.orders) is)
+    reply_orders (is_over resume_kind by here is) = orders_none (orders_are ∙ ap (λ (r : Reply). r.effect.orders) is)
+    reply_orders (retreats m l by back stands there is) =
+        orders_go _ refl (orders_are ∙ ap (λ (r : Reply). r.effect.orders) is)
+    reply_orders (interrupts a by here is) =
+        holds_by _ (ap (λ (r : Reply). r.result) is) (subst (IsToWait past) (sym by) tt) here
+        (ap (λ (r : Reply). r.effect.orders) is)
+    reply_orders (quits by is) =
+        orders_quit _ (ap closing item_is ∙ ap (λ c. closing (Content (Some (record { seq = request.seq; body = c }))))
+        by) (orders_are ∙ ap (λ (r : Reply). r.effect.orders) is)
 
-loaded_orders_none : (launch : Launch) (file : Option (List ℕ)) (reply : Reply) → Launches launch.arguments file reply → reply.effect.orders ≡ []
+loaded_orders_none : (launch : Launch) (file : Option (List ℕ)) (reply : Reply) → Launches launch.arguments file reply
+    → reply.effect.orders ≡ []
 loaded_orders_none launch None reply is = ap (λ (r : Reply). r.effect.orders) is
 loaded_orders_none launch (Some text) reply (inl is) = ap (λ (r : Reply). r.effect.orders) is.reply_is
 loaded_orders_none launch (Some text) reply (inr is) = ap (λ (r : Reply). r.effect.orders) is.reply_is
 
-report_orders : (past : History) (r : PlainReport) (e : SliceOutcome) (step : Step) → step.effect.orders ≡ (report_effect past r e).orders → OrdersBy past step
+report_orders : (past : History) (r : PlainReport) (e : SliceOutcome) (step : Step)
+    → step.effect.orders ≡ (report_effect past r e).orders → OrdersBy past step
 report_orders past r slice.More step is = orders_none is
 report_orders past r (slice.Due reason) step is = orders_none is
 report_orders past r slice.Done step is = orders_none is
@@ -120,14 +144,20 @@ report_orders past r slice.Held step is = by_pause (waiting_pause past) is
     by_pause true is = orders_none is
     by_pause false is = orders_go _ refl is
 
-item_orders : (past : History) (item : Item) (step : Step) → step.item ≡ item → Causes past item step → OrdersBy past step
+item_orders : (past : History) (item : Item) (step : Step) → step.item ≡ item → Causes past item step
+    → OrdersBy past step
 item_orders past (Content None) step item_is is = orders_none (ap (λ (e : Effect). e.orders) is.effect_is)
-item_orders past (Content (Some request)) step item_is is = reply_orders past request is.0 step item_is is.2 (shaped past is.0 (situation past) request.body is.1)
-item_orders past (Loaded launch file) step item_is is = orders_none (ap (λ (e : Effect). e.orders) is.2.effect_is ∙ loaded_orders_none launch file is.0 is.1)
-item_orders past (Accepted r) step item_is is = report_orders past r r.outcome step (ap (λ (e : Effect). e.orders) is.effect_is)
+item_orders past (Content (Some request)) step item_is is =
+    reply_orders past request is.0 step item_is is.2 (shaped past is.0 (situation past) request.body is.1)
+item_orders past (Loaded launch file) step item_is is =
+    orders_none (ap (λ (e : Effect). e.orders) is.2.effect_is ∙ loaded_orders_none launch file is.0 is.1)
+item_orders past (Accepted r) step item_is is =
+    report_orders past r r.outcome step (ap (λ (e : Effect). e.orders) is.effect_is)
 item_orders past (Fault k) step item_is is = orders_none (ap (λ (e : Effect). e.orders) is.effect_is)
-item_orders past InputEnd step item_is is = orders_quit _ (ap closing item_is) (ap (λ (e : Effect). e.orders) is.effect_is)
-item_orders past ReadFailure step item_is is = orders_quit _ (ap closing item_is) (ap (λ (e : Effect). e.orders) is.effect_is)
+item_orders past InputEnd step item_is is =
+    orders_quit _ (ap closing item_is) (ap (λ (e : Effect). e.orders) is.effect_is)
+item_orders past ReadFailure step item_is is =
+    orders_quit _ (ap closing item_is) (ap (λ (e : Effect). e.orders) is.effect_is)
 item_orders past MemoryFailure step item_is is = orders_none (ap (λ (e : Effect). e.orders) is.effect_is)
 
 -- ---- how the orders end
@@ -136,7 +166,8 @@ item_orders past MemoryFailure step item_is is = orders_none (ap (λ (e : Effect
 record EndsAt (past : History) (run : Heading) : Type 0 where
   earlier : List PlainOrder
   number_is : run.run ≡ runs past
-  ends : ((is_held past ≡ false) × (orders_of past ≡ earlier ++ Go run ∷ [])) ⊎ ((is_held past ≡ true) × (orders_of past ≡ earlier ++ Go run ∷ Hold run.run ∷ []))
+  ends : ((is_held past ≡ false) × (orders_of past ≡ earlier ++ Go run ∷ []))
+      ⊎ ((is_held past ≡ true) × (orders_of past ≡ earlier ++ Go run ∷ Hold run.run ∷ []))
 
 record Ends (past : History) : Type 0 where
   last : IsTaking past → (run : Heading) → last_run past ≡ Some run → EndsAt past run
@@ -155,7 +186,9 @@ module _ (past : History) (step : Step) (orders : List PlainOrder) (orders_are :
   held_then : is_held (past ++ step ∷ []) ≡ unwrap_or (last_such hold_mark orders) (is_held past)
   held_then = is_held-snoc past step ∙ ap (λ os. unwrap_or (last_such hold_mark os) (is_held past)) orders_are
 
-last_more : (past : History) (step : Step) → IsTaking past → OrdersBy past step → Ends past → IsTaking (past ++ step ∷ []) → (run : Heading) → last_run (past ++ step ∷ []) ≡ Some run → EndsAt (past ++ step ∷ []) run
+last_more : (past : History) (step : Step) → IsTaking past → OrdersBy past step → Ends past
+    → IsTaking (past ++ step ∷ []) → (run : Heading) → last_run (past ++ step ∷ []) ≡ Some run
+    → EndsAt (past ++ step ∷ []) run
 last_more past step taking (orders_none is) here still run run_is = record {
   earlier = was.earlier;
   number_is = was.number_is ∙ sym count;
@@ -171,9 +204,11 @@ last_more past step taking (orders_none is) here still run run_is = record {
     same : orders_of (past ++ step ∷ []) ≡ orders_of past
     same = orders_then past step [] is ∙ append-nil (orders_of past)
 
-    by_end : ((is_held past ≡ false) × (orders_of past ≡ was.earlier ++ Go run ∷ [])) ⊎ ((is_held past ≡ true) × (orders_of past ≡ was.earlier ++ Go run ∷ Hold run.run ∷ []))
+    by_end : ((is_held past ≡ false) × (orders_of past ≡ was.earlier ++ Go run ∷ []))
+        ⊎ ((is_held past ≡ true) × (orders_of past ≡ was.earlier ++ Go run ∷ Hold run.run ∷ []))
         → ((is_held (past ++ step ∷ []) ≡ false) × (orders_of (past ++ step ∷ []) ≡ was.earlier ++ Go run ∷ []))
-        ⊎ ((is_held (past ++ step ∷ []) ≡ true) × (orders_of (past ++ step ∷ []) ≡ was.earlier ++ Go run ∷ Hold run.run ∷ []))
+        ⊎ ((is_held (past ++ step ∷ []) ≡ true) × (orders_of (past ++ step ∷ []) ≡ was.earlier ++ Go run ∷ Hold run.run
+        ∷ []))
     by_end (inl e) = inl (held_then past step [] is ∙ e.0, same ∙ e.1)
     by_end (inr e) = inr (held_then past step [] is ∙ e.0, same ∙ e.1)
 last_more past step taking (orders_go new number is) here still run run_is =
@@ -181,7 +216,11 @@ last_more past step taking (orders_go new number is) here still run run_is =
     record {
       earlier = orders_of past;
       number_is = ap (λ (h : Heading). h.run) (sym same) ∙ number ∙ sym (runs_then past step (Go new ∷ []) is);
-      ends = inl (held_then past step (Go new ∷ []) is, orders_then past step (Go new ∷ []) is ∙ ap (λ h. orders_of past ++ Go h ∷ []) same);
+      ends = inl (
+        held_then past step (Go new ∷ []) is,
+        orders_then past step (Go new ∷ []) is
+            ∙ ap (λ h. orders_of past ++ Go h ∷ []) same,
+      );
     }
 last_more past step taking (orders_hold wait running not_held forward is) here still run run_is = record {
   earlier = was.earlier;
@@ -195,7 +234,8 @@ last_more past step taking (orders_hold wait running not_held forward is) here s
     count : runs (past ++ step ∷ []) ≡ runs past
     count = runs_then past step (Hold (runs past) ∷ []) is ∙ omega arith
 
-    by_end : ((is_held past ≡ false) × (orders_of past ≡ was.earlier ++ Go run ∷ [])) ⊎ ((is_held past ≡ true) × (orders_of past ≡ was.earlier ++ Go run ∷ Hold run.run ∷ []))
+    by_end : ((is_held past ≡ false) × (orders_of past ≡ was.earlier ++ Go run ∷ []))
+        ⊎ ((is_held past ≡ true) × (orders_of past ≡ was.earlier ++ Go run ∷ Hold run.run ∷ []))
         → orders_of (past ++ step ∷ []) ≡ was.earlier ++ Go run ∷ Hold run.run ∷ []
     by_end (inl e) =
         orders_then past step (Hold (runs past) ∷ []) is
@@ -206,18 +246,24 @@ last_more past step taking (orders_hold wait running not_held forward is) here s
 last_more past step taking (orders_quit by closes is) here still run run_is =
     let e = sym still ∙ ending_of-snoc past step ∙ ap (λ o. or_else o (ending_of past)) closes in absurd cc
 
-running_more : (past : History) (item : Item) (step : Step) → Causes past item step → Ends past → IsRunning (situation (past ++ step ∷ [])) → (run : Heading) × (last_run (past ++ step ∷ []) ≡ Some run)
+running_more : (past : History) (item : Item) (step : Step) → Causes past item step → Ends past
+    → IsRunning (situation (past ++ step ∷ [])) → (run : Heading) × (last_run (past ++ step ∷ []) ≡ Some run)
 running_more past item step causes here running = by_run (last_such go step.effect.orders) refl
   where
-    by_mark : last_such go step.effect.orders ≡ None → MarkIs IsRunning (step_mark step) ⊎ ((step_mark step ≡ None) × IsRunning (situation past)) → (run : Heading) × (last_run (past ++ step ∷ []) ≡ Some run)
+    by_mark : last_such go step.effect.orders ≡ None → MarkIs IsRunning (step_mark step)
+        ⊎ ((step_mark step ≡ None) × IsRunning (situation past)) → (run : Heading)
+        × (last_run (past ++ step ∷ []) ≡ Some run)
     by_mark none (inl mark) = absurd (runs_not step (answers_only past item step causes) none mark)
     by_mark none (inr was) =
         let before = here.running was.1 in
         (before.0, last_run-snoc past step ∙ ap (λ o. or_else o (last_run past)) none ∙ before.1)
 
-    by_run : (o : Option Heading) → last_such go step.effect.orders ≡ o → (run : Heading) × (last_run (past ++ step ∷ []) ≡ Some run)
+    by_run : (o : Option Heading) → last_such go step.effect.orders ≡ o → (run : Heading)
+        × (last_run (past ++ step ∷ []) ≡ Some run)
     by_run (Some run) is = (run, last_run-snoc past step ∙ ap (λ o. or_else o (last_run past)) is)
-    by_run None none = by_mark none (mark_unwrap IsRunning (step_mark step) (situation past) (subst IsRunning (situation-snoc past step) running))
+    by_run None none =
+        by_mark none (mark_unwrap IsRunning (step_mark step) (situation past)
+        (subst IsRunning (situation-snoc past step) running))
 
 ends_kept : (Q : Incoming → Type 0) → IsKept Q Ends
 ends_kept Q = record {
@@ -246,13 +292,18 @@ goes_on past run is = ap (λ o. option_map_or (λ (h : Heading). goes_back h.mod
 
 module _ (past : History) (step : Step) (front back : List PlainOrder) (n : ℕ) where
   abbrev IsHeldOnce : Type 0
-  IsHeldOnce = GrantsWait past step × ((earlier : List PlainOrder) × (run : Heading) × (orders_of past ++ front ≡ earlier ++ Go run ∷ []) × (n ≡ run.run) × (goes_back run.mode ≡ false))
+  IsHeldOnce =
+      GrantsWait past step × ((earlier : List PlainOrder) × (run : Heading)
+      × (orders_of past ++ front ≡ earlier ++ Go run ∷ []) × (n ≡ run.run) × (goes_back run.mode ≡ false))
 
   held_once : IsTaking past → OrdersBy past step → Ends past → step.effect.orders ≡ front ++ Hold n ∷ back → IsHeldOnce
   held_once taking (orders_none is) here holds = absurd (none_within front back (Hold n) (sym is ∙ holds))
-  held_once taking (orders_go run number is) here holds = let e = (alone (Go run) (Hold n) front back (sym is ∙ holds)).0 in absurd cc
-  held_once taking (orders_quit by closes is) here holds = let e = (alone Quit (Hold n) front back (sym is ∙ holds)).0 in absurd cc
-  held_once taking (orders_hold wait running not_held forward is) here holds = (wait, (was.earlier, run.0, by_end was.ends, sym count ∙ sym was.number_is, goes_on past run.0 run.1 ∙ forward))
+  held_once taking (orders_go run number is) here holds =
+      let e = (alone (Go run) (Hold n) front back (sym is ∙ holds)).0 in absurd cc
+  held_once taking (orders_quit by closes is) here holds =
+      let e = (alone Quit (Hold n) front back (sym is ∙ holds)).0 in absurd cc
+  held_once taking (orders_hold wait running not_held forward is) here holds =
+      (wait, (was.earlier, run.0, by_end was.ends, sym count ∙ sym was.number_is, goes_on past run.0 run.1 ∙ forward))
     where
       run : (run : Heading) × (last_run past ≡ Some run)
       run = here.running (subst IsRunning (sym running) tt)
@@ -266,7 +317,8 @@ module _ (past : History) (step : Step) (front back : List PlainOrder) (n : ℕ)
       count : runs past ≡ n
       count = let e = parts.0 in cc
 
-      by_end : ((is_held past ≡ false) × (orders_of past ≡ was.earlier ++ Go run.0 ∷ [])) ⊎ ((is_held past ≡ true) × (orders_of past ≡ was.earlier ++ Go run.0 ∷ Hold run.0.run ∷ []))
+      by_end : ((is_held past ≡ false) × (orders_of past ≡ was.earlier ++ Go run.0 ∷ []))
+          ⊎ ((is_held past ≡ true) × (orders_of past ≡ was.earlier ++ Go run.0 ∷ Hold run.0.run ∷ []))
           → orders_of past ++ front ≡ was.earlier ++ Go run.0 ∷ []
       by_end (inl e) = ap (λ os. orders_of past ++ os) parts.1 ∙ append-nil (orders_of past) ∙ e.1
       by_end (inr e) = let f = sym not_held ∙ e.0 in absurd cc
@@ -276,14 +328,16 @@ hold_once_law events past rest history before step after past_is front back n ho
     held_once before step front back n was.taking (item_orders before step.item step refl was.causes) was.held holds
   where
     each : EachTaken Any Ends past
-    each = along Any (EachTaken Any Ends) (each_kept Any Ends (ends_kept Any)) (each_first Any Ends ends_first) events past rest (any_events events) history
+    each = along Any (EachTaken Any Ends) (each_kept Any Ends (ends_kept Any)) (each_first Any Ends ends_first) events
+        past rest (any_events events) history
 
     was : WasTaken Any Ends before step
     was = each.each before step after past_is
 
 -- ---- what waits is held
 
-not_resuming : (past : History) (asked : Command) (resume_kind : ResumeKind) → resume_kind_by asked ≡ Some resume_kind → ¬ IsToWait past asked
+not_resuming : (past : History) (asked : Command) (resume_kind : ResumeKind) → resume_kind_by asked ≡ Some resume_kind
+    → ¬ IsToWait past asked
 not_resuming past (command.Pause a) resume_kind by to_wait = absurd cc
 not_resuming past (command.SetBreakpoints a) resume_kind by to_wait = absurd cc
 not_resuming past _ resume_kind by to_wait = to_wait
@@ -301,7 +355,8 @@ not_calm past (command.SetBreakpoints a) calm to_wait =
     let e = sym calm.2 ∙ ap (λ (l : Launched). is_at a.path l.path) same ∙ to_wait.2 in absurd cc
 not_calm past _ calm to_wait = to_wait
 
-module _ (past : History) (asked : Command) (reply : Reply) (b : Body) (granted : reply.result ≡ Ok b) (to_wait : IsToWait past asked) where
+module _ (past : History) (asked : Command) (reply : Reply) (b : Body) (granted : reply.result ≡ Ok b)
+    (to_wait : IsToWait past asked) where
   sets_hold : (s : Situation) (bs : List Breakpoint) → s ≡ Running → (effect_in s past bs).orders ≡ hold_once past
   sets_hold Running bs is = refl
   sets_hold _ bs is = absurd cc
@@ -309,9 +364,11 @@ module _ (past : History) (asked : Command) (reply : Reply) (b : Body) (granted 
   reply_holds : situation past ≡ Running → Shape past Running asked reply → reply.effect.orders ≡ hold_once past
   reply_holds here (refuses why is) = let e = ap (λ (r : Reply). r.result) (sym is) ∙ granted in absurd cc
   reply_holds here (is_calm calm is) = absurd (not_calm past asked calm to_wait)
-  reply_holds here (sets a l by there same resolves) = ap (λ (r : Reply). r.effect.orders) resolves.reply_is ∙ sets_hold (situation past) resolves.breakpoints here
+  reply_holds here (sets a l by there same resolves) =
+      ap (λ (r : Reply). r.effect.orders) resolves.reply_is ∙ sets_hold (situation past) resolves.breakpoints here
   reply_holds here (begins l by running there is) = absurd (subst (IsToWait past) by to_wait)
-  reply_holds here (resumes_by resume_kind l by running there is) = absurd (not_resuming past asked resume_kind by to_wait)
+  reply_holds here (resumes_by resume_kind l by running there is) =
+      absurd (not_resuming past asked resume_kind by to_wait)
   reply_holds here (is_over resume_kind by running is) = absurd (not_resuming past asked resume_kind by to_wait)
   reply_holds here (retreats m l by back stands there is) = absurd (not_back past asked m by to_wait)
   reply_holds here (interrupts a by running is) = ap (λ (r : Reply). r.effect.orders) is
@@ -321,7 +378,8 @@ abbrev pub result_of : Option Outgoing → Option (Result Body Refusal)
 result_of (Some (Answer seq c result)) = Some result
 result_of _ = None
 
-granted_orders : (past : History) (step : Step) → Causes past step.item step → situation past ≡ Running → (wait : GrantsWait past step) → step.effect.orders ≡ hold_once past
+granted_orders : (past : History) (step : Step) → Causes past step.item step → situation past ≡ Running
+    → (wait : GrantsWait past step) → step.effect.orders ≡ hold_once past
 granted_orders past step causes here wait =
     ap (λ (e : Effect). e.orders) is.2.effect_is
     ∙ reply_holds past wait.request.body is.0 wait.granted.body granted wait.to_wait here
@@ -333,7 +391,8 @@ granted_orders past step causes here wait =
     granted : is.0.result ≡ Ok wait.granted.body
     granted = ap (λ a. unwrap_or (result_of a) (Ok wait.granted.body)) (sym is.2.answer_is ∙ wait.granted.answer_is)
 
-module _ (past : History) (step : Step) (run : Heading) (run_is : last_run past ≡ Some run) (holds : step.effect.orders ≡ hold_once past) (forward : goes_back run.mode ≡ false) where
+module _ (past : History) (step : Step) (run : Heading) (run_is : last_run past ≡ Some run)
+    (holds : step.effect.orders ≡ hold_once past) (forward : goes_back run.mode ≡ false) where
   abbrev EndsHeld : Type 0
   EndsHeld = (earlier : List PlainOrder) × (orders_of (past ++ step ∷ []) ≡ earlier ++ Hold run.run ∷ [])
 
@@ -343,21 +402,32 @@ module _ (past : History) (step : Step) (run : Heading) (run_is : last_run past 
   ends_held : EndsAt past run → EndsHeld
   ends_held was = by_end was.ends
     where
-      by_end : ((is_held past ≡ false) × (orders_of past ≡ was.earlier ++ Go run ∷ [])) ⊎ ((is_held past ≡ true) × (orders_of past ≡ was.earlier ++ Go run ∷ Hold run.run ∷ [])) → EndsHeld
+      by_end : ((is_held past ≡ false) × (orders_of past ≡ was.earlier ++ Go run ∷ []))
+          ⊎ ((is_held past ≡ true) × (orders_of past ≡ was.earlier ++ Go run ∷ Hold run.run ∷ [])) → EndsHeld
       by_end (inl e) =
           let one : step.effect.orders ≡ Hold (runs past) ∷ [] =
-          holds ∙ ap (λ t. if t || is_back past then [] else Hold (runs past) ∷ []) e.0 ∙ ap (λ t. if t then [] else Hold (runs past) ∷ []) not_is_back in
-          (orders_of past, orders_then past step (Hold (runs past) ∷ []) one ∙ ap (λ n. orders_of past ++ Hold n ∷ []) (sym was.number_is))
+          holds ∙ ap (λ t. if t || is_back past then [] else Hold (runs past) ∷ []) e.0
+          ∙ ap (λ t. if t then [] else Hold (runs past) ∷ []) not_is_back in (
+            orders_of past,
+            orders_then past step (Hold (runs past) ∷ []) one
+                ∙ ap (λ n. orders_of past ++ Hold n ∷ []) (sym was.number_is),
+          )
       by_end (inr e) =
-          let none : step.effect.orders ≡ [] = holds ∙ ap (λ t. if t || is_back past then [] else Hold (runs past) ∷ []) e.0 in
-          (was.earlier ++ Go run ∷ [], orders_then past step [] none ∙ append-nil (orders_of past) ∙ e.1 ∙ sym (append_assoc was.earlier (Go run ∷ []) (Hold run.run ∷ [])))
+          let none : step.effect.orders ≡ [] =
+          holds ∙ ap (λ t. if t || is_back past then [] else Hold (runs past) ∷ []) e.0 in (
+            was.earlier ++ Go run ∷ [],
+            orders_then past step [] none ∙ append-nil (orders_of past) ∙ e.1
+                ∙ sym (append_assoc was.earlier (Go run ∷ []) (Hold run.run ∷ [])),
+          )
 
 pub waits_are_held : WaitsAreHeld
 waits_are_held events past rest history before step after past_is running run run_is forward wait =
-    ends_held before step run run_is (granted_orders before step was.causes running wait) forward (was.held.last was.taking run run_is)
+    ends_held before step run run_is (granted_orders before step was.causes running wait) forward
+    (was.held.last was.taking run run_is)
   where
     each : EachTaken Any Ends past
-    each = along Any (EachTaken Any Ends) (each_kept Any Ends (ends_kept Any)) (each_first Any Ends ends_first) events past rest (any_events events) history
+    each = along Any (EachTaken Any Ends) (each_kept Any Ends (ends_kept Any)) (each_first Any Ends ends_first) events
+        past rest (any_events events) history
 
     was : WasTaken Any Ends before step
     was = each.each before step after past_is

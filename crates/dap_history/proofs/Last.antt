@@ -20,12 +20,16 @@ use Rattle.dap_history.proofs.Passing.{none_left}
 
 -- no item follows one that closes
 pub record ClosesLast (past : History) : Type 0 where
-  pub last : (before : History) (step : Step) (after : History) (by : Ending) → past ≡ before ++ step ∷ after → closing step.item ≡ Some by → after ≡ []
+  pub last : (before : History) (step : Step) (after : History) (by : Ending) → past ≡ before ++ step ∷ after
+      → closing step.item ≡ Some by → after ≡ []
 
 -- where an item closed, none is taken any more
-closed_there : (before : History) (step : Step) (after : History) (by : Ending) → closing step.item ≡ Some by → ¬ IsTaking (before ++ step ∷ after)
+closed_there : (before : History) (step : Step) (after : History) (by : Ending) → closing step.item ≡ Some by
+    → ¬ IsTaking (before ++ step ∷ after)
 closed_there before step after by closes taking =
-    let none = none_left (ending_of (step ∷ after)) (ending_of before) (sym (last_such-append (λ (s : Step). closing s.item) before (step ∷ after)) ∙ taking) in
+    let none =
+    none_left (ending_of (step ∷ after)) (ending_of before)
+    (sym (last_such-append (λ (s : Step). closing s.item) before (step ∷ after)) ∙ taking) in
     let e = sym (none_left (ending_of after) (closing step.item) none.0).1 ∙ closes in
     absurd cc
 
@@ -35,20 +39,25 @@ closes_last_more past s taking here = record {
 }
   where
     by_place : (before : History) (step : Step) (after : History) (by : Ending) → closing step.item ≡ Some by
-        → ((past ≡ before) × (s ≡ step) × (after ≡ [])) ⊎ ((rest : History) × (past ≡ before ++ step ∷ rest)) → after ≡ []
+        → ((past ≡ before) × (s ≡ step) × (after ≡ [])) ⊎ ((rest : History) × (past ≡ before ++ step ∷ rest))
+        → after ≡ []
     by_place before step after by closes (inl is) = is.2
-    by_place before step after by closes (inr is) = absurd (closed_there before step is.0 by closes (subst IsTaking is.1 taking))
+    by_place before step after by closes (inr is) =
+        absurd (closed_there before step is.0 by closes (subst IsTaking is.1 taking))
 
 closes_last_kept : (Q : Incoming → Type 0) → IsKept Q ClosesLast
 closes_last_kept Q = record {
-  step = λ past item new taking taken after here. subst ClosesLast (sym after.new_is) (closes_last_more past after.step taking here);
+  step = λ past item new taking taken after here. subst ClosesLast (sym after.new_is)
+      (closes_last_more past after.step taking here);
 }
 
 closes_last_first : ClosesLast []
 closes_last_first = record { last = λ before step after by is closes. absurd (none_first before step after is) }
 
 -- the messages of a `disconnect`
-answers_it : (past : History) (step : Step) (seq : ℕ) → Causes past (Content (Some (record { seq = seq; body = command.Disconnect }))) step → messages step ≡ Answer seq (name.Supported Disconnect) (Ok body.None) ∷ []
+answers_it : (past : History) (step : Step) (seq : ℕ) → Causes past
+    (Content (Some (record { seq = seq; body = command.Disconnect }))) step
+    → messages step ≡ Answer seq (name.Supported Disconnect) (Ok body.None) ∷ []
 answers_it past step seq is =
     ap (λ a. with_answer a (map Event step.effect.events)) is.2.answer_is
     ∙ ap (λ e. Answer seq (name.Supported Disconnect) is.0.result ∷ map Event e.events) is.2.effect_is
@@ -58,11 +67,14 @@ pub disconnect_last : DisconnectIsLast
 disconnect_last events past rest history before step after seq past_is item_is = (
   ends,
   ap messages_of (past_is ∙ ap (λ a. before ++ step ∷ a) ends) ∙ messages_of-snoc before step
-      ∙ ap (λ l. messages_of before ++ l) (answers_it before step seq (subst (λ i. Causes before i step) item_is was.causes)),
+      ∙ ap (λ l. messages_of before ++ l)
+      (answers_it before step seq (subst (λ i. Causes before i step) item_is was.causes)),
 )
   where
     each : EachTaken (λ e. Unit {0}) ClosesLast past
-    each = along (λ e. Unit {0}) (EachTaken (λ e. Unit {0}) ClosesLast) (each_kept (λ e. Unit {0}) ClosesLast (closes_last_kept (λ e. Unit {0}))) (each_first (λ e. Unit {0}) ClosesLast closes_last_first) events past rest (any_events events) history
+    each = along (λ e. Unit {0}) (EachTaken (λ e. Unit {0}) ClosesLast)
+        (each_kept (λ e. Unit {0}) ClosesLast (closes_last_kept (λ e. Unit {0})))
+        (each_first (λ e. Unit {0}) ClosesLast closes_last_first) events past rest (any_events events) history
 
     was : WasTaken (λ e. Unit {0}) ClosesLast before step
     was = each.each before step after past_is

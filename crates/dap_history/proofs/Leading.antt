@@ -5,7 +5,6 @@ use Rattle.std.specs.Option.{option_map_or}
 use Rattle.dap_msg.specs.declared.question.Question.TheVariants as question
 use Rattle.dap_msg.specs.declared.question.Question.{Question}
 use Rattle.dap_msg.specs.declared.requests.resume.ResumeKind.{ResumeKind}
-use Rattle.dap_msg.specs.declared.request.Request.{Request}
 use Rattle.dap_msg.specs.Commands.{name_of}
 use Rattle.dap_msg.specs.declared.command.Command.{Command}
 use Rattle.dap_msg.specs.declared.command.Command.TheVariants as command
@@ -31,22 +30,21 @@ use Rattle.dbg_plan.specs.declared.mode.Reason.{Reason}
 use Rattle.dbg_runner.specs.declared.outcome.SliceOutcome.{SliceOutcome}
 use Rattle.dbg_runner.specs.declared.outcome.SliceOutcome.TheVariants as slice
 use Rattle.dbg_runner.specs.Plain.{PlainReport, Quit, goes_back}
-use Rattle.dbg_runner.specs.Lawful.{IsLawful, RunsAt, EndsBy, takes_all, is_due, is_over as is_ended, faults, is_held, lacks_memory, GoesBackBy, is_spent, has_come, has_no_memory, Went}
+use Rattle.dbg_runner.specs.Lawful.{RunsAt, EndsBy, takes_all, is_due, is_over as is_ended, faults, is_held, lacks_memory, GoesBackBy, is_spent, has_come, has_no_memory, Went}
 use Rattle.dap_history.specs.declared.launch.Launch.{Launch}
 use Rattle.dap_history.specs.declared.situation.Situation.{Situation}
 use Rattle.dap_history.specs.declared.situation.Situation.TheVariants.{Fresh, Ready, Configuring, Running, Stopped, Faulted, Ended}
-use Rattle.dap_history.specs.Last.{or_else, last_such}
+use Rattle.dap_history.specs.Last.{or_else}
 use Rattle.dap_history.specs.History.{Launched, Item, Content, Loaded, Accepted, Fault, InputEnd, ReadFailure, MemoryFailure, Step, History, Effect}
 use Rattle.dap_history.specs.Readings.{situation, step_mark, launched, end_of, position}
 use Rattle.dap_history.specs.Replies.{Reply, nothing, ordering, refused, causing, OfProgram, on_thread}
-use Rattle.dap_history.specs.Launching.{initialize_in, Launches, launches}
+use Rattle.dap_history.specs.Launching.{Launches}
 use Rattle.dap_history.specs.Running.{resumes, enters, ConfiguresIn, ResumesIn, RetreatsIn}
 use Rattle.dap_history.specs.Inspection.{RepliesFrom, RepliesAt, asked_of, InspectsIn}
-use Rattle.dap_history.specs.Reports.{Accepts, report_effect}
+use Rattle.dap_history.specs.Reports.{report_effect}
 use Rattle.dap_history.specs.Emission.{RepliesIn, Causes, IsAfter}
 use Rattle.dap_history.specs.Laws.{IsPlain, IsPlainItem, EachItemLeads}
 use Rattle.dap_history.specs.Stops.{IsStanding}
-use Rattle.dap_history.specs.Events.{Incoming}
 use Rattle.dap_history.proofs.Readings.{situation-snoc, position-snoc, launched-snoc}
 use Rattle.dap_history.proofs.Texts.{OneProgram}
 use Rattle.dap_history.proofs.Along.{IsTaken, IsKept, IsLawfulEvent, lawful_events, along}
@@ -66,7 +64,8 @@ last_due_below : (main : Block) (bs : List Breakpoint) (n m : ℕ) → last_due 
 last_due_below main bs zero m is = absurd cc
 last_due_below main bs (suc n) m is = by_test (is_some (due main bs 0 mode.Continue n)) is (last_due_below main bs n m)
   where
-    by_test : (there : Bool) → (if there then Some n else last_due main bs n) ≡ Some m → (last_due main bs n ≡ Some m → m ≤ n) → m ≤ suc n
+    by_test : (there : Bool) → (if there then Some n else last_due main bs n) ≡ Some m
+        → (last_due main bs n ≡ Some m → m ≤ n) → m ≤ suc n
     by_test true is below = let same : n ≡ m = cc in omega (arith, same)
     by_test false is below = let lower = below is in omega (arith, lower)
 
@@ -75,10 +74,13 @@ stop_below n None below = omega arith
 stop_below n (Some m) below = below m refl
 
 -- going back leads no further
-goal_below : (main : Block) (bs : List Breakpoint) (m : Mode) (n e : ℕ) (why : Reason) → goal_of main bs m n ≡ Some (record { position = e; reason = why }) → e ≤ n
-goal_below main bs mode.StepBack n e why is = let there : n - 1 ≡ e = ap (λ o. option_map_or (λ (s : Stop). s.position) o 0) is in omega (arith, there)
+goal_below : (main : Block) (bs : List Breakpoint) (m : Mode) (n e : ℕ) (why : Reason)
+    → goal_of main bs m n ≡ Some (record { position = e; reason = why }) → e ≤ n
+goal_below main bs mode.StepBack n e why is =
+    let there : n - 1 ≡ e = ap (λ o. option_map_or (λ (s : Stop). s.position) o 0) is in omega (arith, there)
 goal_below main bs mode.Reverse n e why is =
-    let there : (stop_at (last_due main bs n)).position ≡ e = ap (λ o. option_map_or (λ (s : Stop). s.position) o 0) is in
+    let there : (stop_at (last_due main bs n)).position ≡ e =
+    ap (λ o. option_map_or (λ (s : Stop). s.position) o 0) is in
     subst (λ k. k ≤ n) there (stop_below n (last_due main bs n) (last_due_below main bs n))
 goal_below main bs _ n e why is = absurd cc
 
@@ -105,7 +107,9 @@ module _ (main : Block) (r : PlainReport) (no_gaps : RunsHaveNoGaps) where
 
   went_alive : (b : Bool) → Went main r b → IsSome (at main r.end)
   went_alive false went = ends_alive r.outcome went.outcome
-  went_alive true went = no_gaps main r.end r.start (back_below r.outcome went.outcome) (runs_some main r.start (at main r.start) refl went.begun)
+  went_alive true went =
+      no_gaps main r.end r.start (back_below r.outcome went.outcome)
+      (runs_some main r.start (at main r.start) refl went.begun)
 
 -- ---- a program is launched
 
@@ -113,7 +117,8 @@ module _ (main : Block) (r : PlainReport) (no_gaps : RunsHaveNoGaps) where
 abbrev EarlyOr : Situation → Step → Type 0
 EarlyOr s step = IsEarly (unwrap_or (step_mark step) s) ⊎ ((l : Launched) × (step.effect.launched ≡ Some l))
 
-calm_early : (past : History) (s : Situation) (seq : ℕ) (asked : Command) (b : Body) → IsEarly s → IsCalm past s asked → EarlyOr s (answering seq asked (Ok b) nothing)
+calm_early : (past : History) (s : Situation) (seq : ℕ) (asked : Command) (b : Body) → IsEarly s → IsCalm past s asked
+    → EarlyOr s (answering seq asked (Ok b) nothing)
 calm_early past s seq (command.Initialize a) b early calm = inl tt
 calm_early past s seq (command.SetBreakpoints a) b early calm = inl early
 calm_early past s seq command.Threads b early calm = inl early
@@ -121,7 +126,8 @@ calm_early past s seq (command.Pause a) b early calm = inl early
 calm_early past s seq (command.Inspect q) b early calm = inl early
 calm_early past s seq _ b early calm = absurd calm
 
-calm_early_result : (past : History) (s : Situation) (seq : ℕ) (asked : Command) (result : Result Body Refusal) → IsEarly s → IsCalm past s asked → EarlyOr s (answering seq asked result nothing)
+calm_early_result : (past : History) (s : Situation) (seq : ℕ) (asked : Command) (result : Result Body Refusal)
+    → IsEarly s → IsCalm past s asked → EarlyOr s (answering seq asked result nothing)
 calm_early_result past s seq asked (Ok b) early calm = calm_early past s seq asked b early calm
 calm_early_result past s seq asked (Err why) early calm = inl early
 
@@ -130,41 +136,63 @@ standing_late Stopped stands early = early
 standing_late Faulted stands early = early
 standing_late _ stands early = stands
 
-reply_early : (past : History) (s : Situation) (seq : ℕ) (asked : Command) (reply : Reply) → launched past ≡ None → IsEarly s → Shape past s asked reply → EarlyOr s (answering seq asked reply.result reply.effect)
-reply_early past s seq asked reply none early (refuses why is) = subst (λ (r : Reply). EarlyOr s (answering seq asked r.result r.effect)) (sym is) (inl early)
-reply_early past s seq asked reply none early (is_calm calm is) = subst (λ e. EarlyOr s (answering seq asked reply.result e)) (sym is) (calm_early_result past s seq asked reply.result early calm)
-reply_early past s seq asked reply none early (sets a l by there same resolves) = absurd (let e = sym none ∙ there in cc)
+reply_early : (past : History) (s : Situation) (seq : ℕ) (asked : Command) (reply : Reply) → launched past ≡ None
+    → IsEarly s → Shape past s asked reply → EarlyOr s (answering seq asked reply.result reply.effect)
+reply_early past s seq asked reply none early (refuses why is) =
+    subst (λ (r : Reply). EarlyOr s (answering seq asked r.result r.effect)) (sym is) (inl early)
+reply_early past s seq asked reply none early (is_calm calm is) =
+    subst (λ e. EarlyOr s (answering seq asked reply.result e)) (sym is)
+    (calm_early_result past s seq asked reply.result early calm)
+reply_early past s seq asked reply none early (sets a l by there same resolves) =
+    absurd (let e = sym none ∙ there in cc)
 reply_early past s seq asked reply none early (begins l by here there is) = absurd (let e = sym none ∙ there in cc)
-reply_early past s seq asked reply none early (resumes_by resume_kind l by here there is) = absurd (let e = sym none ∙ there in cc)
+reply_early past s seq asked reply none early (resumes_by resume_kind l by here there is) =
+    absurd (let e = sym none ∙ there in cc)
 reply_early past s seq asked reply none early (is_over resume_kind by here is) = absurd (subst IsEarly here early)
-reply_early past s seq asked reply none early (retreats m l by back stands there is) = absurd (standing_late s stands early)
+reply_early past s seq asked reply none early (retreats m l by back stands there is) =
+    absurd (standing_late s stands early)
 reply_early past s seq asked reply none early (interrupts a by here is) = absurd (subst IsEarly here early)
 reply_early past s seq asked reply none early (quits by is) =
-    subst (λ (r : Reply). EarlyOr s (answering seq asked r.result r.effect)) (sym is) (subst (λ c. EarlyOr s (answering seq c (Ok body.None) (ordering (Quit ∷ [])))) (sym by) (inl early))
+    subst (λ (r : Reply). EarlyOr s (answering seq asked r.result r.effect)) (sym is)
+    (subst (λ c. EarlyOr s (answering seq c (Ok body.None) (ordering (Quit ∷ [])))) (sym by) (inl early))
 
-launch_early : (s : Situation) (launch : Launch) (file : Option (List ℕ)) (reply : Reply) → IsEarly s → Launches launch.arguments file reply → EarlyOr s (launching launch file reply)
+launch_early : (s : Situation) (launch : Launch) (file : Option (List ℕ)) (reply : Reply) → IsEarly s
+    → Launches launch.arguments file reply → EarlyOr s (launching launch file reply)
 launch_early s launch None reply early is = subst (λ r. EarlyOr s (launching launch None r)) (sym is) (inl early)
-launch_early s launch (Some text) reply early (inl is) = subst (λ r. EarlyOr s (launching launch (Some text) r)) (sym is.reply_is) (inl early)
-launch_early s launch (Some text) reply early (inr is) = subst (λ r. EarlyOr s (launching launch (Some text) r)) (sym is.reply_is) (inr (_, refl))
+launch_early s launch (Some text) reply early (inl is) =
+    subst (λ r. EarlyOr s (launching launch (Some text) r)) (sym is.reply_is) (inl early)
+launch_early s launch (Some text) reply early (inr is) =
+    subst (λ r. EarlyOr s (launching launch (Some text) r)) (sym is.reply_is) (inr (_, refl))
 
-item_early : (past : History) (item : Item) (step : Step) → step.item ≡ item → IsTaken IsLawfulEvent past item → Causes past item step → launched past ≡ None → IsEarly (situation past) → EarlyOr (situation past) step
+item_early : (past : History) (item : Item) (step : Step) → step.item ≡ item → IsTaken IsLawfulEvent past item
+    → Causes past item step → launched past ≡ None → IsEarly (situation past) → EarlyOr (situation past) step
 item_early past (Content None) step item_is taken is none early =
-    subst (EarlyOr (situation past)) (sym (same_step step (Content None) None nothing item_is is.answer_is is.effect_is)) (inl early)
+    subst (EarlyOr (situation past)) (sym
+    (same_step step (Content None) None nothing item_is is.answer_is is.effect_is)) (inl early)
 item_early past (Content (Some request)) step item_is taken is none early =
-    subst (EarlyOr (situation past)) (sym (same_step step (Content (Some request)) (Some (Answer request.seq (name_of request.body) is.0.result)) is.0.effect item_is is.2.answer_is is.2.effect_is))
-    (reply_early past (situation past) request.seq request.body is.0 none early (shaped past is.0 (situation past) request.body is.1))
+    subst (EarlyOr (situation past)) (sym
+    (same_step step (Content (Some request)) (Some (Answer request.seq (name_of request.body) is.0.result))
+    is.0.effect item_is is.2.answer_is is.2.effect_is))
+    (reply_early past (situation past) request.seq request.body is.0 none early
+    (shaped past is.0 (situation past) request.body is.1))
 item_early past (Loaded launch file) step item_is taken is none early =
-    subst (EarlyOr (situation past)) (sym (same_step step (Loaded launch file) (Some (Answer launch.seq (name.Supported supported.Launch) is.0.result)) is.0.effect item_is is.2.answer_is is.2.effect_is))
+    subst (EarlyOr (situation past)) (sym
+    (same_step step (Loaded launch file) (Some (Answer launch.seq (name.Supported supported.Launch) is.0.result))
+    is.0.effect item_is is.2.answer_is is.2.effect_is))
     (launch_early (situation past) launch file is.0 early is.1)
 item_early past (Accepted r) step item_is taken is none early = absurd (subst IsEarly taken.0.running early)
 item_early past (Fault k) step item_is taken is none early =
-    subst (EarlyOr (situation past)) (sym (same_step step (Fault k) None nothing item_is is.answer_is is.effect_is)) (inl early)
+    subst (EarlyOr (situation past)) (sym (same_step step (Fault k) None nothing item_is is.answer_is is.effect_is))
+    (inl early)
 item_early past InputEnd step item_is taken is none early =
-    subst (EarlyOr (situation past)) (sym (same_step step InputEnd None (ordering (Quit ∷ [])) item_is is.answer_is is.effect_is)) (inl early)
+    subst (EarlyOr (situation past)) (sym
+    (same_step step InputEnd None (ordering (Quit ∷ [])) item_is is.answer_is is.effect_is)) (inl early)
 item_early past ReadFailure step item_is taken is none early =
-    subst (EarlyOr (situation past)) (sym (same_step step ReadFailure None (ordering (Quit ∷ [])) item_is is.answer_is is.effect_is)) (inl early)
+    subst (EarlyOr (situation past)) (sym
+    (same_step step ReadFailure None (ordering (Quit ∷ [])) item_is is.answer_is is.effect_is)) (inl early)
 item_early past MemoryFailure step item_is taken is none early =
-    subst (EarlyOr (situation past)) (sym (same_step step MemoryFailure None nothing item_is is.answer_is is.effect_is)) (inl early)
+    subst (EarlyOr (situation past)) (sym (same_step step MemoryFailure None nothing item_is is.answer_is is.effect_is))
+    (inl early)
 
 -- ---- along a history
 
@@ -182,10 +210,12 @@ early_or_late Ended = inr (λ x. x)
 abbrev IsLaunched : History → Type 0
 IsLaunched past = (l : Launched) × (launched past ≡ Some l)
 
-launched_by : (past : History) (step : Step) (l : Launched) → step.effect.launched ≡ Some l → IsLaunched (past ++ step ∷ [])
+launched_by : (past : History) (step : Step) (l : Launched) → step.effect.launched ≡ Some l
+    → IsLaunched (past ++ step ∷ [])
 launched_by past step l is = (l, launched-snoc past step ∙ ap (λ o. or_else o (launched past)) is)
 
-launched_on : (past : History) (step : Step) (o : Option Launched) → step.effect.launched ≡ o → (l : Launched) → launched past ≡ Some l → IsLaunched (past ++ step ∷ [])
+launched_on : (past : History) (step : Step) (o : Option Launched) → step.effect.launched ≡ o → (l : Launched)
+    → launched past ≡ Some l → IsLaunched (past ++ step ∷ [])
 launched_on past step None is l there = (l, launched-snoc past step ∙ ap (λ o. or_else o (launched past)) is ∙ there)
 launched_on past step (Some new) is l there = launched_by past step new is
 
@@ -195,14 +225,16 @@ module _ (one : OneProgram) (joins : WrittenJoins) (no_gaps : RunsHaveNoGaps) wh
     late : ¬ IsEarly (situation past) → IsLaunched past
     alive : (l : Launched) → launched past ≡ Some l → IsSome (at l.program (position past))
 
-  late_more : (past : History) (step : Step) → IsTaken IsLawfulEvent past step.item → Causes past step.item step → Leading past → ¬ IsEarly (situation (past ++ step ∷ [])) → IsLaunched (past ++ step ∷ [])
+  late_more : (past : History) (step : Step) → IsTaken IsLawfulEvent past step.item → Causes past step.item step
+      → Leading past → ¬ IsEarly (situation (past ++ step ∷ [])) → IsLaunched (past ++ step ∷ [])
   late_more past step taken causes here late = by_launched (launched past) refl
     where
       by_early : launched past ≡ None → EarlyOr (situation past) step → IsLaunched (past ++ step ∷ [])
       by_early none (inl early) = absurd (late (subst IsEarly (sym (situation-snoc past step)) early))
       by_early none (inr launch) = launched_by past step launch.0 launch.1
 
-      by_situation : launched past ≡ None → IsEarly (situation past) ⊎ ¬ IsEarly (situation past) → IsLaunched (past ++ step ∷ [])
+      by_situation : launched past ≡ None → IsEarly (situation past) ⊎ ¬ IsEarly (situation past)
+          → IsLaunched (past ++ step ∷ [])
       by_situation none (inl early) = by_early none (item_early past step.item step refl taken causes none early)
       by_situation none (inr not) = absurd (let e = sym none ∙ (here.late not).1 in cc)
 
@@ -211,34 +243,49 @@ module _ (one : OneProgram) (joins : WrittenJoins) (no_gaps : RunsHaveNoGaps) wh
       by_launched (Some l) there = launched_on past step step.effect.launched refl l there
 
   -- where the program stands after an item
-  alive_item : (past : History) (item : Item) (step : Step) → IsTaken IsLawfulEvent past item → Causes past item step → Leading past → (l : Launched) → or_else step.effect.launched (launched past) ≡ Some l → IsSome (at l.program (unwrap_or (end_of item) (position past)))
-  alive_item past (Content None) step taken is here l there = here.alive l (ap (λ o. or_else o (launched past)) (sym (ap (λ (e : Effect). e.launched) is.effect_is)) ∙ there)
+  alive_item : (past : History) (item : Item) (step : Step) → IsTaken IsLawfulEvent past item → Causes past item step
+      → Leading past → (l : Launched) → or_else step.effect.launched (launched past) ≡ Some l
+      → IsSome (at l.program (unwrap_or (end_of item) (position past)))
+  alive_item past (Content None) step taken is here l there =
+      here.alive l (ap (λ o. or_else o (launched past)) (sym (ap (λ (e : Effect). e.launched) is.effect_is)) ∙ there)
   alive_item past (Content (Some request)) step taken is here l there =
-      here.alive l (ap (λ o. or_else o (launched past)) (sym (ap (λ (e : Effect). e.launched) is.2.effect_is ∙ (all_silent (situation past) past request.body is.0 is.1).no_launch)) ∙ there)
+      here.alive l (ap (λ o. or_else o (launched past))
+      (sym (ap (λ (e : Effect). e.launched) is.2.effect_is
+      ∙ (all_silent (situation past) past request.body is.0 is.1).no_launch)) ∙ there)
   alive_item past (Loaded launch file) step taken is here l there =
       let none : launched past ≡ None = here.ran.so_far.early (subst IsEarly (sym taken) tt) in
       subst (λ n. IsSome (at l.program n)) (sym (here.ran.so_far.progress None none).2) refl
   alive_item past (Accepted r) step taken is here l there =
-      let before : launched past ≡ Some l = ap (λ o. or_else o (launched past)) (sym (ap (λ (e : Effect). e.launched) is.effect_is ∙ report_launches past r r.outcome)) ∙ there in
-      subst (λ (p : Block). IsSome (at p r.end)) (report_program one joins past r taken.1 l taken.0 (here.ran.so_far.progress (Some l) before))
+      let before : launched past ≡ Some l =
+      ap (λ o. or_else o (launched past))
+      (sym (ap (λ (e : Effect). e.launched) is.effect_is ∙ report_launches past r r.outcome)) ∙ there in
+      subst (λ (p : Block). IsSome (at p r.end))
+      (report_program one joins past r taken.1 l taken.0 (here.ran.so_far.progress (Some l) before))
       (went_alive taken.1.program r no_gaps (goes_back r.mode) taken.1.lawful.went)
-  alive_item past (Fault k) step taken is here l there = here.alive l (ap (λ o. or_else o (launched past)) (sym (ap (λ (e : Effect). e.launched) is.effect_is)) ∙ there)
-  alive_item past InputEnd step taken is here l there = here.alive l (ap (λ o. or_else o (launched past)) (sym (ap (λ (e : Effect). e.launched) is.effect_is)) ∙ there)
-  alive_item past ReadFailure step taken is here l there = here.alive l (ap (λ o. or_else o (launched past)) (sym (ap (λ (e : Effect). e.launched) is.effect_is)) ∙ there)
-  alive_item past MemoryFailure step taken is here l there = here.alive l (ap (λ o. or_else o (launched past)) (sym (ap (λ (e : Effect). e.launched) is.effect_is)) ∙ there)
+  alive_item past (Fault k) step taken is here l there =
+      here.alive l (ap (λ o. or_else o (launched past)) (sym (ap (λ (e : Effect). e.launched) is.effect_is)) ∙ there)
+  alive_item past InputEnd step taken is here l there =
+      here.alive l (ap (λ o. or_else o (launched past)) (sym (ap (λ (e : Effect). e.launched) is.effect_is)) ∙ there)
+  alive_item past ReadFailure step taken is here l there =
+      here.alive l (ap (λ o. or_else o (launched past)) (sym (ap (λ (e : Effect). e.launched) is.effect_is)) ∙ there)
+  alive_item past MemoryFailure step taken is here l there =
+      here.alive l (ap (λ o. or_else o (launched past)) (sym (ap (λ (e : Effect). e.launched) is.effect_is)) ∙ there)
 
-  leading_more : (past : History) (step : Step) → IsTaken IsLawfulEvent past step.item → Causes past step.item step → Leading past → Leading (past ++ step ∷ [])
+  leading_more : (past : History) (step : Step) → IsTaken IsLawfulEvent past step.item → Causes past step.item step
+      → Leading past → Leading (past ++ step ∷ [])
   leading_more past step taken causes here = record {
     ran = ran_more one joins past step taken causes here.ran;
     late = late_more past step taken causes here;
-    alive = λ l there. subst (λ n. IsSome (at l.program n)) (sym (position-snoc past step)) (alive_item past step.item step taken causes here l (sym (launched-snoc past step) ∙ there));
+    alive = λ l there. subst (λ n. IsSome (at l.program n)) (sym (position-snoc past step))
+        (alive_item past step.item step taken causes here l (sym (launched-snoc past step) ∙ there));
   }
 
   leading_kept : IsKept IsLawfulEvent Leading
   leading_kept = record {
     step = λ past item new taking taken after here.
         subst Leading (sym after.new_is)
-        (leading_more past after.step (subst (IsTaken IsLawfulEvent past) (sym after.item_is) taken) (subst (λ i. Causes past i after.step) (sym after.item_is) after.causes) here);
+        (leading_more past after.step (subst (IsTaken IsLawfulEvent past) (sym after.item_is) taken)
+        (subst (λ i. Causes past i after.step) (sym after.item_is) after.causes) here);
   }
 
   leading_first : Leading []
@@ -248,20 +295,25 @@ module _ (one : OneProgram) (joins : WrittenJoins) (no_gaps : RunsHaveNoGaps) wh
 
   module _ (past : History) (here : Leading past) where
     -- what is asked of the launched program has an answer
-    of_program : (l : Launched) → launched past ≡ Some l → (says : Launched → Type 0) → says l → OfProgram (launched past) says
+    of_program : (l : Launched) → launched past ≡ Some l → (says : Launched → Type 0) → says l
+        → OfProgram (launched past) says
     of_program l there says is = subst (λ o. OfProgram o says) (sym there) is
 
     abbrev Answered : (Reply → Type 0) → Type 0
     Answered says = (reply : Reply) × says reply
 
-    with_program : (says : Launched → Reply → Type 0) → IsLaunched past → ((l : Launched) → launched past ≡ Some l → Answered (says l)) → Answered (λ reply. OfProgram (launched past) (λ l. says l reply))
+    with_program : (says : Launched → Reply → Type 0) → IsLaunched past
+        → ((l : Launched) → launched past ≡ Some l → Answered (says l))
+        → Answered (λ reply. OfProgram (launched past) (λ l. says l reply))
     with_program says l answer = let a = answer l.0 l.1 in (a.0, of_program l.0 l.1 (λ k. says k a.0) a.1)
 
     is_late : (s : Situation) → situation past ≡ s → ¬ IsEarly s → IsLaunched past
     is_late s is late = here.late (λ early. late (subst IsEarly is early))
 
     configures : (s : Situation) → situation past ≡ s → Answered (ConfiguresIn s past)
-    configures Configuring is = with_program (λ l reply. reply ≡ causing body.None (enters past l (due_first past l))) (is_late Configuring is (λ x. x)) (λ l there. (_, refl))
+    configures Configuring is =
+        with_program (λ l reply. reply ≡ causing body.None (enters past l (due_first past l)))
+        (is_late Configuring is (λ x. x)) (λ l there. (_, refl))
     configures Fresh is = (_, refl)
     configures Ready is = (_, refl)
     configures Running is = (_, refl)
@@ -269,8 +321,11 @@ module _ (one : OneProgram) (joins : WrittenJoins) (no_gaps : RunsHaveNoGaps) wh
     configures Faulted is = (_, refl)
     configures Ended is = (_, refl)
 
-    goes_on : (s : Situation) → situation past ≡ s → (resume_kind : ResumeKind) (thread : ℕ) → Answered (ResumesIn s past resume_kind thread)
-    goes_on Stopped is resume_kind thread = with_program (λ l reply. reply ≡ resuming past resume_kind thread l) (is_late Stopped is (λ x. x)) (λ l there. (_, refl))
+    goes_on : (s : Situation) → situation past ≡ s → (resume_kind : ResumeKind) (thread : ℕ)
+        → Answered (ResumesIn s past resume_kind thread)
+    goes_on Stopped is resume_kind thread =
+        with_program (λ l reply. reply ≡ resuming past resume_kind thread l) (is_late Stopped is (λ x. x))
+        (λ l there. (_, refl))
     goes_on Fresh is resume_kind thread = (_, refl)
     goes_on Ready is resume_kind thread = (_, refl)
     goes_on Configuring is resume_kind thread = (_, refl)
@@ -278,9 +333,14 @@ module _ (one : OneProgram) (joins : WrittenJoins) (no_gaps : RunsHaveNoGaps) wh
     goes_on Faulted is resume_kind thread = (_, refl)
     goes_on Ended is resume_kind thread = (_, refl)
 
-    goes_back_by : (s : Situation) → situation past ≡ s → (m : Mode) (thread : ℕ) → Answered (RetreatsIn s past m thread)
-    goes_back_by Stopped is m thread = with_program (λ l reply. reply ≡ on_thread thread (causing body.None (ordering (resumes past l m)))) (is_late Stopped is (λ x. x)) (λ l there. (_, refl))
-    goes_back_by Faulted is m thread = with_program (λ l reply. reply ≡ on_thread thread (causing body.None (ordering (resumes past l m)))) (is_late Faulted is (λ x. x)) (λ l there. (_, refl))
+    goes_back_by : (s : Situation) → situation past ≡ s → (m : Mode) (thread : ℕ)
+        → Answered (RetreatsIn s past m thread)
+    goes_back_by Stopped is m thread =
+        with_program (λ l reply. reply ≡ on_thread thread (causing body.None (ordering (resumes past l m))))
+        (is_late Stopped is (λ x. x)) (λ l there. (_, refl))
+    goes_back_by Faulted is m thread =
+        with_program (λ l reply. reply ≡ on_thread thread (causing body.None (ordering (resumes past l m))))
+        (is_late Faulted is (λ x. x)) (λ l there. (_, refl))
     goes_back_by Fresh is m thread = (_, refl)
     goes_back_by Ready is m thread = (_, refl)
     goes_back_by Configuring is m thread = (_, refl)
@@ -288,13 +348,18 @@ module _ (one : OneProgram) (joins : WrittenJoins) (no_gaps : RunsHaveNoGaps) wh
     goes_back_by Ended is m thread = (_, refl)
 
     -- a question that every configuration answers
-    module _ (asked : Question) (answers : (l : Launched) (c : Configuration) → Answered (RepliesFrom (asked_of past l) c asked)) where
+    module _ (asked : Question) (answers : (l : Launched) (c : Configuration)
+        → Answered (RepliesFrom (asked_of past l) c asked)) where
       at_some : (l : Launched) (o : Option Configuration) → IsSome o → Answered (RepliesAt (asked_of past l) o asked)
       at_some l (Some c) is = answers l c
       at_some l None is = absurd cc
 
-      at_program : IsLaunched past → Answered (λ reply. OfProgram (launched past) (λ l. RepliesAt (asked_of past l) (at l.program (position past)) asked reply))
-      at_program there = with_program (λ l reply. RepliesAt (asked_of past l) (at l.program (position past)) asked reply) there (λ l is. at_some l (at l.program (position past)) (here.alive l is))
+      at_program : IsLaunched past → Answered
+          (λ reply. OfProgram (launched past)
+          (λ l. RepliesAt (asked_of past l) (at l.program (position past)) asked reply))
+      at_program there =
+          with_program (λ l reply. RepliesAt (asked_of past l) (at l.program (position past)) asked reply) there
+          (λ l is. at_some l (at l.program (position past)) (here.alive l is))
 
       inspects : (s : Situation) → situation past ≡ s → Answered (InspectsIn s past asked)
       inspects Stopped is = at_program (is_late Stopped is (λ x. x))
@@ -313,9 +378,12 @@ module _ (one : OneProgram) (joins : WrittenJoins) (no_gaps : RunsHaveNoGaps) wh
     replies (command.Resume k a) plain = goes_on (situation past) refl _ a.thread_id
     replies (command.Retreat k a) plain = goes_back_by (situation past) refl _ a.thread_id
     replies (command.Pause a) plain = (_, refl)
-    replies (command.Inspect (question.StackTrace a)) plain = inspects (question.StackTrace a) (λ l c. (_, refl)) (situation past) refl
-    replies (command.Inspect (question.Scopes a)) plain = inspects (question.Scopes a) (λ l c. (_, refl)) (situation past) refl
-    replies (command.Inspect (question.Variables a)) plain = inspects (question.Variables a) (λ l c. (_, refl)) (situation past) refl
+    replies (command.Inspect (question.StackTrace a)) plain =
+        inspects (question.StackTrace a) (λ l c. (_, refl)) (situation past) refl
+    replies (command.Inspect (question.Scopes a)) plain =
+        inspects (question.Scopes a) (λ l c. (_, refl)) (situation past) refl
+    replies (command.Inspect (question.Variables a)) plain =
+        inspects (question.Variables a) (λ l c. (_, refl)) (situation past) refl
     replies command.Disconnect plain = (_, refl)
     replies (command.Unsupported text) plain = (_, refl)
     replies (command.BadArguments k) plain = (_, refl)
@@ -324,23 +392,34 @@ module _ (one : OneProgram) (joins : WrittenJoins) (no_gaps : RunsHaveNoGaps) wh
     abbrev LeadsOn : Item → Type 0
     LeadsOn item = (new : History) × IsAfter past item new
 
-    by_step : (item : Item) (answer : Option Outgoing) (effect : Effect) → Causes past item (step_of item answer effect) → LeadsOn item
-    by_step item answer effect causes = (past ++ step_of item answer effect ∷ [], record { step = step_of item answer effect; item_is = refl; causes = causes; new_is = refl })
+    by_step : (item : Item) (answer : Option Outgoing) (effect : Effect) → Causes past item (step_of item answer effect)
+        → LeadsOn item
+    by_step item answer effect causes = (
+      past ++ step_of item answer effect ∷ [],
+      record { step = step_of item answer effect; item_is = refl; causes = causes; new_is = refl },
+    )
 
     leads_on : (item : Item) → IsPlainItem item → LeadsOn item
     leads_on (Content None) plain = by_step (Content None) None nothing (record { answer_is = refl; effect_is = refl })
     leads_on (Content (Some request)) plain =
         let reply = replies request.body plain in
-        by_step (Content (Some request)) (Some (Answer request.seq (name_of request.body) reply.0.result)) reply.0.effect (reply.0, reply.1, record { answer_is = refl; effect_is = refl })
+        by_step (Content (Some request)) (Some (Answer request.seq (name_of request.body) reply.0.result))
+        reply.0.effect (reply.0, reply.1, record { answer_is = refl; effect_is = refl })
     leads_on (Loaded launch None) plain =
-        by_step (Loaded launch None) (Some (Answer launch.seq (name.Supported supported.Launch) (Err refusal.CannotRead))) nothing (refused refusal.CannotRead, refl, record { answer_is = refl; effect_is = refl })
+        by_step (Loaded launch None) (Some
+        (Answer launch.seq (name.Supported supported.Launch) (Err refusal.CannotRead))) nothing
+        (refused refusal.CannotRead, refl, record { answer_is = refl; effect_is = refl })
     leads_on (Loaded launch (Some text)) plain = absurd plain
-    leads_on (Accepted r) plain = by_step (Accepted r) None (report_effect past r r.outcome) (record { answer_is = refl; effect_is = refl })
+    leads_on (Accepted r) plain =
+        by_step (Accepted r) None (report_effect past r r.outcome) (record { answer_is = refl; effect_is = refl })
     leads_on (Fault k) plain = by_step (Fault k) None nothing (record { answer_is = refl; effect_is = refl })
-    leads_on InputEnd plain = by_step InputEnd None (ordering (Quit ∷ [])) (record { answer_is = refl; effect_is = refl })
-    leads_on ReadFailure plain = by_step ReadFailure None (ordering (Quit ∷ [])) (record { answer_is = refl; effect_is = refl })
+    leads_on InputEnd plain =
+        by_step InputEnd None (ordering (Quit ∷ [])) (record { answer_is = refl; effect_is = refl })
+    leads_on ReadFailure plain =
+        by_step ReadFailure None (ordering (Quit ∷ [])) (record { answer_is = refl; effect_is = refl })
     leads_on MemoryFailure plain = by_step MemoryFailure None nothing (record { answer_is = refl; effect_is = refl })
 
   pub each_item_leads : EachItemLeads
   each_item_leads events past rest lawful history item plain =
-      leads_on past (along IsLawfulEvent Leading leading_kept leading_first events past rest (lawful_events events lawful) history) item plain
+      leads_on past (along IsLawfulEvent Leading leading_kept leading_first events past rest
+      (lawful_events events lawful) history) item plain

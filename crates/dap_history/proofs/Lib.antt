@@ -6,7 +6,8 @@ pub mod Along
 pub mod Answered
 -- The message numbered n is the nth; for the clauses `numbered` and `read_back` of `history_laws`.
 pub mod Numbered
--- A `disconnect` that is taken is the last item, and its answer the last message; for the clause `last` of `history_laws`.
+-- A `disconnect` that is taken is the last item, and its answer the last message; for the clause `last` of
+-- `history_laws`.
 pub mod Last
 -- What numbers and logs say among events; for `history_laws` and `run_laws`.
 pub mod Told
@@ -19,7 +20,8 @@ pub mod Silent
 pub mod Outputs
 -- What a lawful report says, whether its run goes on or back; for `history_laws` and `run_laws`.
 pub mod Went
--- In Fresh and Ready nothing is launched: only the first `initialize` leads to Ready; for `history_laws` and `run_laws`.
+-- In Fresh and Ready nothing is launched: only the first `initialize` leads to Ready; for `history_laws` and
+-- `run_laws`.
 pub mod Early
 -- The numbers reported are those that the program wrote, step by step; for the clause `outputs` of `history_laws`.
 pub mod Progress
@@ -27,11 +29,11 @@ pub mod Progress
 pub mod Each
 -- Lemmas on elements of a list after which a function returns nothing more; for `history_laws`.
 pub mod AfterStops
--- Before a stop and before a log stand just the numbers written up to it, and before a stop the logs too; for the clauses
--- `order` and `logs_follow` of `history_laws`.
+-- Before a stop and before a log stand just the numbers written up to it, and before a stop the logs too; for the
+-- clauses `order` and `logs_follow` of `history_laws`.
 pub mod StopOrder
--- The program stands where it stopped last, and what is asked there is answered from there; for the clause `questions` of
--- `history_laws`.
+-- The program stands where it stopped last, and what is asked there is answered from there; for the clause `questions`
+-- of `history_laws`.
 pub mod Standing
 -- A run passes no position that is due, and none was ordered before `configurationDone`; for `history_laws` and
 -- `run_laws`.
@@ -66,11 +68,11 @@ pub mod OneReply
 pub mod Contents
 -- How the stream was cut into pieces changes nothing; for the clause `cuts` of `history_laws`.
 pub mod Cuts
--- A worked example that nothing uses: what each item causes in a session that is paused, in one whose breakpoints change
--- while the program runs, and in one that goes back.
+-- A worked example that nothing uses: what each item causes in a session that is paused, in one whose breakpoints
+-- change while the program runs, and in one that goes back.
 pub mod Rows
--- A worked example that nothing uses: what a client is shown of a text with nested procedures, at a stop in its innermost
--- one.
+-- A worked example that nothing uses: what a client is shown of a text with nested procedures, at a stop in its
+-- innermost one.
 pub mod ShownQ
 -- Each run is of the launched text, and starts where the program stands; for the clause `runs` of `history_laws`.
 pub mod Starts
@@ -82,13 +84,13 @@ pub mod Closings
 pub mod Ordered
 -- Which run an item orders, and under which plan; for `history_laws` and `run_laws`.
 pub mod Ordering
--- A run goes back as asked and is not held, and counts begin anew after it; for the clauses `back`, `anew` and `not_held`
--- of `history_laws`.
+-- A run goes back as asked and is not held, and counts begin anew after it; for the clauses `back`, `anew` and
+-- `not_held` of `history_laws`.
 pub mod GoingBack
 -- What a reply does, in eight cases, whatever the command and the situation; for `history_laws` and `run_laws`.
 pub mod Shapes
--- A step orders at most one run and reports at most one stop, so what is so of the last is so of each; for `history_laws`
--- and `run_laws`.
+-- A step orders at most one run and reports at most one stop, so what is so of the last is so of each; for
+-- `history_laws` and `run_laws`.
 pub mod Once
 -- Each run has the next number, and is in the mode that was asked for; for the clauses `counted` and `asked` of
 -- `run_laws`.
@@ -97,8 +99,8 @@ pub mod Asked
 pub mod Telling
 -- A run is held once, where something waits; for the clauses `held` and `waits` of `run_laws`.
 pub mod Holding
--- What a request tells besides its answer, and that each granted run is ordered; for the clauses `ordered`, `onward` and
--- `replies` of `run_laws`.
+-- What a request tells besides its answer, and that each granted run is ordered; for the clauses `ordered`, `onward`
+-- and `replies` of `run_laws`.
 pub mod Granted
 -- Each run is under the breakpoints of the lines that were set last, and counts from where that was; for the clauses
 -- `lines`, `counts` and `plan` of `run_laws`.

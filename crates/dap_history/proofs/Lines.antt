@@ -71,33 +71,46 @@ record View : Type 0 where
   here : ℕ
   anew : Bool
 
-abbrev view_of : InitializeArguments → Option (List SourceBreakpoint) → Plan → Option (List Breakpoint) → Option Heading → ℕ → Bool → View
-view_of asked lines now waits last here anew = record { settings = asked; lines = lines; now = now; waits = waits; last = last; here = here; anew = anew }
+abbrev view_of : InitializeArguments → Option (List SourceBreakpoint) → Plan → Option (List Breakpoint) → Option Heading
+    → ℕ → Bool → View
+view_of asked lines now waits last here anew =
+    record { settings = asked; lines = lines; now = now; waits = waits; last = last; here = here; anew = anew }
 
 abbrev view : Launched → History → View
-view l past = view_of (settings past) (lines_set l.path past) (plan past) (waiting_plan past) (last_run past) (position past) (are_anew l.path past)
+view l past =
+    view_of (settings past) (lines_set l.path past) (plan past) (waiting_plan past) (last_run past) (position past)
+    (are_anew l.path past)
 
 -- with one more step
 abbrev next : Launched → Step → View → View
 next l step v =
-    view_of (unwrap_or (settings_by step.item step.answer) v.settings) (or_else (lines_by l.path step.item step.answer) v.lines) (unwrap_or step.effect.put_in v.now)
-    (unwrap_or (waits_by step) v.waits) (or_else (last_such go step.effect.orders) v.last) (unwrap_or (end_of step.item) v.here) (unwrap_or (anew_mark l.path step) v.anew)
+    view_of (unwrap_or (settings_by step.item step.answer) v.settings)
+    (or_else (lines_by l.path step.item step.answer) v.lines) (unwrap_or step.effect.put_in v.now)
+    (unwrap_or (waits_by step) v.waits) (or_else (last_such go step.effect.orders) v.last)
+    (unwrap_or (end_of step.item) v.here) (unwrap_or (anew_mark l.path step) v.anew)
 
-lines_set-snoc : (path : List ℕ) (past : History) (step : Step) → lines_set path (past ++ step ∷ []) ≡ or_else (lines_by path step.item step.answer) (lines_set path past)
+lines_set-snoc : (path : List ℕ) (past : History) (step : Step)
+    → lines_set path (past ++ step ∷ []) ≡ or_else (lines_by path step.item step.answer) (lines_set path past)
 lines_set-snoc path past step = last_such-snoc (λ (s : Step). lines_by path s.item s.answer) past step
 
-are_anew-snoc : (path : List ℕ) (past : History) (step : Step) → are_anew path (past ++ step ∷ []) ≡ unwrap_or (anew_mark path step) (are_anew path past)
+are_anew-snoc : (path : List ℕ) (past : History) (step : Step)
+    → are_anew path (past ++ step ∷ []) ≡ unwrap_or (anew_mark path step) (are_anew path past)
 are_anew-snoc path past step = reading-snoc (anew_mark path) past step false
 
 view-snoc : (l : Launched) (past : History) (step : Step) → view l (past ++ step ∷ []) ≡ next l step (view l past)
 view-snoc l past step =
     let new = past ++ step ∷ [] in
     let n = next l step (view l past) in
-    ap (λ x. view_of x (lines_set l.path new) (plan new) (waiting_plan new) (last_run new) (position new) (are_anew l.path new)) (settings-snoc past step)
-    ∙ ap (λ x. view_of n.settings x (plan new) (waiting_plan new) (last_run new) (position new) (are_anew l.path new)) (lines_set-snoc l.path past step)
-    ∙ ap (λ x. view_of n.settings n.lines x (waiting_plan new) (last_run new) (position new) (are_anew l.path new)) (plan-snoc past step)
-    ∙ ap (λ x. view_of n.settings n.lines n.now x (last_run new) (position new) (are_anew l.path new)) (waiting_plan-snoc past step)
-    ∙ ap (λ x. view_of n.settings n.lines n.now n.waits x (position new) (are_anew l.path new)) (last_run-snoc past step)
+    ap (λ x. view_of x (lines_set l.path new) (plan new) (waiting_plan new) (last_run new) (position new)
+    (are_anew l.path new)) (settings-snoc past step)
+    ∙ ap (λ x. view_of n.settings x (plan new) (waiting_plan new) (last_run new) (position new) (are_anew l.path new))
+    (lines_set-snoc l.path past step)
+    ∙ ap (λ x. view_of n.settings n.lines x (waiting_plan new) (last_run new) (position new) (are_anew l.path new))
+    (plan-snoc past step)
+    ∙ ap (λ x. view_of n.settings n.lines n.now x (last_run new) (position new) (are_anew l.path new))
+    (waiting_plan-snoc past step)
+    ∙ ap (λ x. view_of n.settings n.lines n.now n.waits x (position new) (are_anew l.path new))
+    (last_run-snoc past step)
     ∙ ap (λ x. view_of n.settings n.lines n.now n.waits n.last x (are_anew l.path new)) (position-snoc past step)
     ∙ ap (λ x. view_of n.settings n.lines n.now n.waits n.last n.here x) (are_anew-snoc l.path past step)
 
@@ -111,13 +124,16 @@ goes_back_last last = option_map_or (λ (run : Heading). goes_back run.mode) las
 
 -- the plan in force is of the lines, and counts as the next run is to
 abbrev Stands : Launched → View → Type 0
-Stands l v = AreOfLines l (less v) v.lines v.now.breakpoints × (v.now.counted_from ≡ next_counted (v.anew || goes_back_last v.last) v.last v.here)
+Stands l v =
+    AreOfLines l (less v) v.lines v.now.breakpoints × (v.now.counted_from ≡ next_counted
+    (v.anew || goes_back_last v.last) v.last v.here)
 
 -- while a run goes on, what waits is of the lines, if anything does
 abbrev Planned : Launched → Situation → View → Type 0
 Planned l Configuring v = AreOfLines l (less v) v.lines v.now.breakpoints × (v.now.counted_from ≡ 0) × (v.last ≡ None)
 Planned l Running v =
-    AreOfLines l (less v) v.lines (unwrap_or v.waits v.now.breakpoints) × (run : Heading) × (v.last ≡ Some run) × (v.now.counted_from ≡ run.counted_from) × (is_some v.waits ≡ v.anew)
+    AreOfLines l (less v) v.lines (unwrap_or v.waits v.now.breakpoints) × (run : Heading) × (v.last ≡ Some run)
+    × (v.now.counted_from ≡ run.counted_from) × (is_some v.waits ≡ v.anew)
 Planned l Stopped v = Stands l v
 Planned l Faulted v = Stands l v
 Planned l _ v = Unit {0}
@@ -129,14 +145,18 @@ abbrev pub step_of : Item → Option Outgoing → Effect → Step
 step_of item answer effect = record { item = item; answer = answer; effect = effect }
 
 abbrev pub launching : Launch → Option (List ℕ) → Reply → Step
-launching launch file reply = step_of (Loaded launch file) (Some (Answer launch.seq (name.Supported supported.Launch) reply.result)) reply.effect
+launching launch file reply =
+    step_of (Loaded launch file) (Some (Answer launch.seq (name.Supported supported.Launch) reply.result)) reply.effect
 
 abbrev pub answering : ℕ → Command → Result Body Refusal → Effect → Step
-answering seq asked result effect = step_of (Content (Some (record { seq = seq; body = asked }))) (Some (Answer seq (name_of asked) result)) effect
+answering seq asked result effect =
+    step_of (Content (Some (record { seq = seq; body = asked }))) (Some (Answer seq (name_of asked) result)) effect
 
-pub same_step : (step : Step) (item : Item) (answer : Option Outgoing) (effect : Effect) → step.item ≡ item → step.answer ≡ answer → step.effect ≡ effect → step ≡ step_of item answer effect
+pub same_step : (step : Step) (item : Item) (answer : Option Outgoing) (effect : Effect) → step.item ≡ item
+    → step.answer ≡ answer → step.effect ≡ effect → step ≡ step_of item answer effect
 same_step step item answer effect a b c =
-    ap (λ i. step_of i step.answer step.effect) a ∙ ap (λ x. step_of item x step.effect) b ∙ ap (λ e. step_of item answer e) c
+    ap (λ i. step_of i step.answer step.effect) a ∙ ap (λ x. step_of item x step.effect) b
+    ∙ ap (λ e. step_of item answer e) c
 
 -- ---- replies
 
@@ -166,38 +186,46 @@ module _ (l : Launched) (v : View) where
   stands_there _ stands here = absurd stands
 
   -- a run is ordered where the program stands
-  goes_planned : (seq : ℕ) (asked : Command) → IsGoing asked → (b : Body) (s : Situation) (run : Heading) → run.counted_from ≡ v.now.counted_from → Stands l v → After l s (answering seq asked (Ok b) (ordering (Go run ∷ []))) v
+  goes_planned : (seq : ℕ) (asked : Command) → IsGoing asked → (b : Body) (s : Situation) (run : Heading)
+      → run.counted_from ≡ v.now.counted_from → Stands l v → After l s
+      (answering seq asked (Ok b) (ordering (Go run ∷ []))) v
   goes_planned seq (command.Resume k a) going b s run counted here = (here.0, run, refl, sym counted, refl)
   goes_planned seq (command.Retreat k a) going b s run counted here = (here.0, run, refl, sym counted, refl)
   goes_planned seq _ going b s run counted here = absurd going
 
   other_lines : (s : Situation) (bs : List SourceBreakpoint) (same : Bool) → same ≡ false → Planned l s v
-      → Planned l s (view_of v.settings (or_else (if same then Some bs else None) v.lines) v.now v.waits v.last v.here (unwrap_or (option_map (λ (lines : List SourceBreakpoint). true) (if same then Some bs else None)) v.anew))
+      → Planned l s (view_of v.settings (or_else (if same then Some bs else None) v.lines) v.now v.waits v.last v.here
+      (unwrap_or (option_map (λ (lines : List SourceBreakpoint). true) (if same then Some bs else None)) v.anew))
   other_lines s bs false is here = here
   other_lines s bs true is here = absurd cc
 
   -- a command that has no effect
-  calm_planned : (past : History) (seq : ℕ) (s : Situation) (asked : Command) (b : Body) → launched past ≡ Some l → IsCalm past s asked → Planned l s v → After l s (answering seq asked (Ok b) nothing) v
+  calm_planned : (past : History) (seq : ℕ) (s : Situation) (asked : Command) (b : Body) → launched past ≡ Some l
+      → IsCalm past s asked → Planned l s v → After l s (answering seq asked (Ok b) nothing) v
   calm_planned past seq s (command.Initialize a) b there calm here = tt
   calm_planned past seq s (command.SetBreakpoints a) b there calm here =
       let same : calm.0 ≡ l = let e = sym calm.1 ∙ there in cc in
-      other_lines s a.breakpoints (is_at a.path l.path) (ap (λ (k : Launched). is_at a.path k.path) (sym same) ∙ calm.2) here
+      other_lines s a.breakpoints (is_at a.path l.path) (ap (λ (k : Launched). is_at a.path k.path) (sym same) ∙ calm.2)
+      here
   calm_planned past seq s command.Threads b there calm here = here
   calm_planned past seq s (command.Pause a) b there calm here = here
   calm_planned past seq s (command.Inspect q) b there calm here = here
   calm_planned past seq s _ b there calm here = absurd calm
 
-  calm_result : (past : History) (seq : ℕ) (s : Situation) (asked : Command) (result : Result Body Refusal) → launched past ≡ Some l → IsCalm past s asked → Planned l s v → After l s (answering seq asked result nothing) v
+  calm_result : (past : History) (seq : ℕ) (s : Situation) (asked : Command) (result : Result Body Refusal)
+      → launched past ≡ Some l → IsCalm past s asked → Planned l s v → After l s (answering seq asked result nothing) v
   calm_result past seq s asked (Ok b) there calm here = calm_planned past seq s asked b there calm here
   calm_result past seq s asked (Err why) there calm here = here
 
   -- a pause, which may hold the run
-  pause_planned : (seq n : ℕ) (a : ThreadArguments) (t : Bool) → Planned l Running v → After l Running (answering seq (command.Pause a) (Ok body.None) (ordering (if t then [] else Hold n ∷ []))) v
+  pause_planned : (seq n : ℕ) (a : ThreadArguments) (t : Bool) → Planned l Running v
+      → After l Running (answering seq (command.Pause a) (Ok body.None) (ordering (if t then [] else Hold n ∷ []))) v
   pause_planned seq n a true here = here
   pause_planned seq n a false here = here
 
   -- lines that are set
-  module _ (seq : ℕ) (a : SetBreakpointsArguments) (same : is_at a.path l.path ≡ true) (b : Body) (bs : List Breakpoint) (are : AreOfLines l (less v) (Some a.breakpoints) bs) where
+  module _ (seq : ℕ) (a : SetBreakpointsArguments) (same : is_at a.path l.path ≡ true) (b : Body) (bs : List Breakpoint)
+      (are : AreOfLines l (less v) (Some a.breakpoints) bs) where
     abbrev lines_then : Bool → Option (List SourceBreakpoint)
     lines_then t = if t then Some a.breakpoints else None
 
@@ -206,7 +234,9 @@ module _ (l : Launched) (v : View) where
 
     -- they are put in
     abbrev put_then : ℕ → Bool → View
-    put_then n t = view_of v.settings (or_else (lines_then t) v.lines) (record { breakpoints = bs; counted_from = n }) v.waits v.last v.here (anew_then t)
+    put_then n t =
+        view_of v.settings (or_else (lines_then t) v.lines) (record { breakpoints = bs; counted_from = n }) v.waits
+        v.last v.here (anew_then t)
 
     -- they wait
     abbrev wait_then : Bool → View
@@ -215,24 +245,34 @@ module _ (l : Launched) (v : View) where
     waits_planned : Planned l Running v → Planned l Running (wait_then (is_at a.path l.path))
     waits_planned here = subst (λ t. Planned l Running (wait_then t)) (sym same) (are, here.1, here.2, here.3, refl)
 
-    sets_running : (n : ℕ) (t : Bool) → Planned l Running v → After l Running (answering seq (command.SetBreakpoints a) (Ok b) (record nothing { waits = Some bs; orders = if t then [] else Hold n ∷ [] })) v
+    sets_running : (n : ℕ) (t : Bool) → Planned l Running v → After l Running
+        (answering seq (command.SetBreakpoints a) (Ok b)
+        (record nothing { waits = Some bs; orders = if t then [] else Hold n ∷ [] })) v
     sets_running n true here = waits_planned here
     sets_running n false here = waits_planned here
 
-    sets_planned : (past : History) (s : Situation) → position past ≡ v.here → Planned l s v → After l s (answering seq (command.SetBreakpoints a) (Ok b) (effect_in s past bs)) v
-    sets_planned past Configuring stands here = subst (λ t. Planned l Configuring (put_then 0 t)) (sym same) (are, refl, here.2)
-    sets_planned past Stopped stands here = subst (λ t. Planned l Stopped (put_then (position past + 1) t)) (sym same) (are, ap (λ n. n + 1) stands)
-    sets_planned past Faulted stands here = subst (λ t. Planned l Faulted (put_then (position past + 1) t)) (sym same) (are, ap (λ n. n + 1) stands)
+    sets_planned : (past : History) (s : Situation) → position past ≡ v.here → Planned l s v
+        → After l s (answering seq (command.SetBreakpoints a) (Ok b) (effect_in s past bs)) v
+    sets_planned past Configuring stands here =
+        subst (λ t. Planned l Configuring (put_then 0 t)) (sym same) (are, refl, here.2)
+    sets_planned past Stopped stands here =
+        subst (λ t. Planned l Stopped (put_then (position past + 1) t)) (sym same) (are, ap (λ n. n + 1) stands)
+    sets_planned past Faulted stands here =
+        subst (λ t. Planned l Faulted (put_then (position past + 1) t)) (sym same) (are, ap (λ n. n + 1) stands)
     sets_planned past Running stands here = sets_running (runs past) (is_held past || is_back past) here
     sets_planned past Fresh stands here = tt
     sets_planned past Ready stands here = tt
     sets_planned past Ended stands here = tt
 
   -- the program is started
-  begins_planned : (past : History) (seq : ℕ) (l' : Launched) (why : Option Reason) → plan past ≡ v.now → Planned l Configuring v → After l Configuring (answering seq command.ConfigurationDone (Ok body.None) (enters past l' why)) v
-  begins_planned past seq l' None plan_is here = (here.0, _, refl, ap (λ (p : Plan). p.counted_from) (sym plan_is), refl)
+  begins_planned : (past : History) (seq : ℕ) (l' : Launched) (why : Option Reason) → plan past ≡ v.now
+      → Planned l Configuring v → After l Configuring
+      (answering seq command.ConfigurationDone (Ok body.None) (enters past l' why)) v
+  begins_planned past seq l' None plan_is here =
+      (here.0, _, refl, ap (λ (p : Plan). p.counted_from) (sym plan_is), refl)
   begins_planned past seq l' (Some r) plan_is here =
-      subst (λ o. Planned l (unwrap_or (or_else o None) Configuring) (next l (answering seq command.ConfigurationDone (Ok body.None) (enters past l' (Some r))) v))
+      subst (λ o. Planned l (unwrap_or (or_else o None) Configuring)
+      (next l (answering seq command.ConfigurationDone (Ok body.None) (enters past l' (Some r))) v))
       (sym (mark_of_logs (plan past).breakpoints (first_at past l') (stops (stop_of r)) ∙ stop_marks r))
       (here.0, here.1 ∙ ap (λ o. next_counted (goes_back_last o) o v.here) (sym here.2))
 
@@ -241,60 +281,84 @@ module _ (past : History) (l : Launched) (there : launched past ≡ Some l) (seq
   abbrev Replied : Situation → Reply → Type 0
   Replied s reply = After l s (answering seq asked reply.result reply.effect) (view l past)
 
-  reply_planned : (reply : Reply) → Shape past (situation past) asked reply → Planned l (situation past) (view l past) → Replied (situation past) reply
+  reply_planned : (reply : Reply) → Shape past (situation past) asked reply → Planned l (situation past) (view l past)
+      → Replied (situation past) reply
   reply_planned reply (refuses why is) here = subst (Replied (situation past)) (sym is) here
   reply_planned reply (is_calm calm is) here =
-      subst (λ e. After l (situation past) (answering seq asked reply.result e) (view l past)) (sym is) (calm_result l (view l past) past seq (situation past) asked reply.result there calm here)
+      subst (λ e. After l (situation past) (answering seq asked reply.result e) (view l past)) (sym is)
+      (calm_result l (view l past) past seq (situation past) asked reply.result there calm here)
   reply_planned reply (sets a l' by there' same resolves) here =
       let one : l' ≡ l = let e = sym there' ∙ there in cc in
       let at_path = ap (λ (k : Launched). is_at a.path k.path) (sym one) ∙ same in
-      let are = subst (λ (k : Launched). IsResolved k.program (line_offset past) a.breakpoints resolves.answers resolves.breakpoints) one resolves.resolved in
+      let are =
+      subst (λ (k : Launched). IsResolved k.program (line_offset past) a.breakpoints resolves.answers
+      resolves.breakpoints) one resolves.resolved in
       let b = body.Breakpoints (map (answer_of l'.program (line_offset past)) resolves.answers) in
       subst (Replied (situation past)) (sym resolves.reply_is)
-      (subst (λ c. After l (situation past) (answering seq c (Ok b) (effect_in (situation past) past resolves.breakpoints)) (view l past)) (sym by)
-      (sets_planned l (view l past) seq a at_path b resolves.breakpoints (resolves.answers, are) past (situation past) refl here))
+      (subst (λ c. After l (situation past)
+      (answering seq c (Ok b) (effect_in (situation past) past resolves.breakpoints)) (view l past)) (sym by)
+      (sets_planned l (view l past) seq a at_path b resolves.breakpoints (resolves.answers, are) past (situation past)
+      refl here))
   reply_planned reply (begins l' by here_is there' is) here =
       subst (Replied (situation past)) (sym is)
-      (subst (λ c. After l (situation past) (answering seq c (Ok body.None) (enters past l' (due_first past l'))) (view l past)) (sym by)
-      (subst (λ s. After l s (answering seq command.ConfigurationDone (Ok body.None) (enters past l' (due_first past l'))) (view l past)) (sym here_is)
-      (begins_planned l (view l past) past seq l' (due_first past l') refl (subst (λ s. Planned l s (view l past)) here_is here))))
+      (subst (λ c. After l (situation past) (answering seq c (Ok body.None) (enters past l' (due_first past l')))
+      (view l past)) (sym by)
+      (subst (λ s. After l s (answering seq command.ConfigurationDone (Ok body.None)
+      (enters past l' (due_first past l'))) (view l past)) (sym here_is)
+      (begins_planned l (view l past) past seq l' (due_first past l') refl
+      (subst (λ s. Planned l s (view l past)) here_is here))))
   reply_planned reply (resumes_by resume_kind l' by here_is there' is) here =
       subst (Replied (situation past)) (sym is)
-      (goes_planned l (view l past) seq asked (resuming_goes asked resume_kind by) (body_of resume_kind) (situation past) _ refl (stands_there l (view l past) (situation past) (subst IsStanding (sym here_is) tt) here))
+      (goes_planned l (view l past) seq asked (resuming_goes asked resume_kind by) (body_of resume_kind)
+      (situation past) _ refl (stands_there l (view l past) (situation past) (subst IsStanding (sym here_is) tt)
+      here))
   reply_planned reply (is_over resume_kind by here_is is) here = subst (Replied (situation past)) (sym is) tt
   reply_planned reply (retreats m l' by back stands there' is) here =
-      subst (Replied (situation past)) (sym is) (goes_planned l (view l past) seq asked (back_goes asked m by) body.None (situation past) _ refl (stands_there l (view l past) (situation past) stands here))
+      subst (Replied (situation past)) (sym is)
+      (goes_planned l (view l past) seq asked (back_goes asked m by) body.None (situation past) _ refl
+      (stands_there l (view l past) (situation past) stands here))
   reply_planned reply (interrupts a by here_is is) here =
       subst (Replied (situation past)) (sym is)
-      (subst (λ c. After l (situation past) (answering seq c (Ok body.None) (ordering (if is_held past || is_back past then [] else Hold (runs past) ∷ []))) (view l past)) (sym by)
-      (subst (λ s. After l s (answering seq (command.Pause a) (Ok body.None) (ordering (if is_held past || is_back past then [] else Hold (runs past) ∷ []))) (view l past)) (sym here_is)
-      (pause_planned l (view l past) seq (runs past) a (is_held past || is_back past) (subst (λ s. Planned l s (view l past)) here_is here))))
+      (subst (λ c. After l (situation past)
+      (answering seq c (Ok body.None)
+      (ordering (if is_held past || is_back past then [] else Hold (runs past) ∷ []))) (view l past)) (sym by)
+      (subst (λ s. After l s (answering seq (command.Pause a) (Ok body.None)
+      (ordering (if is_held past || is_back past then [] else Hold (runs past) ∷ []))) (view l past)) (sym here_is)
+      (pause_planned l (view l past) seq (runs past) a (is_held past || is_back past)
+      (subst (λ s. Planned l s (view l past)) here_is here))))
   reply_planned reply (quits by is) here =
       subst (Replied (situation past)) (sym is)
-      (subst (λ c. After l (situation past) (answering seq c (Ok body.None) (ordering (Quit ∷ []))) (view l past)) (sym by) here)
+      (subst (λ c. After l (situation past) (answering seq c (Ok body.None) (ordering (Quit ∷ []))) (view l past))
+      (sym by) here)
 
 -- ---- reports
 
 -- what a report puts in is what waits, if anything does
 lines_put : (back : Bool) (n : ℕ) (waits : Option (List Breakpoint)) (now : Plan)
-    → (unwrap_or (if back then Some (from_next n (unwrap_or waits now.breakpoints)) else put_in_at n waits) now).breakpoints ≡ unwrap_or waits now.breakpoints
+    → (unwrap_or (if back then Some (from_next n (unwrap_or waits now.breakpoints)) else put_in_at n waits)
+    now).breakpoints ≡ unwrap_or waits now.breakpoints
 lines_put true n waits now = refl
 lines_put false n None now = refl
 lines_put false n (Some bs) now = refl
 
-counted_put : (back : Bool) (n : ℕ) (waits : Option (List Breakpoint)) (now : Plan) (run : Heading) → now.counted_from ≡ run.counted_from
-    → (unwrap_or (if back then Some (from_next n (unwrap_or waits now.breakpoints)) else put_in_at n waits) now).counted_from ≡ next_counted (is_some waits || back) (Some run) n
+counted_put : (back : Bool) (n : ℕ) (waits : Option (List Breakpoint)) (now : Plan) (run : Heading)
+    → now.counted_from ≡ run.counted_from
+    → (unwrap_or (if back then Some (from_next n (unwrap_or waits now.breakpoints)) else put_in_at n waits)
+    now).counted_from ≡ next_counted (is_some waits || back) (Some run) n
 counted_put true n None now run is = refl
 counted_put true n (Some bs) now run is = refl
 counted_put false n None now run is = is
 counted_put false n (Some bs) now run is = refl
 
-module _ (past : History) (r : PlainReport) (accepts : Accepts past r) (l : Launched) (here : Planned l Running (view l past)) where
+module _ (past : History) (r : PlainReport) (accepts : Accepts past r) (l : Launched)
+    (here : Planned l Running (view l past)) where
   abbrev plan_put : Plan
   plan_put = unwrap_or (put_in_by past r) (plan past)
 
   are_put : AreOfLines l (line_offset past) (lines_set l.path past) plan_put.breakpoints
-  are_put = subst (AreOfLines l (line_offset past) (lines_set l.path past)) (sym (lines_put (goes_back r.mode) r.end (waiting_plan past) (plan past))) here.0
+  are_put =
+      subst (AreOfLines l (line_offset past) (lines_set l.path past))
+      (sym (lines_put (goes_back r.mode) r.end (waiting_plan past) (plan past))) here.0
 
   put_counts : plan_put.counted_from ≡ next_counted (are_anew l.path past || is_back past) (last_run past) r.end
   put_counts =
@@ -307,26 +371,35 @@ module _ (past : History) (r : PlainReport) (accepts : Accepts past r) (l : Laun
   Reported e effect = After l Running (step_of (Accepted r) None effect) (view l past)
 
   -- where the events lead
-  by_mark : (e : SliceOutcome) (effect : Effect) (m : Option Situation) → effect.orders ≡ [] → last_such message_mark (map Event effect.events) ≡ m
+  by_mark : (e : SliceOutcome) (effect : Effect) (m : Option Situation) → effect.orders ≡ []
+      → last_such message_mark (map Event effect.events) ≡ m
       → Planned l (unwrap_or m Running) (next l (step_of (Accepted r) None effect) (view l past)) → Reported e effect
   by_mark e effect m none is planned =
       subst (λ o. Planned l (unwrap_or o Running) (next l (step_of (Accepted r) None effect) (view l past)))
-      (sym (ap (λ os. or_else (last_such order_mark os) (last_such message_mark (map Event effect.events))) none ∙ is)) planned
+      (sym (ap (λ os. or_else (last_such order_mark os) (last_such message_mark (map Event effect.events))) none ∙ is))
+      planned
 
   unmarked : last_such message_mark (map Event (outputs past r)) ≡ None
-  unmarked = ap (λ es. last_such message_mark (map Event es)) (sym (append-nil (outputs past r))) ∙ outputs_mark past r []
+  unmarked =
+      ap (λ es. last_such message_mark (map Event es)) (sym (append-nil (outputs past r))) ∙ outputs_mark past r []
 
   held_planned : (pauses : Bool) → Reported slice.Held (held past r pauses)
-  held_planned true = by_mark slice.Held (held past r true) (Some Stopped) refl (outputs_mark past r (stops stop.Pause)) (are_put, put_counts)
+  held_planned true =
+      by_mark slice.Held (held past r true) (Some Stopped) refl (outputs_mark past r (stops stop.Pause))
+      (are_put, put_counts)
   held_planned false = (are_put, _, refl, refl, refl)
 
   report_planned : (e : SliceOutcome) → Reported e (report_effect past r e)
   report_planned slice.More = by_mark slice.More (report_effect past r slice.More) None refl unmarked here
-  report_planned (slice.Due why) = by_mark (slice.Due why) (report_effect past r (slice.Due why)) (Some Stopped) refl (outputs_mark past r (stops (stop_of why)) ∙ stop_marks why) (are_put, put_counts)
+  report_planned (slice.Due why) =
+      by_mark (slice.Due why) (report_effect past r (slice.Due why)) (Some Stopped) refl
+      (outputs_mark past r (stops (stop_of why)) ∙ stop_marks why) (are_put, put_counts)
   report_planned slice.Held = held_planned (waiting_pause past)
-  report_planned slice.Done = by_mark slice.Done (report_effect past r slice.Done) (Some Ended) refl (outputs_mark past r (ends 0)) tt
+  report_planned slice.Done =
+      by_mark slice.Done (report_effect past r slice.Done) (Some Ended) refl (outputs_mark past r (ends 0)) tt
   report_planned (slice.Fault fault) =
-      by_mark (slice.Fault fault) (report_effect past r (slice.Fault fault)) (Some Faulted) refl (outputs_mark past r (stops (stop.Exception (exception_of fault)))) (are_put, put_counts)
+      by_mark (slice.Fault fault) (report_effect past r (slice.Fault fault)) (Some Faulted) refl
+      (outputs_mark past r (stops (stop.Exception (exception_of fault)))) (are_put, put_counts)
   report_planned slice.NoMemory = here
 
 -- ---- before a launch
@@ -343,11 +416,14 @@ record SetsNone (step : Step) : Type 0 where
 
 unset_more : (past : History) (step : Step) → SetsNone step → Unset past → Unset (past ++ step ∷ [])
 unset_more past step none here = record {
-  lines = λ path. lines_set-snoc path past step ∙ ap (λ o. or_else o (lines_set path past)) (none.lines path) ∙ here.lines path;
+  lines = λ path. lines_set-snoc path past step ∙ ap (λ o. or_else o (lines_set path past)) (none.lines path)
+      ∙ here.lines path;
   plan_is = plan-snoc past step ∙ ap (λ o. unwrap_or o (plan past)) none.put_in ∙ here.plan_is;
 }
 
-sets_none : (item : Item) (answer : Option Outgoing) (effect : Effect) → ((path : List ℕ) → lines_by path item answer ≡ None) → effect.put_in ≡ None → SetsNone (step_of item answer effect)
+sets_none : (item : Item) (answer : Option Outgoing) (effect : Effect)
+    → ((path : List ℕ) → lines_by path item answer ≡ None) → effect.put_in ≡ None
+    → SetsNone (step_of item answer effect)
 sets_none item answer effect lines put = record { lines = lines; put_in = put }
 
 going_none : (path : List ℕ) (asked : Command) → IsGoing asked → lines_at path asked ≡ None
@@ -368,24 +444,35 @@ module _ (past : History) (none : launched past ≡ None) where
   calm_none path s _ calm = absurd calm
 
   by_result : (path : List ℕ) (seq : ℕ) (asked : Command) (result : Result Body Refusal) → lines_at path asked ≡ None
-      → lines_by path (Content (Some (record { seq = seq; body = asked }))) (Some (Answer seq (name_of asked) result)) ≡ None
+      → lines_by path (Content (Some (record { seq = seq; body = asked })))
+      (Some (Answer seq (name_of asked) result)) ≡ None
   by_result path seq asked (Ok b) is = is
   by_result path seq asked (Err why) is = refl
 
-  reply_none : (seq : ℕ) (s : Situation) (asked : Command) (reply : Reply) → Shape past s asked reply → SetsNone (answering seq asked reply.result reply.effect)
-  reply_none seq s asked reply (refuses why is) = subst (λ (r : Reply). SetsNone (answering seq asked r.result r.effect)) (sym is) (record { lines = λ path. refl; put_in = refl })
+  reply_none : (seq : ℕ) (s : Situation) (asked : Command) (reply : Reply) → Shape past s asked reply
+      → SetsNone (answering seq asked reply.result reply.effect)
+  reply_none seq s asked reply (refuses why is) =
+      subst (λ (r : Reply). SetsNone (answering seq asked r.result r.effect)) (sym is)
+      (record { lines = λ path. refl; put_in = refl })
   reply_none seq s asked reply (is_calm calm is) =
-      subst (λ e. SetsNone (answering seq asked reply.result e)) (sym is) (record { lines = λ path. by_result path seq asked reply.result (calm_none path s asked calm); put_in = refl })
+      subst (λ e. SetsNone (answering seq asked reply.result e)) (sym is)
+      (record {
+        lines = λ path. by_result path seq asked reply.result (calm_none path s asked calm);
+        put_in = refl;
+      })
   reply_none seq s asked reply (sets a l by there same resolves) = absurd (not_launched l there)
   reply_none seq s asked reply (begins l by here there is) = absurd (not_launched l there)
   reply_none seq s asked reply (resumes_by resume_kind l by here there is) = absurd (not_launched l there)
   reply_none seq s asked reply (is_over resume_kind by here is) =
-      subst (λ (r : Reply). SetsNone (answering seq asked r.result r.effect)) (sym is) (record { lines = λ path. going_none path asked (resuming_goes asked resume_kind by); put_in = refl })
+      subst (λ (r : Reply). SetsNone (answering seq asked r.result r.effect)) (sym is)
+      (record { lines = λ path. going_none path asked (resuming_goes asked resume_kind by); put_in = refl })
   reply_none seq s asked reply (retreats m l by back stands there is) = absurd (not_launched l there)
   reply_none seq s asked reply (interrupts a by here is) =
-      subst (λ (r : Reply). SetsNone (answering seq asked r.result r.effect)) (sym is) (record { lines = λ path. ap (lines_at path) by; put_in = refl })
+      subst (λ (r : Reply). SetsNone (answering seq asked r.result r.effect)) (sym is)
+      (record { lines = λ path. ap (lines_at path) by; put_in = refl })
   reply_none seq s asked reply (quits by is) =
-      subst (λ (r : Reply). SetsNone (answering seq asked r.result r.effect)) (sym is) (record { lines = λ path. ap (lines_at path) by; put_in = refl })
+      subst (λ (r : Reply). SetsNone (answering seq asked r.result r.effect)) (sym is)
+      (record { lines = λ path. ap (lines_at path) by; put_in = refl })
 
 -- ---- along a history
 
@@ -397,85 +484,121 @@ module _ (one : OneProgram) (joins : WrittenJoins) where
 
   -- both, with one more step
   abbrev Both : History → Type 0
-  Both past = (launched past ≡ None → Unset past) × ((l : Launched) → launched past ≡ Some l → Planned l (situation past) (view l past))
+  Both past =
+      (launched past ≡ None → Unset past) × ((l : Launched) → launched past ≡ Some l
+      → Planned l (situation past) (view l past))
 
   -- a step that launches nothing
-  still : (past : History) (step : Step) → step.effect.launched ≡ None → (launched past ≡ None → SetsNone step) → ((l : Launched) → launched past ≡ Some l → After l (situation past) step (view l past)) → Kept past → Both (past ++ step ∷ [])
+  still : (past : History) (step : Step) → step.effect.launched ≡ None → (launched past ≡ None → SetsNone step)
+      → ((l : Launched) → launched past ≡ Some l → After l (situation past) step (view l past)) → Kept past
+      → Both (past ++ step ∷ [])
   still past step launches none planned here = (
     λ is. let before = sym same ∙ is in unset_more past step (none before) (here.unset before),
-    λ l is. subst (λ s. Planned l s (view l (past ++ step ∷ []))) (sym (situation-snoc past step)) (subst (Planned l (unwrap_or (step_mark step) (situation past))) (sym (view-snoc l past step)) (planned l (sym same ∙ is))),
+    λ l is. subst (λ s. Planned l s (view l (past ++ step ∷ []))) (sym (situation-snoc past step))
+        (subst (Planned l (unwrap_or (step_mark step) (situation past))) (sym (view-snoc l past step))
+        (planned l (sym same ∙ is))),
   )
     where
       same : launched (past ++ step ∷ []) ≡ launched past
       same = launched-snoc past step ∙ ap (λ o. or_else o (launched past)) launches
 
   -- a step that has no effect, and answers nothing
-  aside : (past : History) (item : Item) (orders : List PlainOrder) → ((path : List ℕ) → lines_by path item None ≡ None) → (effect : Effect) → effect ≡ ordering orders
-      → ((l : Launched) → Planned l (situation past) (view l past) → After l (situation past) (step_of item None (ordering orders)) (view l past)) → Kept past → Both (past ++ step_of item None effect ∷ [])
+  aside : (past : History) (item : Item) (orders : List PlainOrder) → ((path : List ℕ) → lines_by path item None ≡ None)
+      → (effect : Effect) → effect ≡ ordering orders
+      → ((l : Launched) → Planned l (situation past) (view l past)
+      → After l (situation past) (step_of item None (ordering orders)) (view l past)) → Kept past
+      → Both (past ++ step_of item None effect ∷ [])
   aside past item orders lines effect is after here =
       subst (λ e. Both (past ++ step_of item None e ∷ [])) (sym is)
-      (still past (step_of item None (ordering orders)) refl (λ none. record { lines = lines; put_in = refl }) (λ l there. after l (here.planned l there)) here)
+      (still past (step_of item None (ordering orders)) refl (λ none. record { lines = lines; put_in = refl })
+      (λ l there. after l (here.planned l there)) here)
 
-  launch_both : (past : History) (launch : Launch) (file : Option (List ℕ)) (reply : Reply) → situation past ≡ Ready → Launches launch.arguments file reply → Kept past
+  launch_both : (past : History) (launch : Launch) (file : Option (List ℕ)) (reply : Reply) → situation past ≡ Ready
+      → Launches launch.arguments file reply → Kept past
       → Both (past ++ launching launch file reply ∷ [])
   launch_both past launch file reply ready is here = by_file file is
     where
       not_yet : launched past ≡ None
       not_yet = here.ran.so_far.early (subst IsEarly (sym ready) tt)
 
-      refused_so : (file : Option (List ℕ)) (why : Refusal) → reply ≡ refused why → Both (past ++ launching launch file reply ∷ [])
+      refused_so : (file : Option (List ℕ)) (why : Refusal) → reply ≡ refused why
+          → Both (past ++ launching launch file reply ∷ [])
       refused_so file why is =
           subst (λ r. Both (past ++ launching launch file r ∷ [])) (sym is)
-          (still past (launching launch file (refused why)) refl (λ none. record { lines = λ path. refl; put_in = refl }) (λ l there. absurd (not_launched past not_yet l there)) here)
+          (still past (launching launch file (refused why)) refl
+          (λ none. record { lines = λ path. refl; put_in = refl })
+          (λ l there. absurd (not_launched past not_yet l there)) here)
 
-      by_file : (file : Option (List ℕ)) → Launches launch.arguments file reply → Both (past ++ launching launch file reply ∷ [])
+      by_file : (file : Option (List ℕ)) → Launches launch.arguments file reply
+          → Both (past ++ launching launch file reply ∷ [])
       by_file None is = refused_so None _ is
       by_file (Some text) (inl is) = refused_so (Some text) _ is.reply_is
-      by_file (Some text) (inr is) = subst (λ r. Both (past ++ launching launch (Some text) r ∷ [])) (sym is.reply_is) (λ none. absurd (let e = sym (launched-snoc past new) ∙ none in cc), at_launch)
+      by_file (Some text) (inr is) =
+          subst (λ r. Both (past ++ launching launch (Some text) r ∷ [])) (sym is.reply_is)
+          (λ none. absurd (let e = sym (launched-snoc past new) ∙ none in cc), at_launch)
         where
           new : Step
           new = launching launch (Some text) (causing body.None (launches launch.arguments text is.program))
 
-          at_launch : (l : Launched) → launched (past ++ new ∷ []) ≡ Some l → Planned l (situation (past ++ new ∷ [])) (view l (past ++ new ∷ []))
+          at_launch : (l : Launched) → launched (past ++ new ∷ []) ≡ Some l
+              → Planned l (situation (past ++ new ∷ [])) (view l (past ++ new ∷ []))
           at_launch l there =
               let unset = here.unset not_yet in
               let none : Planned l Configuring (next l new (view l past)) = (
-                subst (λ o. AreOfLines l (line_offset past) o (plan past).breakpoints) (sym (unset.lines l.path)) (ap (λ (p : Plan). p.breakpoints) unset.plan_is),
+                subst (λ o. AreOfLines l (line_offset past) o (plan past).breakpoints) (sym (unset.lines l.path))
+                    (ap (λ (p : Plan). p.breakpoints) unset.plan_is),
                 ap (λ (p : Plan). p.counted_from) unset.plan_is,
                 (here.ran.so_far.progress None not_yet).1,
               ) in
-              subst (λ s. Planned l s (view l (past ++ new ∷ []))) (sym (situation-snoc past new)) (subst (Planned l Configuring) (sym (view-snoc l past new)) none)
+              subst (λ s. Planned l s (view l (past ++ new ∷ []))) (sym (situation-snoc past new))
+              (subst (Planned l Configuring) (sym (view-snoc l past new)) none)
 
-  both_more : (past : History) (item : Item) (step : Step) → step.item ≡ item → IsTaken IsLawfulEvent past item → Causes past item step → Kept past → Both (past ++ step ∷ [])
+  both_more : (past : History) (item : Item) (step : Step) → step.item ≡ item → IsTaken IsLawfulEvent past item
+      → Causes past item step → Kept past → Both (past ++ step ∷ [])
   both_more past (Content None) step item_is taken is here =
-      subst (λ s. Both (past ++ s ∷ [])) (sym (same_step step (Content None) None step.effect item_is is.answer_is refl)) (aside past (Content None) [] (λ path. refl) step.effect is.effect_is (λ l planned. planned) here)
+      subst (λ s. Both (past ++ s ∷ [])) (sym
+      (same_step step (Content None) None step.effect item_is is.answer_is refl))
+      (aside past (Content None) [] (λ path. refl) step.effect is.effect_is (λ l planned. planned) here)
   both_more past (Content (Some request)) step item_is taken is here =
-      subst (λ s. Both (past ++ s ∷ [])) (sym (same_step step (Content (Some request)) (Some (Answer request.seq (name_of request.body) is.0.result)) is.0.effect item_is is.2.answer_is is.2.effect_is))
-      (still past (answering request.seq request.body is.0.result is.0.effect) (all_silent (situation past) past request.body is.0 is.1).no_launch
+      subst (λ s. Both (past ++ s ∷ [])) (sym
+      (same_step step (Content (Some request)) (Some (Answer request.seq (name_of request.body) is.0.result))
+      is.0.effect item_is is.2.answer_is is.2.effect_is))
+      (still past (answering request.seq request.body is.0.result is.0.effect)
+      (all_silent (situation past) past request.body is.0 is.1).no_launch
       (λ none. reply_none past none request.seq (situation past) request.body is.0 shape)
       (λ l there. reply_planned past l there request.seq request.body is.0 shape (here.planned l there)) here)
     where
       shape : Shape past (situation past) request.body is.0
       shape = shaped past is.0 (situation past) request.body is.1
   both_more past (Loaded launch file) step item_is taken is here =
-      subst (λ s. Both (past ++ s ∷ [])) (sym (same_step step (Loaded launch file) (Some (Answer launch.seq (name.Supported supported.Launch) is.0.result)) is.0.effect item_is is.2.answer_is is.2.effect_is))
+      subst (λ s. Both (past ++ s ∷ [])) (sym
+      (same_step step (Loaded launch file) (Some (Answer launch.seq (name.Supported supported.Launch) is.0.result))
+      is.0.effect item_is is.2.answer_is is.2.effect_is))
       (launch_both past launch file is.0 taken is.1 here)
   both_more past (Accepted r) step item_is taken is here =
-      subst (λ s. Both (past ++ s ∷ [])) (sym (same_step step (Accepted r) None (report_effect past r r.outcome) item_is is.answer_is is.effect_is))
+      subst (λ s. Both (past ++ s ∷ [])) (sym
+      (same_step step (Accepted r) None (report_effect past r r.outcome) item_is is.answer_is is.effect_is))
       (still past (step_of (Accepted r) None (report_effect past r r.outcome)) (report_launches past r r.outcome)
       (λ none. absurd (let e = sym (here.ran.so_far.progress None none).1 ∙ taken.0.run_is in cc))
-      (λ l there. subst (λ s. After l s (step_of (Accepted r) None (report_effect past r r.outcome)) (view l past)) (sym taken.0.running)
-      (report_planned past r taken.0 l (subst (λ s. Planned l s (view l past)) taken.0.running (here.planned l there)) r.outcome)) here)
+      (λ l there. subst (λ s. After l s (step_of (Accepted r) None (report_effect past r r.outcome)) (view l past))
+      (sym taken.0.running)
+      (report_planned past r taken.0 l (subst (λ s. Planned l s (view l past)) taken.0.running (here.planned l there))
+      r.outcome)) here)
   both_more past (Fault k) step item_is taken is here =
-      subst (λ s. Both (past ++ s ∷ [])) (sym (same_step step (Fault k) None step.effect item_is is.answer_is refl)) (aside past (Fault k) [] (λ path. refl) step.effect is.effect_is (λ l planned. planned) here)
+      subst (λ s. Both (past ++ s ∷ [])) (sym (same_step step (Fault k) None step.effect item_is is.answer_is refl))
+      (aside past (Fault k) [] (λ path. refl) step.effect is.effect_is (λ l planned. planned) here)
   both_more past InputEnd step item_is taken is here =
-      subst (λ s. Both (past ++ s ∷ [])) (sym (same_step step InputEnd None step.effect item_is is.answer_is refl)) (aside past InputEnd (Quit ∷ []) (λ path. refl) step.effect is.effect_is (λ l planned. planned) here)
+      subst (λ s. Both (past ++ s ∷ [])) (sym (same_step step InputEnd None step.effect item_is is.answer_is refl))
+      (aside past InputEnd (Quit ∷ []) (λ path. refl) step.effect is.effect_is (λ l planned. planned) here)
   both_more past ReadFailure step item_is taken is here =
-      subst (λ s. Both (past ++ s ∷ [])) (sym (same_step step ReadFailure None step.effect item_is is.answer_is refl)) (aside past ReadFailure (Quit ∷ []) (λ path. refl) step.effect is.effect_is (λ l planned. planned) here)
+      subst (λ s. Both (past ++ s ∷ [])) (sym (same_step step ReadFailure None step.effect item_is is.answer_is refl))
+      (aside past ReadFailure (Quit ∷ []) (λ path. refl) step.effect is.effect_is (λ l planned. planned) here)
   both_more past MemoryFailure step item_is taken is here =
-      subst (λ s. Both (past ++ s ∷ [])) (sym (same_step step MemoryFailure None step.effect item_is is.answer_is refl)) (aside past MemoryFailure [] (λ path. refl) step.effect is.effect_is (λ l planned. planned) here)
+      subst (λ s. Both (past ++ s ∷ [])) (sym (same_step step MemoryFailure None step.effect item_is is.answer_is refl))
+      (aside past MemoryFailure [] (λ path. refl) step.effect is.effect_is (λ l planned. planned) here)
 
-  kept_more : (past : History) (step : Step) → IsTaken IsLawfulEvent past step.item → Causes past step.item step → Kept past → Kept (past ++ step ∷ [])
+  kept_more : (past : History) (step : Step) → IsTaken IsLawfulEvent past step.item → Causes past step.item step
+      → Kept past → Kept (past ++ step ∷ [])
   kept_more past step taken causes here =
       let both = both_more past step.item step refl taken causes here in
       record { ran = ran_more one joins past step taken causes here.ran; unset = both.0; planned = both.1 }
@@ -484,35 +607,50 @@ module _ (one : OneProgram) (joins : WrittenJoins) where
   kept_kept = record {
     step = λ past item new taking taken after here.
         subst Kept (sym after.new_is)
-        (kept_more past after.step (subst (IsTaken IsLawfulEvent past) (sym after.item_is) taken) (subst (λ i. Causes past i after.step) (sym after.item_is) after.causes) here);
+        (kept_more past after.step (subst (IsTaken IsLawfulEvent past) (sym after.item_is) taken)
+        (subst (λ i. Causes past i after.step) (sym after.item_is) after.causes) here);
   }
 
   kept_first : Kept []
-  kept_first = record { ran = ran_first one joins; unset = λ is. record { lines = λ path. refl; plan_is = refl }; planned = λ l is. absurd cc }
+  kept_first =
+      record {
+        ran = ran_first one joins;
+        unset = λ is. record { lines = λ path. refl; plan_is = refl };
+        planned = λ l
+            is. absurd cc;
+      }
 
   -- ---- the run that a step orders
 
   -- it is under the breakpoints of the lines set last, and counts as it is to
   abbrev RunsSo : History → Option Outgoing → Heading → Type 0
-  RunsSo past answer run = (l : Launched) × (launched past ≡ Some l) × AreOfLines l (line_offset past) (lines_set l.path past) run.plan × (run.counted_from ≡ counts_from past l answer run.start)
+  RunsSo past answer run =
+      (l : Launched) × (launched past ≡ Some l) × AreOfLines l (line_offset past) (lines_set l.path past) run.plan
+      × (run.counted_from ≡ counts_from past l answer run.start)
 
-  not_a_start : (seq : ℕ) (asked : Command) (b : Body) → IsGoing asked → starts_by (Some (Answer seq (name_of asked) (Ok b))) ≡ false
+  not_a_start : (seq : ℕ) (asked : Command) (b : Body) → IsGoing asked
+      → starts_by (Some (Answer seq (name_of asked) (Ok b))) ≡ false
   not_a_start seq (command.Resume k a) b going = refl
   not_a_start seq (command.Retreat k a) b going = refl
   not_a_start seq _ b going = absurd going
 
   -- a run from where the program stands
-  from_there : (past : History) (l : Launched) (seq : ℕ) (asked : Command) (b : Body) (m : Mode) → launched past ≡ Some l → IsGoing asked → Stands l (view l past) → (run : Heading) → last_such go (resumes past l m) ≡ Some run → RunsSo past (Some (Answer seq (name_of asked) (Ok b))) run
+  from_there : (past : History) (l : Launched) (seq : ℕ) (asked : Command) (b : Body) (m : Mode)
+      → launched past ≡ Some l → IsGoing asked → Stands l (view l past) → (run : Heading)
+      → last_such go (resumes past l m) ≡ Some run → RunsSo past (Some (Answer seq (name_of asked) (Ok b))) run
   from_there past l seq asked b m there going stands run goes =
       let same = ap (λ o. unwrap_or o run) goes in (
         l,
         there,
         subst (AreOfLines l (line_offset past) (lines_set l.path past)) (ap (λ (h : Heading). h.plan) same) stands.0,
-        ap (λ (h : Heading). h.counted_from) (sym same) ∙ stands.1 ∙ ap (λ (h : Heading). next_counted (are_anew l.path past || is_back past) (last_run past) h.start) same
-            ∙ ap (λ t. if t then 0 else next_counted (are_anew l.path past || is_back past) (last_run past) run.start) (sym (not_a_start seq asked b going)),
+        ap (λ (h : Heading). h.counted_from) (sym same) ∙ stands.1
+            ∙ ap (λ (h : Heading). next_counted (are_anew l.path past || is_back past) (last_run past) h.start) same
+            ∙ ap (λ t. if t then 0 else next_counted (are_anew l.path past || is_back past) (last_run past) run.start)
+            (sym (not_a_start seq asked b going)),
       )
 
-  begins_so : (past : History) (l : Launched) (seq : ℕ) (why : Option Reason) → launched past ≡ Some l → Planned l Configuring (view l past) → (run : Heading) → last_such go (enters past l why).orders ≡ Some run
+  begins_so : (past : History) (l : Launched) (seq : ℕ) (why : Option Reason) → launched past ≡ Some l
+      → Planned l Configuring (view l past) → (run : Heading) → last_such go (enters past l why).orders ≡ Some run
       → RunsSo past (Some (Answer seq (name_of command.ConfigurationDone) (Ok body.None))) run
   begins_so past l seq None there planned run goes =
       let same = ap (λ o. unwrap_or o run) goes in (
@@ -524,30 +662,53 @@ module _ (one : OneProgram) (joins : WrittenJoins) where
   begins_so past l seq (Some r) there planned run goes = absurd cc
 
   -- a reply that orders no run
-  none_so : (past : History) (answer : Option Outgoing) (run : Heading) (orders os : List PlainOrder) → orders ≡ os → last_such go os ≡ None → last_such go orders ≡ Some run → RunsSo past answer run
+  none_so : (past : History) (answer : Option Outgoing) (run : Heading) (orders os : List PlainOrder) → orders ≡ os
+      → last_such go os ≡ None → last_such go orders ≡ Some run → RunsSo past answer run
   none_so past answer run orders os is none some = let e = sym some ∙ ap (last_such go) is ∙ none in absurd cc
 
-  reply_so : (past : History) → Kept past → (seq : ℕ) (asked : Command) (reply : Reply) → Shape past (situation past) asked reply → (run : Heading) → last_such go reply.effect.orders ≡ Some run → RunsSo past (Some (Answer seq (name_of asked) reply.result)) run
-  reply_so past here seq asked reply (refuses why is) run goes = none_so past (Some (Answer seq (name_of asked) reply.result)) run reply.effect.orders _ (ap (λ (r : Reply). r.effect.orders) is) refl goes
-  reply_so past here seq asked reply (is_calm calm is) run goes = none_so past (Some (Answer seq (name_of asked) reply.result)) run reply.effect.orders _ (ap (λ (e : Effect). e.orders) is) refl goes
+  reply_so : (past : History) → Kept past → (seq : ℕ) (asked : Command) (reply : Reply)
+      → Shape past (situation past) asked reply → (run : Heading) → last_such go reply.effect.orders ≡ Some run
+      → RunsSo past (Some (Answer seq (name_of asked) reply.result)) run
+  reply_so past here seq asked reply (refuses why is) run goes =
+      none_so past (Some (Answer seq (name_of asked) reply.result)) run reply.effect.orders _
+      (ap (λ (r : Reply). r.effect.orders) is) refl goes
+  reply_so past here seq asked reply (is_calm calm is) run goes =
+      none_so past (Some (Answer seq (name_of asked) reply.result)) run reply.effect.orders _
+      (ap (λ (e : Effect). e.orders) is) refl goes
   reply_so past here seq asked reply (sets a l by there same resolves) run goes =
-      none_so past (Some (Answer seq (name_of asked) reply.result)) run reply.effect.orders _ (ap (λ (r : Reply). r.effect.orders) resolves.reply_is) (no_go_in (situation past) past resolves.breakpoints) goes
+      none_so past (Some (Answer seq (name_of asked) reply.result)) run reply.effect.orders _
+      (ap (λ (r : Reply). r.effect.orders) resolves.reply_is) (no_go_in (situation past) past resolves.breakpoints)
+      goes
   reply_so past here seq asked reply (begins l by here_is there is) run goes =
       subst (λ (r : Reply). RunsSo past (Some (Answer seq (name_of asked) r.result)) run) (sym is)
       (subst (λ c. RunsSo past (Some (Answer seq (name_of c) (Ok body.None))) run) (sym by)
-      (begins_so past l seq (due_first past l) there (subst (λ s. Planned l s (view l past)) here_is (here.planned l there)) run (ap (λ (r : Reply). last_such go r.effect.orders) (sym is) ∙ goes)))
+      (begins_so past l seq (due_first past l) there
+      (subst (λ s. Planned l s (view l past)) here_is (here.planned l there)) run
+      (ap (λ (r : Reply). last_such go r.effect.orders) (sym is) ∙ goes)))
   reply_so past here seq asked reply (resumes_by resume_kind l by here_is there is) run goes =
       subst (λ (r : Reply). RunsSo past (Some (Answer seq (name_of asked) r.result)) run) (sym is)
-      (from_there past l seq asked (body_of resume_kind) _ there (resuming_goes asked resume_kind by) (subst (λ s. Planned l s (view l past)) here_is (here.planned l there)) run (ap (λ (r : Reply). last_such go r.effect.orders) (sym is) ∙ goes))
-  reply_so past here seq asked reply (is_over resume_kind by here_is is) run goes = none_so past (Some (Answer seq (name_of asked) reply.result)) run reply.effect.orders _ (ap (λ (r : Reply). r.effect.orders) is) refl goes
+      (from_there past l seq asked (body_of resume_kind) _ there (resuming_goes asked resume_kind by)
+      (subst (λ s. Planned l s (view l past)) here_is (here.planned l there)) run
+      (ap (λ (r : Reply). last_such go r.effect.orders) (sym is) ∙ goes))
+  reply_so past here seq asked reply (is_over resume_kind by here_is is) run goes =
+      none_so past (Some (Answer seq (name_of asked) reply.result)) run reply.effect.orders _
+      (ap (λ (r : Reply). r.effect.orders) is) refl goes
   reply_so past here seq asked reply (retreats m l by back stands there is) run goes =
       subst (λ (r : Reply). RunsSo past (Some (Answer seq (name_of asked) r.result)) run) (sym is)
-      (from_there past l seq asked body.None _ there (back_goes asked m by) (stands_there l (view l past) (situation past) stands (here.planned l there)) run (ap (λ (r : Reply). last_such go r.effect.orders) (sym is) ∙ goes))
-  reply_so past here seq asked reply (interrupts a by here_is is) run goes = none_so past (Some (Answer seq (name_of asked) reply.result)) run reply.effect.orders _ (ap (λ (r : Reply). r.effect.orders) is) (no_go_held past) goes
-  reply_so past here seq asked reply (quits by is) run goes = none_so past (Some (Answer seq (name_of asked) reply.result)) run reply.effect.orders _ (ap (λ (r : Reply). r.effect.orders) is) refl goes
+      (from_there past l seq asked body.None _ there (back_goes asked m by)
+      (stands_there l (view l past) (situation past) stands (here.planned l there)) run
+      (ap (λ (r : Reply). last_such go r.effect.orders) (sym is) ∙ goes))
+  reply_so past here seq asked reply (interrupts a by here_is is) run goes =
+      none_so past (Some (Answer seq (name_of asked) reply.result)) run reply.effect.orders _
+      (ap (λ (r : Reply). r.effect.orders) is) (no_go_held past) goes
+  reply_so past here seq asked reply (quits by is) run goes =
+      none_so past (Some (Answer seq (name_of asked) reply.result)) run reply.effect.orders _
+      (ap (λ (r : Reply). r.effect.orders) is) refl goes
 
   -- a run that follows one that was held
-  held_so : (past : History) (r : PlainReport) → Accepts past r → (l : Launched) → launched past ≡ Some l → Planned l Running (view l past) → (e : SliceOutcome) (run : Heading) → last_such go (report_effect past r e).orders ≡ Some run → RunsSo past None run
+  held_so : (past : History) (r : PlainReport) → Accepts past r → (l : Launched) → launched past ≡ Some l
+      → Planned l Running (view l past) → (e : SliceOutcome) (run : Heading)
+      → last_such go (report_effect past r e).orders ≡ Some run → RunsSo past None run
   held_so past r accepts l there planned slice.Held run goes = by_pause (waiting_pause past) goes
     where
       by_pause : (pauses : Bool) → last_such go (held past r pauses).orders ≡ Some run → RunsSo past None run
@@ -556,8 +717,11 @@ module _ (one : OneProgram) (joins : WrittenJoins) where
           let same = ap (λ o. unwrap_or o run) goes in (
             l,
             there,
-            subst (AreOfLines l (line_offset past) (lines_set l.path past)) (ap (λ (h : Heading). h.plan) same) (are_put past r accepts l planned),
-            ap (λ (h : Heading). h.counted_from) (sym same) ∙ put_counts past r accepts l planned ∙ ap (λ (h : Heading). next_counted (are_anew l.path past || is_back past) (last_run past) h.start) same,
+            subst (AreOfLines l (line_offset past) (lines_set l.path past)) (ap (λ (h : Heading). h.plan) same)
+                (are_put past r accepts l planned),
+            ap (λ (h : Heading). h.counted_from) (sym same) ∙ put_counts past r accepts l planned
+                ∙ ap (λ (h : Heading). next_counted (are_anew l.path past || is_back past) (last_run past) h.start)
+                same,
           )
   held_so past r accepts l there planned slice.More run goes = absurd cc
   held_so past r accepts l there planned (slice.Due why) run goes = absurd cc
@@ -565,32 +729,52 @@ module _ (one : OneProgram) (joins : WrittenJoins) where
   held_so past r accepts l there planned (slice.Fault fault) run goes = absurd cc
   held_so past r accepts l there planned slice.NoMemory run goes = absurd cc
 
-  report_so : (past : History) (r : PlainReport) → Accepts past r → Kept past → (o : Option Launched) → launched past ≡ o → (run : Heading) → last_such go (report_effect past r r.outcome).orders ≡ Some run → RunsSo past None run
-  report_so past r accepts here None none run goes = absurd (let e = sym (here.ran.so_far.progress None none).1 ∙ accepts.run_is in cc)
-  report_so past r accepts here (Some l) there run goes = held_so past r accepts l there (subst (λ s. Planned l s (view l past)) accepts.running (here.planned l there)) r.outcome run goes
+  report_so : (past : History) (r : PlainReport) → Accepts past r → Kept past → (o : Option Launched)
+      → launched past ≡ o → (run : Heading) → last_such go (report_effect past r r.outcome).orders ≡ Some run
+      → RunsSo past None run
+  report_so past r accepts here None none run goes =
+      absurd (let e = sym (here.ran.so_far.progress None none).1 ∙ accepts.run_is in cc)
+  report_so past r accepts here (Some l) there run goes =
+      held_so past r accepts l there (subst (λ s. Planned l s (view l past)) accepts.running (here.planned l there))
+      r.outcome run goes
 
-  item_so : (past : History) (item : Item) (step : Step) → IsTaken IsLawfulEvent past item → Causes past item step → Kept past → (run : Heading) → run_in step ≡ Some run → RunsSo past step.answer run
-  item_so past (Content None) step taken is here run goes = none_so past step.answer run step.effect.orders _ (ap (λ (e : Effect). e.orders) is.effect_is) refl goes
+  item_so : (past : History) (item : Item) (step : Step) → IsTaken IsLawfulEvent past item → Causes past item step
+      → Kept past → (run : Heading) → run_in step ≡ Some run → RunsSo past step.answer run
+  item_so past (Content None) step taken is here run goes =
+      none_so past step.answer run step.effect.orders _ (ap (λ (e : Effect). e.orders) is.effect_is) refl goes
   item_so past (Content (Some request)) step taken is here run goes =
       subst (λ a. RunsSo past a run) (sym is.2.answer_is)
-      (reply_so past here request.seq request.body is.0 (shaped past is.0 (situation past) request.body is.1) run (ap (λ (e : Effect). last_such go e.orders) (sym is.2.effect_is) ∙ goes))
-  item_so past (Loaded launch file) step taken is here run goes = none_so past step.answer run step.effect.orders _ (ap (λ (e : Effect). e.orders) is.2.effect_is) (loaded_orders launch file is.0 is.1) goes
+      (reply_so past here request.seq request.body is.0 (shaped past is.0 (situation past) request.body is.1) run
+      (ap (λ (e : Effect). last_such go e.orders) (sym is.2.effect_is) ∙ goes))
+  item_so past (Loaded launch file) step taken is here run goes =
+      none_so past step.answer run step.effect.orders _ (ap (λ (e : Effect). e.orders) is.2.effect_is)
+      (loaded_orders launch file is.0 is.1) goes
   item_so past (Accepted r) step taken is here run goes =
-      subst (λ a. RunsSo past a run) (sym is.answer_is) (report_so past r taken.0 here (launched past) refl run (ap (λ (e : Effect). last_such go e.orders) (sym is.effect_is) ∙ goes))
-  item_so past (Fault k) step taken is here run goes = none_so past step.answer run step.effect.orders _ (ap (λ (e : Effect). e.orders) is.effect_is) refl goes
-  item_so past InputEnd step taken is here run goes = none_so past step.answer run step.effect.orders _ (ap (λ (e : Effect). e.orders) is.effect_is) refl goes
-  item_so past ReadFailure step taken is here run goes = none_so past step.answer run step.effect.orders _ (ap (λ (e : Effect). e.orders) is.effect_is) refl goes
-  item_so past MemoryFailure step taken is here run goes = none_so past step.answer run step.effect.orders _ (ap (λ (e : Effect). e.orders) is.effect_is) refl goes
+      subst (λ a. RunsSo past a run) (sym is.answer_is)
+      (report_so past r taken.0 here (launched past) refl run
+      (ap (λ (e : Effect). last_such go e.orders) (sym is.effect_is) ∙ goes))
+  item_so past (Fault k) step taken is here run goes =
+      none_so past step.answer run step.effect.orders _ (ap (λ (e : Effect). e.orders) is.effect_is) refl goes
+  item_so past InputEnd step taken is here run goes =
+      none_so past step.answer run step.effect.orders _ (ap (λ (e : Effect). e.orders) is.effect_is) refl goes
+  item_so past ReadFailure step taken is here run goes =
+      none_so past step.answer run step.effect.orders _ (ap (λ (e : Effect). e.orders) is.effect_is) refl goes
+  item_so past MemoryFailure step taken is here run goes =
+      none_so past step.answer run step.effect.orders _ (ap (λ (e : Effect). e.orders) is.effect_is) refl goes
 
-  module _ (events : List Incoming) (past : History) (rest : Rest) (lawful : AreLawful events) (history : IsHistoryOf events past rest) (before : History) (step : Step) (after : History) (run : Heading) (past_is : past ≡ before ++ step ∷ after) (orders : Orders step run) where
+  module _ (events : List Incoming) (past : History) (rest : Rest) (lawful : AreLawful events)
+      (history : IsHistoryOf events past rest) (before : History) (step : Step) (after : History) (run : Heading)
+      (past_is : past ≡ before ++ step ∷ after) (orders : Orders step run) where
     each : EachTaken IsLawfulEvent Kept past
-    each = along IsLawfulEvent (EachTaken IsLawfulEvent Kept) (each_kept IsLawfulEvent Kept kept_kept) (each_first IsLawfulEvent Kept kept_first) events past rest (lawful_events events lawful) history
+    each = along IsLawfulEvent (EachTaken IsLawfulEvent Kept) (each_kept IsLawfulEvent Kept kept_kept)
+        (each_first IsLawfulEvent Kept kept_first) events past rest (lawful_events events lawful) history
 
     was : WasTaken IsLawfulEvent Kept before step
     was = each.each before step after past_is
 
     so : RunsSo before step.answer run
-    so = item_so before step.item step was.taken was.causes was.held run (ordered_last before step run was.causes orders)
+    so = item_so before step.item step was.taken was.causes was.held run
+        (ordered_last before step run was.causes orders)
 
   pub has_its_lines : EachRunHasItsLines
   has_its_lines events past rest lawful history before step after run past_is orders =
@@ -602,7 +786,8 @@ module _ (one : OneProgram) (joins : WrittenJoins) where
 
   -- ---- the plan in force
 
-  in_force : (l : Launched) (v : View) (s : Situation) → HasDebuggee s → Planned l s v → AreOfLines l (less v) v.lines v.now.breakpoints × (s ≡ Configuring → v.now.counted_from ≡ 0)
+  in_force : (l : Launched) (v : View) (s : Situation) → HasDebuggee s → Planned l s v
+      → AreOfLines l (less v) v.lines v.now.breakpoints × (s ≡ Configuring → v.now.counted_from ≡ 0)
   in_force l v Configuring has planned = (planned.0, λ is. planned.1)
   in_force l v Stopped has planned = (planned.0, λ is. absurd cc)
   in_force l v Faulted has planned = (planned.0, λ is. absurd cc)
@@ -611,4 +796,5 @@ module _ (one : OneProgram) (joins : WrittenJoins) where
   pub plan_of_lines : PlanIsOfLines
   plan_of_lines events past rest lawful history has l there =
       in_force l (view l past) (situation past) has
-      ((along IsLawfulEvent Kept kept_kept kept_first events past rest (lawful_events events lawful) history).planned l there)
+      ((along IsLawfulEvent Kept kept_kept kept_first events past rest (lawful_events events lawful) history).planned l
+      there)

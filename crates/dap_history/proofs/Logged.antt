@@ -35,10 +35,12 @@ use Rattle.dap_history.proofs.Counted.{all_runs-snoc, run_end-snoc, next_runs, C
 over_unhit : (main : Block) (t m : ℕ) (b : Breakpoint) → at main m ≡ Some [] → is_hit main t m b ≡ false
 over_unhit main t m b over = ap (λ c. arrives_in main b c && accepts b.rule (arrivals main b t (m + 1))) over
 
-over_unlogged : (main : Block) (bs : List Breakpoint) (t m k : ℕ) → at main m ≡ Some [] → filter_map (log_at main t m) (enumerate_from k bs) ≡ []
+over_unlogged : (main : Block) (bs : List Breakpoint) (t m k : ℕ) → at main m ≡ Some []
+    → filter_map (log_at main t m) (enumerate_from k bs) ≡ []
 over_unlogged main [] t m k over = refl
 over_unlogged main (b ∷ bs) t m k over =
-    ap (λ h. cons_option (if h then log_in main (at main m) k b.message else None) (filter_map (log_at main t m) (enumerate_from (k + 1) bs))) (over_unhit main t m b over)
+    ap (λ h. cons_option (if h then log_in main (at main m) k b.message else None)
+    (filter_map (log_at main t m) (enumerate_from (k + 1) bs))) (over_unhit main t m b over)
     ∙ over_unlogged main bs t m (k + 1) over
 
 -- ---- what positions log that a report goes over
@@ -60,7 +62,9 @@ module _ (main : Block) (r : PlainReport) where
       ∙ ap (flat_map texts_in_run) (ranges_join (r.start + 1) n 1)
       ∙ flat_map-append texts_in_run (range_with_len (r.start + 1) n) (range_with_len (r.start + 1 + n) 1)
       ∙ ap (λ l. l ++ flat_map texts_in_run (range_with_len (r.start + 1 + n) 1))
-      (none_between texts_in_run (r.start + 1) n (λ m above below. ap (map (text_of_log r.plan)) (went.passed m (omega (arith, above)) (omega (arith, below, last))).silent))
+      (none_between texts_in_run (r.start + 1) n
+      (λ m above below. ap (map (text_of_log r.plan))
+      (went.passed m (omega (arith, above)) (omega (arith, below, last))).silent))
       ∙ append-nil (texts_in_run (r.start + 1 + n))
       ∙ ap texts_in_run last
 
@@ -69,7 +73,8 @@ module _ (main : Block) (r : PlainReport) where
       let none : r.end - r.start ≡ 0 = omega (arith, stays) in
       ap (λ k. flat_map texts_in_run (range_with_len (r.start + 1) k)) none
 
-  by_outcome : WentOn main r → (e : SliceOutcome) → EndsBy main r e → after_start ≡ map (text_of_log r.plan) (logs_told main r e)
+  by_outcome : WentOn main r → (e : SliceOutcome) → EndsBy main r e
+      → after_start ≡ map (text_of_log r.plan) (logs_told main r e)
   by_outcome went slice.More (takes_all spent undue runs) = last_alone went (moved spent)
     where
       moved : (r.end ≡ r.start + 256) ⊎ ((r.start < r.end) × (¬ (logs_in main r r.end ≡ []))) → r.start < r.end
@@ -77,7 +82,8 @@ module _ (main : Block) (r : PlainReport) where
       moved (inr some) = some.0
   by_outcome went (slice.Due reason) (is_due moved due runs) = last_alone went moved
   by_outcome went slice.Held (is_held stays runs) = nothing_after stays
-  by_outcome went slice.Done (is_over moved over) = last_alone went moved ∙ ap (map (text_of_log r.plan)) (over_unlogged main r.plan r.counted_from r.end 0 over)
+  by_outcome went slice.Done (is_over moved over) =
+      last_alone went moved ∙ ap (map (text_of_log r.plan)) (over_unlogged main r.plan r.counted_from r.end 0 over)
   by_outcome went (slice.Fault fault) (faults early passed fails runs) = by_end passed (over_start went.begun)
     where
       over_start : r.start ≤ r.end → (r.end ≡ r.start) ⊎ (r.start < r.end)
@@ -104,25 +110,31 @@ abbrev pub SameEnds : History → Step → List Heading → Type 0
 SameEnds past step [] = Unit {0}
 SameEnds past step (run ∷ rs) = (run_end (past ++ step ∷ []) run ≡ run_end past run) × SameEnds past step rs
 
-pub same_texts : (l : Launched) (past : History) (step : Step) (rs : List Heading) → SameEnds past step rs → flat_map (run_texts l (past ++ step ∷ [])) rs ≡ flat_map (run_texts l past) rs
+pub same_texts : (l : Launched) (past : History) (step : Step) (rs : List Heading) → SameEnds past step rs
+    → flat_map (run_texts l (past ++ step ∷ [])) rs ≡ flat_map (run_texts l past) rs
 same_texts l past step [] same = refl
 same_texts l past step (run ∷ rs) same =
-    ap (λ n. flat_map (texts_at l run.plan run.counted_from) (if goes_back run.mode then [] else range_with_len (run.start + 1) (n - run.start)) ++ flat_map (run_texts l (past ++ step ∷ [])) rs) same.0
+    ap (λ n. flat_map (texts_at l run.plan run.counted_from)
+    (if goes_back run.mode then [] else range_with_len (run.start + 1) (n - run.start))
+    ++ flat_map (run_texts l (past ++ step ∷ [])) rs) same.0
     ∙ ap (λ ts. run_texts l past run ++ ts) (same_texts l past step rs same.1)
 
 -- a step that reports of no run
-pub aside_same : (past : History) (step : Step) → ((n : ℕ) → end_in n step.item ≡ None) → (rs : List Heading) → SameEnds past step rs
+pub aside_same : (past : History) (step : Step) → ((n : ℕ) → end_in n step.item ≡ None) → (rs : List Heading)
+    → SameEnds past step rs
 aside_same past step none [] = tt
 aside_same past step none (run ∷ rs) =
     (run_end-snoc past step run ∙ ap (λ o. unwrap_or o (run_end past run)) (none run.run), aside_same past step none rs)
 
 -- a report of a later run
-later_same : (past : History) (step : Step) (r : PlainReport) → step.item ≡ Accepted r → (rs : List Heading) → AreBelow r.run rs → SameEnds past step rs
+later_same : (past : History) (step : Step) (r : PlainReport) → step.item ≡ Accepted r → (rs : List Heading)
+    → AreBelow r.run rs → SameEnds past step rs
 later_same past step r is [] below = tt
 later_same past step r is (run ∷ rs) below = (
   run_end-snoc past step run
       ∙ ap (λ i. unwrap_or (end_in run.run i) (run_end past run)) is
-      ∙ ap (λ o. unwrap_or o (run_end past run)) (if_other r.run run.run (Some r.end) (λ same. let less = below.0 in omega (arith, same, less))),
+      ∙ ap (λ o. unwrap_or o (run_end past run))
+      (if_other r.run run.run (Some r.end) (λ same. let less = below.0 in omega (arith, same, less))),
   later_same past step r is rs below.1,
 )
 
@@ -130,20 +142,23 @@ later_same past step r is (run ∷ rs) below = (
 none_yet : (l : Launched) (past : History) (run : Heading) → run_end past run ≡ run.start → run_texts l past run ≡ []
 none_yet l past run begins = by_mode (goes_back run.mode)
   where
-    by_mode : (b : Bool) → flat_map (texts_at l run.plan run.counted_from) (if b then [] else range_with_len (run.start + 1) (run_end past run - run.start)) ≡ []
+    by_mode : (b : Bool) → flat_map (texts_at l run.plan run.counted_from)
+        (if b then [] else range_with_len (run.start + 1) (run_end past run - run.start)) ≡ []
     by_mode true = refl
     by_mode false =
         let none : run_end past run - run.start ≡ 0 = omega (arith, begins) in
         ap (λ n. flat_map (texts_at l run.plan run.counted_from) (range_with_len (run.start + 1) n)) none
 
-module _ (Q : Incoming → Type 0) (past : History) (step : Step) (taken : IsTaken Q past step.item) (causes : Causes past step.item step) (counted : Counted past) (l : Launched) where
+module _ (Q : Incoming → Type 0) (past : History) (step : Step) (taken : IsTaken Q past step.item)
+    (causes : Causes past step.item step) (counted : Counted past) (l : Launched) where
   abbrev new : History
   new = past ++ step ∷ []
 
   next_texts : (next : List Heading) → NextRuns past next → flat_map (run_texts l new) next ≡ []
   next_texts [] no_runs = refl
   next_texts (run ∷ (other ∷ rest)) next = elim next [ ]
-  next_texts (run ∷ []) (next_run run' number) = ap (λ ts. ts ++ []) (none_yet l new run (new_run_end Q past step taken causes counted run number))
+  next_texts (run ∷ []) (next_run run' number) =
+      ap (λ ts. ts ++ []) (none_yet l new run (new_run_end Q past step taken causes counted run number))
 
   -- what the runs log then is what those before the step do
   pub runs_texts : flat_map (run_texts l new) (all_runs new) ≡ flat_map (run_texts l new) (all_runs past)
@@ -151,13 +166,16 @@ module _ (Q : Incoming → Type 0) (past : History) (step : Step) (taken : IsTak
       let next = filter_map go step.effect.orders in
       ap (flat_map (run_texts l new)) (all_runs-snoc past step)
       ∙ flat_map-append (run_texts l new) (all_runs past) next
-      ∙ ap (λ ts. flat_map (run_texts l new) (all_runs past) ++ ts) (next_texts next (next_runs past step.item step causes))
+      ∙ ap (λ ts. flat_map (run_texts l new) (all_runs past) ++ ts)
+      (next_texts next (next_runs past step.item step causes))
       ∙ append-nil (flat_map (run_texts l new) (all_runs past))
 
 -- ---- a report
 
 module _ (one : OneProgram) (joins : WrittenJoins) (said : LogsAreSaid) where
-  module _ (past : History) (step : Step) (r : PlainReport) (item_is : step.item ≡ Accepted r) (accepts : Accepts past r) (lawful : IsLawful r) (ran : Ran one joins past) (counted : Counted past) (l : Launched) (is : launched past ≡ Some l) where
+  module _ (past : History) (step : Step) (r : PlainReport) (item_is : step.item ≡ Accepted r)
+      (accepts : Accepts past r) (lawful : IsLawful r) (ran : Ran one joins past) (counted : Counted past)
+      (l : Launched) (is : launched past ≡ Some l) where
     abbrev run : Heading
     run = accepts.run
 
@@ -181,7 +199,8 @@ module _ (one : OneProgram) (joins : WrittenJoins) (said : LogsAreSaid) where
     comes =
         run_end-snoc past step run
         ∙ ap (λ i. unwrap_or (end_in run.run i) (run_end past run)) item_is
-        ∙ ap (λ o. unwrap_or o (run_end past run)) (if_same r.run run.run (Some r.end) (ap (λ (h : Heading). h.run) accepts.expected))
+        ∙ ap (λ o. unwrap_or o (run_end past run))
+        (if_same r.run run.run (Some r.end) (ap (λ (h : Heading). h.run) accepts.expected))
 
     abbrev up_to : ℕ → List (List ℕ)
     up_to n = flat_map texts (range_with_len (run.start + 1) (n - run.start))
@@ -194,7 +213,8 @@ module _ (one : OneProgram) (joins : WrittenJoins) (said : LogsAreSaid) where
         let next : run.start + 1 + (r.start - run.start) ≡ r.start + 1 = omega (arith, begun) in
         ap (λ n. flat_map texts (range_with_len (run.start + 1) n)) count
         ∙ ap (flat_map texts) (ranges_join (run.start + 1) (r.start - run.start) (r.end - r.start))
-        ∙ flat_map-append texts (range_with_len (run.start + 1) (r.start - run.start)) (range_with_len (run.start + 1 + (r.start - run.start)) (r.end - r.start))
+        ∙ flat_map-append texts (range_with_len (run.start + 1) (r.start - run.start))
+        (range_with_len (run.start + 1 + (r.start - run.start)) (r.end - r.start))
         ∙ ap (λ a. up_to r.start ++ flat_map texts (range_with_len a (r.end - r.start))) next
         ∙ ap (λ f. up_to r.start ++ flat_map f (range_with_len (r.start + 1) (r.end - r.start))) run_is
         ∙ ap (λ ts. up_to r.start ++ ts) (logs_between lawful.program r went)
@@ -211,16 +231,20 @@ module _ (one : OneProgram) (joins : WrittenJoins) (said : LogsAreSaid) where
     run_more =
         let mode = ap (λ (h : Heading). goes_back h.mode) accepts.expected in
         ap (texts_by (goes_back run.mode)) comes
-        ∙ subst (λ b. texts_by b r.end ≡ texts_by b r.start ++ told_texts r) mode (by_went (goes_back r.mode) lawful.lawful.went)
+        ∙ subst (λ b. texts_by b r.end ≡ texts_by b r.start ++ told_texts r) mode
+        (by_went (goes_back r.mode) lawful.lawful.went)
         ∙ ap (λ n. texts_by (goes_back run.mode) n ++ told_texts r) (sym stood)
 
-    pub report_texts_more : flat_map (run_texts l (past ++ step ∷ [])) (all_runs past) ≡ flat_map (run_texts l past) (all_runs past) ++ told_texts r
+    pub report_texts_more : flat_map (run_texts l (past ++ step ∷ [])) (all_runs past) ≡ flat_map (run_texts l past)
+        (all_runs past) ++ told_texts r
     report_texts_more =
         let last = last_of_all past run counted accepts.run_is in
         let number = accepted_number past r counted accepts in
         let below = before_last 1 last.front run (subst (AreNumbered 1) last.runs_are counted.numbered) in
         let same_number : run.run ≡ r.run = last.number_is ∙ sym number in
-        let before = same_texts l past step last.front (later_same past step r item_is last.front (subst (λ n. AreBelow n last.front) same_number below)) in
+        let before =
+        same_texts l past step last.front
+        (later_same past step r item_is last.front (subst (λ n. AreBelow n last.front) same_number below)) in
         ap (flat_map (run_texts l (past ++ step ∷ []))) last.runs_are
         ∙ flat_map-append (run_texts l (past ++ step ∷ [])) last.front (run ∷ [])
         ∙ ap (λ ts. ts ++ (run_texts l (past ++ step ∷ []) run ++ [])) before

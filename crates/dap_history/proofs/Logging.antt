@@ -48,38 +48,48 @@ abbrev item_texts : Item → List (List ℕ)
 item_texts (Accepted r) = told_texts r
 item_texts _ = []
 
-by_logs : LogsAreSaid → (past : History) (events : List EventBody) (b : Bool) (l : Option Launched) → launched past ≡ l → LogsBy (situation past) past events b → texts_in events ≡ start_texts b l past
+by_logs : LogsAreSaid → (past : History) (events : List EventBody) (b : Bool) (l : Option Launched) → launched past ≡ l
+    → LogsBy (situation past) past events b → texts_in events ≡ start_texts b l past
 by_logs said past events false l is (no_logs none) = none
-by_logs said past events true None is (logs_first k more configuring there events_are none) = absurd (let e = sym is ∙ there in cc)
+by_logs said past events true None is (logs_first k more configuring there events_are none) =
+    absurd (let e = sym is ∙ there in cc)
 by_logs said past events true (Some l) is (logs_first k more configuring there events_are none) =
     let same : k ≡ l = let e = sym there ∙ is in cc in
     ap texts_in events_are
-    ∙ texts_of_logs (plan past).breakpoints (position_logs k.program (plan past).breakpoints (plan past).counted_from 0) more
+    ∙ texts_of_logs (plan past).breakpoints (position_logs k.program (plan past).breakpoints (plan past).counted_from 0)
+    more
     ∙ ap (λ ts. ts ++ texts_in more) (said k.program (plan past).breakpoints (plan past).counted_from 0)
     ∙ ap (λ ts. first_texts k (Some past) ++ ts) none
     ∙ append-nil (first_texts k (Some past))
     ∙ ap (λ l. first_texts l (Some past)) same
 
-unlogged : (past : History) (step : Step) (effect : Effect) (l : Option Launched) → HasEffect effect step → texts_in effect.events ≡ [] → logs (messages step) ≡ start_texts (starts_by step.answer) l past
+unlogged : (past : History) (step : Step) (effect : Effect) (l : Option Launched) → HasEffect effect step
+    → texts_in effect.events ≡ [] → logs (messages step) ≡ start_texts (starts_by step.answer) l past
 unlogged past step effect l has none =
-    no_answer_unlogged step has.answer_is ∙ ap (λ (e : Effect). texts_in e.events) has.effect_is ∙ none ∙ ap (λ a. start_texts (starts_by a) l past) (sym has.answer_is)
+    no_answer_unlogged step has.answer_is ∙ ap (λ (e : Effect). texts_in e.events) has.effect_is ∙ none
+    ∙ ap (λ a. start_texts (starts_by a) l past) (sym has.answer_is)
 
-launch_texts : (launch : Launch) (file : Option (List ℕ)) (reply : Reply) → Launches launch.arguments file reply → texts_in reply.effect.events ≡ []
+launch_texts : (launch : Launch) (file : Option (List ℕ)) (reply : Reply) → Launches launch.arguments file reply
+    → texts_in reply.effect.events ≡ []
 launch_texts launch None reply is = ap (λ (r : Reply). texts_in r.effect.events) is
 launch_texts launch (Some text) reply (inl is) = ap (λ (r : Reply). texts_in r.effect.events) is.reply_is
 launch_texts launch (Some text) reply (inr is) = ap (λ (r : Reply). texts_in r.effect.events) is.reply_is
 
-no_start : (b : Bool) (l : Option Launched) (past : History) (step : Step) → StartsBy past step b → situation past ≡ Ready → start_texts b l past ≡ []
+no_start : (b : Bool) (l : Option Launched) (past : History) (step : Step) → StartsBy past step b
+    → situation past ≡ Ready → start_texts b l past ≡ []
 no_start false l past step starts_not ready = refl
-no_start true l past step (starts_here k configuring there effect_is leads) ready = absurd (let e = sym configuring ∙ ready in cc)
+no_start true l past step (starts_here k configuring there effect_is leads) ready =
+    absurd (let e = sym configuring ∙ ready in cc)
 
-step_texts : LogsAreSaid → (past : History) (item : Item) (step : Step) (l : Option Launched) → launched past ≡ l → IsTaken IsLawfulEvent past item → Causes past item step
+step_texts : LogsAreSaid → (past : History) (item : Item) (step : Step) (l : Option Launched) → launched past ≡ l
+    → IsTaken IsLawfulEvent past item → Causes past item step
     → logs (messages step) ≡ start_texts (starts_by step.answer) l past ++ item_texts item
 step_texts said past (Content None) step l is taken causes = unlogged past step _ l causes refl ∙ sym (append-nil _)
 step_texts said past (Content (Some request)) step l is taken causes =
     answer_unlogged _ _ _ step causes.2.answer_is
     ∙ ap (λ (e : Effect). texts_in e.events) causes.2.effect_is
-    ∙ by_logs said past causes.0.effect.events _ l is (all_silent (situation past) past request.body causes.0 causes.1).logs
+    ∙ by_logs said past causes.0.effect.events _ l is
+    (all_silent (situation past) past request.body causes.0 causes.1).logs
     ∙ ap (λ a. start_texts (starts_by a) l past) (sym causes.2.answer_is)
     ∙ sym (append-nil _)
 step_texts said past (Loaded launch file) step l is ready causes =
@@ -100,12 +110,16 @@ step_texts said past MemoryFailure step l is taken causes = unlogged past step _
 
 -- ---- what is launched
 
-launches_once : (past : History) (item : Item) (step : Step) (l : Launched) → Progress past → launched past ≡ Some l → IsTaken IsLawfulEvent past item → Causes past item step → step.effect.launched ≡ None
+launches_once : (past : History) (item : Item) (step : Step) (l : Launched) → Progress past → launched past ≡ Some l
+    → IsTaken IsLawfulEvent past item → Causes past item step → step.effect.launched ≡ None
 launches_once past (Content None) step l so_far is taken causes = ap (λ (e : Effect). e.launched) causes.effect_is
 launches_once past (Content (Some request)) step l so_far is taken causes =
-    ap (λ (e : Effect). e.launched) causes.2.effect_is ∙ (all_silent (situation past) past request.body causes.0 causes.1).no_launch
-launches_once past (Loaded launch file) step l so_far is ready causes = absurd (let e = sym (so_far.early (subst IsEarly (sym ready) tt)) ∙ is in cc)
-launches_once past (Accepted r) step l so_far is taken causes = ap (λ (e : Effect). e.launched) causes.effect_is ∙ report_launches past r r.outcome
+    ap (λ (e : Effect). e.launched) causes.2.effect_is ∙ (all_silent (situation past) past request.body causes.0
+    causes.1).no_launch
+launches_once past (Loaded launch file) step l so_far is ready causes =
+    absurd (let e = sym (so_far.early (subst IsEarly (sym ready) tt)) ∙ is in cc)
+launches_once past (Accepted r) step l so_far is taken causes =
+    ap (λ (e : Effect). e.launched) causes.effect_is ∙ report_launches past r r.outcome
 launches_once past (Fault k) step l so_far is taken causes = ap (λ (e : Effect). e.launched) causes.effect_is
 launches_once past InputEnd step l so_far is taken causes = ap (λ (e : Effect). e.launched) causes.effect_is
 launches_once past ReadFailure step l so_far is taken causes = ap (λ (e : Effect). e.launched) causes.effect_is
@@ -124,7 +138,8 @@ reports_or_not InputEnd = inr ((λ n. refl), refl)
 reports_or_not ReadFailure = inr ((λ n. refl), refl)
 reports_or_not MemoryFailure = inr ((λ n. refl), refl)
 
-logs-snoc : (past : History) (step : Step) → logs (messages_of (past ++ step ∷ [])) ≡ logs (messages_of past) ++ logs (messages step)
+logs-snoc : (past : History) (step : Step) → logs (messages_of (past ++ step ∷ [])) ≡ logs (messages_of past)
+    ++ logs (messages step)
 logs-snoc past step = ap logs (messages_of-snoc past step) ∙ filter_map-append log_of (messages_of past) (messages step)
 
 abbrev ToldOf : History → Option Launched → Type 0
@@ -142,7 +157,8 @@ module _ (one : OneProgram) (joins : WrittenJoins) (said : LogsAreSaid) where
   no_runs_yet : (past : History) → last_run past ≡ None → all_runs past ≡ []
   no_runs_yet past none = none_such PlainOrder Heading go (orders_of past) none
 
-  module _ (past : History) (step : Step) (taken : IsTaken IsLawfulEvent past step.item) (causes : Causes past step.item step) (so_far : Logging past) where
+  module _ (past : History) (step : Step) (taken : IsTaken IsLawfulEvent past step.item)
+      (causes : Causes past step.item step) (so_far : Logging past) where
     abbrev new : History
     new = past ++ step ∷ []
 
@@ -159,7 +175,8 @@ module _ (one : OneProgram) (joins : WrittenJoins) (said : LogsAreSaid) where
 
     unlaunched_more : launched past ≡ None → before_start new ≡ None
     unlaunched_more none =
-        start_is ∙ ap (λ o. or_else o (here_if (starts_by step.answer) past)) (so_far.unlaunched none) ∙ starts_none (starts_by step.answer) starts none
+        start_is ∙ ap (λ o. or_else o (here_if (starts_by step.answer) past)) (so_far.unlaunched none)
+        ∙ starts_none (starts_by step.answer) starts none
 
     none_texts : (b : Bool) → start_texts b None past ≡ []
     none_texts true = refl
@@ -196,7 +213,8 @@ module _ (one : OneProgram) (joins : WrittenJoins) (said : LogsAreSaid) where
       first_before = first_texts l (before_start past)
 
       -- what position 0 logs
-      first_more : (b : Bool) → StartsBy past step b → first_texts l (or_else (before_start past) (here_if b past)) ≡ first_before ++ start_texts b (Some l) past
+      first_more : (b : Bool) → StartsBy past step b → first_texts l
+          (or_else (before_start past) (here_if b past)) ≡ first_before ++ start_texts b (Some l) past
       first_more false starts_not = ap (first_texts l) (or_none (before_start past)) ∙ sym (append-nil first_before)
         where
           or_none : (o : Option History) → or_else o None ≡ o
@@ -204,14 +222,16 @@ module _ (one : OneProgram) (joins : WrittenJoins) (said : LogsAreSaid) where
           or_none (Some x) = refl
       first_more true (starts_here k configuring there effect_is leads) =
           let none = so_far.unstarted (subst IsYoung (sym configuring) tt) in
-          ap (λ o. first_texts l (or_else o (Some past))) none ∙ ap (λ o. first_texts l o ++ first_texts l (Some past)) (sym none)
+          ap (λ o. first_texts l (or_else o (Some past))) none
+          ∙ ap (λ o. first_texts l o ++ first_texts l (Some past)) (sym none)
 
       -- and the runs
       runs_more : Reports step.item → flat_map (run_texts l new) (all_runs new) ≡ runs_before ++ item_texts step.item
       runs_more (inl report) =
           let taken_report = subst (IsTaken IsLawfulEvent past) report.1 taken in
           runs_texts IsLawfulEvent past step taken causes so_far.counted l
-          ∙ report_texts_more one joins said past step report.0 report.1 taken_report.0 taken_report.1 so_far.ran so_far.counted l is
+          ∙ report_texts_more one joins said past step report.0 report.1 taken_report.0 taken_report.1 so_far.ran
+          so_far.counted l is
           ∙ ap (λ i. runs_before ++ item_texts i) (sym report.1)
       runs_more (inr aside) =
           runs_texts IsLawfulEvent past step taken causes so_far.counted l
@@ -220,10 +240,13 @@ module _ (one : OneProgram) (joins : WrittenJoins) (said : LogsAreSaid) where
           ∙ ap (λ ts. runs_before ++ ts) (sym aside.1)
 
       -- where position 0 logs, no run was ordered
-      apart : (b : Bool) → StartsBy past step b → runs_before ++ start_texts b (Some l) past ≡ start_texts b (Some l) past ++ runs_before
+      apart : (b : Bool) → StartsBy past step b → runs_before
+          ++ start_texts b (Some l) past ≡ start_texts b (Some l) past ++ runs_before
       apart false starts_not = append-nil runs_before
       apart true (starts_here k configuring there effect_is leads) =
-          let none = ap (flat_map (run_texts l past)) (no_runs_yet past (so_far.ran.configuring (subst IsConfiguring (sym configuring) tt)).0) in
+          let none =
+          ap (flat_map (run_texts l past))
+          (no_runs_yet past (so_far.ran.configuring (subst IsConfiguring (sym configuring) tt)).0) in
           ap (λ ts. ts ++ first_texts l (Some past)) none
           ∙ sym (append-nil (first_texts l (Some past)))
           ∙ ap (λ ts. first_texts l (Some past) ++ ts) (sym none)
@@ -234,9 +257,11 @@ module _ (one : OneProgram) (joins : WrittenJoins) (said : LogsAreSaid) where
           let i = item_texts step.item in
           logs-snoc past step
           ∙ ap (λ ts. ts ++ logs (messages step)) (so_far.told (Some l) is)
-          ∙ ap (λ ts. (first_before ++ runs_before) ++ ts) (step_texts said past step.item step (Some l) is taken causes)
+          ∙ ap (λ ts. (first_before ++ runs_before) ++ ts)
+          (step_texts said past step.item step (Some l) is taken causes)
           ∙ shuffle first_before runs_before s i (apart (starts_by step.answer) starts)
-          ∙ ap (λ ts. ts ++ (runs_before ++ i)) (sym (ap (first_texts l) start_is ∙ first_more (starts_by step.answer) starts))
+          ∙ ap (λ ts. ts ++ (runs_before ++ i))
+          (sym (ap (first_texts l) start_is ∙ first_more (starts_by step.answer) starts))
           ∙ ap (λ ts. first_texts l (before_start new) ++ ts) (sym (runs_more (reports_or_not step.item)))
         where
           shuffle : (f r s i : List (List ℕ)) → r ++ s ≡ s ++ r → (f ++ r) ++ (s ++ i) ≡ (f ++ s) ++ (r ++ i)
@@ -245,12 +270,18 @@ module _ (one : OneProgram) (joins : WrittenJoins) (said : LogsAreSaid) where
               ∙ ap (λ ts. f ++ ts) (sym (append_assoc r s i) ∙ ap (λ ts. ts ++ i) commute ∙ append_assoc s r i)
               ∙ sym (append_assoc f s (r ++ i))
 
-    told_more : (before : Option Launched) → launched past ≡ before → (l : Option Launched) → launched new ≡ l → ToldOf new l
+    told_more : (before : Option Launched) → launched past ≡ before → (l : Option Launched) → launched new ≡ l
+        → ToldOf new l
     told_more None is None there = none_told is
     told_more None is (Some l) there = first_told l is
-    told_more (Some k) is None there = absurd (let e = sym there ∙ launched-snoc past step ∙ ap (λ o. or_else o (launched past)) (launches_once past step.item step k so_far.ran.so_far is taken causes) ∙ is in cc)
+    told_more (Some k) is None there =
+        absurd (let e = sym there ∙ launched-snoc past step ∙ ap (λ o. or_else o (launched past))
+        (launches_once past step.item step k so_far.ran.so_far is taken causes) ∙ is in cc)
     told_more (Some k) is (Some l) there =
-        let same : k ≡ l = let e = sym is ∙ sym (ap (λ o. or_else o (launched past)) (launches_once past step.item step k so_far.ran.so_far is taken causes)) ∙ sym (launched-snoc past step) ∙ there in cc in
+        let same : k ≡ l =
+        let e = sym is ∙ sym (ap (λ o. or_else o (launched past))
+        (launches_once past step.item step k so_far.ran.so_far is taken causes)) ∙ sym (launched-snoc past step)
+        ∙ there in cc in
         told_on l (is ∙ ap Some same)
 
     pub logging_more : Logging new
@@ -258,7 +289,9 @@ module _ (one : OneProgram) (joins : WrittenJoins) (said : LogsAreSaid) where
       ran = ran_more one joins past step taken causes so_far.ran;
       counted = counted_more IsLawfulEvent past step taken causes so_far.counted;
       unstarted = unstarted_more IsLawfulEvent past step taken causes so_far.unstarted;
-      unlaunched = λ none. unlaunched_more (none_left step.effect.launched (launched past) (sym (launched-snoc past step) ∙ none)).1;
+      unlaunched =
+          λ none. unlaunched_more (none_left step.effect.launched (launched past)
+          (sym (launched-snoc past step) ∙ none)).1;
       told = λ l there. told_more (launched past) refl l there;
     }
 
@@ -266,11 +299,19 @@ module _ (one : OneProgram) (joins : WrittenJoins) (said : LogsAreSaid) where
   logging_kept = record {
     step = λ past item new taking taken after here.
         subst Logging (sym after.new_is)
-        (logging_more past after.step (subst (IsTaken IsLawfulEvent past) (sym after.item_is) taken) (subst (λ i. Causes past i after.step) (sym after.item_is) after.causes) here);
+        (logging_more past after.step (subst (IsTaken IsLawfulEvent past) (sym after.item_is) taken)
+        (subst (λ i. Causes past i after.step) (sym after.item_is) after.causes) here);
   }
 
   logging_first : Logging []
-  logging_first = record { ran = ran_first one joins; counted = counted_first; unstarted = λ young. refl; unlaunched = λ none. refl; told = first }
+  logging_first =
+      record {
+        ran = ran_first one joins;
+        counted = counted_first;
+        unstarted = λ young. refl;
+        unlaunched = λ none. refl;
+        told = first;
+      }
     where
       first : (l : Option Launched) → launched [] ≡ l → ToldOf [] l
       first None is = refl
@@ -278,12 +319,17 @@ module _ (one : OneProgram) (joins : WrittenJoins) (said : LogsAreSaid) where
 
   pub logs_of_positions : LogsAreOfPositions
   logs_of_positions events past rest lawful history =
-      let so_far = along IsLawfulEvent Logging logging_kept logging_first events past rest (lawful_events events lawful) history in
+      let so_far =
+      along IsLawfulEvent Logging logging_kept logging_first events past rest (lawful_events events lawful) history
+      in
       (λ l is. so_far.told (Some l) is, λ is. so_far.told None is)
 
   pub stops_follow_logs : StopsFollowLogs
   stops_follow_logs events past rest lawful history front step more past_is l is before reason after split =
-      let all = along IsLawfulEvent (EachTaken IsLawfulEvent Logging) (each_kept IsLawfulEvent Logging logging_kept) (each_first IsLawfulEvent Logging logging_first) events past rest (lawful_events events lawful) history in
+      let all =
+      along IsLawfulEvent (EachTaken IsLawfulEvent Logging) (each_kept IsLawfulEvent Logging logging_kept)
+      (each_first IsLawfulEvent Logging logging_first) events past rest (lawful_events events lawful) history in
       let was = all.each front step more past_is in
-      all_so_far (List ℕ) IsStop log_of front step before (Event (event.Stopped reason)) after tt refl (logs_after_stops front step was.taken was.causes) split
+      all_so_far (List ℕ) IsStop log_of front step before (Event (event.Stopped reason)) after tt refl
+      (logs_after_stops front step was.taken was.causes) split
       ∙ (logging_more front step was.taken was.causes was.held).told (Some l) is

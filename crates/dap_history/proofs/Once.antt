@@ -55,7 +55,8 @@ only (y ∷ []) (z ∷ front) back x one is = absurd (none_within front back x (
 only (y ∷ z ∷ ys) front back x one is = absurd one
 
 module _ (A B : Type 0) (f : A → Option B) where
-  last_kept-cons : (o : Option B) (ys : List B) → last_such (λ (y : B). Some y) (cons_option o ys) ≡ or_else (last_such (λ (y : B). Some y) ys) o
+  last_kept-cons : (o : Option B) (ys : List B) → last_such (λ (y : B). Some y) (cons_option o ys) ≡ or_else
+      (last_such (λ (y : B). Some y) ys) o
   last_kept-cons None ys = sym (or_else-none (last_such (λ (y : B). Some y) ys))
   last_kept-cons (Some y) ys = refl
 
@@ -64,11 +65,14 @@ module _ (A B : Type 0) (f : A → Option B) where
   last_kept (x ∷ xs) = ap (λ o. or_else o (f x)) (last_kept xs) ∙ sym (last_kept-cons (f x) (filter_map f xs))
 
   -- where there is at most one such, one that stands among them is the last
-  pub each_is_last : (xs front back : List A) (x : A) (y : B) → AtMostOne (filter_map f xs) → xs ≡ front ++ x ∷ back → f x ≡ Some y → last_such f xs ≡ Some y
+  pub each_is_last : (xs front back : List A) (x : A) (y : B) → AtMostOne (filter_map f xs) → xs ≡ front ++ x ∷ back
+      → f x ≡ Some y → last_such f xs ≡ Some y
   each_is_last xs front back x y one is gives =
       let parts : filter_map f xs ≡ filter_map f front ++ y ∷ filter_map f back =
-      ap (filter_map f) is ∙ filter_map-append f front (x ∷ back) ∙ ap (λ o. filter_map f front ++ cons_option o (filter_map f back)) gives in
-      last_kept xs ∙ ap (last_such (λ (y : B). Some y)) (only (filter_map f xs) (filter_map f front) (filter_map f back) y one parts)
+      ap (filter_map f) is ∙ filter_map-append f front (x ∷ back)
+      ∙ ap (λ o. filter_map f front ++ cons_option o (filter_map f back)) gives in
+      last_kept xs ∙ ap (last_such (λ (y : B). Some y))
+      (only (filter_map f xs) (filter_map f front) (filter_map f back) y one parts)
 
 -- ---- runs
 
@@ -77,10 +81,12 @@ at_most_one_run past [] no_runs = tt
 at_most_one_run past (run ∷ rest) (next_run run' is) = tt
 
 -- each run that a step orders is the last
-pub ordered_last : (past : History) (step : Step) (run : Heading) → Causes past step.item step → Orders step run → run_in step ≡ Some run
+pub ordered_last : (past : History) (step : Step) (run : Heading) → Causes past step.item step → Orders step run
+    → run_in step ≡ Some run
 ordered_last past step run causes orders =
     each_is_last _ _ go step.effect.orders orders.front orders.back _ run
-    (at_most_one_run past (filter_map go step.effect.orders) (next_runs past step.item step causes)) orders.orders_are refl
+    (at_most_one_run past (filter_map go step.effect.orders) (next_runs past step.item step causes)) orders.orders_are
+    refl
 
 -- ---- stops
 
@@ -92,32 +98,40 @@ stops_of_numbers : (vs : List ℤ) (es : List EventBody) → stops_in (map event
 stops_of_numbers [] es = refl
 stops_of_numbers (v ∷ vs) es = stops_of_numbers vs es
 
-stops_of_logs : (bs : List Breakpoint) (ls : List Log) (es : List EventBody) → stops_in (told_logs bs ls ++ es) ≡ stops_in es
+stops_of_logs : (bs : List Breakpoint) (ls : List Log) (es : List EventBody)
+    → stops_in (told_logs bs ls ++ es) ≡ stops_in es
 stops_of_logs bs [] es = refl
 stops_of_logs bs (l ∷ ls) es = stops_of_logs bs ls es
 
 outputs_stops : (past : History) (r : PlainReport) (es : List EventBody) → stops_in (outputs past r ++ es) ≡ stops_in es
 outputs_stops past r es =
-    ap stops_in (outputs_apart past r es) ∙ stops_of_numbers (told_numbers past r) (told_logs r.plan r.logs ++ es) ∙ stops_of_logs r.plan r.logs es
+    ap stops_in (outputs_apart past r es) ∙ stops_of_numbers (told_numbers past r) (told_logs r.plan r.logs ++ es)
+    ∙ stops_of_logs r.plan r.logs es
 
 abbrev StopsOnce : Effect → Type 0
 StopsOnce effect = AtMostOne (stops_in effect.events)
 
 report_stops_once : (past : History) (r : PlainReport) (e : SliceOutcome) → StopsOnce (report_effect past r e)
-report_stops_once past r slice.More = subst AtMostOne (sym (ap stops_in (sym (append-nil (outputs past r))) ∙ outputs_stops past r [])) tt
+report_stops_once past r slice.More =
+    subst AtMostOne (sym (ap stops_in (sym (append-nil (outputs past r))) ∙ outputs_stops past r [])) tt
 report_stops_once past r (slice.Due reason) = subst AtMostOne (sym (outputs_stops past r (stops (stop_of reason)))) tt
 report_stops_once past r slice.Held = by_pause (waiting_pause past)
   where
     by_pause : (pauses : Bool) → StopsOnce (held past r pauses)
     by_pause true = subst AtMostOne (sym (outputs_stops past r (stops stop.Pause))) tt
-    by_pause false = subst AtMostOne (sym (ap stops_in (sym (append-nil (outputs past r))) ∙ outputs_stops past r [])) tt
+    by_pause false =
+        subst AtMostOne (sym (ap stops_in (sym (append-nil (outputs past r))) ∙ outputs_stops past r [])) tt
 report_stops_once past r slice.Done = subst AtMostOne (sym (outputs_stops past r (ends 0))) tt
-report_stops_once past r (slice.Fault fault) = subst AtMostOne (sym (outputs_stops past r (stops (stop.Exception (exception_of fault))))) tt
+report_stops_once past r (slice.Fault fault) =
+    subst AtMostOne (sym (outputs_stops past r (stops (stop.Exception (exception_of fault))))) tt
 report_stops_once past r slice.NoMemory = tt
 
 enters_stop_once : (past : History) (l : Launched) (why : Option Reason) → StopsOnce (enters past l why)
-enters_stop_once past l None = subst AtMostOne (sym (ap stops_in (sym (append-nil (first_logs past l))) ∙ stops_of_logs (plan past).breakpoints (first_at past l) [])) tt
-enters_stop_once past l (Some r) = subst AtMostOne (sym (stops_of_logs (plan past).breakpoints (first_at past l) (stops (stop_of r)))) tt
+enters_stop_once past l None =
+    subst AtMostOne (sym (ap stops_in (sym (append-nil (first_logs past l)))
+    ∙ stops_of_logs (plan past).breakpoints (first_at past l) [])) tt
+enters_stop_once past l (Some r) =
+    subst AtMostOne (sym (stops_of_logs (plan past).breakpoints (first_at past l) (stops (stop_of r)))) tt
 
 pub quiet_in : (s : Situation) (past : History) (bs : List Breakpoint) → (effect_in s past bs).events ≡ []
 quiet_in Fresh past bs = refl
@@ -131,29 +145,41 @@ quiet_in Ended past bs = refl
 if_events : (effect : Effect) (es : List EventBody) → effect.events ≡ es → AtMostOne (stops_in es) → StopsOnce effect
 if_events effect es is once = subst (λ l. AtMostOne (stops_in l)) (sym is) once
 
-reply_stops_once : (past : History) (s : Situation) (asked : Command) (reply : Reply) → Shape past s asked reply → StopsOnce reply.effect
-reply_stops_once past s asked reply (refuses why is) = if_events reply.effect _ (ap (λ (r : Reply). r.effect.events) is) tt
+reply_stops_once : (past : History) (s : Situation) (asked : Command) (reply : Reply) → Shape past s asked reply
+    → StopsOnce reply.effect
+reply_stops_once past s asked reply (refuses why is) =
+    if_events reply.effect _ (ap (λ (r : Reply). r.effect.events) is) tt
 reply_stops_once past s asked reply (is_calm calm is) = if_events reply.effect _ (ap (λ (e : Effect). e.events) is) tt
 reply_stops_once past s asked reply (sets a l by there same resolves) =
-    if_events reply.effect _ (ap (λ (r : Reply). r.effect.events) resolves.reply_is ∙ quiet_in (situation past) past resolves.breakpoints) tt
+    if_events reply.effect _ (ap (λ (r : Reply). r.effect.events) resolves.reply_is
+    ∙ quiet_in (situation past) past resolves.breakpoints) tt
 reply_stops_once past s asked reply (begins l by here there is) =
     if_events reply.effect _ (ap (λ (r : Reply). r.effect.events) is) (enters_stop_once past l (due_first past l))
-reply_stops_once past s asked reply (resumes_by resume_kind l by here there is) = if_events reply.effect _ (ap (λ (r : Reply). r.effect.events) is) tt
-reply_stops_once past s asked reply (is_over resume_kind by here is) = if_events reply.effect _ (ap (λ (r : Reply). r.effect.events) is) tt
-reply_stops_once past s asked reply (retreats m l by back stands there is) = if_events reply.effect _ (ap (λ (r : Reply). r.effect.events) is) tt
-reply_stops_once past s asked reply (interrupts a by here is) = if_events reply.effect _ (ap (λ (r : Reply). r.effect.events) is) tt
+reply_stops_once past s asked reply (resumes_by resume_kind l by here there is) =
+    if_events reply.effect _ (ap (λ (r : Reply). r.effect.events) is) tt
+reply_stops_once past s asked reply (is_over resume_kind by here is) =
+    if_events reply.effect _ (ap (λ (r : Reply). r.effect.events) is) tt
+reply_stops_once past s asked reply (retreats m l by back stands there is) =
+    if_events reply.effect _ (ap (λ (r : Reply). r.effect.events) is) tt
+reply_stops_once past s asked reply (interrupts a by here is) =
+    if_events reply.effect _ (ap (λ (r : Reply). r.effect.events) is) tt
 reply_stops_once past s asked reply (quits by is) = if_events reply.effect _ (ap (λ (r : Reply). r.effect.events) is) tt
 
-launch_stops_once : (launch : Launch) (file : Option (List ℕ)) (reply : Reply) → Launches launch.arguments file reply → StopsOnce reply.effect
+launch_stops_once : (launch : Launch) (file : Option (List ℕ)) (reply : Reply) → Launches launch.arguments file reply
+    → StopsOnce reply.effect
 launch_stops_once launch None reply is = if_events reply.effect _ (ap (λ (r : Reply). r.effect.events) is) tt
-launch_stops_once launch (Some text) reply (inl is) = if_events reply.effect _ (ap (λ (r : Reply). r.effect.events) is.reply_is) tt
-launch_stops_once launch (Some text) reply (inr is) = if_events reply.effect _ (ap (λ (r : Reply). r.effect.events) is.reply_is) tt
+launch_stops_once launch (Some text) reply (inl is) =
+    if_events reply.effect _ (ap (λ (r : Reply). r.effect.events) is.reply_is) tt
+launch_stops_once launch (Some text) reply (inr is) =
+    if_events reply.effect _ (ap (λ (r : Reply). r.effect.events) is.reply_is) tt
 
 step_stops_once : (past : History) (item : Item) (step : Step) → Causes past item step → StopsOnce step.effect
 step_stops_once past (Content None) step is = subst StopsOnce (sym is.effect_is) tt
 step_stops_once past (Content (Some request)) step is =
-    subst StopsOnce (sym is.2.effect_is) (reply_stops_once past (situation past) request.body is.0 (shaped past is.0 (situation past) request.body is.1))
-step_stops_once past (Loaded launch file) step is = subst StopsOnce (sym is.2.effect_is) (launch_stops_once launch file is.0 is.1)
+    subst StopsOnce (sym is.2.effect_is) (reply_stops_once past (situation past) request.body is.0
+    (shaped past is.0 (situation past) request.body is.1))
+step_stops_once past (Loaded launch file) step is =
+    subst StopsOnce (sym is.2.effect_is) (launch_stops_once launch file is.0 is.1)
 step_stops_once past (Accepted r) step is = subst StopsOnce (sym is.effect_is) (report_stops_once past r r.outcome)
 step_stops_once past (Fault k) step is = subst StopsOnce (sym is.effect_is) tt
 step_stops_once past InputEnd step is = subst StopsOnce (sym is.effect_is) tt
@@ -161,6 +187,9 @@ step_stops_once past ReadFailure step is = subst StopsOnce (sym is.effect_is) tt
 step_stops_once past MemoryFailure step is = subst StopsOnce (sym is.effect_is) tt
 
 -- each stop that a step reports is the last
-pub stopped_last : (past : History) (step : Step) (reason : StopReason) (front back : List EventBody) → Causes past step.item step → step.effect.events ≡ front ++ event.Stopped reason ∷ back → stop_in step ≡ Some reason
+pub stopped_last : (past : History) (step : Step) (reason : StopReason) (front back : List EventBody)
+    → Causes past step.item step → step.effect.events ≡ front ++ event.Stopped reason ∷ back
+    → stop_in step ≡ Some reason
 stopped_last past step reason front back causes is =
-    each_is_last _ _ stop_of_event step.effect.events front back _ reason (step_stops_once past step.item step causes) is refl
+    each_is_last _ _ stop_of_event step.effect.events front back _ reason (step_stops_once past step.item step causes)
+    is refl

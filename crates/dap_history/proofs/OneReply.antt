@@ -90,27 +90,32 @@ one_rule text (Some (Every k)) None x y = absurd (let e = sym y ∙ x.0 in cc)
 one_rule text (Some (From j)) (Some (From k)) x y = ap (λ n. Some (From n)) (same_number j k x.2 y.2 (sym x.0 ∙ y.0))
 one_rule text (Some (From j)) (Some (Every k)) x y = absurd (rule_first j (decimal k) x.1 x.2 (sym y.0 ∙ x.0))
 one_rule text (Some (Every j)) (Some (From k)) x y = absurd (rule_first k (decimal j) y.1 y.2 (sym x.0 ∙ y.0))
-one_rule text (Some (Every j)) (Some (Every k)) x y = ap (λ n. Some (Every n)) (same_number j k x.2 y.2 (ap tail_of (sym x.0 ∙ y.0)))
+one_rule text (Some (Every j)) (Some (Every k)) x y =
+    ap (λ n. Some (Every n)) (same_number j k x.2 y.2 (ap tail_of (sym x.0 ∙ y.0)))
 
 module _ (once : IsTextOnce) where
   -- ---- breakpoints
 
-  one_text : (main : Block) (n : ℕ) (text : List ℕ) (a b : Option TextCondition) → ReadsConditionAt main n text a → ReadsConditionAt main n text b → a ≡ b
+  one_text : (main : Block) (n : ℕ) (text : List ℕ) (a b : Option TextCondition) → ReadsConditionAt main n text a
+      → ReadsConditionAt main n text b → a ≡ b
   one_text main n text None None x y = refl
   one_text main n text None (Some t) x y = absurd (y.0 x)
   one_text main n text (Some t) None x y = absurd (x.0 y)
   one_text main n text (Some t) (Some u) x y =
       ap (λ s. Some (record { text = s; condition = t.condition })) (x.1 ∙ sym y.1)
-      ∙ ap (λ c. Some (record { text = u.text; condition = c })) (once.one_condition main (step_path main n) text t.condition u.condition x.2 y.2)
+      ∙ ap (λ c. Some (record { text = u.text; condition = c }))
+      (once.one_condition main (step_path main n) text t.condition u.condition x.2 y.2)
 
-  one_message : (main : Block) (n : ℕ) (text : List ℕ) (a b : Option Message) → ReadsMessageAt main n text a → ReadsMessageAt main n text b → a ≡ b
+  one_message : (main : Block) (n : ℕ) (text : List ℕ) (a b : Option Message) → ReadsMessageAt main n text a
+      → ReadsMessageAt main n text b → a ≡ b
   one_message main n text None None x y = refl
   one_message main n text None (Some t) x y = absurd (y.0 x)
   one_message main n text (Some t) None x y = absurd (x.0 y)
   one_message main n text (Some t) (Some u) x y =
       ap (λ s. Some (record { text = s; parts = t.parts })) (x.1 ∙ sym y.1)
       ∙ ap (λ ps. Some (record { text = u.text; parts = ps }))
-      (one_parts (IsExpressionOf main (step_path main n)) (once.one_expression main (step_path main n)) text t.parts u.parts x.2.reads y.2.reads)
+      (one_parts (IsExpressionOf main (step_path main n)) (once.one_expression main (step_path main n)) text t.parts
+      u.parts x.2.reads y.2.reads)
 
   -- two lines with the same words
   record SameLine (x y : AskedLine) : Type 0 where
@@ -119,44 +124,61 @@ module _ (once : IsTextOnce) where
     hit : string_bytes x.hit_condition ≡ string_bytes y.hit_condition
     message : string_bytes x.log_message ≡ string_bytes y.log_message
 
-  one_breakpoint : (main : Block) (x y : AskedLine) (n k : ℕ) (a b : Breakpoint) → SameLine x y → n ≡ k → IsBreakpointOf main x n a → IsBreakpointOf main y k b → a ≡ b
+  one_breakpoint : (main : Block) (x y : AskedLine) (n k : ℕ) (a b : Breakpoint) → SameLine x y → n ≡ k
+      → IsBreakpointOf main x n a → IsBreakpointOf main y k b → a ≡ b
   one_breakpoint main x y n k a b same at here there =
       let condition : a.condition ≡ b.condition =
       one_text main n (string_bytes x.condition) a.condition b.condition here.condition
-      (subst (λ t. ReadsConditionAt main n t b.condition) (sym same.condition) (subst (λ i. ReadsConditionAt main i (string_bytes y.condition) b.condition) (sym at) there.condition)) in
-      let rule : a.rule ≡ b.rule = one_rule (string_bytes x.hit_condition) a.rule b.rule here.rule (subst (λ t. ReadsRule t b.rule) (sym same.hit) there.rule) in
+      (subst (λ t. ReadsConditionAt main n t b.condition) (sym same.condition)
+      (subst (λ i. ReadsConditionAt main i (string_bytes y.condition) b.condition) (sym at) there.condition)) in
+      let rule : a.rule ≡ b.rule =
+      one_rule (string_bytes x.hit_condition) a.rule b.rule here.rule
+      (subst (λ t. ReadsRule t b.rule) (sym same.hit) there.rule) in
       let message : a.message ≡ b.message =
       one_message main n (string_bytes x.log_message) a.message b.message here.message
-      (subst (λ t. ReadsMessageAt main n t b.message) (sym same.message) (subst (λ i. ReadsMessageAt main i (string_bytes y.log_message) b.message) (sym at) there.message)) in
-      ap (λ s. record { step = s; condition = a.condition; rule = a.rule; message = a.message }) (here.step ∙ at ∙ sym there.step)
+      (subst (λ t. ReadsMessageAt main n t b.message) (sym same.message)
+      (subst (λ i. ReadsMessageAt main i (string_bytes y.log_message) b.message) (sym at) there.message)) in
+      ap (λ s. record { step = s; condition = a.condition; rule = a.rule; message = a.message })
+      (here.step ∙ at ∙ sym there.step)
       ∙ ap (λ c. record { step = b.step; condition = c; rule = a.rule; message = a.message }) condition
       ∙ ap (λ r. record { step = b.step; condition = b.condition; rule = r; message = a.message }) rule
       ∙ ap (λ m. record { step = b.step; condition = b.condition; rule = b.rule; message = m }) message
 
-  same_step_from : (main : Block) (x y : AskedLine) (n k : ℕ) → SameLine x y → step_from main x.line ≡ Some n → step_from main y.line ≡ Some k → n ≡ k
+  same_step_from : (main : Block) (x y : AskedLine) (n k : ℕ) → SameLine x y → step_from main x.line ≡ Some n
+      → step_from main y.line ≡ Some k → n ≡ k
   same_step_from main x y n k same here there = let e = sym here ∙ ap (step_from main) same.line ∙ there in cc
 
-  no_step_there : (main : Block) (x y : AskedLine) (k : ℕ) → SameLine x y → step_from main x.line ≡ None → ¬ (step_from main y.line ≡ Some k)
+  no_step_there : (main : Block) (x y : AskedLine) (k : ℕ) → SameLine x y → step_from main x.line ≡ None
+      → ¬ (step_from main y.line ≡ Some k)
   no_step_there main x y k same here there = let e = sym here ∙ ap (step_from main) same.line ∙ there in absurd cc
 
   other_way : (x y : AskedLine) → SameLine x y → SameLine y x
-  other_way x y same = record { line = sym same.line; condition = sym same.condition; hit = sym same.hit; message = sym same.message }
+  other_way x y same =
+      record { line = sym same.line; condition = sym same.condition; hit = sym same.hit; message = sym same.message }
 
   -- what reads there reads here
-  condition_there : (main : Block) (x y : AskedLine) (n k : ℕ) → SameLine x y → step_from main x.line ≡ Some n → step_from main y.line ≡ Some k → (c : Option TextCondition)
+  condition_there : (main : Block) (x y : AskedLine) (n k : ℕ) → SameLine x y → step_from main x.line ≡ Some n
+      → step_from main y.line ≡ Some k → (c : Option TextCondition)
       → ReadsConditionAt main n (string_bytes x.condition) c → ReadsConditionAt main k (string_bytes y.condition) c
   condition_there main x y n k same here there c reads =
-      subst (λ t. ReadsConditionAt main k t c) same.condition (subst (λ i. ReadsConditionAt main i (string_bytes x.condition) c) (same_step_from main x y n k same here there) reads)
+      subst (λ t. ReadsConditionAt main k t c) same.condition
+      (subst (λ i. ReadsConditionAt main i (string_bytes x.condition) c)
+      (same_step_from main x y n k same here there) reads)
 
-  message_there : (main : Block) (x y : AskedLine) (n k : ℕ) → SameLine x y → step_from main x.line ≡ Some n → step_from main y.line ≡ Some k → (m : Option Message)
+  message_there : (main : Block) (x y : AskedLine) (n k : ℕ) → SameLine x y → step_from main x.line ≡ Some n
+      → step_from main y.line ≡ Some k → (m : Option Message)
       → ReadsMessageAt main n (string_bytes x.log_message) m → ReadsMessageAt main k (string_bytes y.log_message) m
   message_there main x y n k same here there m reads =
-      subst (λ t. ReadsMessageAt main k t m) same.message (subst (λ i. ReadsMessageAt main i (string_bytes x.log_message) m) (same_step_from main x y n k same here there) reads)
+      subst (λ t. ReadsMessageAt main k t m) same.message
+      (subst (λ i. ReadsMessageAt main i (string_bytes x.log_message) m)
+      (same_step_from main x y n k same here there) reads)
 
-  rule_there : (x y : AskedLine) → SameLine x y → HasRule (string_bytes x.hit_condition) → HasRule (string_bytes y.hit_condition)
+  rule_there : (x y : AskedLine) → SameLine x y → HasRule (string_bytes x.hit_condition)
+      → HasRule (string_bytes y.hit_condition)
   rule_there x y same has = record { rule = has.rule; reads = subst (λ t. ReadsRule t has.rule) same.hit has.reads }
 
-  has_there : (main : Block) (x y : AskedLine) (n k : ℕ) → SameLine x y → step_from main x.line ≡ Some n → step_from main y.line ≡ Some k
+  has_there : (main : Block) (x y : AskedLine) (n k : ℕ) → SameLine x y → step_from main x.line ≡ Some n
+      → step_from main y.line ≡ Some k
       → HasConditionAt main n (string_bytes x.condition) → HasConditionAt main k (string_bytes y.condition)
   has_there main x y n k same here there has =
       record { condition = has.condition; reads = condition_there main x y n k same here there has.condition has.reads }
@@ -164,50 +186,104 @@ module _ (once : IsTextOnce) where
   abbrev SameAnswer : Resolution → List Breakpoint → Resolution → List Breakpoint → Type 0
   SameAnswer a bs b cs = (a ≡ b) × (bs ≡ cs)
 
-  one_line : (main : Block) (x y : AskedLine) (a b : Resolution) (bs cs : List Breakpoint) → SameLine x y → IsResolvedTo main x a bs → IsResolvedTo main y b cs → SameAnswer a bs b cs
+  one_line : (main : Block) (x y : AskedLine) (a b : Resolution) (bs cs : List Breakpoint) → SameLine x y
+      → IsResolvedTo main x a bs → IsResolvedTo main y b cs → SameAnswer a bs b cs
   one_line main x y (At n) (At k) bs cs same here there =
-      let at = same_step_from main x y n k same here.0 there.0 in
-      (ap At at, here.1.1 ∙ ap (λ b. b ∷ []) (one_breakpoint main x y n k here.1.0 there.1.0 same at here.1.2 there.1.2) ∙ sym there.1.1)
-  one_line main x y (At n) NoStep bs cs same here there = absurd (no_step_there main y x n (other_way x y same) there.0 here.0)
+      let at = same_step_from main x y n k same here.0 there.0 in (
+        ap At at,
+        here.1.1 ∙ ap (λ b. b ∷ []) (one_breakpoint main x y n k here.1.0 there.1.0 same at here.1.2 there.1.2)
+            ∙ sym there.1.1,
+      )
+  one_line main x y (At n) NoStep bs cs same here there =
+      absurd (no_step_there main y x n (other_way x y same) there.0 here.0)
   one_line main x y (At n) BadCondition bs cs same here there =
-      absurd (there.1.2 (record { condition = here.1.0.condition; reads = condition_there main x y n there.1.0 same here.0 there.1.1 here.1.0.condition here.1.2.condition }))
+      absurd (there.1.2 (record {
+        condition = here.1.0.condition;
+        reads = condition_there main x y n there.1.0 same
+            here.0 there.1.1 here.1.0.condition here.1.2.condition;
+      }))
   one_line main x y (At n) BadHitCondition bs cs same here there =
-      absurd (there.1 (record { rule = here.1.0.rule; reads = subst (λ t. ReadsRule t here.1.0.rule) same.hit here.1.2.rule }))
+      absurd (there.1 (record {
+        rule = here.1.0.rule;
+        reads = subst (λ t. ReadsRule t here.1.0.rule) same.hit
+            here.1.2.rule;
+      }))
   one_line main x y (At n) BadLogMessage bs cs same here there =
-      absurd (there.2.3 (record { message = here.1.0.message; reads = message_there main x y n there.2.0 same here.0 there.2.1 here.1.0.message here.1.2.message }))
-  one_line main x y NoStep BadLogMessage bs cs same here there = absurd (no_step_there main x y there.2.0 same here.0 there.2.1)
+      absurd (there.2.3 (record {
+        message = here.1.0.message;
+        reads = message_there main x y n there.2.0 same here.0
+            there.2.1 here.1.0.message here.1.2.message;
+      }))
+  one_line main x y NoStep BadLogMessage bs cs same here there =
+      absurd (no_step_there main x y there.2.0 same here.0 there.2.1)
   one_line main x y BadCondition BadLogMessage bs cs same here there =
       absurd (here.1.2 (has_there main y x there.2.0 here.1.0 (other_way x y same) there.2.1 here.1.1 there.2.2))
-  one_line main x y BadHitCondition BadLogMessage bs cs same here there = absurd (here.1 (rule_there y x (other_way x y same) there.1))
+  one_line main x y BadHitCondition BadLogMessage bs cs same here there =
+      absurd (here.1 (rule_there y x (other_way x y same) there.1))
   one_line main x y BadLogMessage (At k) bs cs same here there =
-      absurd (here.2.3 (record { message = there.1.0.message; reads = message_there main y x k here.2.0 (other_way x y same) there.0 here.2.1 there.1.0.message there.1.2.message }))
-  one_line main x y BadLogMessage NoStep bs cs same here there = absurd (no_step_there main y x here.2.0 (other_way x y same) there.0 here.2.1)
+      absurd (here.2.3 (record {
+        message = there.1.0.message;
+        reads = message_there main y x k here.2.0
+            (other_way x y same) there.0 here.2.1 there.1.0.message there.1.2.message;
+      }))
+  one_line main x y BadLogMessage NoStep bs cs same here there =
+      absurd (no_step_there main y x here.2.0 (other_way x y same) there.0 here.2.1)
   one_line main x y BadLogMessage BadCondition bs cs same here there =
       absurd (there.1.2 (has_there main x y here.2.0 there.1.0 same here.2.1 there.1.1 here.2.2))
   one_line main x y BadLogMessage BadHitCondition bs cs same here there = absurd (there.1 (rule_there x y same here.1))
   one_line main x y BadLogMessage BadLogMessage bs cs same here there = (refl, here.0 ∙ sym there.0)
   one_line main x y NoStep (At k) bs cs same here there = absurd (no_step_there main x y k same here.0 there.0)
   one_line main x y NoStep NoStep bs cs same here there = (refl, here.1 ∙ sym there.1)
-  one_line main x y NoStep BadCondition bs cs same here there = absurd (no_step_there main x y there.1.0 same here.0 there.1.1)
-  one_line main x y NoStep BadHitCondition bs cs same here there = absurd (no_step_there main x y there.2.0 same here.0 there.2.1)
+  one_line main x y NoStep BadCondition bs cs same here there =
+      absurd (no_step_there main x y there.1.0 same here.0 there.1.1)
+  one_line main x y NoStep BadHitCondition bs cs same here there =
+      absurd (no_step_there main x y there.2.0 same here.0 there.2.1)
   one_line main x y BadCondition (At k) bs cs same here there =
-      absurd (here.1.2 (record { condition = there.1.0.condition; reads = condition_there main y x k here.1.0 (other_way x y same) there.0 here.1.1 there.1.0.condition there.1.2.condition }))
-  one_line main x y BadCondition NoStep bs cs same here there = absurd (no_step_there main y x here.1.0 (other_way x y same) there.0 here.1.1)
+      absurd (here.1.2 (record {
+        condition = there.1.0.condition;
+        reads = condition_there main y x k here.1.0
+            (other_way x y same) there.0 here.1.1 there.1.0.condition there.1.2.condition;
+      }))
+  one_line main x y BadCondition NoStep bs cs same here there =
+      absurd (no_step_there main y x here.1.0 (other_way x y same) there.0 here.1.1)
   one_line main x y BadCondition BadCondition bs cs same here there = (refl, here.0 ∙ sym there.0)
   one_line main x y BadCondition BadHitCondition bs cs same here there =
-      absurd (here.1.2 (record { condition = there.2.2.condition; reads = condition_there main y x there.2.0 here.1.0 (other_way x y same) there.2.1 here.1.1 there.2.2.condition there.2.2.reads }))
+      absurd (here.1.2 (record {
+        condition = there.2.2.condition;
+        reads = condition_there main y x there.2.0 here.1.0
+            (other_way x y same) there.2.1 here.1.1 there.2.2.condition there.2.2.reads;
+      }))
   one_line main x y BadHitCondition (At k) bs cs same here there =
-      absurd (here.1 (record { rule = there.1.0.rule; reads = subst (λ t. ReadsRule t there.1.0.rule) (sym same.hit) there.1.2.rule }))
-  one_line main x y BadHitCondition NoStep bs cs same here there = absurd (no_step_there main y x here.2.0 (other_way x y same) there.0 here.2.1)
+      absurd (here.1 (record {
+        rule = there.1.0.rule;
+        reads = subst (λ t. ReadsRule t there.1.0.rule) (sym same.hit)
+            there.1.2.rule;
+      }))
+  one_line main x y BadHitCondition NoStep bs cs same here there =
+      absurd (no_step_there main y x here.2.0 (other_way x y same) there.0 here.2.1)
   one_line main x y BadHitCondition BadCondition bs cs same here there =
-      absurd (there.1.2 (record { condition = here.2.2.condition; reads = condition_there main x y here.2.0 there.1.0 same here.2.1 there.1.1 here.2.2.condition here.2.2.reads }))
+      absurd (there.1.2 (record {
+        condition = here.2.2.condition;
+        reads = condition_there main x y here.2.0 there.1.0
+            same here.2.1 there.1.1 here.2.2.condition here.2.2.reads;
+      }))
   one_line main x y BadHitCondition BadHitCondition bs cs same here there = (refl, here.0 ∙ sym there.0)
 
-  same_line : (less : ℕ) (b : SourceBreakpoint) (x y : AskedLine) → IsAskedAs less b x → IsAskedAs less b y → SameLine x y
-  same_line less b x y here there = record { line = here.line ∙ sym there.line; condition = here.condition ∙ sym there.condition; hit = here.hit ∙ sym there.hit; message = here.message ∙ sym there.message }
+  same_line : (less : ℕ) (b : SourceBreakpoint) (x y : AskedLine) → IsAskedAs less b x → IsAskedAs less b y
+      → SameLine x y
+  same_line less b x y here there =
+      record {
+        line = here.line ∙ sym there.line;
+        condition = here.condition ∙ sym there.condition;
+        hit = here.hit
+            ∙ sym there.hit;
+        message = here.message ∙ sym there.message;
+      }
 
-  one_lines : (main : Block) (less : ℕ) (lines : List SourceBreakpoint) (xs ys : List AskedLine) (answers bs : List Resolution) (ps qs : List Breakpoint)
-      → AreAskedAs less lines xs → AreAskedAs less lines ys → AreResolved main xs answers ps → AreResolved main ys bs qs → (answers ≡ bs) × (ps ≡ qs)
+  one_lines : (main : Block) (less : ℕ) (lines : List SourceBreakpoint) (xs ys : List AskedLine)
+      (answers bs : List Resolution) (ps qs : List Breakpoint)
+      → AreAskedAs less lines xs → AreAskedAs less lines ys → AreResolved main xs answers ps → AreResolved main ys bs qs
+      → (answers ≡ bs) × (ps ≡ qs)
   one_lines main less [] [] [] [] [] ps qs x y here there = (refl, here ∙ sym there)
   one_lines main less [] [] [] (a ∷ answers) bs ps qs x y here there = absurd here
   one_lines main less [] [] [] [] (b ∷ bs) ps qs x y here there = absurd there
@@ -224,30 +300,39 @@ module _ (once : IsTextOnce) where
         here.2 ∙ ap (λ m. m ++ here.1) first.1 ∙ ap (λ m. there.0 ++ m) rest.1 ∙ sym there.2,
       )
 
-  one_resolves : (past : History) (l : Launched) (lines : List SourceBreakpoint) (r s : Reply) → Resolves past l lines r → Resolves past l lines s → r ≡ s
+  one_resolves : (past : History) (l : Launched) (lines : List SourceBreakpoint) (r s : Reply) → Resolves past l lines r
+      → Resolves past l lines s → r ≡ s
   one_resolves past l lines r s a b =
-      let same = one_lines l.program (line_offset past) lines a.resolved.asked b.resolved.asked a.answers b.answers a.breakpoints b.breakpoints a.resolved.as_asked b.resolved.as_asked a.resolved.resolved b.resolved.resolved in
+      let same =
+      one_lines l.program (line_offset past) lines a.resolved.asked b.resolved.asked a.answers b.answers
+      a.breakpoints b.breakpoints a.resolved.as_asked b.resolved.as_asked a.resolved.resolved b.resolved.resolved in
       a.reply_is
-      ∙ ap (λ answers. causing (body.Breakpoints (map (answer_of l.program (line_offset past)) answers)) (effect_in (situation past) past a.breakpoints)) same.0
-      ∙ ap (λ bs. causing (body.Breakpoints (map (answer_of l.program (line_offset past)) b.answers)) (effect_in (situation past) past bs)) same.1
+      ∙ ap (λ answers. causing (body.Breakpoints (map (answer_of l.program (line_offset past)) answers))
+      (effect_in (situation past) past a.breakpoints)) same.0
+      ∙ ap (λ bs. causing (body.Breakpoints (map (answer_of l.program (line_offset past)) b.answers))
+      (effect_in (situation past) past bs)) same.1
       ∙ sym b.reply_is
 
-  one_sets_of : (here : Bool) (past : History) (l : Launched) (lines : List SourceBreakpoint) (r s : Reply) → SetsOf here past l lines r → SetsOf here past l lines s → r ≡ s
+  one_sets_of : (here : Bool) (past : History) (l : Launched) (lines : List SourceBreakpoint) (r s : Reply)
+      → SetsOf here past l lines r → SetsOf here past l lines s → r ≡ s
   one_sets_of true past l lines r s a b = one_resolves past l lines r s a b
   one_sets_of false past l lines r s a b = a ∙ sym b
 
   -- of the launched program one thing is said
-  one_of_program : (o : Option Launched) (says : Launched → Reply → Type 0) (r s : Reply) → ((l : Launched) → says l r → says l s → r ≡ s)
+  one_of_program : (o : Option Launched) (says : Launched → Reply → Type 0) (r s : Reply)
+      → ((l : Launched) → says l r → says l s → r ≡ s)
       → OfProgram o (λ l. says l r) → OfProgram o (λ l. says l s) → r ≡ s
   one_of_program None says r s one a b = absurd a
   one_of_program (Some l) says r s one a b = one l a b
 
-  one_sets : (past : History) (asked : SetBreakpointsArguments) (r s : Reply) → Sets past asked r → Sets past asked s → r ≡ s
+  one_sets : (past : History) (asked : SetBreakpointsArguments) (r s : Reply) → Sets past asked r → Sets past asked s
+      → r ≡ s
   one_sets past asked r s a b =
       one_of_program (launched past) (λ l reply. SetsOf (is_at asked.path l.path) past l asked.breakpoints reply) r s
       (λ l x y. one_sets_of (is_at asked.path l.path) past l asked.breakpoints r s x y) a b
 
-  one_sets_in : (s : Situation) (past : History) (asked : SetBreakpointsArguments) (r t : Reply) → SetsIn s past asked r → SetsIn s past asked t → r ≡ t
+  one_sets_in : (s : Situation) (past : History) (asked : SetBreakpointsArguments) (r t : Reply) → SetsIn s past asked r
+      → SetsIn s past asked t → r ≡ t
   one_sets_in Fresh past asked r t a b = a ∙ sym b
   one_sets_in Ready past asked r t a b = a ∙ sym b
   one_sets_in Configuring past asked r t a b = one_sets past asked r t a b
@@ -259,12 +344,15 @@ module _ (once : IsTextOnce) where
   -- ---- runs
 
   -- the reply is determined by the program
-  one_as : (o : Option Launched) (f : Launched → Reply) (r s : Reply) → OfProgram o (λ l. r ≡ f l) → OfProgram o (λ l. s ≡ f l) → r ≡ s
+  one_as : (o : Option Launched) (f : Launched → Reply) (r s : Reply) → OfProgram o (λ l. r ≡ f l)
+      → OfProgram o (λ l. s ≡ f l) → r ≡ s
   one_as None f r s a b = absurd a
   one_as (Some l) f r s a b = a ∙ sym b
 
-  one_configures_in : (s : Situation) (past : History) (r t : Reply) → ConfiguresIn s past r → ConfiguresIn s past t → r ≡ t
-  one_configures_in Configuring past r t a b = one_as (launched past) (λ l. causing body.None (enters past l (due_first past l))) r t a b
+  one_configures_in : (s : Situation) (past : History) (r t : Reply) → ConfiguresIn s past r → ConfiguresIn s past t
+      → r ≡ t
+  one_configures_in Configuring past r t a b =
+      one_as (launched past) (λ l. causing body.None (enters past l (due_first past l))) r t a b
   one_configures_in Fresh past r t a b = a ∙ sym b
   one_configures_in Ready past r t a b = a ∙ sym b
   one_configures_in Running past r t a b = a ∙ sym b
@@ -272,8 +360,10 @@ module _ (once : IsTextOnce) where
   one_configures_in Faulted past r t a b = a ∙ sym b
   one_configures_in Ended past r t a b = a ∙ sym b
 
-  one_resumes_in : (s : Situation) (past : History) (resume_kind : ResumeKind) (thread : ℕ) (r t : Reply) → ResumesIn s past resume_kind thread r → ResumesIn s past resume_kind thread t → r ≡ t
-  one_resumes_in Stopped past resume_kind thread r t a b = one_as (launched past) (resuming past resume_kind thread) r t a b
+  one_resumes_in : (s : Situation) (past : History) (resume_kind : ResumeKind) (thread : ℕ) (r t : Reply)
+      → ResumesIn s past resume_kind thread r → ResumesIn s past resume_kind thread t → r ≡ t
+  one_resumes_in Stopped past resume_kind thread r t a b =
+      one_as (launched past) (resuming past resume_kind thread) r t a b
   one_resumes_in Running past resume_kind thread r t a b = a ∙ sym b
   one_resumes_in Faulted past resume_kind thread r t a b = a ∙ sym b
   one_resumes_in Fresh past resume_kind thread r t a b = a ∙ sym b
@@ -281,9 +371,12 @@ module _ (once : IsTextOnce) where
   one_resumes_in Configuring past resume_kind thread r t a b = a ∙ sym b
   one_resumes_in Ended past resume_kind thread r t a b = a ∙ sym b
 
-  one_retreats_in : (s : Situation) (past : History) (m : Mode) (thread : ℕ) (r t : Reply) → RetreatsIn s past m thread r → RetreatsIn s past m thread t → r ≡ t
-  one_retreats_in Stopped past m thread r t a b = one_as (launched past) (λ l. on_thread thread (causing body.None (ordering (resumes past l m)))) r t a b
-  one_retreats_in Faulted past m thread r t a b = one_as (launched past) (λ l. on_thread thread (causing body.None (ordering (resumes past l m)))) r t a b
+  one_retreats_in : (s : Situation) (past : History) (m : Mode) (thread : ℕ) (r t : Reply)
+      → RetreatsIn s past m thread r → RetreatsIn s past m thread t → r ≡ t
+  one_retreats_in Stopped past m thread r t a b =
+      one_as (launched past) (λ l. on_thread thread (causing body.None (ordering (resumes past l m)))) r t a b
+  one_retreats_in Faulted past m thread r t a b =
+      one_as (launched past) (λ l. on_thread thread (causing body.None (ordering (resumes past l m)))) r t a b
   one_retreats_in Running past m thread r t a b = a ∙ sym b
   one_retreats_in Fresh past m thread r t a b = a ∙ sym b
   one_retreats_in Ready past m thread r t a b = a ∙ sym b
@@ -303,31 +396,39 @@ module _ (once : IsTextOnce) where
   evaluated_once (Err DivideByZero) (Err Overflow) is = absurd cc
   evaluated_once (Err DivideByZero) (Err DivideByZero) is = refl
 
-  one_evaluates : (main : Block) (c : Configuration) (id : ℕ) (f : Option Frame) (text : List ℕ) (r s : Reply) → EvaluatesIn main c id f text r → EvaluatesIn main c id f text s → r ≡ s
+  one_evaluates : (main : Block) (c : Configuration) (id : ℕ) (f : Option Frame) (text : List ℕ) (r s : Reply)
+      → EvaluatesIn main c id f text r → EvaluatesIn main c id f text s → r ≡ s
   one_evaluates main c id None text r s a b = a ∙ sym b
   one_evaluates main c id (Some f) text r s (inl a) (inl b) =
       let read = once.one_expression main f.block text a.expression b.expression a.reads b.reads in
-      a.reply_is ∙ ap result_reply (evaluated_once a.result b.result (sym a.result_is ∙ ap (value main c _) read ∙ b.result_is)) ∙ sym b.reply_is
+      a.reply_is ∙ ap result_reply (evaluated_once a.result b.result
+      (sym a.result_is ∙ ap (value main c _) read ∙ b.result_is)) ∙ sym b.reply_is
   one_evaluates main c id (Some f) text r s (inl a) (inr b) = absurd (b.none a.expression a.reads)
   one_evaluates main c id (Some f) text r s (inr a) (inl b) = absurd (a.none b.expression b.reads)
   one_evaluates main c id (Some f) text r s (inr a) (inr b) = a.reply_is ∙ sym b.reply_is
 
-  one_from : (of : Of) (c : Configuration) (question : Question) (r s : Reply) → RepliesFrom of c question r → RepliesFrom of c question s → r ≡ s
+  one_from : (of : Of) (c : Configuration) (question : Question) (r s : Reply) → RepliesFrom of c question r
+      → RepliesFrom of c question s → r ≡ s
   one_from of c (question.StackTrace asked) r s a b = a ∙ sym b
   one_from of c (question.Scopes asked) r s a b = a ∙ sym b
   one_from of c (question.Variables asked) r s a b = a ∙ sym b
-  one_from of c (question.Evaluate asked) r s a b = one_evaluates of.program c asked.frame_id (frame_by_id c asked.frame_id) asked.expression r s a b
+  one_from of c (question.Evaluate asked) r s a b =
+      one_evaluates of.program c asked.frame_id (frame_by_id c asked.frame_id) asked.expression r s a b
 
-  one_at : (of : Of) (c : Option Configuration) (question : Question) (r s : Reply) → RepliesAt of c question r → RepliesAt of c question s → r ≡ s
+  one_at : (of : Of) (c : Option Configuration) (question : Question) (r s : Reply) → RepliesAt of c question r
+      → RepliesAt of c question s → r ≡ s
   one_at of None question r s a b = absurd a
   one_at of (Some c) question r s a b = one_from of c question r s a b
 
-  one_inspects : (past : History) (question : Question) (r s : Reply) → Inspects past question r → Inspects past question s → r ≡ s
+  one_inspects : (past : History) (question : Question) (r s : Reply) → Inspects past question r
+      → Inspects past question s → r ≡ s
   one_inspects past question r s a b =
-      one_of_program (launched past) (λ l reply. RepliesAt (asked_of past l) (at l.program (position past)) question reply) r s
+      one_of_program (launched past) (λ l reply. RepliesAt (asked_of past l) (at l.program (position past)) question
+      reply) r s
       (λ l x y. one_at (asked_of past l) (at l.program (position past)) question r s x y) a b
 
-  one_inspects_in : (s : Situation) (past : History) (question : Question) (r t : Reply) → InspectsIn s past question r → InspectsIn s past question t → r ≡ t
+  one_inspects_in : (s : Situation) (past : History) (question : Question) (r t : Reply) → InspectsIn s past question r
+      → InspectsIn s past question t → r ≡ t
   one_inspects_in Running past question r t a b = a ∙ sym b
   one_inspects_in Stopped past question r t a b = one_inspects past question r t a b
   one_inspects_in Faulted past question r t a b = one_inspects past question r t a b
@@ -338,7 +439,8 @@ module _ (once : IsTextOnce) where
 
   -- ---- commands and launches
 
-  one_reply : (s : Situation) (past : History) (asked : Command) (r t : Reply) → RepliesIn s past asked r → RepliesIn s past asked t → r ≡ t
+  one_reply : (s : Situation) (past : History) (asked : Command) (r t : Reply) → RepliesIn s past asked r
+      → RepliesIn s past asked t → r ≡ t
   one_reply s past (command.Initialize a) r t x y = x ∙ sym y
   one_reply s past (command.Launch a) r t x y = x ∙ sym y
   one_reply s past (command.SetBreakpoints a) r t x y = one_sets_in s past a r t x y
@@ -352,15 +454,20 @@ module _ (once : IsTextOnce) where
   one_reply s past (command.Unsupported a) r t x y = x ∙ sym y
   one_reply s past (command.BadArguments a) r t x y = x ∙ sym y
 
-  one_launch : (arguments : LaunchArguments) (file : Option (List ℕ)) (r s : Reply) → Launches arguments file r → Launches arguments file s → r ≡ s
+  one_launch : (arguments : LaunchArguments) (file : Option (List ℕ)) (r s : Reply) → Launches arguments file r
+      → Launches arguments file s → r ≡ s
   one_launch arguments None r s a b = a ∙ sym b
   one_launch arguments (Some text) r s (inl a) (inl b) =
       let same = once.one_fault text a.kind b.kind a.place b.place a.first b.first in
-      a.reply_is ∙ ap (λ k. refused (syntax k a.place)) same.0 ∙ ap (λ p. refused (syntax b.kind p)) same.1 ∙ sym b.reply_is
-  one_launch arguments (Some text) r s (inl a) (inr b) = absurd (∥∥₁_elim b.reads none_prop (λ reads. once.not_both text a.kind a.place b.program a.first reads))
-  one_launch arguments (Some text) r s (inr a) (inl b) = absurd (∥∥₁_elim a.reads none_prop (λ reads. once.not_both text b.kind b.place a.program b.first reads))
+      a.reply_is ∙ ap (λ k. refused (syntax k a.place)) same.0 ∙ ap (λ p. refused (syntax b.kind p)) same.1
+      ∙ sym b.reply_is
+  one_launch arguments (Some text) r s (inl a) (inr b) =
+      absurd (∥∥₁_elim b.reads none_prop (λ reads. once.not_both text a.kind a.place b.program a.first reads))
+  one_launch arguments (Some text) r s (inr a) (inl b) =
+      absurd (∥∥₁_elim a.reads none_prop (λ reads. once.not_both text b.kind b.place a.program b.first reads))
   one_launch arguments (Some text) r s (inr a) (inr b) =
-      a.reply_is ∙ ap (λ p. causing body.None (launches arguments text p)) (one_program once.one_tree text a.program b.program a.reads b.reads) ∙ sym b.reply_is
+      a.reply_is ∙ ap (λ p. causing body.None (launches arguments text p))
+      (one_program once.one_tree text a.program b.program a.reads b.reads) ∙ sym b.reply_is
 
   -- ---- items
 
@@ -370,7 +477,8 @@ module _ (once : IsTextOnce) where
   same_effect : (effect : Effect) (s t : Step) → HasEffect effect s → HasEffect effect t → SameCause s t
   same_effect effect s t a b = (a.answer_is ∙ sym b.answer_is, a.effect_is ∙ sym b.effect_is)
 
-  same_answer : (seq : ℕ) (c : CommandName) (r q : Reply) (s t : Step) → r ≡ q → Answers seq c r s → Answers seq c q t → SameCause s t
+  same_answer : (seq : ℕ) (c : CommandName) (r q : Reply) (s t : Step) → r ≡ q → Answers seq c r s → Answers seq c q t
+      → SameCause s t
   same_answer seq c r q s t is a b = (
     a.answer_is ∙ ap (λ (x : Reply). Some (Answer seq c x.result)) is ∙ sym b.answer_is,
     a.effect_is ∙ ap (λ (x : Reply). x.effect) is ∙ sym b.effect_is,
@@ -380,7 +488,8 @@ module _ (once : IsTextOnce) where
   one_cause past (Content None) s t a b = same_effect _ s t a b
   one_cause past (Content (Some request)) s t a b =
       same_answer _ _ a.0 b.0 s t (one_reply (situation past) past request.body a.0 b.0 a.1 b.1) a.2 b.2
-  one_cause past (Loaded launch file) s t a b = same_answer _ _ a.0 b.0 s t (one_launch launch.arguments file a.0 b.0 a.1 b.1) a.2 b.2
+  one_cause past (Loaded launch file) s t a b =
+      same_answer _ _ a.0 b.0 s t (one_launch launch.arguments file a.0 b.0 a.1 b.1) a.2 b.2
   one_cause past (Accepted r) s t a b = same_effect _ s t a b
   one_cause past (Fault k) s t a b = same_effect _ s t a b
   one_cause past InputEnd s t a b = same_effect _ s t a b
@@ -391,7 +500,8 @@ module _ (once : IsTextOnce) where
   one_after past item a b x y =
       let same = one_cause past item x.step y.step x.causes y.causes in
       x.new_is
-      ∙ ap (λ i. past ++ record { item = i; answer = x.step.answer; effect = x.step.effect } ∷ []) (x.item_is ∙ sym y.item_is)
+      ∙ ap (λ i. past ++ record { item = i; answer = x.step.answer; effect = x.step.effect } ∷ [])
+      (x.item_is ∙ sym y.item_is)
       ∙ ap (λ o. past ++ record { item = y.step.item; answer = o; effect = x.step.effect } ∷ []) same.0
       ∙ ap (λ e. past ++ record { item = y.step.item; answer = y.step.answer; effect = e } ∷ []) same.1
       ∙ sym y.new_is

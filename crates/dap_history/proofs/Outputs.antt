@@ -27,13 +27,15 @@ use Rattle.dap_history.proofs.Told.{numbers_in, texts_in, numbers_of_numbers, te
 -- ---- the numbers and logs of a step
 
 -- an answer is neither
-pub answer_aside : (seq : ℕ) (command : CommandName) (result : Result Body Refusal) (step : Step) → step.answer ≡ Some (Answer seq command result) → numbers (messages step) ≡ numbers_in step.effect.events
+pub answer_aside : (seq : ℕ) (command : CommandName) (result : Result Body Refusal) (step : Step)
+    → step.answer ≡ Some (Answer seq command result) → numbers (messages step) ≡ numbers_in step.effect.events
 answer_aside seq command result step is = ap (λ a. numbers (with_answer a (map Event step.effect.events))) is
 
 pub no_answer : (step : Step) → step.answer ≡ None → numbers (messages step) ≡ numbers_in step.effect.events
 no_answer step is = ap (λ a. numbers (with_answer a (map Event step.effect.events))) is
 
-pub answer_unlogged : (seq : ℕ) (command : CommandName) (result : Result Body Refusal) (step : Step) → step.answer ≡ Some (Answer seq command result) → logs (messages step) ≡ texts_in step.effect.events
+pub answer_unlogged : (seq : ℕ) (command : CommandName) (result : Result Body Refusal) (step : Step)
+    → step.answer ≡ Some (Answer seq command result) → logs (messages step) ≡ texts_in step.effect.events
 answer_unlogged seq command result step is = ap (λ a. logs (with_answer a (map Event step.effect.events))) is
 
 pub no_answer_unlogged : (step : Step) → step.answer ≡ None → logs (messages step) ≡ texts_in step.effect.events
@@ -47,26 +49,32 @@ told_numbers past r = drop (numbers_told past - r.before) r.numbers
 abbrev pub told_texts : PlainReport → List (List ℕ)
 told_texts r = map (text_of_log r.plan) r.logs
 
-pub outputs_apart : (past : History) (r : PlainReport) (es : List EventBody) → outputs past r ++ es ≡ map event.Output (told_numbers past r) ++ (told_logs r.plan r.logs ++ es)
+pub outputs_apart : (past : History) (r : PlainReport) (es : List EventBody) → outputs past r
+    ++ es ≡ map event.Output (told_numbers past r) ++ (told_logs r.plan r.logs ++ es)
 outputs_apart past r es = append_assoc (map event.Output (told_numbers past r)) (told_logs r.plan r.logs) es
 
-pub outputs_numbers : (past : History) (r : PlainReport) (es : List EventBody) → numbers_in (outputs past r ++ es) ≡ told_numbers past r ++ numbers_in es
+pub outputs_numbers : (past : History) (r : PlainReport) (es : List EventBody)
+    → numbers_in (outputs past r ++ es) ≡ told_numbers past r ++ numbers_in es
 outputs_numbers past r es =
     ap numbers_in (outputs_apart past r es)
     ∙ numbers_of_numbers (told_numbers past r) (told_logs r.plan r.logs ++ es)
     ∙ ap (λ l. told_numbers past r ++ l) (numbers_of_logs r.plan r.logs es)
 
-pub outputs_texts : (past : History) (r : PlainReport) (es : List EventBody) → texts_in (outputs past r ++ es) ≡ told_texts r ++ texts_in es
+pub outputs_texts : (past : History) (r : PlainReport) (es : List EventBody)
+    → texts_in (outputs past r ++ es) ≡ told_texts r ++ texts_in es
 outputs_texts past r es =
-    ap texts_in (outputs_apart past r es) ∙ texts_of_numbers (told_numbers past r) (told_logs r.plan r.logs ++ es) ∙ texts_of_logs r.plan r.logs es
+    ap texts_in (outputs_apart past r es) ∙ texts_of_numbers (told_numbers past r) (told_logs r.plan r.logs ++ es)
+    ∙ texts_of_logs r.plan r.logs es
 
-pub outputs_stop : (past : History) (r : PlainReport) (es : List EventBody) → last_such stop_of_event (outputs past r ++ es) ≡ last_such stop_of_event es
+pub outputs_stop : (past : History) (r : PlainReport) (es : List EventBody)
+    → last_such stop_of_event (outputs past r ++ es) ≡ last_such stop_of_event es
 outputs_stop past r es =
     ap (last_such stop_of_event) (outputs_apart past r es)
     ∙ stop_of_numbers (told_numbers past r) (told_logs r.plan r.logs ++ es)
     ∙ stop_of_logs r.plan r.logs es
 
-pub outputs_mark : (past : History) (r : PlainReport) (es : List EventBody) → last_such message_mark (map Event (outputs past r ++ es)) ≡ last_such message_mark (map Event es)
+pub outputs_mark : (past : History) (r : PlainReport) (es : List EventBody)
+    → last_such message_mark (map Event (outputs past r ++ es)) ≡ last_such message_mark (map Event es)
 outputs_mark past r es =
     ap (λ l. last_such message_mark (map Event l)) (outputs_apart past r es)
     ∙ mark_of_numbers (told_numbers past r) (told_logs r.plan r.logs ++ es)
@@ -86,7 +94,9 @@ following past (slice.Fault fault) = stops (stop.Exception (exception_of fault))
 following past slice.NoMemory = []
 
 -- a report for which there was no memory tells nothing
-pub report_events : (past : History) (r : PlainReport) (e : SliceOutcome) → (e ≡ slice.NoMemory → (r.numbers ≡ []) × (r.logs ≡ [])) → (report_effect past r e).events ≡ outputs past r ++ following past e
+pub report_events : (past : History) (r : PlainReport) (e : SliceOutcome)
+    → (e ≡ slice.NoMemory → (r.numbers ≡ []) × (r.logs ≡ [])) → (report_effect past r e).events ≡ outputs past r
+    ++ following past e
 report_events past r slice.More none = sym (append-nil (outputs past r))
 report_events past r (slice.Due reason) none = refl
 report_events past r slice.Held none = by_pause (waiting_pause past)
@@ -127,7 +137,8 @@ following_texts past slice.Done = refl
 following_texts past (slice.Fault fault) = refl
 following_texts past slice.NoMemory = refl
 
-module _ (past : History) (r : PlainReport) (e : SliceOutcome) (none : e ≡ slice.NoMemory → (r.numbers ≡ []) × (r.logs ≡ [])) where
+module _ (past : History) (r : PlainReport) (e : SliceOutcome)
+    (none : e ≡ slice.NoMemory → (r.numbers ≡ []) × (r.logs ≡ [])) where
   -- whatever the report's end, its numbers are reported but for those that were before
   pub report_numbers : numbers_in (report_effect past r e).events ≡ told_numbers past r
   report_numbers =
@@ -177,7 +188,8 @@ report_goes past r (slice.Fault fault) = no_run
 report_goes past r slice.NoMemory = no_run
 
 -- it is the next one
-pub report_runs : (past : History) (r : PlainReport) (e : SliceOutcome) → NextRuns past (filter_map go (report_effect past r e).orders)
+pub report_runs : (past : History) (r : PlainReport) (e : SliceOutcome)
+    → NextRuns past (filter_map go (report_effect past r e).orders)
 report_runs past r slice.More = no_runs
 report_runs past r (slice.Due reason) = no_runs
 report_runs past r slice.Held = held_runs (waiting_pause past)

@@ -62,14 +62,19 @@ orders_not (o ∷ os) is = neither (orders_not os) (mark_else IsConfiguring (las
     order_not (Hold run) is = is
     order_not Quit is = is
 
-    neither : ¬ MarkIs IsConfiguring (last_such order_mark os) → ¬ (MarkIs IsConfiguring (last_such order_mark os) ⊎ ((last_such order_mark os ≡ None) × MarkIs IsConfiguring (order_mark o)))
+    neither : ¬ MarkIs IsConfiguring (last_such order_mark os)
+        → ¬ (MarkIs IsConfiguring (last_such order_mark os) ⊎ ((last_such order_mark os ≡ None)
+        × MarkIs IsConfiguring (order_mark o)))
     neither not (inl is) = not is
     neither not (inr is) = order_not o is.1
 
 -- no event leads to a situation of which neither Stopped, Faulted nor Ended is one
-events_not : (P : Situation → Type 0) → ¬ P Stopped → ¬ P Faulted → ¬ P Ended → (es : List EventBody) → ¬ MarkIs P (last_such message_mark (map Event es))
+events_not : (P : Situation → Type 0) → ¬ P Stopped → ¬ P Faulted → ¬ P Ended → (es : List EventBody)
+    → ¬ MarkIs P (last_such message_mark (map Event es))
 events_not P stopped faulted ended [] is = is
-events_not P stopped faulted ended (e ∷ es) is = neither (events_not P stopped faulted ended es) (mark_else P (last_such message_mark (map Event es)) (event_mark e) is)
+events_not P stopped faulted ended (e ∷ es) is =
+    neither (events_not P stopped faulted ended es)
+    (mark_else P (last_such message_mark (map Event es)) (event_mark e) is)
   where
     event_not : (e : EventBody) → ¬ MarkIs P (event_mark e)
     event_not event.Initialized is = is
@@ -83,83 +88,129 @@ events_not P stopped faulted ended (e ∷ es) is = neither (events_not P stopped
     event_not (event.Exited code) is = ended is
     event_not event.Terminated is = is
 
-    neither : ¬ MarkIs P (last_such message_mark (map Event es)) → ¬ (MarkIs P (last_such message_mark (map Event es)) ⊎ ((last_such message_mark (map Event es) ≡ None) × MarkIs P (event_mark e)))
+    neither : ¬ MarkIs P (last_such message_mark (map Event es))
+        → ¬ (MarkIs P (last_such message_mark (map Event es))
+        ⊎ ((last_such message_mark (map Event es) ≡ None) × MarkIs P (event_mark e)))
     neither not (inl is) = not is
     neither not (inr is) = event_not e is.1
 
 -- a step leads to Configuring by its answer alone
-configured_by : (step : Step) → MarkIs IsConfiguring (step_mark step) → MarkIs IsConfiguring (last_such message_mark (with_answer step.answer []))
-configured_by step is = by_orders (mark_else IsConfiguring (last_such order_mark step.effect.orders) (last_such message_mark (messages step)) is)
+configured_by : (step : Step) → MarkIs IsConfiguring (step_mark step)
+    → MarkIs IsConfiguring (last_such message_mark (with_answer step.answer []))
+configured_by step is =
+    by_orders (mark_else IsConfiguring (last_such order_mark step.effect.orders)
+    (last_such message_mark (messages step)) is)
   where
-    by_answer : (a : Option Outgoing) → MarkIs IsConfiguring (last_such message_mark (with_answer a (map Event step.effect.events))) → MarkIs IsConfiguring (last_such message_mark (with_answer a []))
+    by_answer : (a : Option Outgoing) → MarkIs IsConfiguring
+        (last_such message_mark (with_answer a (map Event step.effect.events)))
+        → MarkIs IsConfiguring (last_such message_mark (with_answer a []))
     by_answer None is = events_not IsConfiguring (λ x. x) (λ x. x) (λ x. x) step.effect.events is
-    by_answer (Some a) is = by_events (mark_else IsConfiguring (last_such message_mark (map Event step.effect.events)) (message_mark a) is)
+    by_answer (Some a) is =
+        by_events (mark_else IsConfiguring (last_such message_mark (map Event step.effect.events)) (message_mark a) is)
       where
-        by_events : (MarkIs IsConfiguring (last_such message_mark (map Event step.effect.events)) ⊎ ((last_such message_mark (map Event step.effect.events) ≡ None) × MarkIs IsConfiguring (message_mark a)))
+        by_events : (MarkIs IsConfiguring (last_such message_mark (map Event step.effect.events))
+            ⊎ ((last_such message_mark (map Event step.effect.events) ≡ None) × MarkIs IsConfiguring (message_mark a)))
             → MarkIs IsConfiguring (last_such message_mark (with_answer (Some a) []))
         by_events (inl is) = absurd (events_not IsConfiguring (λ x. x) (λ x. x) (λ x. x) step.effect.events is)
         by_events (inr is) = is.1
 
-    by_orders : (MarkIs IsConfiguring (last_such order_mark step.effect.orders) ⊎ ((last_such order_mark step.effect.orders ≡ None) × MarkIs IsConfiguring (last_such message_mark (messages step))))
+    by_orders : (MarkIs IsConfiguring (last_such order_mark step.effect.orders)
+        ⊎ ((last_such order_mark step.effect.orders ≡ None) × MarkIs IsConfiguring
+        (last_such message_mark (messages step))))
         → MarkIs IsConfiguring (last_such message_mark (with_answer step.answer []))
     by_orders (inl is) = absurd (orders_not step.effect.orders is)
     by_orders (inr is) = by_answer step.answer is.1
 
 -- no answer to a content does: a `launch` that is answered at once is refused
-result_not : (c : CommandName) → ¬ MarkIs IsConfiguring (command_mark c) → (result : Result Body Refusal) → ¬ MarkIs IsConfiguring (answer_mark c result)
+result_not : (c : CommandName) → ¬ MarkIs IsConfiguring (command_mark c) → (result : Result Body Refusal)
+    → ¬ MarkIs IsConfiguring (answer_mark c result)
 result_not c not (Ok b) is = not is
 result_not c not (Err r) is = is
 
-reply_not : (s : Situation) (past : History) (asked : Command) (reply : Reply) → RepliesIn s past asked reply → ¬ MarkIs IsConfiguring (answer_mark (name_of asked) reply.result)
-reply_not s past (command.Launch a) reply is mark = subst (λ (r : Reply). MarkIs IsConfiguring (answer_mark (name.Supported supported.Launch) r.result)) is mark
-reply_not s past (command.BadArguments k) reply is mark = subst (λ (r : Reply). MarkIs IsConfiguring (answer_mark (name.Supported k) r.result)) is mark
-reply_not s past (command.Initialize a) reply is mark = result_not (name.Supported supported.Initialize) (λ x. x) reply.result mark
-reply_not s past (command.SetBreakpoints a) reply is mark = result_not (name.Supported supported.SetBreakpoints) (λ x. x) reply.result mark
-reply_not s past command.ConfigurationDone reply is mark = result_not (name.Supported supported.ConfigurationDone) (λ x. x) reply.result mark
-reply_not s past command.Threads reply is mark = result_not (name.Supported supported.Threads) (λ x. x) reply.result mark
-reply_not s past (command.Resume k a) reply is mark = result_not (name.Supported (supported.Resume k)) (λ x. x) reply.result mark
-reply_not s past (command.Retreat k a) reply is mark = result_not (name.Supported (supported.Retreat k)) (λ x. x) reply.result mark
-reply_not s past (command.Pause a) reply is mark = result_not (name.Supported supported.Pause) (λ x. x) reply.result mark
-reply_not s past (command.Inspect q) reply is mark = result_not (name.Supported (supported.Inspect (kind_of q))) (λ x. x) reply.result mark
-reply_not s past command.Disconnect reply is mark = result_not (name.Supported supported.Disconnect) (λ x. x) reply.result mark
-reply_not s past (command.Unsupported text) reply is mark = result_not (name.Unsupported text) (λ x. x) reply.result mark
+reply_not : (s : Situation) (past : History) (asked : Command) (reply : Reply) → RepliesIn s past asked reply
+    → ¬ MarkIs IsConfiguring (answer_mark (name_of asked) reply.result)
+reply_not s past (command.Launch a) reply is mark =
+    subst (λ (r : Reply). MarkIs IsConfiguring (answer_mark (name.Supported supported.Launch) r.result)) is mark
+reply_not s past (command.BadArguments k) reply is mark =
+    subst (λ (r : Reply). MarkIs IsConfiguring (answer_mark (name.Supported k) r.result)) is mark
+reply_not s past (command.Initialize a) reply is mark =
+    result_not (name.Supported supported.Initialize) (λ x. x) reply.result mark
+reply_not s past (command.SetBreakpoints a) reply is mark =
+    result_not (name.Supported supported.SetBreakpoints) (λ x. x) reply.result mark
+reply_not s past command.ConfigurationDone reply is mark =
+    result_not (name.Supported supported.ConfigurationDone) (λ x. x) reply.result mark
+reply_not s past command.Threads reply is mark =
+    result_not (name.Supported supported.Threads) (λ x. x) reply.result mark
+reply_not s past (command.Resume k a) reply is mark =
+    result_not (name.Supported (supported.Resume k)) (λ x. x) reply.result mark
+reply_not s past (command.Retreat k a) reply is mark =
+    result_not (name.Supported (supported.Retreat k)) (λ x. x) reply.result mark
+reply_not s past (command.Pause a) reply is mark =
+    result_not (name.Supported supported.Pause) (λ x. x) reply.result mark
+reply_not s past (command.Inspect q) reply is mark =
+    result_not (name.Supported (supported.Inspect (kind_of q))) (λ x. x) reply.result mark
+reply_not s past command.Disconnect reply is mark =
+    result_not (name.Supported supported.Disconnect) (λ x. x) reply.result mark
+reply_not s past (command.Unsupported text) reply is mark =
+    result_not (name.Unsupported text) (λ x. x) reply.result mark
 
 abbrev pub IsLoaded : Item → Type 0
 IsLoaded (Loaded launch file) = Unit {0}
 IsLoaded _ = ⊥
 
 -- a step leads to Configuring only where a launch was loaded
-pub loaded_there : (past : History) (item : Item) (step : Step) → Causes past item step → MarkIs IsConfiguring (step_mark step) → IsLoaded item
-loaded_there past (Content None) step is mark = absurd (subst (λ a. MarkIs IsConfiguring (last_such message_mark (with_answer a []))) is.answer_is (configured_by step mark))
+pub loaded_there : (past : History) (item : Item) (step : Step) → Causes past item step
+    → MarkIs IsConfiguring (step_mark step) → IsLoaded item
+loaded_there past (Content None) step is mark =
+    absurd (subst (λ a. MarkIs IsConfiguring (last_such message_mark (with_answer a []))) is.answer_is
+    (configured_by step mark))
 loaded_there past (Content (Some request)) step is mark =
-    absurd (reply_not (situation past) past request.body is.0 is.1 (subst (λ a. MarkIs IsConfiguring (last_such message_mark (with_answer a []))) is.2.answer_is (configured_by step mark)))
+    absurd (reply_not (situation past) past request.body is.0 is.1
+    (subst (λ a. MarkIs IsConfiguring (last_such message_mark (with_answer a []))) is.2.answer_is
+    (configured_by step mark)))
 loaded_there past (Loaded launch file) step is mark = tt
-loaded_there past (Accepted r) step is mark = absurd (subst (λ a. MarkIs IsConfiguring (last_such message_mark (with_answer a []))) is.answer_is (configured_by step mark))
-loaded_there past (Fault k) step is mark = absurd (subst (λ a. MarkIs IsConfiguring (last_such message_mark (with_answer a []))) is.answer_is (configured_by step mark))
-loaded_there past InputEnd step is mark = absurd (subst (λ a. MarkIs IsConfiguring (last_such message_mark (with_answer a []))) is.answer_is (configured_by step mark))
-loaded_there past ReadFailure step is mark = absurd (subst (λ a. MarkIs IsConfiguring (last_such message_mark (with_answer a []))) is.answer_is (configured_by step mark))
-loaded_there past MemoryFailure step is mark = absurd (subst (λ a. MarkIs IsConfiguring (last_such message_mark (with_answer a []))) is.answer_is (configured_by step mark))
+loaded_there past (Accepted r) step is mark =
+    absurd (subst (λ a. MarkIs IsConfiguring (last_such message_mark (with_answer a []))) is.answer_is
+    (configured_by step mark))
+loaded_there past (Fault k) step is mark =
+    absurd (subst (λ a. MarkIs IsConfiguring (last_such message_mark (with_answer a []))) is.answer_is
+    (configured_by step mark))
+loaded_there past InputEnd step is mark =
+    absurd (subst (λ a. MarkIs IsConfiguring (last_such message_mark (with_answer a []))) is.answer_is
+    (configured_by step mark))
+loaded_there past ReadFailure step is mark =
+    absurd (subst (λ a. MarkIs IsConfiguring (last_such message_mark (with_answer a []))) is.answer_is
+    (configured_by step mark))
+loaded_there past MemoryFailure step is mark =
+    absurd (subst (λ a. MarkIs IsConfiguring (last_such message_mark (with_answer a []))) is.answer_is
+    (configured_by step mark))
 
 -- a step leads to Running only where it orders a run
 orders_run : (os : List PlainOrder) → last_such go os ≡ None → ¬ MarkIs IsRunning (last_such order_mark os)
 orders_run [] none is = is
-orders_run (o ∷ os) none is = by_last (orders_run os) (last_such go os) refl none (mark_else IsRunning (last_such order_mark os) (order_mark o) is)
+orders_run (o ∷ os) none is =
+    by_last (orders_run os) (last_such go os) refl none
+    (mark_else IsRunning (last_such order_mark os) (order_mark o) is)
   where
     by_order : (o : PlainOrder) → go o ≡ None → ¬ MarkIs IsRunning (order_mark o)
     by_order (Go run) none is = absurd cc
     by_order (Hold run) none is = is
     by_order Quit none is = is
 
-    by_last : (last_such go os ≡ None → ¬ MarkIs IsRunning (last_such order_mark os)) → (l : Option Heading) → last_such go os ≡ l → or_else (last_such go os) (go o) ≡ None
-        → ¬ (MarkIs IsRunning (last_such order_mark os) ⊎ ((last_such order_mark os ≡ None) × MarkIs IsRunning (order_mark o)))
+    by_last : (last_such go os ≡ None → ¬ MarkIs IsRunning (last_such order_mark os)) → (l : Option Heading)
+        → last_such go os ≡ l → or_else (last_such go os) (go o) ≡ None
+        → ¬ (MarkIs IsRunning (last_such order_mark os) ⊎ ((last_such order_mark os ≡ None)
+        × MarkIs IsRunning (order_mark o)))
     by_last not (Some run) is none either = let e = sym (ap (λ l. or_else l (go o)) is) ∙ none in absurd cc
     by_last not None is none (inl mark) = not is mark
     by_last not None is none (inr mark) = by_order o (sym (ap (λ l. or_else l (go o)) is) ∙ none) mark.1
 
-answer_runs_not : (a : Option Outgoing) → IsAnswer a → (es : List EventBody) → ¬ MarkIs IsRunning (last_such message_mark (with_answer a (map Event es)))
+answer_runs_not : (a : Option Outgoing) → IsAnswer a → (es : List EventBody)
+    → ¬ MarkIs IsRunning (last_such message_mark (with_answer a (map Event es)))
 answer_runs_not None is es mark = events_not IsRunning (λ x. x) (λ x. x) (λ x. x) es mark
 answer_runs_not (Some (Event e)) is es mark = is
-answer_runs_not (Some (Answer seq c result)) is es mark = neither (mark_else IsRunning (last_such message_mark (map Event es)) (answer_mark c result) mark)
+answer_runs_not (Some (Answer seq c result)) is es mark =
+    neither (mark_else IsRunning (last_such message_mark (map Event es)) (answer_mark c result) mark)
   where
     command_not : (c : CommandName) → ¬ MarkIs IsRunning (command_mark c)
     command_not (name.Supported supported.Initialize) is = is
@@ -170,14 +221,19 @@ answer_runs_not (Some (Answer seq c result)) is es mark = neither (mark_else IsR
     answer_not (Ok b) is = command_not c is
     answer_not (Err r) is = is
 
-    neither : ¬ (MarkIs IsRunning (last_such message_mark (map Event es)) ⊎ ((last_such message_mark (map Event es) ≡ None) × MarkIs IsRunning (answer_mark c result)))
+    neither : ¬ (MarkIs IsRunning (last_such message_mark (map Event es))
+        ⊎ ((last_such message_mark (map Event es) ≡ None) × MarkIs IsRunning (answer_mark c result)))
     neither (inl is) = events_not IsRunning (λ x. x) (λ x. x) (λ x. x) es is
     neither (inr is) = answer_not result is.1
 
-pub runs_not : (step : Step) → IsAnswer step.answer → last_such go step.effect.orders ≡ None → ¬ MarkIs IsRunning (step_mark step)
-runs_not step answer none is = neither (mark_else IsRunning (last_such order_mark step.effect.orders) (last_such message_mark (messages step)) is)
+pub runs_not : (step : Step) → IsAnswer step.answer → last_such go step.effect.orders ≡ None
+    → ¬ MarkIs IsRunning (step_mark step)
+runs_not step answer none is =
+    neither (mark_else IsRunning (last_such order_mark step.effect.orders) (last_such message_mark (messages step)) is)
   where
-    neither : ¬ (MarkIs IsRunning (last_such order_mark step.effect.orders) ⊎ ((last_such order_mark step.effect.orders ≡ None) × MarkIs IsRunning (last_such message_mark (messages step))))
+    neither : ¬ (MarkIs IsRunning (last_such order_mark step.effect.orders)
+        ⊎ ((last_such order_mark step.effect.orders ≡ None) × MarkIs IsRunning
+        (last_such message_mark (messages step))))
     neither (inl is) = orders_run step.effect.orders none is
     neither (inr is) = answer_runs_not step.answer answer step.effect.events is.1
 
@@ -199,7 +255,8 @@ begins_on text finish (Some run) (as_text run' text_is begins) = begins_at run b
 abbrev pub BeginsHere : ℕ → Effect → Type 0
 BeginsHere here effect = BeginsAt here (last_such go effect.orders)
 
-pub loaded_orders : (launch : Launch) (file : Option (List ℕ)) (reply : Reply) → Launches launch.arguments file reply → last_such go reply.effect.orders ≡ None
+pub loaded_orders : (launch : Launch) (file : Option (List ℕ)) (reply : Reply) → Launches launch.arguments file reply
+    → last_such go reply.effect.orders ≡ None
 loaded_orders launch None reply is = ap (λ (r : Reply). last_such go r.effect.orders) is
 loaded_orders launch (Some text) reply (inl is) = ap (λ (r : Reply). last_such go r.effect.orders) is.reply_is
 loaded_orders launch (Some text) reply (inr is) = ap (λ (r : Reply). last_such go r.effect.orders) is.reply_is
@@ -207,26 +264,33 @@ loaded_orders launch (Some text) reply (inr is) = ap (λ (r : Reply). last_such 
 loaded_begins : (here : ℕ) (o : Option Heading) → o ≡ None → BeginsAt here o
 loaded_begins here o is = subst (BeginsAt here) (sym is) none_begins
 
-pub item_begins : (past : History) (item : Item) (step : Step) → Causes past item step → BeginsHere (unwrap_or (end_of item) (position past)) step.effect
+pub item_begins : (past : History) (item : Item) (step : Step) → Causes past item step
+    → BeginsHere (unwrap_or (end_of item) (position past)) step.effect
 item_begins past (Content None) step is = subst (BeginsHere (position past)) (sym is.effect_is) none_begins
 item_begins past (Content (Some request)) step is =
-    subst (BeginsHere (position past)) (sym is.2.effect_is) (begins_by past (last_such go is.0.effect.orders) (all_silent (situation past) past request.body is.0 is.1).goes)
+    subst (BeginsHere (position past)) (sym is.2.effect_is)
+    (begins_by past (last_such go is.0.effect.orders)
+    (all_silent (situation past) past request.body is.0 is.1).goes)
 item_begins past (Loaded launch file) step is =
-    subst (BeginsHere (position past)) (sym is.2.effect_is) (loaded_begins (position past) (last_such go is.0.effect.orders) (loaded_orders launch file is.0 is.1))
+    subst (BeginsHere (position past)) (sym is.2.effect_is)
+    (loaded_begins (position past) (last_such go is.0.effect.orders) (loaded_orders launch file is.0 is.1))
 item_begins past (Accepted r) step is =
-    subst (BeginsHere r.end) (sym is.effect_is) (begins_on r.text r.end (last_such go (report_effect past r r.outcome).orders) (report_goes past r r.outcome))
+    subst (BeginsHere r.end) (sym is.effect_is)
+    (begins_on r.text r.end (last_such go (report_effect past r r.outcome).orders) (report_goes past r r.outcome))
 item_begins past (Fault k) step is = subst (BeginsHere (position past)) (sym is.effect_is) none_begins
 item_begins past InputEnd step is = subst (BeginsHere (position past)) (sym is.effect_is) none_begins
 item_begins past ReadFailure step is = subst (BeginsHere (position past)) (sym is.effect_is) none_begins
 item_begins past MemoryFailure step is = subst (BeginsHere (position past)) (sym is.effect_is) none_begins
 
 -- nothing is launched while a program runs
-pub launches_not : (Q : Incoming → Type 0) (past : History) (item : Item) (step : Step) → IsTaken Q past item → Causes past item step → IsRunning (situation past) → step.effect.launched ≡ None
+pub launches_not : (Q : Incoming → Type 0) (past : History) (item : Item) (step : Step) → IsTaken Q past item
+    → Causes past item step → IsRunning (situation past) → step.effect.launched ≡ None
 launches_not Q past (Content None) step taken is running = ap (λ (e : Effect). e.launched) is.effect_is
 launches_not Q past (Content (Some request)) step taken is running =
     ap (λ (e : Effect). e.launched) is.2.effect_is ∙ (all_silent (situation past) past request.body is.0 is.1).no_launch
 launches_not Q past (Loaded launch file) step taken is running = absurd (subst IsRunning taken running)
-launches_not Q past (Accepted r) step taken is running = ap (λ (e : Effect). e.launched) is.effect_is ∙ report_launches past r r.outcome
+launches_not Q past (Accepted r) step taken is running =
+    ap (λ (e : Effect). e.launched) is.effect_is ∙ report_launches past r r.outcome
 launches_not Q past (Fault k) step taken is running = ap (λ (e : Effect). e.launched) is.effect_is
 launches_not Q past InputEnd step taken is running = ap (λ (e : Effect). e.launched) is.effect_is
 launches_not Q past ReadFailure step taken is running = ap (λ (e : Effect). e.launched) is.effect_is
@@ -241,7 +305,8 @@ none_left (Some x) b is = absurd cc
 pub no_mark_no_go : (os : List PlainOrder) → last_such order_mark os ≡ None → last_such go os ≡ None
 no_mark_no_go [] is = refl
 no_mark_no_go (o ∷ os) is =
-    ap (λ l. or_else l (go o)) (no_mark_no_go os (none_left (last_such order_mark os) (order_mark o) is).0) ∙ none_here o (none_left (last_such order_mark os) (order_mark o) is).1
+    ap (λ l. or_else l (go o)) (no_mark_no_go os (none_left (last_such order_mark os) (order_mark o) is).0)
+    ∙ none_here o (none_left (last_such order_mark os) (order_mark o) is).1
   where
     none_here : (o : PlainOrder) → order_mark o ≡ None → go o ≡ None
     none_here (Go run) is = absurd cc
@@ -253,7 +318,8 @@ mark_of_effect effect = or_else (last_such order_mark effect.orders) (last_such 
 
 pub mark_of : (effect : Effect) (step : Step) → HasEffect effect step → step_mark step ≡ mark_of_effect effect
 mark_of effect step has =
-    ap (λ a. or_else (last_such order_mark step.effect.orders) (last_such message_mark (with_answer a (map Event step.effect.events)))) has.answer_is
+    ap (λ a. or_else (last_such order_mark step.effect.orders)
+    (last_such message_mark (with_answer a (map Event step.effect.events)))) has.answer_is
     ∙ ap mark_of_effect has.effect_is
 
 -- where a report leads nowhere, its end isn't due
@@ -266,7 +332,8 @@ LeadsNowhere past r e = mark_of_effect (report_effect past r e) ≡ None
 stops_somewhere : (past : History) (r : PlainReport) (reason : Reason) → ¬ LeadsNowhere past r (slice.Due reason)
 stops_somewhere past r reason none = let e = sym (outputs_mark past r (stops (stop_of reason))) ∙ none in absurd cc
 
-undue_by : (main : Block) (past : History) (r : PlainReport) (e : SliceOutcome) → EndsBy main r e → LeadsNowhere past r e → NotDueAtEnd main r
+undue_by : (main : Block) (past : History) (r : PlainReport) (e : SliceOutcome) → EndsBy main r e
+    → LeadsNowhere past r e → NotDueAtEnd main r
 undue_by main past r slice.More (takes_all spent undue runs) none = inr undue
 undue_by main past r (slice.Due reason) is none = absurd (stops_somewhere past r reason none)
 undue_by main past r slice.Held (is_held stays runs) none = inl stays
@@ -278,11 +345,13 @@ undue_by main past r (slice.Fault fault) (faults early passed fails runs) none =
     by_end (inr is) = inr is.undue
 undue_by main past r slice.NoMemory (lacks_memory stays runs) none = inl stays
 
-pub undue_end : (main : Block) (past : History) (r : PlainReport) → WentOn main r → LeadsNowhere past r r.outcome → NotDueAtEnd main r
+pub undue_end : (main : Block) (past : History) (r : PlainReport) → WentOn main r → LeadsNowhere past r r.outcome
+    → NotDueAtEnd main r
 undue_end main past r went none = undue_by main past r r.outcome went.outcome none
 
 -- a run that goes back and has not stopped stays where it began
-stays_by : (main : Block) (past : History) (r : PlainReport) (e : SliceOutcome) → GoesBackBy main r e → LeadsNowhere past r e → r.end ≡ r.start
+stays_by : (main : Block) (past : History) (r : PlainReport) (e : SliceOutcome) → GoesBackBy main r e
+    → LeadsNowhere past r e → r.end ≡ r.start
 stays_by main past r slice.More (is_spent stays spent) none = stays
 stays_by main past r (slice.Due reason) (has_come comes) none = absurd (stops_somewhere past r reason none)
 stays_by main past r slice.NoMemory (has_no_memory stays) none = stays
@@ -290,7 +359,8 @@ stays_by main past r slice.Held is none = elim is [ ]
 stays_by main past r slice.Done is none = elim is [ ]
 stays_by main past r (slice.Fault fault) is none = elim is [ ]
 
-pub stays_end : (main : Block) (past : History) (r : PlainReport) → WentBack main r → LeadsNowhere past r r.outcome → r.end ≡ r.start
+pub stays_end : (main : Block) (past : History) (r : PlainReport) → WentBack main r → LeadsNowhere past r r.outcome
+    → r.end ≡ r.start
 stays_end main past r went none = stays_by main past r r.outcome went.outcome none
 
 -- ---- along a history
@@ -300,13 +370,16 @@ module _ (one : OneProgram) (joins : WrittenJoins) where
   pub record Ran (past : History) : Type 0 where
     pub so_far : Progress past
     pub configuring : IsConfiguring (situation past) → (last_run past ≡ None) × (position past ≡ 0)
-    pub running : IsRunning (situation past) → (l : Launched) → launched past ≡ Some l → (run : Heading) → last_run past ≡ Some run
+    pub running : IsRunning (situation past) → (l : Launched) → launched past ≡ Some l → (run : Heading)
+        → last_run past ≡ Some run
         → (run.start ≤ position past) × NoneDueUpTo l run (position past)
     -- one that goes back stands where it began
-    pub back : IsRunning (situation past) → (run : Heading) → last_run past ≡ Some run → goes_back run.mode ≡ true → position past ≡ run.start
+    pub back : IsRunning (situation past) → (run : Heading) → last_run past ≡ Some run → goes_back run.mode ≡ true
+        → position past ≡ run.start
 
   -- the report is of the launched program, the last run, and what that run passed
-  module _ (past : History) (r : PlainReport) (accepts : Accepts past r) (lawful : IsLawful r) (ran : Ran past) (l : Launched) (is : launched past ≡ Some l) where
+  module _ (past : History) (r : PlainReport) (accepts : Accepts past r) (lawful : IsLawful r) (ran : Ran past)
+      (l : Launched) (is : launched past ≡ Some l) where
     abbrev run : Heading
     run = accepts.run
 
@@ -314,7 +387,8 @@ module _ (one : OneProgram) (joins : WrittenJoins) where
     same_due k =
         let same = accepts.expected in
         sym
-        (ap (λ (p : Block). due p r.plan r.counted_from r.mode k) (report_program one joins past r lawful l accepts (ran.so_far.progress (Some l) is))
+        (ap (λ (p : Block). due p r.plan r.counted_from r.mode k)
+        (report_program one joins past r lawful l accepts (ran.so_far.progress (Some l) is))
         ∙ ap (λ (h : Heading). due l.program h.plan h.counted_from h.mode k) same)
 
     pub starts_here : r.start ≡ position past

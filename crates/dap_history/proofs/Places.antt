@@ -33,24 +33,29 @@ TokensNear (t ∷ ts) = IsNear t.place × TokensNear ts
 abbrev HasRoom : Place → ℕ → Type 0
 HasRoom p n = (p.line + n ≤ most) × (p.column + n ≤ most)
 
-behind_room : (v : Bool) (p : Place) (n : ℕ) → HasRoom p (suc n) → HasRoom (cond v (record { line = p.line + 1; column = 1 }) (record { line = p.line; column = p.column + 1 })) n
+behind_room : (v : Bool) (p : Place) (n : ℕ) → HasRoom p (suc n)
+    → HasRoom (cond v (record { line = p.line + 1; column = 1 }) (record { line = p.line; column = p.column + 1 })) n
 behind_room true p n room = (omega (arith, room.0), omega (arith, room.1))
 behind_room false p n room = (omega (arith, room.0), omega (arith, room.1))
 
 abbrev next_tokens : Bool → Place → ℕ → List ℕ → List Token
 next_tokens space p b bytes = cond space (tokens_from (behind p b) zero bytes)
-    (record { symbol = (front_piece b (b ∷ bytes)).0; place = p } ∷ tokens_from (behind p b) (pred (front_piece b (b ∷ bytes)).1) bytes)
+    (record { symbol = (front_piece b (b ∷ bytes)).0; place = p }
+    ∷ tokens_from (behind p b) (pred (front_piece b (b ∷ bytes)).1) bytes)
 
-next_near : (space : Bool) (p : Place) (b : ℕ) (bytes : List ℕ) → IsNear p → ((taken : ℕ) → TokensNear (tokens_from (behind p b) taken bytes)) → TokensNear (next_tokens space p b bytes)
+next_near : (space : Bool) (p : Place) (b : ℕ) (bytes : List ℕ) → IsNear p
+    → ((taken : ℕ) → TokensNear (tokens_from (behind p b) taken bytes)) → TokensNear (next_tokens space p b bytes)
 next_near true p b bytes near rest = rest zero
 next_near false p b bytes near rest = (near, rest (pred (front_piece b (b ∷ bytes)).1))
 
 near_by_room : (p : Place) (n : ℕ) → HasRoom p n → IsNear p
 near_by_room p n room = (omega (arith, room.0), omega (arith, room.1))
 
-tokens_near_from : (bytes : List ℕ) (p : Place) (taken : ℕ) → HasRoom p (length bytes) → TokensNear (tokens_from p taken bytes)
+tokens_near_from : (bytes : List ℕ) (p : Place) (taken : ℕ) → HasRoom p (length bytes)
+    → TokensNear (tokens_from p taken bytes)
 tokens_near_from [] p taken room = (near_by_room p 0 room, tt)
-tokens_near_from (b ∷ bytes) p (suc taken) room = tokens_near_from bytes (behind p b) taken (behind_room (eqb b 10) p (length bytes) room)
+tokens_near_from (b ∷ bytes) p (suc taken) room =
+    tokens_near_from bytes (behind p b) taken (behind_room (eqb b 10) p (length bytes) room)
 tokens_near_from (b ∷ bytes) p zero room =
     next_near (is_space b) p b bytes (near_by_room p (length (b ∷ bytes)) room)
     (λ taken. tokens_near_from bytes (behind p b) taken (behind_room (eqb b 10) p (length bytes) room))
@@ -78,33 +83,40 @@ abbrev mutual
   ProceduresNear (AProcedure x b more) = BlockNear b × ProceduresNear more
 
 mutual
-  expression_left : {n : ℕ} {s : List Token} {e : Expression} {rest : List Token} → ReadsExpression n s e rest → TokensNear s → TokensNear rest
+  expression_left : {n : ℕ} {s : List Token} {e : Expression} {rest : List Token} → ReadsExpression n s e rest
+      → TokensNear s → TokensNear rest
   expression_left (unsigned term more) near = more_terms_left more (term_left term near)
   expression_left (positive term more) near = more_terms_left more (term_left term near.1)
   expression_left (negative term more) near = more_terms_left more (term_left term near.1)
 
-  more_terms_left : {n : ℕ} {s : List Token} {first e : Expression} {rest : List Token} → ReadsMoreTerms n s first e rest → TokensNear s → TokensNear rest
+  more_terms_left : {n : ℕ} {s : List Token} {first e : Expression} {rest : List Token}
+      → ReadsMoreTerms n s first e rest → TokensNear s → TokensNear rest
   more_terms_left no_term near = near
   more_terms_left (one_term adding term more) near = more_terms_left more (term_left term near.1)
 
-  term_left : {n : ℕ} {s : List Token} {e : Expression} {rest : List Token} → ReadsTerm n s e rest → TokensNear s → TokensNear rest
+  term_left : {n : ℕ} {s : List Token} {e : Expression} {rest : List Token} → ReadsTerm n s e rest → TokensNear s
+      → TokensNear rest
   term_left (factors factor more) near = more_factors_left more (factor_left factor near)
 
-  more_factors_left : {n : ℕ} {s : List Token} {first e : Expression} {rest : List Token} → ReadsMoreFactors n s first e rest → TokensNear s → TokensNear rest
+  more_factors_left : {n : ℕ} {s : List Token} {first e : Expression} {rest : List Token}
+      → ReadsMoreFactors n s first e rest → TokensNear s → TokensNear rest
   more_factors_left no_factor near = near
   more_factors_left (one_factor multiplying factor more) near = more_factors_left more (factor_left factor near.1)
 
-  factor_left : {n : ℕ} {s : List Token} {e : Expression} {rest : List Token} → ReadsFactor n s e rest → TokensNear s → TokensNear rest
+  factor_left : {n : ℕ} {s : List Token} {e : Expression} {rest : List Token} → ReadsFactor n s e rest → TokensNear s
+      → TokensNear rest
   factor_left name near = near.1
   factor_left number near = near.1
   factor_left (nested inner) near = (expression_left inner near.1).1
 
-condition_left : {n : ℕ} {s : List Token} {c : Condition} {rest : List Token} → ReadsCondition n s c rest → TokensNear s → TokensNear rest
+condition_left : {n : ℕ} {s : List Token} {c : Condition} {rest : List Token} → ReadsCondition n s c rest → TokensNear s
+    → TokensNear rest
 condition_left (odd expression) near = expression_left expression near.1
 condition_left (comparison first comparing second) near = expression_left second (expression_left first near).1
 
 mutual
-  statement_near : {n : ℕ} {s : List Token} {x : Statement} {rest : List Token} → ReadsStatement n s x rest → TokensNear s → StatementNear x × TokensNear rest
+  statement_near : {n : ℕ} {s : List Token} {x : Statement} {rest : List Token} → ReadsStatement n s x rest
+      → TokensNear s → StatementNear x × TokensNear rest
   statement_near empty near = (tt, near)
   statement_near (assignment expression) near = (near.0, expression_left expression near.1.1)
   statement_near call near = (near.0, near.1.1)
@@ -115,41 +127,49 @@ mutual
   statement_near (loop condition statement) near =
       let inner = statement_near statement (condition_left condition near.1).1 in ((near.0, inner.0), inner.1)
 
-  statements_near : {n : ℕ} {s : List Token} {x : Statement} {rest : List Token} → ReadsStatements n s x rest → TokensNear s → StatementNear x × TokensNear rest
+  statements_near : {n : ℕ} {s : List Token} {x : Statement} {rest : List Token} → ReadsStatements n s x rest
+      → TokensNear s → StatementNear x × TokensNear rest
   statements_near (last_statement statement) near = let a = statement_near statement near in ((a.0, tt), a.1.1)
   statements_near (one_statement statement statements) near =
       let a = statement_near statement near in
       let b = statements_near statements a.1.1 in ((a.0, b.0), b.1)
 
-constants_left : {s : List Token} {cs : List Constant} {rest : List Token} → ReadsConstants s cs rest → TokensNear s → TokensNear rest
+constants_left : {s : List Token} {cs : List Constant} {rest : List Token} → ReadsConstants s cs rest → TokensNear s
+    → TokensNear rest
 constants_left last_constant near = near.1.1.1.1
 constants_left (one_constant more) near = constants_left more near.1.1.1.1
 
-constant_part_left : {s : List Token} {cs : List Constant} {rest : List Token} → ReadsConstantPart s cs rest → TokensNear s → TokensNear rest
+constant_part_left : {s : List Token} {cs : List Constant} {rest : List Token} → ReadsConstantPart s cs rest
+    → TokensNear s → TokensNear rest
 constant_part_left no_constants near = near
 constant_part_left (constants more) near = constants_left more near.1
 
-variables_left : {s : List Token} {xs : List Name} {rest : List Token} → ReadsVariables s xs rest → TokensNear s → TokensNear rest
+variables_left : {s : List Token} {xs : List Name} {rest : List Token} → ReadsVariables s xs rest → TokensNear s
+    → TokensNear rest
 variables_left last_variable near = near.1.1
 variables_left (one_variable more) near = variables_left more near.1.1
 
-variable_part_left : {s : List Token} {xs : List Name} {rest : List Token} → ReadsVariablePart s xs rest → TokensNear s → TokensNear rest
+variable_part_left : {s : List Token} {xs : List Name} {rest : List Token} → ReadsVariablePart s xs rest → TokensNear s
+    → TokensNear rest
 variable_part_left no_variables near = near
 variable_part_left (variables more) near = variables_left more near.1
 
 mutual
-  block_near : {n : ℕ} {s : List Token} {b : Block} {rest : List Token} → ReadsBlock n s b rest → TokensNear s → BlockNear b × TokensNear rest
+  block_near : {n : ℕ} {s : List Token} {b : Block} {rest : List Token} → ReadsBlock n s b rest → TokensNear s
+      → BlockNear b × TokensNear rest
   block_near (block constant_part variable_part rows statement) near =
       let p = procedures_near rows (variable_part_left variable_part (constant_part_left constant_part near)) in
       let b = statement_near statement p.1 in ((p.0, b.0, b.1.0), b.1)
 
-  procedures_near : {n : ℕ} {s : List Token} {ps : Procedures} {rest : List Token} → ReadsProcedures n s ps rest → TokensNear s → ProceduresNear ps × TokensNear rest
+  procedures_near : {n : ℕ} {s : List Token} {ps : Procedures} {rest : List Token} → ReadsProcedures n s ps rest
+      → TokensNear s → ProceduresNear ps × TokensNear rest
   procedures_near no_procedure near = (tt, near)
   procedures_near (one_procedure read more) near =
       let b = block_near read near.1.1.1 in
       let m = procedures_near more b.1.1 in ((b.0, m.0), m.1)
 
-program_near : {n : ℕ} {tokens : List Token} {main : Block} → ReadsProgram n tokens main → TokensNear tokens → BlockNear main
+program_near : {n : ℕ} {tokens : List Token} {main : Block} → ReadsProgram n tokens main → TokensNear tokens
+    → BlockNear main
 program_near (program read) near = (block_near read near).0
 
 tree_near : (text : List ℕ) (main : Block) → IsTreeOf text main → BlockNear main
@@ -168,7 +188,8 @@ statement_near_prop (While p c inner) = hlevel (le_prop, statement_near_prop inn
 
 mutual
   block_near_prop : (b : Block) → IsProp (BlockNear b)
-  block_near_prop (ABlock cs xs ps statement ending) = hlevel (le_prop, procedures_near_prop ps, statement_near_prop statement)
+  block_near_prop (ABlock cs xs ps statement ending) =
+      hlevel (le_prop, procedures_near_prop ps, statement_near_prop statement)
 
   procedures_near_prop : (ps : Procedures) → IsProp (ProceduresNear ps)
   procedures_near_prop NoMore = hlevel
@@ -189,7 +210,9 @@ steps_near-append (s ∷ ss) ts a b = (a.0, steps_near-append ss ts a.1 b)
 
 statement_steps_near : (x : Statement) (q : Path) → StatementNear x → StepsNear (statement_steps x q)
 statement_steps_near Empty q near = tt
-statement_steps_near (Then x y) q near = steps_near-append (statement_steps x q) (statement_steps y q) (statement_steps_near x q near.0) (statement_steps_near y q near.1)
+statement_steps_near (Then x y) q near =
+    steps_near-append (statement_steps x q) (statement_steps y q) (statement_steps_near x q near.0)
+    (statement_steps_near y q near.1)
 statement_steps_near (Assign x e) q near = (near, tt)
 statement_steps_near (Call p x) q near = (near, tt)
 statement_steps_near (Write p e) q near = (near, tt)
@@ -199,13 +222,16 @@ statement_steps_near (While p c inner) q near = (near.0, statement_steps_near in
 mutual
   block_steps_near : (b : Block) (q : Path) → BlockNear b → StepsNear (block_steps b q)
   block_steps_near (ABlock cs xs ps statement ending) q near =
-      steps_near-append (procedures_steps ps 0 q) (statement_steps statement q ++ step q kind.Return ending) (procedures_steps_near ps 0 q near.0)
-      (steps_near-append (statement_steps statement q) (step q kind.Return ending) (statement_steps_near statement q near.1) (near.2, tt))
+      steps_near-append (procedures_steps ps 0 q) (statement_steps statement q ++ step q kind.Return ending)
+      (procedures_steps_near ps 0 q near.0)
+      (steps_near-append (statement_steps statement q) (step q kind.Return ending)
+      (statement_steps_near statement q near.1) (near.2, tt))
 
   procedures_steps_near : (ps : Procedures) (i : ℕ) (q : Path) → ProceduresNear ps → StepsNear (procedures_steps ps i q)
   procedures_steps_near NoMore i q near = tt
   procedures_steps_near (AProcedure x b more) i q near =
-      steps_near-append (block_steps b (i ∷ q)) (procedures_steps more (i + 1) q) (block_steps_near b (i ∷ q) near.0) (procedures_steps_near more (i + 1) q near.1)
+      steps_near-append (block_steps b (i ∷ q)) (procedures_steps more (i + 1) q) (block_steps_near b (i ∷ q) near.0)
+      (procedures_steps_near more (i + 1) q near.1)
 
 abbrev pub MayBeNear : Option StepAt → Type 0
 MayBeNear None = Unit {0}
@@ -226,7 +252,8 @@ abbrev BlockMayBeNear : Option Block → Type 0
 BlockMayBeNear None = Unit {0}
 BlockMayBeNear (Some b) = BlockNear b
 
-procedure_near : (ps : Procedures) (i : ℕ) → ProceduresNear ps → BlockMayBeNear (option_map (λ (p : Procedure). p.block) (slice_get (procedure_list ps) i))
+procedure_near : (ps : Procedures) (i : ℕ) → ProceduresNear ps
+    → BlockMayBeNear (option_map (λ (p : Procedure). p.block) (slice_get (procedure_list ps) i))
 procedure_near NoMore i near = tt
 procedure_near (AProcedure x b more) zero near = near.0
 procedure_near (AProcedure x b more) (suc i) near = procedure_near more i near.1
@@ -273,39 +300,47 @@ OutcomeNear (Goes w c) = FramesNear c
 OutcomeNear (Faults fault) = Unit {0}
 OutcomeNear Over = Unit {0}
 
-on_value_near : {A : Type 0} (r : Result A RunFault) (go : A → Outcome) → ((a : A) → OutcomeNear (go a)) → OutcomeNear (on_value r go)
+on_value_near : {A : Type 0} (r : Result A RunFault) (go : A → Outcome) → ((a : A) → OutcomeNear (go a))
+    → OutcomeNear (on_value r go)
 on_value_near (Ok a) go near = near a
 on_value_near (Err fault) go near = tt
 
-either_near : (b : Bool) (some other : Configuration) → FramesNear some → FramesNear other → FramesNear (cond b some other)
+either_near : (b : Bool) (some other : Configuration) → FramesNear some → FramesNear other
+    → FramesNear (cond b some other)
 either_near true some other near far = near
 either_near false some other near far = far
 
-either_outcome : (b : Bool) (some other : Outcome) → OutcomeNear some → OutcomeNear other → OutcomeNear (cond b some other)
+either_outcome : (b : Bool) (some other : Outcome) → OutcomeNear some → OutcomeNear other
+    → OutcomeNear (cond b some other)
 either_outcome true some other near far = near
 either_outcome false some other near far = far
 
 with_number_near : (c : Configuration) (i k : ℕ) (v : ℤ) → FramesNear c → FramesNear (with_number c i k v)
 with_number_near [] i k v near = tt
-with_number_near (f ∷ below) i k v near = either_near (nat_eq (length below) i) _ _ near (near.0, with_number_near below i k v near.1)
+with_number_near (f ∷ below) i k v near =
+    either_near (nat_eq (length below) i) _ _ near (near.0, with_number_near below i k v near.1)
 
-number_near : (c : Configuration) (o : Option (ℕ × ℕ)) (v : ℤ) → FramesNear c → FramesNear (option_map_or (λ (i, k). with_number c i k v) o c)
+number_near : (c : Configuration) (o : Option (ℕ × ℕ)) (v : ℤ) → FramesNear c
+    → FramesNear (option_map_or (λ (i, k). with_number c i k v) o c)
 number_near c None v near = near
 number_near c (Some (i, k)) v near = with_number_near c i k v near
 
 assigned_near : (c : Configuration) (o : Option Home) (v : ℤ) → FramesNear c → FramesNear (assigned c o v)
-assigned_near c o v near = number_near c (option_and_then (λ (h : Home). target c h.path h.declaration.meaning) o) v near
+assigned_near c o v near =
+    number_near c (option_and_then (λ (h : Home). target c h.path h.declaration.meaning) o) v near
 
 abbrev EntersNear : Configuration → Option Frame → Type 0
 EntersNear c o = OutcomeNear (option_map_or (entered c) o Over)
 
-new_frame_near : (o : Option Block) (q : Path) (link : ℕ) (c : Configuration) → BlockMayBeNear o → FramesNear c → EntersNear c (option_map (λ b. new_frame b q link) o)
+new_frame_near : (o : Option Block) (q : Path) (link : ℕ) (c : Configuration) → BlockMayBeNear o → FramesNear c
+    → EntersNear c (option_map (λ b. new_frame b q link) o)
 new_frame_near None q link c near frames = tt
 new_frame_near (Some b) q link c near frames =
     either_outcome (nat_lt (length c) frame_limit) _ _ (opened_near (body b) (body_near b near), frames) tt
 
 module _ (main : Block) (near : BlockNear main) where
-  linked_near : (c : Configuration) (q : Path) (k : ℕ) (o : Option ℕ) → FramesNear c → EntersNear c (option_and_then (λ link. option_map (λ b. new_frame b (k ∷ q) link) (block_at main (k ∷ q))) o)
+  linked_near : (c : Configuration) (q : Path) (k : ℕ) (o : Option ℕ) → FramesNear c
+      → EntersNear c (option_and_then (λ link. option_map (λ b. new_frame b (k ∷ q) link) (block_at main (k ∷ q))) o)
   linked_near c q k None frames = tt
   linked_near c q k (Some link) frames =
       new_frame_near (block_at main (k ∷ q)) (k ∷ q) link c (block_at_near main (k ∷ q) near) frames
@@ -319,21 +354,28 @@ module _ (main : Block) (near : BlockNear main) where
   called_near c None frames = tt
   called_near c (Some h) frames = callee_near c h.path h.declaration.meaning frames
 
-  chosen_near : (f : Frame) (below : Configuration) (b : Bool) (some other : List Statement) → TodoNear some → TodoNear other → FramesNear below → FramesNear (record f { todo = cond b some other } ∷ below)
+  chosen_near : (f : Frame) (below : Configuration) (b : Bool) (some other : List Statement) → TodoNear some
+      → TodoNear other → FramesNear below → FramesNear (record f { todo = cond b some other } ∷ below)
   chosen_near f below true some other a b frames = (a, frames)
   chosen_near f below false some other a b frames = (b, frames)
 
-  statement_step_near : (f : Frame) (below : Configuration) (s : Statement) (rest : List Statement) → FramesNear (f ∷ below) → StatementNear s → TodoNear rest → OutcomeNear (statement_step main f below s rest)
+  statement_step_near : (f : Frame) (below : Configuration) (s : Statement) (rest : List Statement)
+      → FramesNear (f ∷ below) → StatementNear s → TodoNear rest → OutcomeNear (statement_step main f below s rest)
   statement_step_near f below (Assign x e) rest frames here more =
-      on_value_near (value main (f ∷ below) (length below) e) _ (λ v. assigned_near (record f { todo = rest } ∷ below) (home main f.block x.word) v (more, frames.1))
+      on_value_near (value main (f ∷ below) (length below) e) _
+      (λ v. assigned_near (record f { todo = rest } ∷ below) (home main f.block x.word) v (more, frames.1))
   statement_step_near f below (Write p e) rest frames here more =
       on_value_near (value main (f ∷ below) (length below) e) _ (λ v. (more, frames.1))
   statement_step_near f below (If p test s) rest frames here more =
-      on_value_near (truth main (f ∷ below) (length below) test) _ (λ holds. chosen_near f below holds (opened s ++ rest) rest (todo_near-append (opened s) rest (opened_near s here.1) more) more frames.1)
+      on_value_near (truth main (f ∷ below) (length below) test) _
+      (λ holds. chosen_near f below holds (opened s ++ rest) rest
+      (todo_near-append (opened s) rest (opened_near s here.1) more) more frames.1)
   statement_step_near f below (While p test s) rest frames here more =
       on_value_near (truth main (f ∷ below) (length below) test) _
-      (λ holds. chosen_near f below holds (opened s ++ (While p test s ∷ rest)) rest (todo_near-append (opened s) (While p test s ∷ rest) (opened_near s here.1) (here, more)) more frames.1)
-  statement_step_near f below (Call p x) rest frames here more = called_near (f ∷ below) (home main f.block x.word) frames
+      (λ holds. chosen_near f below holds (opened s ++ (While p test s ∷ rest)) rest
+      (todo_near-append (opened s) (While p test s ∷ rest) (opened_near s here.1) (here, more)) more frames.1)
+  statement_step_near f below (Call p x) rest frames here more =
+      called_near (f ∷ below) (home main f.block x.word) frames
   statement_step_near f below Empty rest frames here more = tt
   statement_step_near f below (Then s t) rest frames here more = tt
 
@@ -345,7 +387,8 @@ module _ (main : Block) (near : BlockNear main) where
   returned_near [] frames = tt
   returned_near (g ∷ below) frames = (rest_near g.todo frames.0, frames.1)
 
-  frame_step_near : (f : Frame) (below : Configuration) (todo : List Statement) → FramesNear (f ∷ below) → TodoNear todo → OutcomeNear (frame_step main f below todo)
+  frame_step_near : (f : Frame) (below : Configuration) (todo : List Statement) → FramesNear (f ∷ below) → TodoNear todo
+      → OutcomeNear (frame_step main f below todo)
   frame_step_near f below [] frames near = returned_near below frames.1
   frame_step_near f below (s ∷ rest) frames near = statement_step_near f below s rest frames near.0 near.1
 
@@ -365,7 +408,8 @@ module _ (main : Block) (near : BlockNear main) where
   next_near_of (Faults fault) frames = tt
   next_near_of Over frames = tt
 
-  after_step_near : (n : ℕ) (o : Option Configuration) → MayBeFramesNear o → MayBeFramesNear (option_and_then (λ c. led_to (step_at main n c)) o)
+  after_step_near : (n : ℕ) (o : Option Configuration) → MayBeFramesNear o
+      → MayBeFramesNear (option_and_then (λ c. led_to (step_at main n c)) o)
   after_step_near n None frames = tt
   after_step_near n (Some c) frames = next_near_of (step_at main n c) (step_at_near n c frames)
 

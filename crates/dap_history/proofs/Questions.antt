@@ -16,7 +16,8 @@ use Rattle.dap_history.specs.Replies.{Reply, nothing, refused, OfProgram}
 use Rattle.dap_history.specs.Frames.{frame_by_id}
 use Rattle.dap_history.specs.Inspection.{Asked, asked_of, scopes, variables, result_reply, EvaluatesIn, RepliesFrom, RepliesAt, InspectsIn}
 
-thread_nothing : (reply : Reply) (same : Bool) → reply.effect ≡ nothing → (if same then reply else refused refusal.UnknownThread).effect ≡ nothing
+thread_nothing : (reply : Reply) (same : Bool) → reply.effect ≡ nothing
+    → (if same then reply else refused refusal.UnknownThread).effect ≡ nothing
 thread_nothing reply true is = is
 thread_nothing reply false is = refl
 
@@ -36,18 +37,26 @@ result_nothing (Err DivideByZero) = refl
 pub effect_is : (reply other : Reply) → reply ≡ other → other.effect ≡ nothing → reply.effect ≡ nothing
 effect_is reply other is none = ap (λ (r : Reply). r.effect) is ∙ none
 
-evaluates_nothing : (of : Asked) (c : Configuration) (id : ℕ) (f : Option Frame) (text : List ℕ) (reply : Reply) → EvaluatesIn of.program c id f text reply → reply.effect ≡ nothing
+evaluates_nothing : (of : Asked) (c : Configuration) (id : ℕ) (f : Option Frame) (text : List ℕ) (reply : Reply)
+    → EvaluatesIn of.program c id f text reply → reply.effect ≡ nothing
 evaluates_nothing of c id None text reply is = effect_is reply _ is refl
 evaluates_nothing of c id (Some f) text reply (inl is) = effect_is reply _ is.reply_is (result_nothing is.result)
 evaluates_nothing of c id (Some f) text reply (inr is) = effect_is reply _ is.reply_is refl
 
-replies_nothing : (of : Asked) (c : Configuration) (question : Question) (reply : Reply) → RepliesFrom of c question reply → reply.effect ≡ nothing
-replies_nothing of c (question.StackTrace a) reply is = effect_is reply _ is (thread_nothing _ (nat_eq a.thread_id 1) refl)
-replies_nothing of c (question.Scopes a) reply is = effect_is reply _ is (scopes_nothing of a.frame_id c (frame_by_id c a.frame_id))
-replies_nothing of c (question.Variables a) reply is = effect_is reply _ is (variables_nothing of (frame_by_id c a.variables_reference))
-replies_nothing of c (question.Evaluate a) reply is = evaluates_nothing of c a.frame_id (frame_by_id c a.frame_id) a.expression reply is
+replies_nothing : (of : Asked) (c : Configuration) (question : Question) (reply : Reply)
+    → RepliesFrom of c question reply → reply.effect ≡ nothing
+replies_nothing of c (question.StackTrace a) reply is =
+    effect_is reply _ is (thread_nothing _ (nat_eq a.thread_id 1) refl)
+replies_nothing of c (question.Scopes a) reply is =
+    effect_is reply _ is (scopes_nothing of a.frame_id c (frame_by_id c a.frame_id))
+replies_nothing of c (question.Variables a) reply is =
+    effect_is reply _ is (variables_nothing of (frame_by_id c a.variables_reference))
+replies_nothing of c (question.Evaluate a) reply is =
+    evaluates_nothing of c a.frame_id (frame_by_id c a.frame_id) a.expression reply is
 
-inspects_nothing : (l : Option Launched) (past : History) (question : Question) (reply : Reply) → OfProgram l (λ l. RepliesAt (asked_of past l) (at l.program (position past)) question reply) → reply.effect ≡ nothing
+inspects_nothing : (l : Option Launched) (past : History) (question : Question) (reply : Reply)
+    → OfProgram l (λ l. RepliesAt (asked_of past l) (at l.program (position past)) question reply)
+    → reply.effect ≡ nothing
 inspects_nothing None past question reply is = absurd is
 inspects_nothing (Some l) past question reply is = by_place (at l.program (position past)) is
   where
@@ -55,7 +64,8 @@ inspects_nothing (Some l) past question reply is = by_place (at l.program (posit
     by_place None is = absurd is
     by_place (Some c) is = replies_nothing (asked_of past l) c question reply is
 
-pub no_effect : (s : Situation) (past : History) (question : Question) (reply : Reply) → InspectsIn s past question reply → reply.effect ≡ nothing
+pub no_effect : (s : Situation) (past : History) (question : Question) (reply : Reply)
+    → InspectsIn s past question reply → reply.effect ≡ nothing
 no_effect Fresh past question reply is = effect_is reply _ is refl
 no_effect Ready past question reply is = effect_is reply _ is refl
 no_effect Configuring past question reply is = effect_is reply _ is refl

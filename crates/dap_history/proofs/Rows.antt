@@ -1,5 +1,5 @@
--- A session that is paused, and one whose breakpoints change, while the program runs: what each item causes, computed from
--- the definitions, for any program whose first slice is followed by a Held report; and one that goes back.
+-- A session that is paused, and one whose breakpoints change, while the program runs: what each item causes, computed
+-- from the definitions, for any program whose first slice is followed by a Held report; and one that goes back.
 use Rattle.std.proofs.Common.{◌≡◌, ℕ, pos, List, [], ◌∷◌, ◌++◌, None, Some, Ok, refl}
 use Rattle.std.specs.Prelude.{false}
 use Rattle.dap_msg.specs.declared.command.Command.{Command}
@@ -31,7 +31,12 @@ use Rattle.dap_history.specs.Emission.{RepliesIn}
 
 abbrev taken : ℕ → Command → Reply → Step
 taken seq asked reply =
-    record { item = Content (Some (record { seq = seq; body = asked })); answer = Some (Answer seq (name_of asked) reply.result); effect = reply.effect }
+    record {
+      item =
+          Content (Some (record { seq = seq; body = asked }));
+      answer = Some (Answer seq (name_of asked) reply.result);
+      effect = reply.effect;
+    }
 
 abbrev reported : PlainReport → Effect → Step
 reported r effect = record { item = Accepted r; answer = None; effect = effect }
@@ -44,7 +49,13 @@ module _ (text : List ℕ) (program : Block) (path : List ℕ) (bs : List Breakp
   abbrev begun : History
   begun =
       taken 1 (command.Initialize from_one) (answered body.Capabilities)
-      ∷ record { item = Loaded (record { seq = 2; arguments = arguments }) (Some text); answer = Some (Answer 2 (name.Supported supported.Launch) (Ok body.None)); effect = launches arguments text program }
+      ∷ record {
+        item =
+            Loaded (record { seq = 2; arguments = arguments }) (Some text);
+        answer = Some
+            (Answer 2 (name.Supported supported.Launch) (Ok body.None));
+        effect = launches arguments text program;
+      }
       ∷ []
 
   configuring : situation begun ≡ Configuring
@@ -52,27 +63,57 @@ module _ (text : List ℕ) (program : Block) (path : List ℕ) (bs : List Breakp
 
   -- without breakpoints position 0 isn't due, and Go 1 is ordered
   configures : (reply : Reply) → RepliesIn (situation begun) begun command.ConfigurationDone reply
-      → reply ≡ record { result = Ok body.None; effect = record nothing { orders = Go (record { run = 1; text = text; plan = []; counted_from = 0; mode = mode.Continue; start = 0 }) ∷ [] } }
+      → reply ≡ record {
+        result = Ok body.None;
+        effect = record nothing {
+          orders = Go (record { run = 1; text = text; plan = []; counted_from = 0; mode = mode.Continue; start = 0 })
+              ∷ [];
+        };
+      }
   configures reply is = is
 
   abbrev running : History
   running =
-      begun ++ taken 3 command.ConfigurationDone (record { result = Ok body.None; effect = record nothing { orders = Go (record { run = 1; text = text; plan = []; counted_from = 0; mode = mode.Continue; start = 0 }) ∷ [] } }) ∷ []
+      begun ++ taken 3 command.ConfigurationDone
+      (record {
+        result = Ok body.None;
+        effect = record nothing {
+          orders = Go (record { run = 1; text = text; plan = []; counted_from = 0; mode = mode.Continue; start = 0 })
+              ∷ [];
+        };
+      }) ∷ []
 
-  is_running : (situation running ≡ Running) × (runs running ≡ 1) × (position running ≡ 0) × (is_held running ≡ false) × (waiting_pause running ≡ false) × (waiting_plan running ≡ None)
+  is_running : (situation running ≡ Running) × (runs running ≡ 1) × (position running ≡ 0) × (is_held running ≡ false)
+      × (waiting_pause running ≡ false) × (waiting_plan running ≡ None)
   is_running = (refl, refl, refl, refl, refl, refl)
 
   -- a report of run 1 that goes on from 0 to 256, or is held at 256
   abbrev report : ℕ → ℕ → SliceOutcome → PlainReport
   report from to outcome =
-      record { run = 1; text = text; plan = []; counted_from = 0; mode = mode.Continue; start = from; end = to; before = 0; again = 0; numbers = []; logs = []; outcome = outcome }
+      record {
+        run =
+            1;
+        text = text;
+        plan = [];
+        counted_from = 0;
+        mode = mode.Continue;
+        start = from;
+        end = to;
+        before = 0;
+        again =
+            0;
+        numbers = [];
+        logs = [];
+        outcome = outcome;
+      }
 
   -- a report of this run is accepted
   accepted : Accepts running (report 0 256 slice.More)
   accepted = record { running = refl; run = _; run_is = refl; expected = refl }
 
   abbrev further : History
-  further = running ++ reported (report 0 256 slice.More) (report_effect running (report 0 256 slice.More) slice.More) ∷ []
+  further =
+      running ++ reported (report 0 256 slice.More) (report_effect running (report 0 256 slice.More) slice.More) ∷ []
 
   -- the next one is expected at 256
   further_on : (position further ≡ 256) × (situation further ≡ Running) × (is_held further ≡ false)
@@ -85,13 +126,16 @@ module _ (text : List ℕ) (program : Block) (path : List ℕ) (bs : List Breakp
   pauses reply is = is
 
   abbrev paused : History
-  paused = further ++ taken 4 (command.Pause (record { thread_id = 1 })) (record { result = Ok body.None; effect = record nothing { orders = Hold 1 ∷ [] } }) ∷ []
+  paused = further ++ taken 4 (command.Pause (record { thread_id = 1 }))
+      (record { result = Ok body.None; effect = record nothing { orders = Hold 1 ∷ [] } }) ∷ []
 
   -- a second pause holds no more
-  pauses_again : (reply : Reply) → RepliesIn (situation paused) paused (command.Pause (record { thread_id = 1 })) reply → reply ≡ answered body.None
+  pauses_again : (reply : Reply) → RepliesIn (situation paused) paused (command.Pause (record { thread_id = 1 })) reply
+      → reply ≡ answered body.None
   pauses_again reply is = is
 
-  stops_paused : report_effect paused (report 256 256 slice.Held) slice.Held ≡ record nothing { events = event.Stopped stop.Pause ∷ [] }
+  stops_paused : report_effect paused (report 256 256 slice.Held) slice.Held ≡ record nothing
+      { events = event.Stopped stop.Pause ∷ [] }
   stops_paused = refl
 
   -- ---- breakpoints
@@ -104,13 +148,20 @@ module _ (text : List ℕ) (program : Block) (path : List ℕ) (bs : List Breakp
 
   -- the run is held and goes on as run 2, whose breakpoints count from 257
   goes_on_held : report_effect asked (report 256 256 slice.Held) slice.Held
-      ≡ record nothing { put_in = Some (record { breakpoints = bs; counted_from = 257 }); orders = Go (record { run = 2; text = text; plan = bs; counted_from = 257; mode = mode.Continue; start = 256 }) ∷ [] }
+      ≡ record nothing {
+        put_in = Some (record { breakpoints = bs; counted_from = 257 });
+        orders = Go
+            (record { run = 2; text = text; plan = bs; counted_from = 257; mode = mode.Continue; start = 256 }) ∷ [];
+      }
   goes_on_held = refl
 
   abbrev again : History
-  again = asked ++ reported (report 256 256 slice.Held) (report_effect asked (report 256 256 slice.Held) slice.Held) ∷ []
+  again = asked ++ reported (report 256 256 slice.Held) (report_effect asked (report 256 256 slice.Held) slice.Held)
+      ∷ []
 
-  is_again : (situation again ≡ Running) × (runs again ≡ 2) × (position again ≡ 256) × (plan again ≡ record { breakpoints = bs; counted_from = 257 }) × (waiting_plan again ≡ None) × (is_held again ≡ false)
+  is_again : (situation again ≡ Running) × (runs again ≡ 2) × (position again ≡ 256)
+      × (plan again ≡ record { breakpoints = bs; counted_from = 257 }) × (waiting_plan again ≡ None)
+      × (is_held again ≡ false)
   is_again = (refl, refl, refl, refl, refl, refl)
 
   -- ---- going back
@@ -118,25 +169,55 @@ module _ (text : List ℕ) (program : Block) (path : List ℕ) (bs : List Breakp
   -- a run that stops at position 15, after one number
   abbrev forward : PlainReport
   forward =
-      record { run = 1; text = text; plan = []; counted_from = 0; mode = mode.Continue; start = 0; end = 15; before = 0; again = 0; numbers = pos 7 ∷ []; logs = []; outcome = slice.Due reason.Breakpoint }
+      record {
+        run =
+            1;
+        text = text;
+        plan = [];
+        counted_from = 0;
+        mode = mode.Continue;
+        start = 0;
+        end = 15;
+        before = 0;
+        again = 0;
+        numbers = pos 7 ∷ [];
+        logs = [];
+        outcome = slice.Due reason.Breakpoint;
+      }
 
   abbrev stopped : History
   stopped = running ++ reported forward (report_effect running forward (slice.Due reason.Breakpoint)) ∷ []
 
-  tells_one : report_effect running forward (slice.Due reason.Breakpoint) ≡ record nothing { events = event.Output (pos 7) ∷ event.Stopped stop.Breakpoint ∷ [] }
+  tells_one : report_effect running forward (slice.Due reason.Breakpoint) ≡ record nothing
+      { events = event.Output (pos 7) ∷ event.Stopped stop.Breakpoint ∷ [] }
   tells_one = refl
 
   -- `reverseContinue` orders run 2 in the mode Reverse
-  reverses : (reply : Reply) → RepliesIn (situation stopped) stopped (command.Retreat retreat.ReverseContinue (record { thread_id = 1 })) reply
-      → reply ≡ record { result = Ok body.None; effect = record nothing { orders = Go (record { run = 2; text = text; plan = []; counted_from = 0; mode = mode.Reverse; start = 15 }) ∷ [] } }
+  reverses : (reply : Reply) → RepliesIn (situation stopped) stopped
+      (command.Retreat retreat.ReverseContinue (record { thread_id = 1 })) reply
+      → reply ≡ record {
+        result = Ok body.None;
+        effect = record nothing {
+          orders = Go (record { run = 2; text = text; plan = []; counted_from = 0; mode = mode.Reverse; start = 15 })
+              ∷ [];
+        };
+      }
   reverses reply is = is
 
   abbrev going_back : History
   going_back =
-      stopped ++ taken 5 (command.Retreat retreat.ReverseContinue (record { thread_id = 1 })) (record { result = Ok body.None; effect = record nothing { orders = Go (record { run = 2; text = text; plan = []; counted_from = 0; mode = mode.Reverse; start = 15 }) ∷ [] } }) ∷ []
+      stopped ++ taken 5 (command.Retreat retreat.ReverseContinue (record { thread_id = 1 }))
+      (record {
+        result = Ok body.None;
+        effect = record nothing {
+          orders = Go (record { run = 2; text = text; plan = []; counted_from = 0; mode = mode.Reverse; start = 15 })
+              ∷ [];
+        };
+      }) ∷ []
 
   -- a pause and breakpoints hold nothing there
-  pauses_not : (reply : Reply) → RepliesIn (situation going_back) going_back (command.Pause (record { thread_id = 1 })) reply → reply ≡ answered body.None
+  pauses_not : (reply : Reply) → RepliesIn (situation going_back) going_back (command.Pause (record { thread_id = 1 }))
+      reply → reply ≡ answered body.None
   pauses_not reply is = is
 
   waits_alone : effect_in (situation going_back) going_back bs ≡ record nothing { waits = Some bs }
@@ -144,23 +225,60 @@ module _ (text : List ℕ) (program : Block) (path : List ℕ) (bs : List Breakp
 
   abbrev backward : ℕ → ℕ → SliceOutcome → PlainReport
   backward to again outcome =
-      record { run = 2; text = text; plan = []; counted_from = 0; mode = mode.Reverse; start = 15; end = to; before = 1; again = again; numbers = []; logs = []; outcome = outcome }
+      record {
+        run =
+            2;
+        text = text;
+        plan = [];
+        counted_from = 0;
+        mode = mode.Reverse;
+        start = 15;
+        end = to;
+        before = 1;
+        again =
+            again;
+        numbers = [];
+        logs = [];
+        outcome = outcome;
+      }
 
   -- at its stop the plan counts anew
   stops_back : report_effect going_back (backward 10 24 (slice.Due reason.Breakpoint)) (slice.Due reason.Breakpoint)
-      ≡ record nothing { events = event.Stopped stop.Breakpoint ∷ []; put_in = Some (record { breakpoints = []; counted_from = 11 }) }
+      ≡ record nothing {
+        events = event.Stopped stop.Breakpoint
+            ∷ [];
+        put_in = Some (record { breakpoints = []; counted_from = 11 });
+      }
   stops_back = refl
 
   abbrev back : History
-  back = going_back ++ reported (backward 10 24 (slice.Due reason.Breakpoint)) (report_effect going_back (backward 10 24 (slice.Due reason.Breakpoint)) (slice.Due reason.Breakpoint)) ∷ []
+  back = going_back ++ reported (backward 10 24 (slice.Due reason.Breakpoint))
+      (report_effect going_back (backward 10 24 (slice.Due reason.Breakpoint)) (slice.Due reason.Breakpoint)) ∷ []
 
-  is_back_there : (position back ≡ 10) × (reached back ≡ 15) × (numbers_told back ≡ 1) × (plan back ≡ record { breakpoints = []; counted_from = 11 })
+  is_back_there : (position back ≡ 10) × (reached back ≡ 15) × (numbers_told back ≡ 1)
+      × (plan back ≡ record { breakpoints = []; counted_from = 11 })
   is_back_there = (refl, refl, refl, refl)
 
   -- what was told isn't told again
   abbrev once_more : PlainReport
   once_more =
-      record { run = 3; text = text; plan = []; counted_from = 11; mode = mode.Continue; start = 10; end = 20; before = 0; again = 0; numbers = pos 7 ∷ pos 8 ∷ []; logs = []; outcome = slice.Done }
+      record {
+        run =
+            3;
+        text = text;
+        plan = [];
+        counted_from = 11;
+        mode = mode.Continue;
+        start = 10;
+        end = 20;
+        before = 0;
+        again =
+            0;
+        numbers = pos 7 ∷ pos 8 ∷ [];
+        logs = [];
+        outcome = slice.Done;
+      }
 
-  tells_the_rest : report_effect back once_more slice.Done ≡ record nothing { events = event.Output (pos 8) ∷ event.Exited 0 ∷ event.Terminated ∷ [] }
+  tells_the_rest : report_effect back once_more slice.Done ≡ record nothing
+      { events = event.Output (pos 8) ∷ event.Exited 0 ∷ event.Terminated ∷ [] }
   tells_the_rest = refl

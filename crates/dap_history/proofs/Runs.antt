@@ -25,7 +25,8 @@ module _ (A B : Type 0) (f : A → Option B) where
   last_front [] y is = absurd cc
   last_front (x ∷ xs) y is = by_rest (last_such f xs) refl is (λ z there. last_front xs z there)
     where
-      by_rest : (o : Option B) → last_such f xs ≡ o → or_else o (f x) ≡ Some y → ((z : B) → last_such f xs ≡ Some z → EndsWith xs z) → EndsWith (x ∷ xs) y
+      by_rest : (o : Option B) → last_such f xs ≡ o → or_else o (f x) ≡ Some y
+          → ((z : B) → last_such f xs ≡ Some z → EndsWith xs z) → EndsWith (x ∷ xs) y
       by_rest None none is more = ([], ap (cons_option (f x)) (none_such xs none) ∙ ap (λ o. cons_option o []) is)
       by_rest (Some z) there is more =
           let same : z ≡ y = cc in
@@ -43,15 +44,18 @@ abbrev pub AreBelow : ℕ → List Heading → Type 0
 AreBelow n [] = Unit {0}
 AreBelow n (run ∷ runs) = (run.run < n) × AreBelow n runs
 
-pub numbered-snoc : (n : ℕ) (runs : List Heading) (run : Heading) → AreNumbered n runs → run.run ≡ n + length runs → AreNumbered n (runs ++ run ∷ [])
+pub numbered-snoc : (n : ℕ) (runs : List Heading) (run : Heading) → AreNumbered n runs → run.run ≡ n + length runs
+    → AreNumbered n (runs ++ run ∷ [])
 numbered-snoc n [] run are is = (is ∙ omega arith, tt)
 numbered-snoc n (r ∷ runs) run are is = (are.0, numbered-snoc (n + 1) runs run are.1 (omega (arith, is)))
 
-pub last_number : (n : ℕ) (front : List Heading) (run : Heading) → AreNumbered n (front ++ run ∷ []) → run.run ≡ n + length front
+pub last_number : (n : ℕ) (front : List Heading) (run : Heading) → AreNumbered n (front ++ run ∷ [])
+    → run.run ≡ n + length front
 last_number n [] run are = omega (arith, are.0)
 last_number n (r ∷ front) run are = let h = last_number (n + 1) front run are.1 in omega (arith, h)
 
-pub before_last : (n : ℕ) (front : List Heading) (run : Heading) → AreNumbered n (front ++ run ∷ []) → AreBelow run.run front
+pub before_last : (n : ℕ) (front : List Heading) (run : Heading) → AreNumbered n (front ++ run ∷ [])
+    → AreBelow run.run front
 before_last n [] run are = tt
 before_last n (r ∷ front) run are =
     let h = last_number (n + 1) front run are.1 in
@@ -61,21 +65,27 @@ before_last n (r ∷ front) run are =
 -- ---- positions one after another
 
 pub ranges_join : (a m n : ℕ) → range_with_len a (m + n) ≡ range_with_len a m ++ range_with_len (a + m) n
-ranges_join a zero n = let e : zero + n ≡ n = omega arith in let f : a ≡ a + zero = omega arith in ap (range_with_len a) e ∙ ap (λ b. range_with_len b n) f
+ranges_join a zero n =
+    let e : zero + n ≡ n = omega arith in let f : a ≡ a + zero = omega arith in ap (range_with_len a) e
+    ∙ ap (λ b. range_with_len b n) f
 ranges_join a (suc m) n =
     let e : suc m + n ≡ suc (m + n) = omega arith in
     let f : a + 1 + m ≡ a + suc m = omega arith in
-    ap (range_with_len a) e ∙ ap (λ l. a ∷ l) (ranges_join (a + 1) m n ∙ ap (λ b. range_with_len (a + 1) m ++ range_with_len b n) f)
+    ap (range_with_len a) e ∙ ap (λ l. a ∷ l)
+    (ranges_join (a + 1) m n ∙ ap (λ b. range_with_len (a + 1) m ++ range_with_len b n) f)
 
 -- where f gives nothing
-pub none_between : {B : Type 0} (f : ℕ → List B) (a n : ℕ) → ((m : ℕ) → a ≤ m → m < a + n → f m ≡ []) → flat_map f (range_with_len a n) ≡ []
+pub none_between : {B : Type 0} (f : ℕ → List B) (a n : ℕ) → ((m : ℕ) → a ≤ m → m < a + n → f m ≡ [])
+    → flat_map f (range_with_len a n) ≡ []
 none_between f a zero none = refl
 none_between f a (suc n) none =
     ap (λ l. l ++ flat_map f (range_with_len (a + 1) n)) (none a (omega arith) (omega arith))
     ∙ none_between f (a + 1) n (λ m above below. none m (omega (arith, above)) (omega (arith, below)))
 
 -- two functions that give the same for the elements of a list
-pub flat_map_same : {A B : Type 0} (f g : A → List B) (xs : List A) (P : A → Type 0) → ((x : A) → P x → f x ≡ g x) → (AllOf : List A → Type 0) → ((x : A) (rest : List A) → AllOf (x ∷ rest) → P x × AllOf rest) → AllOf xs → flat_map f xs ≡ flat_map g xs
+pub flat_map_same : {A B : Type 0} (f g : A → List B) (xs : List A) (P : A → Type 0) → ((x : A) → P x → f x ≡ g x)
+    → (AllOf : List A → Type 0) → ((x : A) (rest : List A) → AllOf (x ∷ rest) → P x × AllOf rest) → AllOf xs
+    → flat_map f xs ≡ flat_map g xs
 flat_map_same f g [] P same AllOf apart all = refl
 flat_map_same f g (x ∷ xs) P same AllOf apart all =
     let parts = apart x xs all in

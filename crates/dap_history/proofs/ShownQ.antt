@@ -1,4 +1,5 @@
--- What a client is shown of a text with nested procedures, at a stop in its innermost one, computed from the definitions.
+-- What a client is shown of a text with nested procedures, at a stop in its innermost one, computed from the
+-- definitions.
 use Rattle.std.proofs.Common.{◌≡◌, ℕ, List, [], ◌∷◌, Option, Some, None, pos, refl, map}
 use Rattle.std.specs.Prelude.{codes, option_map}
 use Rattle.pl0_tree.specs.declared.tree.Place.{Place}
@@ -73,7 +74,8 @@ frames_at_ten : frames_asked main from_one (record { thread_id = 1; start_frame 
 frames_at_ten = refl
 
 -- two of them from the second on, by a client that counts from 0
-some_frames : frames_asked main (record { lines = 1; columns = 1 }) (record { thread_id = 1; start_frame = 1; levels = 2 }) here ≡
+some_frames : frames_asked main (record { lines = 1; columns = 1 })
+    (record { thread_id = 1; start_frame = 1; levels = 2 }) here ≡
     shown 3 (codes "p") 9 0 ∷ shown 2 (codes "p") 8 14 ∷ []
 some_frames = refl
 
@@ -87,5 +89,6 @@ scopes_of_three : scopes_from main here 2 ≡ scope (codes "p") 3 ∷ scope (cod
 scopes_of_three = refl
 
 variables_of_each : map (λ id. option_map (variables_of main) (frame_by_id here id)) (0 ∷ 1 ∷ 2 ∷ 3 ∷ 4 ∷ 5 ∷ []) ≡
-    None ∷ Some (variable (codes "n") 0 ∷ []) ∷ Some (variable (codes "k") 2 ∷ []) ∷ Some (variable (codes "k") 1 ∷ []) ∷ Some [] ∷ None ∷ []
+    None ∷ Some (variable (codes "n") 0 ∷ []) ∷ Some (variable (codes "k") 2 ∷ []) ∷ Some (variable (codes "k") 1 ∷ [])
+    ∷ Some [] ∷ None ∷ []
 variables_of_each = refl

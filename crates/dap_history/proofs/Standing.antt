@@ -6,8 +6,6 @@ use Rattle.std.proofs.lemmas.List.Elements.{All-nil, All-cons, All-append}
 use Rattle.dap_msg.specs.declared.question.Question.{Question}
 use Rattle.dap_msg.specs.Commands.{name_of}
 use Rattle.dap_msg.specs.declared.request.Request.{Request}
-use Rattle.dap_msg.specs.declared.command.Command.{Command}
-use Rattle.dap_msg.specs.declared.command.Command.TheVariants as command
 use Rattle.dap_msg.specs.declared.command.CommandName.{CommandName}
 use Rattle.dap_msg.specs.declared.command.CommandName.TheVariants as name
 use Rattle.dap_msg.specs.declared.command.Supported.TheVariants as supported
@@ -41,11 +39,13 @@ abbrev pub MarkIs : (Situation → Type 0) → Option Situation → Type 0
 MarkIs P None = ⊥
 MarkIs P (Some s) = P s
 
-pub mark_else : (P : Situation → Type 0) (a b : Option Situation) → MarkIs P (or_else a b) → MarkIs P a ⊎ ((a ≡ None) × MarkIs P b)
+pub mark_else : (P : Situation → Type 0) (a b : Option Situation) → MarkIs P (or_else a b) → MarkIs P a
+    ⊎ ((a ≡ None) × MarkIs P b)
 mark_else P None b is = inr (refl, is)
 mark_else P (Some s) b is = inl is
 
-pub mark_unwrap : (P : Situation → Type 0) (o : Option Situation) (s : Situation) → P (unwrap_or o s) → MarkIs P o ⊎ ((o ≡ None) × P s)
+pub mark_unwrap : (P : Situation → Type 0) (o : Option Situation) (s : Situation) → P (unwrap_or o s) → MarkIs P o
+    ⊎ ((o ≡ None) × P s)
 mark_unwrap P None s is = inr (refl, is)
 mark_unwrap P (Some t) s is = inl is
 
@@ -85,7 +85,9 @@ orders_not (o ∷ os) is = neither (orders_not os) (mark_else IsStanding (last_s
     order_not (Hold run) is = is
     order_not Quit is = is
 
-    neither : ¬ MarkIs IsStanding (last_such order_mark os) → ¬ (MarkIs IsStanding (last_such order_mark os) ⊎ ((last_such order_mark os ≡ None) × MarkIs IsStanding (order_mark o)))
+    neither : ¬ MarkIs IsStanding (last_such order_mark os) → ¬
+        (MarkIs IsStanding (last_such order_mark os) ⊎ ((last_such order_mark os ≡ None)
+        × MarkIs IsStanding (order_mark o)))
     neither not (inl is) = not is
     neither not (inr is) = order_not o is.1
 
@@ -109,25 +111,35 @@ event_stops event.Terminated es is = absurd is
 
 events_stop : (es : List EventBody) → MarkIs IsStanding (last_such message_mark (map Event es)) → ReportsStop es
 events_stop [] is = absurd is
-events_stop (e ∷ es) is = either (events_stop es) (mark_else IsStanding (last_such message_mark (map Event es)) (event_mark e) is)
+events_stop (e ∷ es) is =
+    either (events_stop es) (mark_else IsStanding (last_such message_mark (map Event es)) (event_mark e) is)
   where
-    either : (MarkIs IsStanding (last_such message_mark (map Event es)) → ReportsStop es) → (MarkIs IsStanding (last_such message_mark (map Event es)) ⊎ ((last_such message_mark (map Event es) ≡ None) × MarkIs IsStanding (event_mark e))) → ReportsStop (e ∷ es)
+    either : (MarkIs IsStanding (last_such message_mark (map Event es)) → ReportsStop es)
+        → (MarkIs IsStanding (last_such message_mark (map Event es))
+        ⊎ ((last_such message_mark (map Event es) ≡ None) × MarkIs IsStanding (event_mark e))) → ReportsStop (e ∷ es)
     either more (inl is) = stop_else e es (more is)
     either more (inr is) = event_stops e es is.1
 
-messages_stop : (a : Option Outgoing) (es : List EventBody) → IsAnswer a → MarkIs IsStanding (last_such message_mark (with_answer a (map Event es))) → ReportsStop es
+messages_stop : (a : Option Outgoing) (es : List EventBody) → IsAnswer a
+    → MarkIs IsStanding (last_such message_mark (with_answer a (map Event es))) → ReportsStop es
 messages_stop None es answer is = events_stop es is
-messages_stop (Some (Answer seq c result)) es answer is = either (mark_else IsStanding (last_such message_mark (map Event es)) (answer_mark c result) is)
+messages_stop (Some (Answer seq c result)) es answer is =
+    either (mark_else IsStanding (last_such message_mark (map Event es)) (answer_mark c result) is)
   where
-    either : (MarkIs IsStanding (last_such message_mark (map Event es)) ⊎ ((last_such message_mark (map Event es) ≡ None) × MarkIs IsStanding (answer_mark c result))) → ReportsStop es
+    either : (MarkIs IsStanding (last_such message_mark (map Event es))
+        ⊎ ((last_such message_mark (map Event es) ≡ None) × MarkIs IsStanding (answer_mark c result))) → ReportsStop es
     either (inl is) = events_stop es is
     either (inr is) = absurd (answer_not c result is.1)
 messages_stop (Some (Event e)) es answer is = absurd answer
 
-pub step_stops : (step : Step) → IsAnswer step.answer → MarkIs IsStanding (step_mark step) → ReportsStop step.effect.events
-step_stops step answer is = either (mark_else IsStanding (last_such order_mark step.effect.orders) (last_such message_mark (messages step)) is)
+pub step_stops : (step : Step) → IsAnswer step.answer → MarkIs IsStanding (step_mark step)
+    → ReportsStop step.effect.events
+step_stops step answer is =
+    either (mark_else IsStanding (last_such order_mark step.effect.orders) (last_such message_mark (messages step)) is)
   where
-    either : (MarkIs IsStanding (last_such order_mark step.effect.orders) ⊎ ((last_such order_mark step.effect.orders ≡ None) × MarkIs IsStanding (last_such message_mark (messages step)))) → ReportsStop step.effect.events
+    either : (MarkIs IsStanding (last_such order_mark step.effect.orders)
+        ⊎ ((last_such order_mark step.effect.orders ≡ None) × MarkIs IsStanding
+        (last_such message_mark (messages step)))) → ReportsStop step.effect.events
     either (inl is) = absurd (orders_not step.effect.orders is)
     either (inr is) = messages_stop step.answer step.effect.events answer is.1
 
@@ -138,7 +150,8 @@ abbrev pub Stood : History → Type 0
 Stood past = IsStanding (situation past) → (m : ℕ) × StoppedLastAt past m × (m ≡ position past)
 
 -- no report is accepted where the program stands
-moves_nothing : (Q : Incoming → Type 0) (past : History) (item : Item) → IsTaken Q past item → IsStanding (situation past) → end_of item ≡ None
+moves_nothing : (Q : Incoming → Type 0) (past : History) (item : Item) → IsTaken Q past item
+    → IsStanding (situation past) → end_of item ≡ None
 moves_nothing Q past (Content request) taken is = refl
 moves_nothing Q past (Loaded launch file) taken is = refl
 moves_nothing Q past (Accepted r) taken is = absurd (subst IsStanding taken.0.running is)
@@ -150,11 +163,23 @@ moves_nothing Q past MemoryFailure taken is = refl
 stops_here : (past : History) (step : Step) (r : StopReason) → stop_in step ≡ Some r → Stood (past ++ step ∷ [])
 stops_here past step r is standing = (
   position (past ++ step ∷ []),
-  record { early = past; step = step; later = []; past_is = refl; reason = r; stop_is = is; none_later = All-nil (λ (s : Step). stop_in s ≡ None); position_is = refl },
+  record {
+    early =
+        past;
+    step = step;
+    later = [];
+    past_is = refl;
+    reason = r;
+    stop_is = is;
+    none_later = All-nil
+        (λ (s : Step). stop_in s ≡ None);
+    position_is = refl;
+  },
   refl,
 )
 
-stands_on : (past : History) (step : Step) (m : ℕ) → stop_in step ≡ None → StoppedLastAt past m → StoppedLastAt (past ++ step ∷ []) m
+stands_on : (past : History) (step : Step) (m : ℕ) → stop_in step ≡ None → StoppedLastAt past m
+    → StoppedLastAt (past ++ step ∷ []) m
 stands_on past step m none was = record {
   early = was.early;
   step = was.step;
@@ -162,37 +187,48 @@ stands_on past step m none was = record {
   past_is = ap (λ h. h ++ step ∷ []) was.past_is ∙ append_assoc was.early (was.step ∷ was.later) (step ∷ []);
   reason = was.reason;
   stop_is = was.stop_is;
-  none_later = All-append (λ (s : Step). stop_in s ≡ None) was.later (step ∷ []) was.none_later (All-cons (λ (s : Step). stop_in s ≡ None) step [] none (All-nil (λ (s : Step). stop_in s ≡ None)));
+  none_later =
+      All-append (λ (s : Step). stop_in s ≡ None) was.later (step ∷ []) was.none_later
+      (All-cons (λ (s : Step). stop_in s ≡ None) step [] none (All-nil (λ (s : Step). stop_in s ≡ None)));
   position_is = was.position_is;
 }
 
-stood_more : (Q : Incoming → Type 0) (past : History) (step : Step) → IsTaken Q past step.item → Causes past step.item step → Stood past → Stood (past ++ step ∷ [])
+stood_more : (Q : Incoming → Type 0) (past : History) (step : Step) → IsTaken Q past step.item
+    → Causes past step.item step → Stood past → Stood (past ++ step ∷ [])
 stood_more Q past step taken causes stood = by_stop (stop_in step) refl
   where
-    onward : stop_in step ≡ None → (MarkIs IsStanding (step_mark step) ⊎ ((step_mark step ≡ None) × IsStanding (situation past)))
+    onward : stop_in step ≡ None → (MarkIs IsStanding (step_mark step)
+        ⊎ ((step_mark step ≡ None) × IsStanding (situation past)))
         → (m : ℕ) × StoppedLastAt (past ++ step ∷ []) m × (m ≡ position (past ++ step ∷ []))
-    onward none (inl is) = absurd (let stops = step_stops step (answers_only past step.item step causes) is in let e = sym none ∙ stops.1 in cc)
+    onward none (inl is) =
+        absurd (let stops = step_stops step (answers_only past step.item step causes) is in let e = sym none
+        ∙ stops.1 in cc)
     onward none (inr is) =
         let was = stood is.1 in (
           was.0,
           stands_on past step was.0 none was.1,
-          was.2 ∙ sym (position-snoc past step ∙ ap (λ o. unwrap_or o (position past)) (moves_nothing Q past step.item taken is.1)),
+          was.2 ∙ sym (position-snoc past step ∙ ap (λ o. unwrap_or o (position past))
+              (moves_nothing Q past step.item taken is.1)),
         )
 
     by_stop : (o : Option StopReason) → stop_in step ≡ o → Stood (past ++ step ∷ [])
     by_stop (Some r) is = stops_here past step r is
-    by_stop None none = λ standing. onward none (mark_unwrap IsStanding (step_mark step) (situation past) (subst IsStanding (situation-snoc past step) standing))
+    by_stop None none =
+        λ standing. onward none (mark_unwrap IsStanding (step_mark step) (situation past)
+        (subst IsStanding (situation-snoc past step) standing))
 
 pub stood_kept : (Q : Incoming → Type 0) → IsKept Q Stood
 stood_kept Q = record {
   step = λ past item new taking taken after here.
       subst Stood (sym after.new_is)
-      (stood_more Q past after.step (subst (IsTaken Q past) (sym after.item_is) taken) (subst (λ i. Causes past i after.step) (sym after.item_is) after.causes) here);
+      (stood_more Q past after.step (subst (IsTaken Q past) (sym after.item_is) taken)
+      (subst (λ i. Causes past i after.step) (sym after.item_is) after.causes) here);
 }
 
 -- ---- questions
 
-inspects_here : (s : Situation) (past : History) (q : Question) (reply : Reply) → IsStanding s → InspectsIn s past q reply → Inspects past q reply
+inspects_here : (s : Situation) (past : History) (q : Question) (reply : Reply) → IsStanding s
+    → InspectsIn s past q reply → Inspects past q reply
 inspects_here Stopped past q reply is inspects = inspects
 inspects_here Faulted past q reply is inspects = inspects
 inspects_here _ past q reply is inspects = absurd is
@@ -201,7 +237,8 @@ inspects_here _ past q reply is inspects = absurd is
 no_body : (reply : Reply) (why : Refusal) (b : Body) → reply ≡ refused why → ¬ (reply.result ≡ Ok b)
 no_body reply why b is body = let e = ap (λ (r : Reply). r.result) (sym is) ∙ body in absurd cc
 
-standing_of : (s : Situation) (past : History) (q : Question) (reply : Reply) (b : Body) → InspectsIn s past q reply → reply.result ≡ Ok b → IsStanding s
+standing_of : (s : Situation) (past : History) (q : Question) (reply : Reply) (b : Body) → InspectsIn s past q reply
+    → reply.result ≡ Ok b → IsStanding s
 standing_of Stopped past q reply b is body = tt
 standing_of Faulted past q reply b is body = tt
 standing_of Fresh past q reply b is body = absurd (no_body reply _ b is body)
@@ -211,32 +248,44 @@ standing_of Running past q reply b is body = absurd (no_body reply _ b is body)
 standing_of Ended past q reply b is body = absurd (no_body reply _ b is body)
 
 -- the program that is inspected, shown where it stopped last
-shown : (before : History) (request : Request) (question : Question) (step : Step) (reply : Reply) (l : Option Launched) → launched before ≡ l
+shown : (before : History) (request : Request) (question : Question) (step : Step) (reply : Reply) (l : Option Launched)
+    → launched before ≡ l
     → OfProgram l (λ l. RepliesAt (asked_of before l) (at l.program (position before)) question reply)
     → Answers request.seq (name_of request.body) reply step → (m : ℕ) × StoppedLastAt before m × (m ≡ position before)
-    → (l : Launched) × (m : ℕ) × (launched before ≡ Some l) × StoppedLastAt before m × AnswersFrom l before m request question step
+    → (l : Launched) × (m : ℕ) × (launched before ≡ Some l) × StoppedLastAt before m
+    × AnswersFrom l before m request question step
 shown before request question step reply None is inspects answers stood = absurd inspects
 shown before request question step reply (Some l) is inspects answers stood = (
   l,
   stood.0,
   is,
   stood.1,
-  record { reply = reply; shown = subst (λ n. RepliesAt (asked_of before l) (at l.program n) question reply) (sym stood.2) inspects; answer_is = answers.answer_is },
+  record {
+    reply =
+        reply;
+    shown = subst (λ n. RepliesAt (asked_of before l) (at l.program n) question reply) (sym stood.2) inspects;
+    answer_is = answers.answer_is;
+  },
 )
 
 pub questions_answered : QuestionsAreAnsweredThere
 questions_answered events past rest history before request question step asks = (
-  λ standing. shown before request question step causes.0 (launched before) refl (inspects_here (situation before) before question causes.0 standing inspects) causes.2 (was.held standing),
-  λ b answer. standing_of (situation before) before question causes.0 b inspects (let e = sym causes.2.answer_is ∙ answer in cc),
+  λ standing. shown before request question step causes.0 (launched before) refl
+      (inspects_here (situation before) before question causes.0 standing inspects) causes.2 (was.held standing),
+  λ b answer. standing_of (situation before) before question causes.0 b inspects
+      (let e = sym causes.2.answer_is ∙ answer in cc),
 )
   where
     each : EachTaken (λ e. Unit {0}) Stood past
-    each = along (λ e. Unit {0}) (EachTaken (λ e. Unit {0}) Stood) (each_kept (λ e. Unit {0}) Stood (stood_kept (λ e. Unit {0}))) (each_first (λ e. Unit {0}) Stood (λ is. absurd is)) events past rest (any_events events) history
+    each = along (λ e. Unit {0}) (EachTaken (λ e. Unit {0}) Stood)
+        (each_kept (λ e. Unit {0}) Stood (stood_kept (λ e. Unit {0})))
+        (each_first (λ e. Unit {0}) Stood (λ is. absurd is)) events past rest (any_events events) history
 
     was : WasTaken (λ e. Unit {0}) Stood before step
     was = each.each before step asks.after asks.past_is
 
-    causes : (reply : Reply) × RepliesIn (situation before) before request.body reply × Answers request.seq (name_of request.body) reply step
+    causes : (reply : Reply) × RepliesIn (situation before) before request.body reply
+        × Answers request.seq (name_of request.body) reply step
     causes = subst (λ i. Causes before i step) asks.item_is was.causes
 
     inspects : InspectsIn (situation before) before question causes.0

@@ -39,14 +39,16 @@ use Rattle.dap_history.proofs.Progress.{decided}
 abbrev pub here_if : Bool → History → Option History
 here_if starts past = if starts then Some past else None
 
-pub before_start-snoc : (past : History) (step : Step) → before_start (past ++ step ∷ []) ≡ or_else (before_start past) (here_if (starts_by step.answer) past)
+pub before_start-snoc : (past : History) (step : Step) → before_start (past ++ step ∷ []) ≡ or_else (before_start past)
+    (here_if (starts_by step.answer) past)
 before_start-snoc [] step = refl
 before_start-snoc (s ∷ past) step =
     ap (λ o. if starts_by s.answer then Some [] else option_map (λ before. s ∷ before) o) (before_start-snoc past step)
     ∙ by_test (starts_by s.answer) (before_start past) (starts_by step.answer)
   where
     by_test : (b : Bool) (o : Option History) (c : Bool)
-        → (if b then Some [] else option_map (λ before. s ∷ before) (or_else o (here_if c past))) ≡ or_else (if b then Some [] else option_map (λ before. s ∷ before) o) (here_if c (s ∷ past))
+        → (if b then Some [] else option_map (λ before. s ∷ before) (or_else o (here_if c past))) ≡ or_else
+        (if b then Some [] else option_map (λ before. s ∷ before) o) (here_if c (s ∷ past))
     by_test true o c = refl
     by_test false None true = refl
     by_test false None false = refl
@@ -70,30 +72,39 @@ young_mark (Some Stopped) is = absurd is
 young_mark (Some Faulted) is = absurd is
 young_mark (Some Ended) is = absurd is
 
-early_there : (past : History) (item : Item) (step : Step) → Causes past item step → IsEarlyMark (step_mark step) → IsYoung (situation past)
+early_there : (past : History) (item : Item) (step : Step) → Causes past item step → IsEarlyMark (step_mark step)
+    → IsYoung (situation past)
 early_there past (Content None) step is mark = absurd (unanswered_late step is.answer_is mark)
 early_there past (Content (Some request)) step is mark =
-    subst IsYoung (sym (early_reply (situation past) past request.body is.0 is.1 (decided (answer_mark (name_of request.body) is.0.result) (λ late. answered_late _ _ is.0 step is.2 late mark)))) tt
-early_there past (Loaded launch file) step is mark = absurd (answered_late _ _ is.0 step is.2 (result_late (name.Supported supported.Launch) (λ x. x) is.0.result) mark)
+    subst IsYoung (sym (early_reply (situation past) past request.body is.0 is.1
+    (decided (answer_mark (name_of request.body) is.0.result)
+    (λ late. answered_late _ _ is.0 step is.2 late mark)))) tt
+early_there past (Loaded launch file) step is mark =
+    absurd (answered_late _ _ is.0 step is.2 (result_late (name.Supported supported.Launch) (λ x. x) is.0.result) mark)
 early_there past (Accepted r) step is mark = absurd (unanswered_late step is.answer_is mark)
 early_there past (Fault k) step is mark = absurd (unanswered_late step is.answer_is mark)
 early_there past InputEnd step is mark = absurd (unanswered_late step is.answer_is mark)
 early_there past ReadFailure step is mark = absurd (unanswered_late step is.answer_is mark)
 early_there past MemoryFailure step is mark = absurd (unanswered_late step is.answer_is mark)
 
-loaded_ready : (Q : Incoming → Type 0) (past : History) (item : Item) → IsLoaded item → IsTaken Q past item → IsYoung (situation past)
+loaded_ready : (Q : Incoming → Type 0) (past : History) (item : Item) → IsLoaded item → IsTaken Q past item
+    → IsYoung (situation past)
 loaded_ready Q past (Loaded launch file) loaded ready = subst IsYoung (sym ready) tt
 loaded_ready Q past _ loaded taken = absurd loaded
 
 -- it was not started before
-pub was_young : (Q : Incoming → Type 0) (past : History) (step : Step) → IsTaken Q past step.item → Causes past step.item step → IsYoung (situation (past ++ step ∷ [])) → IsYoung (situation past)
-was_young Q past step taken causes young = by_mark (mark_unwrap IsYoung (step_mark step) (situation past) (subst IsYoung (situation-snoc past step) young))
+pub was_young : (Q : Incoming → Type 0) (past : History) (step : Step) → IsTaken Q past step.item
+    → Causes past step.item step → IsYoung (situation (past ++ step ∷ [])) → IsYoung (situation past)
+was_young Q past step taken causes young =
+    by_mark (mark_unwrap IsYoung (step_mark step) (situation past) (subst IsYoung (situation-snoc past step) young))
   where
     by_kind : IsEarlyMark (step_mark step) ⊎ MarkIs IsConfiguring (step_mark step) → IsYoung (situation past)
     by_kind (inl early) = early_there past step.item step causes early
-    by_kind (inr configuring) = loaded_ready Q past step.item (loaded_there past step.item step causes configuring) taken
+    by_kind (inr configuring) =
+        loaded_ready Q past step.item (loaded_there past step.item step causes configuring) taken
 
-    by_mark : MarkIs IsYoung (step_mark step) ⊎ ((step_mark step ≡ None) × IsYoung (situation past)) → IsYoung (situation past)
+    by_mark : MarkIs IsYoung (step_mark step) ⊎ ((step_mark step ≡ None) × IsYoung (situation past))
+        → IsYoung (situation past)
     by_mark (inl mark) = by_kind (young_mark (step_mark step) mark)
     by_mark (inr is) = is.1
 
@@ -105,8 +116,13 @@ LeadsOn mark = (s : Situation) × (mark ≡ Some s) × (¬ IsYoung s)
 
 enters_late : (past : History) (l : Launched) (why : Option Reason) → LeadsOn (mark_of_effect (enters past l why))
 enters_late past l None = (Running, refl, λ x. x)
-enters_late past l (Some r) =
-    (Stopped, mark_of_logs (plan past).breakpoints (position_logs l.program (plan past).breakpoints (plan past).counted_from 0) (stops (stop_of r)) ∙ by_reason r, λ x. x)
+enters_late past l (Some r) = (
+  Stopped,
+  mark_of_logs (plan past).breakpoints
+      (position_logs l.program (plan past).breakpoints (plan past).counted_from 0) (stops (stop_of r))
+      ∙ by_reason r,
+  λ x. x,
+)
   where
     by_reason : (r : Reason) → last_such message_mark (map Event (stops (stop_of r))) ≡ Some Stopped
     by_reason reason.Breakpoint = refl
@@ -115,55 +131,80 @@ enters_late past l (Some r) =
 
 -- a reply that starts the program, and where it leads
 abbrev Starts : Situation → History → Reply → Type 0
-Starts s past reply = (s ≡ Configuring) × ((l : Launched) × (launched past ≡ Some l) × (reply.effect ≡ enters past l (due_first past l)))
+Starts s past reply =
+    (s ≡ Configuring) × ((l : Launched) × (launched past ≡ Some l) × (reply.effect ≡ enters past l (due_first past l)))
 
-never : {A : Type 0} (command : CommandName) (result : Result Body Refusal) → is_start command ≡ false → starts_by (Some (Answer 0 command result)) ≡ true → A
+never : {A : Type 0} (command : CommandName) (result : Result Body Refusal) → is_start command ≡ false
+    → starts_by (Some (Answer 0 command result)) ≡ true → A
 never command (Ok b) other is = let e = sym other ∙ is in absurd cc
 never command (Err why) other is = absurd cc
 
-refused_not : {A : Type 0} (command : CommandName) (reply : Reply) (why : Refusal) → reply.result ≡ Err why → starts_by (Some (Answer 0 command reply.result)) ≡ true → A
-refused_not command reply why is starts = let e = sym (ap (λ r. starts_by (Some (Answer 0 command r))) is) ∙ starts in absurd cc
+refused_not : {A : Type 0} (command : CommandName) (reply : Reply) (why : Refusal) → reply.result ≡ Err why
+    → starts_by (Some (Answer 0 command reply.result)) ≡ true → A
+refused_not command reply why is starts =
+    let e = sym (ap (λ r. starts_by (Some (Answer 0 command r))) is) ∙ starts in absurd cc
 
-enters_so : (l : Option Launched) (past : History) (reply : Reply) → launched past ≡ l → OfProgram l (λ l. reply ≡ record { result = Ok body.None; effect = enters past l (due_first past l) }) → Starts Configuring past reply
+enters_so : (l : Option Launched) (past : History) (reply : Reply) → launched past ≡ l
+    → OfProgram l (λ l. reply ≡ record { result = Ok body.None; effect = enters past l (due_first past l) })
+    → Starts Configuring past reply
 enters_so None past reply is says = absurd says
 enters_so (Some l) past reply is says = (refl, (l, is, ap (λ (r : Reply). r.effect) says))
 
-configures_so : (s : Situation) (past : History) (reply : Reply) → ConfiguresIn s past reply → starts_by (Some (Answer 0 (name.Supported supported.ConfigurationDone) reply.result)) ≡ true → Starts s past reply
+configures_so : (s : Situation) (past : History) (reply : Reply) → ConfiguresIn s past reply
+    → starts_by (Some (Answer 0 (name.Supported supported.ConfigurationDone) reply.result)) ≡ true → Starts s past reply
 configures_so Configuring past reply is starts = enters_so (launched past) past reply refl is
-configures_so Fresh past reply is starts = refused_not (name.Supported supported.ConfigurationDone) reply _ (ap (λ (r : Reply). r.result) is) starts
-configures_so Ready past reply is starts = refused_not (name.Supported supported.ConfigurationDone) reply _ (ap (λ (r : Reply). r.result) is) starts
-configures_so Running past reply is starts = refused_not (name.Supported supported.ConfigurationDone) reply _ (ap (λ (r : Reply). r.result) is) starts
-configures_so Stopped past reply is starts = refused_not (name.Supported supported.ConfigurationDone) reply _ (ap (λ (r : Reply). r.result) is) starts
-configures_so Faulted past reply is starts = refused_not (name.Supported supported.ConfigurationDone) reply _ (ap (λ (r : Reply). r.result) is) starts
-configures_so Ended past reply is starts = refused_not (name.Supported supported.ConfigurationDone) reply _ (ap (λ (r : Reply). r.result) is) starts
+configures_so Fresh past reply is starts =
+    refused_not (name.Supported supported.ConfigurationDone) reply _ (ap (λ (r : Reply). r.result) is) starts
+configures_so Ready past reply is starts =
+    refused_not (name.Supported supported.ConfigurationDone) reply _ (ap (λ (r : Reply). r.result) is) starts
+configures_so Running past reply is starts =
+    refused_not (name.Supported supported.ConfigurationDone) reply _ (ap (λ (r : Reply). r.result) is) starts
+configures_so Stopped past reply is starts =
+    refused_not (name.Supported supported.ConfigurationDone) reply _ (ap (λ (r : Reply). r.result) is) starts
+configures_so Faulted past reply is starts =
+    refused_not (name.Supported supported.ConfigurationDone) reply _ (ap (λ (r : Reply). r.result) is) starts
+configures_so Ended past reply is starts =
+    refused_not (name.Supported supported.ConfigurationDone) reply _ (ap (λ (r : Reply). r.result) is) starts
 
-starts_so : (s : Situation) (past : History) (asked : Command) (reply : Reply) → RepliesIn s past asked reply → starts_by (Some (Answer 0 (name_of asked) reply.result)) ≡ true → Starts s past reply
+starts_so : (s : Situation) (past : History) (asked : Command) (reply : Reply) → RepliesIn s past asked reply
+    → starts_by (Some (Answer 0 (name_of asked) reply.result)) ≡ true → Starts s past reply
 starts_so s past command.ConfigurationDone reply is starts = configures_so s past reply is starts
-starts_so s past (command.BadArguments k) reply is starts = refused_not (name.Supported k) reply _ (ap (λ (r : Reply). r.result) is) starts
+starts_so s past (command.BadArguments k) reply is starts =
+    refused_not (name.Supported k) reply _ (ap (λ (r : Reply). r.result) is) starts
 starts_so s past (command.Unsupported text) reply is starts = never (name.Unsupported text) reply.result refl starts
-starts_so s past (command.Initialize a) reply is starts = never (name.Supported supported.Initialize) reply.result refl starts
+starts_so s past (command.Initialize a) reply is starts =
+    never (name.Supported supported.Initialize) reply.result refl starts
 starts_so s past (command.Launch a) reply is starts = never (name.Supported supported.Launch) reply.result refl starts
-starts_so s past (command.SetBreakpoints a) reply is starts = never (name.Supported supported.SetBreakpoints) reply.result refl starts
+starts_so s past (command.SetBreakpoints a) reply is starts =
+    never (name.Supported supported.SetBreakpoints) reply.result refl starts
 starts_so s past command.Threads reply is starts = never (name.Supported supported.Threads) reply.result refl starts
-starts_so s past (command.Resume k a) reply is starts = never (name.Supported (supported.Resume k)) reply.result refl starts
-starts_so s past (command.Retreat k a) reply is starts = never (name.Supported (supported.Retreat k)) reply.result refl starts
+starts_so s past (command.Resume k a) reply is starts =
+    never (name.Supported (supported.Resume k)) reply.result refl starts
+starts_so s past (command.Retreat k a) reply is starts =
+    never (name.Supported (supported.Retreat k)) reply.result refl starts
 starts_so s past (command.Pause a) reply is starts = never (name.Supported supported.Pause) reply.result refl starts
-starts_so s past (command.Inspect q) reply is starts = never (name.Supported (supported.Inspect (kind_of q))) reply.result refl starts
-starts_so s past command.Disconnect reply is starts = never (name.Supported supported.Disconnect) reply.result refl starts
+starts_so s past (command.Inspect q) reply is starts =
+    never (name.Supported (supported.Inspect (kind_of q))) reply.result refl starts
+starts_so s past command.Disconnect reply is starts =
+    never (name.Supported supported.Disconnect) reply.result refl starts
 
 -- an answer leads nowhere where what follows it does
-mark_through : (orders events answer : Option Situation) (s : Situation) → or_else orders events ≡ Some s → or_else orders (or_else events answer) ≡ Some s
+mark_through : (orders events answer : Option Situation) (s : Situation) → or_else orders events ≡ Some s
+    → or_else orders (or_else events answer) ≡ Some s
 mark_through None None answer s is = absurd cc
 mark_through None (Some t) answer s is = is
 mark_through (Some t) events answer s is = is
 
-late_after : (past : History) (step : Step) (seq : ℕ) (command : CommandName) (reply : Reply) → Answers seq command reply step
+late_after : (past : History) (step : Step) (seq : ℕ) (command : CommandName) (reply : Reply)
+    → Answers seq command reply step
     → (l : Launched) → reply.effect ≡ enters past l (due_first past l) → LeadsOn (step_mark step)
 late_after past step seq command reply answers l is =
     let leads = enters_late past l (due_first past l) in (
       leads.0,
-      ap (λ a. or_else (last_such order_mark step.effect.orders) (last_such message_mark (with_answer a (map Event step.effect.events)))) answers.answer_is
-          ∙ mark_through (last_such order_mark step.effect.orders) (last_such message_mark (map Event step.effect.events)) (answer_mark command reply.result) leads.0
+      ap (λ a. or_else (last_such order_mark step.effect.orders)
+          (last_such message_mark (with_answer a (map Event step.effect.events)))) answers.answer_is
+          ∙ mark_through (last_such order_mark step.effect.orders)
+          (last_such message_mark (map Event step.effect.events)) (answer_mark command reply.result) leads.0
           (ap mark_of_effect (answers.effect_is ∙ is) ∙ leads.1),
       leads.2,
     )
@@ -172,28 +213,35 @@ late_after past step seq command reply answers l is =
 
 pub data StartsBy (past : History) (step : Step) : Bool → Type 0 where
   starts_not : StartsBy past step false
-  starts_here : (l : Launched) → situation past ≡ Configuring → launched past ≡ Some l → step.effect ≡ enters past l (due_first past l) → LeadsOn (step_mark step) → StartsBy past step true
+  starts_here : (l : Launched) → situation past ≡ Configuring → launched past ≡ Some l
+      → step.effect ≡ enters past l (due_first past l) → LeadsOn (step_mark step) → StartsBy past step true
 
-by_result : (past : History) (step : Step) (seq : ℕ) (asked : Command) (reply : Reply) → RepliesIn (situation past) past asked reply → Answers seq (name_of asked) reply step
+by_result : (past : History) (step : Step) (seq : ℕ) (asked : Command) (reply : Reply)
+    → RepliesIn (situation past) past asked reply → Answers seq (name_of asked) reply step
     → (b : Bool) → starts_by (Some (Answer 0 (name_of asked) reply.result)) ≡ b → StartsBy past step b
 by_result past step seq asked reply is answers false starts = starts_not
 by_result past step seq asked reply is answers true starts =
     let so = starts_so (situation past) past asked reply is starts in
-    starts_here so.1.0 so.0 so.1.1 (answers.effect_is ∙ so.1.2) (late_after past step seq (name_of asked) reply answers so.1.0 so.1.2)
+    starts_here so.1.0 so.0 so.1.1 (answers.effect_is ∙ so.1.2)
+    (late_after past step seq (name_of asked) reply answers so.1.0 so.1.2)
 
 unanswered : (past : History) (step : Step) → step.answer ≡ None → StartsBy past step (starts_by step.answer)
 unanswered past step none = subst (λ a. StartsBy past step (starts_by a)) (sym none) starts_not
 
-loaded_not : (result : Result Body Refusal) → starts_by (Some (Answer 0 (name.Supported supported.Launch) result)) ≡ false
+loaded_not : (result : Result Body Refusal) → starts_by
+    (Some (Answer 0 (name.Supported supported.Launch) result)) ≡ false
 loaded_not (Ok b) = refl
 loaded_not (Err why) = refl
 
-pub whether_starts : (past : History) (item : Item) (step : Step) → Causes past item step → StartsBy past step (starts_by step.answer)
+pub whether_starts : (past : History) (item : Item) (step : Step) → Causes past item step
+    → StartsBy past step (starts_by step.answer)
 whether_starts past (Content None) step is = unanswered past step is.answer_is
 whether_starts past (Content (Some request)) step is =
-    subst (λ a. StartsBy past step (starts_by a)) (sym is.2.answer_is) (by_result past step request.seq request.body is.0 is.1 is.2 _ refl)
+    subst (λ a. StartsBy past step (starts_by a)) (sym is.2.answer_is)
+    (by_result past step request.seq request.body is.0 is.1 is.2 _ refl)
 whether_starts past (Loaded launch file) step is =
-    subst (λ a. StartsBy past step (starts_by a)) (sym is.2.answer_is) (subst (StartsBy past step) (sym (loaded_not is.0.result)) starts_not)
+    subst (λ a. StartsBy past step (starts_by a)) (sym is.2.answer_is)
+    (subst (StartsBy past step) (sym (loaded_not is.0.result)) starts_not)
 whether_starts past (Accepted r) step is = unanswered past step is.answer_is
 whether_starts past (Fault k) step is = unanswered past step is.answer_is
 whether_starts past InputEnd step is = unanswered past step is.answer_is
@@ -206,16 +254,20 @@ whether_starts past MemoryFailure step is = unanswered past step is.answer_is
 abbrev pub Unstarted : History → Type 0
 Unstarted past = IsYoung (situation past) → before_start past ≡ None
 
-pub unstarted_more : (Q : Incoming → Type 0) (past : History) (step : Step) → IsTaken Q past step.item → Causes past step.item step → Unstarted past → Unstarted (past ++ step ∷ [])
+pub unstarted_more : (Q : Incoming → Type 0) (past : History) (step : Step) → IsTaken Q past step.item
+    → Causes past step.item step → Unstarted past → Unstarted (past ++ step ∷ [])
 unstarted_more Q past step taken causes so_far young =
-    before_start-snoc past step ∙ ap (λ o. or_else o (here_if (starts_by step.answer) past)) (so_far before) ∙ by_start (starts_by step.answer) (whether_starts past step.item step causes)
+    before_start-snoc past step ∙ ap (λ o. or_else o (here_if (starts_by step.answer) past)) (so_far before)
+    ∙ by_start (starts_by step.answer) (whether_starts past step.item step causes)
   where
     before : IsYoung (situation past)
     before = was_young Q past step taken causes young
 
     by_start : (b : Bool) → StartsBy past step b → here_if b past ≡ None
     by_start false starts_not = refl
-    by_start true (starts_here l configuring is effect_is late) = absurd (by_mark (mark_unwrap IsYoung (step_mark step) (situation past) (subst IsYoung (situation-snoc past step) young)))
+    by_start true (starts_here l configuring is effect_is late) =
+        absurd (by_mark (mark_unwrap IsYoung (step_mark step) (situation past)
+        (subst IsYoung (situation-snoc past step) young)))
       where
         by_mark : ¬ (MarkIs IsYoung (step_mark step) ⊎ ((step_mark step ≡ None) × IsYoung (situation past)))
         by_mark (inl mark) = late.2 (subst (MarkIs IsYoung) late.1 mark)

@@ -32,7 +32,8 @@ by_reply past None no_go run is = absurd cc
 by_reply past (Some other) (of_text run' l launch text begins) run is =
     let same : other ≡ run = cc in (l, launch, ap (λ (h : Heading). h.text) (sym same) ∙ text)
 
-as_report : (text : List ℕ) (end : ℕ) (o : Option Heading) → GoesAs text end o → (run : Heading) → o ≡ Some run → run.text ≡ text
+as_report : (text : List ℕ) (end : ℕ) (o : Option Heading) → GoesAs text end o → (run : Heading) → o ≡ Some run
+    → run.text ≡ text
 as_report text end None no_run run is = absurd cc
 as_report text end (Some other) (as_text run' is_text begins) run is =
     let same : other ≡ run = cc in ap (λ (h : Heading). h.text) (sym same) ∙ is_text
@@ -46,24 +47,36 @@ run_of_effect : (step : Step) (effect : Effect) → step.effect ≡ effect → r
 run_of_effect step effect is = ap (λ (e : Effect). last_such go e.orders) is
 
 module _ (one : OneProgram) (joins : WrittenJoins) where
-  of_report : (past : History) (r : PlainReport) → Accepts past r → Ran one joins past → (run : Heading) → run.text ≡ r.text → (l : Option Launched) → launched past ≡ l → OfLaunched past run
-  of_report past r accepts ran run text None is = absurd (let e = sym (ran.so_far.progress None is).1 ∙ accepts.run_is in cc)
-  of_report past r accepts ran run text (Some l) is = (l, is, text ∙ report_text one joins past r l accepts (ran.so_far.progress (Some l) is))
+  of_report : (past : History) (r : PlainReport) → Accepts past r → Ran one joins past → (run : Heading)
+      → run.text ≡ r.text → (l : Option Launched) → launched past ≡ l → OfLaunched past run
+  of_report past r accepts ran run text None is =
+      absurd (let e = sym (ran.so_far.progress None is).1 ∙ accepts.run_is in cc)
+  of_report past r accepts ran run text (Some l) is =
+      (l, is, text ∙ report_text one joins past r l accepts (ran.so_far.progress (Some l) is))
 
-  pub of_launched : (past : History) (item : Item) (step : Step) → IsTaken IsLawfulEvent past item → Causes past item step → Ran one joins past → (run : Heading) → run_in step ≡ Some run → OfLaunched past run
-  of_launched past (Content None) step taken is ran run run_is = let e = sym (run_of_effect step _ is.effect_is) ∙ run_is in absurd cc
+  pub of_launched : (past : History) (item : Item) (step : Step) → IsTaken IsLawfulEvent past item
+      → Causes past item step → Ran one joins past → (run : Heading) → run_in step ≡ Some run → OfLaunched past run
+  of_launched past (Content None) step taken is ran run run_is =
+      let e = sym (run_of_effect step _ is.effect_is) ∙ run_is in absurd cc
   of_launched past (Content (Some request)) step taken is ran run run_is =
-      by_reply past (last_such go is.0.effect.orders) (all_silent (situation past) past request.body is.0 is.1).goes run (sym (run_of_effect step _ is.2.effect_is) ∙ run_is)
+      by_reply past (last_such go is.0.effect.orders) (all_silent (situation past) past request.body is.0 is.1).goes run
+      (sym (run_of_effect step _ is.2.effect_is) ∙ run_is)
   of_launched past (Loaded launch file) step taken is ran run run_is =
-      let e = sym (loaded_orders launch file is.0 is.1) ∙ sym (run_of_effect step _ is.2.effect_is) ∙ run_is in absurd cc
+      let e = sym (loaded_orders launch file is.0 is.1) ∙ sym (run_of_effect step _ is.2.effect_is)
+      ∙ run_is in absurd cc
   of_launched past (Accepted r) step taken is ran run run_is =
       of_report past r taken.0 ran run
-      (as_report r.text r.end (last_such go (report_effect past r r.outcome).orders) (report_goes past r r.outcome) run (sym (run_of_effect step _ is.effect_is) ∙ run_is))
+      (as_report r.text r.end (last_such go (report_effect past r r.outcome).orders) (report_goes past r r.outcome) run
+      (sym (run_of_effect step _ is.effect_is) ∙ run_is))
       (launched past) refl
-  of_launched past (Fault k) step taken is ran run run_is = let e = sym (run_of_effect step _ is.effect_is) ∙ run_is in absurd cc
-  of_launched past InputEnd step taken is ran run run_is = let e = sym (run_of_effect step _ is.effect_is) ∙ run_is in absurd cc
-  of_launched past ReadFailure step taken is ran run run_is = let e = sym (run_of_effect step _ is.effect_is) ∙ run_is in absurd cc
-  of_launched past MemoryFailure step taken is ran run run_is = let e = sym (run_of_effect step _ is.effect_is) ∙ run_is in absurd cc
+  of_launched past (Fault k) step taken is ran run run_is =
+      let e = sym (run_of_effect step _ is.effect_is) ∙ run_is in absurd cc
+  of_launched past InputEnd step taken is ran run run_is =
+      let e = sym (run_of_effect step _ is.effect_is) ∙ run_is in absurd cc
+  of_launched past ReadFailure step taken is ran run run_is =
+      let e = sym (run_of_effect step _ is.effect_is) ∙ run_is in absurd cc
+  of_launched past MemoryFailure step taken is ran run run_is =
+      let e = sym (run_of_effect step _ is.effect_is) ∙ run_is in absurd cc
 
   pub each_run_starts : EachRunStartsThere
   each_run_starts events past rest lawful history before step after run past_is orders =
@@ -71,13 +84,17 @@ module _ (one : OneProgram) (joins : WrittenJoins) where
         there.0,
         there.1,
         there.2,
-        starts_at (unwrap_or (end_of step.item) (position before)) (run_in step) (item_begins before step.item step was.causes) run run_is ∙ sym (position-snoc before step),
+        starts_at (unwrap_or (end_of step.item) (position before)) (run_in step)
+            (item_begins before step.item step was.causes) run run_is ∙ sym (position-snoc before step),
         under.0 ∙ ap (λ (p : Plan). p.breakpoints) (sym (plan-snoc before step)),
         under.1 ∙ ap (λ (p : Plan). p.counted_from) (sym (plan-snoc before step)),
       )
     where
       each : EachTaken IsLawfulEvent (Ran one joins) past
-      each = along IsLawfulEvent (EachTaken IsLawfulEvent (Ran one joins)) (each_kept IsLawfulEvent (Ran one joins) (ran_kept one joins)) (each_first IsLawfulEvent (Ran one joins) (ran_first one joins)) events past rest (lawful_events events lawful) history
+      each = along IsLawfulEvent (EachTaken IsLawfulEvent (Ran one joins))
+          (each_kept IsLawfulEvent (Ran one joins) (ran_kept one joins))
+          (each_first IsLawfulEvent (Ran one joins) (ran_first one joins)) events past rest
+          (lawful_events events lawful) history
 
       was : WasTaken IsLawfulEvent (Ran one joins) before step
       was = each.each before step after past_is
@@ -85,5 +102,7 @@ module _ (one : OneProgram) (joins : WrittenJoins) where
       run_is : run_in step ≡ Some run
       run_is = ordered_last before step run was.causes orders
 
-      under : (run.plan ≡ (unwrap_or step.effect.put_in (plan before)).breakpoints) × (run.counted_from ≡ (unwrap_or step.effect.put_in (plan before)).counted_from)
-      under = ordered_under before (back_in step.item) step.effect.put_in (run_in step) (item_ordered before step.item step was.taken was.causes) run run_is
+      under : (run.plan ≡ (unwrap_or step.effect.put_in (plan before)).breakpoints)
+          × (run.counted_from ≡ (unwrap_or step.effect.put_in (plan before)).counted_from)
+      under = ordered_under before (back_in step.item) step.effect.put_in (run_in step)
+          (item_ordered before step.item step was.taken was.causes) run run_is

@@ -47,11 +47,14 @@ module _ (B : Type 0) (P : Outgoing → Type 0) (f : Outgoing → Option B) wher
   abbrev QuietEvents : List EventBody → Type 0
   QuietEvents es = Quiet Outgoing B P f (map Event es)
 
-  after_numbers : ((v : ℤ) → ¬ P (Event (event.Output v))) → (vs : List ℤ) (es : List EventBody) → QuietEvents es → QuietEvents (map event.Output vs ++ es)
+  after_numbers : ((v : ℤ) → ¬ P (Event (event.Output v))) → (vs : List ℤ) (es : List EventBody) → QuietEvents es
+      → QuietEvents (map event.Output vs ++ es)
   after_numbers not [] es quiet = quiet
   after_numbers not (v ∷ vs) es quiet = ((λ is. absurd (not v is)), after_numbers not vs es quiet)
 
-  after_logs : ((text : List ℕ) → ¬ P (Event (event.Log text))) → (bs : List Breakpoint) (ls : List Log) (es : List EventBody) → QuietEvents es → QuietEvents (told_logs bs ls ++ es)
+  after_logs : ((text : List ℕ) → ¬ P (Event (event.Log text)))
+      → (bs : List Breakpoint) (ls : List Log) (es : List EventBody) → QuietEvents es
+      → QuietEvents (told_logs bs ls ++ es)
   after_logs not bs [] es quiet = quiet
   after_logs not bs (l ∷ ls) es quiet = ((λ is. absurd (not _ is)), after_logs not bs ls es quiet)
 
@@ -60,34 +63,47 @@ module _ (B : Type 0) (P : Outgoing → Type 0) (f : Outgoing → Option B) wher
 
   -- ---- of steps
 
-  unanswered_quiet : (step : Step) (effect : Effect) → HasEffect effect step → QuietEvents effect.events → Quiet Outgoing B P f (messages step)
+  unanswered_quiet : (step : Step) (effect : Effect) → HasEffect effect step → QuietEvents effect.events
+      → Quiet Outgoing B P f (messages step)
   unanswered_quiet step effect has quiet =
       subst (λ a. Quiet Outgoing B P f (with_answer a (map Event step.effect.events))) (sym has.answer_is)
       (subst (λ (e : Effect). QuietEvents e.events) (sym has.effect_is) quiet)
 
   answered_quiet : ((seq : ℕ) (command : CommandName) (result : Result Body Refusal) → ¬ P (Answer seq command result))
-      → (seq : ℕ) (command : CommandName) (result : Result Body Refusal) (step : Step) (effect : Effect) → step.answer ≡ Some (Answer seq command result) → step.effect ≡ effect → QuietEvents effect.events
+      → (seq : ℕ) (command : CommandName) (result : Result Body Refusal) (step : Step) (effect : Effect)
+      → step.answer ≡ Some (Answer seq command result) → step.effect ≡ effect → QuietEvents effect.events
       → Quiet Outgoing B P f (messages step)
   answered_quiet not seq command result step effect answer is quiet =
       subst (λ a. Quiet Outgoing B P f (with_answer a (map Event step.effect.events))) (sym answer)
       ((λ kind. absurd (not seq command result kind)), subst (λ (e : Effect). QuietEvents e.events) (sym is) quiet)
 
-  module _ (no_answer : (seq : ℕ) (command : CommandName) (result : Result Body Refusal) → ¬ P (Answer seq command result)) (of_reply : (past : History) (starts : Bool) (effect : Effect) → LogsBy (situation past) past effect.events starts → numbers_in effect.events ≡ [] → QuietEvents effect.events) (of_report : (past : History) (r : PlainReport) → QuietEvents (outputs past r ++ following past r.outcome)) (of_initialized : QuietEvents (event.Initialized ∷ [])) where
-    launch_quiet : (launch : Launch) (file : Option (List ℕ)) (reply : Reply) → Launches launch.arguments file reply → QuietEvents reply.effect.events
+  module _ (no_answer : (seq : ℕ) (command : CommandName) (result : Result Body Refusal)
+      → ¬ P (Answer seq command result)) (of_reply : (past : History) (starts : Bool) (effect : Effect)
+      → LogsBy (situation past) past effect.events starts → numbers_in effect.events ≡ [] → QuietEvents effect.events)
+      (of_report : (past : History) (r : PlainReport) → QuietEvents (outputs past r ++ following past r.outcome))
+      (of_initialized : QuietEvents (event.Initialized ∷ [])) where
+    launch_quiet : (launch : Launch) (file : Option (List ℕ)) (reply : Reply) → Launches launch.arguments file reply
+        → QuietEvents reply.effect.events
     launch_quiet launch None reply is = subst (λ (r : Reply). QuietEvents r.effect.events) (sym is) tt
-    launch_quiet launch (Some text) reply (inl is) = subst (λ (r : Reply). QuietEvents r.effect.events) (sym is.reply_is) tt
-    launch_quiet launch (Some text) reply (inr is) = subst (λ (r : Reply). QuietEvents r.effect.events) (sym is.reply_is) of_initialized
+    launch_quiet launch (Some text) reply (inl is) =
+        subst (λ (r : Reply). QuietEvents r.effect.events) (sym is.reply_is) tt
+    launch_quiet launch (Some text) reply (inr is) =
+        subst (λ (r : Reply). QuietEvents r.effect.events) (sym is.reply_is) of_initialized
 
-    pub step_quiet : (past : History) (item : Item) (step : Step) → IsTaken IsLawfulEvent past item → Causes past item step → Quiet Outgoing B P f (messages step)
+    pub step_quiet : (past : History) (item : Item) (step : Step) → IsTaken IsLawfulEvent past item
+        → Causes past item step → Quiet Outgoing B P f (messages step)
     step_quiet past (Content None) step taken is = unanswered_quiet step _ is tt
     step_quiet past (Content (Some request)) step taken is =
         let silent = all_silent (situation past) past request.body is.0 is.1 in
-        answered_quiet no_answer _ _ _ step is.0.effect is.2.answer_is is.2.effect_is (of_reply past _ is.0.effect silent.logs silent.no_numbers)
+        answered_quiet no_answer _ _ _ step is.0.effect is.2.answer_is is.2.effect_is
+        (of_reply past _ is.0.effect silent.logs silent.no_numbers)
     step_quiet past (Loaded launch file) step taken is =
-        answered_quiet no_answer _ _ _ step is.0.effect is.2.answer_is is.2.effect_is (launch_quiet launch file is.0 is.1)
+        answered_quiet no_answer _ _ _ step is.0.effect is.2.answer_is is.2.effect_is
+        (launch_quiet launch file is.0 is.1)
     step_quiet past (Accepted r) step taken is =
         unanswered_quiet step _ is
-        (subst QuietEvents (sym (report_events past r r.outcome (nothing_told taken.1.program r taken.1.lawful))) (of_report past r))
+        (subst QuietEvents (sym (report_events past r r.outcome (nothing_told taken.1.program r taken.1.lawful)))
+        (of_report past r))
     step_quiet past (Fault k) step taken is = unanswered_quiet step _ is tt
     step_quiet past InputEnd step taken is = unanswered_quiet step _ is tt
     step_quiet past ReadFailure step taken is = unanswered_quiet step _ is tt
@@ -95,14 +111,17 @@ module _ (B : Type 0) (P : Outgoing → Type 0) (f : Outgoing → Option B) wher
 
 -- ---- no number after a stop or a log, no log after a stop
 
-report_numbers_quiet : (P : Outgoing → Type 0) → ((v : ℤ) → ¬ P (Event (event.Output v))) → (past : History) (r : PlainReport) → QuietEvents ℤ P output (outputs past r ++ following past r.outcome)
+report_numbers_quiet : (P : Outgoing → Type 0) → ((v : ℤ) → ¬ P (Event (event.Output v)))
+    → (past : History) (r : PlainReport) → QuietEvents ℤ P output (outputs past r ++ following past r.outcome)
 report_numbers_quiet P not past r =
     let rest = told_logs r.plan r.logs ++ following past r.outcome in
     subst (QuietEvents ℤ P output) (sym (outputs_apart past r (following past r.outcome)))
     (after_numbers ℤ P output not (told_numbers past r) rest
-    (after_none ℤ P output rest (numbers_of_logs r.plan r.logs (following past r.outcome) ∙ following_numbers past r.outcome)))
+    (after_none ℤ P output rest (numbers_of_logs r.plan r.logs (following past r.outcome)
+    ∙ following_numbers past r.outcome)))
 
-report_texts_quiet : (past : History) (r : PlainReport) → QuietEvents (List ℕ) IsStop log_of (outputs past r ++ following past r.outcome)
+report_texts_quiet : (past : History) (r : PlainReport) → QuietEvents (List ℕ) IsStop log_of
+    (outputs past r ++ following past r.outcome)
 report_texts_quiet past r =
     let rest = told_logs r.plan r.logs ++ following past r.outcome in
     subst (QuietEvents (List ℕ) IsStop log_of) (sym (outputs_apart past r (following past r.outcome)))
@@ -110,36 +129,48 @@ report_texts_quiet past r =
     (after_logs (List ℕ) IsStop log_of (λ text no. no) r.plan r.logs (following past r.outcome)
     (after_none (List ℕ) IsStop log_of (following past r.outcome) (following_texts past r.outcome))))
 
-reply_texts_quiet : (past : History) (starts : Bool) (effect : Effect) → LogsBy (situation past) past effect.events starts → numbers_in effect.events ≡ [] → QuietEvents (List ℕ) IsStop log_of effect.events
+reply_texts_quiet : (past : History) (starts : Bool) (effect : Effect)
+    → LogsBy (situation past) past effect.events starts → numbers_in effect.events ≡ []
+    → QuietEvents (List ℕ) IsStop log_of effect.events
 reply_texts_quiet past false effect (no_logs none) no_numbers = after_none (List ℕ) IsStop log_of effect.events none
 reply_texts_quiet past true effect (logs_first l more configuring there is none) no_numbers =
     subst (QuietEvents (List ℕ) IsStop log_of) (sym is)
     (after_logs (List ℕ) IsStop log_of (λ text no. no) _ _ more (after_none (List ℕ) IsStop log_of more none))
 
-numbers_after_stops : (past : History) (step : Step) → IsTaken IsLawfulEvent past step.item → Causes past step.item step → Quiet Outgoing ℤ IsStop output (messages step)
+numbers_after_stops : (past : History) (step : Step) → IsTaken IsLawfulEvent past step.item → Causes past step.item step
+    → Quiet Outgoing ℤ IsStop output (messages step)
 numbers_after_stops past step =
-    step_quiet ℤ IsStop output (λ seq command result no. no) (λ past starts effect logs none. after_none ℤ IsStop output effect.events none) (report_numbers_quiet IsStop (λ v no. no)) ((λ no. absurd no), tt)
+    step_quiet ℤ IsStop output (λ seq command result no. no)
+    (λ past starts effect logs none. after_none ℤ IsStop output effect.events none)
+    (report_numbers_quiet IsStop (λ v no. no)) ((λ no. absurd no), tt)
     past step.item step
 
-numbers_after_logs : (past : History) (step : Step) → IsTaken IsLawfulEvent past step.item → Causes past step.item step → Quiet Outgoing ℤ IsLog output (messages step)
+numbers_after_logs : (past : History) (step : Step) → IsTaken IsLawfulEvent past step.item → Causes past step.item step
+    → Quiet Outgoing ℤ IsLog output (messages step)
 numbers_after_logs past step =
-    step_quiet ℤ IsLog output (λ seq command result no. no) (λ past starts effect logs none. after_none ℤ IsLog output effect.events none) (report_numbers_quiet IsLog (λ v no. no)) ((λ no. absurd no), tt)
+    step_quiet ℤ IsLog output (λ seq command result no. no)
+    (λ past starts effect logs none. after_none ℤ IsLog output effect.events none)
+    (report_numbers_quiet IsLog (λ v no. no)) ((λ no. absurd no), tt)
     past step.item step
 
-pub logs_after_stops : (past : History) (step : Step) → IsTaken IsLawfulEvent past step.item → Causes past step.item step → Quiet Outgoing (List ℕ) IsStop log_of (messages step)
+pub logs_after_stops : (past : History) (step : Step) → IsTaken IsLawfulEvent past step.item
+    → Causes past step.item step → Quiet Outgoing (List ℕ) IsStop log_of (messages step)
 logs_after_stops past step =
-    step_quiet (List ℕ) IsStop log_of (λ seq command result no. no) reply_texts_quiet report_texts_quiet ((λ no. absurd no), tt)
+    step_quiet (List ℕ) IsStop log_of (λ seq command result no. no) reply_texts_quiet report_texts_quiet
+    ((λ no. absurd no), tt)
     past step.item step
 
 -- ---- along a history
 
 -- what a message of this kind stands after
-pub all_so_far : (B : Type 0) (P : Outgoing → Type 0) (f : Outgoing → Option B) (front : History) (step : Step) (before : List Outgoing) (x : Outgoing) (after : List Outgoing)
+pub all_so_far : (B : Type 0) (P : Outgoing → Type 0) (f : Outgoing → Option B) (front : History) (step : Step)
+    (before : List Outgoing) (x : Outgoing) (after : List Outgoing)
     → P x → filter_map f (x ∷ []) ≡ [] → Quiet Outgoing B P f (messages step) → messages step ≡ before ++ x ∷ after
     → filter_map f (messages_of front ++ before) ≡ filter_map f (messages_of (front ++ step ∷ []))
 all_so_far B P f front step before x after kind none quiet split =
     filter_map-append f (messages_of front) before
-    ∙ ap (λ l. filter_map f (messages_of front) ++ l) (all_before Outgoing B P f (messages step) before x after kind none quiet split)
+    ∙ ap (λ l. filter_map f (messages_of front) ++ l)
+    (all_before Outgoing B P f (messages step) before x after kind none quiet split)
     ∙ sym (filter_map-append f (messages_of front) (messages step))
     ∙ ap (filter_map f) (sym (messages_of-snoc front step))
 
@@ -152,14 +183,24 @@ module _ (one : OneProgram) (joins : WrittenJoins) where
 
   pub stops_follow : StopsFollowNumbers
   stops_follow events past rest lawful history front step more past_is l is before reason after split =
-      let all = along IsLawfulEvent (EachTaken IsLawfulEvent Progress) (each_kept IsLawfulEvent Progress (progress_kept one joins)) (each_first IsLawfulEvent Progress (progress_first one joins)) events past rest (lawful_events events lawful) history in
+      let all =
+      along IsLawfulEvent (EachTaken IsLawfulEvent Progress)
+      (each_kept IsLawfulEvent Progress (progress_kept one joins))
+      (each_first IsLawfulEvent Progress (progress_first one joins)) events past rest (lawful_events events lawful)
+      history in
       let was = all.each front step more past_is in
-      all_so_far ℤ IsStop output front step before (Event (event.Stopped reason)) after tt refl (numbers_after_stops front step was.taken was.causes) split
+      all_so_far ℤ IsStop output front step before (Event (event.Stopped reason)) after tt refl
+      (numbers_after_stops front step was.taken was.causes) split
       ∙ ((now front step was).progress (Some l) is).0
 
   pub logs_follow : LogsFollowNumbers
   logs_follow events past rest lawful history front step more past_is l is before text after split =
-      let all = along IsLawfulEvent (EachTaken IsLawfulEvent Progress) (each_kept IsLawfulEvent Progress (progress_kept one joins)) (each_first IsLawfulEvent Progress (progress_first one joins)) events past rest (lawful_events events lawful) history in
+      let all =
+      along IsLawfulEvent (EachTaken IsLawfulEvent Progress)
+      (each_kept IsLawfulEvent Progress (progress_kept one joins))
+      (each_first IsLawfulEvent Progress (progress_first one joins)) events past rest (lawful_events events lawful)
+      history in
       let was = all.each front step more past_is in
-      all_so_far ℤ IsLog output front step before (Event (event.Log text)) after tt refl (numbers_after_logs front step was.taken was.causes) split
+      all_so_far ℤ IsLog output front step before (Event (event.Log text)) after tt refl
+      (numbers_after_logs front step was.taken was.causes) split
       ∙ ((now front step was).progress (Some l) is).0

@@ -29,13 +29,16 @@ logs_output bs [] = All-nil IsOutput
 logs_output bs (l ∷ ls) = All-cons IsOutput _ (told_logs bs ls) tt (logs_output bs ls)
 
 outputs_output : (past : History) (r : PlainReport) → All IsOutput (outputs past r)
-outputs_output past r = All-append IsOutput (map event.Output (told_numbers past r)) (told_logs r.plan r.logs) (numbers_output (told_numbers past r)) (logs_output r.plan r.logs)
+outputs_output past r =
+    All-append IsOutput (map event.Output (told_numbers past r)) (told_logs r.plan r.logs)
+    (numbers_output (told_numbers past r)) (logs_output r.plan r.logs)
 
 -- the events are numbers and logs, and then these
 abbrev EndsIn : List EventBody → List EventBody → Type 0
 EndsIn events last = (front : List EventBody) × All IsOutput front × (events ≡ front ++ last)
 
-report_tells : (past : History) (r : PlainReport) (e : SliceOutcome) → EndsIn (report_effect past r e).events (tells past e)
+report_tells : (past : History) (r : PlainReport) (e : SliceOutcome)
+    → EndsIn (report_effect past r e).events (tells past e)
 report_tells past r slice.More = (outputs past r, outputs_output past r, sym (append-nil (outputs past r)))
 report_tells past r (slice.Due reason) = (outputs past r, outputs_output past r, refl)
 report_tells past r slice.Held = by_pause (waiting_pause past)
@@ -48,12 +51,17 @@ report_tells past r (slice.Fault fault) = (outputs past r, outputs_output past r
 report_tells past r slice.NoMemory = ([], All-nil IsOutput, refl)
 
 pub each_report_told : EachReportIsTold
-each_report_told events past rest history before step after r past_is item_is =
-    (is.answer_is, subst (λ (e : Effect). EndsIn e.events (tells before r.outcome)) (sym is.effect_is) (report_tells before r r.outcome))
+each_report_told events past rest history before step after r past_is item_is = (
+  is.answer_is,
+  subst (λ (e : Effect). EndsIn e.events (tells before r.outcome)) (sym is.effect_is)
+      (report_tells before r r.outcome),
+)
   where
     each : EachTaken (λ e. Unit {0}) (Anything (λ e. Unit {0})) past
     each =
-        along (λ e. Unit {0}) (EachTaken (λ e. Unit {0}) (Anything (λ e. Unit {0}))) (each_kept (λ e. Unit {0}) (Anything (λ e. Unit {0})) (anything_kept (λ e. Unit {0}))) (each_first (λ e. Unit {0}) (Anything (λ e. Unit {0})) tt)
+        along (λ e. Unit {0}) (EachTaken (λ e. Unit {0}) (Anything (λ e. Unit {0})))
+        (each_kept (λ e. Unit {0}) (Anything (λ e. Unit {0})) (anything_kept (λ e. Unit {0})))
+        (each_first (λ e. Unit {0}) (Anything (λ e. Unit {0})) tt)
         events past rest (any_events events) history
 
     was : WasTaken (λ e. Unit {0}) (Anything (λ e. Unit {0})) before step

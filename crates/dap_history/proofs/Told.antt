@@ -23,7 +23,8 @@ texts_in es = filter_map log_of (map Event es)
 
 -- ---- numbers in front
 
-pub numbers_of_numbers : (vs : List ℤ) (es : List EventBody) → numbers_in (map event.Output vs ++ es) ≡ vs ++ numbers_in es
+pub numbers_of_numbers : (vs : List ℤ) (es : List EventBody) → numbers_in (map event.Output vs ++ es) ≡ vs
+    ++ numbers_in es
 numbers_of_numbers [] es = refl
 numbers_of_numbers (v ∷ vs) es = ap (λ l. v ∷ l) (numbers_of_numbers vs es)
 
@@ -31,11 +32,13 @@ pub texts_of_numbers : (vs : List ℤ) (es : List EventBody) → texts_in (map e
 texts_of_numbers [] es = refl
 texts_of_numbers (v ∷ vs) es = texts_of_numbers vs es
 
-pub stop_of_numbers : (vs : List ℤ) (es : List EventBody) → last_such stop_of_event (map event.Output vs ++ es) ≡ last_such stop_of_event es
+pub stop_of_numbers : (vs : List ℤ) (es : List EventBody) → last_such stop_of_event
+    (map event.Output vs ++ es) ≡ last_such stop_of_event es
 stop_of_numbers [] es = refl
 stop_of_numbers (v ∷ vs) es = or_else-none _ ∙ stop_of_numbers vs es
 
-pub mark_of_numbers : (vs : List ℤ) (es : List EventBody) → last_such message_mark (map Event (map event.Output vs ++ es)) ≡ last_such message_mark (map Event es)
+pub mark_of_numbers : (vs : List ℤ) (es : List EventBody) → last_such message_mark
+    (map Event (map event.Output vs ++ es)) ≡ last_such message_mark (map Event es)
 mark_of_numbers [] es = refl
 mark_of_numbers (v ∷ vs) es = or_else-none _ ∙ mark_of_numbers vs es
 
@@ -46,14 +49,17 @@ module _ (bs : List Breakpoint) where
   numbers_of_logs [] es = refl
   numbers_of_logs (l ∷ ls) es = numbers_of_logs ls es
 
-  pub texts_of_logs : (ls : List Log) (es : List EventBody) → texts_in (told_logs bs ls ++ es) ≡ map (text_of_log bs) ls ++ texts_in es
+  pub texts_of_logs : (ls : List Log) (es : List EventBody) → texts_in (told_logs bs ls ++ es) ≡ map (text_of_log bs) ls
+      ++ texts_in es
   texts_of_logs [] es = refl
   texts_of_logs (l ∷ ls) es = ap (λ ts. text_of_log bs l ∷ ts) (texts_of_logs ls es)
 
-  pub stop_of_logs : (ls : List Log) (es : List EventBody) → last_such stop_of_event (told_logs bs ls ++ es) ≡ last_such stop_of_event es
+  pub stop_of_logs : (ls : List Log) (es : List EventBody) → last_such stop_of_event (told_logs bs ls ++ es) ≡ last_such
+      stop_of_event es
   stop_of_logs [] es = refl
   stop_of_logs (l ∷ ls) es = or_else-none _ ∙ stop_of_logs ls es
 
-  pub mark_of_logs : (ls : List Log) (es : List EventBody) → last_such message_mark (map Event (told_logs bs ls ++ es)) ≡ last_such message_mark (map Event es)
+  pub mark_of_logs : (ls : List Log) (es : List EventBody) → last_such message_mark
+      (map Event (told_logs bs ls ++ es)) ≡ last_such message_mark (map Event es)
   mark_of_logs [] es = refl
   mark_of_logs (l ∷ ls) es = or_else-none _ ∙ mark_of_logs ls es

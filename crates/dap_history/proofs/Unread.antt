@@ -51,52 +51,74 @@ open_first = record { no_frame = no_frame_first; no_fault = no_fault_first }
 abbrev Unread : History → Rest → Type 0
 Unread past rest = IsTaking past → rest.launch ≡ None → IsOpen rest.bytes
 
-unread_same : (past : History) (rest : Rest) (new : History) (left : Rest) → new ≡ past → left ≡ rest → Unread past rest → Unread new left
-unread_same past rest new left same there here = subst (λ h. Unread h left) (sym same) (subst (λ r. Unread past r) (sym there) here)
+unread_same : (past : History) (rest : Rest) (new : History) (left : Rest) → new ≡ past → left ≡ rest → Unread past rest
+    → Unread new left
+unread_same past rest new left same there here =
+    subst (λ h. Unread h left) (sym same) (subst (λ r. Unread past r) (sym there) here)
 
-unread_rests : (past : History) (bytes : List ℕ) {new : History} {rest : Rest} → Rests past bytes new rest → Unread new rest
+unread_rests : (past : History) (bytes : List ℕ) {new : History} {rest : Rest} → Rests past bytes new rest
+    → Unread new rest
 unread_rests past bytes (closed not) taking none = absurd (not taking)
 unread_rests past bytes (open_ended taking_ is) taking none = is
-unread_rests past bytes (faulty k new taking_ is after) taking none = absurd (closes_for_good past (Fault k) new _ refl after taking)
+unread_rests past bytes (faulty k new taking_ is after) taking none =
+    absurd (closes_for_good past (Fault k) new _ refl after taking)
 unread_rests past bytes (waits request launch more taking_ front wanted) taking none = absurd cc
 
-unread_all : (past : History) (bytes : List ℕ) (new : History) (rest : Rest) → TakesAll past bytes new rest → Unread new rest
+unread_all : (past : History) (bytes : List ℕ) (new : History) (rest : Rest) → TakesAll past bytes new rest
+    → Unread new rest
 unread_all past bytes new rest all = unread_rests all.mid all.left all.rests
 
-unread_may : (past : History) (rest left : Rest) (item : Item) (new : History) (by : Ending) → closing item ≡ Some by → MayTake past item new × (left ≡ rest) → Unread past rest → Unread new left
+unread_may : (past : History) (rest left : Rest) (item : Item) (new : History) (by : Ending) → closing item ≡ Some by
+    → MayTake past item new × (left ≡ rest) → Unread past rest → Unread new left
 unread_may past rest left item new by closes (inl is, same) here = unread_same past rest new left is.1 same here
-unread_may past rest left item new by closes (inr is, same) here = λ taking none. absurd (closes_for_good past item new by closes is.1 taking)
+unread_may past rest left item new by closes (inr is, same) here =
+    λ taking none. absurd (closes_for_good past item new by closes is.1 taking)
 
-unread_piece : (past : History) (launch : Option Launch) (bytes : List ℕ) (new : History) (left : Rest) → LeadsByPiece past launch bytes new left → Unread new left
+unread_piece : (past : History) (launch : Option Launch) (bytes : List ℕ) (new : History) (left : Rest)
+    → LeadsByPiece past launch bytes new left → Unread new left
 unread_piece past None bytes new left all = unread_all past bytes new left all
-unread_piece past (Some launch) bytes new left is = λ taking none. let e = sym (ap (λ (r : Rest). r.launch) is.1) ∙ none in absurd cc
+unread_piece past (Some launch) bytes new left is =
+    λ taking none. let e = sym (ap (λ (r : Rest). r.launch) is.1) ∙ none in absurd cc
 
-unread_file : (past : History) (rest : Rest) (launch : Option Launch) (file : Result (List ℕ) LoadFault) (new : History) (left : Rest) → LeadsByFile past rest launch file new left → Unread past rest → Unread new left
+unread_file : (past : History) (rest : Rest) (launch : Option Launch) (file : Result (List ℕ) LoadFault) (new : History)
+    (left : Rest) → LeadsByFile past rest launch file new left → Unread past rest → Unread new left
 unread_file past rest None file new left is here = unread_same past rest new left is.0 is.1 here
 unread_file past rest (Some launch) (Ok file) new left (inl is) here = unread_same past rest new left is.1 is.2 here
-unread_file past rest (Some launch) (Ok file) new left (inr loads) here = unread_all loads.mid rest.bytes new left loads.after
-unread_file past rest (Some launch) (Err load_fault.CannotRead) new left (inl is) here = unread_same past rest new left is.1 is.2 here
-unread_file past rest (Some launch) (Err load_fault.CannotRead) new left (inr loads) here = unread_all loads.mid rest.bytes new left loads.after
-unread_file past rest (Some launch) (Err load_fault.NoMemory) new left is here = unread_may past rest left MemoryFailure new _ refl is here
+unread_file past rest (Some launch) (Ok file) new left (inr loads) here =
+    unread_all loads.mid rest.bytes new left loads.after
+unread_file past rest (Some launch) (Err load_fault.CannotRead) new left (inl is) here =
+    unread_same past rest new left is.1 is.2 here
+unread_file past rest (Some launch) (Err load_fault.CannotRead) new left (inr loads) here =
+    unread_all loads.mid rest.bytes new left loads.after
+unread_file past rest (Some launch) (Err load_fault.NoMemory) new left is here =
+    unread_may past rest left MemoryFailure new _ refl is here
 
-unread_report : (past : History) (rest : Rest) (r : PlainReport) (new : History) (left : Rest) → LeadsByReport past r new → left ≡ rest → Unread past rest → Unread new left
+unread_report : (past : History) (rest : Rest) (r : PlainReport) (new : History) (left : Rest)
+    → LeadsByReport past r new → left ≡ rest → Unread past rest → Unread new left
 unread_report past rest r new left (inl is) same here = unread_same past rest new left is.1 same here
-unread_report past rest r new left (inr is) same here = λ taking none. subst (λ (l : Rest). IsOpen l.bytes) (sym same) (here is.0 (ap (λ (l : Rest). l.launch) (sym same) ∙ none))
+unread_report past rest r new left (inr is) same here =
+    λ taking none. subst (λ (l : Rest). IsOpen l.bytes) (sym same)
+    (here is.0 (ap (λ (l : Rest). l.launch) (sym same) ∙ none))
 
-unread_event : (past : History) (rest : Rest) (event : Incoming) (new : History) (left : Rest) → Leads past rest event new left → Unread past rest → Unread new left
-unread_event past rest (Piece piece) new left leads here = unread_piece past rest.launch (rest.bytes ++ piece) new left leads
+unread_event : (past : History) (rest : Rest) (event : Incoming) (new : History) (left : Rest)
+    → Leads past rest event new left → Unread past rest → Unread new left
+unread_event past rest (Piece piece) new left leads here =
+    unread_piece past rest.launch (rest.bytes ++ piece) new left leads
 unread_event past rest End new left leads here = unread_may past rest left InputEnd new _ refl leads here
 unread_event past rest ReadFailed new left leads here = unread_may past rest left ReadFailure new _ refl leads here
 unread_event past rest NoMemory new left leads here = unread_may past rest left MemoryFailure new _ refl leads here
 unread_event past rest (File file) new left leads here = unread_file past rest rest.launch file new left leads here
 unread_event past rest (Report r) new left leads here = unread_report past rest r new left leads.0 leads.1 here
 
-unread_from : (past : History) (rest : Rest) (events : List Incoming) (new : History) (left : Rest) → LeadsAll past rest events new left → Unread past rest → Unread new left
+unread_from : (past : History) (rest : Rest) (events : List Incoming) (new : History) (left : Rest)
+    → LeadsAll past rest events new left → Unread past rest → Unread new left
 unread_from past rest [] new left all here = unread_same past rest new left all.0 all.1 here
-unread_from past rest (e ∷ events) new left all here = unread_from all.0 all.1 events new left all.3 (unread_event past rest e all.0 all.1 all.2 here)
+unread_from past rest (e ∷ events) new left all here =
+    unread_from all.0 all.1 events new left all.3 (unread_event past rest e all.0 all.1 all.2 here)
 
 pub rest_is_open : RestIsOpen
 rest_is_open events past rest history taking = (
   unread_from [] (only_bytes []) events past rest history (λ taking none. open_first) taking,
-  along_waits (λ e. Unit {0}) (Anything (λ e. Unit {0})) (anything_kept (λ e. Unit {0})) tt events past rest (any_events events) history taking,
+  along_waits (λ e. Unit {0}) (Anything (λ e. Unit {0})) (anything_kept (λ e. Unit {0})) tt events past rest
+      (any_events events) history taking,
 )

@@ -23,19 +23,24 @@ last_due_below : (main : Block) (bs : List Breakpoint) (n : ℕ) → (stop_at (l
 last_due_below main bs zero = omega arith
 last_due_below main bs (suc m) = by_test (is_some (due main bs 0 Continue m)) (last_due_below main bs m)
   where
-    by_test : (b : Bool) → (stop_at (last_due main bs m)).position ≤ m → (stop_at (if b then Some m else last_due main bs m)).position ≤ suc m
+    by_test : (b : Bool) → (stop_at (last_due main bs m)).position ≤ m
+        → (stop_at (if b then Some m else last_due main bs m)).position ≤ suc m
     by_test true below = omega arith
     by_test false below = omega (arith, below)
 
-retreat_below : (main : Block) (bs : List Breakpoint) (mode : Mode) (n : ℕ) (s : Stop) → goal_of main bs mode n ≡ Some s → s.position ≤ n
-retreat_below main bs StepBack n s is = let same : stepped_back n ≡ s = cc in let there = ap (λ (s : Stop). s.position) same in omega (arith, there)
+retreat_below : (main : Block) (bs : List Breakpoint) (mode : Mode) (n : ℕ) (s : Stop) → goal_of main bs mode n ≡ Some s
+    → s.position ≤ n
+retreat_below main bs StepBack n s is =
+    let same : stepped_back n ≡ s = cc in let there = ap (λ (s : Stop). s.position) same in omega (arith, there)
 retreat_below main bs Reverse n s is =
-    let same : reversed main bs n ≡ s = cc in let there = ap (λ (s : Stop). s.position) same in omega (arith, there, last_due_below main bs n)
+    let same : reversed main bs n ≡ s =
+    cc in let there = ap (λ (s : Stop). s.position) same in omega (arith, there, last_due_below main bs n)
 retreat_below main bs _ n s is = absurd cc
 
 back_by : (main : Block) (r : PlainReport) {e : SliceOutcome} → GoesBackBy main r e → r.end ≤ r.start
 back_by main r (is_spent stays spent) = omega (arith, stays)
-back_by main r (has_come {reason = reason} comes) = retreat_below main r.plan r.mode r.start (record { position = r.end; reason = reason }) comes
+back_by main r (has_come {reason = reason} comes) =
+    retreat_below main r.plan r.mode r.start (record { position = r.end; reason = reason }) comes
 back_by main r (has_no_memory stays) = omega (arith, stays)
 
 pub back_end : (main : Block) (r : PlainReport) → WentBack main r → r.end ≤ r.start
@@ -49,19 +54,22 @@ took_none main r (lacks_memory stays runs) = stays
 pub written_here : (main : Block) (n : ℕ) → written main n n ≡ []
 written_here main n = let none : n - n ≡ 0 = omega arith in ap (written_from main n) none
 
-pub nothing_told : (main : Block) (r : PlainReport) → IsLawfulFor main r → r.outcome ≡ slice.NoMemory → (r.numbers ≡ []) × (r.logs ≡ [])
+pub nothing_told : (main : Block) (r : PlainReport) → IsLawfulFor main r → r.outcome ≡ slice.NoMemory → (r.numbers ≡ [])
+    × (r.logs ≡ [])
 nothing_told main r lawful is = by_went (goes_back r.mode) lawful.went
   where
     by_went : (b : Bool) → Went main r b → (r.numbers ≡ []) × (r.logs ≡ [])
     by_went false went = (
-      went.numbers ∙ ap (written main r.start) (took_none main r (subst (EndsBy main r) is went.outcome)) ∙ written_here main r.start,
+      went.numbers ∙ ap (written main r.start) (took_none main r (subst (EndsBy main r) is went.outcome))
+          ∙ written_here main r.start,
       went.logs ∙ ap (logs_told main r) is,
     )
     by_went true went = (went.numbers, went.logs)
 
 -- ---- numbers that were reported, and those that a report adds
 
-module _ (joins : WrittenJoins) (main : Block) (r : PlainReport) (before : r.before ≡ length (written main 0 r.start)) (told : List ℤ) (furthest : ℕ) (told_is : told ≡ written main 0 furthest) (begun : r.start ≤ furthest) where
+module _ (joins : WrittenJoins) (main : Block) (r : PlainReport) (before : r.before ≡ length (written main 0 r.start))
+    (told : List ℤ) (furthest : ℕ) (told_is : told ≡ written main 0 furthest) (begun : r.start ≤ furthest) where
   abbrev Joined : Type 0
   Joined = told ++ drop (length told - r.before) r.numbers ≡ written main 0 (max furthest r.end)
 
@@ -84,13 +92,15 @@ module _ (joins : WrittenJoins) (main : Block) (r : PlainReport) (before : r.bef
       let own = ap length went.numbers in
       let enough : length r.numbers ≤ length told - r.before = let l = lengths in omega (arith, l, total, own) in
       let same : max furthest r.end ≡ furthest = omega (arith, within) in
-      ap (λ l. told ++ l) (drop_of_length-le r.numbers enough) ∙ append-nil told ∙ told_is ∙ ap (written main 0) (sym same)
+      ap (λ l. told ++ l) (drop_of_length-le r.numbers enough) ∙ append-nil told ∙ told_is
+      ∙ ap (written main 0) (sym same)
 
   -- those beyond were not
   some_told : WentOn main r → furthest ≤ r.end → Joined
   some_told went beyond =
       let split = went.numbers ∙ sym (joins main r.start furthest r.end begun beyond) in
-      let count : length told - r.before ≡ length (written main r.start furthest) = let l = lengths in omega (arith, l) in
+      let count : length told - r.before ≡ length (written main r.start furthest) =
+      let l = lengths in omega (arith, l) in
       let same : max furthest r.end ≡ r.end = omega (arith, beyond) in
       ap (λ n. told ++ drop n r.numbers) count
       ∙ ap (λ l. told ++ drop (length (written main r.start furthest)) l) split
@@ -110,7 +120,9 @@ module _ (joins : WrittenJoins) (main : Block) (r : PlainReport) (before : r.bef
       ∙ ap (written main 0) (sym same)
 
   pub told_joins : (b : Bool) → Went main r b → Joined
-  told_joins false went = ⊎_elim (λ (below : r.end ≤ furthest). all_told went below) (λ (beyond : furthest ≤ r.end). some_told went beyond) (by_order (cases_lt r.end furthest))
+  told_joins false went =
+      ⊎_elim (λ (below : r.end ≤ furthest). all_told went below) (λ (beyond : furthest ≤ r.end). some_told went beyond)
+      (by_order (cases_lt r.end furthest))
     where
       by_order : (suc r.end ≤ furthest) ⊎ (furthest ≤ r.end) → (r.end ≤ furthest) ⊎ (furthest ≤ r.end)
       by_order (inl less) = inl (omega (arith, less))

@@ -55,7 +55,8 @@ AreAskedAs less _ _ = ⊥
 
 -- Each line is answered from the program alone. The breakpoints are those that were answered with a step, in the order
 -- asked.
-pub record IsResolved (main : Block) (less : ℕ) (lines : List SourceBreakpoint) (answers : List Resolution) (breakpoints : List Breakpoint) : Type 0 where
+pub record IsResolved (main : Block) (less : ℕ) (lines : List SourceBreakpoint) (answers : List Resolution)
+    (breakpoints : List Breakpoint) : Type 0 where
   pub asked : List AskedLine
   pub as_asked : AreAskedAs less lines asked
   pub resolved : AreResolved main asked answers breakpoints
@@ -82,12 +83,14 @@ other_source lines = answered (body.Breakpoints (map (λ b. answer.Unverified wh
 abbrev pub hold_once : History → List PlainOrder
 hold_once past = if is_held past || is_back past then [] else Hold (runs past) ∷ []
 
--- Where the session has the debuggee, the plan is put in at once: before `configurationDone` it counts from position 0, and
--- later from the position after the one where the program stands. During a run the breakpoints wait.
+-- Where the session has the debuggee, the plan is put in at once: before `configurationDone` it counts from position 0,
+-- and later from the position after the one where the program stands. During a run the breakpoints wait.
 abbrev pub effect_in : Situation → History → List Breakpoint → Effect
 effect_in Configuring past bs = record nothing { put_in = Some (record { breakpoints = bs; counted_from = 0 }) }
-effect_in Stopped past bs = record nothing { put_in = Some (record { breakpoints = bs; counted_from = position past + 1 }) }
-effect_in Faulted past bs = record nothing { put_in = Some (record { breakpoints = bs; counted_from = position past + 1 }) }
+effect_in Stopped past bs =
+    record nothing { put_in = Some (record { breakpoints = bs; counted_from = position past + 1 }) }
+effect_in Faulted past bs =
+    record nothing { put_in = Some (record { breakpoints = bs; counted_from = position past + 1 }) }
 effect_in Running past bs = record nothing { waits = Some bs; orders = hold_once past }
 effect_in Ended past bs = nothing
 effect_in Fresh past bs = nothing
@@ -98,7 +101,8 @@ pub record Resolves (past : History) (l : Launched) (lines : List SourceBreakpoi
   pub answers : List Resolution
   pub breakpoints : List Breakpoint
   pub resolved : IsResolved l.program (line_offset past) lines answers breakpoints
-  pub reply_is : reply ≡ causing (body.Breakpoints (map (answer_of l.program (line_offset past)) answers)) (effect_in (situation past) past breakpoints)
+  pub reply_is : reply ≡ causing (body.Breakpoints (map (answer_of l.program (line_offset past)) answers))
+      (effect_in (situation past) past breakpoints)
 
 -- the source is at this path
 abbrev pub is_at : Option (List ℕ) → List ℕ → Bool

@@ -28,8 +28,8 @@ end_in number _ = None
 abbrev pub run_end : History → Heading → ℕ
 run_end past run = unwrap_or (last_such (λ step. end_in run.run step.item) past) run.start
 
--- The positions that a run considered: those after its beginning, up to where it has come. A run that goes back considers
--- no position again.
+-- The positions that a run considered: those after its beginning, up to where it has come. A run that goes back
+-- considers no position again.
 abbrev pub considered : History → Heading → List ℕ
 considered past run = if goes_back run.mode then [] else range_with_len (run.start + 1) (run_end past run - run.start)
 
@@ -48,7 +48,8 @@ starts_by _ = false
 -- the steps before the one that started the program, if one did
 abbrev pub before_start : History → Option History
 before_start [] = None
-before_start (step ∷ past) = if starts_by step.answer then Some [] else option_map (λ before. step ∷ before) (before_start past)
+before_start (step ∷ past) =
+    if starts_by step.answer then Some [] else option_map (λ before. step ∷ before) (before_start past)
 
 -- ---- logs
 

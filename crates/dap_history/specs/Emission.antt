@@ -26,7 +26,8 @@ abbrev pub threads_in : Situation → Reply
 threads_in Fresh = refused refusal.WrongPhase
 threads_in _ = answered body.Threads
 
--- The reply to a command. A `launch` in the situation Ready isn't replied to here: it is answered once its file has come.
+-- The reply to a command. A `launch` in the situation Ready isn't replied to here: it is answered once its file has
+-- come.
 abbrev pub RepliesIn : Situation → History → Command → Reply → Type 0
 RepliesIn s past (command.Initialize asked) reply = reply ≡ initialize_in s
 RepliesIn s past (command.Launch asked) reply = reply ≡ refused refusal.WrongPhase
@@ -55,9 +56,11 @@ pub record HasEffect (effect : Effect) (step : Step) : Type 0 where
 abbrev pub Causes : History → Item → Step → Type 0
 Causes past (Content None) step = HasEffect nothing step
 Causes past (Content (Some request)) step =
-    (reply : Reply) × RepliesIn (situation past) past request.body reply × Answers request.seq (name_of request.body) reply step
+    (reply : Reply) × RepliesIn (situation past) past request.body reply
+    × Answers request.seq (name_of request.body) reply step
 Causes past (Loaded launch file) step =
-    (reply : Reply) × Launches launch.arguments file reply × Answers launch.seq (name.Supported supported.Launch) reply step
+    (reply : Reply) × Launches launch.arguments file reply × Answers launch.seq (name.Supported supported.Launch) reply
+    step
 Causes past (Accepted r) step = HasEffect (report_effect past r r.outcome) step
 Causes past (Fault k) step = HasEffect nothing step
 Causes past InputEnd step = HasEffect (ordering (Quit ∷ [])) step

@@ -50,23 +50,24 @@ pub record IsInFront (bytes : List ℕ) (request : Option Request) (more : List 
   pub framed : IsFrameInFront bytes content more
   pub read : IsRequestOf content request
 
--- From the history `past`, contents at the front of the bytes that want no file are taken one after another; the history is
--- `new` then, and the bytes `left` remain.
+-- From the history `past`, contents at the front of the bytes that want no file are taken one after another; the
+-- history is `new` then, and the bytes `left` remain.
 pub data Takes : History → List ℕ → History → List ℕ → Type 0 where
   none : {past : History} {bytes : List ℕ} → Takes past bytes past bytes
   one_more : {past mid new : History} {bytes more left : List ℕ} (request : Option Request) →
       IsTaking past → IsInFront bytes request more → wanted_in (situation past) request ≡ None →
       IsAfter past (Content request) mid → Takes mid more new left → Takes past bytes new left
 
--- No further content is taken: the session is closed; or nothing complete stands at the front of the bytes; or a framing
--- fault does; or a launch does, which waits for its file.
+-- No further content is taken: the session is closed; or nothing complete stands at the front of the bytes; or a
+-- framing fault does; or a launch does, which waits for its file.
 pub data Rests (past : History) (bytes : List ℕ) : History → Rest → Type 0 where
   closed : ¬ IsTaking past → Rests past bytes past (only_bytes bytes)
   open_ended : IsTaking past → IsOpen bytes → Rests past bytes past (only_bytes bytes)
   faulty : (k : FramingFault) (new : History) → IsTaking past → FaultAt bytes k → IsAfter past (Fault k) new →
       Rests past bytes new (only_bytes bytes)
   waits : (request : Option Request) (launch : Launch) (more : List ℕ) → IsTaking past → IsInFront bytes request more →
-      wanted_in (situation past) request ≡ Some launch → Rests past bytes past (record { launch = Some launch; bytes = more })
+      wanted_in (situation past) request ≡ Some launch → Rests past bytes past
+      (record { launch = Some launch; bytes = more })
 
 -- all contents of the bytes are taken that can be
 pub record TakesAll (past : History) (bytes : List ℕ) (new : History) (rest : Rest) : Type 0 where
@@ -85,7 +86,8 @@ LeadsByPiece past None bytes new left = TakesAll past bytes new left
 LeadsByPiece past (Some launch) bytes new left = (new ≡ past) × (left ≡ record { launch = Some launch; bytes = bytes })
 
 -- the file of a launch; then the contents after it
-pub record Loads (past : History) (launch : Launch) (file : Option (List ℕ)) (bytes : List ℕ) (new : History) (left : Rest) : Type 0 where
+pub record Loads (past : History) (launch : Launch) (file : Option (List ℕ)) (bytes : List ℕ) (new : History)
+    (left : Rest) : Type 0 where
   pub taking : IsTaking past
   pub mid : History
   pub loaded : IsAfter past (Loaded launch file) mid
@@ -103,7 +105,8 @@ LeadsByFile past rest (Some launch) (Err load_fault.NoMemory) new left = MayTake
 -- A report. One that isn't accepted is ignored.
 abbrev pub LeadsByReport : History → PlainReport → History → Type 0
 LeadsByReport past r new =
-    ((¬ (IsTaking past × Accepts past r)) × (new ≡ past)) ⊎ (IsTaking past × Accepts past r × IsAfter past (Accepted r) new)
+    ((¬ (IsTaking past × Accepts past r)) × (new ≡ past)) ⊎ (IsTaking past × Accepts past r
+    × IsAfter past (Accepted r) new)
 
 -- An event leads from the history `past` and the rest to the history `new` and the rest `left`.
 abbrev pub Leads : History → Rest → Incoming → History → Rest → Type 0

@@ -28,20 +28,22 @@ back_in _ = None
 abbrev pub back_of : Heading → Option Mode
 back_of run = if goes_back run.mode then Some run.mode else None
 
--- A run goes back only where `stepBack` or `reverseContinue` asks for it, in the mode that the command asks for. Where the
--- command is granted, a run is ordered.
+-- A run goes back only where `stepBack` or `reverseContinue` asks for it, in the mode that the command asks for. Where
+-- the command is granted, a run is ordered.
 abbrev pub EachGoesBackAsAsked : Type 0
 EachGoesBackAsAsked =
     (events : List Incoming) (past : History) (rest : Rest) → AreLawful events → IsHistoryOf events past rest
     → (before : History) (step : Step) (after : History) → past ≡ before ++ step ∷ after
     → ((run : Heading) → Orders step run → back_of run ≡ back_in step.item)
-    × ((m : Mode) (seq : ℕ) (name : CommandName) (b : Body) → back_in step.item ≡ Some m → step.answer ≡ Some (Answer seq name (Ok b)) → IsSome (run_in step))
+    × ((m : Mode) (seq : ℕ) (name : CommandName) (b : Body) → back_in step.item ≡ Some m
+    → step.answer ≡ Some (Answer seq name (Ok b)) → IsSome (run_in step))
 
 -- A run after one that went back counts from the position after the one where it begins.
 abbrev pub CountsBeginAnew : Type 0
 CountsBeginAnew =
     (events : List Incoming) (past : History) (rest : Rest) → AreLawful events → IsHistoryOf events past rest
-    → (before : History) (step : Step) (after : History) (run : Heading) → past ≡ before ++ step ∷ after → Orders step run
+    → (before : History) (step : Step) (after : History) (run : Heading) → past ≡ before ++ step ∷ after
+    → Orders step run
     → is_back before ≡ true → run.counted_from ≡ run.start + 1
 
 -- the number of the run that an order holds, if it holds one

@@ -18,8 +18,9 @@ pub record Launched : Type 0 where
   pub text : List ℕ
   pub program : Block
 
--- What a session takes: a content, with the request that it is, or none; a launch with its file's bytes, or none where the
--- file can't be read; a report that is accepted; a framing fault; the end of the input; a failed read; a failed allocation.
+-- What a session takes: a content, with the request that it is, or none; a launch with its file's bytes, or none where
+-- the file can't be read; a report that is accepted; a framing fault; the end of the input; a failed read; a failed
+-- allocation.
 pub data Item : Type 0 where
   Content : Option Request → Item
   Loaded : Launch → Option (List ℕ) → Item
@@ -29,8 +30,8 @@ pub data Item : Type 0 where
   ReadFailure : Item
   MemoryFailure : Item
 
--- What an item causes after its answer, if it has one: events and orders; the program that it launches; the plan that it
--- puts into the debuggee; and the breakpoints that wait until the runner returns the debuggee.
+-- What an item causes after its answer, if it has one: events and orders; the program that it launches; the plan that
+-- it puts into the debuggee; and the breakpoints that wait until the runner returns the debuggee.
 pub record Effect : Type 0 where
   pub events : List EventBody
   pub orders : List PlainOrder

@@ -29,7 +29,8 @@ pub record Asked : Type 0 where
 -- the reply to `stackTrace`
 abbrev pub stack_trace : Asked → StackTraceArguments → Configuration → Reply
 stack_trace of asked c =
-    on_thread asked.thread_id (answered (body.StackTrace of.path (frames_asked of.program of.counting asked c) (length c)))
+    on_thread asked.thread_id (answered (body.StackTrace of.path (frames_asked of.program of.counting asked c)
+    (length c)))
 
 -- the reply to `scopes`, by the frame with the id, if there is one
 abbrev pub scopes : Asked → ℕ → Configuration → Option Frame → Reply
@@ -50,12 +51,13 @@ result_reply (Err Overflow) = refused refusal.Overflow
 result_reply (Err DivideByZero) = refused refusal.DivideByZero
 
 -- the text is an expression in the scope of frame f, whose number is i, and the reply is its result there
-pub record HasResult (main : Block) (c : Configuration) (i : ℕ) (f : Frame) (text : List ℕ) (reply : Reply) : Type 0 where
-  pub expression : Expression
-  pub reads : IsExpressionOf main f.block text expression
-  pub result : Result ℤ EvalFault
-  pub result_is : value main c i expression ≡ evaluated result
-  pub reply_is : reply ≡ result_reply result
+pub record HasResult (main : Block) (c : Configuration) (i : ℕ) (f : Frame) (text : List ℕ) (reply : Reply) : Type 0
+  where
+    pub expression : Expression
+    pub reads : IsExpressionOf main f.block text expression
+    pub result : Result ℤ EvalFault
+    pub result_is : value main c i expression ≡ evaluated result
+    pub reply_is : reply ≡ result_reply result
 
 -- the text isn't an expression in the scope of frame f
 pub record HasNoReading (main : Block) (f : Frame) (text : List ℕ) (reply : Reply) : Type 0 where
@@ -84,7 +86,13 @@ RepliesAt of (Some c) question reply = RepliesFrom of c question reply
 
 -- what a question is asked of in a session
 abbrev pub asked_of : History → Launched → Asked
-asked_of past l = record { program = l.program; path = l.path; counting = record { lines = line_offset past; columns = column_offset past } }
+asked_of past l =
+    record {
+      program = l.program;
+      path = l.path;
+      counting =
+          record { lines = line_offset past; columns = column_offset past };
+    }
 
 -- the reply where the program stands
 abbrev pub Inspects : History → Question → Reply → Type 0

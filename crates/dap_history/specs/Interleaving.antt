@@ -38,8 +38,10 @@ IsLoad before _ load = ⊥
 abbrev pub Interleaves : List Incoming → List Incoming → List Incoming → List Load → Type 0
 Interleaves before [] given loads = (given ≡ []) × (loads ≡ [])
 Interleaves before (e ∷ events) given loads =
-    ((load : Load) × (more : List Load) × (loads ≡ load ∷ more) × IsLoad before e load × Interleaves (before ++ e ∷ []) events given more)
-    ⊎ ((more : List Incoming) × (given ≡ e ∷ more) × AwaitsNone before × Interleaves (before ++ e ∷ []) events more loads)
+    ((load : Load) × (more : List Load) × (loads ≡ load ∷ more) × IsLoad before e load
+    × Interleaves (before ++ e ∷ []) events given more)
+    ⊎ ((more : List Incoming) × (given ≡ e ∷ more) × AwaitsNone before
+    × Interleaves (before ++ e ∷ []) events more loads)
 
 -- The last event is the loader's answer that it is out of memory, which the loader doesn't store. A launch waited for
 -- that answer.

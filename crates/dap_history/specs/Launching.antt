@@ -43,7 +43,17 @@ syntax kind place = refusal.Syntax (fault_number kind) place.line place.column
 -- what a launch of this program causes
 abbrev pub launches : LaunchArguments → List ℕ → Block → Effect
 launches arguments text program =
-    record nothing { events = event.Initialized ∷ []; launched = Some (record { path = arguments.program; stop_on_entry = arguments.stop_on_entry; text = text; program = program }) }
+    record nothing {
+      events = event.Initialized ∷ [];
+      launched = Some
+          (record {
+            path =
+                arguments.program;
+            stop_on_entry = arguments.stop_on_entry;
+            text = text;
+            program = program;
+          });
+    }
 
 -- the text has faults, and the first of them is reported
 pub record RefusesText (text : List ℕ) (reply : Reply) : Type 0 where

@@ -37,12 +37,14 @@ use Rattle.dap_history.specs.Output.{frames_from}
 -- A list of events has at most one history, and leaves one rest.
 abbrev pub HistoryIsOne : Type 0
 HistoryIsOne =
-    (events : List Incoming) (past other : History) (rest left : Rest) → IsHistoryOf events past rest → IsHistoryOf events other left
+    (events : List Incoming) (past other : History) (rest left : Rest) → IsHistoryOf events past rest
+    → IsHistoryOf events other left
     → (past ≡ other) × (rest ≡ left)
 
 -- An item leads from a history to at most one other: what it is answered with and what it causes is determined.
 abbrev pub ItemsLeadToOne : Type 0
-ItemsLeadToOne = (past : History) (item : Item) (new other : History) → IsAfter past item new → IsAfter past item other → new ≡ other
+ItemsLeadToOne =
+    (past : History) (item : Item) (new other : History) → IsAfter past item new → IsAfter past item other → new ≡ other
 
 -- a command whose answer needs no reading of a text: neither breakpoints nor an expression
 abbrev pub IsPlain : Command → Type 0
@@ -99,20 +101,23 @@ AreRead _ _ = ⊥
 abbrev pub ContentsAreOfTheStream : Type 0
 ContentsAreOfTheStream =
     (events : List Incoming) (past : History) (rest : Rest) → IsHistoryOf events past rest
-    → (contents : List (List ℕ)) × Frames (stream_of events) contents rest.bytes × AreRead contents (contents_read past rest.launch)
+    → (contents : List (List ℕ)) × Frames (stream_of events) contents rest.bytes
+    × AreRead contents (contents_read past rest.launch)
 
 -- Two pieces give what they give as one: how the stream was cut changes no message and no order.
 abbrev pub CutsChangeNothing : Type 0
 CutsChangeNothing =
     (a b : List ℕ) (before after : List Incoming) (past : History) (rest : Rest)
-    → IsHistoryOf (before ++ (Piece a ∷ Piece b ∷ after)) past rest → IsHistoryOf (before ++ (Piece (a ++ b) ∷ after)) past rest
+    → IsHistoryOf (before ++ (Piece a ∷ Piece b ∷ after)) past rest
+    → IsHistoryOf (before ++ (Piece (a ++ b) ∷ after)) past rest
 
--- While a session takes items, nothing complete is left unread: neither a frame nor a framing fault stands at the front of
--- the rest, except while a launch waits for its file; and one waits only in the situation Ready.
+-- While a session takes items, nothing complete is left unread: neither a frame nor a framing fault stands at the front
+-- of the rest, except while a launch waits for its file; and one waits only in the situation Ready.
 abbrev pub RestIsOpen : Type 0
 RestIsOpen =
     (events : List Incoming) (past : History) (rest : Rest) → IsHistoryOf events past rest → IsTaking past
-    → (rest.launch ≡ None → IsOpen rest.bytes) × ((launch : Launch) → rest.launch ≡ Some launch → situation past ≡ Ready)
+    → (rest.launch ≡ None → IsOpen rest.bytes) × ((launch : Launch) → rest.launch ≡ Some launch
+    → situation past ≡ Ready)
 
 -- ---- Answered once
 
@@ -144,14 +149,16 @@ EachIsAnsweredOnce =
 abbrev pub SeqCountFromOne : Type 0
 SeqCountFromOne =
     (messages : List Outgoing) (n : ℕ)
-    → slice_get (frames_from 1 messages) n ≡ option_map (λ message. frame_of (text_of message (n + 1))) (slice_get messages n)
+    → slice_get (frames_from 1 messages) n ≡ option_map (λ message. frame_of (text_of message (n + 1)))
+    (slice_get messages n)
 
 -- The content of the nth frame is read as the nth message, which says that its seq is n. Seqs are numbers of 64 bits.
 abbrev pub FramesAreReadBack : Type 0
 FramesAreReadBack =
     (events : List Incoming) (past : History) (rest : Rest) → IsHistoryOf events past rest
     → (n : ℕ) (message : Outgoing) → slice_get (messages_of past) n ≡ Some message → n + 1 < 2 ^ 64
-    → (content : List ℕ) × (slice_get (frames_from 1 (messages_of past)) n ≡ Some (frame_of content)) × ReadsAsMessage message (n + 1) content
+    → (content : List ℕ) × (slice_get (frames_from 1 (messages_of past)) n ≡ Some (frame_of content))
+    × ReadsAsMessage message (n + 1) content
 
 -- ---- Last message
 
@@ -161,7 +168,8 @@ DisconnectIsLast =
     (events : List Incoming) (past : History) (rest : Rest) → IsHistoryOf events past rest
     → (before : History) (step : Step) (after : History) (seq : ℕ) → past ≡ before ++ step ∷ after
     → step.item ≡ Content (Some (record { seq = seq; body = command.Disconnect }))
-    → (after ≡ []) × (messages_of past ≡ messages_of before ++ Answer seq (name.Supported supported.Disconnect) (Ok body.None) ∷ [])
+    → (after ≡ []) × (messages_of past ≡ messages_of before ++ Answer seq (name.Supported supported.Disconnect)
+    (Ok body.None) ∷ [])
 
 -- ---- Closing
 
@@ -187,16 +195,17 @@ abbrev pub EndsWithQuit : Option Ending → List PlainOrder → Type 0
 EndsWithQuit (Some (ending.Closed by)) orders = (front : List PlainOrder) × (orders ≡ front ++ Quit ∷ [])
 EndsWithQuit _ orders = (front back : List PlainOrder) → ¬ (orders ≡ front ++ Quit ∷ back)
 
--- A session that was closed by `disconnect`, the end of the input or a failed read ordered Quit last. One that goes on or
--- gave up ordered no Quit.
+-- A session that was closed by `disconnect`, the end of the input or a failed read ordered Quit last. One that goes on
+-- or gave up ordered no Quit.
 abbrev pub QuitCloses : Type 0
 QuitCloses =
-    (events : List Incoming) (past : History) (rest : Rest) → IsHistoryOf events past rest → EndsWithQuit (ending_of past) (orders_of past)
+    (events : List Incoming) (past : History) (rest : Rest) → IsHistoryOf events past rest
+    → EndsWithQuit (ending_of past) (orders_of past)
 
 -- ---- Output order
 
--- The numbers reported are, in order, those that the program wrote up to the furthest position that it has reached, so none
--- is reported twice; there are none before it is launched.
+-- The numbers reported are, in order, those that the program wrote up to the furthest position that it has reached, so
+-- none is reported twice; there are none before it is launched.
 abbrev pub NumbersAreWritten : Type 0
 NumbersAreWritten =
     (events : List Incoming) (past : History) (rest : Rest) → AreLawful events → IsHistoryOf events past rest
@@ -210,7 +219,8 @@ StopsFollowNumbers =
     (events : List Incoming) (past : History) (rest : Rest) → AreLawful events → IsHistoryOf events past rest
     → (front : History) (step : Step) (more : History) → past ≡ front ++ step ∷ more
     → (l : Launched) → launched (front ++ step ∷ []) ≡ Some l
-    → (before : List Outgoing) (reason : StopReason) (after : List Outgoing) → messages step ≡ before ++ Event (event.Stopped reason) ∷ after
+    → (before : List Outgoing) (reason : StopReason) (after : List Outgoing) → messages step ≡ before
+    ++ Event (event.Stopped reason) ∷ after
     → numbers (messages_of front ++ before) ≡ written l.program 0 (reached (front ++ step ∷ []))
 
 -- ---- Logs
@@ -238,7 +248,8 @@ LogsFollowNumbers =
     (events : List Incoming) (past : History) (rest : Rest) → AreLawful events → IsHistoryOf events past rest
     → (front : History) (step : Step) (more : History) → past ≡ front ++ step ∷ more
     → (l : Launched) → launched (front ++ step ∷ []) ≡ Some l
-    → (before : List Outgoing) (text : List ℕ) (after : List Outgoing) → messages step ≡ before ++ Event (event.Log text) ∷ after
+    → (before : List Outgoing) (text : List ℕ) (after : List Outgoing) → messages step ≡ before
+    ++ Event (event.Log text) ∷ after
     → numbers (messages_of front ++ before) ≡ written l.program 0 (reached (front ++ step ∷ []))
 
 -- The logs reported before a stop are exactly those of the positions considered until then.
@@ -247,5 +258,6 @@ StopsFollowLogs =
     (events : List Incoming) (past : History) (rest : Rest) → AreLawful events → IsHistoryOf events past rest
     → (front : History) (step : Step) (more : History) → past ≡ front ++ step ∷ more
     → (l : Launched) → launched (front ++ step ∷ []) ≡ Some l
-    → (before : List Outgoing) (reason : StopReason) (after : List Outgoing) → messages step ≡ before ++ Event (event.Stopped reason) ∷ after
+    → (before : List Outgoing) (reason : StopReason) (after : List Outgoing) → messages step ≡ before
+    ++ Event (event.Stopped reason) ∷ after
     → logs (messages_of front ++ before) ≡ logged l (front ++ step ∷ [])

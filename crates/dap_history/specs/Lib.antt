@@ -1,5 +1,5 @@
--- The definitions that the laws and the contracts of a session cite, in reading order: they are what a reader must believe.
--- the last element of a kind in a list
+-- The definitions that the laws and the contracts of a session cite, in reading order: they are what a reader must
+-- believe. the last element of a kind in a list
 pub mod Last
 -- a plan in force
 pub mod Plans

@@ -1,4 +1,5 @@
--- States the laws of breakpoints: each run has those of the lines that were set last, and counts from where they were set.
+-- States the laws of breakpoints: each run has those of the lines that were set last, and counts from where they were
+-- set.
 use Rattle.std.specs.Prelude.{◌≡◌, ◌++◌, ◌∷◌, [], ℕ, ◌+◌, Bool, true, false, ◌||◌, if◌then◌else◌, is_some, List, Option, None, Some, option_map, unwrap_or, Ok}
 use Rattle.std.specs.Option.{option_map_or}
 use Rattle.dap_msg.specs.declared.command.Command.{Command}
@@ -38,7 +39,8 @@ lines_set path past = last_such (λ step. lines_by path step.item step.answer) p
 -- the breakpoints of lines; there are none where no lines were set
 abbrev pub AreOfLines : Launched → ℕ → Option (List SourceBreakpoint) → List Breakpoint → Type 0
 AreOfLines l less None breakpoints = breakpoints ≡ []
-AreOfLines l less (Some lines) breakpoints = (answers : List Resolution) × IsResolved l.program less lines answers breakpoints
+AreOfLines l less (Some lines) breakpoints =
+    (answers : List Resolution) × IsResolved l.program less lines answers breakpoints
 
 -- the session has the debuggee: the program isn't started yet, or stands
 abbrev pub HasDebuggee : Situation → Type 0
@@ -47,28 +49,31 @@ HasDebuggee Stopped = Unit {0}
 HasDebuggee Faulted = Unit {0}
 HasDebuggee _ = ⊥
 
--- Where the session has the debuggee, the plan in force is the breakpoints of the lines that were set last at the launched
--- path. Before the program is started it counts from position 0.
+-- Where the session has the debuggee, the plan in force is the breakpoints of the lines that were set last at the
+-- launched path. Before the program is started it counts from position 0.
 abbrev pub PlanIsOfLines : Type 0
 PlanIsOfLines =
     (events : List Incoming) (past : History) (rest : Rest) → AreLawful events → IsHistoryOf events past rest
     → HasDebuggee (situation past) → (l : Launched) → launched past ≡ Some l
-    → AreOfLines l (line_offset past) (lines_set l.path past) (plan past).breakpoints × (situation past ≡ Configuring → (plan past).counted_from ≡ 0)
+    → AreOfLines l (line_offset past) (lines_set l.path past) (plan past).breakpoints
+    × (situation past ≡ Configuring → (plan past).counted_from ≡ 0)
 
 -- Each run is under the breakpoints of the lines that were set last at the launched path.
 abbrev pub EachRunHasItsLines : Type 0
 EachRunHasItsLines =
     (events : List Incoming) (past : History) (rest : Rest) → AreLawful events → IsHistoryOf events past rest
-    → (before : History) (step : Step) (after : History) (run : Heading) → past ≡ before ++ step ∷ after → Orders step run
+    → (before : History) (step : Step) (after : History) (run : Heading) → past ≡ before ++ step ∷ after
+    → Orders step run
     → (l : Launched) × (launched before ≡ Some l) × AreOfLines l (line_offset before) (lines_set l.path before) run.plan
 
 -- ---- counting
 
--- whether lines count as set anew after a step, if the step changes it: lines that are set make it so, and a run that is
--- ordered or the start of the program ends it
+-- whether lines count as set anew after a step, if the step changes it: lines that are set make it so, and a run that
+-- is ordered or the start of the program ends it
 abbrev pub anew_mark : List ℕ → Step → Option Bool
 anew_mark path step =
-    if is_some (run_in step) || starts_by step.answer then Some false else option_map (λ lines. true) (lines_by path step.item step.answer)
+    if is_some (run_in step) || starts_by step.answer then Some false else option_map (λ lines. true)
+    (lines_by path step.item step.answer)
 
 -- lines were set since the program was started, and since the last run was ordered
 abbrev pub are_anew : List ℕ → History → Bool
@@ -84,10 +89,12 @@ abbrev pub counts_from : History → Launched → Option Outgoing → ℕ → �
 counts_from past l answer start =
     if starts_by answer then 0 else next_counted (are_anew l.path past || is_back past) (last_run past) start
 
--- The run that starts the program counts from position 0. A later run counts from the position after its beginning if lines
--- were set since the run before it, or if that run went back; otherwise from where that run counts, or from 0 if none was.
+-- The run that starts the program counts from position 0. A later run counts from the position after its beginning if
+-- lines were set since the run before it, or if that run went back; otherwise from where that run counts, or from 0 if
+-- none was.
 abbrev pub EachRunCountsFrom : Type 0
 EachRunCountsFrom =
     (events : List Incoming) (past : History) (rest : Rest) → AreLawful events → IsHistoryOf events past rest
-    → (before : History) (step : Step) (after : History) (run : Heading) → past ≡ before ++ step ∷ after → Orders step run
+    → (before : History) (step : Step) (after : History) (run : Heading) → past ≡ before ++ step ∷ after
+    → Orders step run
     → (l : Launched) × (launched before ≡ Some l) × (run.counted_from ≡ counts_from before l step.answer run.start)

@@ -41,7 +41,8 @@ put_in_by past r =
     then Some (from_next r.end (unwrap_or (waiting_plan past) (plan past).breakpoints))
     else put_in_at r.end (waiting_plan past)
 
--- the report's numbers and logs, and then these events; the session has the debuggee, and breakpoints that wait are put in
+-- the report's numbers and logs, and then these events; the session has the debuggee, and breakpoints that wait are put
+-- in
 abbrev pub stands : History → PlainReport → List EventBody → Effect
 stands past r events = record nothing { events = outputs past r ++ events; put_in = put_in_by past r }
 
@@ -50,7 +51,20 @@ abbrev pub goes_on : History → PlainReport → Effect
 goes_on past r =
     let put_in = put_in_by past r in
     let now = unwrap_or put_in (plan past) in
-    record nothing { events = outputs past r; put_in = put_in; orders = Go (record { run = runs past + 1; text = r.text; plan = now.breakpoints; counted_from = now.counted_from; mode = r.mode; start = r.end }) ∷ [] }
+    record nothing {
+      events = outputs past r;
+      put_in = put_in;
+      orders = Go
+          (record {
+            run = runs past + 1;
+            text = r.text;
+            plan = now.breakpoints;
+            counted_from = now.counted_from;
+            mode =
+                r.mode;
+            start = r.end;
+          }) ∷ [];
+    }
 
 -- what the report of a held run causes, by whether a pause waits
 abbrev pub held : History → PlainReport → Bool → Effect

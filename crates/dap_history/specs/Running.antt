@@ -1,5 +1,5 @@
--- Defines the commands that start a run, resume the program, go back or interrupt a run: `configurationDone`, `continue`,
--- `next`, `stepIn`, `stepOut`, `stepBack`, `reverseContinue`, `pause`.
+-- Defines the commands that start a run, resume the program, go back or interrupt a run: `configurationDone`,
+-- `continue`, `next`, `stepIn`, `stepOut`, `stepBack`, `reverseContinue`, `pause`.
 use Rattle.std.specs.Prelude.{◌≡◌, ℕ, ◌+◌, List, [], ◌∷◌, ◌++◌, if◌then◌else◌, Option, None, Some}
 use Rattle.dap_msg.specs.declared.outgoing.Body.{Body}
 use Rattle.dap_msg.specs.declared.outgoing.Body.TheVariants as body
@@ -26,7 +26,14 @@ use Rattle.dap_history.specs.Replies.{Reply, nothing, reporting, ordering, answe
 -- the order of the next run, which begins at this position under this plan and in this mode
 abbrev pub goes : History → Launched → ℕ → Plan → Mode → List PlainOrder
 goes past l begins p m =
-    Go (record { run = runs past + 1; text = l.text; plan = p.breakpoints; counted_from = p.counted_from; mode = m; start = begins }) ∷ []
+    Go (record {
+      run = runs past + 1;
+      text = l.text;
+      plan = p.breakpoints;
+      counted_from = p.counted_from;
+      mode = m;
+      start = begins;
+    }) ∷ []
 
 -- the same, where the run begins where the program stands, under the plan in force
 abbrev pub resumes : History → Launched → Mode → List PlainOrder
@@ -52,7 +59,8 @@ enters past l None = record nothing { events = first_logs past l; orders = resum
 -- the reply to `configurationDone` where a program is launched
 abbrev pub Configures : History → Reply → Type 0
 Configures past reply = OfProgram (launched past) (λ l. reply
-    ≡ causing body.None (enters past l (due l.program (plan past).breakpoints (plan past).counted_from (first_mode l) 0)))
+    ≡ causing body.None (enters past l (due l.program (plan past).breakpoints (plan past).counted_from (first_mode l)
+    0)))
 
 -- the reply to `configurationDone`
 abbrev pub ConfiguresIn : Situation → History → Reply → Type 0
@@ -76,13 +84,15 @@ body_of _ = body.None
 -- the reply to a resume where the program stands
 abbrev pub Resumes : History → ResumeKind → ℕ → Reply → Type 0
 Resumes past resume_kind thread reply = OfProgram (launched past) (λ l. reply
-    ≡ on_thread thread (causing (body_of resume_kind) (ordering (resumes past l (mode_of resume_kind (depth_at l.program (position past)))))))
+    ≡ on_thread thread (causing (body_of resume_kind)
+    (ordering (resumes past l (mode_of resume_kind (depth_at l.program (position past)))))))
 
 -- The reply to a resume. Profile: before a fault, it ends the program with the code 1.
 abbrev pub ResumesIn : Situation → History → ResumeKind → ℕ → Reply → Type 0
 ResumesIn Running past resume_kind thread reply = reply ≡ refused refusal.NotStopped
 ResumesIn Stopped past resume_kind thread reply = Resumes past resume_kind thread reply
-ResumesIn Faulted past resume_kind thread reply = reply ≡ on_thread thread (causing (body_of resume_kind) (reporting (ends 1)))
+ResumesIn Faulted past resume_kind thread reply =
+    reply ≡ on_thread thread (causing (body_of resume_kind) (reporting (ends 1)))
 ResumesIn _ past resume_kind thread reply = reply ≡ refused refusal.WrongPhase
 
 -- ---- `stepBack`, `reverseContinue`

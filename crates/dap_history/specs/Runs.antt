@@ -32,7 +32,8 @@ use Rattle.dap_history.specs.Stops.{stop_of_event, run_in, Orders}
 abbrev pub RunsCountFromOne : Type 0
 RunsCountFromOne =
     (events : List Incoming) (past : History) (rest : Rest) → IsHistoryOf events past rest
-    → (front back : List PlainOrder) (run : Heading) → orders_of past ≡ front ++ Go run ∷ back → run.run ≡ length (filter_map go front) + 1
+    → (front back : List PlainOrder) (run : Heading) → orders_of past ≡ front ++ Go run ∷ back
+    → run.run ≡ length (filter_map go front) + 1
 
 -- ---- modes
 
@@ -64,10 +65,12 @@ mode_asked past main _ = None
 abbrev pub EachRunIsAsAsked : Type 0
 EachRunIsAsAsked =
     (events : List Incoming) (past : History) (rest : Rest) → AreLawful events → IsHistoryOf events past rest
-    → (before : History) (step : Step) (after : History) (run : Heading) → past ≡ before ++ step ∷ after → Orders step run
+    → (before : History) (step : Step) (after : History) (run : Heading) → past ≡ before ++ step ∷ after
+    → Orders step run
     → (l : Launched) × (launched before ≡ Some l) × (mode_asked before l.program step.item ≡ Some run.mode)
 
--- A granted command that asks for a run orders none where position 0 is due, or where the program stands before a fault.
+-- A granted command that asks for a run orders none where position 0 is due, or where the program stands before a
+-- fault.
 abbrev pub IsExcused : Situation → Command → List EventBody → Type 0
 IsExcused s command.ConfigurationDone events = IsSome (last_such stop_of_event events)
 IsExcused s _ events = (s ≡ Faulted) × (events ≡ event.Exited 1 ∷ event.Terminated ∷ [])
@@ -77,7 +80,8 @@ abbrev pub GrantedRunsAreOrdered : Type 0
 GrantedRunsAreOrdered =
     (events : List Incoming) (past : History) (rest : Rest) → IsHistoryOf events past rest
     → (before : History) (step : Step) (after : History) (request : Request) → past ≡ before ++ step ∷ after
-    → Grants step request → IsSome (mode_by 0 request.body) → IsSome (run_in step) ⊎ IsExcused (situation before) request.body step.effect.events
+    → Grants step request → IsSome (mode_by 0 request.body) → IsSome (run_in step)
+    ⊎ IsExcused (situation before) request.body step.effect.events
 
 -- After a run was held, another run is ordered if no pause waits.
 abbrev pub HeldRunsGoOn : Type 0
@@ -91,7 +95,8 @@ HeldRunsGoOn =
 -- the command waits during a run until the run is held: it is a pause, or sets breakpoints at the launched path
 abbrev pub IsToWait : History → Command → Type 0
 IsToWait past (command.Pause asked) = Unit {0}
-IsToWait past (command.SetBreakpoints asked) = (l : Launched) × (launched past ≡ Some l) × (is_at asked.path l.path ≡ true)
+IsToWait past (command.SetBreakpoints asked) =
+    (l : Launched) × (launched past ≡ Some l) × (is_at asked.path l.path ≡ true)
 IsToWait past _ = ⊥
 
 -- after these steps such a command is granted
@@ -100,19 +105,21 @@ pub record GrantsWait (past : History) (step : Step) : Type 0 where
   pub granted : Grants step request
   pub to_wait : IsToWait past request.body
 
--- A Hold is ordered only where a pause or breakpoints that wait are granted, and directly after the Go of the run that it
--- names, so at most once for a run. The run doesn't go back.
+-- A Hold is ordered only where a pause or breakpoints that wait are granted, and directly after the Go of the run that
+-- it names, so at most once for a run. The run doesn't go back.
 abbrev pub HoldOnce : Type 0
 HoldOnce =
     (events : List Incoming) (past : History) (rest : Rest) → IsHistoryOf events past rest
     → (before : History) (step : Step) (after : History) → past ≡ before ++ step ∷ after
     → (front back : List PlainOrder) (n : ℕ) → step.effect.orders ≡ front ++ Hold n ∷ back
-    → GrantsWait before step × ((earlier : List PlainOrder) × (run : Heading) × (orders_of before ++ front ≡ earlier ++ Go run ∷ []) × (n ≡ run.run) × (goes_back run.mode ≡ false))
+    → GrantsWait before step × ((earlier : List PlainOrder) × (run : Heading)
+    × (orders_of before ++ front ≡ earlier ++ Go run ∷ []) × (n ≡ run.run) × (goes_back run.mode ≡ false))
 
 -- After a pause or breakpoints were granted in a run that doesn't go back, the last order is that run's Hold.
 abbrev pub WaitsAreHeld : Type 0
 WaitsAreHeld =
     (events : List Incoming) (past : History) (rest : Rest) → IsHistoryOf events past rest
     → (before : History) (step : Step) (after : History) → past ≡ before ++ step ∷ after
-    → situation before ≡ Running → (run : Heading) → last_run before ≡ Some run → goes_back run.mode ≡ false → GrantsWait before step
+    → situation before ≡ Running → (run : Heading) → last_run before ≡ Some run → goes_back run.mode ≡ false
+    → GrantsWait before step
     → (earlier : List PlainOrder) × (orders_of (before ++ step ∷ []) ≡ earlier ++ Hold run.run ∷ [])

@@ -60,19 +60,21 @@ NoneDueBefore l run m = (k : ℕ) → run.start < k → k < m → due_in l run k
 abbrev pub NoneDueUpTo : Launched → Heading → ℕ → Type 0
 NoneDueUpTo l run m = (k : ℕ) → run.start < k → k ≤ m → due_in l run k ≡ None
 
--- A run that goes forward stopped at m for this reason: at the first due position after its beginning; where it was held;
--- or before the step that faults.
+-- A run that goes forward stopped at m for this reason: at the first due position after its beginning; where it was
+-- held; or before the step that faults.
 abbrev pub IsRunsStop : Launched → Heading → StopReason → ℕ → Type 0
 IsRunsStop l run stop.Pause m = (run.start ≤ m) × NoneDueUpTo l run m
 IsRunsStop l run (stop.Exception x) m =
-    (fault : RunFault) × (x ≡ exception_of fault) × (outcome l.program m ≡ Faults fault) × (run.start ≤ m) × NoneDueUpTo l run m
+    (fault : RunFault) × (x ≡ exception_of fault) × (outcome l.program m ≡ Faults fault) × (run.start ≤ m)
+    × NoneDueUpTo l run m
 IsRunsStop l run reason m =
     (r : Reason) × (reason ≡ stop_of r) × (due_in l run m ≡ Some r) × (run.start < m) × NoneDueBefore l run m
 
 -- A run that goes back stopped at m for this reason: it is the position to which its mode leads.
 abbrev pub IsRetreatsStop : Launched → Heading → StopReason → ℕ → Type 0
 IsRetreatsStop l run reason m =
-    (goal : Stop) × (goal_of l.program run.plan run.mode run.start ≡ Some goal) × (m ≡ goal.position) × (reason ≡ stop_of goal.reason)
+    (goal : Stop) × (goal_of l.program run.plan run.mode run.start ≡ Some goal) × (m ≡ goal.position)
+    × (reason ≡ stop_of goal.reason)
 
 -- one of the two, by whether the run goes back
 abbrev pub IsStopOf : Bool → Launched → Heading → StopReason → ℕ → Type 0
@@ -83,7 +85,8 @@ IsStopOf true l run reason m = IsRetreatsStop l run reason m
 abbrev pub IsRightStop : Launched → History → Option Heading → StopReason → ℕ → Type 0
 IsRightStop l before (Some run) reason m = IsStopOf (goes_back run.mode) l run reason m
 IsRightStop l before None reason m =
-    (m ≡ 0) × ((r : Reason) × (reason ≡ stop_of r) × (due l.program (plan before).breakpoints (plan before).counted_from (first_mode l) 0 ≡ Some r))
+    (m ≡ 0) × ((r : Reason) × (reason ≡ stop_of r) × (due l.program (plan before).breakpoints (plan before).counted_from
+    (first_mode l) 0 ≡ Some r))
 
 abbrev pub EachStopIsRight : Type 0
 EachStopIsRight =
@@ -117,13 +120,16 @@ tells past slice.NoMemory = []
 abbrev pub EachReportIsTold : Type 0
 EachReportIsTold =
     (events : List Incoming) (past : History) (rest : Rest) → IsHistoryOf events past rest
-    → (before : History) (step : Step) (after : History) (r : PlainReport) → past ≡ before ++ step ∷ after → step.item ≡ Accepted r
-    → (step.answer ≡ None) × ((outputs : List EventBody) × All IsOutput outputs × (step.effect.events ≡ outputs ++ tells before r.outcome))
+    → (before : History) (step : Step) (after : History) (r : PlainReport) → past ≡ before ++ step ∷ after
+    → step.item ≡ Accepted r
+    → (step.answer ≡ None) × ((outputs : List EventBody) × All IsOutput outputs
+    × (step.effect.events ≡ outputs ++ tells before r.outcome))
 
 -- what the start of the program tells: what position 0 logs, and perhaps a stop after that
 abbrev pub TellsFirst : List EventBody → Type 0
 TellsFirst events =
-    (outputs : List EventBody) × All IsOutput outputs × ((events ≡ outputs) ⊎ ((reason : StopReason) × (events ≡ outputs ++ event.Stopped reason ∷ [])))
+    (outputs : List EventBody) × All IsOutput
+    outputs × ((events ≡ outputs) ⊎ ((reason : StopReason) × (events ≡ outputs ++ event.Stopped reason ∷ [])))
 
 -- nothing, or, where the program stands before a fault, that it exited with the code 1
 abbrev pub TellsEnd : Situation → List EventBody → Type 0
@@ -140,7 +146,8 @@ TellsBy s _ events = events ≡ []
 abbrev pub EachReplyIsTold : Type 0
 EachReplyIsTold =
     (events : List Incoming) (past : History) (rest : Rest) → IsHistoryOf events past rest
-    → (before : History) (step : Step) (after : History) (request : Request) → past ≡ before ++ step ∷ after → step.item ≡ Content (Some request)
+    → (before : History) (step : Step) (after : History) (request : Request) → past ≡ before ++ step ∷ after
+    → step.item ≡ Content (Some request)
     → TellsBy (situation before) request.body step.effect.events
 
 -- ---- runs
@@ -159,9 +166,11 @@ pub record Orders (step : Step) (run : Heading) : Type 0 where
 abbrev pub EachRunStartsThere : Type 0
 EachRunStartsThere =
     (events : List Incoming) (past : History) (rest : Rest) → AreLawful events → IsHistoryOf events past rest
-    → (before : History) (step : Step) (after : History) (run : Heading) → past ≡ before ++ step ∷ after → Orders step run
+    → (before : History) (step : Step) (after : History) (run : Heading) → past ≡ before ++ step ∷ after
+    → Orders step run
     → (l : Launched) × (launched before ≡ Some l) × (run.text ≡ l.text) × (run.start ≡ position (before ++ step ∷ []))
-    × (run.plan ≡ (plan (before ++ step ∷ [])).breakpoints) × (run.counted_from ≡ (plan (before ++ step ∷ [])).counted_from)
+    × (run.plan ≡ (plan (before ++ step ∷ [])).breakpoints) × (run.counted_from ≡ (plan
+    (before ++ step ∷ [])).counted_from)
 
 -- ---- what is asked at a stop
 
@@ -190,7 +199,8 @@ pub record Asks (past before : History) (request : Request) (question : Question
   pub question_is : request.body ≡ command.Inspect question
 
 -- the step answers the question by what the program shows at position m
-pub record AnswersFrom (l : Launched) (before : History) (m : ℕ) (request : Request) (question : Question) (step : Step) : Type 0 where
+pub record AnswersFrom (l : Launched) (before : History) (m : ℕ) (request : Request) (question : Question)
+    (step : Step) : Type 0 where
   pub reply : Reply
   pub shown : RepliesAt (asked_of before l) (at l.program m) question reply
   pub answer_is : step.answer ≡ Some (Answer request.seq (name_of request.body) reply.result)
@@ -200,6 +210,9 @@ pub record AnswersFrom (l : Launched) (before : History) (m : ℕ) (request : Re
 abbrev pub QuestionsAreAnsweredThere : Type 0
 QuestionsAreAnsweredThere =
     (events : List Incoming) (past : History) (rest : Rest) → IsHistoryOf events past rest
-    → (before : History) (request : Request) (question : Question) (step : Step) → Asks past before request question step
-    → (IsStanding (situation before) → (l : Launched) × (m : ℕ) × (launched before ≡ Some l) × StoppedLastAt before m × AnswersFrom l before m request question step)
-    × ((b : Body) → step.answer ≡ Some (Answer request.seq (name_of request.body) (Ok b)) → IsStanding (situation before))
+    → (before : History) (request : Request) (question : Question) (step : Step)
+    → Asks past before request question step
+    → (IsStanding (situation before) → (l : Launched) × (m : ℕ) × (launched before ≡ Some l) × StoppedLastAt before m
+    × AnswersFrom l before m request question step)
+    × ((b : Body) → step.answer ≡ Some (Answer request.seq (name_of request.body) (Ok b))
+    → IsStanding (situation before))

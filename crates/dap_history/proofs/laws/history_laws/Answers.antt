@@ -47,7 +47,8 @@ returns-clause-numbered c = numbers_count
 
 pub returns-clause-read_back : goal.returns-clause-read_back
 returns-clause-read_back c =
-    frames_read_back (contents_of_stream c.frame_laws.ensures.join) c.message_laws.ensures.echo c.message_laws.ensures.read_back c.configuration_laws.ensures.few
+    frames_read_back (contents_of_stream c.frame_laws.ensures.join) c.message_laws.ensures.echo
+    c.message_laws.ensures.read_back c.configuration_laws.ensures.few
 
 pub returns-clause-outputs : goal.returns-clause-outputs
 returns-clause-outputs c = numbers_written (one_program c.text_laws.ensures.program) c.meaning_laws.ensures.joins
@@ -56,10 +57,12 @@ pub returns-clause-order : goal.returns-clause-order
 returns-clause-order c = stops_follow (one_program c.text_laws.ensures.program) c.meaning_laws.ensures.joins
 
 pub returns-clause-logs : goal.returns-clause-logs
-returns-clause-logs c = logs_of_positions (one_program c.text_laws.ensures.program) c.meaning_laws.ensures.joins c.log_laws.ensures.said
+returns-clause-logs c =
+    logs_of_positions (one_program c.text_laws.ensures.program) c.meaning_laws.ensures.joins c.log_laws.ensures.said
 
 pub returns-clause-stops_follow : goal.returns-clause-stops_follow
-returns-clause-stops_follow c = stops_follow_logs (one_program c.text_laws.ensures.program) c.meaning_laws.ensures.joins c.log_laws.ensures.said
+returns-clause-stops_follow c =
+    stops_follow_logs (one_program c.text_laws.ensures.program) c.meaning_laws.ensures.joins c.log_laws.ensures.said
 
 pub returns-clause-logs_follow : goal.returns-clause-logs_follow
 returns-clause-logs_follow c = logs_follow (one_program c.text_laws.ensures.program) c.meaning_laws.ensures.joins
@@ -92,7 +95,8 @@ pub returns-clause-not_held : goal.returns-clause-not_held
 returns-clause-not_held c = retreats_not_held
 
 pub returns-clause-closed_by : goal.returns-clause-closed_by
-returns-clause-closed_by c = λ events past rest history. (closed_by_end events past rest history, closed_by_failure events past rest history)
+returns-clause-closed_by c =
+    λ events past rest history. (closed_by_end events past rest history, closed_by_failure events past rest history)
 
 pub returns-clause-quits_last : goal.returns-clause-quits_last
 returns-clause-quits_last c = quit_is_last
@@ -104,4 +108,6 @@ pub returns-clause-unread : goal.returns-clause-unread
 returns-clause-unread c = rest_is_open
 
 pub returns-clause-leads : goal.returns-clause-leads
-returns-clause-leads c = each_item_leads (one_program c.text_laws.ensures.program) c.meaning_laws.ensures.joins c.meaning_laws.ensures.no_gaps
+returns-clause-leads c =
+    each_item_leads (one_program c.text_laws.ensures.program) c.meaning_laws.ensures.joins
+    c.meaning_laws.ensures.no_gaps
