@@ -1,5 +1,6 @@
 #!/usr/bin/env python3
-"""Checks the pages: that files and headings that they name are there, and that lines of prose have at most 124 columns.
+"""Checks the pages: that files and headings that they name are there, and that lines of prose have at most 124 columns; and
+that lines of definitions and proofs have at most 120, but for imports, which the kit keeps on one line.
 
 usage: pages.py
 
@@ -17,6 +18,7 @@ from collections.abc import Iterator
 from scratch import TOP
 
 COLUMNS = 124
+LOGIC_COLUMNS = 120
 LINK = re.compile(r"\]\(([^)#]*)(?:#([^)]*))?\)")
 NAME = re.compile(r"`([\w./*-]+\.(?:rt|antt|py|edit|session|md|lua|json|el|txt|c))`")
 # What stands for a name, and what begins a file of a user's own.
@@ -87,9 +89,17 @@ def wrong_laws() -> Iterator[str]:
                     yield f"docs/PROOFS.md: {law}, {clause}: {lemma} isn't in {places}"
 
 
+def long_logic() -> Iterator[str]:
+    """The lines of definitions and proofs that are too long."""
+    for file in sorted(TOP.glob("crates/*/specs/**/*.antt")) + sorted(TOP.glob("crates/*/proofs/**/*.antt")):
+        for number, line in enumerate(file.read_text(encoding="utf-8").splitlines(), 1):
+            if len(line) > LOGIC_COLUMNS and not line.startswith(("use ", "pub use ")):
+                yield f"{file.relative_to(TOP)}:{number}: {len(line)} columns"
+
+
 def main() -> int:
     files = [file for file in TOP.rglob("*") if file.is_file() and "out" not in file.parts and ".git" not in file.parts]
-    found = [one for page in pages() for one in wrong(page, files)] + list(wrong_laws())
+    found = [one for page in pages() for one in wrong(page, files)] + [*wrong_laws(), *long_logic()]
     print("\n".join(found) or f"{len(pages())} pages: all files and headings that they name are there")
     return 1 if found else 0
 
