@@ -22,7 +22,8 @@ pub consumes_none : (left : Option (List ℕ)) → Consumes left left []
 consumes_none None = tt
 consumes_none (Some xs) = refl
 
-pub consumes_both : (a b c : Option (List ℕ)) (xs ys : List ℕ) → Consumes a b xs → Consumes b c ys → Consumes a c (xs ++ ys)
+pub consumes_both : (a b c : Option (List ℕ)) (xs ys : List ℕ) → Consumes a b xs → Consumes b c ys
+    → Consumes a c (xs ++ ys)
 consumes_both None b c xs ys first next = tt
 consumes_both (Some a) None c xs ys first next = absurd first
 consumes_both (Some a) (Some b) None xs ys first next = absurd next

@@ -18,24 +18,33 @@ pub record Partly (whole rest : List ℕ) (old later : Option (List ℕ)) : Type
 pub partly_begins : (whole : List ℕ) (old : Option (List ℕ)) → Partly whole whole old old
 partly_begins whole old = record { front = []; whole_is = refl; written = appends_none old }
 
-pub partly_goes_on : (whole rest shorter : List ℕ) (old mid later : Option (List ℕ)) (n : ℕ) → Partly whole rest old mid → Appends mid later (take n rest) → shorter ≡ drop n rest → Partly whole shorter old later
+pub partly_goes_on : (whole rest shorter : List ℕ) (old mid later : Option (List ℕ)) (n : ℕ) → Partly whole rest old mid
+    → Appends mid later (take n rest) → shorter ≡ drop n rest → Partly whole shorter old later
 partly_goes_on whole rest shorter old mid later n p wrote shorter_is = record {
   front = p.front ++ take n rest;
-  whole_is = p.whole_is ∙ (ap (λ l. p.front ++ l) (sym (take-append-drop n rest) ∙ ap (λ l. take n rest ++ l) (sym shorter_is)) ∙ sym (append_assoc p.front (take n rest) shorter));
+  whole_is =
+      p.whole_is ∙ (ap (λ l. p.front ++ l) (sym (take-append-drop n rest) ∙ ap (λ l. take n rest ++ l) (sym shorter_is))
+      ∙ sym (append_assoc p.front (take n rest) shorter));
   written = appends_both old mid later p.front (take n rest) p.written wrote;
 }
 
-pub partly_keeps : (whole rest : List ℕ) (old mid later : Option (List ℕ)) → Partly whole rest old mid → Keeps mid later → Partly whole rest old later
-partly_keeps whole rest old mid later p keeps = record { front = p.front; whole_is = p.whole_is; written = appends_keep old mid later p.front p.written keeps }
+pub partly_keeps : (whole rest : List ℕ) (old mid later : Option (List ℕ)) → Partly whole rest old mid → Keeps mid later
+    → Partly whole rest old later
+partly_keeps whole rest old mid later p keeps =
+    record { front = p.front; whole_is = p.whole_is; written = appends_keep old mid later p.front p.written keeps }
 
-pub partly_stops : (whole rest : List ℕ) (old later : Option (List ℕ)) → Partly whole rest old later → AppendsPart old later whole
+pub partly_stops : (whole rest : List ℕ) (old later : Option (List ℕ)) → Partly whole rest old later
+    → AppendsPart old later whole
 partly_stops whole rest old later p = (p.front, p.written, (rest, sym p.whole_is))
 
-pub partly_ends : (whole rest : List ℕ) (old later : Option (List ℕ)) → Partly whole rest old later → rest ≡ [] → Appends old later whole
-partly_ends whole rest old later p none = subst (Appends old later) (sym (p.whole_is ∙ (ap (λ l. p.front ++ l) none ∙ append-nil p.front))) p.written
+pub partly_ends : (whole rest : List ℕ) (old later : Option (List ℕ)) → Partly whole rest old later → rest ≡ []
+    → Appends old later whole
+partly_ends whole rest old later p none =
+    subst (Appends old later) (sym (p.whole_is ∙ (ap (λ l. p.front ++ l) none ∙ append-nil p.front))) p.written
 
 -- one frame more after those before
-pub part_of_more : (old mid later : Option (List ℕ)) (before bytes behind : List ℕ) → Appends old mid before → AppendsPart mid later bytes → AppendsPart old later (before ++ (bytes ++ behind))
+pub part_of_more : (old mid later : Option (List ℕ)) (before bytes behind : List ℕ) → Appends old mid before
+    → AppendsPart mid later bytes → AppendsPart old later (before ++ (bytes ++ behind))
 part_of_more old mid later before bytes behind wrote part = (
   before ++ part.0,
   appends_both old mid later before part.0 wrote part.1,
@@ -48,7 +57,8 @@ part_of_more old mid later before bytes behind wrote part = (
 
 -- ---- frames, one after another
 
-concat_map-append : {A : Type 0} (f : A → List ℕ) (xs ys : List A) → concat (map f (xs ++ ys)) ≡ concat (map f xs) ++ concat (map f ys)
+concat_map-append : {A : Type 0} (f : A → List ℕ) (xs ys : List A) → concat (map f (xs ++ ys)) ≡ concat (map f xs)
+    ++ concat (map f ys)
 concat_map-append f xs ys = ap concat (map-append f xs ys) ∙ concat-append (map f xs) (map f ys)
 
 pub concat_map-next : {A : Type 0} (f : A → List ℕ) (xs : List A) (i : ℕ) (x : A) → i < length xs → x ≡ get_or xs i x
@@ -60,10 +70,13 @@ concat_map-next f xs i x within is =
     ∙ ap (λ l. concat (map f (take i xs)) ++ l) (append-nil (f (get_or xs i x)) ∙ ap f (sym is))
 
 -- the frame at i was written in part
-pub frames_stop : {A : Type 0} (f : A → List ℕ) (xs : List A) (i : ℕ) (x : A) (old mid later : Option (List ℕ)) → i < length xs → x ≡ get_or xs i x
-    → Appends old mid (concat (map f (take i xs))) → AppendsPart mid later (f x) → AppendsPart old later (concat (map f xs))
+pub frames_stop : {A : Type 0} (f : A → List ℕ) (xs : List A) (i : ℕ) (x : A) (old mid later : Option (List ℕ))
+    → i < length xs → x ≡ get_or xs i x
+    → Appends old mid (concat (map f (take i xs))) → AppendsPart mid later (f x)
+    → AppendsPart old later (concat (map f xs))
 frames_stop f xs i x old mid later within is wrote part =
-    subst (AppendsPart old later) (sym whole) (part_of_more old mid later (concat (map f (take i xs))) (f x) (concat (map f (drop (i + 1) xs))) wrote part)
+    subst (AppendsPart old later) (sym whole)
+    (part_of_more old mid later (concat (map f (take i xs))) (f x) (concat (map f (drop (i + 1) xs))) wrote part)
   where
     whole : concat (map f xs) ≡ concat (map f (take i xs)) ++ (f x ++ concat (map f (drop (i + 1) xs)))
     whole =
@@ -72,7 +85,10 @@ frames_stop f xs i x old mid later within is wrote part =
         ∙ ap (λ l. l ++ concat (map f (drop (i + 1) xs))) (concat_map-next f xs i x within is)
         ∙ append_assoc (concat (map f (take i xs))) (f x) (concat (map f (drop (i + 1) xs)))
 
-pub frames_go_on : {A : Type 0} (f : A → List ℕ) (xs : List A) (i : ℕ) (x : A) (old mid later : Option (List ℕ)) → i < length xs → x ≡ get_or xs i x
-    → Appends old mid (concat (map f (take i xs))) → Appends mid later (f x) → Appends old later (concat (map f (take (i + 1) xs)))
+pub frames_go_on : {A : Type 0} (f : A → List ℕ) (xs : List A) (i : ℕ) (x : A) (old mid later : Option (List ℕ))
+    → i < length xs → x ≡ get_or xs i x
+    → Appends old mid (concat (map f (take i xs))) → Appends mid later (f x)
+    → Appends old later (concat (map f (take (i + 1) xs)))
 frames_go_on f xs i x old mid later within is wrote more =
-    subst (Appends old later) (sym (concat_map-next f xs i x within is)) (appends_both old mid later (concat (map f (take i xs))) (f x) wrote more)
+    subst (Appends old later) (sym (concat_map-next f xs i x within is))
+    (appends_both old mid later (concat (map f (take i xs))) (f x) wrote more)

@@ -20,7 +20,8 @@ output written failures = record { written = written; failures = failures }
 
 -- A prefix of the bytes was written.
 abbrev pub AppendsPart : Option (List ℕ) → Option (List ℕ) → List ℕ → Type 0
-AppendsPart written later bytes = (part : List ℕ) × Appends written later part × ((rest : List ℕ) × (part ++ rest ≡ bytes))
+AppendsPart written later bytes =
+    (part : List ℕ) × Appends written later part × ((rest : List ℕ) × (part ++ rest ≡ bytes))
 
 -- All bytes were written, once.
 abbrev pub WritesAll : List ℕ → Output → Output → Type 0

@@ -29,15 +29,21 @@ scanned_more scan rest piece is =
 
 read_more : (header : Header) (rest piece : List ℕ) → IsRead header rest → IsRead header (rest ++ piece)
 read_more (Open scan) rest piece is = scanned_more scan rest piece is
-read_more (Whole size content_len) rest piece is =
-    (let there = is.0 in omega (arith, there, length-append rest piece), subst (λ h. IsHeader h content_len) (sym (take-append-le size rest piece is.0)) is.1)
+read_more (Whole size content_len) rest piece is = (
+  let there =
+      is.0 in omega (arith, there, length-append rest piece),
+  subst (λ h. IsHeader h content_len)
+      (sym (take-append-le size rest piece is.0)) is.1,
+)
 
 -- what a decoder keeps true of its bytes, the place where the rest begins, and how far that was read
 abbrev pub IsKept : Header → List ℕ → ℕ → Type 0
-IsKept header bytes front = (front ≤ length bytes) × IsRead header (drop front bytes) × IsBounded (length bytes) (length (drop front bytes))
+IsKept header bytes front =
+    (front ≤ length bytes) × IsRead header (drop front bytes) × IsBounded (length bytes) (length (drop front bytes))
 
 -- it stays true when a piece comes
-kept_more : (header : Header) (bytes piece : List ℕ) (front : ℕ) → IsKept header bytes front → IsKept header (bytes ++ piece) front
+kept_more : (header : Header) (bytes piece : List ℕ) (front : ℕ) → IsKept header bytes front
+    → IsKept header (bytes ++ piece) front
 kept_more header bytes piece front is =
     let there = is.0 in
     let bounded = is.2 in
@@ -50,22 +56,31 @@ kept_more header bytes piece front is =
     )
 
 -- and so it does where the piece was taken or was not
-pub fed : (header : Header) (bytes piece new : List ℕ) (front : ℕ) (taken : Bool) → new ≡ cond taken (bytes ++ piece) bytes → IsKept header bytes front → IsKept header new front
+pub fed : (header : Header) (bytes piece new : List ℕ) (front : ℕ) (taken : Bool)
+    → new ≡ cond taken (bytes ++ piece) bytes → IsKept header bytes front → IsKept header new front
 fed header bytes piece new front false e is = subst (λ b. IsKept header b front) (sym e) is
-fed header bytes piece new front true e is = subst (λ b. IsKept header b front) (sym e) (kept_more header bytes piece front is)
+fed header bytes piece new front true e is =
+    subst (λ b. IsKept header b front) (sym e) (kept_more header bytes piece front is)
 
 -- one frame more
-pub frames_one_more : (stream rest more content : List ℕ) (contents : List (List ℕ)) → Frames stream contents rest → IsFrameInFront rest content more → Frames stream (contents ++ content ∷ []) more
-frames_one_more stream rest more content contents h f = frames_join stream rest more contents (content ∷ []) h (more, f, refl)
+pub frames_one_more : (stream rest more content : List ℕ) (contents : List (List ℕ)) → Frames stream contents rest
+    → IsFrameInFront rest content more → Frames stream (contents ++ content ∷ []) more
+frames_one_more stream rest more content contents h f =
+    frames_join stream rest more contents (content ∷ []) h (more, f, refl)
 
-pub frame_longer : (bytes content rest piece : List ℕ) → IsFrameInFront bytes content rest → IsFrameInFront (bytes ++ piece) content (rest ++ piece)
+pub frame_longer : (bytes content rest piece : List ℕ) → IsFrameInFront bytes content rest
+    → IsFrameInFront (bytes ++ piece) content (rest ++ piece)
 frame_longer bytes content rest piece f = record {
   header = f.header;
   lawful = f.lawful;
-  spelled = ap (λ b. b ++ piece) f.spelled ∙ append_assoc f.header (content ++ rest) piece ∙ ap (λ b. f.header ++ b) (append_assoc content rest piece);
+  spelled =
+      ap (λ b. b ++ piece) f.spelled ∙ append_assoc f.header (content ++ rest) piece
+      ∙ ap (λ b. f.header ++ b) (append_assoc content rest piece);
 }
 
 -- the stream and its rest, each longer by one piece
-pub frames_longer : (stream rest piece : List ℕ) (contents : List (List ℕ)) → Frames stream contents rest → Frames (stream ++ piece) contents (rest ++ piece)
+pub frames_longer : (stream rest piece : List ℕ) (contents : List (List ℕ)) → Frames stream contents rest
+    → Frames (stream ++ piece) contents (rest ++ piece)
 frames_longer stream rest piece [] h = ap (λ b. b ++ piece) h
-frames_longer stream rest piece (content ∷ contents) h = (h.0 ++ piece, frame_longer stream content h.0 piece h.1, frames_longer h.0 rest piece contents h.2)
+frames_longer stream rest piece (content ∷ contents) h =
+    (h.0 ++ piece, frame_longer stream content h.0 piece h.1, frames_longer h.0 rest piece contents h.2)

@@ -19,15 +19,18 @@ name_shorter : (f : Field) → length f.name < length (field_text f)
 name_shorter f = omega (arith, length-append f.name (58 ∷ 32 ∷ f.value))
 
 -- a line without a colon is no field
-pub no_colon : (line : List ℕ) (f : Field) → line ≡ field_text f → Nowhere (Passes (is_byte 58) line) 0 (length line) → ⊥
+pub no_colon : (line : List ℕ) (f : Field) → line ≡ field_text f → Nowhere (Passes (is_byte 58) line) 0 (length line)
+    → ⊥
 no_colon line f e none =
     let there = subst (λ l. Nowhere (Passes (is_byte 58) l) 0 (length l)) e none in
     there (length f.name) (omega arith) (name_shorter f) (colon_passes f)
 
-colon_place : (f : Field) (i : ℕ) → IsField f → NoneBefore (Passes (is_byte 58) (field_text f)) 0 (length (field_text f)) i → Passes (is_byte 58) (field_text f) i → i ≡ length f.name
+colon_place : (f : Field) (i : ℕ) → IsField f → NoneBefore (Passes (is_byte 58) (field_text f)) 0
+    (length (field_text f)) i → Passes (is_byte 58) (field_text f) i → i ≡ length f.name
 colon_place f i is first at =
     elim (cases_lt i (length f.name)) [
-      | inl low ↦ absurd (has_no_at 58 f.name i (name_no_colon f is) low (sym (get_or_append_left f.name (58 ∷ 32 ∷ f.value) 0 i low) ∙ eqb-true (get_or (field_text f) i 0) 58 at))
+      | inl low ↦ absurd (has_no_at 58 f.name i (name_no_colon f is) low
+          (sym (get_or_append_left f.name (58 ∷ 32 ∷ f.value) 0 i low) ∙ eqb-true (get_or (field_text f) i 0) 58 at))
       | inr high ↦ elim (cases_lt (length f.name) i) [
         | inl more ↦ absurd (first.before (length f.name) (omega arith) more (colon_passes f))
         | inr same ↦ omega (arith, high, same)
@@ -35,16 +38,23 @@ colon_place f i is first at =
     ]
 
 -- the first colon ends the name
-pub at_colon : (line : List ℕ) (f : Field) (i : ℕ) → IsField f → line ≡ field_text f → NoneBefore (Passes (is_byte 58) line) 0 (length line) i → Passes (is_byte 58) line i
+pub at_colon : (line : List ℕ) (f : Field) (i : ℕ) → IsField f → line ≡ field_text f
+    → NoneBefore (Passes (is_byte 58) line) 0 (length line) i → Passes (is_byte 58) line i
     → (take i line ≡ f.name) × (drop i line ≡ 58 ∷ 32 ∷ f.value)
 at_colon line f i is e first at =
     let place : i ≡ length f.name =
-    colon_place f i is (subst (λ l. NoneBefore (Passes (is_byte 58) l) 0 (length l) i) e first) (subst (λ l. Passes (is_byte 58) l i) e at) in
-    (ap (take i) e ∙ take_at f.name (58 ∷ 32 ∷ f.value) i (sym place), ap (drop i) e ∙ drop_at f.name (58 ∷ 32 ∷ f.value) i (sym place))
+    colon_place f i is (subst (λ l. NoneBefore (Passes (is_byte 58) l) 0 (length l) i) e first)
+    (subst (λ l. Passes (is_byte 58) l i) e at) in (
+      ap (take i) e ∙ take_at f.name (58 ∷ 32 ∷ f.value) i (sym place),
+      ap (drop i) e
+          ∙ drop_at f.name (58 ∷ 32 ∷ f.value) i (sym place),
+    )
 
 -- after the colon stand one space and the value
-pub no_prefix : (rest prefix : List ℕ) (f : Field) → rest ≡ 58 ∷ 32 ∷ f.value → prefix ≡ 58 ∷ 32 ∷ [] → bytes_eq (take (length prefix) rest) prefix ≡ false → ⊥
+pub no_prefix : (rest prefix : List ℕ) (f : Field) → rest ≡ 58 ∷ 32 ∷ f.value → prefix ≡ 58 ∷ 32 ∷ []
+    → bytes_eq (take (length prefix) rest) prefix ≡ false → ⊥
 no_prefix rest prefix f e p h =
     let k = subst (λ r. bytes_eq (take (length prefix) r) prefix ≡ false) e h in
-    let m : bytes_eq (58 ∷ 32 ∷ []) (58 ∷ 32 ∷ []) ≡ false = subst (λ r. bytes_eq (take (length r) (58 ∷ 32 ∷ f.value)) r ≡ false) p k in
+    let m : bytes_eq (58 ∷ 32 ∷ []) (58 ∷ 32 ∷ []) ≡ false =
+    subst (λ r. bytes_eq (take (length r) (58 ∷ 32 ∷ f.value)) r ≡ false) p k in
     absurd cc

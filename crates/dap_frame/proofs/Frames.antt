@@ -19,11 +19,14 @@ use Rattle.dap_frame.proofs.Faults.{no_line_fault, no_end_fault, no_faulty_line,
 pub same_header : (a b x y : List ℕ) (m n : ℕ) → IsHeader a m → IsHeader b n → a ++ x ≡ b ++ y → (m ≡ n) × (x ≡ y)
 same_header a b x y m n is so e =
     let whole : lines_of is.fields ++ (line_end ++ x) ≡ lines_of so.fields ++ (line_end ++ y) =
-    sym (append_assoc (lines_of is.fields) line_end x) ∙ ap (λ l. l ++ x) (sym is.spelled) ∙ e ∙ ap (λ l. l ++ y) so.spelled ∙ append_assoc (lines_of so.fields) line_end y in
+    sym (append_assoc (lines_of is.fields) line_end x) ∙ ap (λ l. l ++ x) (sym is.spelled) ∙ e
+    ∙ ap (λ l. l ++ y) so.spelled ∙ append_assoc (lines_of so.fields) line_end y in
     let same = same_fields is.fields so.fields x y is.shaped so.shaped whole in
     let digits : decimal m ∷ [] ≡ decimal n ∷ [] = sym is.once ∙ ap length_values same.0 ∙ so.once in
-    let one : decimal m ≡ decimal n = cc in
-    (decimal_injective m n (let a = is.allowed in omega (arith, a)) (let a = so.allowed in omega (arith, a)) one, same.1)
+    let one : decimal m ≡ decimal n = cc in (
+      decimal_injective m n (let a = is.allowed in omega (arith, a)) (let a = so.allowed in omega (arith, a)) one,
+      same.1,
+    )
 
 cons_length : (x : ℕ) (xs : List ℕ) → length (x ∷ xs) ≡ length xs + 1
 cons_length x xs = omega arith
@@ -42,7 +45,9 @@ same_front (c ∷ cs) (d ∷ ds) x y l e =
 -- one frame stands in front, or none
 pub same_frame : (bytes c d x y : List ℕ) → IsFrameInFront bytes c x → IsFrameInFront bytes d y → (c ≡ d) × (x ≡ y)
 same_frame bytes c d x y f g =
-    let same = same_header f.header g.header (c ++ x) (d ++ y) (length c) (length d) f.lawful g.lawful (sym f.spelled ∙ g.spelled) in
+    let same =
+    same_header f.header g.header (c ++ x) (d ++ y) (length c) (length d) f.lawful g.lawful
+    (sym f.spelled ∙ g.spelled) in
     same_front c d x y same.0 same.1
 
 -- ---- a frame or a fault
@@ -50,56 +55,77 @@ same_frame bytes c d x y f g =
 header_faultless : (header : List ℕ) (n : ℕ) (is : IsHeader header n) → AreFaultless is.fields
 header_faultless header n is = record { shaped = is.shaped; lengths = inr (n, is.allowed, is.once) }
 
-header_then : (header rest : List ℕ) (n : ℕ) (is : IsHeader header n) → header ++ rest ≡ lines_of is.fields ++ (line_end ++ rest)
+header_then : (header rest : List ℕ) (n : ℕ) (is : IsHeader header n) → header ++ rest ≡ lines_of is.fields
+    ++ (line_end ++ rest)
 header_then header rest n is = ap (λ h. h ++ rest) is.spelled ∙ append_assoc (lines_of is.fields) line_end rest
 
 -- a line after the fields of a whole header part, or after more: only the empty line stands there
-after_end : (fields gs : List Field) (d rest line after : List ℕ) (k : FramingFault) → length_values fields ≡ d ∷ [] → HasNoLineEnd (line ++ 13 ∷ []) → LineFault gs line k
-    → (more : List Field) → AllByRecursion IsField more → gs ≡ fields ++ more → line_end ++ rest ≡ lines_of more ++ (line_of line ++ after) → ⊥
+after_end : (fields gs : List Field) (d rest line after : List ℕ) (k : FramingFault) → length_values fields ≡ d ∷ []
+    → HasNoLineEnd (line ++ 13 ∷ []) → LineFault gs line k
+    → (more : List Field) → AllByRecursion IsField more → gs ≡ fields ++ more → line_end ++ rest ≡ lines_of more
+    ++ (line_of line ++ after) → ⊥
 after_end fields gs d rest line after k once one bad [] are so e =
     let lines = same_line [] line rest after empty_one_line one (e ∙ append_assoc line line_end after) in
-    no_end_fault fields d k once (subst (λ l. LineFault fields l k) (sym lines.0) (subst (λ f. LineFault f line k) (so ∙ append-nil fields) bad))
+    no_end_fault fields d k once (subst (λ l. LineFault fields l k) (sym lines.0)
+    (subst (λ f. LineFault f line k) (so ∙ append-nil fields) bad))
 after_end fields gs d rest line after k once one bad (g ∷ more) are so e =
-    text_not_empty g are.0 (same_line [] (field_text g) rest (lines_of more ++ (line_of line ++ after)) empty_one_line (field_one_line g are.0) (e ∙ line_then (field_text g) (lines_of more) (line_of line ++ after))).0
+    text_not_empty g are.0 (same_line [] (field_text g) rest (lines_of more ++ (line_of line ++ after)) empty_one_line
+    (field_one_line g are.0) (e ∙ line_then (field_text g) (lines_of more) (line_of line ++ after))).0
 
-whole_not_faulty : (header rest : List ℕ) (n : ℕ) (k : FramingFault) → IsHeader header n → HasFaultyLine (header ++ rest) k → ⊥
+whole_not_faulty : (header rest : List ℕ) (n : ℕ) (k : FramingFault) → IsHeader header n
+    → HasFaultyLine (header ++ rest) k → ⊥
 whole_not_faulty header rest n k is h =
-    elim (located is.fields h.fields (line_end ++ rest) h.line h.after is.shaped h.faultless.shaped h.one_line (sym (header_then header rest n is) ∙ h.spelled)) [
-      | inl at ↦ no_line_fault h.fields at.1 at.0 k (subst AreFaultless at.2 (header_faultless header n is)) (subst (λ l. LineFault h.fields l k) at.3 h.faulty)
-      | inr at ↦ after_end is.fields h.fields (decimal n) rest h.line h.after k is.once h.one_line h.faulty at.0 at.1 at.2 at.3
+    elim (located is.fields h.fields (line_end ++ rest) h.line h.after is.shaped h.faultless.shaped h.one_line
+    (sym (header_then header rest n is) ∙ h.spelled)) [
+      | inl at ↦ no_line_fault h.fields at.1 at.0 k (subst AreFaultless at.2 (header_faultless header n is))
+          (subst (λ l. LineFault h.fields l k) at.3 h.faulty)
+      | inr at ↦ after_end is.fields h.fields (decimal n) rest h.line h.after k is.once h.one_line h.faulty at.0 at.1
+          at.2 at.3
     ]
 
 whole_not_long : (header rest : List ℕ) (n : ℕ) → IsHeader header n → IsTooLong (header ++ rest) → ⊥
 whole_not_long header rest n is long =
     let left = take (header_limit - length header) rest in
-    let cut : lines_of long.fields ++ long.part ≡ lines_of is.fields ++ (line_end ++ left) = sym long.spelled ∙ take_after header rest header_limit is.short ∙ header_then header left n is in
+    let cut : lines_of long.fields ++ long.part ≡ lines_of is.fields ++ (line_end ++ left) =
+    sym long.spelled ∙ take_after header rest header_limit is.short ∙ header_then header left n is in
     elim (located long.fields is.fields long.part [] left long.faultless.shaped is.shaped empty_one_line cut) [
-      | inl at ↦ text_not_empty at.0 (is_field_at is.fields at.1 at.0 (subst (AllByRecursion IsField) at.2 long.faultless.shaped)) at.3
+      | inl at ↦ text_not_empty at.0 (is_field_at is.fields at.1 at.0
+          (subst (AllByRecursion IsField) at.2 long.faultless.shaped)) at.3
       | inr at ↦ none_inside at.0 long.part [] left long.incomplete at.3
     ]
 
 -- where a lawful header part stands in front no fault does
-pub no_fault_whole : (header rest : List ℕ) (n : ℕ) (k : FramingFault) → IsHeader header n → FaultAt (header ++ rest) k → ⊥
-no_fault_whole header rest n k is h = elim (fault_cases (header ++ rest) k h) [ inl a ↦ whole_not_long header rest n is a.1 | inr a ↦ whole_not_faulty header rest n k is a ]
+pub no_fault_whole : (header rest : List ℕ) (n : ℕ) (k : FramingFault) → IsHeader header n → FaultAt (header ++ rest) k
+    → ⊥
+no_fault_whole header rest n k is h =
+    elim (fault_cases (header ++ rest) k h)
+    [ inl a ↦ whole_not_long header rest n is a.1 | inr a ↦ whole_not_faulty header rest n k is a ]
 
-pub never_both : (bytes content rest : List ℕ) (k : FramingFault) → IsFrameInFront bytes content rest → FaultAt bytes k → ⊥
-never_both bytes content rest k f h = no_fault_whole f.header (content ++ rest) (length content) k f.lawful (subst (λ b. FaultAt b k) f.spelled h)
+pub never_both : (bytes content rest : List ℕ) (k : FramingFault) → IsFrameInFront bytes content rest → FaultAt bytes k
+    → ⊥
+never_both bytes content rest k f h =
+    no_fault_whole f.header (content ++ rest) (length content) k f.lawful (subst (λ b. FaultAt b k) f.spelled h)
 
 -- ---- neither
 
 -- after fields and a line that hasn't ended no frame stands in front
-no_frame_yet : (fields : List Field) (part content rest : List ℕ) → AreFaultless fields → HasNoLineEnd part → IsFrameInFront (lines_of fields ++ part) content rest → ⊥
+no_frame_yet : (fields : List Field) (part content rest : List ℕ) → AreFaultless fields → HasNoLineEnd part
+    → IsFrameInFront (lines_of fields ++ part) content rest → ⊥
 no_frame_yet fields part content rest ok none f =
-    let e : lines_of fields ++ part ≡ lines_of f.lawful.fields ++ (line_end ++ (content ++ rest)) = f.spelled ∙ header_then f.header (content ++ rest) (length content) f.lawful in
+    let e : lines_of fields ++ part ≡ lines_of f.lawful.fields ++ (line_end ++ (content ++ rest)) =
+    f.spelled ∙ header_then f.header (content ++ rest) (length content) f.lawful in
     elim (located fields f.lawful.fields part [] (content ++ rest) ok.shaped f.lawful.shaped empty_one_line e) [
-      | inl at ↦ text_not_empty at.0 (is_field_at f.lawful.fields at.1 at.0 (subst (AllByRecursion IsField) at.2 ok.shaped)) at.3
+      | inl at ↦ text_not_empty at.0 (is_field_at f.lawful.fields at.1 at.0
+          (subst (AllByRecursion IsField) at.2 ok.shaped)) at.3
       | inr at ↦ none_inside at.0 part [] (content ++ rest) none at.3
     ]
 
 -- faultless fields and a line that hasn't ended, below the limit: more has to come
-pub open_part : (bytes : List ℕ) (fields : List Field) (part : List ℕ) → AreFaultless fields → HasNoLineEnd part → bytes ≡ lines_of fields ++ part → length bytes < header_limit → IsOpen bytes
+pub open_part : (bytes : List ℕ) (fields : List Field) (part : List ℕ) → AreFaultless fields → HasNoLineEnd part
+    → bytes ≡ lines_of fields ++ part → length bytes < header_limit → IsOpen bytes
 open_part bytes fields part ok none e short = record {
-  no_frame = λ content rest f. no_frame_yet fields part content rest ok none (subst (λ b. IsFrameInFront b content rest) e f);
+  no_frame =
+      λ content rest f. no_frame_yet fields part content rest ok none (subst (λ b. IsFrameInFront b content rest) e f);
   no_fault = λ k h. elim (fault_cases bytes k h) [
     | inl a ↦ let there = a.1.there in omega (arith, there, short)
     | inr a ↦ no_faulty_line fields part k ok none (subst (λ b. HasFaultyLine b k) e a)
@@ -129,7 +155,8 @@ digit_printable c h = let low = h.0 in let high = h.1 in grind (arith, nat_tests
 
 digits_printable : (ds : List ℕ) → AllDigits 10 ds → list_all is_value_byte ds ≡ true
 digits_printable [] h = refl
-digits_printable (c ∷ cs) h = let one = digit_printable c (digit_from_value c h.0) in let more = digits_printable cs h.1 in rw (one, more) refl
+digits_printable (c ∷ cs) h =
+    let one = digit_printable c (digit_from_value c h.0) in let more = digits_printable cs h.1 in rw (one, more) refl
 
 abbrev length_field_of : ℕ → Field
 length_field_of n = record { name = codes "Content-Length"; value = decimal n }
@@ -147,11 +174,14 @@ header_lawful n small =
       spelled = refl;
       once = refl;
       allowed = small;
-      short = let e : header_of n ≡ codes "Content-Length: " ++ (decimal n ++ (line_end ++ line_end)) = simp append_assoc in subst (λ h. length h ≤ header_limit) (sym e) (omega (arith, few, length-append (decimal n) (line_end ++ line_end)));
+      short = let e : header_of n ≡ codes "Content-Length: " ++ (decimal n ++ (line_end ++ line_end)) =
+          simp append_assoc in subst (λ h. length h ≤ header_limit) (sym e)
+          (omega (arith, few, length-append (decimal n) (line_end ++ line_end)));
     }
 
 -- what is written is read again
-pub read_again : (content after : List ℕ) → length content ≤ content_limit → IsFrameInFront (frame_of content ++ after) content after
+pub read_again : (content after : List ℕ) → length content ≤ content_limit
+    → IsFrameInFront (frame_of content ++ after) content after
 read_again content after small = record {
   header = header_of (length content);
   lawful = header_lawful (length content) small;
@@ -165,14 +195,19 @@ pub frame_here : (rest : List ℕ) (size n : ℕ) → IsHeader (take size rest) 
     → IsFrameInFront rest (take (size + n - size) (drop size rest)) (drop (size + n) rest)
 frame_here rest size n is fits =
     let e : size + n - size ≡ n = omega arith in
-    let long : length (take n (drop size rest)) ≡ n = length-take-le n (drop size rest) (omega (arith, length-drop size rest)) in
+    let long : length (take n (drop size rest)) ≡ n =
+    length-take-le n (drop size rest) (omega (arith, length-drop size rest)) in
     subst (λ k. IsFrameInFront rest (take k (drop size rest)) (drop (size + n) rest)) (sym e) (record {
       header = take size rest;
       lawful = subst (IsHeader (take size rest)) (sym long) is;
-      spelled = sym (take-append-drop size rest) ∙ ap (λ l. take size rest ++ l) (sym (take-append-drop n (drop size rest)) ∙ ap (λ l. take n (drop size rest) ++ l) (drop-drop n size rest));
+      spelled =
+          sym (take-append-drop size rest) ∙ ap (λ l. take size rest ++ l)
+          (sym (take-append-drop n (drop size rest)) ∙ ap (λ l. take n (drop size rest) ++ l) (drop-drop n size rest));
     })
 
 -- and without it more has to come
-pub short_here : (rest : List ℕ) (size n : ℕ) → IsHeader (take size rest) n → size ≤ length rest → length rest < size + n → IsOpen rest
+pub short_here : (rest : List ℕ) (size n : ℕ) → IsHeader (take size rest) n → size ≤ length rest
+    → length rest < size + n → IsOpen rest
 short_here rest size n is there few =
-    subst IsOpen (take-append-drop size rest) (open_short (take size rest) (drop size rest) n is (omega (arith, length-drop size rest, there, few)))
+    subst IsOpen (take-append-drop size rest)
+    (open_short (take size rest) (drop size rest) n is (omega (arith, length-drop size rest, there, few)))

@@ -43,16 +43,21 @@ shaped_digit value n i is l = digit_at value i (shaped value n is).digits l
 -- digits of this shape are the length that they count
 pub length_from_digits : (value : List ℕ) → IsShaped value → IsLength value (digits_value 10 value)
 length_from_digits value is =
-    let small = digits_value_short digits_model value 7 is.digits is.short in
-    (sym (decimal-digits_value digits_model value is.digits is.some is.no_zero (omega (arith, small))), omega (arith, small))
+    let small = digits_value_short digits_model value 7 is.digits is.short in (
+      sym (decimal-digits_value digits_model value is.digits is.some is.no_zero (omega (arith, small))),
+      omega
+          (arith, small),
+    )
 
 pub digits_small : (value : List ℕ) → AllDigits 10 value → length value ≤ 7 → digits_value 10 value < 10000000
 digits_small value h l = let small = digits_value_short digits_model value 7 h l in omega (arith, small)
 
 -- one digit more
-pub number_more : (value : List ℕ) (i n : ℕ) → i < length value → 48 ≤ get_or value i 0 → get_or value i 0 ≤ 57 → n ≡ digits_value 10 (take i value)
+pub number_more : (value : List ℕ) (i n : ℕ) → i < length value → 48 ≤ get_or value i 0 → get_or value i 0 ≤ 57
+    → n ≡ digits_value 10 (take i value)
     → n * 10 + (get_or value i 0 - 48) ≡ digits_value 10 (take (i + 1) value)
 number_more value i n l low high e =
     let digit = digit_value_digit (get_or value i 0) (low, high) in
     let d : get_or value i 0 - 48 ≡ digit_value (get_or value i 0) = omega (arith, digit) in
-    ap (λ m. m * 10 + (get_or value i 0 - 48)) e ∙ ap (λ m. digits_value 10 (take i value) * 10 + m) d ∙ sym (digits_value_more 10 value i l)
+    ap (λ m. m * 10 + (get_or value i 0 - 48)) e ∙ ap (λ m. digits_value 10 (take i value) * 10 + m) d
+    ∙ sym (digits_value_more 10 value i l)

@@ -1,11 +1,11 @@
--- Bytes are cut into lines, and lines into fields, in one way only; for the functions of `decoder`, `field`, `header` and
--- others.
+-- Bytes are cut into lines, and lines into fields, in one way only; for the functions of `decoder`, `field`, `header`
+-- and others.
 pub mod Lines
 -- Two readings of the same bytes: a line of the one is a line of the other, or stands after it; for the functions of
 -- `decoder`, `header` and `laws`.
 pub mod Located
--- A fault stands after faultless fields, in a line that is none of them, and there is one at most; for the clause `faults`
--- of `frame_laws`.
+-- A fault stands after faultless fields, in a line that is none of them, and there is one at most; for the clause
+-- `faults` of `frame_laws`.
 pub mod Faults
 -- A rest has one header part and one frame at most, and where a frame stands no fault does; for the clauses `frames`,
 -- `both`, `again` and `join` of `frame_laws`, and for `content_of`.

@@ -17,7 +17,8 @@ has_no-append x (y ∷ ys) zs h k = (h.0, has_no-append x ys zs h.1 k)
 passing : (p : ℕ → Bool) (x : ℕ) → p x ≡ false → (ys : List ℕ) → list_all p ys ≡ true → HasNo x ys
 passing p x fails [] h = tt
 passing p x fails (y ∷ ys) h = (
-  λ e. absurd (let bad : (p x && list_all p ys) ≡ true = subst (λ z. (p z && list_all p ys) ≡ true) e h in let no : (false && list_all p ys) ≡ true = subst (λ b. (b && list_all p ys) ≡ true) fails bad in cc),
+  λ e. absurd (let bad : (p x && list_all p ys) ≡ true = subst (λ z. (p z && list_all p ys) ≡ true) e h in
+      let no : (false && list_all p ys) ≡ true = subst (λ b. (b && list_all p ys) ≡ true) fails bad in cc),
   passing p x fails ys (and_parts (p y) (list_all p ys) h).1,
 )
 
@@ -49,7 +50,8 @@ pub empty_one_line : HasNoLineEnd ([] ++ 13 ∷ [])
 empty_one_line = no_return_no_end [] tt
 
 -- two lines that begin the same bytes, each up to its first CR LF, are one
-pub same_line : (a b x y : List ℕ) → HasNoLineEnd (a ++ 13 ∷ []) → HasNoLineEnd (b ++ 13 ∷ []) → a ++ (line_end ++ x) ≡ b ++ (line_end ++ y) → (a ≡ b) × (x ≡ y)
+pub same_line : (a b x y : List ℕ) → HasNoLineEnd (a ++ 13 ∷ []) → HasNoLineEnd (b ++ 13 ∷ []) → a
+    ++ (line_end ++ x) ≡ b ++ (line_end ++ y) → (a ≡ b) × (x ≡ y)
 same_line [] [] x y h k e = (refl, cc)
 same_line [] (b ∷ []) x y h k e = absurd cc
 same_line [] (b ∷ c ∷ bs) x y h k e =
@@ -83,4 +85,6 @@ same_field f g is so e =
     ap (λ n. record { name = n; value = f.value }) parts.0 ∙ ap (λ v. record { name = g.name; value = v }) value
 
 pub text_not_empty : (f : Field) → IsField f → [] ≡ field_text f → ⊥
-text_not_empty f is e = let l = ap length e in let n = is.named in let b = length-append f.name (58 ∷ 32 ∷ f.value) in omega (arith, l, n, b)
+text_not_empty f is e =
+    let l = ap length e in let n = is.named in let b = length-append f.name (58 ∷ 32 ∷ f.value) in omega
+    (arith, l, n, b)

@@ -1,6 +1,6 @@
 -- Defines the header part of a frame, by the base protocol of the Debug Adapter Protocol: fields `name: value`, each a
--- line ended by CR LF, and then an empty line. What the protocol leaves open is this project's own profile: which bytes a
--- name and a value may have, how a length is written, that it stands exactly once, both limits, and the faults.
+-- line ended by CR LF, and then an empty line. What the protocol leaves open is this project's own profile: which bytes
+-- a name and a value may have, how a length is written, that it stands exactly once, both limits, and the faults.
 use Rattle.std.specs.Prelude.{◌≡◌, ◌≢◌, ◌⊎◌, ◌&&◌, ◌||◌, ◌==◌, ℕ, ◌<◌, ◌≤◌, ◌^◌, Bool, true, nat_le, List, [], ◌∷◌, ◌++◌, length, take, filter, flat_map, map, codes, decimal, IsTrue}
 use Rattle.std.specs.List.{list_all, AllByRecursion}
 use Rattle.std.specs.Str.{bytes_eq}
@@ -21,7 +21,8 @@ content_limit = 1048576
 
 -- profile: an ASCII letter, a digit or `-`
 abbrev pub is_name_byte : ℕ → Bool
-is_name_byte x = (nat_le 97 x && nat_le x 122) || ((nat_le 65 x && nat_le x 90) || ((nat_le 48 x && nat_le x 57) || x == 45))
+is_name_byte x =
+    (nat_le 97 x && nat_le x 122) || ((nat_le 65 x && nat_le x 90) || ((nat_le 48 x && nat_le x 57) || x == 45))
 
 -- profile: a printable ASCII character, the space included
 abbrev pub is_value_byte : ℕ → Bool
@@ -87,9 +88,14 @@ abbrev pub LineFault : List Field → List ℕ → FramingFault → Type 0
 LineFault before line HeaderTooLong = ⊥
 LineFault before line BadField = (line ≢ []) × ((field : Field) → IsField field → line ≢ field_text field)
 LineFault before line NoLength = (line ≡ []) × (length_values before ≡ [])
-LineFault before line TwoLengths = (field : Field) × IsField field × (line ≡ field_text field) × IsTrue (is_length field) × (length_values before ≢ [])
-LineFault before line BadLength = (field : Field) × IsField field × (line ≡ field_text field) × IsTrue (is_length field) × (length_values before ≡ []) × ((n : ℕ) → ¬ IsLength field.value n)
-LineFault before line TooLarge = (field : Field) × IsField field × (line ≡ field_text field) × IsTrue (is_length field) × (length_values before ≡ []) × ((n : ℕ) × IsLength field.value n × (content_limit < n))
+LineFault before line TwoLengths =
+    (field : Field) × IsField field × (line ≡ field_text field) × IsTrue (is_length field) × (length_values before ≢ [])
+LineFault before line BadLength =
+    (field : Field) × IsField field × (line ≡ field_text field) × IsTrue (is_length field) × (length_values before ≡ [])
+    × ((n : ℕ) → ¬ IsLength field.value n)
+LineFault before line TooLarge =
+    (field : Field) × IsField field × (line ≡ field_text field) × IsTrue (is_length field) × (length_values before ≡ [])
+    × ((n : ℕ) × IsLength field.value n × (content_limit < n))
 LineFault before line NoMemory = ⊥
 
 -- after faultless fields a line is complete within the limit, and has the fault

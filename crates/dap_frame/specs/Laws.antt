@@ -14,11 +14,14 @@ FaultsAreUnique = (bytes : List ℕ) (j k : FramingFault) → FaultAt bytes j �
 
 -- a frame and a fault never both stand at the front
 abbrev pub NeverBoth : Type 0
-NeverBoth = (bytes content rest : List ℕ) (fault : FramingFault) → IsFrameInFront bytes content rest → FaultAt bytes fault → ⊥
+NeverBoth =
+    (bytes content rest : List ℕ) (fault : FramingFault) → IsFrameInFront bytes content rest → FaultAt bytes fault → ⊥
 
 -- a frame stands at the front, or a fault does, or more bytes have to come
 abbrev pub IsOneOfThree : List ℕ → Type 0
-IsOneOfThree bytes = ((content : List ℕ) × (rest : List ℕ) × IsFrameInFront bytes content rest) ⊎ (((fault : FramingFault) × FaultAt bytes fault) ⊎ IsOpen bytes)
+IsOneOfThree bytes =
+    ((content : List ℕ) × (rest : List ℕ) × IsFrameInFront bytes content rest)
+    ⊎ (((fault : FramingFault) × FaultAt bytes fault) ⊎ IsOpen bytes)
 
 -- one of the three holds of each rest
 abbrev pub OneOfThree : Type 0
@@ -26,7 +29,8 @@ OneOfThree = (bytes : List ℕ) → IsOneOfThree bytes
 
 -- what is written for a content of an allowed length is read again, whatever follows it
 abbrev pub IsReadAgain : Type 0
-IsReadAgain = (content after : List ℕ) → length content ≤ content_limit → IsFrameInFront (frame_of content ++ after) content after
+IsReadAgain =
+    (content after : List ℕ) → length content ≤ content_limit → IsFrameInFront (frame_of content ++ after) content after
 
 -- the frames of a stream and those of its rest are the frames of the whole
 abbrev pub FramesJoin : Type 0

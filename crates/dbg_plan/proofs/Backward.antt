@@ -39,20 +39,26 @@ module _ (no_gaps : RunsHaveNoGaps) (last : NothingFollowsTheEnd) (main : Block)
       by_frames (Some []) e next = absurd (none_there (at main (m + 1)) (last main m e) next)
       by_frames (Some (f ∷ below)) e next = omega arith
 
-pub runs_there : RunsHaveNoGaps → NothingFollowsTheEnd → (old new : Standing) → new.unit ≡ old.unit → new.position ≤ old.position → IsRunning old → IsRunning new
+pub runs_there : RunsHaveNoGaps → NothingFollowsTheEnd → (old new : Standing) → new.unit ≡ old.unit
+    → new.position ≤ old.position → IsRunning old → IsRunning new
 runs_there no_gaps last old new unit le running =
-    subst (λ u. IsRunning (record { unit = u; position = new.position })) (sym unit) (ran_before no_gaps last (program old) new.position old.position le running)
+    subst (λ u. IsRunning (record { unit = u; position = new.position })) (sym unit)
+    (ran_before no_gaps last (program old) new.position old.position le running)
 
 -- ---- the counts begin anew
 
-pub gone_back : (d : Inside) → IsCounting d → (new : Inside) (position : ℕ) → new.machine ≡ record d.machine { position = position } → new.plan ≡ d.plan → new.trail ≡ d.trail → new.considered ≡ false → new.counted_from ≡ position → new.counts ≡ replicate 256 0 → IsCounting new
+pub gone_back : (d : Inside) → IsCounting d → (new : Inside) (position : ℕ)
+    → new.machine ≡ record d.machine { position = position } → new.plan ≡ d.plan → new.trail ≡ d.trail
+    → new.considered ≡ false → new.counted_from ≡ position → new.counts ≡ replicate 256 0 → IsCounting new
 gone_back d was new position machine plan trail considered first counts =
-    let next : next_of new ≡ position = ap (λ b. next_at new.machine.position b) considered ∙ ap (λ (m : Standing). m.position) machine in
+    let next : next_of new ≡ position =
+    ap (λ b. next_at new.machine.position b) considered ∙ ap (λ (m : Standing). m.position) machine in
     record {
       numbered = rw (plan) was.numbered;
       fits = rw (machine, plan) was.fits;
       room = ap length counts;
-      counts = rw (first, next) (begin (program new.machine) _ position _ (rw (plan) was.numbered) (λ k. ap (λ cs. slice_index cs k) counts ∙ zeros 256 k));
+      counts = rw (first, next) (begin (program new.machine) _ position _ (rw (plan) was.numbered)
+          (λ k. ap (λ cs. slice_index cs k) counts ∙ zeros 256 k));
       begun = omega arith;
       stands = subst (λ b. StandsBy new.machine b) (sym considered) tt;
       trail = rw (machine, trail) was.trail;

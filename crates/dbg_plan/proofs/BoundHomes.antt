@@ -17,7 +17,8 @@ use Rattle.dbg_plan.specs.declared.located.LocatedExpression.{LocatedExpression}
 use Rattle.dbg_plan.specs.declared.located.LocatedExpression.TheVariants as bound
 use Rattle.dbg_plan.specs.Bound.{IsDeclaredBound, IsNameBound}
 
-pub nowhere_bound : (main : Block) (q : Path) (w : List ℕ) → IsHomeAnswer main q (home main q w) None → IsNameBound main q (home main q w) (bound.Number (pos 0))
+pub nowhere_bound : (main : Block) (q : Path) (w : List ℕ) → IsHomeAnswer main q (home main q w) None
+    → IsNameBound main q (home main q w) (bound.Number (pos 0))
 nowhere_bound main q w is = by_home (home main q w) is
   where
     by_home : (o : Option Home) → IsHomeAnswer main q o None → IsNameBound main q o (bound.Number (pos 0))
@@ -26,7 +27,9 @@ nowhere_bound main q w is = by_home (home main q w) is
 
 module _ (main : Block) (q : Path) (w : List ℕ) (a : Answer) (is : IsHomeAnswer main q (home main q w) (Some a)) where
   -- what stands for the declaration of the home stands for the name
-  pub bound_by : (m : Meaning) (b : LocatedExpression) → meaning_of a.meaning ≡ m → ((r : Path) → block_at main r ≡ Some (plain_block a.block.now) → a.level + length r ≡ length q → IsDeclaredBound main q r m b) → IsNameBound main q (home main q w) b
+  pub bound_by : (m : Meaning) (b : LocatedExpression) → meaning_of a.meaning ≡ m
+      → ((r : Path) → block_at main r ≡ Some (plain_block a.block.now) → a.level + length r ≡ length q
+      → IsDeclaredBound main q r m b) → IsNameBound main q (home main q w) b
   bound_by m b same here = by_home (home main q w) is
     where
       by_home : (o : Option Home) → IsHomeAnswer main q o (Some a) → IsNameBound main q o b
@@ -37,31 +40,47 @@ module _ (main : Block) (q : Path) (w : List ℕ) (a : Answer) (is : IsHomeAnswe
   same_block b c e = cc
 
   -- its constant is there
-  pub constant_within : (k : ℕ) → meaning_of a.meaning ≡ AConstant k → k < length (out-Block a.block.now).constants.items
+  pub constant_within : (k : ℕ) → meaning_of a.meaning ≡ AConstant k
+      → k < length (out-Block a.block.now).constants.items
   constant_within k same =
       let lt = by_home (home main q w) refl is in
-      omega (arith, lt, ap length (plain_constants a.block.now), length-map (out-Block a.block.now).constants.items plain_constant)
+      omega (
+        arith,
+        lt,
+        ap length (plain_constants a.block.now),
+        length-map (out-Block a.block.now).constants.items
+            plain_constant,
+      )
     where
-      by_home : (o : Option Home) → home main q w ≡ o → IsHomeAnswer main q o (Some a) → k < length (constants (plain_block a.block.now))
+      by_home : (o : Option Home) → home main q w ≡ o → IsHomeAnswer main q o (Some a)
+          → k < length (constants (plain_block a.block.now))
       by_home None at is = absurd is
       by_home (Some h) at is =
           let there = home_is main q w h at in
           let declared = subst (λ m. IsDeclaredBy there.block m) (sym is.2 ∙ same) there.declared in
-          subst (λ c. k < length (constants c)) (same_block there.block (plain_block a.block.now) (sym there.there ∙ is.0)) declared
+          subst (λ c. k < length (constants c))
+          (same_block there.block (plain_block a.block.now) (sym there.there ∙ is.0)) declared
 
-  pub constant_bound : (k : ℕ) (c : DeclaredConstant) → meaning_of a.meaning ≡ AConstant k → slice_get (out-Block a.block.now).constants.items k ≡ Some c → IsNameBound main q (home main q w) (bound.Number c.value)
+  pub constant_bound : (k : ℕ) (c : DeclaredConstant) → meaning_of a.meaning ≡ AConstant k
+      → slice_get (out-Block a.block.now).constants.items k ≡ Some c
+      → IsNameBound main q (home main q w) (bound.Number c.value)
   constant_bound k c same at = bound_by (AConstant k) (bound.Number c.value) same (λ r there level. (
     c.value,
     (
         ap (λ o. constant_of o k) there
         ∙ ap (λ cs. option_map (λ (x : Constant). x.value) (slice_get cs k)) (plain_constants a.block.now)
-        ∙ ap (option_map (λ (x : Constant). x.value)) (slice_get-map plain_constant (out-Block a.block.now).constants.items k ∙ ap (option_map plain_constant) at)
+        ∙ ap (option_map (λ (x : Constant). x.value))
+        (slice_get-map plain_constant (out-Block a.block.now).constants.items k ∙ ap (option_map plain_constant) at)
         ),
     refl,
   ))
 
-  pub variable_bound : (k : ℕ) → meaning_of a.meaning ≡ AVariable k → IsNameBound main q (home main q w) (bound.Variable a.level k)
-  variable_bound k same = bound_by (AVariable k) (bound.Variable a.level k) same (λ r there level. ap (λ n. bound.Variable n k) (omega (arith, level)))
+  pub variable_bound : (k : ℕ) → meaning_of a.meaning ≡ AVariable k
+      → IsNameBound main q (home main q w) (bound.Variable a.level k)
+  variable_bound k same =
+      bound_by (AVariable k) (bound.Variable a.level k) same
+      (λ r there level. ap (λ n. bound.Variable n k) (omega (arith, level)))
 
-  pub procedure_bound : (k : ℕ) → meaning_of a.meaning ≡ AProcedure k → IsNameBound main q (home main q w) (bound.Number (pos 0))
+  pub procedure_bound : (k : ℕ) → meaning_of a.meaning ≡ AProcedure k
+      → IsNameBound main q (home main q w) (bound.Number (pos 0))
   procedure_bound k same = bound_by (AProcedure k) (bound.Number (pos 0)) same (λ r there level. refl)

@@ -10,7 +10,9 @@ use Rattle.dbg_plan.specs.Breakpoints.{TextCondition}
 use Rattle.dbg_plan.specs.Resolutions.{ReadsConditionAt, HasConditionAt}
 
 -- a text with a fault is no condition's
-pub no_condition : FaultExcludesConditions → (main : Block) (n : ℕ) (text : List ℕ) → text ≢ [] → (fault : SyntaxFault) → FaultIs (IsFirstConditionFault main (step_path main n) text) fault → FaultIs (λ kind place. ¬ HasConditionAt main n text) fault
+pub no_condition : FaultExcludesConditions → (main : Block) (n : ℕ) (text : List ℕ) → text ≢ [] → (fault : SyntaxFault)
+    → FaultIs (IsFirstConditionFault main (step_path main n) text) fault
+    → FaultIs (λ kind place. ¬ HasConditionAt main n text) fault
 no_condition excludes main n text some (InText kind place) is = λ has. by_condition has.condition has.reads
   where
     by_condition : (o : Option TextCondition) → ReadsConditionAt main n text o → ⊥

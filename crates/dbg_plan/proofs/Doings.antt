@@ -19,24 +19,33 @@ module _ (m : Standing) (first : ℕ) where
   none_plain None = refl
   none_plain (Some x) = refl
 
-  stops_one : (v w : Bool) (b : Breakpoint) (bs : List Breakpoint) → any_stops bs ≡ w → any_stops (cond v (b ∷ bs) bs) ≡ ((is_none b.message && v) || w)
-  stops_one true w b bs e = elim (is_none b.message) as (λ n. (n || any_stops bs) ≡ ((n && true) || w)) [ true ↦ refl | false ↦ e ]
-  stops_one false w b bs e = e ∙ elim (is_none b.message) as (λ n. w ≡ ((n && false) || w)) [ true ↦ refl | false ↦ refl ]
+  stops_one : (v w : Bool) (b : Breakpoint) (bs : List Breakpoint) → any_stops bs ≡ w
+      → any_stops (cond v (b ∷ bs) bs) ≡ ((is_none b.message && v) || w)
+  stops_one true w b bs e =
+      elim (is_none b.message) as (λ n. (n || any_stops bs) ≡ ((n && true) || w)) [ true ↦ refl | false ↦ e ]
+  stops_one false w b bs e =
+      e ∙ elim (is_none b.message) as (λ n. w ≡ ((n && false) || w)) [ true ↦ refl | false ↦ refl ]
 
-  pub stops_are : (bs : List Breakpoint) → any_stops (filter hit bs) ≡ list_any (stops (program m) first m.position) (plain_breakpoints bs)
+  pub stops_are : (bs : List Breakpoint) → any_stops (filter hit bs) ≡ list_any (stops (program m) first m.position)
+      (plain_breakpoints bs)
   stops_are [] = refl
   stops_are (b ∷ bs) =
-      stops_one (hit b) (list_any (stops (program m) first m.position) (plain_breakpoints bs)) b (filter hit bs) (stops_are bs)
-      ∙ ap (λ n. (n && hit b) || list_any (stops (program m) first m.position) (plain_breakpoints bs)) (sym (none_plain b.message))
+      stops_one (hit b) (list_any (stops (program m) first m.position) (plain_breakpoints bs)) b (filter hit bs)
+      (stops_are bs)
+      ∙ ap (λ n. (n && hit b) || list_any (stops (program m) first m.position) (plain_breakpoints bs))
+      (sym (none_plain b.message))
 
   abbrev log_of : ℕ → Breakpoint → Option Log
   log_of n b = log_in (program m) (configuration m) n (plain_breakpoint b).message
 
-  logs_one : (v : Bool) (b : Breakpoint) (bs : List Breakpoint) → logged m (cond v (b ∷ bs) bs) ≡ cons_option (cond v (log_of b.number b) None) (logged m bs)
+  logs_one : (v : Bool) (b : Breakpoint) (bs : List Breakpoint)
+      → logged m (cond v (b ∷ bs) bs) ≡ cons_option (cond v (log_of b.number b) None) (logged m bs)
   logs_one true b bs = refl
   logs_one false b bs = refl
 
-  pub logs_are : (bs : List Breakpoint) (n : ℕ) → AreNumbered n bs → logged m (filter hit bs) ≡ filter_map (log_at (program m) first m.position) (enumerate_from n (plain_breakpoints bs))
+  pub logs_are : (bs : List Breakpoint) (n : ℕ) → AreNumbered n bs
+      → logged m (filter hit bs) ≡ filter_map (log_at (program m) first m.position)
+      (enumerate_from n (plain_breakpoints bs))
   logs_are [] n numbered = refl
   logs_are (b ∷ bs) n numbered =
       logs_one (hit b) b (filter hit bs)

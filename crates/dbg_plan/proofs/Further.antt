@@ -19,7 +19,12 @@ was_considered position true h = refl
 was_considered position false h = absurd (omega (arith, h))
 
 -- the machine took a step, and the position that it led to is counted
-module _ (d : Inside) (was : IsCounting d) (behind : next_of d ≡ d.machine.position + 1) (machine : Standing) (on : machine ≡ record d.machine { position = d.machine.position + 1 }) (running : IsRunning machine) (counts : List ℕ) (hit : Bool) (logs : List Log) (counting : (first : ℕ) → first ≤ machine.position → AreCounts (program machine) (listed_of (plan_of d)) first machine.position d.counts → CountsOn (program machine) (listed_of (plan_of d)) machine.position first hit logs counts) where
+module _ (d : Inside) (was : IsCounting d) (behind : next_of d ≡ d.machine.position + 1) (machine : Standing)
+    (on : machine ≡ record d.machine { position = d.machine.position + 1 }) (running : IsRunning machine)
+    (counts : List ℕ) (hit : Bool) (logs : List Log)
+    (counting : (first : ℕ) → first ≤ machine.position → AreCounts (program machine) (listed_of (plan_of d)) first
+    machine.position d.counts → CountsOn (program machine) (listed_of (plan_of d)) machine.position first hit logs
+    counts) where
   abbrev pub now : Inside
   now = record d { machine = machine; counts = counts }
 
@@ -44,16 +49,20 @@ module _ (d : Inside) (was : IsCounting d) (behind : next_of d ≡ d.machine.pos
         numbered = was.numbered;
         fits = subst (λ (m : Standing). MayBePlanOf m.unit (plan_of d)) (sym on) was.fits;
         room = room;
-        counts = subst (λ n. AreCounts (program machine) (listed_of (plan_of d)) d.counted_from n counts) (sym next) counts_on.counts;
+        counts = subst (λ n. AreCounts (program machine) (listed_of (plan_of d)) d.counted_from n counts) (sym next)
+            counts_on.counts;
         begun = omega (arith, begun, behind, place, next);
         stands = rw (considered) running;
         trail = rw (on) was.trail;
       }
 
-  pub led : (mode : Mode) (due : Option Reason) → due ≡ (if hit then Some reason.Breakpoint else reason_of mode (depth_at (program machine) machine.position)) → (debugged_of now ≡ further (debugged_of d)) × IsConsidered (debugged_of now) × (due ≡ due_now (debugged_of now) mode) × (logs ≡ logs_now (debugged_of now))
+  pub led : (mode : Mode) (due : Option Reason) → due ≡ (if hit then Some reason.Breakpoint else reason_of mode
+      (depth_at (program machine) machine.position)) → (debugged_of now ≡ further (debugged_of d))
+      × IsConsidered (debugged_of now) × (due ≡ due_now (debugged_of now) mode) × (logs ≡ logs_now (debugged_of now))
   led mode due told = (
     rw (on, considered) refl,
     record { behind = rw (considered) refl; running = running },
-    told ∙ ap (λ b. if b then Some reason.Breakpoint else reason_of mode (depth_at (program machine) machine.position)) counts_on.due_is,
+    told ∙ ap (λ b. if b then Some reason.Breakpoint else reason_of mode (depth_at (program machine) machine.position))
+        counts_on.due_is,
     counts_on.logs_are,
   )

@@ -17,11 +17,13 @@ abbrev pub Parses : List ℕ → Result ℕ ℕ → Type 0
 Parses text r = ParsesUnsigned 32 10 text r
 
 -- what parses and begins neither with a zero nor with a plus sign is the decimal text of its number, which isn't 0
-pub decimal_of : (text : List ℕ) (k : ℕ) → Parses text (Ok k) → get_or text 0 0 ≢ 48 → get_or text 0 0 ≢ 43 → (text ≡ decimal k) × (0 < k)
+pub decimal_of : (text : List ℕ) (k : ℕ) → Parses text (Ok k) → get_or text 0 0 ≢ 48 → get_or text 0 0 ≢ 43
+    → (text ≡ decimal k) × (0 < k)
 decimal_of text k parses no_zero no_plus =
     let plain = parse_plain digits_model {E = ℕ} 32 text (Ok k) parses no_plus in
     let fits = plain.0.2 in
-    let written : decimal (digits_value 10 text) ≡ text = decimal-digits_value digits_model text plain.0.0 plain.0.1 (λ zero. absurd (no_zero zero)) (omega arith) in
+    let written : decimal (digits_value 10 text) ≡ text =
+    decimal-digits_value digits_model text plain.0.0 plain.0.1 (λ zero. absurd (no_zero zero)) (omega arith) in
     let is : text ≡ decimal k = sym written ∙ ap decimal (sym plain.1) in (
       is,
       elim (eq-zero-or-pos k) [
@@ -31,7 +33,8 @@ decimal_of text k parses no_zero no_plus =
     )
 
 -- the decimal text of any number but 0 begins neither with a zero nor with a plus sign
-pub not_begun_with : (text : List ℕ) (k c : ℕ) (r : Bool) → c < 49 → 0 < k → k < 2 ^ 31 → text ≡ decimal k → Decides r (get_or text 0 0 ≡ c) → r ≡ true → ⊥
+pub not_begun_with : (text : List ℕ) (k c : ℕ) (r : Bool) → c < 49 → 0 < k → k < 2 ^ 31 → text ≡ decimal k
+    → Decides r (get_or text 0 0 ≡ c) → r ≡ true → ⊥
 not_begun_with text k c r low some fits is decides begins =
     let first = first_decimal k some (omega arith) in
     let at = decides.0 begins in
@@ -45,10 +48,12 @@ not_ok n is = cc
 
 -- a decimal text parses, to its number alone
 pub parses_to : (text : List ℕ) (k n : ℕ) → k < 2 ^ 31 → text ≡ decimal k → Parses text (Ok n) → n ≡ k
-parses_to text k n fits is parses = same_ok n k (parse-decimal {E = ℕ} 32 k text (Ok n) (omega arith) (omega arith) is parses)
+parses_to text k n fits is parses =
+    same_ok n k (parse-decimal {E = ℕ} 32 k text (Ok n) (omega arith) (omega arith) is parses)
 
 pub does_parse : (text : List ℕ) (k : ℕ) → k < 2 ^ 31 → text ≡ decimal k → ¬ Parses text (Err 0)
-does_parse text k fits is parses = not_ok k (parse-decimal {E = ℕ} 32 k text (Err 0) (omega arith) (omega arith) is parses)
+does_parse text k fits is parses =
+    not_ok k (parse-decimal {E = ℕ} 32 k text (Err 0) (omega arith) (omega arith) is parses)
 
 -- ---- texts that are no rule
 
@@ -58,7 +63,8 @@ IsNoNumber text = (k : ℕ) → 0 < k → k < 2 ^ 31 → text ≢ decimal k
 
 -- k alone begins with no `%`
 no_percent : (k : ℕ) (rest : List ℕ) → 0 < k → k < 2 ^ 31 → 37 ∷ rest ≢ decimal k
-no_percent k rest some fits is = let first = first_decimal k some (omega arith) in absurd (omega (arith, ap (λ t. get_or t 0 0) is))
+no_percent k rest some fits is =
+    let first = first_decimal k some (omega arith) in absurd (omega (arith, ap (λ t. get_or t 0 0) is))
 
 same_tail : (xs ys : List ℕ) → 37 ∷ xs ≡ 37 ∷ ys → xs ≡ ys
 same_tail xs ys e = cc

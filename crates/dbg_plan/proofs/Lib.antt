@@ -6,7 +6,8 @@ pub mod Tally
 -- A breakpoint that is met stops the program if it has no message, and logs if it has one; for the functions of
 -- `counting`, `debuggee` and `running`.
 pub mod Doings
--- The step at which the program stands is found by its place; for the functions of `counting`, `debuggee` and `running`.
+-- The step at which the program stands is found by its place; for the functions of `counting`, `debuggee` and
+-- `running`.
 pub mod Places
 -- What considering one more position does to the counts, and whether that position is due; for the functions of
 -- `counting`, `debuggee` and `running`.
@@ -17,8 +18,8 @@ pub mod Fresh
 -- The counts of a debuggee that was considered are right one position further; for `Debuggee::advance`,
 -- `Debuggee::run_quietly` and `Debuggee::run`.
 pub mod Further
--- A debuggee whose machine took a step is at the next position; for `Debuggee::advance`, `Debuggee::step`, `run_quietly`
--- and others.
+-- A debuggee whose machine took a step is at the next position; for `Debuggee::advance`, `Debuggee::step`,
+-- `run_quietly` and others.
 pub mod Stepping
 -- Two plans have the same table exactly where they have the same breakpoints; for the functions of `plan` and `same`.
 pub mod Sameness
@@ -30,10 +31,11 @@ pub mod HitNumbers
 pub mod Parts
 -- Lines that are answered one after another give the whole resolution; for `resolve_line` and `resolve`.
 pub mod Lines
--- A mark is set exactly at the addresses where steps with breakpoints begin; for the functions of `counting`, `debuggee`,
--- `plan` and others.
+-- A mark is set exactly at the addresses where steps with breakpoints begin; for the functions of `counting`,
+-- `debuggee`, `plan` and others.
 pub mod Watching
--- The first step on a line is found in the table of steps; for the functions of `evaluation`, `messages` and `resolving`.
+-- The first step on a line is found in the table of steps; for the functions of `evaluation`, `messages` and
+-- `resolving`.
 pub mod StepLines
 -- A text that is there is not empty; for `read_condition` and `read_rule`.
 pub mod Texts
@@ -42,8 +44,8 @@ pub mod Texts
 pub mod UnitBlocks
 -- A text with a fault is no condition; for `read_condition`.
 pub mod Conditions
--- A text reads as the parts of a message in one way, found from the left; for the functions of `logging`, `messages` and
--- `same`.
+-- A text reads as the parts of a message in one way, found from the left; for the functions of `logging`, `messages`
+-- and `same`.
 pub mod MessageParts
 -- A log message is read part by part as its definition says; for the functions of `messages`.
 pub mod MessageTexts
@@ -63,12 +65,13 @@ pub mod ValuesMet
 pub mod BoundHomes
 -- A name that was looked up for a frame's block has its number in that frame; for `name_value`.
 pub mod ValuesNamed
--- Where there is no arrival, none is counted and nothing is due or logged; for `has_arrival`, `is_unwatched` and others.
+-- Where there is no arrival, none is counted and nothing is due or logged; for `has_arrival`, `is_unwatched` and
+-- others.
 pub mod Unwatched
 -- Steps that write nothing and lead to no breakpoint, turn by turn; for `run_quietly`.
 pub mod Quiet
--- The counts of a debuggee are right after quiet steps of its machine, and perhaps one more; for `Debuggee::run_quietly`
--- and `Debuggee::run`.
+-- The counts of a debuggee are right after quiet steps of its machine, and perhaps one more; for
+-- `Debuggee::run_quietly` and `Debuggee::run`.
 pub mod QuietCounts
 -- Trails are short and ascend, and keeping a checkpoint and looking one up are as defined; for the clauses `short` and
 -- `ascend` of `going_back_laws`, and for the functions of `debuggee`, `going_back` and `trail`.
@@ -77,6 +80,6 @@ pub mod Trails
 pub mod Backward
 -- Where going back leads is the last position that is due; for the clause `last_due` of `going_back_laws`.
 pub mod Retreats
--- The logs of a position say its messages with each expression replaced by its value; for the clauses `replaced`, `said`
--- and `arithmetic` of `log_laws`.
+-- The logs of a position say its messages with each expression replaced by its value; for the clauses `replaced`,
+-- `said` and `arithmetic` of `log_laws`.
 pub mod Said

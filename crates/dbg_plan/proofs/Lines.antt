@@ -24,63 +24,97 @@ use Rattle.dbg_plan.specs.Resolutions.{step_from, ReadsRule, HasConditionAt, Has
 use Rattle.dbg_plan.specs.Resolving.{IsBoundConditionOf, ResolvesLine}
 
 -- the first i lines are answered
-pub record Resolved (main : Block) (asked : List SourceBreakpoint) (i : ℕ) (answers : List Resolution) (bs : List Breakpoint) : Type 0 where
+pub record Resolved (main : Block) (asked : List SourceBreakpoint) (i : ℕ) (answers : List Resolution)
+    (bs : List Breakpoint) : Type 0 where
   pub few : length bs ≤ i
   pub answered : AreResolved main (take i asked) answers (plain_breakpoints bs)
   pub numbered : AreNumbered 0 bs
   pub placed : AreAtSteps main bs
 
-pub none : (main : Block) (asked : List SourceBreakpoint) (answers : List Resolution) (bs : List Breakpoint) → answers ≡ [] → bs ≡ [] → Resolved main asked 0 answers bs
+pub none : (main : Block) (asked : List SourceBreakpoint) (answers : List Resolution) (bs : List Breakpoint)
+    → answers ≡ [] → bs ≡ [] → Resolved main asked 0 answers bs
 none main asked answers bs no_answer no_breakpoint =
-    let nothing : Resolved main asked 0 [] [] = record { few = omega arith; answered = refl; numbered = tt; placed = tt } in
-    subst (λ l. Resolved main asked 0 l bs) (sym no_answer) (subst (λ l. Resolved main asked 0 [] l) (sym no_breakpoint) nothing)
+    let nothing : Resolved main asked 0 [] [] =
+    record { few = omega arith; answered = refl; numbered = tt; placed = tt } in
+    subst (λ l. Resolved main asked 0 l bs) (sym no_answer)
+    (subst (λ l. Resolved main asked 0 [] l) (sym no_breakpoint) nothing)
 
-more_numbered : (n m : ℕ) (bs mine : List Breakpoint) → m ≡ n + length bs → AreNumbered n bs → AreNumbered m mine → AreNumbered n (bs ++ mine)
+more_numbered : (n m : ℕ) (bs mine : List Breakpoint) → m ≡ n + length bs → AreNumbered n bs → AreNumbered m mine
+    → AreNumbered n (bs ++ mine)
 more_numbered n m [] mine e old new = subst (λ k. AreNumbered k mine) (let f : m ≡ n = omega arith in f) new
 more_numbered n m (b ∷ bs) mine e old new = (old.0, old.1, more_numbered (n + 1) m bs mine (omega arith) old.2 new)
 
-more_placed : (main : Block) (bs mine : List Breakpoint) → AreAtSteps main bs → AreAtSteps main mine → AreAtSteps main (bs ++ mine)
+more_placed : (main : Block) (bs mine : List Breakpoint) → AreAtSteps main bs → AreAtSteps main mine
+    → AreAtSteps main (bs ++ mine)
 more_placed main [] mine old new = new
 more_placed main (b ∷ bs) mine old new = (old.0, old.1, old.2, more_placed main bs mine old.3 new)
 
-more_answered : (main : Block) (lines : List SourceBreakpoint) (answers : List Resolution) (bs mine : List PlainBreakpoint) (line : SourceBreakpoint) (answer : Resolution) →
-    AreResolved main lines answers bs → IsResolvedTo main line answer mine → AreResolved main (lines ++ line ∷ []) (answers ++ answer ∷ []) (bs ++ mine)
-more_answered main [] [] bs mine line answer old new = (mine, [], ap (λ l. l ++ mine) old ∙ sym (append-nil mine), new, refl)
+more_answered : (main : Block) (lines : List SourceBreakpoint) (answers : List Resolution)
+    (bs mine : List PlainBreakpoint) (line : SourceBreakpoint) (answer : Resolution) →
+    AreResolved main lines answers bs → IsResolvedTo main line answer mine
+    → AreResolved main (lines ++ line ∷ []) (answers ++ answer ∷ []) (bs ++ mine)
+more_answered main [] [] bs mine line answer old new =
+    (mine, [], ap (λ l. l ++ mine) old ∙ sym (append-nil mine), new, refl)
 more_answered main [] (a ∷ answers) bs mine line answer old new = absurd old
 more_answered main (x ∷ lines) [] bs mine line answer old new = absurd old
-more_answered main (x ∷ lines) (a ∷ answers) bs mine line answer old new =
-    (old.0, old.1 ++ mine, ap (λ l. l ++ mine) old.2 ∙ append_assoc old.0 old.1 mine, old.3, more_answered main lines answers old.1 mine line answer old.4 new)
+more_answered main (x ∷ lines) (a ∷ answers) bs mine line answer old new = (
+  old.0,
+  old.1 ++ mine,
+  ap (λ l. l ++ mine) old.2 ∙ append_assoc old.0 old.1 mine,
+  old.3,
+  more_answered main lines
+      answers old.1 mine line answer old.4 new,
+)
 
-pub one_more : (main : Block) (asked : List SourceBreakpoint) (i : ℕ) (line : SourceBreakpoint) (answers all : List Resolution) (bs new : List Breakpoint) (answer : Resolution) → i < length asked → line ≡ get_or asked i line →
-    Resolved main asked i answers bs → ResolvesLine main line bs new answer → all ≡ answers ++ answer ∷ [] → Resolved main asked (i + 1) all new
+pub one_more : (main : Block) (asked : List SourceBreakpoint) (i : ℕ) (line : SourceBreakpoint)
+    (answers all : List Resolution) (bs new : List Breakpoint) (answer : Resolution) → i < length asked
+    → line ≡ get_or asked i line →
+    Resolved main asked i answers bs → ResolvesLine main line bs new answer → all ≡ answers ++ answer ∷ []
+    → Resolved main asked (i + 1) all new
 one_more main asked i line answers all bs new answer lt is old more all_is =
     let few = old.few in
     let one = more.few in
     let now : Resolved main asked (i + 1) (answers ++ answer ∷ []) (bs ++ more.mine) = record {
       few = omega (arith, length-append bs more.mine);
-      answered = subst (λ l. AreResolved main l (answers ++ answer ∷ []) (plain_breakpoints (bs ++ more.mine))) (sym (take_more asked i line lt ∙ ap (λ x. take i asked ++ x ∷ []) (sym is)))
-          (subst (λ l. AreResolved main (take i asked ++ line ∷ []) (answers ++ answer ∷ []) l) (sym (map-append plain_breakpoint bs more.mine)) (more_answered main (take i asked) answers (plain_breakpoints bs) (plain_breakpoints more.mine) line answer old.answered more.resolved));
+      answered =
+          subst (λ l. AreResolved main l (answers ++ answer ∷ []) (plain_breakpoints (bs ++ more.mine)))
+          (sym (take_more asked i line lt ∙ ap (λ x. take i asked ++ x ∷ []) (sym is)))
+          (subst (λ l. AreResolved main (take i asked ++ line ∷ []) (answers ++ answer ∷ []) l)
+          (sym (map-append plain_breakpoint bs more.mine))
+          (more_answered main (take i asked) answers (plain_breakpoints bs) (plain_breakpoints more.mine) line
+          answer old.answered more.resolved));
       numbered = more_numbered 0 (length bs) bs more.mine (omega arith) old.numbered more.numbered;
       placed = more_placed main bs more.mine old.placed more.placed;
     } in
-    subst (λ l. Resolved main asked (i + 1) l new) (sym all_is) (subst (λ l. Resolved main asked (i + 1) (answers ++ answer ∷ []) l) (sym more.after) now)
+    subst (λ l. Resolved main asked (i + 1) l new) (sym all_is)
+    (subst (λ l. Resolved main asked (i + 1) (answers ++ answer ∷ []) l) (sym more.after) now)
 
-pub plan_is : (u : Compiled) (n : ℕ) (bs : List Breakpoint) (lines : List (Option ℕ)) (plan : Listed) → plan ≡ record { steps = n; breakpoints = bs; watched = watched_lines bs lines } → lines ≡ u.begun_steps.items → n ≡ length (steps (program_of u)) → AreAtSteps (program_of u) bs → IsPlanOf u plan
+pub plan_is : (u : Compiled) (n : ℕ) (bs : List Breakpoint) (lines : List (Option ℕ)) (plan : Listed)
+    → plan ≡ record { steps = n; breakpoints = bs; watched = watched_lines bs lines } → lines ≡ u.begun_steps.items
+    → n ≡ length (steps (program_of u)) → AreAtSteps (program_of u) bs → IsPlanOf u plan
 plan_is u n bs lines plan is beside all placed =
-    let this : IsPlanOf u (record { steps = n; breakpoints = bs; watched = watched_lines bs lines }) = record { steps = all; bound = placed; watched = ap (λ l. watched_lines bs l) beside } in
+    let this : IsPlanOf u (record { steps = n; breakpoints = bs; watched = watched_lines bs lines }) =
+    record { steps = all; bound = placed; watched = ap (λ l. watched_lines bs l) beside } in
     subst (λ (p : Listed). IsPlanOf u p) (sym is) this
 
 -- ---- the breakpoints as data
 
-all_at_steps : (main : Block) (bs : List Breakpoint) → AreAtSteps main bs → All (λ b. b.step < length (steps main)) (plain_breakpoints bs)
+all_at_steps : (main : Block) (bs : List Breakpoint) → AreAtSteps main bs
+    → All (λ b. b.step < length (steps main)) (plain_breakpoints bs)
 all_at_steps main [] placed = λ k d lt. absurd (omega arith)
-all_at_steps main (b ∷ bs) placed = All-cons (λ b. b.step < length (steps main)) (plain_breakpoint b) (plain_breakpoints bs) placed.0 (all_at_steps main bs placed.3)
+all_at_steps main (b ∷ bs) placed =
+    All-cons (λ b. b.step < length (steps main)) (plain_breakpoint b) (plain_breakpoints bs) placed.0
+    (all_at_steps main bs placed.3)
 
 all_rules : (n : ℕ) (bs : List Breakpoint) → AreNumbered n bs → All (λ b. IsRule b.rule) (plain_breakpoints bs)
 all_rules n [] numbered = λ k d lt. absurd (omega arith)
-all_rules n (b ∷ bs) numbered = All-cons (λ b. IsRule b.rule) (plain_breakpoint b) (plain_breakpoints bs) numbered.1 (all_rules (n + 1) bs numbered.2)
+all_rules n (b ∷ bs) numbered =
+    All-cons (λ b. IsRule b.rule) (plain_breakpoint b) (plain_breakpoints bs) numbered.1
+    (all_rules (n + 1) bs numbered.2)
 
-pub breakpoints_are : (main : Block) (asked : List SourceBreakpoint) (i : ℕ) (answers : List Resolution) (bs : List Breakpoint) (plan : Listed) → Resolved main asked i answers bs → i ≤ breakpoint_limit → plan.breakpoints ≡ bs → AreBreakpointsOf main (plain_breakpoints plan.breakpoints)
+pub breakpoints_are : (main : Block) (asked : List SourceBreakpoint) (i : ℕ) (answers : List Resolution)
+    (bs : List Breakpoint) (plan : Listed) → Resolved main asked i answers bs → i ≤ breakpoint_limit
+    → plan.breakpoints ≡ bs → AreBreakpointsOf main (plain_breakpoints plan.breakpoints)
 breakpoints_are main asked i answers bs plan old le same =
     let few = old.few in
     subst (λ l. AreBreakpointsOf main (plain_breakpoints l)) (sym same) (record {
@@ -91,25 +125,49 @@ breakpoints_are main asked i answers bs plan old le same =
 
 -- ---- lines without a breakpoint
 
-refused : (main : Block) (asked : SourceBreakpoint) (old : List Breakpoint) (answer : Resolution) → IsResolvedTo main asked answer [] → ResolvesLine main asked old old answer
+refused : (main : Block) (asked : SourceBreakpoint) (old : List Breakpoint) (answer : Resolution)
+    → IsResolvedTo main asked answer [] → ResolvesLine main asked old old answer
 refused main asked old answer is =
     record { mine = []; few = omega arith; after = sym (append-nil old); resolved = is; numbered = tt; placed = tt }
 
-pub bad_condition : (main : Block) (asked : SourceBreakpoint) (old : List Breakpoint) (n : ℕ) (text : List ℕ) (fault : SyntaxFault) (kind : FaultKind) (place : Place) → step_from main asked.line ≡ Some n → text ≡ string_bytes asked.condition →
-    FaultIs (λ kind place. ¬ HasConditionAt main n text) fault → fault ≡ InText kind place → ResolvesLine main asked old old BadCondition
+pub bad_condition : (main : Block) (asked : SourceBreakpoint) (old : List Breakpoint) (n : ℕ) (text : List ℕ)
+    (fault : SyntaxFault) (kind : FaultKind) (place : Place) → step_from main asked.line ≡ Some n
+    → text ≡ string_bytes asked.condition →
+    FaultIs (λ kind place. ¬ HasConditionAt main n text) fault → fault ≡ InText kind place
+    → ResolvesLine main asked old old BadCondition
 bad_condition main asked old n text fault kind place there same is e =
-    let none : ¬ HasConditionAt main n text = subst (λ f. FaultIs (λ kind place. ¬ HasConditionAt main n text) f) e is in
+    let none : ¬ HasConditionAt main n text =
+    subst (λ f. FaultIs (λ kind place. ¬ HasConditionAt main n text) f) e is in
     refused main asked old BadCondition (refl, (n, there, subst (λ t. ¬ HasConditionAt main n t) same none))
 
-pub bad_hit_condition : (main : Block) (asked : SourceBreakpoint) (old : List Breakpoint) (n : ℕ) (text hit : List ℕ) (condition : Option BoundCondition) → step_from main asked.line ≡ Some n → text ≡ string_bytes asked.condition →
-    IsBoundConditionOf main n text condition → hit ≡ string_bytes asked.hit_condition → ¬ HasRule hit → ResolvesLine main asked old old BadHitCondition
+pub bad_hit_condition : (main : Block) (asked : SourceBreakpoint) (old : List Breakpoint) (n : ℕ) (text hit : List ℕ)
+    (condition : Option BoundCondition) → step_from main asked.line ≡ Some n → text ≡ string_bytes asked.condition →
+    IsBoundConditionOf main n text condition → hit ≡ string_bytes asked.hit_condition → ¬ HasRule hit
+    → ResolvesLine main asked old old BadHitCondition
 bad_hit_condition main asked old n text hit condition there same is same_hit none =
-    let has : HasConditionAt main n text = record { condition = option_map text_condition condition; reads = is.reads } in
-    refused main asked old BadHitCondition (refl, subst (λ t. ¬ HasRule t) same_hit none, (n, there, subst (λ t. HasConditionAt main n t) same has))
+    let has : HasConditionAt main n text =
+    record { condition = option_map text_condition condition; reads = is.reads } in
+    refused main asked old BadHitCondition
+    (refl, subst (λ t. ¬ HasRule t) same_hit none, (n, there, subst (λ t. HasConditionAt main n t) same has))
 
-pub bad_log_message : (main : Block) (asked : SourceBreakpoint) (old : List Breakpoint) (n : ℕ) (text hit message : List ℕ) (condition : Option BoundCondition) (rule : Option Rule) → step_from main asked.line ≡ Some n → text ≡ string_bytes asked.condition →
-    IsBoundConditionOf main n text condition → hit ≡ string_bytes asked.hit_condition → ReadsRule hit rule → message ≡ string_bytes asked.log_message → ¬ HasMessageAt main n message → ResolvesLine main asked old old BadLogMessage
+pub bad_log_message : (main : Block) (asked : SourceBreakpoint) (old : List Breakpoint) (n : ℕ)
+    (text hit message : List ℕ) (condition : Option BoundCondition) (rule : Option Rule)
+    → step_from main asked.line ≡ Some n → text ≡ string_bytes asked.condition →
+    IsBoundConditionOf main n text condition → hit ≡ string_bytes asked.hit_condition → ReadsRule hit rule
+    → message ≡ string_bytes asked.log_message → ¬ HasMessageAt main n message
+    → ResolvesLine main asked old old BadLogMessage
 bad_log_message main asked old n text hit message condition rule there same is same_hit read same_message none =
-    let has : HasConditionAt main n text = record { condition = option_map text_condition condition; reads = is.reads } in
+    let has : HasConditionAt main n text =
+    record { condition = option_map text_condition condition; reads = is.reads } in
     let has_rule : HasRule hit = record { rule = rule; reads = read } in
-    refused main asked old BadLogMessage (refl, subst (λ t. HasRule t) same_hit has_rule, (n, there, subst (λ t. HasConditionAt main n t) same has, subst (λ t. ¬ HasMessageAt main n t) same_message none))
+    refused main asked old BadLogMessage (
+      refl,
+      subst (λ t. HasRule t) same_hit has_rule,
+      (
+        n,
+        there,
+        subst (λ t. HasConditionAt main n t) same has,
+        subst (λ t. ¬ HasMessageAt main n t) same_message
+            none,
+      ),
+    )

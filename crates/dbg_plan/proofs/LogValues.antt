@@ -39,23 +39,33 @@ part_prop : (main : Block) (c : Configuration) (i : ℕ) (p : Part) → IsProp (
 part_prop main c i (part.Text text) = Unit-prop
 part_prop main c i (part.Value e) = ×_prop (CanRead-prop c i e.located) (Coded-set coded_value _ _)
 
-part_read : (main : Block) (c : Configuration) (n top : ℕ) (e : Expression) (b : LocatedExpression) → AreLinked main c → IsNext main (top_of c) n → IsExpressionBound main (step_path main n) e b → top ≡ length c - 1 → CanRead c top b × (bound_value c top b ≡ value main c top e)
+part_read : (main : Block) (c : Configuration) (n top : ℕ) (e : Expression) (b : LocatedExpression) → AreLinked main c
+    → IsNext main (top_of c) n → IsExpressionBound main (step_path main n) e b → top ≡ length c - 1 → CanRead c top b
+    × (bound_value c top b ≡ value main c top e)
 part_read main [] n top e b linked next is at = absurd next
 part_read main (f ∷ below) n top e b linked next is at =
     let here : length below ≡ length (f ∷ below) - 1 = omega arith in
     let bound = subst (λ q. IsExpressionBound main q e b) (sym (stands_in main f n next)) is in
     subst (λ i. CanRead (f ∷ below) i b × (bound_value (f ∷ below) i b ≡ value main (f ∷ below) i e)) (sym at)
-    (expression_reads main (f ∷ below) (length (f ∷ below) - 1) f linked (frame_at-top f below (length (f ∷ below) - 1) here) e b bound)
+    (expression_reads main (f ∷ below) (length (f ∷ below) - 1) f linked
+    (frame_at-top f below (length (f ∷ below) - 1) here) e b bound)
 
-parts_read : (main : Block) (c : Configuration) (n top : ℕ) → AreLinked main c → IsNext main (top_of c) n → top ≡ length c - 1 → (ps : List Part) → ArePartsBound main (step_path main n) ps → All (ReadsPart main c top) ps
+parts_read : (main : Block) (c : Configuration) (n top : ℕ) → AreLinked main c → IsNext main (top_of c) n
+    → top ≡ length c - 1 → (ps : List Part) → ArePartsBound main (step_path main n) ps → All (ReadsPart main c top) ps
 parts_read main c n top linked next at [] bound = λ k d lt. absurd (omega arith)
-parts_read main c n top linked next at (part.Text text ∷ ps) bound = All-cons (ReadsPart main c top) (part.Text text) ps tt (parts_read main c n top linked next at ps bound)
+parts_read main c n top linked next at (part.Text text ∷ ps) bound =
+    All-cons (ReadsPart main c top) (part.Text text) ps tt (parts_read main c n top linked next at ps bound)
 parts_read main c n top linked next at (part.Value e ∷ ps) bound =
-    All-cons (ReadsPart main c top) (part.Value e) ps (part_read main c n top (plain_expression e.expression) e.located linked next bound.0 at) (parts_read main c n top linked next at ps bound.1)
+    All-cons (ReadsPart main c top) (part.Value e) ps
+    (part_read main c n top (plain_expression e.expression) e.located linked next bound.0 at)
+    (parts_read main c n top linked next at ps bound.1)
 
-pub reads_part : (main : Block) (c : Configuration) (n top : ℕ) → ∥ AreLinked main c ∥₁ → IsNext main (top_of c) n → top ≡ length c - 1 → (ps : List Part) → ArePartsBound main (step_path main n) ps → (i : ℕ) (p : Part) → i < length ps → p ≡ get_or ps i p → ReadsPart main c top p
+pub reads_part : (main : Block) (c : Configuration) (n top : ℕ) → ∥ AreLinked main c ∥₁ → IsNext main (top_of c) n
+    → top ≡ length c - 1 → (ps : List Part) → ArePartsBound main (step_path main n) ps → (i : ℕ) (p : Part)
+    → i < length ps → p ≡ get_or ps i p → ReadsPart main c top p
 reads_part main c n top linked next at ps bound i p lt is =
-    ∥∥₁_elim linked (part_prop main c top p) (λ l. subst (λ q. ReadsPart main c top q) (sym is) (parts_read main c n top l next at ps bound i p lt))
+    ∥∥₁_elim linked (part_prop main c top p)
+    (λ l. subst (λ q. ReadsPart main c top q) (sym is) (parts_read main c n top l next at ps bound i p lt))
 
 -- ---- one part after another
 
@@ -64,25 +74,31 @@ module _ (main : Block) (c : Configuration) (top : ℕ) (ps : List Part) where
   abbrev pub values_to : ℕ → List (Result ℤ RunFault)
   values_to i = map (value main c top) (expressions (plain_parts (take i ps)))
 
-  next_parts : (i : ℕ) (p : Part) → i < length ps → p ≡ get_or ps i p → expressions (plain_parts (take (i + 1) ps)) ≡ expressions (plain_parts (take i ps)) ++ expressions (plain_part p ∷ [])
+  next_parts : (i : ℕ) (p : Part) → i < length ps → p ≡ get_or ps i p
+      → expressions (plain_parts (take (i + 1) ps)) ≡ expressions (plain_parts (take i ps))
+      ++ expressions (plain_part p ∷ [])
   next_parts i p lt is =
       ap (λ l. expressions (plain_parts l)) (take_more ps i p lt ∙ ap (λ x. take i ps ++ x ∷ []) (sym is))
       ∙ ap expressions (map-append plain_part (take i ps) (p ∷ []))
       ∙ expressions-append (plain_parts (take i ps)) (plain_part p ∷ [])
 
-  pub values_more : (i : ℕ) (p : Part) → i < length ps → p ≡ get_or ps i p → values_to (i + 1) ≡ values_to i ++ map (value main c top) (expressions (plain_part p ∷ []))
+  pub values_more : (i : ℕ) (p : Part) → i < length ps → p ≡ get_or ps i p → values_to (i + 1) ≡ values_to i
+      ++ map (value main c top) (expressions (plain_part p ∷ []))
   values_more i p lt is =
-      ap (map (value main c top)) (next_parts i p lt is) ∙ map-append (value main c top) (expressions (plain_parts (take i ps))) (expressions (plain_part p ∷ []))
+      ap (map (value main c top)) (next_parts i p lt is) ∙ map-append (value main c top)
+      (expressions (plain_parts (take i ps))) (expressions (plain_part p ∷ []))
 
 -- of fewer parts there are no more expressions
-fewer : (ps : List Part) (k : ℕ) → length (expressions (plain_parts (take k ps))) ≤ length (expressions (plain_parts ps))
+fewer : (ps : List Part) (k : ℕ) → length (expressions (plain_parts (take k ps))) ≤ length
+    (expressions (plain_parts ps))
 fewer [] zero = omega arith
 fewer [] (suc k) = omega arith
 fewer (p ∷ ps) zero = omega arith
 fewer (part.Text text ∷ ps) (suc k) = fewer ps k
 fewer (part.Value e ∷ ps) (suc k) = omega (arith, fewer ps k)
 
-pub room_for : (main : Block) (c : Configuration) (top : ℕ) (ps : List Part) (i : ℕ) (p : Part) → i < length ps → p ≡ get_or ps i p → length (expressions (plain_parts ps)) ≤ expression_limit →
+pub room_for : (main : Block) (c : Configuration) (top : ℕ) (ps : List Part) (i : ℕ) (p : Part) → i < length ps
+    → p ≡ get_or ps i p → length (expressions (plain_parts ps)) ≤ expression_limit →
     length (values_to main c top ps i) + length (expressions (plain_part p ∷ [])) ≤ expression_limit
 room_for main c top ps i p lt is few =
     let all = ap length (next_parts main c top ps i p lt is) in
@@ -95,12 +111,17 @@ room_for main c top ps i p lt is few =
 abbrev pub numbered_log : ℕ → List (Result ℤ RunFault) → Log
 numbered_log n vs = record { number = n; values = vs }
 
-pub one_more_value : (log : Log) (n : ℕ) (vs more new : List (Result ℤ RunFault)) → log ≡ numbered_log n vs → new ≡ vs ++ more → ◌≡◌ {A = Log} (record log { values = log.values ++ more }) (numbered_log n new)
-one_more_value log n vs more new is all = ap (λ (l : Log). numbered_log l.number (l.values ++ more)) is ∙ ap (numbered_log n) (sym all)
+pub one_more_value : (log : Log) (n : ℕ) (vs more new : List (Result ℤ RunFault)) → log ≡ numbered_log n vs → new ≡ vs
+    ++ more → ◌≡◌ {A = Log} (record log { values = log.values ++ more }) (numbered_log n new)
+one_more_value log n vs more new is all =
+    ap (λ (l : Log). numbered_log l.number (l.values ++ more)) is ∙ ap (numbered_log n) (sym all)
 
-pub log_is : (m : Standing) (b : Breakpoint) (message : LogMessage) (top : ℕ) (log : Log) → configuration m ≡ Some (frames m) → b.message ≡ Some message → top ≡ length (frames m) - 1 →
-    log ≡ numbered_log b.number (map (value (program m) (frames m) top) (expressions (plain_parts message.parts.items))) → Some log ≡ log_now m b
+pub log_is : (m : Standing) (b : Breakpoint) (message : LogMessage) (top : ℕ) (log : Log)
+    → configuration m ≡ Some (frames m) → b.message ≡ Some message → top ≡ length (frames m) - 1 →
+    log ≡ numbered_log b.number (map (value (program m) (frames m) top) (expressions (plain_parts message.parts.items)))
+    → Some log ≡ log_now m b
 log_is m b message top log there is at log_as =
-    ap Some (log_as ∙ ap (λ i. numbered_log b.number (map (value (program m) (frames m) i) (expressions (plain_parts message.parts.items)))) at)
+    ap Some (log_as ∙ ap (λ i. numbered_log b.number
+    (map (value (program m) (frames m) i) (expressions (plain_parts message.parts.items)))) at)
     ∙ ap (λ o. log_in (program m) o b.number (Some (plain_message message))) (sym there)
     ∙ ap (λ o. log_in (program m) (configuration m) b.number (option_map plain_message o)) (sym is)

@@ -24,54 +24,76 @@ use Rattle.dbg_plan.specs.Resolutions.{ReadsMessageAt, HasMessageAt}
 use Rattle.dbg_plan.proofs.MessageParts.{IsReadTo, begins, one_further, continues, unclosed, some_value, reads_more, count-append}
 
 -- a text with a fault is no expression's
-pub no_expression : FaultExcludesExpressions → (main : Block) (q : Path) (text : List ℕ) (fault : SyntaxFault) (kind : FaultKind) (place : Place) → FaultIs (IsFirstExpressionFault main q text) fault → fault ≡ InText kind place → (e : Expression) → ¬ IsExpressionOf main q text e
+pub no_expression : FaultExcludesExpressions → (main : Block) (q : Path) (text : List ℕ) (fault : SyntaxFault)
+    (kind : FaultKind) (place : Place) → FaultIs (IsFirstExpressionFault main q text) fault → fault ≡ InText kind place
+    → (e : Expression) → ¬ IsExpressionOf main q text e
 no_expression excludes main q text fault kind place is e expression reads =
     excludes main q text kind place expression (subst (λ f. FaultIs (IsFirstExpressionFault main q text) f) e is) reads
 
 -- ---- read from the left
 
 -- the text was read as these parts, of which n are expressions, up to the rest
-pub record IsRead (main : Block) (q : Path) (text : List ℕ) (n : ℕ) (parts : List DeclaredPart) (rest : List ℕ) : Type 0 where
-  pub to : IsReadTo (IsExpressionOf main q) text (plain_parts parts) rest
-  pub count : length (expressions (plain_parts parts)) ≡ n
-  pub few : n ≤ expression_limit
-  pub bound : ArePartsBound main q parts
-  pub is_text : IsUtf8 rest
+pub record IsRead (main : Block) (q : Path) (text : List ℕ) (n : ℕ) (parts : List DeclaredPart) (rest : List ℕ) : Type 0
+  where
+    pub to : IsReadTo (IsExpressionOf main q) text (plain_parts parts) rest
+    pub count : length (expressions (plain_parts parts)) ≡ n
+    pub few : n ≤ expression_limit
+    pub bound : ArePartsBound main q parts
+    pub is_text : IsUtf8 rest
 
 module _ (main : Block) (q : Path) (text : List ℕ) where
   pub nothing_read : (parts : List DeclaredPart) → parts ≡ [] → IsUtf8 text → IsRead main q text 0 parts text
   nothing_read parts none is_text =
-      let empty : IsRead main q text 0 [] text = record { to = begins (IsExpressionOf main q) text; count = refl; few = omega arith; bound = tt; is_text = is_text } in
+      let empty : IsRead main q text 0 [] text =
+      record {
+        to = begins (IsExpressionOf main q) text;
+        count = refl;
+        few = omega arith;
+        bound = tt;
+        is_text =
+            is_text;
+      } in
       subst (λ l. IsRead main q text 0 l text) (sym none) empty
 
   -- one expression more
-  pub read_on : (n : ℕ) (parts new : List DeclaredPart) (rest before inner after opened : List ℕ) (e : Expression) → IsRead main q text n parts rest →
-      n < expression_limit → rest ≡ before ++ 123 ∷ opened → Lacks 123 before → opened ≡ inner ++ 125 ∷ after → Lacks 125 inner → IsExpressionOf main q inner e →
-      plain_parts new ≡ plain_parts parts ++ Text before ∷ Value e ∷ [] → ArePartsBound main q new → IsUtf8 after → IsRead main q text (n + 1) new after
+  pub read_on : (n : ℕ) (parts new : List DeclaredPart) (rest before inner after opened : List ℕ) (e : Expression)
+      → IsRead main q text n parts rest →
+      n < expression_limit → rest ≡ before ++ 123 ∷ opened → Lacks 123 before → opened ≡ inner ++ 125 ∷ after
+      → Lacks 125 inner → IsExpressionOf main q inner e →
+      plain_parts new ≡ plain_parts parts ++ Text before ∷ Value e ∷ [] → ArePartsBound main q new → IsUtf8 after
+      → IsRead main q text (n + 1) new after
   read_on n parts new rest before inner after opened e was lt cut first opens second is new_is bound is_text =
       let whole : rest ≡ before ++ braced inner after = cut ∙ ap (λ t. before ++ 123 ∷ t) opens in
       record {
-        to = subst (λ l. IsReadTo (IsExpressionOf main q) text l after) (sym new_is) (one_further (IsExpressionOf main q) text rest before inner after (plain_parts parts) e (λ f reads. expression_text_once reads.end is.end reads.reads is.reads) was.to whole first second is);
-        count = ap (λ l. length (expressions l)) new_is ∙ count-append (plain_parts parts) (Text before ∷ Value e ∷ []) ∙ ap (λ k. k + 1) was.count;
+        to = subst (λ l. IsReadTo (IsExpressionOf main q) text l after) (sym new_is)
+            (one_further (IsExpressionOf main q) text rest before inner after (plain_parts parts) e
+            (λ f reads. expression_text_once reads.end is.end reads.reads is.reads) was.to whole first second is);
+        count = ap (λ l. length (expressions l)) new_is ∙ count-append (plain_parts parts) (Text before ∷ Value e ∷ [])
+            ∙ ap (λ k. k + 1) was.count;
         few = omega arith;
         bound = bound;
         is_text = is_text;
       }
 
   -- the rest stands for itself
-  pub read_all : (n : ℕ) (parts new : List DeclaredPart) (rest : List ℕ) → IsRead main q text n parts rest → Lacks 123 rest → plain_parts new ≡ plain_parts parts ++ Text rest ∷ [] → IsMessageOf main q text (plain_parts new)
+  pub read_all : (n : ℕ) (parts new : List DeclaredPart) (rest : List ℕ) → IsRead main q text n parts rest
+      → Lacks 123 rest → plain_parts new ≡ plain_parts parts ++ Text rest ∷ []
+      → IsMessageOf main q text (plain_parts new)
   read_all n parts new rest was lacks new_is =
       let few = was.few in
       let count = was.count in
-      let more : length (expressions (plain_parts new)) ≡ length (expressions (plain_parts parts)) + 0 = ap (λ l. length (expressions l)) new_is ∙ count-append (plain_parts parts) (Text rest ∷ []) in
+      let more : length (expressions (plain_parts new)) ≡ length (expressions (plain_parts parts)) + 0 =
+      ap (λ l. length (expressions l)) new_is ∙ count-append (plain_parts parts) (Text rest ∷ []) in
       record {
         few = omega arith;
-        reads = subst (λ l. ReadsParts (IsExpressionOf main q) text l) (sym new_is) (was.to.onward (Text rest ∷ []) (refl, lacks));
+        reads = subst (λ l. ReadsParts (IsExpressionOf main q) text l) (sym new_is)
+            (was.to.onward (Text rest ∷ []) (refl, lacks));
       }
 
   -- ---- texts that are no message
 
-  pub ninth : (n : ℕ) (parts : List DeclaredPart) (rest before after : List ℕ) → IsRead main q text n parts rest → n ≡ expression_limit → rest ≡ before ++ 123 ∷ after → (all : List Part) → ¬ IsMessageOf main q text all
+  pub ninth : (n : ℕ) (parts : List DeclaredPart) (rest before after : List ℕ) → IsRead main q text n parts rest
+      → n ≡ expression_limit → rest ≡ before ++ 123 ∷ after → (all : List Part) → ¬ IsMessageOf main q text all
   ninth n parts rest before after was full cut all is =
       let left = was.to.back all is.reads in
       let some = some_value (IsExpressionOf main q) rest before after left.0 cut left.2 in
@@ -80,15 +102,21 @@ module _ (main : Block) (q : Path) (text : List ℕ) where
       let count = was.count in
       absurd (omega arith)
 
-  pub not_closed : (n : ℕ) (parts : List DeclaredPart) (rest before after : List ℕ) → IsRead main q text n parts rest → rest ≡ before ++ 123 ∷ after → Lacks 123 before → Lacks 125 after → (all : List Part) → ¬ IsMessageOf main q text all
+  pub not_closed : (n : ℕ) (parts : List DeclaredPart) (rest before after : List ℕ) → IsRead main q text n parts rest
+      → rest ≡ before ++ 123 ∷ after → Lacks 123 before → Lacks 125 after → (all : List Part)
+      → ¬ IsMessageOf main q text all
   not_closed n parts rest before after was cut first lacks all is =
       let left = was.to.back all is.reads in
       unclosed (IsExpressionOf main q) rest before after left.0 cut first lacks left.2
 
-  pub not_read : (n : ℕ) (parts : List DeclaredPart) (rest before inner after opened : List ℕ) → IsRead main q text n parts rest → rest ≡ before ++ 123 ∷ opened → Lacks 123 before → opened ≡ inner ++ 125 ∷ after → Lacks 125 inner → ((e : Expression) → ¬ IsExpressionOf main q inner e) → (all : List Part) → ¬ IsMessageOf main q text all
+  pub not_read : (n : ℕ) (parts : List DeclaredPart) (rest before inner after opened : List ℕ)
+      → IsRead main q text n parts rest → rest ≡ before ++ 123 ∷ opened → Lacks 123 before → opened ≡ inner ++ 125
+      ∷ after → Lacks 125 inner → ((e : Expression) → ¬ IsExpressionOf main q inner e) → (all : List Part)
+      → ¬ IsMessageOf main q text all
   not_read n parts rest before inner after opened was cut first opens second none all is =
       let left = was.to.back all is.reads in
-      let c = continues (IsExpressionOf main q) rest before inner after left.0 (cut ∙ ap (λ t. before ++ 123 ∷ t) opens) first second left.2 in
+      let c = continues (IsExpressionOf main q) rest before inner after left.0 (cut ∙ ap (λ t. before ++ 123 ∷ t) opens)
+      first second left.2 in
       none c.value c.reads
 
 -- of memory that ran out nothing is said
@@ -98,20 +126,26 @@ unless_read NoMemory is then = tt
 
 -- ---- parts appended
 
-pub one_appended : (old new : List DeclaredPart) (p : DeclaredPart) → new ≡ old ++ p ∷ [] → plain_parts new ≡ plain_parts old ++ plain_part p ∷ []
+pub one_appended : (old new : List DeclaredPart) (p : DeclaredPart) → new ≡ old ++ p ∷ []
+    → plain_parts new ≡ plain_parts old ++ plain_part p ∷ []
 one_appended old new p more = ap plain_parts more ∙ map-append plain_part old (p ∷ [])
 
-pub two_appended : (old mid new : List DeclaredPart) (p r : DeclaredPart) → mid ≡ old ++ p ∷ [] → new ≡ mid ++ r ∷ [] → plain_parts new ≡ plain_parts old ++ plain_part p ∷ plain_part r ∷ []
+pub two_appended : (old mid new : List DeclaredPart) (p r : DeclaredPart) → mid ≡ old ++ p ∷ [] → new ≡ mid ++ r ∷ []
+    → plain_parts new ≡ plain_parts old ++ plain_part p ∷ plain_part r ∷ []
 two_appended old mid new p r first second =
-    one_appended mid new r second ∙ ap (λ l. l ++ plain_part r ∷ []) (one_appended old mid p first) ∙ append_assoc (plain_parts old) (plain_part p ∷ []) (plain_part r ∷ [])
+    one_appended mid new r second ∙ ap (λ l. l ++ plain_part r ∷ []) (one_appended old mid p first)
+    ∙ append_assoc (plain_parts old) (plain_part p ∷ []) (plain_part r ∷ [])
 
-bound_more : (main : Block) (q : Path) (ps qs : List DeclaredPart) → ArePartsBound main q ps → ArePartsBound main q qs → ArePartsBound main q (ps ++ qs)
+bound_more : (main : Block) (q : Path) (ps qs : List DeclaredPart) → ArePartsBound main q ps → ArePartsBound main q qs
+    → ArePartsBound main q (ps ++ qs)
 bound_more main q [] qs first second = second
 bound_more main q (part.Text text ∷ ps) qs first second = bound_more main q ps qs first second
 bound_more main q (part.Value e ∷ ps) qs first second = (first.0, bound_more main q ps qs first.1 second)
 
-pub bound_one : (main : Block) (q : Path) (old new : List DeclaredPart) (p : DeclaredPart) → new ≡ old ++ p ∷ [] → ArePartsBound main q old → ArePartsBound main q (p ∷ []) → ArePartsBound main q new
-bound_one main q old new p more was bound = subst (λ l. ArePartsBound main q l) (sym more) (bound_more main q old (p ∷ []) was bound)
+pub bound_one : (main : Block) (q : Path) (old new : List DeclaredPart) (p : DeclaredPart) → new ≡ old ++ p ∷ []
+    → ArePartsBound main q old → ArePartsBound main q (p ∷ []) → ArePartsBound main q new
+bound_one main q old new p more was bound =
+    subst (λ l. ArePartsBound main q l) (sym more) (bound_more main q old (p ∷ []) was bound)
 
 -- by what `split_once` says of the part before the byte
 pub lacks : (byte : ℕ) (text : List ℕ) → ((i : ℕ) → i < length text → get_or text i 0 ≢ byte) → Lacks byte text
@@ -119,7 +153,8 @@ lacks byte text none = λ k d lt is. none k lt (get_or_default text k 0 d lt ∙
 
 -- ---- messages
 
-pub no_message : (main : Block) (n : ℕ) (text : List ℕ) → text ≢ [] → ((parts : List Part) → ¬ IsMessageOf main (step_path main n) text parts) → ¬ HasMessageAt main n text
+pub no_message : (main : Block) (n : ℕ) (text : List ℕ) → text ≢ []
+    → ((parts : List Part) → ¬ IsMessageOf main (step_path main n) text parts) → ¬ HasMessageAt main n text
 no_message main n text some none has = by_message has.message has.reads
   where
     by_message : (o : Option Message) → ReadsMessageAt main n text o → ⊥
@@ -127,5 +162,8 @@ no_message main n text some none has = by_message has.message has.reads
     by_message (Some m) reads = none m.parts reads.2
 
 -- what is read with names reads so whatever they mean
-pub reads_as : (main : Block) (q : Path) (text : List ℕ) (parts : List Part) → IsMessageOf main q text parts → ReadsAsParts text parts
-reads_as main q text parts is = reads_more (IsExpressionOf main q) ReadsAsExpression (λ t e r. record { end = r.end; reads = r.reads }) text parts is.reads
+pub reads_as : (main : Block) (q : Path) (text : List ℕ) (parts : List Part) → IsMessageOf main q text parts
+    → ReadsAsParts text parts
+reads_as main q text parts is =
+    reads_more (IsExpressionOf main q) ReadsAsExpression (λ t e r. record { end = r.end; reads = r.reads }) text parts
+    is.reads

@@ -14,10 +14,14 @@ abbrev pub Rises : ℕ → List Breakpoint → Type 0
 Rises n [] = Unit {0}
 Rises n (b ∷ bs) = (n ≤ b.step) × Rises b.step bs
 
-pub rises_sorted : (n : ℕ) (bs : List Breakpoint) → IsNonDecreasingBy (λ (b : Breakpoint). b.step) bs → ((d : Breakpoint) → 0 < length bs → n ≤ (get_or bs 0 d).step) → Rises n bs
+pub rises_sorted : (n : ℕ) (bs : List Breakpoint) → IsNonDecreasingBy (λ (b : Breakpoint). b.step) bs
+    → ((d : Breakpoint) → 0 < length bs → n ≤ (get_or bs 0 d).step) → Rises n bs
 rises_sorted n [] sorted low = tt
-rises_sorted n (b ∷ bs) sorted low =
-    (low b (omega arith), rises_sorted b.step bs (λ i j d le lt. sorted (suc i) (suc j) d (omega arith) (omega arith)) (λ d some. sorted 0 1 d (omega arith) (omega arith)))
+rises_sorted n (b ∷ bs) sorted low = (
+  low b (omega arith),
+  rises_sorted b.step bs (λ i j d le lt. sorted (suc i) (suc j) d (omega arith) (omega arith))
+      (λ d some. sorted 0 1 d (omega arith) (omega arith)),
+)
 
 rises_lower : (m n : ℕ) (bs : List Breakpoint) → m ≤ n → Rises n bs → Rises m bs
 rises_lower m n [] le rises = tt
@@ -42,7 +46,8 @@ none_below : (s n : ℕ) (bs : List Breakpoint) → s < n → Rises n bs → tho
 none_below s n [] lt rises = refl
 none_below s n (b ∷ bs) lt rises =
     let low = rises.0 in
-    ap (λ v. cond v (b ∷ those_of s bs) (those_of s bs)) (is_of_above s b (omega arith)) ∙ none_below s b.step bs (omega arith) rises.1
+    ap (λ v. cond v (b ∷ those_of s bs) (those_of s bs)) (is_of_above s b (omega arith))
+    ∙ none_below s b.step bs (omega arith) rises.1
 
 -- what a walk from step i on finds: those of the step, and after them the later ones
 pub record Splits (i : ℕ) (bs : List Breakpoint) : Type 0 where
@@ -67,7 +72,8 @@ module _ (i : ℕ) (b : Breakpoint) (bs : List Breakpoint) where
       record {
         here = ap (λ n. take n (b ∷ bs)) one ∙ ap (λ l. b ∷ l) more.here ∙ sym (those_are i true e);
         rises = subst (λ n. Rises (i + 1) (drop n (b ∷ bs))) (sym one) more.rises;
-        same = λ s lt. ap (λ n. those_of s (drop n (b ∷ bs))) one ∙ more.same s lt ∙ sym (those_are s false (not_of s b (omega arith)));
+        same = λ s lt. ap (λ n. those_of s (drop n (b ∷ bs))) one ∙ more.same s lt
+            ∙ sym (those_are s false (not_of s b (omega arith)));
         within = omega (arith, one);
       }
 
@@ -77,7 +83,8 @@ module _ (i : ℕ) (b : Breakpoint) (bs : List Breakpoint) where
       let other = is_of_other i b e in
       let none : prefix_len (is_of i) (b ∷ bs) ≡ 0 = length_is false e in
       record {
-        here = ap (λ n. take n (b ∷ bs)) none ∙ sym (those_are i false e ∙ none_below i b.step bs (omega arith) rises.1);
+        here = ap (λ n. take n (b ∷ bs)) none ∙ sym
+            (those_are i false e ∙ none_below i b.step bs (omega arith) rises.1);
         rises = subst (λ n. Rises (i + 1) (drop n (b ∷ bs))) (sym none) (omega arith, rises.1);
         same = λ s lt. ap (λ n. those_of s (drop n (b ∷ bs))) none;
         within = omega (arith, none);
@@ -86,7 +93,8 @@ module _ (i : ℕ) (b : Breakpoint) (bs : List Breakpoint) where
 splits : (i : ℕ) (bs : List Breakpoint) → Rises i bs → Splits i bs
 splits i [] rises = record { here = refl; rises = tt; same = λ s lt. refl; within = omega arith }
 splits i (b ∷ bs) rises =
-    by_test (is_of i b) refl (λ e. let at : i ≡ b.step = is_of_step i b e in splits i bs (rises_lower i b.step bs (omega arith) rises.1))
+    by_test (is_of i b) refl (λ e. let at : i ≡ b.step = is_of_step i b e in splits i bs
+    (rises_lower i b.step bs (omega arith) rises.1))
   where
     by_test : (v : Bool) → is_of i b ≡ v → (is_of i b ≡ true → Splits i bs) → Splits i (b ∷ bs)
     by_test true e more = goes_past i b bs e (more e)
@@ -101,7 +109,8 @@ pub record Reached (ordered : List Breakpoint) (i : ℕ) (starts : List ℕ) (st
   pub rises : Rises i (drop start ordered)
   pub same : (s : ℕ) → i ≤ s → those_of s (drop start ordered) ≡ those_of s ordered
 
-pub begins : (ordered : List Breakpoint) (starts : List ℕ) → IsNonDecreasingBy (λ (b : Breakpoint). b.step) ordered → starts ≡ 0 ∷ [] → Reached ordered 0 starts 0
+pub begins : (ordered : List Breakpoint) (starts : List ℕ) → IsNonDecreasingBy (λ (b : Breakpoint). b.step) ordered
+    → starts ≡ 0 ∷ [] → Reached ordered 0 starts 0
 begins ordered starts sorted is = record {
   long = ap length is;
   last = ap (λ l. slice_index l 0) is;
@@ -111,10 +120,13 @@ begins ordered starts sorted is = record {
   same = λ s le. refl;
 }
 
-kept : (ordered : List Breakpoint) (starts : List ℕ) (x s : ℕ) (part : List Breakpoint) → s + 1 < length starts → IsPart ordered starts s part → IsPart ordered (starts ++ x ∷ []) s part
+kept : (ordered : List Breakpoint) (starts : List ℕ) (x s : ℕ) (part : List Breakpoint) → s + 1 < length starts
+    → IsPart ordered starts s part → IsPart ordered (starts ++ x ∷ []) s part
 kept ordered starts x s part lt is =
-    let a : slice_index (starts ++ x ∷ []) s ≡ slice_index starts s = get_or_append_left starts (x ∷ []) 0 s (omega arith) in
-    let b : slice_index (starts ++ x ∷ []) (s + 1) ≡ slice_index starts (s + 1) = get_or_append_left starts (x ∷ []) 0 (s + 1) lt in
+    let a : slice_index (starts ++ x ∷ []) s ≡ slice_index starts s =
+    get_or_append_left starts (x ∷ []) 0 s (omega arith) in
+    let b : slice_index (starts ++ x ∷ []) (s + 1) ≡ slice_index starts (s + 1) =
+    get_or_append_left starts (x ∷ []) 0 (s + 1) lt in
     record {
       rises = rw (a, b) is.rises;
       within = rw b is.within;
@@ -122,7 +134,8 @@ kept ordered starts x s part lt is =
     }
 
 -- the next step
-pub goes_on : (ordered : List Breakpoint) (i : ℕ) (starts : List ℕ) (start end : ℕ) (new : List ℕ) → Reached ordered i starts start →
+pub goes_on : (ordered : List Breakpoint) (i : ℕ) (starts : List ℕ) (start end : ℕ) (new : List ℕ)
+    → Reached ordered i starts start →
     end ≡ start + prefix_len (is_of i) (drop start ordered) → new ≡ starts ++ end ∷ [] → Reached ordered (i + 1) new end
 goes_on ordered i starts start end new was end_is new_is =
     let long = was.long in
@@ -132,19 +145,27 @@ goes_on ordered i starts start end new was end_is new_is =
     let fits : k ≤ length rest = split.within in
     let fits_all = was.within in
     let more : drop k rest ≡ drop end ordered = drop-drop k start ordered ∙ ap (λ n. drop n ordered) (sym end_is) in
-    let old_start : slice_index new i ≡ start = ap (λ l. slice_index l i) new_is ∙ get_or_append_left starts (end ∷ []) 0 i (omega arith) ∙ was.last in
-    let new_start : slice_index new (i + 1) ≡ end = ap (λ l. slice_index l (i + 1)) new_is ∙ get_or_push starts end 0 (i + 1) long in
+    let old_start : slice_index new i ≡ start =
+    ap (λ l. slice_index l i) new_is ∙ get_or_append_left starts (end ∷ []) 0 i (omega arith) ∙ was.last in
+    let new_start : slice_index new (i + 1) ≡ end =
+    ap (λ l. slice_index l (i + 1)) new_is ∙ get_or_push starts end 0 (i + 1) long in
     let below : end ≤ length ordered = omega (arith, length-drop start ordered) in
     let here : IsPart ordered new i (those_of i ordered) = record {
       rises = rw (old_start, new_start) (omega arith);
       within = rw new_start below;
-      holds = rw (old_start, new_start) (ap (λ n. take n rest) (let e : end - start ≡ k = omega arith in e) ∙ split.here ∙ was.same i (omega arith));
+      holds = rw (old_start, new_start) (ap (λ n. take n rest) (let e : end - start ≡ k = omega arith in e) ∙ split.here
+          ∙ was.same i (omega arith));
     } in
     record {
       long = ap length new_is ∙ length-append starts (end ∷ []) ∙ ap (λ n. n + 1) long;
       last = new_start;
       within = below;
-      parts = λ s lt. elim (cases_eq s i) [ inl e ↦ subst (λ n. IsPart ordered new n (those_of n ordered)) (sym e) here | inr other ↦ subst (λ l. IsPart ordered l s (those_of s ordered)) (sym new_is) (kept ordered starts end s (those_of s ordered) (omega arith) (was.parts s (omega arith))) ];
+      parts = λ s lt. elim (cases_eq s i) [
+        | inl e ↦ subst (λ n. IsPart ordered new n (those_of n ordered)) (sym e) here
+        | inr other ↦ subst
+            (λ l. IsPart ordered l s (those_of s ordered)) (sym new_is)
+            (kept ordered starts end s (those_of s ordered) (omega arith) (was.parts s (omega arith)))
+      ];
       rises = subst (λ l. Rises (i + 1) l) more split.rises;
       same = λ s le. ap (λ l. those_of s l) (sym more) ∙ split.same s (omega arith) ∙ was.same s (omega arith);
     }

@@ -38,31 +38,45 @@ module _ (all : List StepAt) (ascend : Ascend (map (λ step. step.place) all)) w
     other_step n ne None e = refl
     other_step n ne (Some s) e = by_order (leb_tells n p)
       where
-        by_order : ((nat_le n p ≡ true) × (n ≤ p)) ⊎ ((nat_le n p ≡ false) × (p < n)) → same_place s.place t.place ≡ false
-        by_order (inl before) = let le = before.1 in place_before s.place t.place (ascend n p s.place t.place (omega arith) (placed n s e) (placed p t here))
-        by_order (inr behind) = place_behind s.place t.place (ascend p n t.place s.place behind.1 (placed p t here) (placed n s e))
+        by_order : ((nat_le n p ≡ true) × (n ≤ p)) ⊎ ((nat_le n p ≡ false) × (p < n))
+            → same_place s.place t.place ≡ false
+        by_order (inl before) =
+            let le = before.1 in place_before s.place t.place
+            (ascend n p s.place t.place (omega arith) (placed n s e) (placed p t here))
+        by_order (inr behind) =
+            place_behind s.place t.place (ascend p n t.place s.place behind.1 (placed p t here) (placed n s e))
 
     -- of steps in the order of their places only one stands at a place
     pub same_as : (n : ℕ) → same_step (slice_get all n) (Some t) ≡ nat_eq p n
     same_as n = by_number (eqb_tells p n)
       where
-        by_number : ((nat_eq p n ≡ true) × (p ≡ n)) ⊎ ((nat_eq p n ≡ false) × (p ≢ n)) → same_step (slice_get all n) (Some t) ≡ nat_eq p n
+        by_number : ((nat_eq p n ≡ true) × (p ≡ n)) ⊎ ((nat_eq p n ≡ false) × (p ≢ n))
+            → same_step (slice_get all n) (Some t) ≡ nat_eq p n
         by_number (inl same) =
-            ap (λ o. same_step o (Some t)) (sym (ap (λ k. slice_get all k) same.1) ∙ here) ∙ place_same t.place ∙ sym same.0
+            ap (λ o. same_step o (Some t)) (sym (ap (λ k. slice_get all k) same.1) ∙ here) ∙ place_same t.place
+            ∙ sym same.0
         by_number (inr other) = other_step n other.1 (slice_get all n) refl ∙ sym other.0
 
 -- where the program stands at step p, those of its breakpoints arrive whose condition holds
 module _ (main : Block) (ordered : ∥ Ascend (map (λ step. step.place) (steps main)) ∥₁) where
-  pub stands_at : (f : Frame) (below : Configuration) (p : ℕ) → StandsBefore main f p → (n : ℕ) → nat_eq p n ≡ is_at main n (f ∷ below)
+  pub stands_at : (f : Frame) (below : Configuration) (p : ℕ) → StandsBefore main f p → (n : ℕ)
+      → nat_eq p n ≡ is_at main n (f ∷ below)
   stands_at f below p before n =
-      ∥∥₁_elim ordered (Coded-set coded_bool (nat_eq p n) (is_at main n (f ∷ below))) (λ ascend. by_next ascend (slice_get_cases (steps main) p).1)
+      ∥∥₁_elim ordered (Coded-set coded_bool (nat_eq p n) (is_at main n (f ∷ below)))
+      (λ ascend. by_next ascend (slice_get_cases (steps main) p).1)
     where
-      by_next : Ascend (map (λ step. step.place) (steps main)) → ((t : StepAt) × (p < length (steps main)) × (slice_get (steps main) p ≡ Some t) × (get_or (steps main) p t ≡ t)) ⊎ ((length (steps main) ≤ p) × (slice_get (steps main) p ≡ None)) → nat_eq p n ≡ is_at main n (f ∷ below)
+      by_next : Ascend (map (λ step. step.place) (steps main))
+          → ((t : StepAt) × (p < length (steps main)) × (slice_get (steps main) p ≡ Some t)
+          × (get_or (steps main) p t ≡ t)) ⊎ ((length (steps main) ≤ p) × (slice_get (steps main) p ≡ None))
+          → nat_eq p n ≡ is_at main n (f ∷ below)
       by_next ascend (inl there) =
-          sym (ap (λ o. same_step (slice_get (steps main) n) o) (sym before.next ∙ there.2) ∙ same_as (steps main) ascend p there.0 there.2 n)
+          sym (ap (λ o. same_step (slice_get (steps main) n) o) (sym before.next ∙ there.2)
+          ∙ same_as (steps main) ascend p there.0 there.2 n)
       by_next ascend (inr past) = let within = before.within in let le = past.0 in absurd (omega arith)
 
-  pub arrives_here : (o : Option Configuration) (p : ℕ) → IsNext main (top_of (frames_of o)) p → (b : Breakpoint) → (is_of p b && holds_in main o (plain_breakpoint b).condition) ≡ arrives_in main (plain_breakpoint b) o
+  pub arrives_here : (o : Option Configuration) (p : ℕ) → IsNext main (top_of (frames_of o)) p → (b : Breakpoint)
+      → (is_of p b && holds_in main o (plain_breakpoint b).condition) ≡ arrives_in main (plain_breakpoint b) o
   arrives_here None p next b = absurd next
   arrives_here (Some []) p next b = absurd next
-  arrives_here (Some (f ∷ below)) p next b = ap (λ v. v && holds main (f ∷ below) (plain_breakpoint b).condition) (stands_at f below p next b.step)
+  arrives_here (Some (f ∷ below)) p next b =
+      ap (λ v. v && holds main (f ∷ below) (plain_breakpoint b).condition) (stands_at f below p next b.step)

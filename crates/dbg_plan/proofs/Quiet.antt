@@ -18,7 +18,8 @@ use Rattle.dbg_plan.proofs.Stepping.{went_on}
 abbrev pub IsQuietly : List Breakpoint → StepOutcome → Standing → Type 0
 IsQuietly breakpoints result new = (result ≡ Went None) × (has_arrival breakpoints new ≡ false)
 
-module _ (breakpoints : List Breakpoint) (old new : Standing) (result : StepOutcome) (stepped : Stepped (outcome_of old) old result new) where
+module _ (breakpoints : List Breakpoint) (old new : Standing) (result : StepOutcome)
+    (stepped : Stepped (outcome_of old) old result new) where
   silent : result ≡ Went None → written_by (outcome_of old) ≡ []
   silent is = by_outcome (outcome_of old) stepped
     where
@@ -39,7 +40,8 @@ module _ (breakpoints : List Breakpoint) (old new : Standing) (result : StepOutc
       }
 
   -- where nothing is alive after it, a step isn't quiet
-  ends_run : (o : Option Configuration) → led_to (outcome_of old) ≡ o → length (frames_of o) ≡ 0 → IsQuiet breakpoints old → ⊥
+  ends_run : (o : Option Configuration) → led_to (outcome_of old) ≡ o → length (frames_of o) ≡ 0
+      → IsQuiet breakpoints old → ⊥
   ends_run o led none quiet =
       let there : at (program old) (old.position + 1) ≡ o = at_next (program old) old.position ∙ led in
       let some : 0 < length (frames_of o) = subst (λ c. 0 < length (frames_of c)) there quiet.running in
@@ -51,18 +53,22 @@ module _ (breakpoints : List Breakpoint) (old new : Standing) (result : StepOutc
   pub is_told : IsQuiet breakpoints old → IsQuietly breakpoints result new
   is_told quiet = by_outcome (outcome_of old) refl stepped quiet.silent
     where
-      by_outcome : (o : Outcome) → outcome_of old ≡ o → Stepped o old result new → written_by o ≡ [] → IsQuietly breakpoints result new
+      by_outcome : (o : Outcome) → outcome_of old ≡ o → Stepped o old result new → written_by o ≡ []
+          → IsQuietly breakpoints result new
       by_outcome (Goes None []) e s none = absurd (ends_run (Some []) (ap led_to e) refl quiet)
-      by_outcome (Goes None (f ∷ below)) e s none = (s.0, subst (λ m. has_arrival breakpoints m ≡ false) (sym s.1) quiet.unmet)
+      by_outcome (Goes None (f ∷ below)) e s none =
+          (s.0, subst (λ m. has_arrival breakpoints m ≡ false) (sym s.1) quiet.unmet)
       by_outcome (Goes (Some v) c) e s none = absurd (writes v none)
       by_outcome (Faults fault) e s none = absurd (ends_run None (ap led_to e) refl quiet)
       by_outcome Over e s none = absurd s
 
 -- quiet steps led to the machine m
 abbrev pub Quietly : ℕ → List Breakpoint → Standing → Standing → Type 0
-Quietly limit breakpoints start m = RanQuietly limit breakpoints start (λ steps. (m ≡ ahead start steps) × IsRunning m × (m.position ≤ limit))
+Quietly limit breakpoints start m =
+    RanQuietly limit breakpoints start (λ steps. (m ≡ ahead start steps) × IsRunning m × (m.position ≤ limit))
 
-pub none_yet : (limit : ℕ) (breakpoints : List Breakpoint) (start : Standing) → IsRunning start → start.position ≤ limit → Quietly limit breakpoints start start
+pub none_yet : (limit : ℕ) (breakpoints : List Breakpoint) (start : Standing) → IsRunning start → start.position ≤ limit
+    → Quietly limit breakpoints start start
 none_yet limit breakpoints start running within =
     let e : start.position ≡ start.position + 0 = omega arith in
     let here : start ≡ ahead start 0 = ap (λ (p : ℕ). record start { position = p }) e in
@@ -79,16 +85,26 @@ module _ (limit : ℕ) (plan : Option Listed) (start m : Standing) (q : Quietly 
   breakpoints = breakpoints_of plan
 
   pub stops : limit ≤ m.position → RanByMachine limit plan start None m
-  stops reached = record { steps = q.steps; quiet = q.quiet; running = q.running; within = q.within; ends = (q.ends.0, subst (λ (s : Standing). limit ≤ s.position) q.ends.0 reached) }
+  stops reached =
+      record {
+        steps = q.steps;
+        quiet = q.quiet;
+        running = q.running;
+        within = q.within;
+        ends =
+            (q.ends.0, subst (λ (s : Standing). limit ≤ s.position) q.ends.0 reached);
+      }
 
-  module _ (result : StepOutcome) (new : Standing) (stepped : Stepped (outcome_of m) m result new) (below : m.position < limit) where
+  module _ (result : StepOutcome) (new : Standing) (stepped : Stepped (outcome_of m) m result new)
+      (below : m.position < limit) where
     pub ended : (IsQuietly breakpoints result new → ⊥) → RanByMachine limit plan start (Some result) new
     ended loud = record {
       steps = q.steps;
       quiet = q.quiet;
       running = q.running;
       within = q.within;
-      ends = subst (λ (s : Standing). (s.position < limit) × (¬ IsQuiet breakpoints s) × Stepped (outcome_of s) s result new) q.ends.0
+      ends = subst (λ (s : Standing). (s.position < limit) × (¬ IsQuiet breakpoints s)
+          × Stepped (outcome_of s) s result new) q.ends.0
           (below, λ quiet. loud (is_told breakpoints m new result stepped quiet), stepped);
     }
 
@@ -99,12 +115,15 @@ module _ (limit : ℕ) (plan : Option Listed) (start m : Standing) (q : Quietly 
         let there = ap (λ (s : Standing). s.position) went.0 in
         let e : m.position + 1 ≡ start.position + (q.steps + 1) = omega (arith, place) in
         let further : new ≡ ahead start (q.steps + 1) =
-        went.0 ∙ ap (λ (s : Standing). record s { position = m.position + 1 }) q.ends.0 ∙ ap (λ (p : ℕ). record start { position = p }) e in
-        let last : IsQuiet breakpoints (ahead start q.steps) = subst (λ s. IsQuiet breakpoints s) q.ends.0 (is_quiet breakpoints m new result stepped told) in
+        went.0 ∙ ap (λ (s : Standing). record s { position = m.position + 1 }) q.ends.0
+        ∙ ap (λ (p : ℕ). record start { position = p }) e in
+        let last : IsQuiet breakpoints (ahead start q.steps) =
+        subst (λ s. IsQuiet breakpoints s) q.ends.0 (is_quiet breakpoints m new result stepped told) in
         record {
           steps = q.steps + 1;
           quiet = λ k lt.
-              ⊎_elim (λ (same : k ≡ q.steps). subst (λ j. IsQuiet breakpoints (ahead start j)) (sym same) last) (λ ne. q.quiet k (omega (arith, ne, lt))) (cases_eq k q.steps);
+              ⊎_elim (λ (same : k ≡ q.steps). subst (λ j. IsQuiet breakpoints (ahead start j)) (sym same) last)
+              (λ ne. q.quiet k (omega (arith, ne, lt))) (cases_eq k q.steps);
           running = subst (λ s. IsRunning s) further went.1;
           within = omega (arith, place, below);
           ends = (further, went.1, omega (arith, there, below));

@@ -24,7 +24,8 @@ went_goes written fault e = cc
 done_goes : (fault : RunFault) → Done ≡ Fault fault → ⊥
 done_goes fault e = cc
 
-module _ (d : Inside) (was : IsCounting d) (behind : next_of d ≡ d.machine.position + 1) (limit : ℕ) (outcome : Option StepOutcome) (new : Standing) (ran : RanByMachine limit (plan_of d) d.machine outcome new) where
+module _ (d : Inside) (was : IsCounting d) (behind : next_of d ≡ d.machine.position + 1) (limit : ℕ)
+    (outcome : Option StepOutcome) (new : Standing) (ran : RanByMachine limit (plan_of d) d.machine outcome new) where
   abbrev at : ℕ → Inside
   at k = record d { machine = ahead d.machine k }
 
@@ -34,10 +35,12 @@ module _ (d : Inside) (was : IsCounting d) (behind : next_of d ≡ d.machine.pos
   behind_at : (k : ℕ) → next_of (at k) ≡ (at k).machine.position + 1
   behind_at k = ap (λ b. next_at (d.machine.position + k) b) considered
 
-  counts_on : (k : ℕ) → IsCounting (at k) → IsQuiet (breakpoints_of (plan_of d)) (ahead d.machine k) → IsCounting (record d { machine = ahead (ahead d.machine k) 1 })
+  counts_on : (k : ℕ) → IsCounting (at k) → IsQuiet (breakpoints_of (plan_of d)) (ahead d.machine k)
+      → IsCounting (record d { machine = ahead (ahead d.machine k) 1 })
   counts_on k now q =
       let next = ahead (ahead d.machine k) 1 in
-      stays_counting (at k) now (behind_at k) next refl q.running d.counts false [] (λ first le are. uncounted next first le (plan_of d) d.counts q.unmet are) was.room
+      stays_counting (at k) now (behind_at k) next refl q.running d.counts false []
+      (λ first le are. uncounted next first le (plan_of d) d.counts q.unmet are) was.room
 
   counting_at : (k : ℕ) → k ≤ ran.steps → IsCounting (at k)
   counting_at zero le =
@@ -54,39 +57,83 @@ module _ (d : Inside) (was : IsCounting d) (behind : next_of d ≡ d.machine.pos
   pub counting_after : IsCounting (record d { machine = new; considered = considered_after outcome })
   counting_after = by_outcome outcome ran.ends
     where
-      by_outcome : (o : Option StepOutcome) → Ends limit (breakpoints_of (plan_of d)) (ahead d.machine ran.steps) o new → IsCounting (record d { machine = new; considered = considered_after o })
-      by_outcome None ends = subst (λ m. IsCounting (record d { machine = m; considered = true })) (sym ends.0) (subst (λ b. IsCounting (record (at ran.steps) { considered = b })) considered stands)
-      by_outcome (Some (Went written)) ends = not_fault (at ran.steps) stands new (Went written) ends.2 (behind_at ran.steps) (went_goes written)
+      by_outcome : (o : Option StepOutcome) → Ends limit (breakpoints_of (plan_of d)) (ahead d.machine ran.steps) o new
+          → IsCounting (record d { machine = new; considered = considered_after o })
+      by_outcome None ends =
+          subst (λ m. IsCounting (record d { machine = m; considered = true })) (sym ends.0)
+          (subst (λ b. IsCounting (record (at ran.steps) { considered = b })) considered stands)
+      by_outcome (Some (Went written)) ends =
+          not_fault (at ran.steps) stands new (Went written) ends.2 (behind_at ran.steps) (went_goes written)
       by_outcome (Some Done) ends = not_fault (at ran.steps) stands new Done ends.2 (behind_at ran.steps) done_goes
-      by_outcome (Some (Fault fault)) ends = after_fault (at ran.steps) stands new (Fault fault) ends.2 (behind_at ran.steps) fault refl ran.running
+      by_outcome (Some (Fault fault)) ends =
+          after_fault (at ran.steps) stands new (Fault fault) ends.2 (behind_at ran.steps) fault refl ran.running
 
   abbrev after : Option StepOutcome → Debugged
   after o = debugged_of (record d { machine = new; considered = considered_after o })
 
   abbrev seen : Compiled → ℕ → Debugged
-  seen u n = record { unit = u; position = new.position; breakpoints = breakpoints_of (plan_of d); counted_from = d.counted_from; next = n; trail = trail_of d.trail }
+  seen u n =
+      record {
+        unit = u;
+        position = new.position;
+        breakpoints = breakpoints_of (plan_of d);
+        counted_from =
+            d.counted_from;
+        next = n;
+        trail = trail_of d.trail;
+      }
 
   with_unit : (u : Compiled) (n m : ℕ) → new.unit ≡ u → n ≡ m → seen new.unit n ≡ seen u m
   with_unit u n m is same = ap (λ (v : Compiled). seen v n) is ∙ ap (λ (k : ℕ). seen u k) same
 
   pub ran_to : RanTo limit (debugged_of d) outcome (after outcome)
-  ran_to = record { steps = ran.steps; quiet = ran.quiet; running = ran.running; within = ran.within; ends = by_outcome outcome ran.ends }
+  ran_to = record {
+    steps = ran.steps;
+    quiet = ran.quiet;
+    running = ran.running;
+    within = ran.within;
+    ends = by_outcome
+        outcome ran.ends;
+  }
     where
-      by_outcome : (o : Option StepOutcome) → Ends limit (breakpoints_of (plan_of d)) (ahead d.machine ran.steps) o new → EndsAt limit (forward (debugged_of d) ran.steps) o (after o)
+      by_outcome : (o : Option StepOutcome) → Ends limit (breakpoints_of (plan_of d)) (ahead d.machine ran.steps) o new
+          → EndsAt limit (forward (debugged_of d) ran.steps) o (after o)
       by_outcome None ends = (ap (λ m. debugged_of (record d { machine = m; considered = true })) ends.0, ends.1)
-      by_outcome (Some (Went written)) ends =
-          (ends.0, ends.1, ends.2, with_unit d.machine.unit _ _ (same_unit (ahead d.machine ran.steps) new (Went written) ends.2) (goes_on (ahead d.machine ran.steps) new (Went written) ends.2 (went_goes written)))
-      by_outcome (Some Done) ends =
-          (ends.0, ends.1, ends.2, with_unit d.machine.unit _ _ (same_unit (ahead d.machine ran.steps) new Done ends.2) (goes_on (ahead d.machine ran.steps) new Done ends.2 done_goes))
+      by_outcome (Some (Went written)) ends = (
+        ends.0,
+        ends.1,
+        ends.2,
+        with_unit d.machine.unit _ _
+            (same_unit (ahead d.machine ran.steps) new (Went written) ends.2)
+            (goes_on (ahead d.machine ran.steps) new (Went written) ends.2 (went_goes written)),
+      )
+      by_outcome (Some Done) ends = (
+        ends.0,
+        ends.1,
+        ends.2,
+        with_unit d.machine.unit _ _ (same_unit (ahead d.machine ran.steps) new Done ends.2)
+            (goes_on (ahead d.machine ran.steps) new Done ends.2 done_goes),
+      )
       by_outcome (Some (Fault fault)) ends =
-          let same = stays_there (ahead d.machine ran.steps) new (Fault fault) ends.2 fault refl in
-          (ends.0, ends.1, ends.2, with_unit d.machine.unit _ _ (same_unit (ahead d.machine ran.steps) new (Fault fault) ends.2) (ap (λ (m : Standing). m.position + 1) same))
+          let same = stays_there (ahead d.machine ran.steps) new (Fault fault) ends.2 fault refl in (
+            ends.0,
+            ends.1,
+            ends.2,
+            with_unit d.machine.unit _ _
+                (same_unit (ahead d.machine ran.steps) new (Fault fault) ends.2)
+                (ap (λ (m : Standing). m.position + 1) same),
+          )
 
   -- where the last step went on, its position is the next to be considered
   pub is_next : (written : Option ℤ) → outcome ≡ Some (Went written) → IsNext (after outcome)
   is_next written is =
       let ends = subst (λ o. Ends limit (breakpoints_of (plan_of d)) (ahead d.machine ran.steps) o new) is ran.ends in
-      subst (λ o. IsNext (after o)) (sym is) (record { here = refl; running = (went_on (ahead d.machine ran.steps) new (Went written) ends.2 written refl).1 })
+      subst (λ o. IsNext (after o)) (sym is)
+      (record {
+        here = refl;
+        running =
+            (went_on (ahead d.machine ran.steps) new (Went written) ends.2 written refl).1;
+      })
 
 -- ---- a run whose last step faults
 
@@ -96,7 +143,8 @@ fault_is (Goes written (f ∷ below)) old new fault s = let other : Fault fault 
 fault_is (Faults other) old new fault s = let same : Fault fault ≡ Fault other = s.0 in cc
 fault_is Over old new fault s = absurd s
 
-pub faulted : (limit : ℕ) (old new : Debugged) (numbers : List ℤ) (fault : RunFault) → RanTo limit old (Some (Fault fault)) new → RanFrom limit old numbers (Some (advance.Fault fault)) new numbers []
+pub faulted : (limit : ℕ) (old new : Debugged) (numbers : List ℤ) (fault : RunFault)
+    → RanTo limit old (Some (Fault fault)) new → RanFrom limit old numbers (Some (advance.Fault fault)) new numbers []
 faulted limit old new numbers fault ran =
     let d = forward old ran.steps in
     let stays = stays_there (machine_of d) (machine_of new) (Fault fault) ran.ends.2 fault refl in

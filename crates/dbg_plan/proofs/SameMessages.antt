@@ -19,21 +19,29 @@ expression_once text e f first second = expression_text_once first.end second.en
 -- and so as the parts of one message
 message_once : (text : List ℕ) (ps qs : List Part) → ∥ ReadsAsParts text ps ∥₁ → ∥ ReadsAsParts text qs ∥₁ → ps ≡ qs
 message_once text ps qs first second =
-    ∥∥₁_elim first (Coded-set (coded_list part_code) ps qs) (λ r. ∥∥₁_elim second (Coded-set (coded_list part_code) ps qs) (λ s. parts_once ReadsAsExpression expression_once text ps qs r s))
+    ∥∥₁_elim first (Coded-set (coded_list part_code) ps qs)
+    (λ r. ∥∥₁_elim second (Coded-set (coded_list part_code) ps qs)
+    (λ s. parts_once ReadsAsExpression expression_once text ps qs r s))
 
 same_text : (c d : LogMessage) → string_bytes c.text ≡ string_bytes d.text → plain_message c ≡ plain_message d
 same_text c d e =
     let same : plain_parts c.parts.items ≡ plain_parts d.parts.items =
-    message_once (string_bytes d.text) (plain_parts c.parts.items) (plain_parts d.parts.items) (subst (λ t. ∥ ReadsAsParts t (plain_parts c.parts.items) ∥₁) e c.reads) d.reads in
+    message_once (string_bytes d.text) (plain_parts c.parts.items) (plain_parts d.parts.items)
+    (subst (λ t. ∥ ReadsAsParts t (plain_parts c.parts.items) ∥₁) e c.reads) d.reads in
     with_both (string_bytes c.text) (string_bytes d.text) (plain_parts c.parts.items) (plain_parts d.parts.items) e same
   where
-    with_both : (s t : List ℕ) (ps qs : List Part) → s ≡ t → ps ≡ qs → ◌≡◌ {A = Message} (record { text = s; parts = ps }) (record { text = t; parts = qs })
+    with_both : (s t : List ℕ) (ps qs : List Part) → s ≡ t → ps ≡ qs
+        → ◌≡◌ {A = Message} (record { text = s; parts = ps }) (record { text = t; parts = qs })
     with_both s t ps qs e f = cc
 
-pub messages_told : (c d : LogMessage) (r : Bool) → r ≡ bytes_eq (string_bytes c.text) (string_bytes d.text) → Decides r (◌≡◌ {A = Option Message} (Some (plain_message c)) (Some (plain_message d)))
+pub messages_told : (c d : LogMessage) (r : Bool) → r ≡ bytes_eq (string_bytes c.text) (string_bytes d.text)
+    → Decides r (◌≡◌ {A = Option Message} (Some (plain_message c)) (Some (plain_message d)))
 messages_told c d r is =
-    let told = bytes_eq-Decides (string_bytes c.text) (string_bytes d.text) in
-    (λ yes'. ap Some (same_text c d (told.0 (sym is ∙ yes'))), λ same. is ∙ told.1 (texts (plain_message c) (plain_message d) same))
+    let told = bytes_eq-Decides (string_bytes c.text) (string_bytes d.text) in (
+      λ yes'. ap Some (same_text c d (told.0 (sym is ∙ yes'))),
+      λ same. is
+          ∙ told.1 (texts (plain_message c) (plain_message d) same),
+    )
   where
     texts : (s t : Message) → ◌≡◌ {A = Option Message} (Some s) (Some t) → s.text ≡ t.text
     texts s t e = let f : s ≡ t = cc in ap (λ (x : Message). x.text) f

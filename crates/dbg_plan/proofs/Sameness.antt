@@ -26,21 +26,29 @@ use Rattle.dbg_plan.proofs.Parts.{Rises, rises_sorted}
 -- a text reads as one condition
 one_condition : (text : List ℕ) (c d : Condition) → ∥ ReadsAs text c ∥₁ → ∥ ReadsAs text d ∥₁ → c ≡ d
 one_condition text c d first second =
-    ∥∥₁_elim first (Coded-set condition_code c d) (λ f. ∥∥₁_elim second (Coded-set condition_code c d) (λ s. condition_text_once f.end s.end f.reads s.reads))
+    ∥∥₁_elim first (Coded-set condition_code c d)
+    (λ f. ∥∥₁_elim second (Coded-set condition_code c d) (λ s. condition_text_once f.end s.end f.reads s.reads))
 
 pub same_text : (c d : BoundCondition) → string_bytes c.text ≡ string_bytes d.text → text_condition c ≡ text_condition d
 same_text c d e =
     let same : plain_condition c.condition ≡ plain_condition d.condition =
-    one_condition (string_bytes d.text) (plain_condition c.condition) (plain_condition d.condition) (subst (λ t. ∥ ReadsAs t (plain_condition c.condition) ∥₁) e c.reads) d.reads in
-    with_both (string_bytes c.text) (string_bytes d.text) (plain_condition c.condition) (plain_condition d.condition) e same
+    one_condition (string_bytes d.text) (plain_condition c.condition) (plain_condition d.condition)
+    (subst (λ t. ∥ ReadsAs t (plain_condition c.condition) ∥₁) e c.reads) d.reads in
+    with_both (string_bytes c.text) (string_bytes d.text) (plain_condition c.condition) (plain_condition d.condition) e
+    same
   where
-    with_both : (s t : List ℕ) (c d : Condition) → s ≡ t → c ≡ d → ◌≡◌ {A = TextCondition} (record { text = s; condition = c }) (record { text = t; condition = d })
+    with_both : (s t : List ℕ) (c d : Condition) → s ≡ t → c ≡ d
+        → ◌≡◌ {A = TextCondition} (record { text = s; condition = c }) (record { text = t; condition = d })
     with_both s t c d e f = cc
 
-pub conditions_told : (c d : BoundCondition) (r : Bool) → r ≡ bytes_eq (string_bytes c.text) (string_bytes d.text) → Decides r (◌≡◌ {A = Option TextCondition} (Some (text_condition c)) (Some (text_condition d)))
+pub conditions_told : (c d : BoundCondition) (r : Bool) → r ≡ bytes_eq (string_bytes c.text) (string_bytes d.text)
+    → Decides r (◌≡◌ {A = Option TextCondition} (Some (text_condition c)) (Some (text_condition d)))
 conditions_told c d r is =
-    let told = bytes_eq-Decides (string_bytes c.text) (string_bytes d.text) in
-    (λ yes'. ap Some (same_text c d (told.0 (sym is ∙ yes'))), λ same. is ∙ told.1 (texts (text_condition c) (text_condition d) same))
+    let told = bytes_eq-Decides (string_bytes c.text) (string_bytes d.text) in (
+      λ yes'. ap Some (same_text c d (told.0 (sym is ∙ yes'))),
+      λ same. is
+          ∙ told.1 (texts (text_condition c) (text_condition d) same),
+    )
   where
     texts : (s t : TextCondition) → ◌≡◌ {A = Option TextCondition} (Some s) (Some t) → s.text ≡ t.text
     texts s t e = let f : s ≡ t = cc in ap (λ (x : TextCondition). x.text) f
@@ -51,25 +59,32 @@ abbrev next_numbered : Option Numbered → List Numbered → List Numbered
 next_numbered None es = es
 next_numbered (Some e) es = e ∷ es
 
-map_prepended : (o : Option Breakpoint) (bs : List Breakpoint) → map numbered_of (prepended o bs) ≡ next_numbered (option_map numbered_of o) (map numbered_of bs)
+map_prepended : (o : Option Breakpoint) (bs : List Breakpoint)
+    → map numbered_of (prepended o bs) ≡ next_numbered (option_map numbered_of o) (map numbered_of bs)
 map_prepended None bs = refl
 map_prepended (Some b) bs = refl
 
-find_map : (n : ℕ) (bs : List Breakpoint) → option_map numbered_of (find (λ b. nat_eq b.number n) bs) ≡ find (λ e. nat_eq e.number n) (map numbered_of bs)
+find_map : (n : ℕ) (bs : List Breakpoint) → option_map numbered_of (find (λ b. nat_eq b.number n) bs) ≡ find
+    (λ e. nat_eq e.number n) (map numbered_of bs)
 find_map n [] = refl
 find_map n (b ∷ bs) = here (nat_eq b.number n) (find_map n bs)
   where
-    here : (t : Bool) → option_map numbered_of (find (λ b. nat_eq b.number n) bs) ≡ find (λ e. nat_eq e.number n) (map numbered_of bs) →
-        option_map numbered_of (cond t (Some b) (find (λ b. nat_eq b.number n) bs)) ≡ cond t (Some (numbered_of b)) (find (λ e. nat_eq e.number n) (map numbered_of bs))
+    here : (t : Bool) → option_map numbered_of (find (λ b. nat_eq b.number n) bs) ≡ find (λ e. nat_eq e.number n)
+        (map numbered_of bs) →
+        option_map numbered_of (cond t (Some b) (find (λ b. nat_eq b.number n) bs)) ≡ cond t (Some (numbered_of b))
+        (find (λ e. nat_eq e.number n) (map numbered_of bs))
     here true rest = refl
     here false rest = rest
 
-numbers_same : (xs ys : List Breakpoint) (n k : ℕ) → map numbered_of xs ≡ map numbered_of ys → map numbered_of (by_number xs n k) ≡ map numbered_of (by_number ys n k)
+numbers_same : (xs ys : List Breakpoint) (n k : ℕ) → map numbered_of xs ≡ map numbered_of ys
+    → map numbered_of (by_number xs n k) ≡ map numbered_of (by_number ys n k)
 numbers_same xs ys n zero e = refl
 numbers_same xs ys n (suc k) e =
     map_prepended (find (λ b. nat_eq b.number n) xs) (by_number xs (n + 1) k)
-    ∙ ap (λ o. next_numbered o (map numbered_of (by_number xs (n + 1) k))) (find_map n xs ∙ ap (λ es. find (λ e. nat_eq e.number n) es) e ∙ sym (find_map n ys))
-    ∙ ap (λ l. next_numbered (option_map numbered_of (find (λ b. nat_eq b.number n) ys)) l) (numbers_same xs ys (n + 1) k e)
+    ∙ ap (λ o. next_numbered o (map numbered_of (by_number xs (n + 1) k)))
+    (find_map n xs ∙ ap (λ es. find (λ e. nat_eq e.number n) es) e ∙ sym (find_map n ys))
+    ∙ ap (λ l. next_numbered (option_map numbered_of (find (λ b. nat_eq b.number n) ys)) l)
+    (numbers_same xs ys (n + 1) k e)
     ∙ sym (map_prepended (find (λ b. nat_eq b.number n) ys) (by_number ys (n + 1) k))
 
 unnumbered : (bs : List Breakpoint) → map (λ (e : Numbered). e.breakpoint) (map numbered_of bs) ≡ plain_breakpoints bs
@@ -79,27 +94,34 @@ unnumbered (b ∷ bs) = ap (λ l. plain_breakpoint b ∷ l) (unnumbered bs)
 abbrev pub listed_by : List Breakpoint → List Breakpoint
 listed_by ordered = by_number ordered 0 (length ordered)
 
-pub listed_same : (xs ys : List Breakpoint) → map numbered_of xs ≡ map numbered_of ys → plain_breakpoints (listed_by xs) ≡ plain_breakpoints (listed_by ys)
+pub listed_same : (xs ys : List Breakpoint) → map numbered_of xs ≡ map numbered_of ys
+    → plain_breakpoints (listed_by xs) ≡ plain_breakpoints (listed_by ys)
 listed_same xs ys e =
-    let long : length xs ≡ length ys = omega (arith, ap length e, length-map xs numbered_of, length-map ys numbered_of) in
+    let long : length xs ≡ length ys =
+    omega (arith, ap length e, length-map xs numbered_of, length-map ys numbered_of) in
     sym (unnumbered (listed_by xs))
-    ∙ ap (λ l. map (λ (e : Numbered). e.breakpoint) l) (numbers_same xs ys 0 (length xs) e ∙ ap (λ n. map numbered_of (by_number ys 0 n)) long)
+    ∙ ap (λ l. map (λ (e : Numbered). e.breakpoint) l)
+    (numbers_same xs ys 0 (length xs) e ∙ ap (λ n. map numbered_of (by_number ys 0 n)) long)
     ∙ unnumbered (listed_by ys)
 
 -- ---- the same breakpoints have the same table
 
-same_numbered : (n : ℕ) (xs ys : List Breakpoint) → AreNumbered n xs → AreNumbered n ys → plain_breakpoints xs ≡ plain_breakpoints ys → map numbered_of xs ≡ map numbered_of ys
+same_numbered : (n : ℕ) (xs ys : List Breakpoint) → AreNumbered n xs → AreNumbered n ys
+    → plain_breakpoints xs ≡ plain_breakpoints ys → map numbered_of xs ≡ map numbered_of ys
 same_numbered n [] [] first second e = refl
 same_numbered n [] (y ∷ ys) first second e = cc
 same_numbered n (x ∷ xs) [] first second e = cc
 same_numbered n (x ∷ xs) (y ∷ ys) first second e =
     let parts = both (plain_breakpoint x) (plain_breakpoint y) (plain_breakpoints xs) (plain_breakpoints ys) e in
-    joined x.number y.number (plain_breakpoint x) (plain_breakpoint y) (map numbered_of xs) (map numbered_of ys) (first.0 ∙ sym second.0) parts.0 (same_numbered (n + 1) xs ys first.2 second.2 parts.1)
+    joined x.number y.number (plain_breakpoint x) (plain_breakpoint y) (map numbered_of xs) (map numbered_of ys)
+    (first.0 ∙ sym second.0) parts.0 (same_numbered (n + 1) xs ys first.2 second.2 parts.1)
   where
     both : (p q : PlainBreakpoint) (ps qs : List PlainBreakpoint) → p ∷ ps ≡ q ∷ qs → (p ≡ q) × (ps ≡ qs)
     both p q ps qs e = (cc, cc)
 
-    joined : (j k : ℕ) (p q : PlainBreakpoint) (es fs : List Numbered) → j ≡ k → p ≡ q → es ≡ fs → ◌≡◌ {A = List Numbered} (record { number = j; breakpoint = p } ∷ es) (record { number = k; breakpoint = q } ∷ fs)
+    joined : (j k : ℕ) (p q : PlainBreakpoint) (es fs : List Numbered) → j ≡ k → p ≡ q → es ≡ fs
+        → ◌≡◌ {A = List Numbered} (record { number = j; breakpoint = p } ∷ es)
+        (record { number = k; breakpoint = q } ∷ fs)
     joined j k p q es fs a b c = cc
 
 abbrev step_of : Numbered → ℕ
@@ -120,7 +142,9 @@ those_map : (s : ℕ) (bs : List Breakpoint) → filter (of s) (map numbered_of 
 those_map s [] = refl
 those_map s (b ∷ bs) = here (is_of s b) (those_map s bs)
   where
-    here : (t : Bool) → filter (of s) (map numbered_of bs) ≡ map numbered_of (those_of s bs) → cond t (numbered_of b ∷ filter (of s) (map numbered_of bs)) (filter (of s) (map numbered_of bs)) ≡ map numbered_of (cond t (b ∷ those_of s bs) (those_of s bs))
+    here : (t : Bool) → filter (of s) (map numbered_of bs) ≡ map numbered_of (those_of s bs)
+        → cond t (numbered_of b ∷ filter (of s) (map numbered_of bs)) (filter (of s) (map numbered_of bs)) ≡ map
+        numbered_of (cond t (b ∷ those_of s bs) (those_of s bs))
     here true e = ap (λ l. numbered_of b ∷ l) e
     here false e = e
 
@@ -149,30 +173,43 @@ heads : (a b : Numbered) (es fs : List Numbered) → a ∷ es ≡ b ∷ fs → (
 heads a b es fs e = (cc, cc)
 
 -- a list in the order of the steps is known by what it has of each step
-sorted_once : (n m : ℕ) (es fs : List Numbered) → Rising n es → Rising m fs → ((s : ℕ) → filter (of s) es ≡ filter (of s) fs) → es ≡ fs
+sorted_once : (n m : ℕ) (es fs : List Numbered) → Rising n es → Rising m fs
+    → ((s : ℕ) → filter (of s) es ≡ filter (of s) fs) → es ≡ fs
 sorted_once n m [] [] r q same = refl
-sorted_once n m [] (b ∷ fs) r q same = absurd (nothing b (filter (of (step_of b)) fs) (same (step_of b) ∙ filter_yes (step_of b) b fs refl))
-sorted_once n m (a ∷ es) [] r q same = absurd (nothing a (filter (of (step_of a)) es) (sym (same (step_of a)) ∙ filter_yes (step_of a) a es refl))
-sorted_once n m (a ∷ es) (b ∷ fs) r q same = by_order (sorted_once (step_of a) (step_of b) es fs r.1 q.1) (eqb_tells (step_of a) (step_of b))
+sorted_once n m [] (b ∷ fs) r q same =
+    absurd (nothing b (filter (of (step_of b)) fs) (same (step_of b) ∙ filter_yes (step_of b) b fs refl))
+sorted_once n m (a ∷ es) [] r q same =
+    absurd (nothing a (filter (of (step_of a)) es) (sym (same (step_of a)) ∙ filter_yes (step_of a) a es refl))
+sorted_once n m (a ∷ es) (b ∷ fs) r q same =
+    by_order (sorted_once (step_of a) (step_of b) es fs r.1 q.1) (eqb_tells (step_of a) (step_of b))
   where
-    lower : (c d : Numbered) (cs ds : List Numbered) → Rising (step_of d) ds → step_of c < step_of d → filter (of (step_of c)) (c ∷ cs) ≡ filter (of (step_of c)) (d ∷ ds) → ⊥
+    lower : (c d : Numbered) (cs ds : List Numbered) → Rising (step_of d) ds → step_of c < step_of d
+        → filter (of (step_of c)) (c ∷ cs) ≡ filter (of (step_of c)) (d ∷ ds) → ⊥
     lower c d cs ds r lt e =
-        let none : filter (of (step_of c)) (d ∷ ds) ≡ [] = none_below (step_of c) (step_of d) (d ∷ ds) lt (omega arith, r) in
+        let none : filter (of (step_of c)) (d ∷ ds) ≡ [] =
+        none_below (step_of c) (step_of d) (d ∷ ds) lt (omega arith, r) in
         nothing c (filter (of (step_of c)) cs) (sym none ∙ sym e ∙ filter_yes (step_of c) c cs refl)
 
     rest : step_of a ≡ step_of b → (s : ℕ) → filter (of s) es ≡ filter (of s) fs
     rest is s = by_step (eqb_tells s (step_of a))
       where
-        by_step : ((nat_eq s (step_of a) ≡ true) × (s ≡ step_of a)) ⊎ ((nat_eq s (step_of a) ≡ false) × (s ≢ step_of a)) → filter (of s) es ≡ filter (of s) fs
-        by_step (inl own) = (heads a b (filter (of s) es) (filter (of s) fs) (sym (filter_yes s a es own.1) ∙ same s ∙ filter_yes s b fs (own.1 ∙ is))).1
+        by_step : ((nat_eq s (step_of a) ≡ true) × (s ≡ step_of a)) ⊎ ((nat_eq s (step_of a) ≡ false) × (s ≢ step_of a))
+            → filter (of s) es ≡ filter (of s) fs
+        by_step (inl own) =
+            (heads a b (filter (of s) es) (filter (of s) fs)
+            (sym (filter_yes s a es own.1) ∙ same s ∙ filter_yes s b fs (own.1 ∙ is))).1
         by_step (inr other) = sym (filter_no s a es other.1) ∙ same s ∙ filter_no s b fs (λ e. other.1 (e ∙ sym is))
 
     equal : (((s : ℕ) → filter (of s) es ≡ filter (of s) fs) → es ≡ fs) → step_of a ≡ step_of b → a ∷ es ≡ b ∷ fs
     equal once is =
-        let first : a ≡ b = (heads a b (filter (of (step_of a)) es) (filter (of (step_of a)) fs) (sym (filter_yes (step_of a) a es refl) ∙ same (step_of a) ∙ filter_yes (step_of a) b fs is)).0 in
+        let first : a ≡ b =
+        (heads a b (filter (of (step_of a)) es) (filter (of (step_of a)) fs)
+        (sym (filter_yes (step_of a) a es refl) ∙ same (step_of a) ∙ filter_yes (step_of a) b fs is)).0 in
         ap (λ e. e ∷ es) first ∙ ap (λ l. b ∷ l) (once (rest is))
 
-    by_order : (((s : ℕ) → filter (of s) es ≡ filter (of s) fs) → es ≡ fs) → ((nat_eq (step_of a) (step_of b) ≡ true) × (step_of a ≡ step_of b)) ⊎ ((nat_eq (step_of a) (step_of b) ≡ false) × (step_of a ≢ step_of b)) → a ∷ es ≡ b ∷ fs
+    by_order : (((s : ℕ) → filter (of s) es ≡ filter (of s) fs) → es ≡ fs)
+        → ((nat_eq (step_of a) (step_of b) ≡ true) × (step_of a ≡ step_of b))
+        ⊎ ((nat_eq (step_of a) (step_of b) ≡ false) × (step_of a ≢ step_of b)) → a ∷ es ≡ b ∷ fs
     by_order once (inl is) = equal once is.1
     by_order once (inr other) = by_less (cases_lt (step_of a) (step_of b))
       where
@@ -189,10 +226,12 @@ pub record IsArranged (ordered bs : List Breakpoint) : Type 0 where
 rises : (ordered bs : List Breakpoint) → IsArranged ordered bs → Rising 0 (map numbered_of ordered)
 rises ordered bs is = rising 0 ordered (rises_sorted 0 ordered is.sorted (λ d some. omega arith))
 
-of_listed : (ordered bs : List Breakpoint) → IsArranged ordered bs → (s : ℕ) → filter (of s) (map numbered_of ordered) ≡ filter (of s) (map numbered_of bs)
+of_listed : (ordered bs : List Breakpoint) → IsArranged ordered bs → (s : ℕ)
+    → filter (of s) (map numbered_of ordered) ≡ filter (of s) (map numbered_of bs)
 of_listed ordered bs is s = those_map s ordered ∙ ap (map numbered_of) (is.whole s) ∙ sym (those_map s bs)
 
-pub ordered_same : (xs ys us vs : List Breakpoint) → IsArranged xs us → IsArranged ys vs → plain_breakpoints us ≡ plain_breakpoints vs → map numbered_of xs ≡ map numbered_of ys
+pub ordered_same : (xs ys us vs : List Breakpoint) → IsArranged xs us → IsArranged ys vs
+    → plain_breakpoints us ≡ plain_breakpoints vs → map numbered_of xs ≡ map numbered_of ys
 ordered_same xs ys us vs first second e =
     let same = same_numbered 0 us vs first.numbers second.numbers e in
     sorted_once 0 0 (map numbered_of xs) (map numbered_of ys) (rises xs us first) (rises ys vs second)
@@ -203,26 +242,37 @@ pub none_listed : (ordered all : List Breakpoint) → IsArranged ordered all →
 none_listed [] all is e = refl
 none_listed (b ∷ bs) all is e =
     absurd (nothing (numbered_of b) (filter (of b.step) (map numbered_of bs))
-    (sym (of_listed (b ∷ bs) all is b.step ∙ ap (λ l. filter (of b.step) (map numbered_of l)) e) ∙ filter_yes b.step (numbered_of b) (map numbered_of bs) refl))
+    (sym (of_listed (b ∷ bs) all is b.step ∙ ap (λ l. filter (of b.step) (map numbered_of l)) e)
+    ∙ filter_yes b.step (numbered_of b) (map numbered_of bs) refl))
 
 -- ---- the walk along two lists
 
-pub same_so_far : (xs ys : List Breakpoint) (i : ℕ) (x y : Breakpoint) → i < length xs → i < length ys → x ≡ get_or xs i x → y ≡ get_or ys i y →
-    map numbered_of (take i xs) ≡ map numbered_of (take i ys) → numbered_of x ≡ numbered_of y → map numbered_of (take (i + 1) xs) ≡ map numbered_of (take (i + 1) ys)
+pub same_so_far : (xs ys : List Breakpoint) (i : ℕ) (x y : Breakpoint) → i < length xs → i < length ys
+    → x ≡ get_or xs i x → y ≡ get_or ys i y →
+    map numbered_of (take i xs) ≡ map numbered_of (take i ys) → numbered_of x ≡ numbered_of y
+    → map numbered_of (take (i + 1) xs) ≡ map numbered_of (take (i + 1) ys)
 same_so_far xs ys i x y lt lt' is is' before same =
     one_more xs i x lt is
     ∙ ap (λ l. l ++ numbered_of x ∷ []) before
     ∙ ap (λ e. map numbered_of (take i ys) ++ e ∷ []) same
     ∙ sym (one_more ys i y lt' is')
   where
-    one_more : (xs : List Breakpoint) (i : ℕ) (x : Breakpoint) → i < length xs → x ≡ get_or xs i x → map numbered_of (take (i + 1) xs) ≡ map numbered_of (take i xs) ++ numbered_of x ∷ []
-    one_more xs i x lt is = ap (map numbered_of) (take_more xs i x lt ∙ ap (λ b. take i xs ++ b ∷ []) (sym is)) ∙ map-append numbered_of (take i xs) (x ∷ [])
+    one_more : (xs : List Breakpoint) (i : ℕ) (x : Breakpoint) → i < length xs → x ≡ get_or xs i x
+        → map numbered_of (take (i + 1) xs) ≡ map numbered_of (take i xs) ++ numbered_of x ∷ []
+    one_more xs i x lt is =
+        ap (map numbered_of) (take_more xs i x lt ∙ ap (λ b. take i xs ++ b ∷ []) (sym is))
+        ∙ map-append numbered_of (take i xs) (x ∷ [])
 
-pub same_there : (xs ys : List Breakpoint) (i : ℕ) (x y : Breakpoint) → i < length xs → i < length ys → x ≡ get_or xs i x → y ≡ get_or ys i y → map numbered_of xs ≡ map numbered_of ys → numbered_of x ≡ numbered_of y
-same_there xs ys i x y lt lt' is is' same = some (numbered_of x) (numbered_of y) (sym (there xs i x lt is) ∙ ap (λ es. slice_get es i) same ∙ there ys i y lt' is')
+pub same_there : (xs ys : List Breakpoint) (i : ℕ) (x y : Breakpoint) → i < length xs → i < length ys
+    → x ≡ get_or xs i x → y ≡ get_or ys i y → map numbered_of xs ≡ map numbered_of ys → numbered_of x ≡ numbered_of y
+same_there xs ys i x y lt lt' is is' same =
+    some (numbered_of x) (numbered_of y) (sym (there xs i x lt is) ∙ ap (λ es. slice_get es i) same
+    ∙ there ys i y lt' is')
   where
-    there : (xs : List Breakpoint) (i : ℕ) (x : Breakpoint) → i < length xs → x ≡ get_or xs i x → slice_get (map numbered_of xs) i ≡ Some (numbered_of x)
-    there xs i x lt is = slice_get-map numbered_of xs i ∙ ap (option_map numbered_of) (slice_get-get_or xs i x lt ∙ ap Some (sym is))
+    there : (xs : List Breakpoint) (i : ℕ) (x : Breakpoint) → i < length xs → x ≡ get_or xs i x
+        → slice_get (map numbered_of xs) i ≡ Some (numbered_of x)
+    there xs i x lt is =
+        slice_get-map numbered_of xs i ∙ ap (option_map numbered_of) (slice_get-get_or xs i x lt ∙ ap Some (sym is))
 
     some : (e f : Numbered) → ◌≡◌ {A = Option Numbered} (Some e) (Some f) → e ≡ f
     some e f is = cc
@@ -235,21 +285,30 @@ same_long xs ys e = omega (arith, ap length e, length-map xs numbered_of, length
 arranged : (p : Inside) → IsTable p → IsArranged p.ordered.items (listed p).breakpoints
 arranged p is = record { numbers = is.numbered.numbers; sorted = is.sorted; whole = is.whole }
 
-pub plans_told : (p q : Inside) → IsTable p → IsTable q → (r : Bool) → Decides r (map numbered_of p.ordered.items ≡ map numbered_of q.ordered.items) → Decides r (plain_breakpoints (listed p).breakpoints ≡ plain_breakpoints (listed q).breakpoints)
+pub plans_told : (p q : Inside) → IsTable p → IsTable q → (r : Bool)
+    → Decides r (map numbered_of p.ordered.items ≡ map numbered_of q.ordered.items)
+    → Decides r (plain_breakpoints (listed p).breakpoints ≡ plain_breakpoints (listed q).breakpoints)
 plans_told p q first second r told =
-    Decides-like r (listed_same p.ordered.items q.ordered.items) (ordered_same p.ordered.items q.ordered.items (listed p).breakpoints (listed q).breakpoints (arranged p first) (arranged q second)) told
+    Decides-like r (listed_same p.ordered.items q.ordered.items)
+    (ordered_same p.ordered.items q.ordered.items (listed p).breakpoints (listed q).breakpoints (arranged p first)
+    (arranged q second)) told
 
-pub empty_told : (p : Inside) → IsTable p → (r : Bool) → r ≡ (vec_len p.ordered == 0) → Decides r ((listed p).breakpoints ≡ [])
+pub empty_told : (p : Inside) → IsTable p → (r : Bool) → r ≡ (vec_len p.ordered == 0)
+    → Decides r ((listed p).breakpoints ≡ [])
 empty_told p is r e =
     let long : vec_len p.ordered ≡ length p.ordered.items = omega (arith, p.ordered.ok) in
-    let f = e ∙ ap (λ n. n == 0) long in
-    (λ yes'. ap listed_by (none p.ordered.items (sym f ∙ yes')), λ nothing. f ∙ ap (λ l. length l == 0) (none_listed p.ordered.items (listed p).breakpoints (arranged p is) nothing))
+    let f = e ∙ ap (λ n. n == 0) long in (
+      λ yes'. ap listed_by (none p.ordered.items (sym f ∙ yes')),
+      λ nothing. f
+          ∙ ap (λ l. length l == 0) (none_listed p.ordered.items (listed p).breakpoints (arranged p is) nothing),
+    )
   where
     none : (bs : List Breakpoint) → (length bs == 0) ≡ true → bs ≡ []
     none [] e = refl
     none (b ∷ bs) e = by_length (eqb_tells (length (b ∷ bs)) 0)
       where
-        by_length : ((nat_eq (length (b ∷ bs)) 0 ≡ true) × (length (b ∷ bs) ≡ 0)) ⊎ ((nat_eq (length (b ∷ bs)) 0 ≡ false) × (length (b ∷ bs) ≢ 0)) → b ∷ bs ≡ []
+        by_length : ((nat_eq (length (b ∷ bs)) 0 ≡ true) × (length (b ∷ bs) ≡ 0))
+            ⊎ ((nat_eq (length (b ∷ bs)) 0 ≡ false) × (length (b ∷ bs) ≢ 0)) → b ∷ bs ≡ []
         by_length (inl is) = let n = is.1 in absurd (omega (arith, n))
         by_length (inr is) = let never : false ≡ true = sym is.0 ∙ e in cc
 
@@ -260,5 +319,6 @@ no_plain (b ∷ bs) e = cc
 pub none_told : (bs : List Breakpoint) (r : Bool) → Decides r (bs ≡ []) → Decides r (plain_breakpoints bs ≡ [])
 none_told bs r told = Decides-like r (ap plain_breakpoints) (no_plain bs) told
 
-pub none_told_back : (bs : List Breakpoint) (r : Bool) → Decides r (bs ≡ []) → Decides r (◌≡◌ {A = List PlainBreakpoint} [] (plain_breakpoints bs))
+pub none_told_back : (bs : List Breakpoint) (r : Bool) → Decides r (bs ≡ [])
+    → Decides r (◌≡◌ {A = List PlainBreakpoint} [] (plain_breakpoints bs))
 none_told_back bs r told = Decides-like r (λ e. sym (ap plain_breakpoints e)) (λ e. no_plain bs (sym e)) told

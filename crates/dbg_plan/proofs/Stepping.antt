@@ -25,13 +25,16 @@ module _ (old new : Standing) (result : StepOutcome) (stepped : Stepped (outcome
       by_outcome Over s = absurd s
 
   -- where the step led on, the program runs
-  pub went_on : (written : Option ℤ) → result ≡ Went written → (new ≡ record old { position = old.position + 1 }) × IsRunning new
+  pub went_on : (written : Option ℤ) → result ≡ Went written → (new ≡ record old { position = old.position + 1 })
+      × IsRunning new
   went_on written is = by_outcome (outcome_of old) refl stepped
     where
-      by_outcome : (o : Outcome) → outcome_of old ≡ o → Stepped o old result new → (new ≡ record old { position = old.position + 1 }) × IsRunning new
+      by_outcome : (o : Outcome) → outcome_of old ≡ o → Stepped o old result new
+          → (new ≡ record old { position = old.position + 1 }) × IsRunning new
       by_outcome (Goes written []) e s = let other : result ≡ Done = s.0 in cc
       by_outcome (Goes written (f ∷ below)) e s =
-          let there : at (program old) (old.position + 1) ≡ Some (f ∷ below) = at_next (program old) old.position ∙ ap led_to e in
+          let there : at (program old) (old.position + 1) ≡ Some (f ∷ below) =
+          at_next (program old) old.position ∙ ap led_to e in
           let some : 0 < length (f ∷ below) = omega arith in
           (s.1, subst (λ m. IsRunning m) (sym s.1) (subst (λ o. 0 < length (frames_of o)) (sym there) some))
       by_outcome (Faults fault) e s = let other : result ≡ Fault fault = s.0 in cc
@@ -59,33 +62,43 @@ module _ (old new : Standing) (result : StepOutcome) (stepped : Stepped (outcome
       by_outcome (Faults fault) s = absurd (other fault s.0)
       by_outcome Over s = absurd s
 
-module _ (d : Inside) (was : IsCounting d) (machine : Standing) (result : StepOutcome) (stepped : Stepped (outcome_of d.machine) d.machine result machine) (behind : next_of d ≡ d.machine.position + 1) where
-  fits_still : MayBePlanOf machine.unit (plan_of d)
-  fits_still = subst (λ u. MayBePlanOf u (plan_of d)) (sym (same_unit d.machine machine result stepped)) was.fits
+module _ (d : Inside) (was : IsCounting d) (machine : Standing) (result : StepOutcome)
+    (stepped : Stepped (outcome_of d.machine) d.machine result machine) (behind : next_of d ≡ d.machine.position + 1)
+  where
+    fits_still : MayBePlanOf machine.unit (plan_of d)
+    fits_still = subst (λ u. MayBePlanOf u (plan_of d)) (sym (same_unit d.machine machine result stepped)) was.fits
 
-  -- the counts are those of the positions before the next to be considered
-  module _ (considered : Bool) (next : next_at machine.position considered ≡ next_of d) (stands : StandsBy machine considered) where
-    pub counting_still : IsCounting (record d { machine = machine; considered = considered })
-    counting_still =
-        let begun = was.begun in
-        record {
-          numbered = was.numbered;
-          fits = fits_still;
-          room = was.room;
-          counts = subst (λ u. AreCounts (program_of u) (listed_of (plan_of d)) d.counted_from (next_at machine.position considered) d.counts) (sym (same_unit d.machine machine result stepped))
-              (subst (λ n. AreCounts (program d.machine) (listed_of (plan_of d)) d.counted_from n d.counts) (sym next) was.counts);
-          begun = omega (arith, begun, next);
-          stands = stands;
-          trail = subst (λ u. AreOf u d.trail.checkpoints) (sym (same_unit d.machine machine result stepped)) was.trail;
-        }
+    -- the counts are those of the positions before the next to be considered
+    module _ (considered : Bool) (next : next_at machine.position considered ≡ next_of d)
+        (stands : StandsBy machine considered) where
+      pub counting_still : IsCounting (record d { machine = machine; considered = considered })
+      counting_still =
+          let begun = was.begun in
+          record {
+            numbered = was.numbered;
+            fits = fits_still;
+            room = was.room;
+            counts = subst (λ u. AreCounts (program_of u) (listed_of (plan_of d)) d.counted_from
+                (next_at machine.position considered) d.counts) (sym (same_unit d.machine machine result stepped))
+                (subst (λ n. AreCounts (program d.machine) (listed_of (plan_of d)) d.counted_from n d.counts) (sym next)
+                was.counts);
+            begun = omega (arith, begun, next);
+            stands = stands;
+            trail = subst (λ u. AreOf u d.trail.checkpoints) (sym (same_unit d.machine machine result stepped))
+                was.trail;
+          }
 
-  pub after_fault : (fault : RunFault) → result ≡ Fault fault → IsRunning d.machine → IsCounting (record d { machine = machine; considered = true })
-  after_fault fault is running =
-      let same = stays_there d.machine machine result stepped fault is in
-      counting_still true (ap (λ (m : Standing). m.position + 1) same ∙ sym behind) (subst (λ m. IsRunning m) (sym same) running)
+    pub after_fault : (fault : RunFault) → result ≡ Fault fault → IsRunning d.machine
+        → IsCounting (record d { machine = machine; considered = true })
+    after_fault fault is running =
+        let same = stays_there d.machine machine result stepped fault is in
+        counting_still true (ap (λ (m : Standing). m.position + 1) same ∙ sym behind)
+        (subst (λ m. IsRunning m) (sym same) running)
 
-  pub after_step : machine.position ≡ d.machine.position + 1 → IsCounting (record d { machine = machine; considered = false })
-  after_step on = counting_still false (on ∙ sym behind) tt
+    pub after_step : machine.position ≡ d.machine.position + 1 → IsCounting
+        (record d { machine = machine; considered = false })
+    after_step on = counting_still false (on ∙ sym behind) tt
 
-  pub not_fault : ((fault : RunFault) → result ≡ Fault fault → ⊥) → IsCounting (record d { machine = machine; considered = false })
-  not_fault other = after_step (goes_on d.machine machine result stepped other)
+    pub not_fault : ((fault : RunFault) → result ≡ Fault fault → ⊥)
+        → IsCounting (record d { machine = machine; considered = false })
+    not_fault other = after_step (goes_on d.machine machine result stepped other)

@@ -43,7 +43,8 @@ none_left (c ∷ d ∷ cs) e =
         some_there b cs (subst (λ n. slice_get (d ∷ b ∷ cs) n ≡ None) same e)
 
 -- the last of them is the greatest
-pub last_is : (a : ℕ) (cs : List Standing) (c : Standing) → AreAbove a (positions cs) → slice_get cs (length cs - 1) ≡ Some c → greatest (positions cs) ≡ c.position
+pub last_is : (a : ℕ) (cs : List Standing) (c : Standing) → AreAbove a (positions cs)
+    → slice_get cs (length cs - 1) ≡ Some c → greatest (positions cs) ≡ c.position
 last_is a [] c h e = cc
 last_is a (b ∷ []) c h e =
     let same : b ≡ c = cc in
@@ -102,17 +103,23 @@ drop_two (d ∷ done) rest b c =
     ap (λ n. drop n (d ∷ (done ++ b ∷ c ∷ rest))) same ∙ drop_two done rest b c
 
 -- one more is given up
-pub thins : (old now next : List Standing) (place : ℕ) → Thinning old now place → 2 * place + 2 ≤ length old → next ≡ take (place + 1) now ++ drop (place + 1 + 1) now → Thinning old next (place + 1)
+pub thins : (old now next : List Standing) (place : ℕ) → Thinning old now place → 2 * place + 2 ≤ length old
+    → next ≡ take (place + 1) now ++ drop (place + 1 + 1) now → Thinning old next (place + 1)
 thins old now next place t more removed = by_rest t.rest t.is t.all t.left
   where
-    by_rest : (rest : List Standing) → now ≡ t.done ++ rest → at_odd_places old ≡ t.done ++ at_odd_places rest → length rest + 2 * place ≡ length old → Thinning old next (place + 1)
+    by_rest : (rest : List Standing) → now ≡ t.done ++ rest → at_odd_places old ≡ t.done ++ at_odd_places rest
+        → length rest + 2 * place ≡ length old → Thinning old next (place + 1)
     by_rest [] is all left = absurd (omega (arith, left))
     by_rest (b ∷ []) is all left = absurd (omega (arith, left))
     by_rest (b ∷ c ∷ rest) is all left =
         let n = t.so_far in
-        let first : take (place + 1) now ≡ t.done ++ b ∷ [] = ap (λ l. take (place + 1) l) is ∙ ap (λ k. take (k + 1) (t.done ++ b ∷ c ∷ rest)) (sym n) ∙ take_first t.done (c ∷ rest) b in
+        let first : take (place + 1) now ≡ t.done ++ b ∷ [] =
+        ap (λ l. take (place + 1) l) is ∙ ap (λ k. take (k + 1) (t.done ++ b ∷ c ∷ rest)) (sym n)
+        ∙ take_first t.done (c ∷ rest) b in
         let two : place + 1 + 1 ≡ place + 2 = omega arith in
-        let second : drop (place + 1 + 1) now ≡ rest = ap (λ k. drop k now) two ∙ ap (λ l. drop (place + 2) l) is ∙ ap (λ k. drop (k + 2) (t.done ++ b ∷ c ∷ rest)) (sym n) ∙ drop_two t.done rest b c in
+        let second : drop (place + 1 + 1) now ≡ rest =
+        ap (λ k. drop k now) two ∙ ap (λ l. drop (place + 2) l) is
+        ∙ ap (λ k. drop (k + 2) (t.done ++ b ∷ c ∷ rest)) (sym n) ∙ drop_two t.done rest b c in
         record {
           done = t.done ++ b ∷ [];
           rest = rest;
@@ -122,10 +129,12 @@ thins old now next place t more removed = by_rest t.rest t.is t.all t.left
           left = omega (arith, left);
         }
 
-pub all_thinned : (old now : List Standing) (place : ℕ) → Thinning old now place → length old < 2 * place + 2 → now ≡ at_odd_places old
+pub all_thinned : (old now : List Standing) (place : ℕ) → Thinning old now place → length old < 2 * place + 2
+    → now ≡ at_odd_places old
 all_thinned old now place t done = by_rest t.rest t.is t.all t.left
   where
-    by_rest : (rest : List Standing) → now ≡ t.done ++ rest → at_odd_places old ≡ t.done ++ at_odd_places rest → length rest + 2 * place ≡ length old → now ≡ at_odd_places old
+    by_rest : (rest : List Standing) → now ≡ t.done ++ rest → at_odd_places old ≡ t.done ++ at_odd_places rest
+        → length rest + 2 * place ≡ length old → now ≡ at_odd_places old
     by_rest [] is all left = is ∙ sym all
     by_rest (b ∷ []) is all left = is ∙ sym all
     by_rest (b ∷ c ∷ rest) is all left = absurd (omega (arith, left))
@@ -138,7 +147,8 @@ none_asked trail n e = cond-false (asks trail n) (lengthened (with_room trail) n
 pub one_asked : (trail : Trail) (n : ℕ) → asks trail n ≡ true → kept_at trail n ≡ lengthened (with_room trail) n
 one_asked trail n e = cond-true (asks trail n) (lengthened (with_room trail) n) trail e
 
-pub one_kept : (trail : Trail) (n : ℕ) → asks trail n ≡ true → lengthened trail n ≡ record trail { kept = trail.kept ++ n ∷ [] }
+pub one_kept : (trail : Trail) (n : ℕ) → asks trail n ≡ true → lengthened trail n ≡ record trail
+    { kept = trail.kept ++ n ∷ [] }
 one_kept trail n e = cond-true (asks trail n) (record trail { kept = trail.kept ++ n ∷ [] }) trail e
 
 pub none_kept : (trail : Trail) (n : ℕ) → asks trail n ≡ false → lengthened trail n ≡ trail
@@ -151,7 +161,8 @@ pub lacks_room : (trail : Trail) → 64 ≤ length trail.kept → with_room trai
 lacks_room trail le = cond-true (nat_le 64 (length trail.kept)) (thinned trail) trail (le-leb 64 (length trail.kept) le)
 
 -- where as many are kept as may be, every other one is given up
-pub makes_room : (cs : List Standing) (spacing : ℕ) → 64 ≤ length cs → trail_at (at_odd_places cs) (spacing * 2) ≡ with_room (trail_at cs spacing)
+pub makes_room : (cs : List Standing) (spacing : ℕ) → 64 ≤ length cs
+    → trail_at (at_odd_places cs) (spacing * 2) ≡ with_room (trail_at cs spacing)
 makes_room cs spacing many =
     let twice : spacing * 2 ≡ 2 * spacing = omega arith in
     let still : 64 ≤ length (positions cs) = omega (arith, length-map cs (λ (c : Standing). c.position)) in
@@ -162,7 +173,13 @@ makes_room cs spacing many =
 pub odd_room : (cs : List Standing) → length cs ≤ 64 → length (at_odd_places cs) < 64
 odd_room cs few =
     let half = odd_half (positions cs) in
-    omega (arith, ap length (odd_positions cs), length-map (at_odd_places cs) (λ (c : Standing). c.position), length-map cs (λ (c : Standing). c.position))
+    omega (
+      arith,
+      ap length (odd_positions cs),
+      length-map (at_odd_places cs) (λ (c : Standing). c.position),
+      length-map
+          cs (λ (c : Standing). c.position),
+    )
 
 pub odd_ascending : (cs : List Standing) → AreAbove 0 (positions cs) → AreAbove 0 (positions (at_odd_places cs))
 odd_ascending cs h = subst (λ l. AreAbove 0 l) (sym (odd_positions cs)) (odd_above 0 (positions cs) h)
@@ -173,9 +190,11 @@ odd_ascending cs h = subst (λ l. AreAbove 0 l) (sym (odd_positions cs)) (odd_ab
 pub asked : (trail : Trail) (n : ℕ) → asks trail n ≡ true → greatest trail.kept + trail.spacing ≤ n
 asked trail n e = leb-true (greatest trail.kept + trail.spacing) n e
 
-pub pushed_above : (cs : List Standing) (c : Standing) (spacing : ℕ) → AreAbove 0 (positions cs) → 0 < spacing → greatest (positions cs) + spacing ≤ c.position → AreAbove 0 (positions (cs ++ c ∷ []))
+pub pushed_above : (cs : List Standing) (c : Standing) (spacing : ℕ) → AreAbove 0 (positions cs) → 0 < spacing
+    → greatest (positions cs) + spacing ≤ c.position → AreAbove 0 (positions (cs ++ c ∷ []))
 pushed_above cs c spacing h apart past =
-    subst (λ l. AreAbove 0 l) (sym (map-append (λ (c : Standing). c.position) cs (c ∷ []))) (above_greatest 0 c.position (positions cs) h (omega (arith, past)) (omega (arith, past)))
+    subst (λ l. AreAbove 0 l) (sym (map-append (λ (c : Standing). c.position) cs (c ∷ [])))
+    (above_greatest 0 c.position (positions cs) h (omega (arith, past)) (omega (arith, past)))
 
 pub pushed_of : (u : Compiled) (cs : List Standing) (c : Standing) → AreOf u cs → c.unit ≡ u → AreOf u (cs ++ c ∷ [])
 pushed_of u [] c h e = (e, tt)
@@ -194,7 +213,8 @@ abbrev until : ℕ → Standing → Bool
 until n c = nat_le c.position n
 
 -- one more in front
-longer : (n : ℕ) (b : Standing) (cs : List Standing) → find (until n) (reverse (b ∷ cs)) ≡ option_or (find (until n) (reverse cs)) (find (until n) (b ∷ []))
+longer : (n : ℕ) (b : Standing) (cs : List Standing) → find (until n) (reverse (b ∷ cs)) ≡ option_or
+    (find (until n) (reverse cs)) (find (until n) (b ∷ []))
 longer n b cs =
     ap (λ l. find (until n) l) (reverse-cons b cs) ∙ find-append (until n) (reverse cs) (b ∷ [])
 
@@ -204,16 +224,20 @@ floor_more n k ks le =
 
 floor_same : (n k : ℕ) (ks : List ℕ) → n < k → floor_of (k ∷ ks) n ≡ floor_of ks n
 floor_same n k ks lt =
-    ap greatest (cond-false (nat_le k n) (k ∷ filter (λ j. nat_le j n) ks) (filter (λ j. nat_le j n) ks) (lt-leb k n lt))
+    ap greatest (cond-false (nat_le k n) (k ∷ filter (λ j. nat_le j n) ks) (filter (λ j. nat_le j n) ks)
+    (lt-leb k n lt))
 
 -- what is found from the end is the floor
-pub floors : (a n : ℕ) (cs : List Standing) → AreAbove a (positions cs) → MatchOption (find (until n) (reverse cs)) (floor_of (positions cs) n ≡ 0) (λ c. IsFloor a n cs c)
+pub floors : (a n : ℕ) (cs : List Standing) → AreAbove a (positions cs)
+    → MatchOption (find (until n) (reverse cs)) (floor_of (positions cs) n ≡ 0) (λ c. IsFloor a n cs c)
 floors a n [] h = refl
 floors a n (b ∷ cs) h =
     subst (λ o. MatchOption o (floor_of (positions (b ∷ cs)) n ≡ 0) (λ c. IsFloor a n (b ∷ cs) c)) (sym (longer n b cs))
     (by_found (find (until n) (reverse cs)) (floors b.position n cs h.1))
   where
-    by_found : (o : Option Standing) → MatchOption o (floor_of (positions cs) n ≡ 0) (λ c. IsFloor b.position n cs c) → MatchOption (option_or o (find (until n) (b ∷ []))) (floor_of (positions (b ∷ cs)) n ≡ 0) (λ c. IsFloor a n (b ∷ cs) c)
+    by_found : (o : Option Standing) → MatchOption o (floor_of (positions cs) n ≡ 0) (λ c. IsFloor b.position n cs c)
+        → MatchOption (option_or o (find (until n) (b ∷ []))) (floor_of (positions (b ∷ cs)) n ≡ 0)
+        (λ c. IsFloor a n (b ∷ cs) c)
     by_found (Some c) f =
         let here = h.0 in
         let above = f.above in
@@ -228,7 +252,8 @@ floors a n (b ∷ cs) h =
     by_found None none =
         ⊎_elim
         (λ passes.
-        subst (λ o. MatchOption o (floor_of (positions (b ∷ cs)) n ≡ 0) (λ c. IsFloor a n (b ∷ cs) c)) (sym (cond-true (until n b) (Some b) None passes.0))
+        subst (λ o. MatchOption o (floor_of (positions (b ∷ cs)) n ≡ 0) (λ c. IsFloor a n (b ∷ cs) c))
+        (sym (cond-true (until n b) (Some b) None passes.0))
         (record {
           is = omega (arith, floor_more n b.position (positions cs) passes.1);
           above = h.0;
@@ -236,7 +261,8 @@ floors a n (b ∷ cs) h =
           of = λ u all. all.0;
         }))
         (λ fails.
-        subst (λ o. MatchOption o (floor_of (positions (b ∷ cs)) n ≡ 0) (λ c. IsFloor a n (b ∷ cs) c)) (sym (cond-false (until n b) (Some b) None fails.0))
+        subst (λ o. MatchOption o (floor_of (positions (b ∷ cs)) n ≡ 0) (λ c. IsFloor a n (b ∷ cs) c))
+        (sym (cond-false (until n b) (Some b) None fails.0))
         (floor_same n b.position (positions cs) fails.1 ∙ none))
         (leb_tells b.position n)
 
@@ -244,7 +270,8 @@ pub floor_within : (n : ℕ) (ks : List ℕ) → floor_of ks n ≤ n
 floor_within n [] = omega arith
 floor_within n (k ∷ ks) =
     let rest = floor_within n ks in
-    ⊎_elim (λ passes. let le = passes.1 in omega (arith, floor_more n k ks passes.1)) (λ fails. omega (arith, floor_same n k ks fails.1)) (leb_tells k n)
+    ⊎_elim (λ passes. let le = passes.1 in omega (arith, floor_more n k ks passes.1))
+    (λ fails. omega (arith, floor_same n k ks fails.1)) (leb_tells k n)
 
 -- ---- the laws
 
@@ -259,7 +286,8 @@ lengthened_short trail n few = by_asked (asks trail n)
 roomy_short : (trail : Trail) → length trail.kept ≤ 64 → length (with_room trail).kept < 64
 roomy_short trail few =
     ⊎_elim
-    (λ many. subst (λ (t : Trail). length t.kept < 64) (sym (lacks_room trail many.1)) (let half = odd_half trail.kept in omega arith))
+    (λ many. subst (λ (t : Trail). length t.kept < 64) (sym (lacks_room trail many.1))
+    (let half = odd_half trail.kept in omega arith))
     (λ room. subst (λ (t : Trail). length t.kept < 64) (sym (has_room trail room.1)) room.1)
     (leb_tells 64 (length trail.kept))
 
@@ -277,7 +305,8 @@ record Ascends (trail : Trail) : Type 0 where
 roomy_ascends : (trail : Trail) → Ascends trail → Ascends (with_room trail)
 roomy_ascends trail a =
     ⊎_elim
-    (λ many. subst (λ (t : Trail). Ascends t) (sym (lacks_room trail many.1)) (record { apart = (let s = a.apart in omega arith); above = odd_above 0 trail.kept a.above }))
+    (λ many. subst (λ (t : Trail). Ascends t) (sym (lacks_room trail many.1))
+    (record { apart = (let s = a.apart in omega arith); above = odd_above 0 trail.kept a.above }))
     (λ room. subst (λ (t : Trail). Ascends t) (sym (has_room trail room.1)) a)
     (leb_tells 64 (length trail.kept))
 
@@ -287,7 +316,8 @@ lengthened_ascends trail n a =
     (λ one.
     let s = a.apart in
     let past = one.1 in
-    subst (λ (t : Trail). Ascends t) (sym (one_kept trail n one.0)) (record { apart = a.apart; above = above_greatest 0 n trail.kept a.above (omega arith) (omega arith) }))
+    subst (λ (t : Trail). Ascends t) (sym (one_kept trail n one.0))
+    (record { apart = a.apart; above = above_greatest 0 n trail.kept a.above (omega arith) (omega arith) }))
     (λ none. subst (λ (t : Trail). Ascends t) (sym (none_kept trail n none.0)) a)
     (leb_tells (greatest trail.kept + trail.spacing) n)
 
@@ -300,6 +330,7 @@ trails_ascend trail n apart h = (all.apart, all.above)
     all : Ascends (kept_at trail n)
     all =
         ⊎_elim
-        (λ one. subst (λ (t : Trail). Ascends t) (sym (one_asked trail n one.0)) (lengthened_ascends (with_room trail) n (roomy_ascends trail was)))
+        (λ one. subst (λ (t : Trail). Ascends t) (sym (one_asked trail n one.0))
+        (lengthened_ascends (with_room trail) n (roomy_ascends trail was)))
         (λ none. subst (λ (t : Trail). Ascends t) (sym (none_asked trail n none.0)) was)
         (leb_tells (greatest trail.kept + trail.spacing) n)

@@ -21,68 +21,86 @@ use Rattle.dbg_plan.proofs.ValuesLinks.{leads}
 abbrev pub Reads : Configuration → ℕ → LocatedExpression → ℤ → Type 0
 Reads c i b v = CanRead c i b × (bound_value c i b ≡ Ok v)
 
-reads_number : (c : Configuration) (i : ℕ) (b : LocatedExpression) (v w : ℤ) → b ≡ bound.Number v → v ≡ w → Reads c i b w
+reads_number : (c : Configuration) (i : ℕ) (b : LocatedExpression) (v w : ℤ) → b ≡ bound.Number v → v ≡ w
+    → Reads c i b w
 reads_number c i b v w is same = subst (λ e. Reads c i e w) (sym is) (tt, ap Ok same)
 
-reads_variable : (c : Configuration) (i n k : ℕ) (b : LocatedExpression) (o : Option ℤ) → b ≡ bound.Variable n k → number_up c n k i ≡ o → IsSome o → Reads c i b (or_zero o)
+reads_variable : (c : Configuration) (i n k : ℕ) (b : LocatedExpression) (o : Option ℤ) → b ≡ bound.Variable n k
+    → number_up c n k i ≡ o → IsSome o → Reads c i b (or_zero o)
 reads_variable c i n k b o is up some =
     subst (λ e. Reads c i e (or_zero o)) (sym is) (subst (λ p. IsSome p) (sym up) some, ap (λ p. Ok (or_zero p)) up)
 
 -- in frame i of a block q
-module _ (main : Block) (c : Configuration) (i : ℕ) (f : Frame) (linked : AreLinked main c) (at : frame_at c i ≡ Some f) where
-  variable_reads : (x : List ℕ) (h : Home) (k : ℕ) (b : LocatedExpression) → home main f.block x ≡ Some h → h.declaration.meaning ≡ AVariable k → b ≡ bound.Variable (level f.block h.path) k → Reads c i b (or_zero (declared_number main c i h.path (AVariable k)))
-  variable_reads x h k b e means is =
-      let home_of = home_is main f.block x h e in
-      let r = found main c f.block i f h.path linked at refl home_of.around in
-      let lt = variable_within main f.block h k r.frame home_of means (frame_of main c r.at r.frame linked r.there) r.block in
-      let there = variable_found c i r.at k h.path r.frame r.is r.there in
-      let some : IsSome (slice_get r.frame.numbers k) = subst (λ o. IsSome o) (sym (slice_get-get_or r.frame.numbers k (pos 0) lt)) refl in
-      subst (λ o. Reads c i b (or_zero o)) (sym there) (reads_variable c i (level f.block h.path) k b (slice_get r.frame.numbers k) is (leads main c f.block i f h.path linked at refl home_of.around k ∙ there) some)
+module _ (main : Block) (c : Configuration) (i : ℕ) (f : Frame) (linked : AreLinked main c) (at : frame_at c i ≡ Some f)
+  where
+    variable_reads : (x : List ℕ) (h : Home) (k : ℕ) (b : LocatedExpression) → home main f.block x ≡ Some h
+        → h.declaration.meaning ≡ AVariable k → b ≡ bound.Variable (level f.block h.path) k
+        → Reads c i b (or_zero (declared_number main c i h.path (AVariable k)))
+    variable_reads x h k b e means is =
+        let home_of = home_is main f.block x h e in
+        let r = found main c f.block i f h.path linked at refl home_of.around in
+        let lt = variable_within main f.block h k r.frame home_of means (frame_of main c r.at r.frame linked r.there)
+        r.block in
+        let there = variable_found c i r.at k h.path r.frame r.is r.there in
+        let some : IsSome (slice_get r.frame.numbers k) =
+        subst (λ o. IsSome o) (sym (slice_get-get_or r.frame.numbers k (pos 0) lt)) refl in
+        subst (λ o. Reads c i b (or_zero o)) (sym there)
+        (reads_variable c i (level f.block h.path) k b (slice_get r.frame.numbers k) is
+        (leads main c f.block i f h.path linked at refl home_of.around k ∙ there) some)
 
-  declared_reads : (x : List ℕ) (h : Home) (m : Meaning) (b : LocatedExpression) → home main f.block x ≡ Some h → h.declaration.meaning ≡ m → IsDeclaredBound main f.block h.path m b → Reads c i b (or_zero (declared_number main c i h.path m))
-  declared_reads x h (AConstant k) b e means is = reads_number c i b is.0 _ is.2 (ap or_zero (sym is.1))
-  declared_reads x h (AVariable k) b e means is = variable_reads x h k b e means is
-  declared_reads x h (AProcedure k) b e means is = reads_number c i b (pos 0) (pos 0) is refl
+    declared_reads : (x : List ℕ) (h : Home) (m : Meaning) (b : LocatedExpression) → home main f.block x ≡ Some h
+        → h.declaration.meaning ≡ m → IsDeclaredBound main f.block h.path m b
+        → Reads c i b (or_zero (declared_number main c i h.path m))
+    declared_reads x h (AConstant k) b e means is = reads_number c i b is.0 _ is.2 (ap or_zero (sym is.1))
+    declared_reads x h (AVariable k) b e means is = variable_reads x h k b e means is
+    declared_reads x h (AProcedure k) b e means is = reads_number c i b (pos 0) (pos 0) is refl
 
-  abbrev home_number : Option Home → Option ℤ
-  home_number o = option_and_then (λ (h : Home). declared_number main c i h.path h.declaration.meaning) o
+    abbrev home_number : Option Home → Option ℤ
+    home_number o = option_and_then (λ (h : Home). declared_number main c i h.path h.declaration.meaning) o
 
-  home_reads : (x : List ℕ) (o : Option Home) (b : LocatedExpression) → home main f.block x ≡ o → IsNameBound main f.block o b → Reads c i b (or_zero (home_number o))
-  home_reads x None b e is = reads_number c i b (pos 0) (pos 0) is refl
-  home_reads x (Some h) b e is = declared_reads x h h.declaration.meaning b e refl is
+    home_reads : (x : List ℕ) (o : Option Home) (b : LocatedExpression) → home main f.block x ≡ o
+        → IsNameBound main f.block o b → Reads c i b (or_zero (home_number o))
+    home_reads x None b e is = reads_number c i b (pos 0) (pos 0) is refl
+    home_reads x (Some h) b e is = declared_reads x h h.declaration.meaning b e refl is
 
-  -- a name that is bound has its number
-  pub name_reads : (x : List ℕ) (b : LocatedExpression) → IsNameBound main f.block (home main f.block x) b → Reads c i b (or_zero (name_number main c i x))
-  name_reads x b is =
-      subst (λ o. Reads c i b (or_zero (home_number (option_and_then (λ (g : Frame). home main g.block x) o)))) (sym at) (home_reads x (home main f.block x) b refl is)
+    -- a name that is bound has its number
+    pub name_reads : (x : List ℕ) (b : LocatedExpression) → IsNameBound main f.block (home main f.block x) b
+        → Reads c i b (or_zero (name_number main c i x))
+    name_reads x b is =
+        subst (λ o. Reads c i b (or_zero (home_number (option_and_then (λ (g : Frame). home main g.block x) o))))
+        (sym at)
+        (home_reads x (home main f.block x) b refl is)
 
-  -- an expression that is bound has its value
-  pub expression_reads : (e : Expression) (b : LocatedExpression) → IsExpressionBound main f.block e b → CanRead c i b × (bound_value c i b ≡ value main c i e)
-  expression_reads (Number n) b is = subst (λ e. CanRead c i e × (bound_value c i e ≡ Ok n)) (sym is) (tt, refl)
-  expression_reads (Variable x) b is = name_reads x.word b is
-  expression_reads (Negate e) (bound.Negate' p b) is =
-      let r = expression_reads e b is in (r.0, ap (λ v. after v (λ x. checked (neg_ℤ x))) r.1)
-  expression_reads (Negate e) b is = absurd is
-  expression_reads (Binary op left right) (bound.Binary' op' p first r second) is =
-      let l = expression_reads left first is.1 in
-      let m = expression_reads right second is.2 in (
-        (l.0, m.0),
-        ap (λ v. after v (λ x. after (bound_value c i second) (λ y. operation op' x y))) l.1
-            ∙ ap (λ w. after (value main c i left) (λ x. after w (λ y. operation op' x y))) m.1
-            ∙ ap (λ o. after (value main c i left) (λ x. after (value main c i right) (λ y. operation o x y))) is.0,
-      )
-  expression_reads (Binary op left right) b is = absurd is
+    -- an expression that is bound has its value
+    pub expression_reads : (e : Expression) (b : LocatedExpression) → IsExpressionBound main f.block e b → CanRead c i b
+        × (bound_value c i b ≡ value main c i e)
+    expression_reads (Number n) b is = subst (λ e. CanRead c i e × (bound_value c i e ≡ Ok n)) (sym is) (tt, refl)
+    expression_reads (Variable x) b is = name_reads x.word b is
+    expression_reads (Negate e) (bound.Negate' p b) is =
+        let r = expression_reads e b is in (r.0, ap (λ v. after v (λ x. checked (neg_ℤ x))) r.1)
+    expression_reads (Negate e) b is = absurd is
+    expression_reads (Binary op left right) (bound.Binary' op' p first r second) is =
+        let l = expression_reads left first is.1 in
+        let m = expression_reads right second is.2 in (
+          (l.0, m.0),
+          ap (λ v. after v (λ x. after (bound_value c i second) (λ y. operation op' x y))) l.1
+              ∙ ap (λ w. after (value main c i left) (λ x. after w (λ y. operation op' x y))) m.1
+              ∙ ap (λ o. after (value main c i left) (λ x. after (value main c i right) (λ y. operation o x y))) is.0,
+        )
+    expression_reads (Binary op left right) b is = absurd is
 
-  -- a condition that is bound has its truth
-  pub condition_reads : (t : Condition) (b : LocatedCondition) → IsConditionBound main f.block t b → CanTest c i b × (bound_truth c i b ≡ truth main c i t)
-  condition_reads (Odd e) (bound_condition.Odd b) is =
-      let r = expression_reads e b is in (r.0, ap (λ v. after v (λ x. Ok (is_odd x))) r.1)
-  condition_reads (Compare relation left right) (bound_condition.Compare relation' first second) is =
-      let l = expression_reads left first is.1 in
-      let m = expression_reads right second is.2 in (
-        (l.0, m.0),
-        ap (λ v. after v (λ x. after (bound_value c i second) (λ y. Ok (comparison relation' x y)))) l.1
-            ∙ ap (λ w. after (value main c i left) (λ x. after w (λ y. Ok (comparison relation' x y)))) m.1
-            ∙ ap (λ o. after (value main c i left) (λ x. after (value main c i right) (λ y. Ok (comparison o x y)))) is.0,
-      )
-  condition_reads t b is = absurd is
+    -- a condition that is bound has its truth
+    pub condition_reads : (t : Condition) (b : LocatedCondition) → IsConditionBound main f.block t b → CanTest c i b
+        × (bound_truth c i b ≡ truth main c i t)
+    condition_reads (Odd e) (bound_condition.Odd b) is =
+        let r = expression_reads e b is in (r.0, ap (λ v. after v (λ x. Ok (is_odd x))) r.1)
+    condition_reads (Compare relation left right) (bound_condition.Compare relation' first second) is =
+        let l = expression_reads left first is.1 in
+        let m = expression_reads right second is.2 in (
+          (l.0, m.0),
+          ap (λ v. after v (λ x. after (bound_value c i second) (λ y. Ok (comparison relation' x y)))) l.1
+              ∙ ap (λ w. after (value main c i left) (λ x. after w (λ y. Ok (comparison relation' x y)))) m.1
+              ∙ ap (λ o. after (value main c i left) (λ x. after (value main c i right) (λ y. Ok (comparison o x y))))
+              is.0,
+        )
+    condition_reads t b is = absurd is

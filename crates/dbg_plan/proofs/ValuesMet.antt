@@ -61,7 +61,8 @@ return_path q (Some b) s e = path_of s e
     path_of : (s : StepAt) → return_of (Some b) q ≡ Some s → s.path ≡ q
     path_of s e = ap (λ (o : Option StepAt). option_map_or (λ (u : StepAt). u.path) o q) (sym e)
 
-next_path : (main : Block) (q : Path) (todo : List Statement) (s : StepAt) → first_step main q todo ≡ Some s → s.path ≡ q
+next_path : (main : Block) (q : Path) (todo : List Statement) (s : StepAt) → first_step main q todo ≡ Some s
+    → s.path ≡ q
 next_path main q [] s e = return_path q (block_at main q) s e
 next_path main q (t ∷ rest) s e = first_of q (statement_steps t q) s (steps_of t q) e
 
@@ -95,26 +96,39 @@ coded_truth = hlevel (codes, run_fault.the_row.coded)
 
 -- it can be tested in the newest frame, and gives the truth of its source
 abbrev pub IsTested : Block → Configuration → ℕ → BoundCondition → Type 0
-IsTested main c top guard = CanTest c top guard.located × (bound_truth c top guard.located ≡ truth main c (length c - 1) (plain_condition guard.condition))
+IsTested main c top guard =
+    CanTest c top guard.located × (bound_truth c top guard.located ≡ truth main c (length c - 1)
+    (plain_condition guard.condition))
 
-tested : (main : Block) (c : Configuration) (n top : ℕ) (guard : BoundCondition) → AreLinked main c → IsNext main (top_of c) n → IsConditionBound main (step_path main n) (plain_condition guard.condition) guard.located → top ≡ length c - 1 → IsTested main c top guard
+tested : (main : Block) (c : Configuration) (n top : ℕ) (guard : BoundCondition) → AreLinked main c
+    → IsNext main (top_of c) n → IsConditionBound main (step_path main n) (plain_condition guard.condition)
+    guard.located → top ≡ length c - 1 → IsTested main c top guard
 tested main [] n top guard linked next is at = absurd next
 tested main (f ∷ below) n top guard linked next is at =
     let here : length below ≡ length (f ∷ below) - 1 = omega arith in
-    let bound = subst (λ q. IsConditionBound main q (plain_condition guard.condition) guard.located) (sym (stands_in main f n next)) is in
+    let bound =
+    subst (λ q. IsConditionBound main q (plain_condition guard.condition) guard.located)
+    (sym (stands_in main f n next)) is in
     subst (λ i. IsTested main (f ∷ below) i guard) (sym at)
-    (condition_reads main (f ∷ below) (length (f ∷ below) - 1) f linked (frame_at-top f below (length (f ∷ below) - 1) here) (plain_condition guard.condition) guard.located bound)
+    (condition_reads main (f ∷ below) (length (f ∷ below) - 1) f linked
+    (frame_at-top f below (length (f ∷ below) - 1) here) (plain_condition guard.condition) guard.located bound)
 
-pub is_tested : (main : Block) (c : Configuration) (n top : ℕ) (guard : BoundCondition) → ∥ AreLinked main c ∥₁ → IsNext main (top_of c) n → IsConditionBound main (step_path main n) (plain_condition guard.condition) guard.located → top ≡ length c - 1 → IsTested main c top guard
+pub is_tested : (main : Block) (c : Configuration) (n top : ℕ) (guard : BoundCondition) → ∥ AreLinked main c ∥₁
+    → IsNext main (top_of c) n → IsConditionBound main (step_path main n) (plain_condition guard.condition)
+    guard.located → top ≡ length c - 1 → IsTested main c top guard
 is_tested main c n top guard linked next is at =
-    ∥∥₁_elim linked (×_prop (CanTest-prop c top guard.located) (Coded-set coded_truth _ _)) (λ l. tested main c n top guard l next is at)
+    ∥∥₁_elim linked (×_prop (CanTest-prop c top guard.located) (Coded-set coded_truth _ _))
+    (λ l. tested main c n top guard l next is at)
 
 unless_faulty : (r : Result Bool EvalFault) → result_unwrap_or r true ≡ true_or_faulty (answered r)
 unless_faulty (Ok b) = refl
 unless_faulty (Err fault) = refl
 
 -- what is reported of the condition is whether it holds
-pub holds_told : (m : Standing) (b : Breakpoint) (guard : BoundCondition) (top : ℕ) (r : Result Bool EvalFault) (result : Bool) → configuration m ≡ Some (frames m) → b.condition ≡ Some guard → IsTested (program m) (frames m) top guard → bound_truth (frames m) top guard.located ≡ answered r → result ≡ result_unwrap_or r true → result ≡ holds_now m b
+pub holds_told : (m : Standing) (b : Breakpoint) (guard : BoundCondition) (top : ℕ) (r : Result Bool EvalFault)
+    (result : Bool) → configuration m ≡ Some (frames m) → b.condition ≡ Some guard
+    → IsTested (program m) (frames m) top guard → bound_truth (frames m) top guard.located ≡ answered r
+    → result ≡ result_unwrap_or r true → result ≡ holds_now m b
 holds_told m b guard top r result there is t value e =
     e ∙ unless_faulty r
     ∙ ap true_or_faulty (sym value ∙ t.1)
@@ -122,11 +136,15 @@ holds_told m b guard top r result there is t value e =
     ∙ ap (λ o. holds_in (program m) o (plain_breakpoint b).condition) (sym there)
 
 -- a condition that doesn't hold
-pub unmet_told : (m : Standing) (b : Breakpoint) (guard : BoundCondition) (top : ℕ) → configuration m ≡ Some (frames m) → b.condition ≡ Some guard → IsTested (program m) (frames m) top guard → bound_truth (frames m) top guard.located ≡ Ok false → holds_now m b ≡ false
+pub unmet_told : (m : Standing) (b : Breakpoint) (guard : BoundCondition) (top : ℕ) → configuration m ≡ Some (frames m)
+    → b.condition ≡ Some guard → IsTested (program m) (frames m) top guard
+    → bound_truth (frames m) top guard.located ≡ Ok false → holds_now m b ≡ false
 unmet_told m b guard top there is t fails = sym (holds_told m b guard top (Ok false) false there is t fails refl)
 
 -- a breakpoint's condition can be tested in the newest frame
-pub tested_here : (m : Standing) (b : Breakpoint) (guard : BoundCondition) (depth : ℕ) → IsMetHere m b → b.condition ≡ Some guard → ∥ AreLinked (program m) (frames m) ∥₁ → depth ≡ depth_of m → IsTested (program m) (frames m) (depth - 1) guard
+pub tested_here : (m : Standing) (b : Breakpoint) (guard : BoundCondition) (depth : ℕ) → IsMetHere m b
+    → b.condition ≡ Some guard → ∥ AreLinked (program m) (frames m) ∥₁ → depth ≡ depth_of m
+    → IsTested (program m) (frames m) (depth - 1) guard
 tested_here m b guard depth here is linked e =
     let bound = subst (λ g. IsBoundAt (program m) b.step g) is here.bound in
     is_tested (program m) (frames m) b.step (depth - 1) guard linked here.next bound (ap (λ n. n - 1) e)

@@ -14,7 +14,8 @@ pub record HasLink (c : Configuration) (level k i : ℕ) : Type 0 where
   pub within : i < length c
   pub on : number_up c level k outer ≡ number_up c (suc level) k i
 
-link_of : (c : Configuration) (level k i : ℕ) (o : Option ℕ) → parent_of i (frame_at c i) ≡ o → IsSome (option_and_then (number_up c level k) o) → HasLink c level k i
+link_of : (c : Configuration) (level k i : ℕ) (o : Option ℕ) → parent_of i (frame_at c i) ≡ o
+    → IsSome (option_and_then (number_up c level k) o) → HasLink c level k i
 link_of c level k i None e some = cc
 link_of c level k i (Some j) e some = record {
   outer = j;
@@ -29,13 +30,17 @@ link_of c level k i (Some j) e some = record {
     within (suc i) (Some f) at e = frame_within c (suc i) f at
 
 -- one turn of a walk along this many links
-pub turn : (c : Configuration) (level counter k i start : ℕ) → counter < level → IsSome (number_up c level k start) → number_up c (level - counter) k i ≡ number_up c level k start → HasLink c (level - (counter + 1)) k i
+pub turn : (c : Configuration) (level counter k i start : ℕ) → counter < level → IsSome (number_up c level k start)
+    → number_up c (level - counter) k i ≡ number_up c level k start → HasLink c (level - (counter + 1)) k i
 turn c level counter k i start lt some walked =
     let left : level - counter ≡ suc (level - (counter + 1)) = omega arith in
-    let some' : IsSome (number_up c (suc (level - (counter + 1))) k i) = subst (λ o. IsSome o) (sym walked ∙ ap (λ n. number_up c n k i) left) some in
+    let some' : IsSome (number_up c (suc (level - (counter + 1))) k i) =
+    subst (λ o. IsSome o) (sym walked ∙ ap (λ n. number_up c n k i) left) some in
     link_of c (level - (counter + 1)) k i (parent_of i (frame_at c i)) refl some'
 
-pub turned : (c : Configuration) (level counter k i j start : ℕ) → counter < level → IsSome (number_up c level k start) → number_up c (level - counter) k i ≡ number_up c level k start → Some j ≡ parent_of i (frame_at c i) → number_up c (level - (counter + 1)) k j ≡ number_up c level k start
+pub turned : (c : Configuration) (level counter k i j start : ℕ) → counter < level → IsSome (number_up c level k start)
+    → number_up c (level - counter) k i ≡ number_up c level k start → Some j ≡ parent_of i (frame_at c i)
+    → number_up c (level - (counter + 1)) k j ≡ number_up c level k start
 turned c level counter k i j start lt some walked is =
     let t = turn c level counter k i start lt some walked in
     let left : level - counter ≡ suc (level - (counter + 1)) = omega arith in
@@ -44,7 +49,8 @@ turned c level counter k i j start lt some walked is =
     ap (λ n. number_up c (level - (counter + 1)) k n) same ∙ t.on ∙ ap (λ n. number_up c n k i) (sym left) ∙ walked
 
 -- the variable that the walk comes to
-pub variable_there : (c : Configuration) (k i : ℕ) → IsSome (number_of (frame_at c i) k) → k < variables_of (frame_at c i)
+pub variable_there : (c : Configuration) (k i : ℕ) → IsSome (number_of (frame_at c i) k)
+    → k < variables_of (frame_at c i)
 variable_there c k i some = there (frame_at c i) some
   where
     inside : (f : Frame) (o : Option ℤ) → slice_get f.numbers k ≡ o → IsSome o → k < length f.numbers

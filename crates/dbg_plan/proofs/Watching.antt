@@ -28,10 +28,12 @@ any_those s (b ∷ bs) = by_test (is_of s b) refl (any_those s bs)
     any_is : (v : Bool) → is_of s b ≡ v → list_any (is_of s) (b ∷ bs) ≡ (v || list_any (is_of s) bs)
     any_is v e = ap (λ t. t || list_any (is_of s) bs) e
 
-    those_are : (v : Bool) → is_of s b ≡ v → length (cond v (b ∷ those_of s bs) (those_of s bs)) ≡ length (those_of s (b ∷ bs))
+    those_are : (v : Bool) → is_of s b ≡ v → length (cond v (b ∷ those_of s bs) (those_of s bs)) ≡ length
+        (those_of s (b ∷ bs))
     those_are v e = sym (ap (λ t. length (cond t (b ∷ those_of s bs) (those_of s bs))) e)
 
-    by_test : (v : Bool) → is_of s b ≡ v → list_any (is_of s) bs ≡ nat_lt 0 (length (those_of s bs)) → list_any (is_of s) (b ∷ bs) ≡ nat_lt 0 (length (those_of s (b ∷ bs)))
+    by_test : (v : Bool) → is_of s b ≡ v → list_any (is_of s) bs ≡ nat_lt 0 (length (those_of s bs))
+        → list_any (is_of s) (b ∷ bs) ≡ nat_lt 0 (length (those_of s (b ∷ bs)))
     by_test true e more = any_is true e ∙ some ∙ ap (λ k. nat_lt 0 k) (those_are true e)
     by_test false e more = any_is false e ∙ more ∙ ap (λ k. nat_lt 0 k) (those_are false e)
 
@@ -46,40 +48,50 @@ not_of : (s : ℕ) (b : Breakpoint) → b.step < s → is_of s b ≡ false
 not_of s b lt = grind (arith, nat_tests)
 
 none_there : (n s : ℕ) (bs : List Breakpoint) → n ≤ s → All (λ b. b.step < n) bs → list_any (is_of s) bs ≡ false
-none_there n s bs le below = list_any_none (is_of s) bs (λ k d lt. let at = below k d lt in not_of s (get_or bs k d) (omega arith))
+none_there n s bs le below =
+    list_any_none (is_of s) bs (λ k d lt. let at = below k d lt in not_of s (get_or bs k d) (omega arith))
 
 none_below : (k : ℕ) → nat_lt k 0 ≡ false
 none_below k = grind (arith, nat_tests)
 
-part_has : (ordered : List Breakpoint) (starts : List ℕ) (s : ℕ) (part : List Breakpoint) → IsPart ordered starts s part → nat_lt (slice_index starts s) (slice_index starts (s + 1)) ≡ nat_lt 0 (length part)
+part_has : (ordered : List Breakpoint) (starts : List ℕ) (s : ℕ) (part : List Breakpoint) → IsPart ordered starts s part
+    → nat_lt (slice_index starts s) (slice_index starts (s + 1)) ≡ nat_lt 0 (length part)
 part_has ordered starts s part is =
     let a = slice_index starts s in
     let b = slice_index starts (s + 1) in
     let rises = is.rises in
     let within = is.within in
-    let long : length (take (b - a) (drop a ordered)) ≡ b - a = length-take-le (b - a) (drop a ordered) (omega (arith, length-drop a ordered)) in
+    let long : length (take (b - a) (drop a ordered)) ≡ b - a =
+    length-take-le (b - a) (drop a ordered) (omega (arith, length-drop a ordered)) in
     let same : length part ≡ b - a = sym (ap length is.holds) ∙ long in
     grind (arith, nat_tests)
 
 -- ordered are the breakpoints bs, all of the first n steps
-module _ (ordered bs : List Breakpoint) (starts : List ℕ) (n : ℕ) (long : length starts ≡ n + 1) (moved : IsPermutation bs ordered) (below : All (λ b. b.step < n) bs) (parts : (s : ℕ) → s < n → IsPart ordered starts s (those_of s ordered)) where
+module _ (ordered bs : List Breakpoint) (starts : List ℕ) (n : ℕ) (long : length starts ≡ n + 1)
+    (moved : IsPermutation bs ordered) (below : All (λ b. b.step < n) bs)
+    (parts : (s : ℕ) → s < n → IsPart ordered starts s (those_of s ordered)) where
   starts_tell : (step : Option ℕ) → has_part starts step ≡ has_breakpoint bs step
   starts_tell None = refl
   starts_tell (Some s) = elim (cases_lt s n) [
-    | inl lt ↦ part_has ordered starts s (those_of s ordered) (parts s lt) ∙ sym (any_those s ordered) ∙ sym (list_any-IsPermutation (is_of s) bs ordered moved)
-    | inr le ↦ ap (λ k. nat_lt (slice_index starts s) k) (get_or_past starts (s + 1) 0 (omega arith)) ∙ none_below (slice_index starts s) ∙ sym (none_there n s bs le below)
+    | inl lt ↦ part_has ordered starts s (those_of s ordered) (parts s lt) ∙ sym (any_those s ordered)
+        ∙ sym (list_any-IsPermutation (is_of s) bs ordered moved)
+    | inr le ↦ ap (λ k. nat_lt (slice_index starts s) k) (get_or_past starts (s + 1) 0 (omega arith))
+        ∙ none_below (slice_index starts s) ∙ sym (none_there n s bs le below)
   ]
 
   lines_tell : (lines : List (Option ℕ)) → map (has_part starts) lines ≡ map (has_breakpoint bs) lines
   lines_tell [] = refl
-  lines_tell (line ∷ lines) = ap (λ v. v ∷ map (has_part starts) lines) (starts_tell line) ∙ ap (λ l. has_breakpoint bs line ∷ l) (lines_tell lines)
+  lines_tell (line ∷ lines) =
+      ap (λ v. v ∷ map (has_part starts) lines) (starts_tell line)
+      ∙ ap (λ l. has_breakpoint bs line ∷ l) (lines_tell lines)
 
   pub watched_is : (lines : List (Option ℕ)) → map (has_part starts) lines ≡ watched_lines bs lines
   unfolding watched_lines
   watched_is lines = lines_tell lines
 
 -- each breakpoint of a program stands at one of its steps
-pub are_within : (main : Block) (n : ℕ) (bs : List Breakpoint) → n ≡ length (steps main) → AreAtSteps main bs → All (λ b. b.step < n) bs
+pub are_within : (main : Block) (n : ℕ) (bs : List Breakpoint) → n ≡ length (steps main) → AreAtSteps main bs
+    → All (λ b. b.step < n) bs
 are_within main n [] e at = λ k d lt. absurd (omega arith)
 are_within main n (b ∷ bs) e at =
     let mine : b.step < n = omega (arith, at.0) in
@@ -87,14 +99,21 @@ are_within main n (b ∷ bs) e at =
 
 -- ---- the table, filled line by line
 
-pub one_more : (f : Option ℕ → Bool) (lines : List (Option ℕ)) (i : ℕ) (line : Option ℕ) (old new : List Bool) → i < length lines → line ≡ get_or lines i line →
+pub one_more : (f : Option ℕ → Bool) (lines : List (Option ℕ)) (i : ℕ) (line : Option ℕ) (old new : List Bool)
+    → i < length lines → line ≡ get_or lines i line →
     old ≡ map f (take i lines) → new ≡ old ++ f line ∷ [] → new ≡ map f (take (i + 1) lines)
 one_more f lines i line old new lt is was more =
-    more ∙ ap (λ l. l ++ f line ∷ []) was ∙ sym (ap (λ l. map f l) (take_more lines i line lt ∙ ap (λ x. take i lines ++ x ∷ []) (sym is)) ∙ map-append f (take i lines) (line ∷ []))
+    more ∙ ap (λ l. l ++ f line ∷ []) was ∙ sym
+    (ap (λ l. map f l) (take_more lines i line lt ∙ ap (λ x. take i lines ++ x ∷ []) (sym is))
+    ∙ map-append f (take i lines) (line ∷ []))
 
 -- ---- what is known where the machine stands
 
 -- the table has an entry at an address that begins a step
-pub there : (bs : List Breakpoint) (lines : List (Option ℕ)) (watched : List Bool) (a s : ℕ) → watched ≡ watched_lines bs lines → slice_get lines a ≡ Some (Some s) → slice_get watched a ≡ Some (list_any (is_of s) bs)
+pub there : (bs : List Breakpoint) (lines : List (Option ℕ)) (watched : List Bool) (a s : ℕ)
+    → watched ≡ watched_lines bs lines → slice_get lines a ≡ Some (Some s)
+    → slice_get watched a ≡ Some (list_any (is_of s) bs)
 unfolding watched_lines
-there bs lines watched a s is at = ap (λ l. slice_get l a) is ∙ slice_get-map (has_breakpoint bs) lines a ∙ ap (λ o. option_map (has_breakpoint bs) o) at
+there bs lines watched a s is at =
+    ap (λ l. slice_get l a) is ∙ slice_get-map (has_breakpoint bs) lines a
+    ∙ ap (λ o. option_map (has_breakpoint bs) o) at

@@ -12,8 +12,12 @@ use Rattle.dbg_plan.specs.Debugged.{Debugged, machine_of, program_of, IsConsider
 abbrev pub further : Debugged → Debugged
 further d = record d { position = d.position + 1; next = d.position + 1 + 1 }
 
--- The step led to a position, which was considered, with what it logs; to the program's end; or nowhere, since it faults.
+-- The step led to a position, which was considered, with what it logs; to the program's end; or nowhere, since it
+-- faults.
 abbrev pub Advanced : Mode → Debugged → Advance → Debugged → List Log → Type 0
-Advanced mode old (To due) new logged = (new ≡ further old) × IsConsidered new × (due ≡ due_now new mode) × (logged ≡ logs_now new)
-Advanced mode old Done new logged = (new ≡ record old { position = old.position + 1 }) × (at (program_of old) (old.position + 1) ≡ Some []) × (logged ≡ [])
+Advanced mode old (To due) new logged =
+    (new ≡ further old) × IsConsidered new × (due ≡ due_now new mode) × (logged ≡ logs_now new)
+Advanced mode old Done new logged =
+    (new ≡ record old { position = old.position + 1 }) × (at (program_of old) (old.position + 1) ≡ Some [])
+    × (logged ≡ [])
 Advanced mode old (Fault fault) new logged = (new ≡ old) × (outcome_of (machine_of old) ≡ Faults fault) × (logged ≡ [])

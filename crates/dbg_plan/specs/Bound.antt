@@ -44,4 +44,5 @@ IsConditionBound main q condition b = ⊥
 abbrev pub ArePartsBound : Block → Path → List Part → Type 0
 ArePartsBound main q [] = Unit {0}
 ArePartsBound main q (part.Text text ∷ parts) = ArePartsBound main q parts
-ArePartsBound main q (part.Value e ∷ parts) = IsExpressionBound main q (plain_expression e.expression) e.located × ArePartsBound main q parts
+ArePartsBound main q (part.Value e ∷ parts) =
+    IsExpressionBound main q (plain_expression e.expression) e.located × ArePartsBound main q parts

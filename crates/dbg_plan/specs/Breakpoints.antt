@@ -1,4 +1,5 @@
--- Breakpoints as data. All definitions of plans are over it; `plain_breakpoint` says which one the code's breakpoint is.
+-- Breakpoints as data. All definitions of plans are over it; `plain_breakpoint` says which one the code's breakpoint
+-- is.
 use Rattle.std.specs.Prelude.{◌≡◌, ◌⊎◌, ℕ, List, map, Option, option_map, pos, string_bytes, refl}
 use Rattle.std.proofs.Common.{inl, inr}
 use Rattle.std.specs.Coded.{Coded, code_by, coded_ℕ, coded_list, coded_option, coded×, coded⊎}
@@ -34,7 +35,14 @@ plain_message m = record { text = string_bytes m.text; parts = plain_parts m.par
 
 abbrev pub plain_breakpoint : DeclaredBreakpoint → Breakpoint
 plain_breakpoint b =
-    record { step = b.step; condition = option_map text_condition b.condition; rule = b.rule; message = option_map plain_message b.message }
+    record {
+      step =
+          b.step;
+      condition = option_map text_condition b.condition;
+      rule = b.rule;
+      message = option_map plain_message
+          b.message;
+    }
 
 abbrev pub plain_breakpoints : List DeclaredBreakpoint → List Breakpoint
 plain_breakpoints bs = map plain_breakpoint bs
@@ -75,7 +83,8 @@ part_code = code_by (List ℕ ⊎ Expression) (coded⊎ (coded_list coded_ℕ) e
 
 abbrev message_code : Coded Message
 message_code =
-    code_by (List ℕ × List Part) (coded× (coded_list coded_ℕ) (coded_list part_code)) (λ m. (m.text, m.parts)) (λ p. record { text = p.0; parts = p.1 }) (λ m. refl)
+    code_by (List ℕ × List Part) (coded× (coded_list coded_ℕ) (coded_list part_code)) (λ m. (m.text, m.parts))
+    (λ p. record { text = p.0; parts = p.1 }) (λ m. refl)
 
 abbrev rule_parts : Rule → ℕ ⊎ ℕ
 rule_parts (From k) = inl k
@@ -94,9 +103,13 @@ rule_code = code_by (ℕ ⊎ ℕ) (coded⊎ coded_ℕ coded_ℕ) rule_parts rule
 
 abbrev text_condition_code : Coded TextCondition
 text_condition_code =
-    code_by (List ℕ × Condition) (coded× (coded_list coded_ℕ) condition_code) (λ c. (c.text, c.condition)) (λ p. record { text = p.0; condition = p.1 }) (λ c. refl)
+    code_by (List ℕ × Condition) (coded× (coded_list coded_ℕ) condition_code) (λ c. (c.text, c.condition))
+    (λ p. record { text = p.0; condition = p.1 }) (λ c. refl)
 
 abbrev pub breakpoint_code : Coded Breakpoint
 breakpoint_code =
-    code_by (ℕ × (Option TextCondition × (Option Rule × Option Message))) (coded× coded_ℕ (coded× (coded_option text_condition_code) (coded× (coded_option rule_code) (coded_option message_code))))
-    (λ b. (b.step, (b.condition, (b.rule, b.message)))) (λ p. record { step = p.0; condition = p.1.0; rule = p.1.1.0; message = p.1.1.1 }) (λ b. refl)
+    code_by (ℕ × (Option TextCondition × (Option Rule × Option Message)))
+    (coded× coded_ℕ (coded× (coded_option text_condition_code)
+    (coded× (coded_option rule_code) (coded_option message_code))))
+    (λ b. (b.step, (b.condition, (b.rule, b.message))))
+    (λ p. record { step = p.0; condition = p.1.0; rule = p.1.1.0; message = p.1.1.1 }) (λ b. refl)

@@ -93,14 +93,17 @@ MayBePlanOf unit (Some plan) = IsPlanOf unit plan
 -- the counts from the nth on are what is kept of these numbers
 abbrev pub CountFrom : (Breakpoint → ℕ) → ℕ → List Breakpoint → List ℕ → Type 0
 CountFrom number n [] counts = Unit {0}
-CountFrom number n (b ∷ bs) counts = (slice_index counts n ≡ reduced b.rule (number b)) × CountFrom number (n + 1) bs counts
+CountFrom number n (b ∷ bs) counts =
+    (slice_index counts n ≡ reduced b.rule (number b)) × CountFrom number (n + 1) bs counts
 
 -- the counts are those of the arrivals at the positions from `first` up to, but not including, `next`
 abbrev pub AreCounts : Block → List Breakpoint → ℕ → ℕ → List ℕ → Type 0
-AreCounts main breakpoints first next counts = CountFrom (λ b. arrivals main (plain_breakpoint b) first next) 0 breakpoints counts
+AreCounts main breakpoints first next counts =
+    CountFrom (λ b. arrivals main (plain_breakpoint b) first next) 0 breakpoints counts
 
 -- one more position was considered, with whether a breakpoint stops there, and what is logged there
-pub record CountsOn (main : Block) (breakpoints : List Breakpoint) (position first : ℕ) (due : Bool) (logged : List Log) (new : List ℕ) : Type 0 where
+pub record CountsOn (main : Block) (breakpoints : List Breakpoint) (position first : ℕ) (due : Bool) (logged : List Log)
+    (new : List ℕ) : Type 0 where
   pub counts : AreCounts main breakpoints first (position + 1) new
   pub due_is : due ≡ list_any (stops main first position) (plain_breakpoints breakpoints)
   pub logs_are : logged ≡ logs main (plain_breakpoints breakpoints) first position

@@ -20,7 +20,15 @@ abbrev pub next_of : Inside → ℕ
 next_of d = next_at d.machine.position d.considered
 
 abbrev pub debugged_of : Inside → Debugged
-debugged_of d = record { unit = d.machine.unit; position = d.machine.position; breakpoints = breakpoints_of (plan_of d); counted_from = d.counted_from; next = next_of d; trail = trail_of d.trail }
+debugged_of d =
+    record {
+      unit = d.machine.unit;
+      position = d.machine.position;
+      breakpoints = breakpoints_of (plan_of d);
+      counted_from = d.counted_from;
+      next = next_of d;
+      trail = trail_of d.trail;
+    }
 
 -- where a position was considered, the program runs
 abbrev pub StandsBy : Standing → Bool → Type 0

@@ -22,7 +22,8 @@ pub record Log : Type 0 where
 
 abbrev pub log_code : Coded Log
 log_code =
-    code_by (ℕ × List (Result ℤ RunFault)) (coded× coded_ℕ (coded_list (coded_result coded_ℤ run_fault.the_row.coded))) (λ l. (l.number, l.values)) (λ p. record { number = p.0; values = p.1 }) (λ l. refl)
+    code_by (ℕ × List (Result ℤ RunFault)) (coded× coded_ℕ (coded_list (coded_result coded_ℤ run_fault.the_row.coded)))
+    (λ l. (l.number, l.values)) (λ p. record { number = p.0; values = p.1 }) (λ l. refl)
 
 -- the values of expressions in the newest frame
 abbrev pub newest_values : Block → Option Configuration → List Expression → List (Result ℤ RunFault)
@@ -31,7 +32,8 @@ newest_values main (Some c) es = map (value main c (length c - 1)) es
 
 -- the log of a breakpoint of this number, if it has a message
 abbrev pub log_in : Block → Option Configuration → ℕ → Option Message → Option Log
-log_in main c number message = option_map (λ m. record { number = number; values = newest_values main c (expressions m.parts) }) message
+log_in main c number message =
+    option_map (λ m. record { number = number; values = newest_values main c (expressions m.parts) }) message
 
 -- what a breakpoint, counted from position t, logs at m
 abbrev pub log_at : Block → ℕ → ℕ → ℕ × Breakpoint → Option Log
@@ -71,9 +73,11 @@ part_text value_of (Value e) = value_text (value_of e)
 -- Where the values are those of its expressions, the text is the message with each expression replaced by its value.
 abbrev pub EachIsReplaced : Type 0
 EachIsReplaced =
-    (parts : List Part) (value_of : Expression → Result ℤ RunFault) → log_text parts (map value_of (expressions parts)) ≡ flat_map (part_text value_of) parts ++ 10 ∷ []
+    (parts : List Part) (value_of : Expression → Result ℤ RunFault)
+    → log_text parts (map value_of (expressions parts)) ≡ flat_map (part_text value_of) parts ++ 10 ∷ []
 
--- what a message says where the program stands: each expression replaced by its value in the newest frame, and a line feed
+-- what a message says where the program stands: each expression replaced by its value in the newest frame, and a line
+-- feed
 abbrev pub said_in : Block → Option Configuration → Message → List ℕ
 said_in main None message = []
 said_in main (Some c) message = flat_map (part_text (value main c (length c - 1))) message.parts ++ 10 ∷ []
@@ -90,7 +94,8 @@ said main breakpoints t m = filter_map (said_by main t m) breakpoints
 abbrev pub LogsAreSaid : Type 0
 LogsAreSaid =
     (main : Block) (breakpoints : List Breakpoint) (t m : ℕ)
-    → map (λ log. log_text (parts_at breakpoints log.number) log.values) (logs main breakpoints t m) ≡ said main breakpoints t m
+    → map (λ log. log_text (parts_at breakpoints log.number) log.values) (logs main breakpoints t m) ≡ said main
+    breakpoints t m
 
 -- The value of an expression is a number or a fault of arithmetic.
 abbrev pub ValuesAreArithmetic : Type 0

@@ -35,13 +35,14 @@ Lacks byte text = All (λ b. b ≢ byte) text
 abbrev pub braced : List ℕ → List ℕ → List ℕ
 braced inner rest = codes "{" ++ (inner ++ (codes "}" ++ rest))
 
--- A text is read from the left, where `Is` says which expression a text is. A text without `{` stands for itself. In any
--- other what is before the first `{` stands for itself. Then comes an expression, up to the next `}`, and what follows is
--- read in the same way.
+-- A text is read from the left, where `Is` says which expression a text is. A text without `{` stands for itself. In
+-- any other what is before the first `{` stands for itself. Then comes an expression, up to the next `}`, and what
+-- follows is read in the same way.
 abbrev pub ReadsParts : (List ℕ → Expression → Type 0) → List ℕ → List Part → Type 0
 ReadsParts Is text (Text bytes ∷ []) = (bytes ≡ text) × Lacks 123 text
 ReadsParts Is text (Text before ∷ Value e ∷ parts) =
-    (inner : List ℕ) × (rest : List ℕ) × (text ≡ before ++ braced inner rest) × Lacks 123 before × Lacks 125 inner × Is inner e × ReadsParts Is rest parts
+    (inner : List ℕ) × (rest : List ℕ) × (text ≡ before ++ braced inner rest) × Lacks 123 before × Lacks 125 inner
+    × Is inner e × ReadsParts Is rest parts
 ReadsParts Is text parts = ⊥
 
 -- the text reads as these parts, at most 8 of them expressions, each read in the block q

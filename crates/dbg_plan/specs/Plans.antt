@@ -16,8 +16,8 @@ use Rattle.dbg_plan.specs.Messages.{Part, Message}
 use Rattle.dbg_plan.specs.Breakpoints.{Breakpoint as PlainBreakpoint, plain_breakpoints}
 use Rattle.dbg_plan.specs.Bound.{IsConditionBound, ArePartsBound}
 
--- What contracts see of a plan: for how many steps it was made, its breakpoints in the order asked, and for each address
--- of the code whether the step that begins there has one.
+-- What contracts see of a plan: for how many steps it was made, its breakpoints in the order asked, and for each
+-- address of the code whether the step that begins there has one.
 pub record Listed : Type 0 where
   pub steps : ℕ
   pub breakpoints : List Breakpoint
@@ -70,7 +70,9 @@ IsMessageBoundAt main n (Some m) = ArePartsBound main (step_path main n) m.parts
 -- each breakpoint stands at a step of the program, and its condition and its message are bound there
 abbrev pub AreAtSteps : Block → List Breakpoint → Type 0
 AreAtSteps main [] = Unit {0}
-AreAtSteps main (b ∷ bs) = (b.step < length (steps main)) × IsBoundAt main b.step b.condition × IsMessageBoundAt main b.step b.message × AreAtSteps main bs
+AreAtSteps main (b ∷ bs) =
+    (b.step < length (steps main)) × IsBoundAt main b.step b.condition × IsMessageBoundAt main b.step b.message
+    × AreAtSteps main bs
 
 -- the plan was made for a program, beside whose instructions stand these steps
 pub record IsPlanFor (main : Block) (lines : List (Option ℕ)) (plan : Listed) : Type 0 where
@@ -94,7 +96,8 @@ breakpoints_of plan = plain_breakpoints (listed_of plan)
 -- the parts of the message of the breakpoint with this number; none without one
 abbrev pub parts_at : List PlainBreakpoint → ℕ → List Part
 parts_at breakpoints number =
-    option_map_or (λ (m : Message). m.parts) (option_and_then (λ (b : PlainBreakpoint). b.message) (slice_get breakpoints number)) []
+    option_map_or (λ (m : Message). m.parts)
+    (option_and_then (λ (b : PlainBreakpoint). b.message) (slice_get breakpoints number)) []
 
 -- they are few, each at a step of the program, and their rules count from 1
 pub record AreBreakpointsOf (main : Block) (breakpoints : List PlainBreakpoint) : Type 0 where

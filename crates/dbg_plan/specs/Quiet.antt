@@ -11,12 +11,14 @@ use Rattle.dbg_plan.specs.Running.{ahead, forward, IsQuiet, RanQuietly}
 -- a table of the plan's breakpoints; none, where it has none
 abbrev pub Watches : Option Listed → Option (List Bool) → Type 0
 Watches plan None = listed_of plan ≡ []
-Watches plan (Some watched) = (asked : Listed) × (plan ≡ Some asked) × (watched ≡ asked.watched) × IsNumbered asked.breakpoints
+Watches plan (Some watched) =
+    (asked : Listed) × (plan ≡ Some asked) × (watched ≡ asked.watched) × IsNumbered asked.breakpoints
 
 -- nothing more at the limit, or the first step that isn't quiet
 abbrev pub Ends : ℕ → List Breakpoint → Standing → Option StepOutcome → Standing → Type 0
 Ends limit breakpoints m None new = (new ≡ m) × (limit ≤ m.position)
-Ends limit breakpoints m (Some outcome) new = (m.position < limit) × (¬ IsQuiet breakpoints m) × Stepped (outcome_of m) m outcome new
+Ends limit breakpoints m (Some outcome) new =
+    (m.position < limit) × (¬ IsQuiet breakpoints m) × Stepped (outcome_of m) m outcome new
 
 abbrev pub RanByMachine : ℕ → Option Listed → Standing → Option StepOutcome → Standing → Type 0
 RanByMachine limit plan old outcome new =
@@ -33,7 +35,10 @@ considered_after (Some (Fault fault)) = true
 abbrev pub EndsAt : ℕ → Debugged → Option StepOutcome → Debugged → Type 0
 EndsAt limit d None new = (new ≡ d) × (limit ≤ d.position)
 EndsAt limit d (Some outcome) new =
-    (d.position < limit) × (¬ IsQuiet d.breakpoints (machine_of d)) × Stepped (outcome_of (machine_of d)) (machine_of d) outcome (machine_of new) × (new ≡ record d { position = new.position })
+    (d.position < limit) × (¬ IsQuiet d.breakpoints (machine_of d))
+    × Stepped (outcome_of (machine_of d)) (machine_of d) outcome (machine_of new)
+    × (new ≡ record d { position = new.position })
 
 abbrev pub RanTo : ℕ → Debugged → Option StepOutcome → Debugged → Type 0
-RanTo limit old outcome new = RanQuietly limit old.breakpoints (machine_of old) (λ steps. EndsAt limit (forward old steps) outcome new)
+RanTo limit old outcome new =
+    RanQuietly limit old.breakpoints (machine_of old) (λ steps. EndsAt limit (forward old steps) outcome new)

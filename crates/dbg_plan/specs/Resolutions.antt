@@ -22,7 +22,8 @@ step_from main line = position (λ s. nat_le line s.place.line) (steps main)
 -- the text reads as a condition in the block of step n
 abbrev pub ReadsConditionAt : Block → ℕ → List ℕ → Option TextCondition → Type 0
 ReadsConditionAt main n text None = text ≡ []
-ReadsConditionAt main n text (Some c) = (text ≢ []) × (c.text ≡ text) × IsConditionOf main (step_path main n) text c.condition
+ReadsConditionAt main n text (Some c) =
+    (text ≢ []) × (c.text ≡ text) × IsConditionOf main (step_path main n) text c.condition
 
 -- k, or %k
 abbrev pub rule_text : Rule → List ℕ
@@ -66,17 +67,22 @@ pub record IsBreakpointOf (main : Block) (asked : SourceBreakpoint) (n : ℕ) (b
   pub rule : ReadsRule (string_bytes asked.hit_condition) b.rule
   pub message : ReadsMessageAt main n (string_bytes asked.log_message) b.message
 
--- What a line is resolved to, and the breakpoints that it gives, one or none. If several refusals apply, it is the first.
+-- What a line is resolved to, and the breakpoints that it gives, one or none. If several refusals apply, it is the
+-- first.
 abbrev pub IsResolvedTo : Block → SourceBreakpoint → Resolution → List Breakpoint → Type 0
 IsResolvedTo main asked (At n) bs =
     (step_from main asked.line ≡ Some n) × ((b : Breakpoint) × (bs ≡ b ∷ []) × IsBreakpointOf main asked n b)
 IsResolvedTo main asked NoStep bs = (step_from main asked.line ≡ None) × (bs ≡ [])
 IsResolvedTo main asked BadCondition bs =
-    (bs ≡ []) × ((n : ℕ) × (step_from main asked.line ≡ Some n) × (¬ HasConditionAt main n (string_bytes asked.condition)))
+    (bs ≡ []) × ((n : ℕ) × (step_from main asked.line ≡ Some n)
+    × (¬ HasConditionAt main n (string_bytes asked.condition)))
 IsResolvedTo main asked BadHitCondition bs =
-    (bs ≡ []) × (¬ HasRule (string_bytes asked.hit_condition)) × ((n : ℕ) × (step_from main asked.line ≡ Some n) × HasConditionAt main n (string_bytes asked.condition))
+    (bs ≡ []) × (¬ HasRule (string_bytes asked.hit_condition))
+    × ((n : ℕ) × (step_from main asked.line ≡ Some n) × HasConditionAt main n (string_bytes asked.condition))
 IsResolvedTo main asked BadLogMessage bs =
-    (bs ≡ []) × HasRule (string_bytes asked.hit_condition) × ((n : ℕ) × (step_from main asked.line ≡ Some n) × HasConditionAt main n (string_bytes asked.condition) × (¬ HasMessageAt main n (string_bytes asked.log_message)))
+    (bs ≡ []) × HasRule (string_bytes asked.hit_condition) × ((n : ℕ) × (step_from main asked.line ≡ Some n)
+    × HasConditionAt main n (string_bytes asked.condition)
+    × (¬ HasMessageAt main n (string_bytes asked.log_message)))
 
 -- Each line is resolved, in order, and the breakpoints are those that the lines give, in order.
 abbrev pub AreResolved : Block → List SourceBreakpoint → List Resolution → List Breakpoint → Type 0
@@ -84,4 +90,5 @@ AreResolved main [] [] bs = bs ≡ []
 AreResolved main [] (a ∷ answers) bs = ⊥
 AreResolved main (asked ∷ more) [] bs = ⊥
 AreResolved main (asked ∷ more) (a ∷ answers) bs =
-    (mine : List Breakpoint) × (rest : List Breakpoint) × (bs ≡ mine ++ rest) × IsResolvedTo main asked a mine × AreResolved main more answers rest
+    (mine : List Breakpoint) × (rest : List Breakpoint) × (bs ≡ mine ++ rest) × IsResolvedTo main asked a mine
+    × AreResolved main more answers rest

@@ -21,7 +21,8 @@ pub record IsBoundMessageOf (main : Block) (n : ℕ) (text : List ℕ) (message 
   pub bound : IsMessageBoundAt main n message
 
 -- a line is resolved, and its breakpoint, if it has one, stands after the old ones, which its number counts
-pub record ResolvesLine (main : Block) (asked : SourceBreakpoint) (old new : List Breakpoint) (answer : Resolution) : Type 0 where
+pub record ResolvesLine (main : Block) (asked : SourceBreakpoint) (old new : List Breakpoint)
+    (answer : Resolution) : Type 0 where
   pub mine : List Breakpoint
   pub few : length mine ≤ 1
   pub after : new ≡ old ++ mine

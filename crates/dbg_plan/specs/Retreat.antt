@@ -13,7 +13,8 @@ pub record Stop : Type 0 where
   pub position : ℕ
   pub reason : Reason
 
--- The greatest position below n that is due in the mode Continue, if there is one. Breakpoints are counted from position 0.
+-- The greatest position below n that is due in the mode Continue, if there is one. Breakpoints are counted from
+-- position 0.
 abbrev pub last_due : Block → List Breakpoint → ℕ → Option ℕ
 last_due main breakpoints zero = None
 last_due main breakpoints (suc m) =
@@ -55,4 +56,5 @@ LeadsBack main breakpoints n (Some m) =
     (m < n) × IsSome (due main breakpoints 0 Continue m) × NoneIsDue main breakpoints (m + 1) n
 
 abbrev pub LastDueIsLast : Type 0
-LastDueIsLast = (main : Block) (breakpoints : List Breakpoint) (n : ℕ) → LeadsBack main breakpoints n (last_due main breakpoints n)
+LastDueIsLast =
+    (main : Block) (breakpoints : List Breakpoint) (n : ℕ) → LeadsBack main breakpoints n (last_due main breakpoints n)

@@ -46,9 +46,11 @@ forward d n = record d { position = d.position + n; next = d.position + n + 1 }
 abbrev pub Closes : ℕ → Debugged → List ℤ → Option Advance → Debugged → List ℤ → List Log → Type 0
 Closes limit d before None new after logged = (new ≡ d) × (after ≡ before) × (limit ≤ d.position) × (logged ≡ [])
 Closes limit d before (Some advance) new after logged =
-    (d.position < limit) × (¬ IsQuiet d.breakpoints (machine_of d)) × Advanced Continue d advance new logged × (after ≡ before ++ written_by (outcome_of (machine_of d)))
+    (d.position < limit) × (¬ IsQuiet d.breakpoints (machine_of d)) × Advanced Continue d advance new logged
+    × (after ≡ before ++ written_by (outcome_of (machine_of d)))
 
 -- Quiet steps were taken in the mode Continue, and before the limit one more, as `advance` takes it.
 abbrev pub RanFrom : ℕ → Debugged → List ℤ → Option Advance → Debugged → List ℤ → List Log → Type 0
 RanFrom limit old before advance new after logged =
-    RanQuietly limit old.breakpoints (machine_of old) (λ steps. Closes limit (forward old steps) before advance new after logged)
+    RanQuietly limit old.breakpoints (machine_of old)
+    (λ steps. Closes limit (forward old steps) before advance new after logged)

@@ -65,4 +65,6 @@ AreAbove n (k ∷ ks) = (n < k) × AreAbove k ks
 
 -- they ascend
 abbrev pub TrailsAscend : Type 0
-TrailsAscend = (trail : Trail) (n : ℕ) → 0 < trail.spacing → AreAbove 0 trail.kept → (0 < (kept_at trail n).spacing) × AreAbove 0 (kept_at trail n).kept
+TrailsAscend =
+    (trail : Trail) (n : ℕ) → 0 < trail.spacing → AreAbove 0 trail.kept → (0 < (kept_at trail n).spacing)
+    × AreAbove 0 (kept_at trail n).kept

@@ -17,7 +17,8 @@ over : (b : Bool) → frames_of (led_to (if b then Faults StepLimit else Over)) 
 over true = refl
 over false = refl
 
-alive_before : (main : Block) (n : ℕ) (o : Option Configuration) → 0 < length (frames_of (option_and_then (λ c. led_to (step_at main n c)) o)) → 0 < length (frames_of o)
+alive_before : (main : Block) (n : ℕ) (o : Option Configuration)
+    → 0 < length (frames_of (option_and_then (λ c. led_to (step_at main n c)) o)) → 0 < length (frames_of o)
 alive_before main n None h = h
 alive_before main n (Some []) h = absurd (omega (arith, h, ap length (over (nat_eq n last_position))))
 alive_before main n (Some (f ∷ below)) h = omega arith
@@ -29,7 +30,8 @@ runs_one_before main n = rw add-one (λ (h : RunsAt main (suc n)). alive_before 
 pub runs_before : (main : Block) (m n : ℕ) → m ≤ n → RunsAt main n → RunsAt main m
 runs_before main m zero le h = let e : m ≡ zero = omega (arith, le) in subst (λ k. RunsAt main k) (sym e) h
 runs_before main m (suc n) le h =
-    ⊎_elim (λ (is : m ≡ suc n). subst (λ k. RunsAt main k) (sym is) h) (λ ne. runs_before main m n (omega (arith, le, ne)) (alive_before main n (at main n) h)) (cases_eq m (suc n))
+    ⊎_elim (λ (is : m ≡ suc n). subst (λ k. RunsAt main k) (sym is) h)
+    (λ ne. runs_before main m n (omega (arith, le, ne)) (alive_before main n (at main n) h)) (cases_eq m (suc n))
 
 -- a frame is alive up to the last position at most
 pub runs_bounded : PositionsAreBounded → (main : Block) (n : ℕ) → RunsAt main n → n ≤ last_position
@@ -43,10 +45,15 @@ runs_bounded bounded main n h = by_frames (at main n) refl h
 pub not_over : (main : Block) (n : ℕ) → RunsAt main n → ¬ (at main n ≡ Some [])
 not_over main n h is = omega (arith, subst (λ o. 0 < length (frames_of o)) is h)
 
-fails_nowhere : (main : Block) (n : ℕ) (o : Option Configuration) (fault : RunFault) → option_map_or (step_at main n) o Over ≡ Faults fault → ¬ (0 < length (frames_of (option_and_then (λ c. led_to (step_at main n c)) o)))
+fails_nowhere : (main : Block) (n : ℕ) (o : Option Configuration) (fault : RunFault)
+    → option_map_or (step_at main n) o Over ≡ Faults fault → ¬
+    (0 < length (frames_of (option_and_then (λ c. led_to (step_at main n c)) o)))
 fails_nowhere main n None fault is h = omega (arith, h)
-fails_nowhere main n (Some c) fault is h = omega (arith, subst (λ (o : Outcome). 0 < length (frames_of (led_to o))) is h)
+fails_nowhere main n (Some c) fault is h =
+    omega (arith, subst (λ (o : Outcome). 0 < length (frames_of (led_to o))) is h)
 
 -- and no step before it faults
 pub no_fault : (main : Block) (n : ℕ) (fault : RunFault) → RunsAt main (n + 1) → ¬ (outcome main n ≡ Faults fault)
-no_fault main n fault = rw add-one (λ (h : RunsAt main (suc n)) (is : outcome main n ≡ Faults fault). fails_nowhere main n (at main n) fault is h)
+no_fault main n fault =
+    rw add-one (λ (h : RunsAt main (suc n)) (is : outcome main n ≡ Faults fault). fails_nowhere main n (at main n) fault
+    is h)

@@ -35,10 +35,14 @@ trail_send : IsSend Trail.the_field.row
 trail_send = let a = checkpoint_send in search (crosses, sendable) depth 60 fits 20000
 
 debuggee_send : IsSend Debuggee.the_row
-debuggee_send = let a = machine_send in let b = trail_send in let c = plan_send in let d = plan_sync in search (crosses, sendable) depth 60 fits 20000
+debuggee_send =
+    let a = machine_send in let b = trail_send in let c = plan_send in let d = plan_sync in search (crosses, sendable)
+    depth 60 fits 20000
 
 produced_send : IsSend Produced.the_field.row
-produced_send = let a = unit_send in let b = unit_sync in let c = plan_send in let d = plan_sync in search (crosses, sendable) depth 60 fits 20000
+produced_send =
+    let a = unit_send in let b = unit_sync in let c = plan_send in let d = plan_sync in search (crosses, sendable) depth
+    60 fits 20000
 
 pub report_send : IsSend Report.the_field.row
 report_send = let a = debuggee_send in let b = produced_send in search (crosses, sendable) depth 60 fits 20000

@@ -1,5 +1,5 @@
 -- The steps that a run which goes back runs again.
-use Rattle.std.proofs.Common.{◌≡◌, ℕ, zero, suc, ◌+◌, ◌-◌, ◌<◌, ◌≤◌, ⊎_elim, Bool, true, false, if◌then◌else◌, List, Option, Some, None, is_some, ap, sym, ◌∙◌, refl, subst, arith, add-one, ℤ}
+use Rattle.std.proofs.Common.{◌≡◌, ℕ, zero, suc, ◌+◌, ◌-◌, ◌<◌, ◌≤◌, ⊎_elim, Bool, false, if◌then◌else◌, List, Option, Some, None, is_some, ap, sym, ◌∙◌, refl, subst, arith, add-one, ℤ}
 use Rattle.std.proofs.lemmas.Bool.{cases_eq}
 use Rattle.pl0_tree.specs.Tree.{Block}
 use Rattle.pl0_meaning.specs.declared.RunFault.{RunFault}
@@ -10,24 +10,27 @@ use Rattle.dbg_plan.specs.declared.debuggee.Advance.{Advance}
 use Rattle.dbg_plan.specs.declared.debuggee.Advance.TheVariants.{To, Done, Fault}
 use Rattle.dbg_plan.specs.Due.{due}
 use Rattle.dbg_plan.specs.Logs.{Log}
-use Rattle.dbg_plan.specs.Debugged.{Debugged, machine_of, program_of, IsConsidered, due_now}
+use Rattle.dbg_plan.specs.Debugged.{Debugged, program_of, IsConsidered, due_now}
 use Rattle.dbg_plan.specs.Advances.{further}
 use Rattle.dbg_plan.specs.Running.{forward, RanFrom}
 use Rattle.dbg_plan.specs.Retreat.{last_due}
 use Rattle.dbg_plan.proofs.Unwatched.{not_due}
 use Rattle.dbg_runner.specs.Lawful.{RunsAt}
-use Rattle.dbg_runner.specs.Hops.{Hopped, standing}
+use Rattle.dbg_runner.specs.Hops.{Hopped}
 use Rattle.dbg_runner.proofs.Alive.{runs_before, not_over, no_fault}
 
 -- ---- one hop
 
-module _ (limit : ℕ) (old : Debugged) (runs : RunsAt (program_of old) limit) (lt : old.position < limit) (before : List ℤ) (new : Debugged) (after : List ℤ) (logged : List Log) where
+module _ (limit : ℕ) (old : Debugged) (runs : RunsAt (program_of old) limit) (lt : old.position < limit)
+    (before : List ℤ) (new : Debugged) (after : List ℤ) (logged : List Log) where
   -- at the positions of its quiet steps nothing is due
-  undue : (advance : Option Advance) (r : RanFrom limit old before advance new after logged) (m : ℕ) → old.position < m → m ≤ old.position + r.steps → due (program_of old) old.breakpoints old.counted_from Continue m ≡ None
+  undue : (advance : Option Advance) (r : RanFrom limit old before advance new after logged) (m : ℕ) → old.position < m
+      → m ≤ old.position + r.steps → due (program_of old) old.breakpoints old.counted_from Continue m ≡ None
   undue advance r m above le =
       let k = m - old.position - 1 in
       let there : old.position + k + 1 ≡ m = omega (arith, above) in
-      subst (λ n. due (program_of old) old.breakpoints old.counted_from Continue n ≡ None) there (not_due (forward (forward old k) 1) (r.quiet k (omega (arith, above, le))).unmet)
+      subst (λ n. due (program_of old) old.breakpoints old.counted_from Continue n ≡ None) there
+      (not_due (forward (forward old k) 1) (r.quiet k (omega (arith, above, le))).unmet)
 
   pub hops_to_limit : RanFrom limit old before None new after logged → Hopped limit old false new
   hops_to_limit r =
@@ -43,7 +46,8 @@ module _ (limit : ℕ) (old : Debugged) (runs : RunsAt (program_of old) limit) (
       } in
       subst (λ d. Hopped limit old false d) (sym r.ends.0) hopped
 
-  pub hops : (why : Option Reason) → RanFrom limit old before (Some (To why)) new after logged → Hopped limit old (is_some why) new
+  pub hops : (why : Option Reason) → RanFrom limit old before (Some (To why)) new after logged
+      → Hopped limit old (is_some why) new
   hops why r =
       let w = r.within in
       let short = r.ends.0 in
@@ -63,23 +67,27 @@ module _ (limit : ℕ) (old : Debugged) (runs : RunsAt (program_of old) limit) (
   never_over r =
       let short = r.ends.0 in
       let led = r.ends.2 in
-      not_over (program_of old) (old.position + r.steps + 1) (runs_before (program_of old) (old.position + r.steps + 1) limit (omega arith) runs) led.1
+      not_over (program_of old) (old.position + r.steps + 1)
+      (runs_before (program_of old) (old.position + r.steps + 1) limit (omega arith) runs) led.1
 
   pub never_faults : (fault : RunFault) → RanFrom limit old before (Some (Fault fault)) new after logged → ⊥
   never_faults fault r =
       let short = r.ends.0 in
       let led = r.ends.2 in
-      no_fault (program_of old) (old.position + r.steps) fault (runs_before (program_of old) (old.position + r.steps + 1) limit (omega arith) runs) led.1
+      no_fault (program_of old) (old.position + r.steps) fault
+      (runs_before (program_of old) (old.position + r.steps + 1) limit (omega arith) runs) led.1
 
 -- ---- the last due position
 
 -- where none is due, it is that of before
-last_due_before : (main : Block) (bs : List Breakpoint) (p q : ℕ) → p ≤ q → ((m : ℕ) → p ≤ m → m < q → due main bs 0 Continue m ≡ None) → last_due main bs q ≡ last_due main bs p
+last_due_before : (main : Block) (bs : List Breakpoint) (p q : ℕ) → p ≤ q
+    → ((m : ℕ) → p ≤ m → m < q → due main bs 0 Continue m ≡ None) → last_due main bs q ≡ last_due main bs p
 last_due_before main bs p zero le none = let e : zero ≡ p = omega (arith, le) in ap (λ n. last_due main bs n) e
 last_due_before main bs p (suc q) le none =
     ⊎_elim (λ (is : p ≡ suc q). ap (λ n. last_due main bs n) (sym is))
     (λ ne.
-    ap (λ (o : Option Reason). if is_some o then Some q else last_due main bs q) (none q (omega (arith, le, ne)) (omega arith))
+    ap (λ (o : Option Reason). if is_some o then Some q else last_due main bs q)
+    (none q (omega (arith, le, ne)) (omega arith))
     ∙ last_due_before main bs p q (omega (arith, le, ne)) (λ m above below. none m above (omega (arith, below))))
     (cases_eq p (suc q))
 
@@ -87,14 +95,23 @@ last_due_before main bs p (suc q) le none =
 abbrev pub found_by : Bool → ℕ → Option ℕ → Option ℕ
 found_by b q before = if b then Some q else before
 
-pub finds : (limit : ℕ) (old : Debugged) (result : Bool) (new : Debugged) (found : Option ℕ) → old.counted_from ≡ 0 → found ≡ last_due (program_of old) old.breakpoints (old.position + 1) → Hopped limit old result new → found_by result new.position found ≡ last_due (program_of new) new.breakpoints (new.position + 1)
+pub finds : (limit : ℕ) (old : Debugged) (result : Bool) (new : Debugged) (found : Option ℕ) → old.counted_from ≡ 0
+    → found ≡ last_due (program_of old) old.breakpoints (old.position + 1) → Hopped limit old result new
+    → found_by result new.position found ≡ last_due (program_of new) new.breakpoints (new.position + 1)
 finds limit old result new found counted is h =
     let main = program_of old in
     let bs = old.breakpoints in
     let q = new.position in
     let more = h.more in
-    let here : result ≡ is_some (due main bs 0 Continue q) = h.due_is ∙ ap (λ (d : Debugged). is_some (due_now d Continue)) h.is ∙ ap (λ n. is_some (due main bs n Continue q)) counted in
-    let earlier : found ≡ last_due main bs q = is ∙ sym (last_due_before main bs (old.position + 1) q (omega arith) (λ m above below. sym (ap (λ n. due main bs n Continue m) counted) ∙ h.passed m (omega (arith, above)) below)) in
-    let so : found_by result q found ≡ last_due main bs (suc q) = ap (λ b. found_by b q found) here ∙ ap (λ f. found_by (is_some (due main bs 0 Continue q)) q f) earlier in
-    let same : last_due main bs (suc q) ≡ last_due (program_of new) new.breakpoints (suc q) = ap (λ (d : Debugged). last_due (program_of d) d.breakpoints (suc q)) (sym h.is) in
+    let here : result ≡ is_some (due main bs 0 Continue q) =
+    h.due_is ∙ ap (λ (d : Debugged). is_some (due_now d Continue)) h.is
+    ∙ ap (λ n. is_some (due main bs n Continue q)) counted in
+    let earlier : found ≡ last_due main bs q =
+    is ∙ sym (last_due_before main bs (old.position + 1) q (omega arith)
+    (λ m above below. sym (ap (λ n. due main bs n Continue m) counted) ∙ h.passed m (omega (arith, above)) below))
+    in
+    let so : found_by result q found ≡ last_due main bs (suc q) =
+    ap (λ b. found_by b q found) here ∙ ap (λ f. found_by (is_some (due main bs 0 Continue q)) q f) earlier in
+    let same : last_due main bs (suc q) ≡ last_due (program_of new) new.breakpoints (suc q) =
+    ap (λ (d : Debugged). last_due (program_of d) d.breakpoints (suc q)) (sym h.is) in
     rw add-one (so ∙ same)

@@ -1,5 +1,5 @@
 -- A kept report is lawful, and its debuggee was considered where it stands.
-use Rattle.std.proofs.Common.{◌≡◌, ℕ, ◌-◌, ◌<◌, ◌≤◌, Bool, true, false, Option, Some, None, ap, refl, sym, ◌∙◌, subst, arith}
+use Rattle.std.proofs.Common.{◌≡◌, ℕ, ◌-◌, ◌<◌, ◌≤◌, Bool, true, false, Option, Some, ap, refl, sym, ◌∙◌, subst, arith}
 use Rattle.std.specs.Prelude.{zero, suc, is_some, if◌then◌else◌, List}
 use Rattle.pl0_tree.specs.Tree.{Block}
 use Rattle.pl0_machine.specs.Machine.{program_of}
@@ -12,11 +12,10 @@ use Rattle.dbg_plan.specs.Retreat.{Stop, last_due, stop_at, stepped_back, revers
 use Rattle.dbg_plan.specs.Debugged.{Debugged, IsConsidered}
 use Rattle.dbg_runner.specs.declared.outcome.SliceOutcome.{SliceOutcome}
 use Rattle.dbg_runner.specs.declared.outcome.SliceOutcome.TheVariants as out
-use Rattle.dbg_runner.specs.declared.report.Report.TheInside.{Inside}
 use Rattle.dbg_runner.specs.Plain.{PlainReport, goes_back}
 use Rattle.dbg_runner.specs.Lawful.{RunsAt, EndsBy, takes_all, is_due, is_over, faults, is_held, lacks_memory, GoesBackBy, is_spent, has_come, has_no_memory, WentOn, WentBack, Went, IsLawful}
 use Rattle.dbg_runner.specs.Reported.{Reported, plain_report, IsKept, stopped, carried, trail_in, Carries}
-use Rattle.dbg_runner.specs.ReportFields.{reported_of, StandsAtEnd, IsReport}
+use Rattle.dbg_runner.specs.ReportFields.{StandsAtEnd}
 use Rattle.dbg_runner.proofs.Alive.{runs_before}
 
 pub lawful : (r : Reported) → IsKept r → IsLawful (plain_report r)
@@ -24,32 +23,40 @@ lawful r kept = record { program = program_of r.unit; reads = r.unit.tree.lawful
 
 -- ---- by the direction of the run
 
-pub as_onward : (main : Block) (r : PlainReport) → goes_back r.mode ≡ false → Went main r (goes_back r.mode) → WentOn main r
+pub as_onward : (main : Block) (r : PlainReport) → goes_back r.mode ≡ false → Went main r (goes_back r.mode)
+    → WentOn main r
 as_onward main r forward went = subst (λ b. Went main r b) forward went
 
-pub as_back : (main : Block) (r : PlainReport) → goes_back r.mode ≡ true → Went main r (goes_back r.mode) → WentBack main r
+pub as_back : (main : Block) (r : PlainReport) → goes_back r.mode ≡ true → Went main r (goes_back r.mode)
+    → WentBack main r
 as_back main r back went = subst (λ b. Went main r b) back went
 
 -- ---- where a run stops that goes back
 
-found_below : (b : Bool) (n : ℕ) (before : Option ℕ) → (stop_at before).position ≤ n → (stop_at (if b then Some n else before)).position ≤ suc n
+found_below : (b : Bool) (n : ℕ) (before : Option ℕ) → (stop_at before).position ≤ n
+    → (stop_at (if b then Some n else before)).position ≤ suc n
 found_below true n before below = omega arith
 found_below false n before below = omega (arith, below)
 
 last_due_below : (main : Block) (bs : List Breakpoint) (n : ℕ) → (stop_at (last_due main bs n)).position ≤ n
 last_due_below main bs zero = omega arith
-last_due_below main bs (suc n) = found_below (is_some (due main bs 0 mode.Continue n)) n (last_due main bs n) (last_due_below main bs n)
+last_due_below main bs (suc n) =
+    found_below (is_some (due main bs 0 mode.Continue n)) n (last_due main bs n) (last_due_below main bs n)
 
 -- going back leads back
-pub leads_back : (main : Block) (bs : List Breakpoint) (m : Mode) (n : ℕ) (s : Stop) → goal_of main bs m n ≡ Some s → s.position ≤ n
-leads_back main bs mode.StepBack n s is = let same : stepped_back n ≡ s = cc in let there = ap (λ (s : Stop). s.position) same in omega (arith, there)
+pub leads_back : (main : Block) (bs : List Breakpoint) (m : Mode) (n : ℕ) (s : Stop) → goal_of main bs m n ≡ Some s
+    → s.position ≤ n
+leads_back main bs mode.StepBack n s is =
+    let same : stepped_back n ≡ s = cc in let there = ap (λ (s : Stop). s.position) same in omega (arith, there)
 leads_back main bs mode.Reverse n s is =
-    let same : reversed main bs n ≡ s = cc in let there = ap (λ (s : Stop). s.position) same in omega (arith, there, last_due_below main bs n)
+    let same : reversed main bs n ≡ s =
+    cc in let there = ap (λ (s : Stop). s.position) same in omega (arith, there, last_due_below main bs n)
 leads_back main bs _ n s is = absurd cc
 
 -- ---- a frame is alive where a report ends
 
-runs_at_end : (main : Block) (r : PlainReport) (e : SliceOutcome) → EndsBy main r e → ¬ (e ≡ out.Done) → RunsAt main r.end
+runs_at_end : (main : Block) (r : PlainReport) (e : SliceOutcome) → EndsBy main r e → ¬ (e ≡ out.Done)
+    → RunsAt main r.end
 runs_at_end main r out.More (takes_all spent undue runs) not_over = runs
 runs_at_end main r (out.Due reason) (is_due on due_there runs) not_over = runs
 runs_at_end main r out.Done (is_over on over) not_over = absurd (not_over refl)
@@ -59,7 +66,8 @@ runs_at_end main r out.NoMemory (lacks_memory stays runs) not_over = runs
 
 ends_before : (main : Block) (r : PlainReport) (e : SliceOutcome) → GoesBackBy main r e → r.end ≤ r.start
 ends_before main r out.More (is_spent stays all) = omega (arith, stays)
-ends_before main r (out.Due reason) (has_come come) = leads_back main r.plan r.mode r.start (record { position = r.end; reason = reason }) come
+ends_before main r (out.Due reason) (has_come come) =
+    leads_back main r.plan r.mode r.start (record { position = r.end; reason = reason }) come
 ends_before main r out.NoMemory (has_no_memory stays) = omega (arith, stays)
 ends_before main r out.Held none = elim none [ ]
 ends_before main r out.Done none = elim none [ ]
@@ -68,33 +76,43 @@ ends_before main r (out.Fault fault) none = elim none [ ]
 runs_at_stop : (main : Block) (r : PlainReport) → WentBack main r → RunsAt main r.end
 runs_at_stop main r went = runs_before main r.end r.start (ends_before main r r.outcome went.outcome) went.begun
 
-runs_there : (main : Block) (r : PlainReport) (back : Bool) → Went main r back → ¬ (r.outcome ≡ out.Done) → RunsAt main r.end
+runs_there : (main : Block) (r : PlainReport) (back : Bool) → Went main r back → ¬ (r.outcome ≡ out.Done)
+    → RunsAt main r.end
 runs_there main r false went not_over = runs_at_end main r r.outcome went.outcome not_over
 runs_there main r true went not_over = runs_at_stop main r went
 
-pub stopped_considered : (r : Reported) (trail : Trail) → IsKept r → ¬ (r.outcome ≡ out.Done) → IsConsidered (stopped r trail)
+pub stopped_considered : (r : Reported) (trail : Trail) → IsKept r → ¬ (r.outcome ≡ out.Done)
+    → IsConsidered (stopped r trail)
 stopped_considered r trail kept not_over =
-    record { behind = refl; running = runs_there (program_of r.unit) (plain_report r) (goes_back r.mode) kept.went not_over }
+    record {
+      behind =
+          refl;
+      running = runs_there (program_of r.unit) (plain_report r) (goes_back r.mode) kept.went not_over;
+    }
 
 -- the debuggee that goes on
-pub goes_on_considered : (r : Reported) (d : Debugged) → IsKept r → r.outcome ≡ out.More → StandsAtEnd r d r.outcome → IsConsidered d
+pub goes_on_considered : (r : Reported) (d : Debugged) → IsKept r → r.outcome ≡ out.More → StandsAtEnd r d r.outcome
+    → IsConsidered d
 goes_on_considered r d kept more stands =
     let is : d ≡ stopped r d.trail = subst (λ (e : SliceOutcome). StandsAtEnd r d e) more stands in
     let not_over : ¬ (r.outcome ≡ out.Done) = λ over. let no : out.More ≡ out.Done = sym more ∙ over in cc in
     subst (λ (d : Debugged). IsConsidered d) (sym is) (stopped_considered r d.trail kept not_over)
 
-carried_is : (r : Reported) (e : SliceOutcome) (d : Debugged) → Some d ≡ carried r e → (d ≡ stopped r (trail_in r.debuggee)) × ¬ (e ≡ out.Done)
+carried_is : (r : Reported) (e : SliceOutcome) (d : Debugged) → Some d ≡ carried r e
+    → (d ≡ stopped r (trail_in r.debuggee)) × ¬ (e ≡ out.Done)
 carried_is r out.More d is = absurd cc
 carried_is r out.Done d is = absurd cc
 carried_is r _ d is = (cc, λ over. cc)
 
-where_it_ends : (r : Reported) (d : Debugged) → IsKept r → r.debuggee ≡ Some d → r.debuggee ≡ carried r r.outcome → IsConsidered d
+where_it_ends : (r : Reported) (d : Debugged) → IsKept r → r.debuggee ≡ Some d → r.debuggee ≡ carried r r.outcome
+    → IsConsidered d
 where_it_ends r d kept is carries =
     let here = carried_is r r.outcome d (sym is ∙ carries) in
     subst (λ (d : Debugged). IsConsidered d) (sym here.0) (stopped_considered r (trail_in r.debuggee) kept here.1)
 
 -- the debuggee in a report
-pub carried_considered : (back : Bool) (r : Reported) (d : Debugged) → IsKept r → Carries back r r.outcome → r.debuggee ≡ Some d → IsConsidered d
+pub carried_considered : (back : Bool) (r : Reported) (d : Debugged) → IsKept r → Carries back r r.outcome
+    → r.debuggee ≡ Some d → IsConsidered d
 carried_considered back r d kept carries is = by_outcome back r.outcome refl carries
   where
     by_outcome : (b : Bool) (e : SliceOutcome) → e ≡ r.outcome → Carries b r e → IsConsidered d

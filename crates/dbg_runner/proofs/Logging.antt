@@ -1,5 +1,5 @@
 -- What the positions of a run log.
-use Rattle.std.proofs.Common.{◌≡◌, ◌⊎◌, ℕ, zero, suc, ◌+◌, ◌-◌, ◌<◌, ◌≤◌, ⊎_elim, Bool, true, false, if◌then◌else◌, List, [], ◌∷◌, ◌++◌, Option, Some, None, ap, refl, sym, ◌∙◌, subst, arith, append_assoc, append-nil}
+use Rattle.std.proofs.Common.{◌≡◌, ◌⊎◌, ℕ, zero, suc, ◌+◌, ◌-◌, ◌<◌, ◌≤◌, ⊎_elim, false, if◌then◌else◌, List, [], ◌∷◌, ◌++◌, Option, Some, None, ap, refl, sym, ◌∙◌, arith, append_assoc, append-nil}
 use Rattle.std.specs.Prelude.{◌&&◌}
 use Rattle.std.specs.List.{cons_option}
 use Rattle.std.specs.List.{filter_map, enumerate_from}
@@ -39,11 +39,13 @@ module _ (main : Block) (bs : List Breakpoint) (t : ℕ) where
       ∙ ap (λ ls. at_position m ++ ls) (stretch (m + 1) n k)
       ∙ ap (λ c. logs_from main bs t m c) (sym f)
 
-  pub logs-joined : (a b c : ℕ) → a ≤ b → b ≤ c → logs_between main bs t a b ++ logs_between main bs t b c ≡ logs_between main bs t a c
+  pub logs-joined : (a b c : ℕ) → a ≤ b → b ≤ c → logs_between main bs t a b
+      ++ logs_between main bs t b c ≡ logs_between main bs t a c
   logs-joined a b c first second =
       let e : b + 1 ≡ a + 1 + (b - a) = omega (arith, first) in
       let f : b - a + (c - b) ≡ c - a = omega (arith, first, second) in
-      ap (λ p. logs_between main bs t a b ++ logs_from main bs t p (c - b)) e ∙ stretch (a + 1) (b - a) (c - b) ∙ ap (λ n. logs_from main bs t (a + 1) n) f
+      ap (λ p. logs_between main bs t a b ++ logs_from main bs t p (c - b)) e ∙ stretch (a + 1) (b - a) (c - b)
+      ∙ ap (λ n. logs_from main bs t (a + 1) n) f
 
   pub logs_between-none : (a b : ℕ) → b ≤ a → logs_between main bs t a b ≡ []
   logs_between-none a b le = let e : b - a ≡ 0 = omega (arith, le) in ap (λ n. logs_from main bs t (a + 1) n) e
@@ -51,13 +53,15 @@ module _ (main : Block) (bs : List Breakpoint) (t : ℕ) where
   silent_from : (m n : ℕ) → ((k : ℕ) → m ≤ k → k < m + n → at_position k ≡ []) → logs_from main bs t m n ≡ []
   silent_from m zero none = refl
   silent_from m (suc n) none =
-      ap (λ ls. ls ++ logs_from main bs t (m + 1) n) (none m (omega arith) (omega arith)) ∙ silent_from (m + 1) n (λ k above below. none k (omega (arith, above)) (omega (arith, below)))
+      ap (λ ls. ls ++ logs_from main bs t (m + 1) n) (none m (omega arith) (omega arith))
+      ∙ silent_from (m + 1) n (λ k above below. none k (omega (arith, above)) (omega (arith, below)))
 
   -- nothing is logged up to b
   all_silent : (a b : ℕ) → Silent a b → (a < b → at_position b ≡ []) → logs_between main bs t a b ≡ []
   all_silent a b between last =
       silent_from (a + 1) (b - a) (λ k above below.
-      ⊎_elim (λ (is : k ≡ b). ap at_position is ∙ last (omega (arith, above, is))) (λ ne. between k (omega (arith, above)) (omega (arith, above, below, ne))) (cases_eq k b))
+      ⊎_elim (λ (is : k ≡ b). ap at_position is ∙ last (omega (arith, above, is)))
+      (λ ne. between k (omega (arith, above)) (omega (arith, above, below, ne))) (cases_eq k b))
 
   -- nothing is logged before b
   last_alone : (a b : ℕ) → a < b → Silent a b → logs_between main bs t a b ≡ at_position b
@@ -65,7 +69,9 @@ module _ (main : Block) (bs : List Breakpoint) (t : ℕ) where
       let c = b - 1 in
       let e : c + 1 ≡ b = omega (arith, lt) in
       let f : b - c ≡ 1 = omega (arith, lt) in
-      let front : logs_between main bs t a c ≡ [] = all_silent a c (λ m above below. between m above (omega (arith, below))) (λ more. between c more (omega (arith, lt))) in
+      let front : logs_between main bs t a c ≡ [] =
+      all_silent a c (λ m above below. between m above (omega (arith, below)))
+      (λ more. between c more (omega (arith, lt))) in
       sym (logs-joined a c b (omega (arith, lt)) (omega arith))
       ∙ ap (λ ls. ls ++ logs_between main bs t c b) front
       ∙ ap (λ n. logs_from main bs t (c + 1) n) f
@@ -75,12 +81,15 @@ module _ (main : Block) (bs : List Breakpoint) (t : ℕ) where
   -- ---- where the program is over
 
   never : (m : ℕ) (b : Breakpoint) → at main m ≡ Some [] → is_hit main t m b ≡ false
-  never m b over = ap (λ (o : Option Configuration). arrives_in main b o && accepts b.rule (arrivals main b t (m + 1))) over
+  never m b over =
+      ap (λ (o : Option Configuration). arrives_in main b o && accepts b.rule (arrivals main b t (m + 1))) over
 
-  none_over : (m n : ℕ) (left : List Breakpoint) → at main m ≡ Some [] → filter_map (log_at main t m) (enumerate_from n left) ≡ []
+  none_over : (m n : ℕ) (left : List Breakpoint) → at main m ≡ Some []
+      → filter_map (log_at main t m) (enumerate_from n left) ≡ []
   none_over m n [] over = refl
   none_over m n (b ∷ left) over =
-      ap (λ hit. cons_option (if hit then log_in main (at main m) n b.message else None) (filter_map (log_at main t m) (enumerate_from (n + 1) left))) (never m b over)
+      ap (λ hit. cons_option (if hit then log_in main (at main m) n b.message else None)
+      (filter_map (log_at main t m) (enumerate_from (n + 1) left))) (never m b over)
       ∙ none_over m (n + 1) left over
 
   pub silent_over : (m : ℕ) → at main m ≡ Some [] → at_position m ≡ []
@@ -90,7 +99,9 @@ module _ (main : Block) (bs : List Breakpoint) (t : ℕ) where
 
 -- a slice that is spent took a step
 pub after_start : (main : Block) (r : PlainReport) → IsSpent main r → r.start < r.end
-after_start main r spent = ⊎_elim (λ (all : r.end ≡ r.start + slice_limit). omega (arith, all)) (λ (logs : (r.start < r.end) × (logs_in main r r.end ≡ [] → ⊥)). logs.0) spent
+after_start main r spent =
+    ⊎_elim (λ (all : r.end ≡ r.start + slice_limit). omega (arith, all))
+    (λ (logs : (r.start < r.end) × (logs_in main r r.end ≡ [] → ⊥)). logs.0) spent
 
 module _ (main : Block) (r : PlainReport) (went : WentOn main r) where
   silent : Silent main r.plan r.counted_from r.start r.end
@@ -102,15 +113,18 @@ module _ (main : Block) (r : PlainReport) (went : WentOn main r) where
   nowhere : (r.start < r.end → logs_in main r r.end ≡ []) → [] ≡ logs_between main r.plan r.counted_from r.start r.end
   nowhere last = sym (all_silent main r.plan r.counted_from r.start r.end silent last)
 
-  told : (e : SliceOutcome) → EndsBy main r e → logs_told main r e ≡ logs_between main r.plan r.counted_from r.start r.end
+  told : (e : SliceOutcome) → EndsBy main r e → logs_told main r e ≡ logs_between main r.plan r.counted_from r.start
+      r.end
   told out.More (takes_all spent undue runs) = at_end (after_start main r spent)
   told (out.Due reason) (is_due lt due_there runs) = at_end lt
   told out.Done (is_over lt over) = nowhere (λ more. silent_over main r.plan r.counted_from r.end over)
   told (out.Fault fault) (faults early free fails runs) =
-      nowhere (λ more. ⊎_elim (λ (is : r.end ≡ r.start). absurd (omega (arith, is, more))) (λ (passed : IsPassed main r r.end). passed.silent) free)
+      nowhere (λ more. ⊎_elim (λ (is : r.end ≡ r.start). absurd (omega (arith, is, more)))
+      (λ (passed : IsPassed main r r.end). passed.silent) free)
   told out.Held (is_held stays runs) = nowhere (λ more. absurd (omega (arith, stays, more)))
   told out.NoMemory (lacks_memory stays runs) = nowhere (λ more. absurd (omega (arith, stays, more)))
 
 -- a report tells what the positions log that it came to
-pub report_logs : (main : Block) (r : PlainReport) → WentOn main r → r.logs ≡ logs_between main r.plan r.counted_from r.start r.end
+pub report_logs : (main : Block) (r : PlainReport) → WentOn main r
+    → r.logs ≡ logs_between main r.plan r.counted_from r.start r.end
 report_logs main r went = went.logs ∙ told main r went r.outcome went.outcome

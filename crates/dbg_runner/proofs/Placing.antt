@@ -6,35 +6,52 @@ use Rattle.dbg_plan.specs.Debugged.{Debugged}
 use Rattle.dbg_runner.specs.declared.outcome.SliceOutcome.{SliceOutcome}
 use Rattle.dbg_runner.specs.declared.outcome.SliceOutcome.TheVariants as out
 use Rattle.dbg_runner.specs.Rooms.{Room}
-use Rattle.dbg_runner.specs.Plain.{heading_of}
 use Rattle.dbg_runner.specs.Lawful.{IsReportOf}
-use Rattle.dbg_runner.specs.Reported.{Reported, IsKept, plain_report, heading, stopped, whereabouts, in_report, beside_report}
+use Rattle.dbg_runner.specs.Reported.{Reported, plain_report, heading, stopped, whereabouts, in_report, beside_report}
 use Rattle.dbg_runner.specs.ReportFields.{written_before, sliced, StandsAtEnd}
-use Rattle.dbg_runner.specs.Slices.{TookSteps, Reports, IsSliceOf}
+use Rattle.dbg_runner.specs.Slices.{TookSteps, IsSliceOf}
 use Rattle.dbg_runner.proofs.Keeping.{lawful}
 
-in_place : (r : Reported) (d : Debugged) (trail : Trail) (e : SliceOutcome) → StandsAtEnd r d e → d.trail ≡ trail → in_report (whereabouts e) d ≡ in_report (whereabouts e) (stopped r trail)
+in_place : (r : Reported) (d : Debugged) (trail : Trail) (e : SliceOutcome) → StandsAtEnd r d e → d.trail ≡ trail
+    → in_report (whereabouts e) d ≡ in_report (whereabouts e) (stopped r trail)
 in_place r d trail out.Done stands is = refl
-in_place r d trail e stands is = ap (λ (x : Debugged). in_report (whereabouts e) x) (stands ∙ ap (λ (t : Trail). stopped r t) is)
+in_place r d trail e stands is =
+    ap (λ (x : Debugged). in_report (whereabouts e) x) (stands ∙ ap (λ (t : Trail). stopped r t) is)
 
-beside : (r : Reported) (d : Debugged) (trail : Trail) (e : SliceOutcome) → StandsAtEnd r d e → d.trail ≡ trail → beside_report (whereabouts e) d ≡ beside_report (whereabouts e) (stopped r trail)
+beside : (r : Reported) (d : Debugged) (trail : Trail) (e : SliceOutcome) → StandsAtEnd r d e → d.trail ≡ trail
+    → beside_report (whereabouts e) d ≡ beside_report (whereabouts e) (stopped r trail)
 beside r d trail out.Done stands is = refl
-beside r d trail e stands is = ap (λ (x : Debugged). beside_report (whereabouts e) x) (stands ∙ ap (λ (t : Trail). stopped r t) is)
+beside r d trail e stands is =
+    ap (λ (x : Debugged). beside_report (whereabouts e) x) (stands ∙ ap (λ (t : Trail). stopped r t) is)
 
-module _ (run : ℕ) (mode : Mode) (d new : Debugged) (room : Room) (e : SliceOutcome) (took : TookSteps mode d e new room) where
+module _ (run : ℕ) (mode : Mode) (d new : Debugged) (room : Room) (e : SliceOutcome)
+    (took : TookSteps mode d e new room) where
   abbrev report : Reported
   report = sliced run mode d.position (written_before d) room new e
 
   of : IsReportOf (heading run d mode) (plain_report report)
   of = record {
-    heading = λ i. record { run = run; text = (took.unit i).tree.text.items; plan = took.breakpoints i; counted_from = took.counted_from i; mode = mode; start = d.position };
+    heading =
+        λ i. record {
+          run = run;
+          text = (took.unit i).tree.text.items;
+          plan = took.breakpoints i;
+          counted_from =
+              took.counted_from i;
+          mode = mode;
+          start = d.position;
+        };
     lawful = lawful report (took.lawful run);
   }
 
   -- the report of a slice, made with these
-  pub reports_slice : (start before : ℕ) → start ≡ d.position → before ≡ written_before d → (r : Reported) (on : Option Debugged) → r ≡ sliced run mode start before room new e → on ≡ beside_report (whereabouts e) new → IsSliceOf run d mode r on
+  pub reports_slice : (start before : ℕ) → start ≡ d.position → before ≡ written_before d
+      → (r : Reported) (on : Option Debugged) → r ≡ sliced run mode start before room new e
+      → on ≡ beside_report (whereabouts e) new → IsSliceOf run d mode r on
   reports_slice start before start_is before_is r on r_is on_is =
-      let is : r ≡ report = r_is ∙ ap (λ n. sliced run mode n before room new e) start_is ∙ ap (λ n. sliced run mode d.position n room new e) before_is in
+      let is : r ≡ report =
+      r_is ∙ ap (λ n. sliced run mode n before room new e) start_is
+      ∙ ap (λ n. sliced run mode d.position n room new e) before_is in
       subst (λ (r : Reported). IsSliceOf run d mode r on) (sym is) (record {
         reports = record {
           of = of;

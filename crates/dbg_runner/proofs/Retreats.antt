@@ -1,10 +1,10 @@
 -- The reports of a run that goes back.
-use Rattle.std.proofs.Common.{Box, Global, ◌≡◌, ℕ, ◌+◌, ◌*◌, ◌<◌, ◌≤◌, Bool, true, [], length, Option, Some, None, box_value, refl, ap, sym, ◌∙◌, subst, arith}
+use Rattle.std.proofs.Common.{Box, Global, ◌≡◌, ℕ, ◌+◌, ◌*◌, ◌<◌, ◌≤◌, [], length, Option, Some, None, refl, ap, sym, ◌∙◌, subst, arith}
 use Rattle.pl0_meaning.specs.Runs.{written}
 use Rattle.dbg_plan.specs.declared.mode.Reason.{Reason}
 use Rattle.dbg_plan.specs.declared.debuggee.Debuggee.{Debuggee}
-use Rattle.dbg_plan.specs.Debugged.{Debugged, program_of, IsConsidered}
-use Rattle.dbg_plan.specs.Retreat.{Stop, goal_of}
+use Rattle.dbg_plan.specs.Debugged.{Debugged, program_of}
+use Rattle.dbg_plan.specs.Retreat.{goal_of}
 use Rattle.dbg_runner.specs.declared.outcome.SliceOutcome.{SliceOutcome}
 use Rattle.dbg_runner.specs.declared.outcome.SliceOutcome.TheVariants as out
 use Rattle.dbg_runner.specs.declared.report.Summary.{Summary}
@@ -16,7 +16,7 @@ use Rattle.dbg_runner.specs.Rooms.{Room, slice_limit}
 use Rattle.dbg_runner.specs.Plain.{goes_back}
 use Rattle.dbg_runner.specs.Lawful.{GoesBackBy, is_spent, has_come, has_no_memory, Went}
 use Rattle.dbg_runner.specs.Reported.{Reported, IsKept, plain_report, counts_from, stopped, Carries}
-use Rattle.dbg_runner.specs.ReportFields.{reported_with, IsReportWith}
+use Rattle.dbg_runner.specs.ReportFields.{IsReportWith}
 use Rattle.dbg_runner.specs.Retreating.{Retreating, IsRoomFor, summary_back}
 use Rattle.dbg_runner.specs.Courses.{IsOn, IsAt, retreating_of, IsRetreat}
 
@@ -53,12 +53,31 @@ module _ (r : Inside) (inv : IsRetreat r) where
 
     abbrev report_with : SliceOutcome → Option Debugged → Reported
     report_with outcome d =
-        record { run = run; unit = r.debuggee.value.unit; plan = r.debuggee.value.breakpoints; counted_from = r.counted_from; mode = r.mode; start = r.start; end = end; before = length (written (program_of r.debuggee.value) 0 r.start); again = r.again; numbers = []; logs = []; outcome = outcome; debuggee = d }
+        record {
+          run =
+              run;
+          unit = r.debuggee.value.unit;
+          plan = r.debuggee.value.breakpoints;
+          counted_from = r.counted_from;
+          mode = r.mode;
+          start = r.start;
+          end = end;
+          before = length
+              (written (program_of r.debuggee.value) 0 r.start);
+          again = r.again;
+          numbers = [];
+          logs = [];
+          outcome =
+              outcome;
+          debuggee = d;
+        }
 
-    kept : (outcome : SliceOutcome) (d : Option Debugged) → GoesBackBy (program_of r.debuggee.value) (plain_report (report_with outcome d)) outcome → IsKept (report_with outcome d)
+    kept : (outcome : SliceOutcome) (d : Option Debugged) → GoesBackBy (program_of r.debuggee.value)
+        (plain_report (report_with outcome d)) outcome → IsKept (report_with outcome d)
     kept outcome d by = record {
       before = refl;
-      went = subst (λ b. Went (program_of r.debuggee.value) (plain_report (report_with outcome d)) b) (sym inv.goes_back)
+      went = subst (λ b. Went (program_of r.debuggee.value) (plain_report (report_with outcome d)) b)
+          (sym inv.goes_back)
           (record { begun = inv.begun; numbers = refl; logs = refl; again = few; outcome = by });
     }
 
@@ -66,8 +85,18 @@ module _ (r : Inside) (inv : IsRetreat r) where
     pub gives_up : end ≡ r.start → IsReportWith (of out.NoMemory) (Unsliced r.debuggee)
     gives_up stays = record {
       lawful = kept out.NoMemory (Some r.debuggee.value) (has_no_memory stays);
-      carries = subst (λ b. Carries b (report_with out.NoMemory (Some r.debuggee.value)) out.NoMemory) (sym inv.goes_back)
-          (r.debuggee.value, refl, record { unit = refl; breakpoints = refl; before = stands_before; considered = inv.considered });
+      carries =
+          subst (λ b. Carries b (report_with out.NoMemory (Some r.debuggee.value)) out.NoMemory) (sym inv.goes_back) (
+            r.debuggee.value,
+            refl,
+            record {
+              unit = refl;
+              breakpoints = refl;
+              before = stands_before;
+              considered =
+                  inv.considered;
+            },
+          );
     }
 
     -- it goes on
@@ -78,8 +107,13 @@ module _ (r : Inside) (inv : IsRetreat r) where
     }
 
     -- it has come to where it stops
-    module _ (why : Reason) (box : Box Debuggee Global) (box_is : box.value ≡ record r.debuggee.value { counted_from = r.debuggee.value.next }) (there : end ≡ r.debuggee.value.position) (come : goal_of (program_of r.debuggee.value) r.debuggee.value.breakpoints r.mode r.start ≡ Some (record { position = r.debuggee.value.position; reason = why })) where
-      here : goal_of (program_of r.debuggee.value) r.debuggee.value.breakpoints r.mode r.start ≡ Some (record { position = end; reason = why })
+    module _ (why : Reason) (box : Box Debuggee Global)
+        (box_is : box.value ≡ record r.debuggee.value { counted_from = r.debuggee.value.next })
+        (there : end ≡ r.debuggee.value.position)
+        (come : goal_of (program_of r.debuggee.value) r.debuggee.value.breakpoints r.mode r.start ≡ Some
+        (record { position = r.debuggee.value.position; reason = why })) where
+      here : goal_of (program_of r.debuggee.value) r.debuggee.value.breakpoints r.mode r.start ≡ Some
+          (record { position = end; reason = why })
       here = come ∙ ap (λ n. Some (record { position = n; reason = why })) (sym there)
 
       next_is : r.debuggee.value.next ≡ end + 1
@@ -95,14 +129,26 @@ module _ (r : Inside) (inv : IsRetreat r) where
       stands : box.value ≡ stopped report box.value.trail
       stands =
           box_is
-          ∙ (λ i. record { unit = r.debuggee.value.unit; position = sym there i; breakpoints = r.debuggee.value.breakpoints; counted_from = counts i; next = next_is i; trail = ap (λ (d : Debugged). d.trail) (sym box_is) i })
+          ∙ (λ i. record {
+            unit = r.debuggee.value.unit;
+            position = sym there i;
+            breakpoints =
+                r.debuggee.value.breakpoints;
+            counted_from = counts i;
+            next = next_is i;
+            trail =
+                ap (λ (d : Debugged). d.trail) (sym box_is) i;
+          })
 
       pub arrives : IsReportWith (of (out.Due why)) (Sliced room (Some box))
       arrives = record {
         lawful = kept (out.Due why) (Some box.value) (has_come here);
-        carries = subst (λ b. Carries b report (out.Due why)) (sym inv.goes_back) (ap (λ (d : Debugged). Some d) stands);
+        carries =
+            subst (λ b. Carries b report (out.Due why)) (sym inv.goes_back) (ap (λ (d : Debugged). Some d) stands);
       }
 
 -- the room, if it is of this run
-pub room_is : (given : Room) (b : Retreating) → IsRoomFor given b → given ≡ record { unit = b.unit; breakpoints = b.breakpoints; numbers = []; logs = [] }
-room_is given b of = λ i. record { unit = of.unit i; breakpoints = of.breakpoints i; numbers = of.numbers i; logs = of.logs i }
+pub room_is : (given : Room) (b : Retreating) → IsRoomFor given b
+    → given ≡ record { unit = b.unit; breakpoints = b.breakpoints; numbers = []; logs = [] }
+room_is given b of =
+    λ i. record { unit = of.unit i; breakpoints = of.breakpoints i; numbers = of.numbers i; logs = of.logs i }

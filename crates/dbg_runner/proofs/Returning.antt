@@ -1,5 +1,5 @@
 -- How far a run that goes back has come.
-use Rattle.std.proofs.Common.{◌≡◌, ◌≢◌, ℕ, zero, suc, ◌+◌, ◌-◌, ◌*◌, ◌<◌, ◌≤◌, ⊎_elim, Bool, true, false, nat_eq, nat_le, if◌then◌else◌, min, max, List, [], ◌∷◌, filter, Option, Some, None, is_some, ap, sym, ◌∙◌, refl, subst, arith, add-one}
+use Rattle.std.proofs.Common.{◌≡◌, ◌≢◌, ℕ, zero, suc, ◌+◌, ◌-◌, ◌*◌, ◌<◌, ◌≤◌, ⊎_elim, Bool, true, false, nat_eq, nat_le, if◌then◌else◌, min, List, [], ◌∷◌, filter, Option, Some, None, is_some, ap, sym, ◌∙◌, refl, subst, arith, add-one}
 use Rattle.std.proofs.lemmas.Bool.{leb-true, eqb-false, cases_lt}
 use Rattle.std.proofs.Math.Nat.{min-le_left, min-le_right, min-eq_left, min-eq_right}
 use Rattle.pl0_tree.specs.Tree.{Block}
@@ -7,12 +7,10 @@ use Rattle.dbg_plan.specs.Breakpoints.{Breakpoint}
 use Rattle.dbg_plan.specs.declared.mode.Mode.{Mode}
 use Rattle.dbg_plan.specs.declared.mode.Mode.TheVariants as mode
 use Rattle.dbg_plan.specs.declared.mode.Reason.{Reason}
-use Rattle.dbg_plan.specs.declared.mode.Reason.TheVariants as reason
 use Rattle.dbg_plan.specs.Due.{due}
 use Rattle.dbg_plan.specs.Debugged.{Debugged, program_of, IsConsidered, due_now}
 use Rattle.dbg_plan.specs.Trail.{greatest, floor_of}
 use Rattle.dbg_plan.specs.Retreat.{Stop, last_due, stop_at, reversed, goal_of}
-use Rattle.dbg_runner.specs.declared.retreat.Way.{Way}
 use Rattle.dbg_runner.specs.declared.retreat.Way.TheVariants.{Searches, Returns}
 use Rattle.dbg_runner.specs.Rooms.{slice_limit}
 use Rattle.dbg_runner.specs.Plain.{goes_back}
@@ -21,7 +19,8 @@ use Rattle.dbg_runner.specs.Courses.{IsOn, leads_to, RanAgain, arrival}
 
 -- ---- checkpoints
 
-kept_below : (b : Bool) (n k : ℕ) (ks : List ℕ) → nat_le k n ≡ b → greatest ks ≤ n → greatest (if b then k ∷ ks else ks) ≤ n
+kept_below : (b : Bool) (n k : ℕ) (ks : List ℕ) → nat_le k n ≡ b → greatest ks ≤ n
+    → greatest (if b then k ∷ ks else ks) ≤ n
 kept_below true n k ks is below = omega (arith, leb-true k n is, below)
 kept_below false n k ks is below = below
 
@@ -32,20 +31,24 @@ floor_below (k ∷ ks) n = kept_below (nat_le k n) n k (filter (λ k. nat_le k n
 
 -- ---- where it stops
 
-found_before : (b : Bool) (n : ℕ) (before : Option ℕ) → (stop_at before).position ≤ n → (stop_at (if b then Some n else before)).position ≤ n
+found_before : (b : Bool) (n : ℕ) (before : Option ℕ) → (stop_at before).position ≤ n
+    → (stop_at (if b then Some n else before)).position ≤ n
 found_before true n before below = omega arith
 found_before false n before below = below
 
 -- the last due position before n + 1, or 0, is at most n
 due_within : (main : Block) (bs : List Breakpoint) (n : ℕ) → (stop_at (last_due main bs (suc n))).position ≤ n
 due_within main bs zero = found_before (is_some (due main bs 0 mode.Continue zero)) zero None (omega arith)
-due_within main bs (suc n) = found_before (is_some (due main bs 0 mode.Continue (suc n))) (suc n) (last_due main bs (suc n)) (omega (arith, due_within main bs n))
+due_within main bs (suc n) =
+    found_before (is_some (due main bs 0 mode.Continue (suc n))) (suc n) (last_due main bs (suc n))
+    (omega (arith, due_within main bs n))
 
 last_due_within : (main : Block) (bs : List Breakpoint) (n : ℕ) → (stop_at (last_due main bs (n + 1))).position ≤ n
 last_due_within main bs n = rw add-one (due_within main bs n)
 
 -- going back leads to the last due position, but for a single step
-pub reverses : (main : Block) (bs : List Breakpoint) (m : Mode) (n : ℕ) → m ≢ mode.StepBack → goes_back m ≡ true → goal_of main bs m n ≡ Some (reversed main bs n)
+pub reverses : (main : Block) (bs : List Breakpoint) (m : Mode) (n : ℕ) → m ≢ mode.StepBack → goes_back m ≡ true
+    → goal_of main bs m n ≡ Some (reversed main bs n)
 reverses main bs mode.StepBack n other back = absurd (other refl)
 reverses main bs mode.Reverse n other back = refl
 reverses main bs _ n other back = absurd cc
@@ -53,7 +56,8 @@ reverses main bs _ n other back = absurd cc
 -- ---- it begins
 
 -- gone back towards where it stops
-pub on_return : (n : ℕ) (old new : Debugged) (to : ℕ) (why : Reason) (again : ℕ) → new ≡ gone_back old to → to ≤ n → again ≤ n → IsOn n new again (Returns to why)
+pub on_return : (n : ℕ) (old new : Debugged) (to : ℕ) (why : Reason) (again : ℕ) → new ≡ gone_back old to → to ≤ n
+    → again ≤ n → IsOn n new again (Returns to why)
 on_return n old new to why again gone within few =
     let floor = floor_below old.trail.kept to in
     subst (λ d. IsOn n d again (Returns to why)) (sym gone) (floor, within, omega (arith, within, few))
@@ -65,21 +69,27 @@ at_start : (old new : Debugged) → new ≡ gone_back old 0 → new ≡ moved ol
 at_start old new gone = gone ∙ ap (λ p. moved old p p) (floor_of_0 old.trail.kept)
 
 -- gone back to 0
-pub on_search : (n : ℕ) (old new : Debugged) (found : Option ℕ) → 0 < n → new ≡ gone_back old 0 → found ≡ (if is_some (due_now new mode.Continue) then Some 0 else None) → IsOn n new 0 (Searches found)
+pub on_search : (n : ℕ) (old new : Debugged) (found : Option ℕ) → 0 < n → new ≡ gone_back old 0
+    → found ≡ (if is_some (due_now new mode.Continue) then Some 0 else None) → IsOn n new 0 (Searches found)
 on_search n old new found some gone is =
     let start = at_start old new gone in
-    subst (λ d. IsOn n d 0 (Searches found)) (sym start) (refl, some, refl, is ∙ ap (λ (d : Debugged). if is_some (due_now d mode.Continue) then Some 0 else None) start)
+    subst (λ d. IsOn n d 0 (Searches found)) (sym start)
+    (refl, some, refl, is ∙ ap (λ (d : Debugged). if is_some (due_now d mode.Continue) then Some 0 else None) start)
 
 -- a search leads where going back leads, but for a single step
-pub search_leads : (m : Mode) (n : ℕ) (old new : Debugged) (found : Option ℕ) → m ≢ mode.StepBack → goes_back m ≡ true → new ≡ gone_back old 0 → goal_of (program_of old) old.breakpoints m n ≡ Some (leads_to n new (Searches found))
+pub search_leads : (m : Mode) (n : ℕ) (old new : Debugged) (found : Option ℕ) → m ≢ mode.StepBack → goes_back m ≡ true
+    → new ≡ gone_back old 0 → goal_of (program_of old) old.breakpoints m n ≡ Some (leads_to n new (Searches found))
 search_leads m n old new found other back gone =
-    reverses (program_of old) old.breakpoints m n other back ∙ ap (λ (d : Debugged). Some (reversed (program_of d) d.breakpoints n)) (sym (at_start old new gone))
+    reverses (program_of old) old.breakpoints m n other
+    back ∙ ap (λ (d : Debugged). Some (reversed (program_of d) d.breakpoints n)) (sym (at_start old new gone))
 
 -- ---- it goes on
 
 -- towards where it stops
-pub goes_on_returning : (n again : ℕ) (old : Debugged) (to : ℕ) (why : Reason) (most steps : ℕ) (new : Debugged) → IsOn n old again (Returns to why)
-    → steps ≡ min most (to - old.position) → new ≡ standing old (old.position + steps) → IsOn n new (again + steps) (Returns to why)
+pub goes_on_returning : (n again : ℕ) (old : Debugged) (to : ℕ) (why : Reason) (most steps : ℕ) (new : Debugged)
+    → IsOn n old again (Returns to why)
+    → steps ≡ min most (to - old.position) → new ≡ standing old (old.position + steps)
+    → IsOn n new (again + steps) (Returns to why)
 goes_on_returning n again old to why most steps new on is gone =
     let least = min-le_right most (to - old.position) in
     let before = on.0 in
@@ -94,7 +104,8 @@ arrives to position why = by_test (nat_eq to position) refl
     by_test false is none = eqb-false to position is
 
 -- where it hasn't come there, it took all steps
-pub took_all : (to : ℕ) (why : Reason) (most steps : ℕ) (old new : Debugged) → old.position ≤ to → steps ≡ min most (to - old.position) → new ≡ standing old (old.position + steps)
+pub took_all : (to : ℕ) (why : Reason) (most steps : ℕ) (old new : Debugged) → old.position ≤ to
+    → steps ≡ min most (to - old.position) → new ≡ standing old (old.position + steps)
     → arrival (Returns to why) new.position ≡ None → steps ≡ most
 took_all to why most steps old new before is gone none =
     let there : new.position ≡ old.position + steps = ap (λ (d : Debugged). d.position) gone in
@@ -102,7 +113,9 @@ took_all to why most steps old new before is gone none =
     min_of most (to - old.position) steps is (omega (arith, there))
   where
     min_of : (a b s : ℕ) → s ≡ min a b → s ≢ b → s ≡ a
-    min_of a b s is other = ⊎_elim (λ (lt : a < b). is ∙ min-eq_left (omega (arith, lt))) (λ (ge : b ≤ a). absurd (other (is ∙ min-eq_right ge))) (cases_lt a b)
+    min_of a b s is other =
+        ⊎_elim (λ (lt : a < b). is ∙ min-eq_left (omega (arith, lt)))
+        (λ (ge : b ≤ a). absurd (other (is ∙ min-eq_right ge))) (cases_lt a b)
 
 least_first : (a b : ℕ) → a ≤ b → min a b ≡ a
 least_first a b le = min-eq_left le
@@ -113,15 +126,23 @@ moved_on old new p t is = is ∙ ap (λ (d : Debugged). moved old d.position d.c
 -- ---- a search
 
 -- it goes on
-pub searches_on : (n again : ℕ) (old new : Debugged) (found more : Option ℕ) (limit : ℕ) → IsOn n old again (Searches found)
-    → limit ≡ min (n - 1) (again + slice_limit) → limit < n - 1 → new ≡ standing old limit → IsConsidered new → more ≡ last_due (program_of new) new.breakpoints (limit + 1)
+pub searches_on : (n again : ℕ) (old new : Debugged) (found more : Option ℕ) (limit : ℕ)
+    → IsOn n old again (Searches found)
+    → limit ≡ min (n - 1) (again + slice_limit) → limit < n - 1 → new ≡ standing old limit → IsConsidered new
+    → more ≡ last_due (program_of new) new.breakpoints (limit + 1)
     → RanAgain n again old (Searches found) limit new (Searches more)
 searches_on n again old new found more limit on is lt gone considered more_is =
     let all : limit ≡ again + slice_limit =
-    ⊎_elim (λ (before : n - 1 < again + slice_limit). absurd (omega (arith, lt, is, least_first (n - 1) (again + slice_limit) (omega (arith, before)))))
+    ⊎_elim (λ (before : n - 1 < again + slice_limit). absurd
+    (omega (arith, lt, is, least_first (n - 1) (again + slice_limit) (omega (arith, before)))))
     (λ (after : again + slice_limit ≤ n - 1). is ∙ min-eq_right after) (cases_lt (n - 1) (again + slice_limit)) in
     record {
-      on = subst (λ d. IsOn n d limit (Searches more)) (sym gone) (on.0, omega (arith, lt), refl, more_is ∙ ap (λ (d : Debugged). last_due (program_of d) d.breakpoints (limit + 1)) gone);
+      on = subst (λ d. IsOn n d limit (Searches more)) (sym gone) (
+        on.0,
+        omega (arith, lt),
+        refl,
+        more_is ∙ ap (λ (d : Debugged). last_due (program_of d) d.breakpoints (limit + 1)) gone,
+      );
       leads = ap (λ (d : Debugged). reversed (program_of d) d.breakpoints n) gone;
       kept = moved_on old new limit old.counted_from gone;
       considered = considered;
@@ -131,7 +152,10 @@ searches_on n again old new found more limit on is lt gone considered more_is =
     }
 
 -- it ends, and the run turns to where it stops
-module _ (n again : ℕ) (old : Debugged) (found more : Option ℕ) (limit : ℕ) (on : IsOn n old again (Searches found)) (is : limit ≡ min (n - 1) (again + slice_limit)) (ge : n - 1 ≤ limit) (there : Debugged) (gone : there ≡ standing old limit) (more_is : more ≡ last_due (program_of there) there.breakpoints (limit + 1)) (to : ℕ) (why : Reason) (leads : record { position = to; reason = why } ≡ stop_at more) where
+module _ (n again : ℕ) (old : Debugged) (found more : Option ℕ) (limit : ℕ) (on : IsOn n old again (Searches found))
+    (is : limit ≡ min (n - 1) (again + slice_limit)) (ge : n - 1 ≤ limit) (there : Debugged)
+    (gone : there ≡ standing old limit) (more_is : more ≡ last_due (program_of there) there.breakpoints (limit + 1))
+    (to : ℕ) (why : Reason) (leads : record { position = to; reason = why } ≡ stop_at more) where
   ended : limit ≡ n - 1
   ended = let least = min-le_left (n - 1) (again + slice_limit) in omega (arith, is, ge, least)
 
@@ -150,10 +174,13 @@ module _ (n again : ℕ) (old : Debugged) (found more : Option ℕ) (limit : ℕ
   within_turn =
       let at : there.position ≡ limit = ap (λ (d : Debugged). d.position) gone in
       let far = last_due_within (program_of there) there.breakpoints limit in
-      let same : to ≡ (stop_at (last_due (program_of there) there.breakpoints (limit + 1))).position = ap (λ (s : Stop). s.position) leads ∙ ap (λ o. (stop_at o).position) more_is in
+      let same : to ≡ (stop_at (last_due (program_of there) there.breakpoints (limit + 1))).position =
+      ap (λ (s : Stop). s.position) leads ∙ ap (λ o. (stop_at o).position) more_is in
       omega (arith, at, far, same)
 
-  module _ (back : Debugged) (turned : back ≡ gone_back there to) (steps : ℕ) (steps_is : steps ≡ min (again + slice_limit - limit) (to - back.position)) (new : Debugged) (went : new ≡ standing back (back.position + steps)) (considered : IsConsidered new) where
+  module _ (back : Debugged) (turned : back ≡ gone_back there to) (steps : ℕ)
+      (steps_is : steps ≡ min (again + slice_limit - limit) (to - back.position)) (new : Debugged)
+      (went : new ≡ standing back (back.position + steps)) (considered : IsConsidered new) where
     from_old : back ≡ gone_back old to
     from_old = turned ∙ ap (λ (d : Debugged). gone_back d to) gone
 
@@ -164,22 +191,28 @@ module _ (n again : ℕ) (old : Debugged) (found more : Option ℕ) (limit : ℕ
         let most = min-le_right (n - 1) (again + slice_limit) in
         let start = on.2 in
         let before = on.1 in
-        let returning : IsOn n back limit (Returns to why) = on_return n old back to why limit from_old (omega (arith, ended)) (omega (arith, ended)) in
+        let returning : IsOn n back limit (Returns to why) =
+        on_return n old back to why limit from_old (omega (arith, ended)) (omega (arith, ended)) in
         let least = min-le_left (again + slice_limit - limit) (to - back.position) in
         record {
           on = goes_on_returning n limit back to why (again + slice_limit - limit) steps new returning steps_is went;
           leads = stop_is;
-          kept = moved_on old new (back.position + steps) back.counted_from (went ∙ ap (λ (d : Debugged). moved d (back.position + steps) back.counted_from) from_old);
+          kept = moved_on old new (back.position + steps) back.counted_from
+              (went ∙ ap (λ (d : Debugged). moved d (back.position + steps) back.counted_from) from_old);
           considered = considered;
           further = omega (arith, ended);
           within = omega (arith, is, most, steps_is, least);
-          all = λ none. let all = took_all to why (again + slice_limit - limit) steps back new returning.0 steps_is went none in omega (arith, all, is, most);
+          all = λ none. let all =
+              took_all to why (again + slice_limit - limit) steps back new returning.0 steps_is went none in omega
+              (arith, all, is, most);
         }
 
 -- ---- on the way to where it stops
 
-pub returns_on : (n again : ℕ) (old : Debugged) (to : ℕ) (why : Reason) (steps : ℕ) (new : Debugged) → IsOn n old again (Returns to why)
-    → steps ≡ min slice_limit (to - old.position) → new ≡ standing old (old.position + steps) → IsConsidered new → RanAgain n again old (Returns to why) (again + steps) new (Returns to why)
+pub returns_on : (n again : ℕ) (old : Debugged) (to : ℕ) (why : Reason) (steps : ℕ) (new : Debugged)
+    → IsOn n old again (Returns to why)
+    → steps ≡ min slice_limit (to - old.position) → new ≡ standing old (old.position + steps) → IsConsidered new
+    → RanAgain n again old (Returns to why) (again + steps) new (Returns to why)
 returns_on n again old to why steps new on is went considered =
     let least = min-le_left slice_limit (to - old.position) in
     record {

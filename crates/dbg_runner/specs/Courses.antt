@@ -18,7 +18,8 @@ use Rattle.dbg_runner.specs.Retreating.{Retreating}
 abbrev pub IsOn : ℕ → Debugged → ℕ → Way → Type 0
 -- all positions up to d's were considered, with counts from 0
 IsOn n d again (Searches found) =
-    (d.counted_from ≡ 0) × (d.position < n) × (again ≡ d.position) × (found ≡ last_due (program_of d) d.breakpoints (d.position + 1))
+    (d.counted_from ≡ 0) × (d.position < n) × (again ≡ d.position)
+    × (found ≡ last_due (program_of d) d.breakpoints (d.position + 1))
 -- this is where it stops
 IsOn n d again (Returns to reason) = (d.position ≤ to) × (to ≤ n) × (again + to ≤ 2 * n + d.position)
 
@@ -45,11 +46,22 @@ pub record RanAgain (n again : ℕ) (old : Debugged) (way : Way) (more : ℕ) (n
 -- What the run does leads where going back in this mode leads. Before the first slice it stands where it begins.
 abbrev pub IsAt : Mode → ℕ → Debugged → ℕ → Option Way → Type 0
 IsAt mode n d again None = (d.position ≡ n) × (again ≡ 0)
-IsAt mode n d again (Some way) = IsOn n d again way × (goal_of (program_of d) d.breakpoints mode n ≡ Some (leads_to n d way))
+IsAt mode n d again (Some way) =
+    IsOn n d again way × (goal_of (program_of d) d.breakpoints mode n ≡ Some (leads_to n d way))
 
 abbrev pub retreating_of : Inside → Retreating
 retreating_of r =
-    record { unit = r.debuggee.value.unit; breakpoints = r.debuggee.value.breakpoints; counted_from = r.counted_from; mode = r.mode; start = r.start; again = r.again; position = r.debuggee.value.position; trail = r.debuggee.value.trail }
+    record {
+      unit =
+          r.debuggee.value.unit;
+      breakpoints = r.debuggee.value.breakpoints;
+      counted_from = r.counted_from;
+      mode = r.mode;
+      start = r.start;
+      again = r.again;
+      position = r.debuggee.value.position;
+      trail = r.debuggee.value.trail;
+    }
 
 pub record IsRetreat (r : Inside) : Type 0 where
   pub goes_back : goes_back r.mode ≡ true

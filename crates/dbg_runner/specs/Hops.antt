@@ -1,5 +1,5 @@
 -- The steps that a run which goes back runs again.
-use Rattle.std.specs.Prelude.{◌≡◌, ℕ, ◌+◌, ◌<◌, ◌≤◌, Bool, is_some, List, None}
+use Rattle.std.specs.Prelude.{◌≡◌, ℕ, ◌+◌, ◌<◌, ◌≤◌, Bool, is_some, None}
 use Rattle.dbg_plan.specs.declared.mode.Mode.TheVariants.{Continue}
 use Rattle.dbg_plan.specs.Due.{due}
 use Rattle.dbg_plan.specs.Debugged.{Debugged, program_of, IsConsidered, due_now}
@@ -24,5 +24,6 @@ pub record Hopped (limit : ℕ) (old : Debugged) (result : Bool) (new : Debugged
   pub considered : IsConsidered new
   pub more : old.position < new.position
   pub within : new.position ≤ limit
-  pub passed : (m : ℕ) → old.position < m → m < new.position → due (program_of old) old.breakpoints old.counted_from Continue m ≡ None
+  pub passed : (m : ℕ) → old.position < m → m < new.position → due (program_of old) old.breakpoints old.counted_from
+      Continue m ≡ None
   pub due_is : result ≡ is_some (due_now new Continue)

@@ -26,8 +26,8 @@ pub record Heading : Type 0 where
   pub mode : Mode
   pub start : ℕ
 
--- A report: it goes from position `start`, up to which the program wrote `before` numbers, to position `end`. In a run that
--- goes back, `again` steps were run again so far. It wrote these numbers, logged this where it ends, and ended so.
+-- A report: it goes from position `start`, up to which the program wrote `before` numbers, to position `end`. In a run
+-- that goes back, `again` steps were run again so far. It wrote these numbers, logged this where it ends, and ended so.
 pub record PlainReport : Type 0 where
   pub run : ℕ
   pub text : List ℕ
@@ -43,7 +43,8 @@ pub record PlainReport : Type 0 where
   pub outcome : SliceOutcome
 
 abbrev pub heading_of : PlainReport → Heading
-heading_of r = record { run = r.run; text = r.text; plan = r.plan; counted_from = r.counted_from; mode = r.mode; start = r.start }
+heading_of r =
+    record { run = r.run; text = r.text; plan = r.plan; counted_from = r.counted_from; mode = r.mode; start = r.start }
 
 -- what fixes the report after this one
 abbrev pub heading_after : Heading → PlainReport → Heading

@@ -7,4 +7,11 @@ use Rattle.dbg_runner.specs.Rooms.{Room}
 use Rattle.dbg_runner.specs.Buffers.{numbers_in, logs_in}
 
 abbrev pub produced_of : Inside → Room
-produced_of p = record { unit = p.unit.value; breakpoints = breakpoints_of (option_map arc_value p.plan); numbers = numbers_in p.numbers; logs = logs_in p.logs }
+produced_of p =
+    record {
+      unit = p.unit.value;
+      breakpoints = breakpoints_of (option_map arc_value p.plan);
+      numbers = numbers_in
+          p.numbers;
+      logs = logs_in p.logs;
+    }

@@ -34,11 +34,35 @@ text_of u = u.tree.text.items
 
 abbrev pub plain_report : Reported → PlainReport
 plain_report r =
-    record { run = r.run; text = text_of r.unit; plan = r.plan; counted_from = r.counted_from; mode = r.mode; start = r.start; end = r.end; before = r.before; again = r.again; numbers = r.numbers; logs = r.logs; outcome = r.outcome }
+    record {
+      run =
+          r.run;
+      text = text_of r.unit;
+      plan = r.plan;
+      counted_from = r.counted_from;
+      mode = r.mode;
+      start = r.start;
+      end = r.end;
+      before = r.before;
+      again = r.again;
+      numbers = r.numbers;
+      logs = r.logs;
+      outcome = r.outcome;
+    }
 
 -- the run, the mode, the positions and the outcome of a report
 abbrev pub summary_of : Reported → Summary
-summary_of r = record { run = r.run; counted_from = r.counted_from; mode = r.mode; start = r.start; end = r.end; before = r.before; again = r.again; outcome = r.outcome }
+summary_of r =
+    record {
+      run = r.run;
+      counted_from = r.counted_from;
+      mode = r.mode;
+      start = r.start;
+      end = r.end;
+      before = r.before;
+      again = r.again;
+      outcome = r.outcome;
+    }
 
 -- the report is what the meaning of its program gives
 abbrev pub IsKept : Reported → Type 0
@@ -46,7 +70,16 @@ IsKept r = IsLawfulFor (program_of r.unit) (plain_report r)
 
 -- what fixes the first report of a run of d
 abbrev pub heading : ℕ → Debugged → Mode → Heading
-heading run d mode = record { run = run; text = text_of d.unit; plan = d.breakpoints; counted_from = d.counted_from; mode = mode; start = d.position }
+heading run d mode =
+    record {
+      run = run;
+      text = text_of d.unit;
+      plan = d.breakpoints;
+      counted_from = d.counted_from;
+      mode = mode;
+      start =
+          d.position;
+    }
 
 -- ---- the debuggee after a report
 
@@ -58,7 +91,16 @@ counts_from true r = r.end + 1
 -- the debuggee where the report ends, which was considered there
 abbrev pub stopped : Reported → Trail → Debugged
 stopped r trail =
-    record { unit = r.unit; position = r.end; breakpoints = r.plan; counted_from = counts_from (goes_back r.mode) r; next = r.end + 1; trail = trail }
+    record {
+      unit =
+          r.unit;
+      position = r.end;
+      breakpoints = r.plan;
+      counted_from = counts_from (goes_back r.mode) r;
+      next =
+          r.end + 1;
+      trail = trail;
+    }
 
 -- Where the debuggee is once its slice is reported.
 pub data Whereabouts : Type 0 where

@@ -5,7 +5,7 @@ use Rattle.pl0_meaning.specs.Runs.{written}
 use Rattle.pl0_machine.specs.Machine.{program_of}
 use Rattle.dbg_plan.specs.Breakpoints.{Breakpoint}
 use Rattle.dbg_plan.specs.declared.mode.Reason.{Reason}
-use Rattle.dbg_plan.specs.Retreat.{Stop, goal_of}
+use Rattle.dbg_plan.specs.Retreat.{goal_of}
 use Rattle.dbg_plan.specs.Trail.{Trail}
 use Rattle.dbg_plan.specs.Debugged.{Debugged}
 use Rattle.dbg_plan.specs.declared.mode.Mode.{Mode}
@@ -16,8 +16,8 @@ use Rattle.dbg_runner.specs.Rooms.{Room, slice_limit}
 use Rattle.dbg_runner.specs.Plain.{Heading}
 use Rattle.dbg_runner.specs.Reported.{text_of}
 
--- A run that goes back in this mode, from position `start`, under a plan that counted from position `counted_from` there.
--- It has run `again` steps again so far, and its debuggee stands at `position`.
+-- A run that goes back in this mode, from position `start`, under a plan that counted from position `counted_from`
+-- there. It has run `again` steps again so far, and its debuggee stands at `position`.
 pub record Retreating : Type 0 where
   pub unit : Compiled
   pub breakpoints : List Breakpoint
@@ -31,17 +31,47 @@ pub record Retreating : Type 0 where
 -- the run of this debuggee that begins
 abbrev pub turned : Debugged → Mode → Retreating
 turned d mode =
-    record { unit = d.unit; breakpoints = d.breakpoints; counted_from = d.counted_from; mode = mode; start = d.position; again = 0; position = d.position; trail = d.trail }
+    record {
+      unit =
+          d.unit;
+      breakpoints = d.breakpoints;
+      counted_from = d.counted_from;
+      mode = mode;
+      start = d.position;
+      again = 0;
+      position = d.position;
+      trail = d.trail;
+    }
 
 -- what fixes each report of the run
 abbrev pub heading_back : ℕ → Retreating → Heading
 heading_back run b =
-    record { run = run; text = text_of b.unit; plan = b.breakpoints; counted_from = b.counted_from; mode = b.mode; start = b.start }
+    record {
+      run =
+          run;
+      text = text_of b.unit;
+      plan = b.breakpoints;
+      counted_from = b.counted_from;
+      mode = b.mode;
+      start =
+          b.start;
+    }
 
 -- the summary of its report where it ends so
 abbrev pub summary_back : ℕ → Retreating → ℕ → SliceOutcome → Summary
 summary_back run b end outcome =
-    record { run = run; counted_from = b.counted_from; mode = b.mode; start = b.start; end = end; before = length (written (program_of b.unit) 0 b.start); again = b.again; outcome = outcome }
+    record {
+      run =
+          run;
+      counted_from = b.counted_from;
+      mode = b.mode;
+      start = b.start;
+      end = end;
+      before = length
+          (written (program_of b.unit) 0 b.start);
+      again = b.again;
+      outcome = outcome;
+    }
 
 -- the run's debuggee, wherever its plan counts from
 pub record IsDebuggeeOf (b : Retreating) (d : Debugged) : Type 0 where
@@ -62,15 +92,16 @@ pub record IsRoomFor (room : Room) (b : Retreating) : Type 0 where
 abbrev pub further : Retreating → ℕ → ℕ → Retreating
 further b again position = record b { again = again; position = position }
 
--- At most a slice's steps were run again, up to where the run stops, for this reason. Where it doesn't stop, all of them
--- were.
+-- At most a slice's steps were run again, up to where the run stops, for this reason. Where it doesn't stop, all of
+-- them were.
 abbrev pub RanBack : Retreating → Option Reason → Retreating → Type 0
 RanBack old None new = new ≡ further old (old.again + slice_limit) new.position
 RanBack old (Some reason) new =
     (new ≡ further old new.again new.position)
     × (old.again ≤ new.again)
     × (new.again ≤ old.again + slice_limit)
-    × (goal_of (program_of old.unit) old.breakpoints old.mode old.start ≡ Some (record { position = new.position; reason = reason }))
+    × (goal_of (program_of old.unit) old.breakpoints old.mode old.start ≡ Some
+    (record { position = new.position; reason = reason }))
 
 -- The run after a slice, if it goes on. Then the slice ran all its steps again, wherever they led.
 abbrev pub GoesOnBack : Retreating → SliceOutcome → Option Retreating → Type 0

@@ -6,10 +6,11 @@ pub mod Wholes
 pub mod Members
 -- What a content becomes, be it a JSON object or none; for `renumber`.
 pub mod Contents
--- A stream renumbered frame by frame, whatever follows; for the clauses `frames` and `others` of `renumbering_laws`, and
--- for `go_on`.
+-- A stream renumbered frame by frame, whatever follows; for the clauses `frames` and `others` of `renumbering_laws`,
+-- and for `go_on`.
 pub mod Framing
--- A renumberer that goes on with one byte holds or gives what its stream has; for `Renumberer::end`, `go_on` and others.
+-- A renumberer that goes on with one byte holds or gives what its stream has; for `Renumberer::end`, `go_on` and
+-- others.
 pub mod Going
 -- What is left to read while a source is read, taken and renumbered; for `RaisedSource::read`.
 pub mod Reading

@@ -32,25 +32,33 @@ begun_onward client = record {
   unfinished = part_open LowerRequestSeq [] open_empty;
 }
 
-pub begun : (p : Progress) (first client : Option (List ℕ)) (session : List ℕ) → p ≡ beginning → first ≡ client → session ≡ [] → IsOnward p first client session
+pub begun : (p : Progress) (first client : Option (List ℕ)) (session : List ℕ) → p ≡ beginning → first ≡ client
+    → session ≡ [] → IsOnward p first client session
 begun p first client session is same none =
-    subst (λ q. IsOnward q first client session) (sym is) (subst (λ f. IsOnward beginning f client session) (sym same) (subst (IsOnward beginning client client) (sym none) (begun_onward client)))
+    subst (λ q. IsOnward q first client session) (sym is)
+    (subst (λ f. IsOnward beginning f client session) (sym same)
+    (subst (IsOnward beginning client client) (sym none) (begun_onward client)))
 
 -- a byte was taken, and what came out was written
-pub one_onward : (p q : Progress) (first client later : Option (List ℕ)) (session before out : List ℕ) (byte : ℕ) → IsOnward p first client session → before ≡ []
-    → ((more : List ℕ) → before ++ coming p (byte ∷ more) ≡ out ++ coming q more) → IsOpen (coming q []) → Appends client later out → IsOnward q first later (session ++ byte ∷ [])
+pub one_onward : (p q : Progress) (first client later : Option (List ℕ)) (session before out : List ℕ) (byte : ℕ)
+    → IsOnward p first client session → before ≡ []
+    → ((more : List ℕ) → before ++ coming p (byte ∷ more) ≡ out ++ coming q more) → IsOpen (coming q [])
+    → Appends client later out → IsOnward q first later (session ++ byte ∷ [])
 one_onward p q first client later session before out byte is none gives part wrote = record {
   given = is.given ++ out;
   appends = appends_both first client later is.given out is.appends wrote;
   onward = λ more.
       ap (renumbered_stream LowerRequestSeq) (append_assoc session (byte ∷ []) more) ∙ is.onward (byte ∷ more)
-      ∙ ap (λ l. is.given ++ l) (ap (λ l. l ++ coming p (byte ∷ more)) (sym none) ∙ gives more) ∙ sym (append_assoc is.given out (coming q more));
+      ∙ ap (λ l. is.given ++ l) (ap (λ l. l ++ coming p (byte ∷ more)) (sym none) ∙ gives more)
+      ∙ sym (append_assoc is.given out (coming q more));
   unfinished = part;
 }
 
 -- a byte was taken, and a beginning of what came out was written
-pub part_written : (p q : Progress) (first client later : Option (List ℕ)) (session before out : List ℕ) (byte : ℕ) → IsOnward p first client session → before ≡ []
-    → ((more : List ℕ) → before ++ coming p (byte ∷ more) ≡ out ++ coming q more) → AppendsPart client later out → PassesPart first later session
+pub part_written : (p q : Progress) (first client later : Option (List ℕ)) (session before out : List ℕ) (byte : ℕ)
+    → IsOnward p first client session → before ≡ []
+    → ((more : List ℕ) → before ++ coming p (byte ∷ more) ≡ out ++ coming q more) → AppendsPart client later out
+    → PassesPart first later session
 part_written p q first client later session before out byte is none gives wrote =
     let part = wrote.0 in
     let rest = wrote.2.0 in (
@@ -59,17 +67,29 @@ part_written p q first client later session before out byte is none gives wrote 
       (
         byte ∷ [],
         rest ++ coming q [],
-        is.onward (byte ∷ []) ∙ ap (λ l. is.given ++ l) (ap (λ l. l ++ coming p (byte ∷ [])) (sym none) ∙ gives [] ∙ ap (λ l. l ++ coming q []) (sym wrote.2.1) ∙ append_assoc part rest (coming q []))
+        is.onward (byte ∷ []) ∙ ap (λ l. is.given ++ l)
+            (ap (λ l. l ++ coming p (byte ∷ [])) (sym none) ∙ gives [] ∙ ap (λ l. l ++ coming q []) (sym wrote.2.1)
+            ∙ append_assoc part rest (coming q []))
             ∙ sym (append_assoc is.given part (rest ++ coming q [])),
       ),
     )
 
 -- nothing more was written, and nothing more is
-pub stopped : (p : Progress) (first client : Option (List ℕ)) (session : List ℕ) → IsOnward p first client session → PassesPart first client session
+pub stopped : (p : Progress) (first client : Option (List ℕ)) (session : List ℕ) → IsOnward p first client session
+    → PassesPart first client session
 stopped p first client session is = (is.given, is.appends, ([], coming p [], is.onward []))
 
-pub told : (is_failed : Bool) (p : Progress) (first client : Option (List ℕ)) (session : List ℕ) (few many : ℕ) → IsLowered is_failed p first client session few many → Passes is_failed first client session few many
+pub told : (is_failed : Bool) (p : Progress) (first client : Option (List ℕ)) (session : List ℕ) (few many : ℕ)
+    → IsLowered is_failed p first client session few many → Passes is_failed first client session few many
 told true p first client session few many is = is
 told false p first client session few many both =
-    let is = both.0 in
-    (is.given, is.appends, (coming p [], ap (renumbered_stream LowerRequestSeq) (sym (append-nil session)) ∙ is.onward [], is.unfinished))
+    let is = both.0 in (
+      is.given,
+      is.appends,
+      (
+        coming p [],
+        ap (renumbered_stream LowerRequestSeq) (sym (append-nil session))
+            ∙ is.onward [],
+        is.unfinished,
+      ),
+    )

@@ -29,7 +29,8 @@ float_by false x = refl
 no_float : (sign : Bool) (p : Parts) → option_and_then as_u64 (float_of sign p) ≡ None
 no_float sign p = float_by (float_is_finite (nearest binary64 sign p)) (nearest binary64 sign p)
 
-negative_by : (fits : Bool) (z : _) (p : Parts) → option_and_then as_u64 (if fits then Some (negative z) else float_of true p) ≡ None
+negative_by : (fits : Bool) (z : _) (p : Parts) → option_and_then as_u64
+    (if fits then Some (negative z) else float_of true p) ≡ None
 negative_by true z p = refl
 negative_by false z p = no_float true p
 
@@ -50,29 +51,42 @@ integer_from p e =
     let inner = and_both (nat_lt 0 (length p.whole)) (not p.point) outer.0 in
     (ltb-true 0 (length p.whole) inner.0, not_true p.point inner.1, eqb-true (length p.exponent) 0 outer.1)
 
-unsigned_by : (p : Parts) (fits : Bool) → (is_integer p && nat_lt (digits_of p) (2 ^ 64)) ≡ fits → (found : Option ℕ) → SomeIff found (IsInteger p × (digits_of p < 2 ^ 64)) (digits_of p)
+unsigned_by : (p : Parts) (fits : Bool) → (is_integer p && nat_lt (digits_of p) (2 ^ 64)) ≡ fits → (found : Option ℕ)
+    → SomeIff found (IsInteger p × (digits_of p < 2 ^ 64)) (digits_of p)
     → found ≡ option_and_then as_u64 (if fits then Some (unsigned (digits_of p)) else float_of false p)
 unsigned_by p true e (Some n) is = ap Some is.1
-unsigned_by p true e None is = absurd (let both = and_both (is_integer p) (nat_lt (digits_of p) (2 ^ 64)) e in is (integer_from p both.0, ltb-true (digits_of p) (2 ^ 64) both.1))
-unsigned_by p false e (Some n) is = absurd (true≢false (sym (rw (integer_test p is.0.0, lt-ltb (digits_of p) (2 ^ 64) is.0.1) refl) ∙ e))
+unsigned_by p true e None is =
+    absurd (let both = and_both (is_integer p) (nat_lt (digits_of p) (2 ^ 64)) e in is
+    (integer_from p both.0, ltb-true (digits_of p) (2 ^ 64) both.1))
+unsigned_by p false e (Some n) is =
+    absurd (true≢false (sym (rw (integer_test p is.0.0, lt-ltb (digits_of p) (2 ^ 64) is.0.1) refl) ∙ e))
 unsigned_by p false e None is = sym (no_float false p)
 
-unsigned_found : (p : Parts) (found : Option ℕ) → SomeIff found (IsInteger p × (digits_of p < 2 ^ 64)) (digits_of p) → found ≡ option_and_then as_u64 (number_from false p)
+unsigned_found : (p : Parts) (found : Option ℕ) → SomeIff found (IsInteger p × (digits_of p < 2 ^ 64)) (digits_of p)
+    → found ≡ option_and_then as_u64 (number_from false p)
 unsigned_found p found is = unsigned_by p (is_integer p && nat_lt (digits_of p) (2 ^ 64)) refl found is
 
-pub whole_scanned : (text : List ℕ) (p : Parts) (found : Option ℕ) → (slice_index text 0 == 45) ≡ false → p ≡ scan text → SomeIff found (IsInteger p × (digits_of p < 2 ^ 64)) (digits_of p) → found ≡ whole_of text
+pub whole_scanned : (text : List ℕ) (p : Parts) (found : Option ℕ) → (slice_index text 0 == 45) ≡ false → p ≡ scan text
+    → SomeIff found (IsInteger p × (digits_of p < 2 ^ 64)) (digits_of p) → found ≡ whole_of text
 unfolding number_of
-whole_scanned text p found e is gives = rw e (unsigned_found (scan text) found (subst (λ q. SomeIff found (IsInteger q × (digits_of q < 2 ^ 64)) (digits_of q)) is gives))
+whole_scanned text p found e is gives =
+    rw e (unsigned_found (scan text) found
+    (subst (λ q. SomeIff found (IsInteger q × (digits_of q < 2 ^ 64)) (digits_of q)) is gives))
 
 -- ---- it fits 64 bits
 
-fits_by : (p : Parts) (fits : Bool) (n : ℕ) → (is_integer p && nat_lt (digits_of p) (2 ^ 64)) ≡ fits → option_and_then as_u64 (if fits then Some (unsigned (digits_of p)) else float_of false p) ≡ Some n → n < 2 ^ 64
-fits_by p true n e is = let same : digits_of p ≡ n = cc in subst (λ m. m < 2 ^ 64) same (ltb-true (digits_of p) (2 ^ 64) (and_both (is_integer p) (nat_lt (digits_of p) (2 ^ 64)) e).1)
+fits_by : (p : Parts) (fits : Bool) (n : ℕ) → (is_integer p && nat_lt (digits_of p) (2 ^ 64)) ≡ fits
+    → option_and_then as_u64 (if fits then Some (unsigned (digits_of p)) else float_of false p) ≡ Some n → n < 2 ^ 64
+fits_by p true n e is =
+    let same : digits_of p ≡ n = cc in subst (λ m. m < 2 ^ 64) same
+    (ltb-true (digits_of p) (2 ^ 64) (and_both (is_integer p) (nat_lt (digits_of p) (2 ^ 64)) e).1)
 fits_by p false n e is = absurd (none_some (sym (no_float false p) ∙ is))
 
-whole_fits_by : (text : List ℕ) (minus : Bool) (n : ℕ) → option_and_then as_u64 (if minus then number_from true (scan (drop 1 text)) else number_from false (scan text)) ≡ Some n → n < 2 ^ 64
+whole_fits_by : (text : List ℕ) (minus : Bool) (n : ℕ) → option_and_then as_u64
+    (if minus then number_from true (scan (drop 1 text)) else number_from false (scan text)) ≡ Some n → n < 2 ^ 64
 whole_fits_by text true n is = absurd (none_some (sym (no_negative (scan (drop 1 text))) ∙ is))
-whole_fits_by text false n is = fits_by (scan text) (is_integer (scan text) && nat_lt (digits_of (scan text)) (2 ^ 64)) n refl is
+whole_fits_by text false n is =
+    fits_by (scan text) (is_integer (scan text) && nat_lt (digits_of (scan text)) (2 ^ 64)) n refl is
 
 pub whole_fits : (text : List ℕ) (n : ℕ) → whole_of text ≡ Some n → n < 2 ^ 64
 unfolding number_of

@@ -1,7 +1,7 @@
--- Defines how one content is renumbered. Its JSON (RFC 8259) is that of the crate `json`, on whose definitions `serde_json`
--- and so `dap_msg` build. The Debug Adapter Protocol's base protocol: "seq: Sequence number of the message (also known as
--- message ID). The `seq` for the first message sent by a client or debug adapter is 1, and for each subsequent message is 1
--- greater than the previous".
+-- Defines how one content is renumbered. Its JSON (RFC 8259) is that of the crate `json`, on whose definitions
+-- `serde_json` and so `dap_msg` build. The Debug Adapter Protocol's base protocol: "seq: Sequence number of the message
+-- (also known as message ID). The `seq` for the first message sent by a client or debug adapter is 1, and for each
+-- subsequent message is 1 greater than the previous".
 use Rattle.std.specs.Prelude.{◌≡◌, ℕ, ◌+◌, ◌-◌, ◌^◌, ◌||◌, Bool, false, nat_lt, List, codes, decimal, if◌then◌else◌, Option, None, Some, option_map, option_and_then}
 use Rattle.std.specs.Option.{option_map_or, is_some}
 use Rattle.std.specs.Str.{IsUtf8, bytes_eq, is_utf8}
@@ -43,7 +43,8 @@ whole_in (object ms) = None
 
 -- the number to which this member's value changes, if it does
 abbrev pub changes_to : Change → List ℕ → Json → Option ℕ
-changes_to change key value = if bytes_eq key (key_of change) then option_and_then (next_to change) (whole_in value) else None
+changes_to change key value =
+    if bytes_eq key (key_of change) then option_and_then (next_to change) (whole_in value) else None
 
 -- the value of this member, with its number changed where it does
 abbrev pub changed : Change → List ℕ → Json → Json
@@ -113,7 +114,8 @@ changed_data change (read_as.object ms) = read_as.object ms
 abbrev pub changed_at : Change → List ℕ → Option read_as.Data → Option read_as.Data
 changed_at change key found = if bytes_eq key (key_of change) then option_map (changed_data change) found else found
 
--- Where the old content is read, the new one is read too, as a value with the same members but for the one that changes.
+-- Where the old content is read, the new one is read too, as a value with the same members but for the one that
+-- changes.
 abbrev pub IsReadChanged : Change → List ℕ → List ℕ → Type 0
 IsReadChanged change content new =
     (d : read_as.Data) → IsUtf8 content → read content ≡ Some d → (e : read_as.Data) × (read new ≡ Some e)

@@ -6,8 +6,8 @@ use Rattle.from_zero.specs.declared.change.Change.TheVariants.{LowerRequestSeq}
 use Rattle.from_zero.specs.Passing.{Progress, coming}
 use Rattle.from_zero.specs.Stream.{renumbered_stream}
 
--- What contracts say of a `Lowered`: what was written to the client when it was made, and what by now, where that is known;
--- what the session wrote; whether a write failed; and how many had failed when it was made, and have by now.
+-- What contracts say of a `Lowered`: what was written to the client when it was made, and what by now, where that is
+-- known; what the session wrote; whether a write failed; and how many had failed when it was made, and have by now.
 pub record Written : Type 0 where
   pub begun : Option (List ℕ)
   pub client : Option (List ℕ)

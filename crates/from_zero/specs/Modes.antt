@@ -5,8 +5,8 @@ use Rattle.dap_frame.specs.Stream.{Stream}
 use Rattle.from_zero.specs.declared.mode.Mode.{Mode}
 use Rattle.from_zero.specs.declared.mode.Mode.TheVariants.{Framed, Raw, Broken}
 
--- Frame by frame, the decoder has the bytes that are held, and they have no whole frame and no fault. As it is, none are
--- held.
+-- Frame by frame, the decoder has the bytes that are held, and they have no whole frame and no fault. As it is, none
+-- are held.
 abbrev pub IsKeptIn : Mode → List ℕ → Stream → Type 0
 IsKeptIn Framed held decoder = (decoder.fault ≡ None) × (decoder.rest ≡ held) × IsOpen held
 IsKeptIn Raw held decoder = held ≡ []

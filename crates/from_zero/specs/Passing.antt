@@ -50,7 +50,8 @@ coming p more = coming_in p.mode p.change p.held more
 
 -- The piece was read, and is empty only at the end; or a read failed, and nothing was read.
 abbrev pub Fills : {E : Type 0} → Result (Unit {0}) E → Option (List ℕ) → Option (List ℕ) → List ℕ → Type 0
-Fills r old new piece = MatchResult r (λ _. Consumes old new piece × (piece ≡ [] → IsAtEnd new)) (λ _. Keeps old new × (piece ≡ []))
+Fills r old new piece =
+    MatchResult r (λ _. Consumes old new piece × (piece ≡ [] → IsAtEnd new)) (λ _. Keeps old new × (piece ≡ []))
 
 -- what is left to read: what is ready, and what comes of the bytes ahead and of those left in the source after them
 abbrev pub left_to_read : List ℕ → Progress → List ℕ → Option (List ℕ) → Option (List ℕ)

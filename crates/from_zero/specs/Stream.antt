@@ -16,7 +16,8 @@ by_front bytes (inr other) go = bytes
 unfoldable pub renumbered_frames : ℕ → Change → List ℕ → List ℕ
 renumbered_frames zero change bytes = bytes
 renumbered_frames (suc n) change bytes =
-    by_front bytes (decide bytes) (λ content rest. frame_of (renumbered change content) ++ renumbered_frames n change rest)
+    by_front bytes (decide bytes) (λ content rest. frame_of (renumbered change content)
+    ++ renumbered_frames n change rest)
 
 -- the stream with all frames renumbered, of which it has fewer than bytes
 unfoldable pub renumbered_stream : Change → List ℕ → List ℕ

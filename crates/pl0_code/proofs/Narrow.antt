@@ -62,41 +62,54 @@ module _ (k : ℕ) (r : Resolver) where
   expression_narrow (Named x) begins = (read_narrow k (r x.word), tt)
   expression_narrow (Negate e) begins = both k (expression_rows r e begins) _ (expression_narrow e begins) (tt, tt)
   expression_narrow (Binary op left right) begins =
-      both k (expression_rows r left begins) _ (expression_narrow left begins) (both k (expression_rows r right None) _ (expression_narrow right None) (tt, tt))
+      both k (expression_rows r left begins) _ (expression_narrow left begins)
+      (both k (expression_rows r right None) _ (expression_narrow right None) (tt, tt))
 
   condition_narrow : (c : Condition) (begins : Option ℕ) → AllNarrow k (condition_rows r c begins)
   condition_narrow (Odd e) begins = both k (expression_rows r e begins) _ (expression_narrow e begins) (tt, tt)
   condition_narrow (Compare c left right) begins =
-      both k (expression_rows r left begins) _ (expression_narrow left begins) (both k (expression_rows r right None) _ (expression_narrow right None) (tt, tt))
+      both k (expression_rows r left begins) _ (expression_narrow left begins)
+      (both k (expression_rows r right None) _ (expression_narrow right None) (tt, tt))
 
   statement_narrow : (s : Statement) (from n : ℕ) → AllNarrow k (statement_rows r s from n)
   statement_narrow Empty from n = tt
   statement_narrow (Then s t) from n =
-      both k (statement_rows r s from n) _ (statement_narrow s from n) (statement_narrow t (from + length (statement_rows r s from n)) (n + step_count s))
-  statement_narrow (Assign x e) from n = both k (expression_rows r e (Some n)) _ (expression_narrow e (Some n)) (store_narrow k (r x.word), tt)
+      both k (statement_rows r s from n) _ (statement_narrow s from n)
+      (statement_narrow t (from + length (statement_rows r s from n)) (n + step_count s))
+  statement_narrow (Assign x e) from n =
+      both k (expression_rows r e (Some n)) _ (expression_narrow e (Some n)) (store_narrow k (r x.word), tt)
   statement_narrow (Call p x) from n = (call_narrow k (r x.word), tt)
   statement_narrow (Write p e) from n = both k (expression_rows r e (Some n)) _ (expression_narrow e (Some n)) (tt, tt)
   statement_narrow (If p c s) from n =
-      both k (condition_rows r c (Some n)) _ (condition_narrow c (Some n)) (tt, statement_narrow s (from + length (condition_rows r c (Some n)) + 1) (n + 1))
+      both k (condition_rows r c (Some n)) _ (condition_narrow c (Some n))
+      (tt, statement_narrow s (from + length (condition_rows r c (Some n)) + 1) (n + 1))
   statement_narrow (While p c s) from n =
       let at = from + length (condition_rows r c (Some n)) + 1 in
-      both k (condition_rows r c (Some n)) _ (condition_narrow c (Some n)) (tt, both k (statement_rows r s at (n + 1)) _ (statement_narrow s at (n + 1)) (tt, tt))
+      both k (condition_rows r c (Some n)) _ (condition_narrow c (Some n))
+      (tt, both k (statement_rows r s at (n + 1)) _ (statement_narrow s at (n + 1)) (tt, tt))
 
 module _ (k : ℕ) (main : Block) where
   mutual
-    block_narrow : (q : Path) (b : Block) (from n : ℕ) → 3 + variable_count b ≤ k → AllNarrow k (block_rows main q b from n)
+    block_narrow : (q : Path) (b : Block) (from n : ℕ) → 3 + variable_count b ≤ k
+        → AllNarrow k (block_rows main q b from n)
     block_narrow q (ABlock cs xs ps s end) from n few =
         let at = n + length (procedures_steps ps 0 q) in (
           tt,
-          both k (procedures_rows main q 0 ps (from + 1) n) _ (procedures_narrow q 0 ps (from + 1) n (omega (arith, few)))
-              (omega (arith, few), both k (statement_rows (resolver main q) s (from + 1 + procedures_length ps + 1) at) _ (statement_narrow k (resolver main q) s (from + 1 + procedures_length ps + 1) at) (tt, tt)),
+          both k (procedures_rows main q 0 ps (from + 1) n) _
+              (procedures_narrow q 0 ps (from + 1) n (omega (arith, few))) (
+                omega (arith, few),
+                both k (statement_rows (resolver main q) s (from + 1 + procedures_length ps + 1) at)
+                    _ (statement_narrow k (resolver main q) s (from + 1 + procedures_length ps + 1) at) (tt, tt),
+              ),
         )
 
-    procedures_narrow : (q : Path) (i : ℕ) (ps : Procedures) (from n : ℕ) → 3 + variables_count ps ≤ k → AllNarrow k (procedures_rows main q i ps from n)
+    procedures_narrow : (q : Path) (i : ℕ) (ps : Procedures) (from n : ℕ) → 3 + variables_count ps ≤ k
+        → AllNarrow k (procedures_rows main q i ps from n)
     procedures_narrow q i NoMore from n few = tt
     procedures_narrow q i (AndProcedure x b more) from n few =
         both k (block_rows main (i ∷ q) b from n) _ (block_narrow (i ∷ q) b from n (omega (arith, few)))
-        (procedures_narrow q (i + 1) more (from + block_length b) (n + length (block_steps b (i ∷ q))) (omega (arith, few)))
+        (procedures_narrow q (i + 1) more (from + block_length b) (n + length (block_steps b (i ∷ q)))
+        (omega (arith, few)))
 
 narrow_one : (k n : ℕ) (i : Instruction) → Narrow k i → Some i ≡ Some (Enter n) → n ≤ k
 narrow_one k n i narrow is = let same : i ≡ Enter n = cc in subst (Narrow k) same narrow
@@ -104,12 +117,14 @@ narrow_one k n i narrow is = let same : i ≡ Enter n = cc in subst (Narrow k) s
 none_there : {i : Instruction} → None ≡ Some i → ⊥
 none_there is = cc
 
-narrow_at : (k : ℕ) (rs : List Row) → AllNarrow k rs → (a n : ℕ) → slice_get (map (λ (r : Row). r.instruction) rs) a ≡ Some (Enter n) → n ≤ k
+narrow_at : (k : ℕ) (rs : List Row) → AllNarrow k rs → (a n : ℕ)
+    → slice_get (map (λ (r : Row). r.instruction) rs) a ≡ Some (Enter n) → n ≤ k
 narrow_at k [] narrow a n is = absurd (none_there is)
 narrow_at k (r ∷ rs) narrow zero n is = narrow_one k n r.instruction narrow.0 is
 narrow_at k (r ∷ rs) narrow (suc a) n is = narrow_at k rs narrow.1 a n is
 
-pub program_narrow : (k : ℕ) (main : Block) → 3 + variable_count main ≤ k → (a n : ℕ) → slice_get (map (λ (r : Row). r.instruction) (block_rows main [] main 0 0)) a ≡ Some (Enter n) → n ≤ k
+pub program_narrow : (k : ℕ) (main : Block) → 3 + variable_count main ≤ k → (a n : ℕ)
+    → slice_get (map (λ (r : Row). r.instruction) (block_rows main [] main 0 0)) a ≡ Some (Enter n) → n ≤ k
 program_narrow k main few = narrow_at k (block_rows main [] main 0 0) (block_narrow k main [] main 0 0 few)
 
 -- a block has three instructions of its own

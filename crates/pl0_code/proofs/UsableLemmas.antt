@@ -21,7 +21,8 @@ CanBe IsRead = CanBeRead
 CanBe IsAssigned = CanBeAssigned
 CanBe IsCalled = CanBeCalled
 
-declared_for : (o : Option Block) (from : ℕ) (use_kind : UseKind) (m : Meaning) → Allows m use_kind → CanBe use_kind (declared_as o from m)
+declared_for : (o : Option Block) (from : ℕ) (use_kind : UseKind) (m : Meaning) → Allows m use_kind
+    → CanBe use_kind (declared_as o from m)
 declared_for o from IsRead (AConstant k) ok = tt
 declared_for o from IsRead (AVariable k) ok = tt
 declared_for o from IsRead (AProcedure k) ok = absurd ok
@@ -33,7 +34,8 @@ declared_for o from IsCalled (AVariable k) ok = absurd ok
 declared_for o from IsCalled (AProcedure k) ok = tt
 
 module _ (main : Block) (q : Path) where
-  found_for : (use_kind : UseKind) (x : Name) → IsMeant main q (use_of use_kind x) → IsFoundTo (CanBe use_kind) (resolver main q x.word)
+  found_for : (use_kind : UseKind) (x : Name) → IsMeant main q (use_of use_kind x)
+      → IsFoundTo (CanBe use_kind) (resolver main q x.word)
   found_for use_kind x meant =
       let h = meant.at in
       subst (λ o. IsFoundTo (CanBe use_kind) o) (sym (meant_found main q x.word h meant.early))
@@ -43,32 +45,51 @@ module _ (main : Block) (q : Path) where
   can_evaluate (Number n) meant = tt
   can_evaluate (Named x) meant = found_for IsRead x meant.0
   can_evaluate (Negate e) meant = can_evaluate e meant
-  can_evaluate (Binary op left right) meant =
-      (can_evaluate left (meant_first main q (expression_uses left) (expression_uses right) meant), can_evaluate right (meant_second main q (expression_uses left) (expression_uses right) meant))
+  can_evaluate (Binary op left right) meant = (
+    can_evaluate left (meant_first main q (expression_uses left) (expression_uses right) meant),
+    can_evaluate right
+        (meant_second main q (expression_uses left) (expression_uses right) meant),
+  )
 
   can_test : (c : Condition) → AreMeant main q (condition_uses c) → CanTest (resolver main q) c
   can_test (Odd e) meant = can_evaluate e meant
-  can_test (Compare c left right) meant =
-      (can_evaluate left (meant_first main q (expression_uses left) (expression_uses right) meant), can_evaluate right (meant_second main q (expression_uses left) (expression_uses right) meant))
+  can_test (Compare c left right) meant = (
+    can_evaluate left (meant_first main q (expression_uses left) (expression_uses right) meant),
+    can_evaluate right
+        (meant_second main q (expression_uses left) (expression_uses right) meant),
+  )
 
   can_do : (s : Statement) → AreMeant main q (statement_uses s) → CanDo (resolver main q) s
   can_do Empty meant = tt
-  can_do (Then s t) meant =
-      (can_do s (meant_first main q (statement_uses s) (statement_uses t) meant), can_do t (meant_second main q (statement_uses s) (statement_uses t) meant))
+  can_do (Then s t) meant = (
+    can_do s (meant_first main q (statement_uses s) (statement_uses t) meant),
+    can_do t
+        (meant_second main q (statement_uses s) (statement_uses t) meant),
+  )
   can_do (Assign x e) meant = (found_for IsAssigned x meant.0, can_evaluate e meant.1)
   can_do (Call p x) meant = found_for IsCalled x meant.0
   can_do (Write p e) meant = can_evaluate e meant
-  can_do (If p c s) meant =
-      (can_test c (meant_first main q (condition_uses c) (statement_uses s) meant), can_do s (meant_second main q (condition_uses c) (statement_uses s) meant))
-  can_do (While p c s) meant =
-      (can_test c (meant_first main q (condition_uses c) (statement_uses s) meant), can_do s (meant_second main q (condition_uses c) (statement_uses s) meant))
+  can_do (If p c s) meant = (
+    can_test c (meant_first main q (condition_uses c) (statement_uses s) meant),
+    can_do s
+        (meant_second main q (condition_uses c) (statement_uses s) meant),
+  )
+  can_do (While p c s) meant = (
+    can_test c (meant_first main q (condition_uses c) (statement_uses s) meant),
+    can_do s
+        (meant_second main q (condition_uses c) (statement_uses s) meant),
+  )
 
   -- the statement of a block
-  pub can_do_body : (b : Block) → IsLawful main → AreDeclaredBefore main → block_at main q ≡ Some b → CanDo (resolver main q) (body b)
-  can_do_body b lawful early at = can_do (body b) (meant_each main q (body_uses b) (λ i u e. lawful.uses q b i u at e) (λ i u e. early q b i u at e))
+  pub can_do_body : (b : Block) → IsLawful main → AreDeclaredBefore main → block_at main q ≡ Some b
+      → CanDo (resolver main q) (body b)
+  can_do_body b lawful early at =
+      can_do (body b) (meant_each main q (body_uses b) (λ i u e. lawful.uses q b i u at e)
+      (λ i u e. early q b i u at e))
 
 -- one of several statements
-pub can_do_part : (r : Resolver) (xs : List DeclaredStatement) (i : ℕ) (s : DeclaredStatement) → i < length xs → s ≡ get_or xs i s → CanDo r (joined xs) → CanDo r (plain_statement s)
+pub can_do_part : (r : Resolver) (xs : List DeclaredStatement) (i : ℕ) (s : DeclaredStatement) → i < length xs
+    → s ≡ get_or xs i s → CanDo r (joined xs) → CanDo r (plain_statement s)
 can_do_part r [] i s lt is can = absurd (omega arith)
 can_do_part r (x ∷ xs) zero s lt is can = subst (λ y. CanDo r (plain_statement y)) (sym is) can.0
 can_do_part r (x ∷ xs) (suc i) s lt is can = can_do_part r xs i s (omega arith) is can.1

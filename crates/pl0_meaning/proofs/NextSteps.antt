@@ -22,7 +22,8 @@ all_joined q (s ∷ ss) ts a b = (a.0, all_joined q ss ts a.1 b)
 
 statement_in : (q : Path) (s : Statement) → AllIn q (statement_steps s q)
 statement_in q Empty = tt
-statement_in q (Then s t) = all_joined q (statement_steps s q) (statement_steps t q) (statement_in q s) (statement_in q t)
+statement_in q (Then s t) =
+    all_joined q (statement_steps s q) (statement_steps t q) (statement_in q s) (statement_in q t)
 statement_in q (Assign x e) = (refl, tt)
 statement_in q (Call p x) = (refl, tt)
 statement_in q (Write p e) = (refl, tt)
@@ -41,10 +42,12 @@ step_in : (main : Block) (q : Path) (todo : List Statement) → IsIn q (first_st
 step_in main q [] = return_in (block_at main q) q
 step_in main q (s ∷ rest) = first_in q (statement_steps s q) (statement_in q s)
 
-there : (ss : List StepAt) (n : ℕ) (q : Path) (o : Option StepAt) → n < length ss → slice_get ss n ≡ o → IsIn q o → IsIn q (slice_get ss n) × (option_map_or (λ s. s.path) (slice_get ss n) [] ≡ q)
+there : (ss : List StepAt) (n : ℕ) (q : Path) (o : Option StepAt) → n < length ss → slice_get ss n ≡ o → IsIn q o
+    → IsIn q (slice_get ss n) × (option_map_or (λ s. s.path) (slice_get ss n) [] ≡ q)
 there [] n q o lt is held = absurd (omega arith)
 there (s ∷ ss) zero q o lt is held = let here = subst (IsIn q) (sym is) held in (here, here)
 there (s ∷ ss) (suc n) q o lt is held = there ss n q o (omega arith) is held
 
 pub next_step_in_block : (main : Block) (f : Frame) (n : ℕ) → StandsBefore main f n → step_path main n ≡ f.block
-next_step_in_block main f n before = (there (steps main) n f.block (next_step main f) before.within before.next (step_in main f.block f.todo)).1
+next_step_in_block main f n before =
+    (there (steps main) n f.block (next_step main f) before.within before.next (step_in main f.block f.todo)).1

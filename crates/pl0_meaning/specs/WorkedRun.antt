@@ -1,5 +1,5 @@
--- A worked example: the run of a text with nested procedures, computed from the definitions of `Values` and `Runs`. Each
--- line that ends in `refl` was checked by computing both of its sides.
+-- A worked example: the run of a text with nested procedures, computed from the definitions of `Values` and `Runs`.
+-- Each line that ends in `refl` was checked by computing both of its sides.
 --
 --      1  var n;
 --      2  procedure p;
@@ -83,11 +83,13 @@ main = ABlock [] (n 1 5 ∷ []) (AProcedure (p 2 11) outer NoMore)
 
 -- The run has 20 steps. Each row has the number of frames alive before a step, and its line and column.
 first_half : table main 0 10 ≡
-    (1, (13, 7)) ∷ (1, (13, 15)) ∷ (2, (7, 1)) ∷ (2, (8, 1)) ∷ (2, (9, 1)) ∷ (2, (9, 15)) ∷ (3, (7, 1)) ∷ (3, (8, 1)) ∷ (3, (9, 1)) ∷ (3, (10, 1)) ∷ []
+    (1, (13, 7)) ∷ (1, (13, 15)) ∷ (2, (7, 1)) ∷ (2, (8, 1)) ∷ (2, (9, 1)) ∷ (2, (9, 15)) ∷ (3, (7, 1)) ∷ (3, (8, 1))
+    ∷ (3, (9, 1)) ∷ (3, (10, 1)) ∷ []
 first_half = refl
 
 second_half : table main 10 10 ≡
-    (4, (5, 1)) ∷ (4, (5, 11)) ∷ (3, (11, 1)) ∷ (3, (12, 4)) ∷ (2, (10, 1)) ∷ (3, (5, 1)) ∷ (3, (5, 11)) ∷ (2, (11, 1)) ∷ (2, (12, 4)) ∷ (1, (13, 25)) ∷ []
+    (4, (5, 1)) ∷ (4, (5, 11)) ∷ (3, (11, 1)) ∷ (3, (12, 4)) ∷ (2, (10, 1)) ∷ (3, (5, 1)) ∷ (3, (5, 11)) ∷ (2, (11, 1))
+    ∷ (2, (12, 4)) ∷ (1, (13, 25)) ∷ []
 second_half = refl
 
 ends_at_twenty : at main 20 ≡ Some []

@@ -22,12 +22,16 @@ use Rattle.pl0_names.proofs.Members.{get_parts}
 -- ---- by its declarations
 
 -- a position among what is mapped twice
-position_mapped : {A B C : Type 0} (f : A → B) (g : B → C) (p : C → Bool) (i : ℕ) (xs : List A) → position_from (λ x. p (g (f x))) i xs ≡ position_from p i (map g (map f xs))
+position_mapped : {A B C : Type 0} (f : A → B) (g : B → C) (p : C → Bool) (i : ℕ) (xs : List A)
+    → position_from (λ x. p (g (f x))) i xs ≡ position_from p i (map g (map f xs))
 position_mapped f g p i [] = refl
 position_mapped f g p i (x ∷ xs) = ap (λ o. cond (p (g (f x))) (Some i) o) (position_mapped f g p (i + 1) xs)
 
-pub position_among : {A B C : Type 0} (f : A → B) (g : B → C) (p : C → Bool) (xs : List A) → position (λ x. p (g (f x))) xs ≡ position p (map g (map f xs))
-position_among f g p xs = position_from-zero (λ x. p (g (f x))) xs ∙ position_mapped f g p 0 xs ∙ sym (position_from-zero p (map g (map f xs)))
+pub position_among : {A B C : Type 0} (f : A → B) (g : B → C) (p : C → Bool) (xs : List A)
+    → position (λ x. p (g (f x))) xs ≡ position p (map g (map f xs))
+position_among f g p xs =
+    position_from-zero (λ x. p (g (f x))) xs ∙ position_mapped f g p 0 xs
+    ∙ sym (position_from-zero p (map g (map f xs)))
 
 module _ (w : List ℕ) where
   abbrev is_word : Name → Bool
@@ -37,37 +41,49 @@ module _ (w : List ℕ) where
   first_means ds = option_map means (find (λ d. is_word d.name) ds)
 
   -- declarations of one kind
-  first_from : (m : ℕ → Meaning) (i : ℕ) (xs : List Name) → first_means (declared_as m i xs) ≡ option_map m (position_from is_word i xs)
+  first_from : (m : ℕ → Meaning) (i : ℕ) (xs : List Name) → first_means (declared_as m i xs) ≡ option_map m
+      (position_from is_word i xs)
   first_from m i [] = refl
   first_from m i (x ∷ xs) = here (is_word x) (first_from m (i + 1) xs)
     where
       here : (t : Bool) → first_means (declared_as m (i + 1) xs) ≡ option_map m (position_from is_word (i + 1) xs) →
-          option_map means (cond t (Some (record { name = x; meaning = m i })) (find (λ d. is_word d.name) (declared_as m (i + 1) xs))) ≡ option_map m (cond t (Some i) (position_from is_word (i + 1) xs))
+          option_map means (cond t (Some (record { name = x; meaning = m i }))
+          (find (λ d. is_word d.name) (declared_as m (i + 1) xs))) ≡ option_map m
+          (cond t (Some i) (position_from is_word (i + 1) xs))
       here true rest = refl
       here false rest = rest
 
-  first_of : (m : ℕ → Meaning) (xs : List Name) (found : Option ℕ) → found ≡ position is_word xs → option_map m found ≡ first_means (declared_as m 0 xs)
+  first_of : (m : ℕ → Meaning) (xs : List Name) (found : Option ℕ) → found ≡ position is_word xs
+      → option_map m found ≡ first_means (declared_as m 0 xs)
   first_of m xs found is = ap (option_map m) (is ∙ position_from-zero is_word xs) ∙ sym (first_from m 0 xs)
 
-  or_means : (o r s : Option Declaration) → option_map means (option_or o (option_or r s)) ≡ option_or (option_map means o) (option_or (option_map means r) (option_map means s))
+  or_means : (o r s : Option Declaration) → option_map means (option_or o (option_or r s)) ≡ option_or
+      (option_map means o) (option_or (option_map means r) (option_map means s))
   or_means (Some d) r s = refl
   or_means None (Some d) s = refl
   or_means None None s = refl
 
   -- what is found among constants, variables and procedures
   abbrev pub found_as : Option ℕ → Option ℕ → Option ℕ → Option Meaning
-  found_as constant variable procedure = option_or (option_map AConstant constant) (option_or (option_map AVariable variable) (option_map AProcedure procedure))
+  found_as constant variable procedure =
+      option_or (option_map AConstant constant)
+      (option_or (option_map AVariable variable) (option_map AProcedure procedure))
 
-  first_meaning : (b : Block) (constant variable procedure : Option ℕ) → constant ≡ position is_word (map (λ c. c.name) (constants b)) → variable ≡ position is_word (variables b) →
-      procedure ≡ position is_word (map (λ p. p.name) (procedures b)) → found_as constant variable procedure ≡ option_map means (first_declaration w b)
+  first_meaning : (b : Block) (constant variable procedure : Option ℕ)
+      → constant ≡ position is_word (map (λ c. c.name) (constants b)) → variable ≡ position is_word (variables b) →
+      procedure ≡ position is_word (map (λ p. p.name) (procedures b))
+      → found_as constant variable procedure ≡ option_map means (first_declaration w b)
   first_meaning b constant variable procedure c v p =
       let is : Declaration → Bool = λ d. is_word d.name in
       let cs = declared_as AConstant 0 (map (λ c. c.name) (constants b)) in
       let vs = declared_as AVariable 0 (variables b) in
       let ps = declared_as AProcedure 0 (map (λ p. p.name) (procedures b)) in
-      ap (λ o. option_or o (option_or (option_map AVariable variable) (option_map AProcedure procedure))) (first_of AConstant (map (λ c. c.name) (constants b)) constant c)
-      ∙ ap (λ o. option_or (first_means cs) (option_or o (option_map AProcedure procedure))) (first_of AVariable (variables b) variable v)
-      ∙ ap (λ o. option_or (first_means cs) (option_or (first_means vs) o)) (first_of AProcedure (map (λ p. p.name) (procedures b)) procedure p)
+      ap (λ o. option_or o (option_or (option_map AVariable variable) (option_map AProcedure procedure)))
+      (first_of AConstant (map (λ c. c.name) (constants b)) constant c)
+      ∙ ap (λ o. option_or (first_means cs) (option_or o (option_map AProcedure procedure)))
+      (first_of AVariable (variables b) variable v)
+      ∙ ap (λ o. option_or (first_means cs) (option_or (first_means vs) o))
+      (first_of AProcedure (map (λ p. p.name) (procedures b)) procedure p)
       ∙ sym (or_means (find is cs) (find is vs) (find is ps))
       ∙ ap (λ o. option_map means (option_or (find is cs) o)) (sym (find-append is vs ps))
       ∙ ap (option_map means) (sym (find-append is cs (vs ++ ps)))
@@ -79,9 +95,13 @@ module _ (w : List ℕ) where
       procedure ≡ position (λ p. bytes_eq (string_bytes (out-Procedure p).name.text) w) (out-Block b).procedures.items →
       found_as constant variable procedure ≡ option_map means (first_declaration w (plain_block b))
   block_means b constant variable procedure c v p = first_meaning (plain_block b) constant variable procedure
-      (c ∙ position_among plain_constant (λ k. k.name) is_word (out-Block b).constants.items ∙ ap (λ cs. position is_word (map (λ k. k.name) cs)) (sym (plain_constants b)))
-      (v ∙ position_among (λ x. x) plain_name is_word (out-Block b).variables.items ∙ ap (λ xs. position is_word (map plain_name xs)) (map_same (out-Block b).variables.items) ∙ ap (position is_word) (sym (plain_variables b)))
-      (p ∙ position_among plain_procedure (λ r. r.name) is_word (out-Block b).procedures.items ∙ ap (λ ps. position is_word (map (λ r. r.name) ps)) (sym (plain_block_procedures b)))
+      (c ∙ position_among plain_constant (λ k. k.name) is_word (out-Block b).constants.items
+      ∙ ap (λ cs. position is_word (map (λ k. k.name) cs)) (sym (plain_constants b)))
+      (v ∙ position_among (λ x. x) plain_name is_word (out-Block b).variables.items
+      ∙ ap (λ xs. position is_word (map plain_name xs)) (map_same (out-Block b).variables.items)
+      ∙ ap (position is_word) (sym (plain_variables b)))
+      (p ∙ position_among plain_procedure (λ r. r.name) is_word (out-Block b).procedures.items
+      ∙ ap (λ ps. position is_word (map (λ r. r.name) ps)) (sym (plain_block_procedures b)))
     where
       map_same : {A : Type 0} (xs : List A) → map (λ x. x) xs ≡ xs
       map_same [] = refl
@@ -102,14 +122,21 @@ meant_known (Some d) = refl
 
 -- tables of the first blocks of a program
 abbrev pub AreTables : Block → List (List (List (List ℕ × Declared))) → Type 0
-AreTables main tables = (n : ℕ) (table : List (List (List ℕ × Declared))) (q : Path) (b : Block) → slice_get tables n ≡ Some table → slice_get (blocks main) n ≡ Some q → block_at main q ≡ Some b → IsTableOf b table
+AreTables main tables =
+    (n : ℕ) (table : List (List (List ℕ × Declared))) (q : Path) (b : Block) → slice_get tables n ≡ Some table
+    → slice_get (blocks main) n ≡ Some q → block_at main q ≡ Some b → IsTableOf b table
 
-pub table_means : (main : Block) (tables : List (List (List (List ℕ × Declared)))) → AreTables main tables → (n : ℕ) (table : List (List (List ℕ × Declared))) → slice_get tables n ≡ Some table →
-    (w : List ℕ) (found : Option Declared) → option_map told found ≡ stack_names table w → (q : Path) → slice_get (blocks main) n ≡ Some q →
-    option_map meaning_of (option_map (λ d. d.meaning) found) ≡ option_map means (option_and_then (first_declaration w) (block_at main q))
+pub table_means : (main : Block) (tables : List (List (List (List ℕ × Declared)))) → AreTables main tables
+    → (n : ℕ) (table : List (List (List ℕ × Declared))) → slice_get tables n ≡ Some table →
+    (w : List ℕ) (found : Option Declared) → option_map told found ≡ stack_names table w → (q : Path)
+    → slice_get (blocks main) n ≡ Some q →
+    option_map meaning_of (option_map (λ d. d.meaning) found) ≡ option_map means
+    (option_and_then (first_declaration w) (block_at main q))
 table_means main tables all n table here w found is q at =
     let there = numbered_there main n q at in
-    sym (meant_told found) ∙ ap meant (is ∙ all n table q there.0 here at there.1 w) ∙ meant_known (first_declaration w there.0) ∙ ap (λ o. option_map means (option_and_then (first_declaration w) o)) (sym there.1)
+    sym (meant_told found) ∙ ap meant (is ∙ all n table q there.0 here at there.1 w)
+    ∙ meant_known (first_declaration w there.0) ∙ ap (λ o. option_map means
+    (option_and_then (first_declaration w) o)) (sym there.1)
 
 pub no_tables : (main : Block) → AreTables main []
 no_tables main n table q b here at there = absurd (none_here here)
@@ -118,17 +145,22 @@ no_tables main n table q b here at there = absurd (none_here here)
     none_here e = cc
 
 -- one table more
-pub one_table_more : (main b : Block) (tables : List (List (List (List ℕ × Declared)))) (table : List (List (List ℕ × Declared))) (n : ℕ) → AreTables main tables → length tables ≡ n → IsTableOf b table →
+pub one_table_more : (main b : Block) (tables : List (List (List (List ℕ × Declared))))
+    (table : List (List (List ℕ × Declared))) (n : ℕ) → AreTables main tables → length tables ≡ n → IsTableOf b table →
     ((q : Path) → slice_get (blocks main) n ≡ Some q → block_at main q ≡ Some b) → AreTables main (tables ++ table ∷ [])
-one_table_more main b tables table n all count is there k other q c here at block = by_part (get_parts tables (table ∷ []) k other here)
+one_table_more main b tables table n all count is there k other q c here at block =
+    by_part (get_parts tables (table ∷ []) k other here)
   where
     last : (j : ℕ) → k ≡ length tables + j → slice_get (table ∷ []) j ≡ Some other → IsTableOf c other
     last zero e same =
         let number : k ≡ n = omega (arith, e, count) in
-        let first : ◌≡◌ {A = Option Block} (Some b) (Some c) = sym (there q (ap (slice_get (blocks main)) (sym number) ∙ at)) ∙ block in
-        subst (λ t. IsTableOf c t) (let one : table ≡ other = cc in one) (subst (λ d. IsTableOf d table) (let one : b ≡ c = cc in one) is)
+        let first : ◌≡◌ {A = Option Block} (Some b) (Some c) =
+        sym (there q (ap (slice_get (blocks main)) (sym number) ∙ at)) ∙ block in
+        subst (λ t. IsTableOf c t) (let one : table ≡ other = cc in one)
+        (subst (λ d. IsTableOf d table) (let one : b ≡ c = cc in one) is)
     last (suc j) e same = absurd (let no = same in cc)
 
-    by_part : (slice_get tables k ≡ Some other) ⊎ ((j : ℕ) × ((k ≡ length tables + j) × (slice_get (table ∷ []) j ≡ Some other))) → IsTableOf c other
+    by_part : (slice_get tables k ≡ Some other) ⊎ ((j : ℕ) × ((k ≡ length tables + j)
+        × (slice_get (table ∷ []) j ≡ Some other))) → IsTableOf c other
     by_part (inl early) = all k other q c early at block
     by_part (inr (j, e)) = last j e.0 e.1

@@ -33,11 +33,14 @@ module _ {T : Type 0} where
   nested_more n m [] le nested = tt
   nested_more n m (e ∷ es) le nested = let first : e.level < n = nested.0 in (omega arith, nested.1)
 
-  at_here : (m : ℕ) (e : Entry T) (es : List (Entry T)) → e.level ≡ m → at_level m (e ∷ es) ≡ (e.word.now, e.meaning) ∷ at_level m es
-  at_here m e es is = ap (λ b. cond b ((e.word.now, e.meaning) ∷ at_level m es) (at_level m es)) (same_level e.level m is)
+  at_here : (m : ℕ) (e : Entry T) (es : List (Entry T)) → e.level ≡ m → at_level m (e ∷ es) ≡ (e.word.now, e.meaning)
+      ∷ at_level m es
+  at_here m e es is =
+      ap (λ b. cond b ((e.word.now, e.meaning) ∷ at_level m es) (at_level m es)) (same_level e.level m is)
 
   at_other : (m : ℕ) (e : Entry T) (es : List (Entry T)) → (e.level ≡ m → ⊥) → at_level m (e ∷ es) ≡ at_level m es
-  at_other m e es not = ap (λ b. cond b ((e.word.now, e.meaning) ∷ at_level m es) (at_level m es)) (other_level e.level m not)
+  at_other m e es not =
+      ap (λ b. cond b ((e.word.now, e.meaning) ∷ at_level m es) (at_level m es)) (other_level e.level m not)
 
   -- no declaration is of a block that is not open
   pub none_at : (n m : ℕ) (es : List (Entry T)) → n ≤ m → IsNested n es → at_level m es ≡ []
@@ -49,7 +52,9 @@ module _ {T : Type 0} where
   -- a declaration is none of the blocks around its own
   pub outer_same : (m : ℕ) (e : Entry T) (es : List (Entry T)) → m ≤ e.level → blocks m (e ∷ es) ≡ blocks m es
   outer_same zero e es le = refl
-  outer_same (suc m) e es le = ap (λ ds. ds ∷ blocks m (e ∷ es)) (at_other m e es (λ is. omega arith)) ∙ ap (λ bs. at_level m es ∷ bs) (outer_same m e es (omega arith))
+  outer_same (suc m) e es le =
+      ap (λ ds. ds ∷ blocks m (e ∷ es)) (at_other m e es (λ is. omega arith))
+      ∙ ap (λ bs. at_level m es ∷ bs) (outer_same m e es (omega arith))
 
   pub blocks_more : (n m : ℕ) (es : List (Entry T)) → n ≡ m + 1 → blocks n es ≡ at_level m es ∷ blocks m es
   blocks_more n m es is = ap (λ k. blocks k es) (is ∙ add-one m)
@@ -63,94 +68,129 @@ module _ {T : Type 0} where
   no_found : (k n : ℕ) (w : List ℕ) (es : List (Entry T)) → es ≡ [] → found_in k (map names (blocks n es)) w ≡ None
   no_found k zero w es is = refl
   no_found k (suc n) w es is =
-      ap (λ ds. option_or (option_map (found_at k) (names (at_level n ds) w)) (found_in (k + 1) (map names (blocks n es)) w)) is ∙
+      ap (λ ds. option_or (option_map (found_at k) (names (at_level n ds) w))
+      (found_in (k + 1) (map names (blocks n es)) w)) is ∙
       no_found (k + 1) n w es is
 
   put_here : (k n : ℕ) (b : Bool) (x : T) (ds : List (List ℕ × T)) (w : List ℕ) (r : Option (Found T)) → k ≡ n →
-      option_or (option_map (found_at k) (cond b (Some x) (names ds w))) r ≡ cond b (Some (found_at n x)) (option_or (option_map (found_at k) (names ds w)) r)
+      option_or (option_map (found_at k) (cond b (Some x) (names ds w))) r ≡ cond b (Some (found_at n x))
+      (option_or (option_map (found_at k) (names ds w)) r)
   put_here k n true x ds w r is = ap (λ j. Some (found_at j x)) is
   put_here k n false x ds w r is = refl
 
   -- one more declaration is found, or what was found before
   found_put : (k n : ℕ) (e : Entry T) (es : List (Entry T)) (w : List ℕ) → e.level < n → IsNested (e.level + 1) es →
       found_in k (map names (blocks n (e ∷ es))) w ≡
-      cond (bytes_eq e.word.now w) (Some (found_at (k + (n - (e.level + 1))) e.meaning)) (found_in k (map names (blocks n es)) w)
+      cond (bytes_eq e.word.now w) (Some (found_at (k + (n - (e.level + 1))) e.meaning))
+      (found_in k (map names (blocks n es)) w)
   found_put k zero e es w lt nested = absurd (omega arith)
   found_put k (suc m) e es w lt nested = at (cases_eq e.level m) (λ below. found_put (k + 1) m e es w below nested)
     where
       at : (e.level ≡ m) ⊎ (e.level ≡ m → ⊥) →
-          (e.level < m → found_in (k + 1) (map names (blocks m (e ∷ es))) w ≡ cond (bytes_eq e.word.now w) (Some (found_at (k + 1 + (m - (e.level + 1))) e.meaning)) (found_in (k + 1) (map names (blocks m es)) w)) →
+          (e.level < m → found_in (k + 1) (map names (blocks m (e ∷ es))) w ≡ cond (bytes_eq e.word.now w)
+          (Some (found_at (k + 1 + (m - (e.level + 1))) e.meaning)) (found_in (k + 1) (map names (blocks m es)) w))
+          →
           found_in k (map names (blocks (suc m) (e ∷ es))) w ≡
-          cond (bytes_eq e.word.now w) (Some (found_at (k + (suc m - (e.level + 1))) e.meaning)) (found_in k (map names (blocks (suc m) es)) w)
+          cond (bytes_eq e.word.now w) (Some (found_at (k + (suc m - (e.level + 1))) e.meaning))
+          (found_in k (map names (blocks (suc m) es)) w)
       at (inl is) further =
-          ap (λ ds. option_or (option_map (found_at k) (names ds w)) (found_in (k + 1) (map names (blocks m (e ∷ es))) w)) (at_here m e es is) ∙
-          ap (λ bs. option_or (option_map (found_at k) (names ((e.word.now, e.meaning) ∷ at_level m es) w)) (found_in (k + 1) (map names bs) w)) (outer_same m e es (omega arith)) ∙
-          put_here k (k + (suc m - (e.level + 1))) (bytes_eq e.word.now w) e.meaning (at_level m es) w (found_in (k + 1) (map names (blocks m es)) w) (omega arith)
+          ap (λ ds. option_or (option_map (found_at k) (names ds w))
+          (found_in (k + 1) (map names (blocks m (e ∷ es))) w)) (at_here m e es is) ∙
+          ap (λ bs. option_or (option_map (found_at k) (names ((e.word.now, e.meaning) ∷ at_level m es) w))
+          (found_in (k + 1) (map names bs) w)) (outer_same m e es (omega arith)) ∙
+          put_here k (k + (suc m - (e.level + 1))) (bytes_eq e.word.now w) e.meaning (at_level m es) w
+          (found_in (k + 1) (map names (blocks m es)) w) (omega arith)
       at (inr not) further =
           let none : at_level m es ≡ [] = none_at (e.level + 1) m es (omega arith) nested in
           let number : k + 1 + (m - (e.level + 1)) ≡ k + (suc m - (e.level + 1)) = omega arith in
-          ap (λ ds. option_or (option_map (found_at k) (names ds w)) (found_in (k + 1) (map names (blocks m (e ∷ es))) w)) (at_other m e es not ∙ none) ∙
+          ap (λ ds. option_or (option_map (found_at k) (names ds w))
+          (found_in (k + 1) (map names (blocks m (e ∷ es))) w)) (at_other m e es not ∙ none) ∙
           further (omega arith) ∙
-          ap (λ j. cond (bytes_eq e.word.now w) (Some (found_at j e.meaning)) (found_in (k + 1) (map names (blocks m es)) w)) number ∙
-          ap (λ ds. cond (bytes_eq e.word.now w) (Some (found_at (k + (suc m - (e.level + 1))) e.meaning)) (option_or (option_map (found_at k) (names ds w)) (found_in (k + 1) (map names (blocks m es)) w))) (sym none)
+          ap (λ j. cond (bytes_eq e.word.now w) (Some (found_at j e.meaning))
+          (found_in (k + 1) (map names (blocks m es)) w)) number ∙
+          ap (λ ds. cond (bytes_eq e.word.now w) (Some (found_at (k + (suc m - (e.level + 1))) e.meaning))
+          (option_or (option_map (found_at k) (names ds w)) (found_in (k + 1) (map names (blocks m es)) w)))
+          (sym none)
 
   -- the latest declaration of a word
   abbrev pub latest_entry : List (Entry T) → List ℕ → Option (Entry T)
   latest_entry es w = find (λ e. bytes_eq e.word.now w) es
 
-  found_here : (n m : ℕ) (b : Bool) (e : Entry T) (r : Option (Found T)) (o : Option (Entry T)) → m ≡ n - (e.level + 1) → r ≡ option_map (λ e. found_at (n - (e.level + 1)) e.meaning) o →
-      cond b (Some (found_at m e.meaning)) r ≡ option_map (λ e. found_at (n - (e.level + 1)) e.meaning) (cond b (Some e) o)
+  found_here : (n m : ℕ) (b : Bool) (e : Entry T) (r : Option (Found T)) (o : Option (Entry T)) → m ≡ n - (e.level + 1)
+      → r ≡ option_map (λ e. found_at (n - (e.level + 1)) e.meaning) o →
+      cond b (Some (found_at m e.meaning)) r ≡ option_map (λ e. found_at (n - (e.level + 1)) e.meaning)
+      (cond b (Some e) o)
   found_here n m true e r o is same = ap (λ j. Some (found_at j e.meaning)) is
   found_here n m false e r o is same = same
 
   -- the nearest block that declares a word is that of its latest declaration
   pub found_is : (n : ℕ) (es : List (Entry T)) (w : List ℕ) → IsNested n es →
-      found_in 0 (map names (blocks n es)) w ≡ option_map (λ e. found_at (n - (e.level + 1)) e.meaning) (latest_entry es w)
+      found_in 0 (map names (blocks n es)) w ≡ option_map (λ e. found_at (n - (e.level + 1)) e.meaning)
+      (latest_entry es w)
   found_is n [] w nested = no_found 0 n w [] refl
   found_is n (e ∷ es) w nested =
       let first : e.level < n = nested.0 in
       found_put 0 n e es w first nested.1 ∙
-      found_here n (0 + (n - (e.level + 1))) (bytes_eq e.word.now w) e (found_in 0 (map names (blocks n es)) w) (latest_entry es w) (omega arith) (found_is n es w (nested_more (e.level + 1) n es (omega arith) nested.1))
+      found_here n (0 + (n - (e.level + 1))) (bytes_eq e.word.now w) e (found_in 0 (map names (blocks n es)) w)
+      (latest_entry es w) (omega arith) (found_is n es w (nested_more (e.level + 1) n es (omega arith) nested.1))
 
   -- ---- indices
 
   last_read : (e d : Entry T) (es : List (Entry T)) → e ≡ get_or (reverse (e ∷ es)) (length es) d
-  last_read e d es = sym (ap (λ xs. get_or xs (length es) d) (reverse-append (e ∷ []) es) ∙ get_or_at (reverse es) e [] d (length es) (length-reverse es))
+  last_read e d es =
+      sym (ap (λ xs. get_or xs (length es) d) (reverse-append (e ∷ []) es)
+      ∙ get_or_at (reverse es) e [] d (length es) (length-reverse es))
 
-  earlier_read : (e d : Entry T) (es : List (Entry T)) (i : ℕ) → i < length es → get_or (reverse es) i d ≡ get_or (reverse (e ∷ es)) i d
-  earlier_read e d es i lt = sym (ap (λ xs. get_or xs i d) (reverse-append (e ∷ []) es) ∙ get_or_append_left (reverse es) (e ∷ []) d i (let long : length (reverse es) ≡ length es = length-reverse es in omega arith))
+  earlier_read : (e d : Entry T) (es : List (Entry T)) (i : ℕ) → i < length es
+      → get_or (reverse es) i d ≡ get_or (reverse (e ∷ es)) i d
+  earlier_read e d es i lt =
+      sym (ap (λ xs. get_or xs i d) (reverse-append (e ∷ []) es)
+      ∙ get_or_append_left (reverse es) (e ∷ []) d i
+      (let long : length (reverse es) ≡ length es = length-reverse es in omega arith))
 
   pub latest_bound : (es : List (Entry T)) (w : List ℕ) (i : ℕ) → latest es w ≡ Some i → i < length es
   latest_bound [] w i is = cc
   latest_bound (e ∷ es) w i is = at (bytes_eq e.word.now w) (latest_bound es w i) is
     where
-      at : (b : Bool) → (latest es w ≡ Some i → i < length es) → cond b (Some (length es)) (latest es w) ≡ Some i → i < suc (length es)
+      at : (b : Bool) → (latest es w ≡ Some i → i < length es) → cond b (Some (length es)) (latest es w) ≡ Some i
+          → i < suc (length es)
       at true further same = let number : length es ≡ i = cc in omega arith
       at false further same = let lt : i < length es = further same in omega arith
 
   -- the latest declaration stands at the latest index
-  pub at_latest : (es : List (Entry T)) (w : List ℕ) (i : ℕ) (d : Entry T) → latest es w ≡ Some i → latest_entry es w ≡ Some (get_or (reverse es) i d)
+  pub at_latest : (es : List (Entry T)) (w : List ℕ) (i : ℕ) (d : Entry T) → latest es w ≡ Some i
+      → latest_entry es w ≡ Some (get_or (reverse es) i d)
   at_latest [] w i d is = cc
   at_latest (e ∷ es) w i d is = at (bytes_eq e.word.now w) (at_latest es w i d) (latest_bound es w i) is
     where
-      at : (b : Bool) → (latest es w ≡ Some i → latest_entry es w ≡ Some (get_or (reverse es) i d)) → (latest es w ≡ Some i → i < length es) →
-          cond b (Some (length es)) (latest es w) ≡ Some i → cond b (Some e) (latest_entry es w) ≡ Some (get_or (reverse (e ∷ es)) i d)
-      at true further within same = let number : length es ≡ i = cc in ap (λ x. Some x) (last_read e d es ∙ ap (λ j. get_or (reverse (e ∷ es)) j d) number)
+      at : (b : Bool) → (latest es w ≡ Some i → latest_entry es w ≡ Some (get_or (reverse es) i d))
+          → (latest es w ≡ Some i → i < length es) →
+          cond b (Some (length es)) (latest es w) ≡ Some i → cond b (Some e) (latest_entry es w) ≡ Some
+          (get_or (reverse (e ∷ es)) i d)
+      at true further within same =
+          let number : length es ≡ i = cc in ap (λ x. Some x)
+          (last_read e d es ∙ ap (λ j. get_or (reverse (e ∷ es)) j d) number)
       at false further within same = further same ∙ ap (λ x. Some x) (earlier_read e d es i (within same))
 
-  pub nested_level : (n : ℕ) (es : List (Entry T)) (w : List ℕ) (x : Entry T) → IsNested n es → latest_entry es w ≡ Some x → x.level < n
+  pub nested_level : (n : ℕ) (es : List (Entry T)) (w : List ℕ) (x : Entry T) → IsNested n es
+      → latest_entry es w ≡ Some x → x.level < n
   nested_level n [] w x nested is = cc
   nested_level n (e ∷ es) w x nested is = at (bytes_eq e.word.now w) (nested_level (e.level + 1) es w x nested.1) is
     where
-      at : (b : Bool) → (latest_entry es w ≡ Some x → x.level < e.level + 1) → cond b (Some e) (latest_entry es w) ≡ Some x → x.level < n
-      at true further same = let first : e.level < n = nested.0 in let it : e.level ≡ x.level = ap (λ y. y.level) (let it : e ≡ x = cc in it) in omega arith
-      at false further same = let first : e.level < n = nested.0 in let lt : x.level < e.level + 1 = further same in omega arith
+      at : (b : Bool) → (latest_entry es w ≡ Some x → x.level < e.level + 1)
+          → cond b (Some e) (latest_entry es w) ≡ Some x → x.level < n
+      at true further same =
+          let first : e.level < n = nested.0 in let it : e.level ≡ x.level = ap (λ y. y.level)
+          (let it : e ≡ x = cc in it) in omega arith
+      at false further same =
+          let first : e.level < n = nested.0 in let lt : x.level < e.level + 1 = further same in omega arith
 
   pub none_latest : (es : List (Entry T)) (w : List ℕ) → latest es w ≡ None → latest_entry es w ≡ None
   none_latest [] w is = refl
   none_latest (e ∷ es) w is = at (bytes_eq e.word.now w) (none_latest es w) is
     where
-      at : (b : Bool) → (latest es w ≡ None → latest_entry es w ≡ None) → cond b (Some (length es)) (latest es w) ≡ None → cond b (Some e) (latest_entry es w) ≡ None
+      at : (b : Bool) → (latest es w ≡ None → latest_entry es w ≡ None) → cond b (Some (length es)) (latest es w) ≡ None
+          → cond b (Some e) (latest_entry es w) ≡ None
       at true further same = cc
       at false further same = further same
 
@@ -159,13 +199,15 @@ module _ {T : Type 0} where
       cond (bytes_eq e.word.now w) e.hidden (latest (e ∷ es) w) ≡ latest es w
   restored e es w linked = at (bytes_eq e.word.now w) (bytes_eq-Decides e.word.now w).0
     where
-      at : (b : Bool) → (b ≡ true → e.word.now ≡ w) → cond b e.hidden (cond b (Some (length es)) (latest es w)) ≡ latest es w
+      at : (b : Bool) → (b ≡ true → e.word.now ≡ w) → cond b e.hidden (cond b (Some (length es)) (latest es w)) ≡ latest
+          es w
       at true same = linked ∙ ap (latest es) (same refl)
       at false same = refl
 
   -- ---- one block more, one declaration more
 
-  put_none : (m : ℕ) (e : Entry T) (es : List (Entry T)) (w : List ℕ) → bytes_eq e.word.now w ≡ false → names (at_level m es) w ≡ None → names (at_level m (e ∷ es)) w ≡ None
+  put_none : (m : ℕ) (e : Entry T) (es : List (Entry T)) (w : List ℕ) → bytes_eq e.word.now w ≡ false
+      → names (at_level m es) w ≡ None → names (at_level m (e ∷ es)) w ≡ None
   put_none m e es w is none = at (nat_eq e.level m)
     where
       at : (h : Bool) → names (cond h ((e.word.now, e.meaning) ∷ at_level m es) (at_level m es)) w ≡ None
@@ -176,28 +218,41 @@ module _ {T : Type 0} where
   not_at m [] w none = refl
   not_at m (e ∷ es) w none = at (bytes_eq e.word.now w) refl (not_at m es w) none
     where
-      at : (b : Bool) → bytes_eq e.word.now w ≡ b → (latest_entry es w ≡ None → names (at_level m es) w ≡ None) → cond b (Some e) (latest_entry es w) ≡ None → names (at_level m (e ∷ es)) w ≡ None
+      at : (b : Bool) → bytes_eq e.word.now w ≡ b → (latest_entry es w ≡ None → names (at_level m es) w ≡ None)
+          → cond b (Some e) (latest_entry es w) ≡ None → names (at_level m (e ∷ es)) w ≡ None
       at true is further same = cc
       at false is further same = put_none m e es w is (further same)
 
   -- the innermost block declares what its declaration is the latest of
-  pub named_at : (m : ℕ) (es : List (Entry T)) (w : List ℕ) (x : Entry T) → latest_entry es w ≡ Some x → x.level ≡ m → names (at_level m es) w ≡ Some x.meaning
+  pub named_at : (m : ℕ) (es : List (Entry T)) (w : List ℕ) (x : Entry T) → latest_entry es w ≡ Some x → x.level ≡ m
+      → names (at_level m es) w ≡ Some x.meaning
   named_at m [] w x is level = cc
-  named_at m (e ∷ es) w x is level = at (bytes_eq e.word.now w) refl (nat_eq e.level m) refl (λ s. named_at m es w x s level) is
+  named_at m (e ∷ es) w x is level =
+      at (bytes_eq e.word.now w) refl (nat_eq e.level m) refl (λ s. named_at m es w x s level) is
     where
-      at : (b : Bool) → bytes_eq e.word.now w ≡ b → (h : Bool) → nat_eq e.level m ≡ h → (latest_entry es w ≡ Some x → names (at_level m es) w ≡ Some x.meaning) →
-          cond b (Some e) (latest_entry es w) ≡ Some x → names (cond h ((e.word.now, e.meaning) ∷ at_level m es) (at_level m es)) w ≡ Some x.meaning
-      at true is true here further same = let it : e ≡ x = cc in ap (λ b. cond b (Some e.meaning) (names (at_level m es) w)) is ∙ ap (λ y. Some y.meaning) it
-      at true is false here further same = let it : e ≡ x = cc in absurd (both_ways _ here (same_level e.level m (ap (λ y. y.level) it ∙ level)))
+      at : (b : Bool) → bytes_eq e.word.now w ≡ b → (h : Bool) → nat_eq e.level m ≡ h
+          → (latest_entry es w ≡ Some x → names (at_level m es) w ≡ Some x.meaning) →
+          cond b (Some e) (latest_entry es w) ≡ Some x → names
+          (cond h ((e.word.now, e.meaning) ∷ at_level m es) (at_level m es)) w ≡ Some x.meaning
+      at true is true here further same =
+          let it : e ≡ x = cc in ap (λ b. cond b (Some e.meaning) (names (at_level m es) w)) is
+          ∙ ap (λ y. Some y.meaning) it
+      at true is false here further same =
+          let it : e ≡ x = cc in absurd (both_ways _ here (same_level e.level m (ap (λ y. y.level) it ∙ level)))
       at false is true here further same = ap (λ b. cond b (Some e.meaning) (names (at_level m es) w)) is ∙ further same
       at false is false here further same = further same
 
   -- and no other word
-  pub unnamed_at : (m : ℕ) (es : List (Entry T)) (w : List ℕ) (x : Entry T) → IsNested (m + 1) es → latest_entry es w ≡ Some x → (x.level ≡ m → ⊥) → names (at_level m es) w ≡ None
+  pub unnamed_at : (m : ℕ) (es : List (Entry T)) (w : List ℕ) (x : Entry T) → IsNested (m + 1) es
+      → latest_entry es w ≡ Some x → (x.level ≡ m → ⊥) → names (at_level m es) w ≡ None
   unnamed_at m [] w x nested is other = refl
-  unnamed_at m (e ∷ es) w x nested is other = at (bytes_eq e.word.now w) refl (λ s. unnamed_at m es w x (let first : e.level < m + 1 = nested.0 in nested_more (e.level + 1) (m + 1) es (omega arith) nested.1) s other) is
+  unnamed_at m (e ∷ es) w x nested is other =
+      at (bytes_eq e.word.now w) refl (λ s. unnamed_at m es w x
+      (let first : e.level < m + 1 = nested.0 in nested_more (e.level + 1) (m + 1) es (omega arith) nested.1) s other)
+      is
     where
-      at : (b : Bool) → bytes_eq e.word.now w ≡ b → (latest_entry es w ≡ Some x → names (at_level m es) w ≡ None) → cond b (Some e) (latest_entry es w) ≡ Some x → names (at_level m (e ∷ es)) w ≡ None
+      at : (b : Bool) → bytes_eq e.word.now w ≡ b → (latest_entry es w ≡ Some x → names (at_level m es) w ≡ None)
+          → cond b (Some e) (latest_entry es w) ≡ Some x → names (at_level m (e ∷ es)) w ≡ None
       at true is further same =
           let it : e.level ≡ x.level = ap (λ y. y.level) (let it : e ≡ x = cc in it) in
           let first : e.level < m + 1 = nested.0 in
@@ -212,28 +267,40 @@ module _ {T : Type 0} where
       ap (λ bs. names ((e.word.now, e.meaning) ∷ at_level m es) ∷ map names bs) (outer_same m e es (omega arith)) ∙
       ap (λ f. f ∷ map names (blocks m es)) (λ i w. each w i)
     where
-      at : (w : List ℕ) (b : Bool) → (b ≡ true → e.word.now ≡ w) → cond b (Some e.meaning) (names (at_level m es) w) ≡ option_or (names (at_level m es) w) (cond b (Some e.meaning) None)
-      at w true same = sym (ap (λ o. option_or o (Some e.meaning)) (ap (names (at_level m es)) (sym (same refl)) ∙ none))
+      at : (w : List ℕ) (b : Bool) → (b ≡ true → e.word.now ≡ w)
+          → cond b (Some e.meaning) (names (at_level m es) w) ≡ option_or (names (at_level m es) w)
+          (cond b (Some e.meaning) None)
+      at w true same =
+          sym (ap (λ o. option_or o (Some e.meaning)) (ap (names (at_level m es)) (sym (same refl)) ∙ none))
       at w false same = sym (or_none (names (at_level m es) w))
 
-      each : (w : List ℕ) → names ((e.word.now, e.meaning) ∷ at_level m es) w ≡ or_declared (names (at_level m es)) e.word.now e.meaning w
+      each : (w : List ℕ) → names ((e.word.now, e.meaning) ∷ at_level m es) w ≡ or_declared (names (at_level m es))
+          e.word.now e.meaning w
       each w = at w (bytes_eq e.word.now w) (bytes_eq-Decides e.word.now w).0
 
   old_declared : (m : ℕ) (es : List (Entry T)) (word : List ℕ) (d x : T) → names (at_level m es) word ≡ Some x →
       map names (blocks (suc m) es) ≡ declared_in (map names (blocks (suc m) es)) word d
-  old_declared m es word d x some = ap (λ f. f ∷ map names (blocks m es)) (λ i w. at w (bytes_eq word w) (bytes_eq-Decides word w).0 i)
+  old_declared m es word d x some =
+      ap (λ f. f ∷ map names (blocks m es)) (λ i w. at w (bytes_eq word w) (bytes_eq-Decides word w).0 i)
     where
-      at : (w : List ℕ) (b : Bool) → (b ≡ true → word ≡ w) → names (at_level m es) w ≡ option_or (names (at_level m es) w) (cond b (Some d) None)
-      at w true same = let here : names (at_level m es) w ≡ Some x = ap (names (at_level m es)) (sym (same refl)) ∙ some in here ∙ sym (ap (λ o. option_or o (Some d)) here)
+      at : (w : List ℕ) (b : Bool) → (b ≡ true → word ≡ w) → names (at_level m es) w ≡ option_or
+          (names (at_level m es) w) (cond b (Some d) None)
+      at w true same =
+          let here : names (at_level m es) w ≡ Some x = ap (names (at_level m es)) (sym (same refl)) ∙ some in here
+          ∙ sym (ap (λ o. option_or o (Some d)) here)
       at w false same = sym (or_none (names (at_level m es) w))
 
-  pub declared_new : (n m : ℕ) (e : Entry T) (es es' : List (Entry T)) → n ≡ m + 1 → e.level ≡ m → es' ≡ e ∷ es → names (at_level m es) e.word.now ≡ None →
+  pub declared_new : (n m : ℕ) (e : Entry T) (es es' : List (Entry T)) → n ≡ m + 1 → e.level ≡ m → es' ≡ e ∷ es
+      → names (at_level m es) e.word.now ≡ None →
       map names (blocks n es') ≡ declared_in (map names (blocks n es)) e.word.now e.meaning
   declared_new n m e es es' more level is none =
       ap (λ xs. map names (blocks n xs)) is ∙
-      subst (λ k. map names (blocks k (e ∷ es)) ≡ declared_in (map names (blocks k es)) e.word.now e.meaning) (sym (more ∙ add-one m)) (put_declared m e es level none)
+      subst (λ k. map names (blocks k (e ∷ es)) ≡ declared_in (map names (blocks k es)) e.word.now e.meaning)
+      (sym (more ∙ add-one m)) (put_declared m e es level none)
 
-  pub declared_old : (n m : ℕ) (es : List (Entry T)) (word : List ℕ) (d x : T) → n ≡ m + 1 → names (at_level m es) word ≡ Some x →
+  pub declared_old : (n m : ℕ) (es : List (Entry T)) (word : List ℕ) (d x : T) → n ≡ m + 1
+      → names (at_level m es) word ≡ Some x →
       map names (blocks n es) ≡ declared_in (map names (blocks n es)) word d
   declared_old n m es word d x more some =
-      subst (λ k. map names (blocks k es) ≡ declared_in (map names (blocks k es)) word d) (sym (more ∙ add-one m)) (old_declared m es word d x some)
+      subst (λ k. map names (blocks k es) ≡ declared_in (map names (blocks k es)) word d) (sym (more ∙ add-one m))
+      (old_declared m es word d x some)

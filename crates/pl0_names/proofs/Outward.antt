@@ -34,17 +34,21 @@ mutual
   block_short (ABlock cs xs row body end) q =
       let ps = procedures_paths row 0 q in
       let n = length q + length (ps ++ q ∷ []) in
-      below_append n ps (q ∷ []) (below_more (length q + length ps + 1) n ps (omega (arith, length-append ps (q ∷ []))) (row_short row 0 q)) (omega (arith, length-append ps (q ∷ [])), tt)
+      below_append n ps (q ∷ []) (below_more (length q + length ps + 1) n ps (omega (arith, length-append ps (q ∷ [])))
+      (row_short row 0 q)) (omega (arith, length-append ps (q ∷ [])), tt)
 
-  row_short : (row : Procedures) (i : ℕ) (q : Path) → AreBelow (length q + length (procedures_paths row i q) + 1) (procedures_paths row i q)
+  row_short : (row : Procedures) (i : ℕ) (q : Path) → AreBelow (length q + length (procedures_paths row i q) + 1)
+      (procedures_paths row i q)
   row_short NoMore i q = tt
   row_short (AndProcedure x b row) i q =
       let first = block_paths b (i ∷ q) in
       let rest = procedures_paths row (i + 1) q in
       let n = length q + length (first ++ rest) + 1 in
       below_append n first rest
-      (below_more (length (i ∷ q) + length first) n first (omega (arith, length-append first rest)) (block_short b (i ∷ q)))
-      (below_more (length q + length rest + 1) n rest (omega (arith, length-append first rest)) (row_short row (i + 1) q))
+      (below_more (length (i ∷ q) + length first) n first (omega (arith, length-append first rest))
+      (block_short b (i ∷ q)))
+      (below_more (length q + length rest + 1) n rest (omega (arith, length-append first rest))
+      (row_short row (i + 1) q))
 
 below_at : (n : ℕ) (qs : List Path) (k : ℕ) (q : Path) → AreBelow n qs → slice_get qs k ≡ Some q → length q < n
 below_at n [] k q all e = cc
@@ -52,7 +56,9 @@ below_at n (p ∷ qs) zero q all e = let same : p ≡ q = cc in let lt = all.0 i
 below_at n (p ∷ qs) (suc k) q all e = below_at n qs k q all.1 e
 
 path_short : (main : Block) (n : ℕ) (q : Path) → slice_get (blocks main) n ≡ Some q → length q < length (blocks main)
-path_short main n q e = let lt = below_at (length {A = ℕ} [] + length (blocks main)) (blocks main) n q (block_short main []) e in omega (arith, lt)
+path_short main n q e =
+    let lt = below_at (length {A = ℕ} [] + length (blocks main)) (blocks main) n q (block_short main []) e in omega
+    (arith, lt)
 
 -- ---- the walk
 
@@ -75,13 +81,16 @@ walk_begins main w start lt = record {
 
 -- what the block of a number declares the word as
 abbrev pub Says : Block → List ℕ → ℕ → Option Kept → Type 0
-Says main w n said = (q : Path) → slice_get (blocks main) n ≡ Some q → option_map meaning_of said ≡ option_map means (option_and_then (first_declaration w) (block_at main q))
+Says main w n said =
+    (q : Path) → slice_get (blocks main) n ≡ Some q → option_map meaning_of said ≡ option_map means
+    (option_and_then (first_declaration w) (block_at main q))
 
 none_of : (o : Option Declaration) → None ≡ option_map means o → o ≡ None
 none_of None e = refl
 none_of (Some d) e = cc
 
-module _ (main : Block) (table : List (Option Nesting)) (nested : AreNestings main table (blocks main)) (w : List ℕ) (start n levels : ℕ) (lt : start < length (blocks main)) (walk : IsWalk main w start n levels) where
+module _ (main : Block) (table : List (Option Nesting)) (nested : AreNestings main table (blocks main)) (w : List ℕ)
+    (start n levels : ℕ) (lt : start < length (blocks main)) (walk : IsWalk main w start n levels) where
   pub in_table : n < length table
   in_table = let inside = walk.within in omega (arith, inside, nestings_lengths main table (blocks main) nested)
 
@@ -95,33 +104,47 @@ module _ (main : Block) (table : List (Option Nesting)) (nested : AreNestings ma
       omega (arith, short, nestings_lengths main table (blocks main) nested, e)
 
   -- a block that declares the word is its home
-  declared_home : (q : Path) (d : Declaration) → option_and_then (first_declaration w) (block_at main q) ≡ Some d → home main q w ≡ Some (record { path = q; declaration = d })
+  declared_home : (q : Path) (d : Declaration) → option_and_then (first_declaration w) (block_at main q) ≡ Some d
+      → home main q w ≡ Some (record { path = q; declaration = d })
   declared_home [] d first = ap (λ o. option_map (λ (e : Declaration). record { path = []; declaration = e }) o) first
-  declared_home (i ∷ q) d first = ap (λ o. or_else (option_map (λ (e : Declaration). record { path = i ∷ q; declaration = e }) o) (home main q w)) first
+  declared_home (i ∷ q) d first =
+      ap (λ o. or_else (option_map (λ (e : Declaration). record { path = i ∷ q; declaration = e }) o) (home main q w))
+      first
 
-  pub found_here : (b : Bor DeclaredBlock) (meaning : Kept) → ((r : Path) → slice_get (blocks main) n ≡ Some r → block_at main r ≡ Some (plain_block b.now)) → Says main w n (Some meaning) →
-      (q : Path) → slice_get (blocks main) start ≡ Some q → IsHomeAnswer main q (home main q w) (Some (record { block = b; level = levels; meaning = meaning }))
+  pub found_here : (b : Bor DeclaredBlock)
+      (meaning : Kept) → ((r : Path) → slice_get (blocks main) n ≡ Some r → block_at main r ≡ Some (plain_block b.now))
+      → Says main w n (Some meaning) →
+      (q : Path) → slice_get (blocks main) start ≡ Some q → IsHomeAnswer main q (home main q w)
+      (Some (record { block = b; level = levels; meaning = meaning }))
   found_here b meaning there said q begins =
       let here = walk.walked q begins in
       by_first here (option_and_then (first_declaration w) (block_at main here.path)) refl (said here.path here.at)
     where
-      by_first : (here : Walked main w q n levels) (o : Option Declaration) → option_and_then (first_declaration w) (block_at main here.path) ≡ o → Some (meaning_of meaning) ≡ option_map means o →
+      by_first : (here : Walked main w q n levels) (o : Option Declaration)
+          → option_and_then (first_declaration w) (block_at main here.path) ≡ o
+          → Some (meaning_of meaning) ≡ option_map means o →
           IsHomeAnswer main q (home main q w) (Some (record { block = b; level = levels; meaning = meaning }))
       by_first here None first e = cc
       by_first here (Some d) first e =
-          subst (λ o. IsHomeAnswer main q o (Some (record { block = b; level = levels; meaning = meaning }))) (sym (here.same ∙ declared_home here.path d first))
+          subst (λ o. IsHomeAnswer main q o (Some (record { block = b; level = levels; meaning = meaning })))
+          (sym (here.same ∙ declared_home here.path d first))
           (there here.path here.at, here.levels_are, (let same : meaning_of meaning ≡ d.meaning = cc in same))
 
   -- the main block, which no block is around
-  pub found_nowhere : Says main w n None → get_or table n None ≡ None → (q : Path) → slice_get (blocks main) start ≡ Some q → IsHomeAnswer main q (home main q w) None
+  pub found_nowhere : Says main w n None → get_or table n None ≡ None → (q : Path)
+      → slice_get (blocks main) start ≡ Some q → IsHomeAnswer main q (home main q w) None
   found_nowhere said outermost q begins =
       let here = walk.walked q begins in
       let first = main_found main n here.path (read_at main table n None nested in_table outermost) here.at in
       let none = none_of (option_and_then (first_declaration w) (block_at main here.path)) (said here.path here.at) in
-      subst (λ o. IsHomeAnswer main q o None) (sym (here.same ∙ ap (λ p. home main p w) first ∙ ap (λ o. option_map (λ (d : Declaration). record { path = []; declaration = d }) o) (ap (λ p. option_and_then (first_declaration w) (block_at main p)) (sym first) ∙ none))) tt
+      subst (λ o. IsHomeAnswer main q o None)
+      (sym (here.same ∙ ap (λ p. home main p w)
+      first ∙ ap (λ o. option_map (λ (d : Declaration). record { path = []; declaration = d }) o)
+      (ap (λ p. option_and_then (first_declaration w) (block_at main p)) (sym first) ∙ none))) tt
 
   -- one block further out
-  pub walk_on : (nesting : Nesting) → Says main w n None → get_or table n None ≡ Some nesting → IsWalk main w start nesting.outer (levels + 1) × (depth main nesting.outer < depth main n)
+  pub walk_on : (nesting : Nesting) → Says main w n None → get_or table n None ≡ Some nesting
+      → IsWalk main w start nesting.outer (levels + 1) × (depth main nesting.outer < depth main n)
   walk_on nesting said is =
       let at = read_at main table n (Some nesting) nested in_table is in
       let inside = outer_within main table n nesting nested at in (
@@ -129,15 +152,21 @@ module _ (main : Block) (table : List (Option Nesting)) (nested : AreNestings ma
           within = omega (arith, inside, nestings_lengths main table (blocks main) nested);
           walked = λ q begins.
               let here = walk.walked q begins in
-              outward q here here.path refl (subst (λ p. IsNesting main (Some nesting) p) (same_path main n at.path here.path at.at here.at) at.is);
+              outward q here here.path refl
+              (subst (λ p. IsNesting main (Some nesting) p) (same_path main n at.path here.path at.at here.at)
+              at.is);
         },
         outer_shallower main n nesting at,
       )
     where
-      passed : (i : ℕ) (r : Path) → option_and_then (first_declaration w) (block_at main (i ∷ r)) ≡ None → home main (i ∷ r) w ≡ home main r w
-      passed i r none = ap (λ o. or_else (option_map (λ (d : Declaration). record { path = i ∷ r; declaration = d }) o) (home main r w)) none
+      passed : (i : ℕ) (r : Path) → option_and_then (first_declaration w) (block_at main (i ∷ r)) ≡ None
+          → home main (i ∷ r) w ≡ home main r w
+      passed i r none =
+          ap (λ o. or_else (option_map (λ (d : Declaration). record { path = i ∷ r; declaration = d }) o)
+          (home main r w)) none
 
-      outward : (q : Path) (here : Walked main w q n levels) (p : Path) → here.path ≡ p → IsNesting main (Some nesting) p → Walked main w q nesting.outer (levels + 1)
+      outward : (q : Path) (here : Walked main w q n levels) (p : Path) → here.path ≡ p
+          → IsNesting main (Some nesting) p → Walked main w q nesting.outer (levels + 1)
       outward q here [] is at = absurd at
       outward q here (i ∷ r) is at =
           let e = here.levels_are in
@@ -145,5 +174,7 @@ module _ (main : Block) (table : List (Option Nesting)) (nested : AreNestings ma
             path = r;
             at = at.0;
             levels_are = omega (arith, e, ap length is);
-            same = here.same ∙ ap (λ p. home main p w) is ∙ passed i r (none_of (option_and_then (first_declaration w) (block_at main (i ∷ r))) (said (i ∷ r) (here.at ∙ ap Some is)));
+            same = here.same ∙ ap (λ p. home main p w) is ∙ passed i r
+                (none_of (option_and_then (first_declaration w) (block_at main (i ∷ r)))
+                (said (i ∷ r) (here.at ∙ ap Some is)));
           }

@@ -14,12 +14,14 @@ use Rattle.pl0_names.specs.Blocks.{blocks_of, found_at, found_in}
 use Rattle.pl0_names.proofs.Logs.{restored, nested_more, outer_same, latest_entry, at_latest, latest_bound, found_is, none_latest, nested_level}
 
 module _ {T : Type 0} where
-  pub cut_outer : (n : ℕ) (e : Entry T) (es es' : List (Entry T)) → es' ≡ e ∷ es → ends_at n es' ≡ true → blocks n es ≡ blocks n es'
+  pub cut_outer : (n : ℕ) (e : Entry T) (es es' : List (Entry T)) → es' ≡ e ∷ es → ends_at n es' ≡ true
+      → blocks n es ≡ blocks n es'
   cut_outer n e es es' is ends =
       let here : e.level ≡ n = eqb-true e.level n (ap (ends_at n) (sym is) ∙ ends) in
       sym (ap (blocks n) is ∙ outer_same n e es (omega arith))
 
-  pub ends_read : (n : ℕ) (b : Bool) (xs ys : List (Entry T)) → b ≡ ends_at n (reverse xs) → xs ≡ ys → b ≡ true → ends_at n (reverse ys) ≡ true
+  pub ends_read : (n : ℕ) (b : Bool) (xs ys : List (Entry T)) → b ≡ ends_at n (reverse xs) → xs ≡ ys → b ≡ true
+      → ends_at n (reverse ys) ≡ true
   ends_read n b xs ys is same holds = sym (is ∙ ap (λ zs. ends_at n (reverse zs)) same) ∙ holds
 
   pub cut_nested : (n : ℕ) (e : Entry T) (es es' : List (Entry T)) → es' ≡ e ∷ es → IsNested n es' → IsNested n es
@@ -37,7 +39,8 @@ module _ {T : Type 0} where
       (omega arith, nested.1)
 
 module _ {S T : Type 0} where
-  pub put_indexed : (m m' : HashMap (Bor (List ℕ)) ℕ S) (e : Entry T) (es es' : List (Entry T)) (at : ℕ) → IsIndexed m es → e.hidden ≡ latest es e.word.now → es' ≡ e ∷ es → at ≡ length es →
+  pub put_indexed : (m m' : HashMap (Bor (List ℕ)) ℕ S) (e : Entry T) (es es' : List (Entry T)) (at : ℕ)
+      → IsIndexed m es → e.hidden ≡ latest es e.word.now → es' ≡ e ∷ es → at ≡ length es →
       ((w : List ℕ) → index_of m' w ≡ update bytes_eq (index_of m) e.word.now (Some at) w) → IsIndexed m' es'
   put_indexed m m' e es es' at indexed hidden grown last updated = subst (λ xs. IsIndexed m' xs) (sym grown) (record {
     latest_of = λ w.
@@ -46,53 +49,64 @@ module _ {S T : Type 0} where
     linked = (hidden, indexed.linked);
   })
 
-  pub has_index : (m : HashMap (Bor (List ℕ)) ℕ S) (e : Entry T) (es es' : List (Entry T)) → IsIndexed m es' → es' ≡ e ∷ es → IsSome (index_of m e.word.now)
+  pub has_index : (m : HashMap (Bor (List ℕ)) ℕ S) (e : Entry T) (es es' : List (Entry T)) → IsIndexed m es' → es' ≡ e
+      ∷ es → IsSome (index_of m e.word.now)
   has_index m e es es' indexed is =
       let has : index_of m e.word.now ≡ Some (length es) =
       indexed.latest_of e.word.now ∙ ap (λ xs. latest xs e.word.now) is ∙
       ap (λ b. cond b (Some (length es)) (latest es e.word.now)) ((bytes_eq-Decides e.word.now e.word.now).1 refl) in
       subst IsSome (sym has) (search rules)
 
-  pub cut_indexed : (m m' : HashMap (Bor (List ℕ)) ℕ S) (e : Entry T) (es es' : List (Entry T)) → IsIndexed m es' → es' ≡ e ∷ es →
+  pub cut_indexed : (m m' : HashMap (Bor (List ℕ)) ℕ S) (e : Entry T) (es es' : List (Entry T)) → IsIndexed m es'
+      → es' ≡ e ∷ es →
       ((w : List ℕ) → index_of m' w ≡ update bytes_eq (index_of m) e.word.now e.hidden w) → IsIndexed m' es
   cut_indexed m m' e es es' indexed is updated =
       let linked : IsLinked (e ∷ es) = subst IsLinked is indexed.linked in
       record {
         latest_of = λ w.
-            updated w ∙ ap (λ o. cond (bytes_eq e.word.now w) e.hidden o) (indexed.latest_of w ∙ ap (λ xs. latest xs w) is) ∙
+            updated w ∙ ap (λ o. cond (bytes_eq e.word.now w) e.hidden o)
+            (indexed.latest_of w ∙ ap (λ xs. latest xs w) is) ∙
             restored e es w linked.0;
         linked = linked.1;
       }
 
-  pub has_place : (m : HashMap (Bor (List ℕ)) ℕ S) (items : List (Entry T)) (w : List ℕ) (i : ℕ) → IsIndexed m (reverse items) → index_of m w ≡ Some i → i < length items
+  pub has_place : (m : HashMap (Bor (List ℕ)) ℕ S) (items : List (Entry T)) (w : List ℕ) (i : ℕ)
+      → IsIndexed m (reverse items) → index_of m w ≡ Some i → i < length items
   has_place m items w i indexed is =
       let lt : i < length (reverse items) = latest_bound (reverse items) w i (sym (indexed.latest_of w) ∙ is) in
       omega (arith, length-reverse items)
 
-  pub latest_read : (m : HashMap (Bor (List ℕ)) ℕ S) (items : List (Entry T)) (w : List ℕ) (i : ℕ) (e : Entry T) → IsIndexed m (reverse items) → index_of m w ≡ Some i →
+  pub latest_read : (m : HashMap (Bor (List ℕ)) ℕ S) (items : List (Entry T)) (w : List ℕ) (i : ℕ) (e : Entry T)
+      → IsIndexed m (reverse items) → index_of m w ≡ Some i →
       e ≡ get_or items i e → latest_entry (reverse items) w ≡ Some e
   latest_read m items w i e indexed is read =
       at_latest (reverse items) w i e (sym (indexed.latest_of w) ∙ is) ∙
       ap (λ x. Some x) (ap (λ xs. get_or xs i e) (reverse-reverse items) ∙ sym read)
 
   -- a word that the map doesn't have is declared by no open block
-  pub found_none : (n : ℕ) (m : HashMap (Bor (List ℕ)) ℕ S) (es : List (Entry T)) (stack : List (List (List ℕ × T))) (w : List ℕ) → IsTable n m es → blocks n es ≡ stack →
+  pub found_none : (n : ℕ) (m : HashMap (Bor (List ℕ)) ℕ S) (es : List (Entry T)) (stack : List (List (List ℕ × T)))
+      (w : List ℕ) → IsTable n m es → blocks n es ≡ stack →
       index_of m w ≡ None → found_in 0 (blocks_of stack) w ≡ None
   found_none n m es stack w table view none =
       ap (λ s. found_in 0 (blocks_of s) w) (sym view) ∙ found_is n es w table.nested ∙
-      ap (option_map (λ e. found_at (n - (e.level + 1)) e.meaning)) (none_latest es w (sym (table.indexed.latest_of w) ∙ none))
+      ap (option_map (λ e. found_at (n - (e.level + 1)) e.meaning))
+      (none_latest es w (sym (table.indexed.latest_of w) ∙ none))
 
   -- and one that it has is found as it is declared at that index
-  pub found_some : (n : ℕ) (m : HashMap (Bor (List ℕ)) ℕ S) (items : List (Entry T)) (stack : List (List (List ℕ × T))) (w : List ℕ) (i : ℕ) (e : Entry T) → IsTable n m (reverse items) →
-      blocks n (reverse items) ≡ stack → index_of m w ≡ Some i → e ≡ get_or items i e → found_in 0 (blocks_of stack) w ≡ Some (found_at (n - (e.level + 1)) e.meaning)
+  pub found_some : (n : ℕ) (m : HashMap (Bor (List ℕ)) ℕ S) (items : List (Entry T)) (stack : List (List (List ℕ × T)))
+      (w : List ℕ) (i : ℕ) (e : Entry T) → IsTable n m (reverse items) →
+      blocks n (reverse items) ≡ stack → index_of m w ≡ Some i → e ≡ get_or items i e
+      → found_in 0 (blocks_of stack) w ≡ Some (found_at (n - (e.level + 1)) e.meaning)
   found_some n m items stack w i e table view is read =
       ap (λ s. found_in 0 (blocks_of s) w) (sym view) ∙ found_is n (reverse items) w table.nested ∙
       ap (option_map (λ e. found_at (n - (e.level + 1)) e.meaning)) (latest_read m items w i e table.indexed is read)
 
   -- it is of an open block
-  pub level_below : (n : ℕ) (m : HashMap (Bor (List ℕ)) ℕ S) (items : List (Entry T)) (w : List ℕ) (i : ℕ) (e : Entry T) → IsTable n m (reverse items) →
+  pub level_below : (n : ℕ) (m : HashMap (Bor (List ℕ)) ℕ S) (items : List (Entry T)) (w : List ℕ) (i : ℕ) (e : Entry T)
+      → IsTable n m (reverse items) →
       index_of m w ≡ Some i → e ≡ get_or items i e → e.level < n
-  level_below n m items w i e table is read = nested_level n (reverse items) w e table.nested (latest_read m items w i e table.indexed is read)
+  level_below n m items w i e table is read =
+      nested_level n (reverse items) w e table.nested (latest_read m items w i e table.indexed is read)
 
 -- what a call says, where it can't have failed
 pub unless_absent : {X Y A P : Type 0} (r : Result X Y) (o : Option A) → OnOk r P → OnErr r (o ≡ None) → IsSome o → P

@@ -20,7 +20,8 @@ first_before i x b = find (λ d. bytes_eq (d.name.word) x) (declarations_before 
 abbrev pub home_around : Block → Path → List ℕ → Option Home
 home_around main [] x = None
 home_around main (i ∷ q) x =
-    or_else (option_map (λ d. record { path = q; declaration = d }) (option_and_then (first_before (i + 1) x) (block_at main q))) (home_around main q x)
+    or_else (option_map (λ d. record { path = q; declaration = d })
+    (option_and_then (first_before (i + 1) x) (block_at main q))) (home_around main q x)
 
 -- the home of a word, by what the block at a path declares and what is declared before that block
 abbrev pub home_before : Block → Path → List ℕ → Option Home
@@ -28,5 +29,6 @@ home_before main q x = or_else (declared_here main q x) (home_around main q x)
 
 -- that is the home of each word that is used: no use stands before its declaration
 abbrev pub AreDeclaredBefore : Block → Type 0
-AreDeclaredBefore main = (q : Path) (b : Block) (i : ℕ) (u : Use) → block_at main q ≡ Some b → slice_get (body_uses b) i ≡ Some u →
+AreDeclaredBefore main =
+    (q : Path) (b : Block) (i : ℕ) (u : Use) → block_at main q ≡ Some b → slice_get (body_uses b) i ≡ Some u →
     home_before main q u.name.word ≡ home main q u.name.word

@@ -1,5 +1,5 @@
 -- What a word means in a block, as the code returns it.
-use Rattle.std.specs.Prelude.{◌≡◌, ℕ, ◌+◌, length, Option, Some, None}
+use Rattle.std.specs.Prelude.{◌≡◌, ◌+◌, length, Option, Some, None}
 use Rattle.pl0_tree.specs.Plain.{plain_block}
 use Rattle.pl0_tree.specs.Scope.{Path, block_at, Meaning, AConstant, AVariable, AProcedure, Home}
 use Rattle.pl0_tree.specs.Tree.{Block}
@@ -18,5 +18,6 @@ meaning_of (kept.Procedure i) = AProcedure i
 abbrev pub IsHomeAnswer : Block → Path → Option Home → Option Answer → Type 0
 IsHomeAnswer main q None None = Unit {0}
 IsHomeAnswer main q (Some h) (Some a) =
-    (block_at main h.path ≡ Some (plain_block a.block.now)) × (a.level + length h.path ≡ length q) × (meaning_of a.meaning ≡ h.declaration.meaning)
+    (block_at main h.path ≡ Some (plain_block a.block.now)) × (a.level + length h.path ≡ length q)
+    × (meaning_of a.meaning ≡ h.declaration.meaning)
 IsHomeAnswer main q _ _ = ⊥

@@ -25,17 +25,22 @@ stays_le (suc k) (b ∷ bytes) stays = let more = stays_le k bytes stays.1 in om
 not_ten : (b : ℕ) (p : Place) → (b ≡ 10 → ⊥) → behind p b ≡ along p 1
 not_ten b p other = let no : eqb b 10 ≡ false = grind (arith, nat_tests) in cond-false (eqb b 10) _ _ no
 
-pub skip : (k : ℕ) (p : Place) (bytes : List ℕ) → StaysOnLine k bytes → tokens_from p k bytes ≡ tokens_from (along p k) 0 (drop k bytes)
+pub skip : (k : ℕ) (p : Place) (bytes : List ℕ) → StaysOnLine k bytes
+    → tokens_from p k bytes ≡ tokens_from (along p k) 0 (drop k bytes)
 skip zero p bytes stays = ap (λ c. tokens_from (record { line = p.line; column = c }) 0 bytes) (sym (add-zero p.column))
 skip (suc k) p [] stays = absurd stays
 skip (suc k) p (b ∷ bytes) stays =
     ap (λ q. tokens_from q k bytes) (not_ten b p stays.0) ∙ skip k (along p 1) bytes stays.1 ∙
-    ap (λ c. tokens_from (record { line = p.line; column = c }) 0 (drop k bytes)) (let same : p.column + 1 + k ≡ p.column + suc k = omega arith in same)
+    ap (λ c. tokens_from (record { line = p.line; column = c }) 0 (drop k bytes))
+    (let same : p.column + 1 + k ≡ p.column + suc k = omega arith in same)
 
-pub past_space : (p : Place) (b : ℕ) (bytes : List ℕ) → is_space b ≡ true → tokens_from p 0 (b ∷ bytes) ≡ tokens_from (behind p b) 0 bytes
+pub past_space : (p : Place) (b : ℕ) (bytes : List ℕ) → is_space b ≡ true
+    → tokens_from p 0 (b ∷ bytes) ≡ tokens_from (behind p b) 0 bytes
 past_space p b bytes space = cond-true (is_space b) _ _ space
 
-pub past_token : (p : Place) (b : ℕ) (bytes : List ℕ) (s : Seen) (size : ℕ) → is_space b ≡ false → IsPiece (b ∷ bytes) s size → tokens_from p 0 (b ∷ bytes) ≡ at (symbol_of s) p ∷ tokens_from (along p size) 0 (drop size (b ∷ bytes))
+pub past_token : (p : Place) (b : ℕ) (bytes : List ℕ) (s : Seen) (size : ℕ) → is_space b ≡ false
+    → IsPiece (b ∷ bytes) s size → tokens_from p 0 (b ∷ bytes) ≡ at (symbol_of s) p
+    ∷ tokens_from (along p size) 0 (drop size (b ∷ bytes))
 past_token p b bytes s zero visible (same, size_is, positive, stays) = absurd (omega arith)
 past_token p b bytes s (suc k) visible (same, size_is, positive, stays) =
     let rest : pred (front_piece b (b ∷ bytes)).1 ≡ k = ap pred (sym size_is) in
@@ -45,7 +50,8 @@ past_token p b bytes s (suc k) visible (same, size_is, positive, stays) =
     ap (λ ts. at (symbol_of s) p ∷ ts) (skip (suc k) p (b ∷ bytes) stays)
 
 -- a piece at the front is the first token
-pub front_is : (bytes : List ℕ) (s : Seen) (size : ℕ) → is_space (get_or bytes 0 0) ≡ false → IsPiece bytes s size → IsFront bytes s size
+pub front_is : (bytes : List ℕ) (s : Seen) (size : ℕ) → is_space (get_or bytes 0 0) ≡ false → IsPiece bytes s size
+    → IsFront bytes s size
 front_is [] s size visible piece = absurd piece
 front_is (b ∷ bytes) s size visible piece = record {
   some = piece.2;
@@ -60,27 +66,37 @@ while_at true n x xs = let same : 1 + n ≡ suc n = omega arith in ap (λ k. tak
 while_at false n x xs = refl
 
 -- one byte of a run
-while_cons : (test : ℕ → Bool) (x : ℕ) (xs : List ℕ) → take_while test (x ∷ xs) ≡ cond (test x) (x ∷ take_while test xs) []
+while_cons : (test : ℕ → Bool) (x : ℕ) (xs : List ℕ) → take_while test (x ∷ xs) ≡ cond (test x) (x ∷ take_while test xs)
+    []
 while_cons test x xs = while_at (test x) (prefix_len test xs) x xs
 
-take_run_at : (v : Bool) (x : ℕ) (xs run : List ℕ) → take (length run) xs ≡ run → take (length (cond v (x ∷ run) [])) (x ∷ xs) ≡ cond v (x ∷ run) []
+take_run_at : (v : Bool) (x : ℕ) (xs run : List ℕ) → take (length run) xs ≡ run
+    → take (length (cond v (x ∷ run) [])) (x ∷ xs) ≡ cond v (x ∷ run) []
 take_run_at true x xs run is = ap (λ ys. x ∷ ys) is
 take_run_at false x xs run is = refl
 
 pub take_run : (test : ℕ → Bool) (xs : List ℕ) → take (length (take_while test xs)) xs ≡ take_while test xs
 take_run test [] = refl
-take_run test (x ∷ xs) = subst (λ ys. take (length ys) (x ∷ xs) ≡ ys) (sym (while_cons test x xs)) (take_run_at (test x) x xs (take_while test xs) (take_run test xs))
+take_run test (x ∷ xs) =
+    subst (λ ys. take (length ys) (x ∷ xs) ≡ ys) (sym (while_cons test x xs))
+    (take_run_at (test x) x xs (take_while test xs) (take_run test xs))
 
-stays_at : (v : Bool) (x : ℕ) (xs run : List ℕ) → (v ≡ true → x ≡ 10 → ⊥) → StaysOnLine (length run) xs → StaysOnLine (length (cond v (x ∷ run) [])) (x ∷ xs)
+stays_at : (v : Bool) (x : ℕ) (xs run : List ℕ) → (v ≡ true → x ≡ 10 → ⊥) → StaysOnLine (length run) xs
+    → StaysOnLine (length (cond v (x ∷ run) [])) (x ∷ xs)
 stays_at true x xs run visible stays = (visible refl, stays)
 stays_at false x xs run visible stays = tt
 
-run_stays : (test : ℕ → Bool) → ((b : ℕ) → test b ≡ true → b ≡ 10 → ⊥) → (xs : List ℕ) → StaysOnLine (length (take_while test xs)) xs
+run_stays : (test : ℕ → Bool) → ((b : ℕ) → test b ≡ true → b ≡ 10 → ⊥) → (xs : List ℕ)
+    → StaysOnLine (length (take_while test xs)) xs
 run_stays test visible [] = tt
-run_stays test visible (x ∷ xs) = subst (λ ys. StaysOnLine (length ys) (x ∷ xs)) (sym (while_cons test x xs)) (stays_at (test x) x xs (take_while test xs) (visible x) (run_stays test visible xs))
+run_stays test visible (x ∷ xs) =
+    subst (λ ys. StaysOnLine (length ys) (x ∷ xs)) (sym (while_cons test x xs))
+    (stays_at (test x) x xs (take_while test xs) (visible x) (run_stays test visible xs))
 
 run_some : (test : ℕ → Bool) (x : ℕ) (xs : List ℕ) → test x ≡ true → 0 < length (take_while test (x ∷ xs))
-run_some test x xs passes = subst (λ ys. 0 < length ys) (sym (while_cons test x xs)) (subst (λ v. 0 < length (cond v (x ∷ take_while test xs) [])) (sym passes) (omega arith))
+run_some test x xs passes =
+    subst (λ ys. 0 < length ys) (sym (while_cons test x xs))
+    (subst (λ v. 0 < length (cond v (x ∷ take_while test xs) [])) (sym passes) (omega arith))
 
 word_visible : (b : ℕ) → is_word_byte b ≡ true → b ≡ 10 → ⊥
 word_visible b passes same = let other = ap is_word_byte same in cc
@@ -95,30 +111,40 @@ low b small = grind (arith, nat_tests)
 run_piece : (b : ℕ) (bytes : List ℕ) (s : Seen) (size : ℕ) (test : ℕ → Bool) (symbol : List ℕ → Symbol) →
     ((c : ℕ) → test c ≡ true → c ≡ 10 → ⊥) → test b ≡ true →
     front_piece b (b ∷ bytes) ≡ (symbol (take_while test (b ∷ bytes)), length (take_while test (b ∷ bytes))) →
-    size ≡ length (take_while test (b ∷ bytes)) → symbol_of s ≡ symbol (take size (b ∷ bytes)) → IsPiece (b ∷ bytes) s size
+    size ≡ length (take_while test (b ∷ bytes)) → symbol_of s ≡ symbol (take size (b ∷ bytes))
+    → IsPiece (b ∷ bytes) s size
 run_piece b bytes s size test symbol visible passes piece size_is same = (
-  same ∙ ap symbol (ap (λ n. take n (b ∷ bytes)) size_is ∙ take_run test (b ∷ bytes)) ∙ sym (ap (λ (x : Symbol × ℕ). x.0) piece),
+  same ∙ ap symbol (ap (λ n. take n (b ∷ bytes)) size_is ∙ take_run test (b ∷ bytes))
+      ∙ sym (ap (λ (x : Symbol × ℕ). x.0) piece),
   size_is ∙ sym (ap (λ (x : Symbol × ℕ). x.1) piece),
   subst (λ n. 0 < n) (sym size_is) (run_some test b bytes passes),
   subst (λ n. StaysOnLine n (b ∷ bytes)) (sym size_is) (run_stays test visible (b ∷ bytes)),
 )
 
-pub word_front : (bytes : List ℕ) (s : Seen) (size : ℕ) → 0 < length bytes → is_space (get_or bytes 0 0) ≡ false → get_or bytes 0 0 < 128 → is_ascii_alphabetic (get_or bytes 0 0) ≡ true → size ≡ length (take_while is_word_byte bytes) → symbol_of s ≡ word_symbol (take size bytes) → IsFront bytes s size
+pub word_front : (bytes : List ℕ) (s : Seen) (size : ℕ) → 0 < length bytes → is_space (get_or bytes 0 0) ≡ false
+    → get_or bytes 0 0 < 128 → is_ascii_alphabetic (get_or bytes 0 0) ≡ true
+    → size ≡ length (take_while is_word_byte bytes) → symbol_of s ≡ word_symbol (take size bytes) → IsFront bytes s size
 word_front [] s size some visible small letter size_is same = absurd (omega arith)
 word_front (b ∷ bytes) s size some visible small letter size_is same =
     front_is (b ∷ bytes) s size visible
     (run_piece b bytes s size is_word_byte word_symbol word_visible (ap (λ v. v || is_ascii_digit b) letter)
     (cond-false (nat_le 128 b) _ _ (low b small) ∙ cond-true (is_ascii_alphabetic b) _ _ letter) size_is same)
 
-pub number_front : (bytes : List ℕ) (s : Seen) (size : ℕ) → 0 < length bytes → is_space (get_or bytes 0 0) ≡ false → get_or bytes 0 0 < 128 → is_ascii_alphabetic (get_or bytes 0 0) ≡ false → is_ascii_digit (get_or bytes 0 0) ≡ true → size ≡ length (take_while is_ascii_digit bytes) → symbol_of s ≡ number_symbol (decimal_value (take size bytes)) → IsFront bytes s size
+pub number_front : (bytes : List ℕ) (s : Seen) (size : ℕ) → 0 < length bytes → is_space (get_or bytes 0 0) ≡ false
+    → get_or bytes 0 0 < 128 → is_ascii_alphabetic (get_or bytes 0 0) ≡ false → is_ascii_digit (get_or bytes 0 0) ≡ true
+    → size ≡ length (take_while is_ascii_digit bytes) → symbol_of s ≡ number_symbol (decimal_value (take size bytes))
+    → IsFront bytes s size
 number_front [] s size some visible small letter digit size_is same = absurd (omega arith)
 number_front (b ∷ bytes) s size some visible small letter digit size_is same =
     front_is (b ∷ bytes) s size visible
     (run_piece b bytes s size is_ascii_digit (λ ds. number_symbol (decimal_value ds)) digit_visible digit
-    (cond-false (nat_le 128 b) _ _ (low b small) ∙ cond-false (is_ascii_alphabetic b) _ _ letter ∙ cond-true (is_ascii_digit b) _ _ digit) size_is same)
+    (cond-false (nat_le 128 b) _ _ (low b small) ∙ cond-false (is_ascii_alphabetic b) _ _ letter
+    ∙ cond-true (is_ascii_digit b) _ _ digit) size_is same)
 
 -- each byte of a run passes the test
-run_all_at : (test : ℕ → Bool) (v : Bool) (x : ℕ) (run : List ℕ) → (v ≡ true → test x ≡ true) → ((i : ℕ) → i < length run → test (get_or run i 0) ≡ true) → (i : ℕ) → i < length (cond v (x ∷ run) []) → test (get_or (cond v (x ∷ run) []) i 0) ≡ true
+run_all_at : (test : ℕ → Bool) (v : Bool) (x : ℕ) (run : List ℕ) → (v ≡ true → test x ≡ true)
+    → ((i : ℕ) → i < length run → test (get_or run i 0) ≡ true) → (i : ℕ) → i < length (cond v (x ∷ run) [])
+    → test (get_or (cond v (x ∷ run) []) i 0) ≡ true
 run_all_at test true x run first rest zero inside = first refl
 run_all_at test true x run first rest (suc i) inside = rest i (omega arith)
 run_all_at test false x run first rest i inside = absurd (omega arith)
@@ -126,18 +152,23 @@ run_all_at test false x run first rest i inside = absurd (omega arith)
 nothing_inside : (test : ℕ → Bool) (i : ℕ) → i < 0 → test (get_or [] i 0) ≡ true
 nothing_inside test i inside = absurd (omega arith)
 
-run_all : (test : ℕ → Bool) (xs : List ℕ) (i : ℕ) → i < length (take_while test xs) → test (get_or (take_while test xs) i 0) ≡ true
+run_all : (test : ℕ → Bool) (xs : List ℕ) (i : ℕ) → i < length (take_while test xs)
+    → test (get_or (take_while test xs) i 0) ≡ true
 run_all test [] = nothing_inside test
 run_all test (x ∷ xs) =
     subst (λ ys. (i : ℕ) → i < length ys → test (get_or ys i 0) ≡ true) (sym (while_cons test x xs))
     (run_all_at test (test x) x (take_while test xs) (λ is. is) (run_all test xs))
 
 digit_bounds : (b : ℕ) → is_ascii_digit b ≡ true → (48 ≤ b) × (b < 58)
-digit_bounds b is = let low_end : 48 ≤ b = grind (arith, nat_tests) in let high_end : b < 58 = grind (arith, nat_tests) in (low_end, high_end)
+digit_bounds b is =
+    let low_end : 48 ≤ b = grind (arith, nat_tests) in let high_end : b < 58 = grind (arith, nat_tests) in
+    (low_end, high_end)
 
-pub digits_bounded : (xs : List ℕ) (size : ℕ) → size ≡ length (take_while is_ascii_digit xs) → (i : ℕ) → i < length (take size xs) → (48 ≤ get_or (take size xs) i 0) × (get_or (take size xs) i 0 < 58)
+pub digits_bounded : (xs : List ℕ) (size : ℕ) → size ≡ length (take_while is_ascii_digit xs) → (i : ℕ)
+    → i < length (take size xs) → (48 ≤ get_or (take size xs) i 0) × (get_or (take size xs) i 0 < 58)
 digits_bounded xs size is =
-    subst (λ ys. (i : ℕ) → i < length ys → (48 ≤ get_or ys i 0) × (get_or ys i 0 < 58)) (sym (ap (λ n. take n xs) is ∙ take_run is_ascii_digit xs))
+    subst (λ ys. (i : ℕ) → i < length ys → (48 ≤ get_or ys i 0) × (get_or ys i 0 < 58))
+    (sym (ap (λ n. take n xs) is ∙ take_run is_ascii_digit xs))
     (λ i inside. digit_bounds (get_or (take_while is_ascii_digit xs) i 0) (run_all is_ascii_digit xs i inside))
 
 word_small : (b : ℕ) → is_word_byte b ≡ true → b < 128
@@ -163,7 +194,8 @@ grows : (n : ℕ) (xs : List ℕ) → n ≤ fold with_digit n xs
 grows n [] = omega arith
 grows n (x ∷ xs) = let more = grows (with_digit n x) xs in omega arith
 
-large_from : (limit n i : ℕ) (xs : List ℕ) → i < length xs → limit ≤ 10 * fold with_digit n (take i xs) + (get_or xs i 0 - 48) → limit ≤ fold with_digit n xs
+large_from : (limit n i : ℕ) (xs : List ℕ) → i < length xs → limit ≤ 10 * fold with_digit n
+    (take i xs) + (get_or xs i 0 - 48) → limit ≤ fold with_digit n xs
 large_from limit n i [] inside large = absurd (omega arith)
 large_from limit n zero (x ∷ xs) inside large = let more = grows (with_digit n x) xs in omega arith
 large_from limit n (suc i) (x ∷ xs) inside large = large_from limit (with_digit n x) i xs (omega arith) large
@@ -171,7 +203,8 @@ large_from limit n (suc i) (x ∷ xs) inside large = large_from limit (with_digi
 below : (a b : ℕ) → b ≤ a → nat_lt a b ≡ false
 below a b le = grind (arith, nat_tests)
 
-pub too_large : (xs : List ℕ) (i : ℕ) → i < length xs → 2 ^ 63 ≤ 10 * decimal_value (take i xs) + (get_or xs i 0 - 48) → Faulty NumberTooLarge ≡ number_symbol (decimal_value xs)
+pub too_large : (xs : List ℕ) (i : ℕ) → i < length xs → 2 ^ 63 ≤ 10 * decimal_value (take i xs) + (get_or xs i 0 - 48)
+    → Faulty NumberTooLarge ≡ number_symbol (decimal_value xs)
 too_large xs i inside large =
     let all : 2 ^ 63 ≤ decimal_value xs = large_from (2 ^ 63) 0 i xs inside large in
     let no : nat_lt (decimal_value xs) (2 ^ 63) ≡ false = below (decimal_value xs) (2 ^ 63) all in
@@ -217,25 +250,35 @@ all_visible (entry ∷ entries) = is_visible entry.0 && all_visible entries
 abbrev pub FitsOnLine : List ℕ → ℕ → Type 0
 FitsOnLine xs size = (0 < size) × StaysOnLine size xs
 
-found_at : (v : Bool) (xs : List ℕ) (entry : List ℕ × Mark) (later : Option (List ℕ × Mark)) → is_visible entry.0 ≡ true → starts_with nat_eq xs entry.0 ≡ v → FitsOnLine xs (sign_piece later).1 → FitsOnLine xs (sign_piece (cond v (Some entry) later)).1
-found_at true xs entry later visible begins rest = (visible_some entry.0 visible, begins_stays entry.0 xs visible begins)
+found_at : (v : Bool) (xs : List ℕ) (entry : List ℕ × Mark) (later : Option (List ℕ × Mark)) → is_visible entry.0 ≡ true
+    → starts_with nat_eq xs entry.0 ≡ v → FitsOnLine xs (sign_piece later).1
+    → FitsOnLine xs (sign_piece (cond v (Some entry) later)).1
+found_at true xs entry later visible begins rest =
+    (visible_some entry.0 visible, begins_stays entry.0 xs visible begins)
 found_at false xs entry later visible begins rest = rest
 
-sign_fits : (entries : List (List ℕ × Mark)) (xs : List ℕ) → all_visible entries ≡ true → FitsOnLine xs 1 → FitsOnLine xs (sign_piece (find (λ entry. starts_with nat_eq xs entry.0) entries)).1
+sign_fits : (entries : List (List ℕ × Mark)) (xs : List ℕ) → all_visible entries ≡ true → FitsOnLine xs 1
+    → FitsOnLine xs (sign_piece (find (λ entry. starts_with nat_eq xs entry.0) entries)).1
 sign_fits [] xs visible one = one
 sign_fits (entry ∷ entries) xs visible one =
     let (head, tail) = both (is_visible entry.0) (all_visible entries) visible in
-    found_at (starts_with nat_eq xs entry.0) xs entry (find (λ e. starts_with nat_eq xs e.0) entries) head refl (sign_fits entries xs tail one)
+    found_at (starts_with nat_eq xs entry.0) xs entry (find (λ e. starts_with nat_eq xs e.0) entries) head refl
+    (sign_fits entries xs tail one)
 
 space_visible : (b : ℕ) → is_space b ≡ false → b ≡ 10 → ⊥
 space_visible b visible same = let other = ap is_space same in cc
 
-pub sign_front : (bytes : List ℕ) (s : Seen) (size : ℕ) → 0 < length bytes → is_space (get_or bytes 0 0) ≡ false → get_or bytes 0 0 < 128 → is_ascii_alphabetic (get_or bytes 0 0) ≡ false → is_ascii_digit (get_or bytes 0 0) ≡ false → IsSign bytes s size → IsFront bytes s size
+pub sign_front : (bytes : List ℕ) (s : Seen) (size : ℕ) → 0 < length bytes → is_space (get_or bytes 0 0) ≡ false
+    → get_or bytes 0 0 < 128 → is_ascii_alphabetic (get_or bytes 0 0) ≡ false
+    → is_ascii_digit (get_or bytes 0 0) ≡ false → IsSign bytes s size → IsFront bytes s size
 sign_front [] s size some visible small letter digit sign = absurd (omega arith)
 sign_front (b ∷ bytes) s size some visible small letter digit (same, size_is) =
     let piece : front_piece b (b ∷ bytes) ≡ sign_piece (find (λ entry. starts_with nat_eq (b ∷ bytes) entry.0) signs) =
-    cond-false (nat_le 128 b) _ _ (low b small) ∙ cond-false (is_ascii_alphabetic b) _ _ letter ∙ cond-false (is_ascii_digit b) _ _ digit in
-    let fits : FitsOnLine (b ∷ bytes) size = subst (FitsOnLine (b ∷ bytes)) (sym size_is) (sign_fits signs (b ∷ bytes) refl (lit< tt, (space_visible b visible, tt))) in
+    cond-false (nat_le 128 b) _ _ (low b small) ∙ cond-false (is_ascii_alphabetic b) _ _ letter
+    ∙ cond-false (is_ascii_digit b) _ _ digit in
+    let fits : FitsOnLine (b ∷ bytes) size =
+    subst (FitsOnLine (b ∷ bytes)) (sym size_is)
+    (sign_fits signs (b ∷ bytes) refl (lit< tt, (space_visible b visible, tt))) in
     front_is (b ∷ bytes) s size visible (
       same ∙ sym (ap (λ (x : Symbol × ℕ). x.0) piece),
       size_is ∙ sym (ap (λ (x : Symbol × ℕ). x.1) piece),

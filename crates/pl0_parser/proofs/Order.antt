@@ -17,7 +17,8 @@ before_trans p q r (inl a) (inr b) = inl (omega (arith, b.0))
 before_trans p q r (inr a) (inl b) = inl (omega (arith, a.0))
 before_trans p q r (inr a) (inr b) = inr (omega (arith, a.0, b.0), omega (arith, a.1, b.1))
 
-behind_at : (p : Place) (b : ℕ) (v : Bool) → IsBefore p (cond v (record { line = p.line + 1; column = 1 }) (record { line = p.line; column = p.column + 1 }))
+behind_at : (p : Place) (b : ℕ) (v : Bool) → IsBefore p
+    (cond v (record { line = p.line + 1; column = 1 }) (record { line = p.line; column = p.column + 1 }))
 behind_at p b true = inl (omega arith)
 behind_at p b false = inr (refl, omega arith)
 
@@ -27,7 +28,8 @@ before_behind p b = behind_at p b (eqb b 10)
 
 abbrev next_tokens : Bool → Place → ℕ → List ℕ → List Token
 next_tokens space p b bytes = cond space (tokens_from (behind p b) zero bytes)
-    (record { symbol = (front_piece b (b ∷ bytes)).0; place = p } ∷ tokens_from (behind p b) (pred (front_piece b (b ∷ bytes)).1) bytes)
+    (record { symbol = (front_piece b (b ∷ bytes)).0; place = p }
+    ∷ tokens_from (behind p b) (pred (front_piece b (b ∷ bytes)).1) bytes)
 
 ascend_at : (space : Bool) (p q : Place) (b : ℕ) (bytes : List ℕ) → IsBefore q p →
     ((taken : ℕ) (r : Place) → IsBefore r (behind p b) → AscendBehind r (tokens_from (behind p b) taken bytes)) →
@@ -35,9 +37,11 @@ ascend_at : (space : Bool) (p q : Place) (b : ℕ) (bytes : List ℕ) → IsBefo
 ascend_at true p q b bytes before rest = rest zero q (before_trans q p (behind p b) before (before_behind p b))
 ascend_at false p q b bytes before rest = (before, rest (pred (front_piece b (b ∷ bytes)).1) p (before_behind p b))
 
-tokens_ascend : (bytes : List ℕ) (p : Place) (taken : ℕ) (q : Place) → IsBefore q p → AscendBehind q (tokens_from p taken bytes)
+tokens_ascend : (bytes : List ℕ) (p : Place) (taken : ℕ) (q : Place) → IsBefore q p
+    → AscendBehind q (tokens_from p taken bytes)
 tokens_ascend [] p taken q before = (before, tt)
-tokens_ascend (b ∷ bytes) p (suc taken) q before = tokens_ascend bytes (behind p b) taken q (before_trans q p (behind p b) before (before_behind p b))
+tokens_ascend (b ∷ bytes) p (suc taken) q before =
+    tokens_ascend bytes (behind p b) taken q (before_trans q p (behind p b) before (before_behind p b))
 tokens_ascend (b ∷ bytes) p zero q before = ascend_at (is_space b) p q b bytes before (tokens_ascend bytes (behind p b))
 
 some_same : (p q : Place) → Some p ≡ Some q → p ≡ q
@@ -50,7 +54,8 @@ places ts = map (λ t. t.place) ts
 none_there : {q : Place} → None ≡ Some q → ⊥
 none_there is = cc
 
-each_behind : (ts : List Token) (p q : Place) (j : ℕ) → AscendBehind p ts → slice_get (places ts) j ≡ Some q → IsBefore p q
+each_behind : (ts : List Token) (p q : Place) (j : ℕ) → AscendBehind p ts → slice_get (places ts) j ≡ Some q
+    → IsBefore p q
 each_behind [] p q j ascend is = absurd (none_there is)
 each_behind (t ∷ ts) p q zero ascend is = subst (λ r. IsBefore p r) (some_same t.place q is) ascend.0
 each_behind (t ∷ ts) p q (suc j) ascend is = before_trans p t.place q ascend.0 (each_behind ts t.place q j ascend.1 is)
@@ -58,13 +63,18 @@ each_behind (t ∷ ts) p q (suc j) ascend is = before_trans p t.place q ascend.0
 in_order : (ts : List Token) (p : Place) → AscendBehind p ts → Ascend (places ts)
 in_order [] p ascend i j q r less first second = absurd (none_there second)
 in_order (t ∷ ts) p ascend i zero q r less first second = absurd (omega arith)
-in_order (t ∷ ts) p ascend zero (suc j) q r less first second = subst (λ x. IsBefore x r) (some_same t.place q first) (each_behind ts t.place r j ascend.1 second)
-in_order (t ∷ ts) p ascend (suc i) (suc j) q r less first second = in_order ts t.place ascend.1 i j q r (omega arith) first second
+in_order (t ∷ ts) p ascend zero (suc j) q r less first second =
+    subst (λ x. IsBefore x r) (some_same t.place q first) (each_behind ts t.place r j ascend.1 second)
+in_order (t ∷ ts) p ascend (suc i) (suc j) q r less first second =
+    in_order ts t.place ascend.1 i j q r (omega arith) first second
 
 pub tokens_in_order : (text : List ℕ) → Ascend (places (tokens_of text))
-tokens_in_order text = in_order (tokens_of text) (record { line = 0; column = 0 }) (tokens_ascend text start 0 (record { line = 0; column = 0 }) (inl (lit< tt)))
+tokens_in_order text =
+    in_order (tokens_of text) (record { line = 0; column = 0 })
+    (tokens_ascend text start 0 (record { line = 0; column = 0 }) (inl (lit< tt)))
 
-few_at : (space : Bool) (p : Place) (b : ℕ) (bytes : List ℕ) → ((taken : ℕ) → length (tokens_from (behind p b) taken bytes) ≤ length bytes + 1) →
+few_at : (space : Bool) (p : Place) (b : ℕ)
+    (bytes : List ℕ) → ((taken : ℕ) → length (tokens_from (behind p b) taken bytes) ≤ length bytes + 1) →
     length (next_tokens space p b bytes) ≤ length (b ∷ bytes) + 1
 few_at true p b bytes rest = let less = rest zero in omega (arith, less)
 few_at false p b bytes rest = let less = rest (pred (front_piece b (b ∷ bytes)).1) in omega (arith, less)

@@ -26,7 +26,9 @@ pub record IsFront (bytes : List ℕ) (s : Seen) (size : ℕ) : Type 0 where
 -- the piece at the front of bytes by the table of symbols, on one line
 abbrev pub IsPiece : List ℕ → Seen → ℕ → Type 0
 IsPiece [] s size = ⊥
-IsPiece (b ∷ bytes) s size = (symbol_of s ≡ (front_piece b (b ∷ bytes)).0) × (size ≡ (front_piece b (b ∷ bytes)).1) × (0 < size) × StaysOnLine size (b ∷ bytes)
+IsPiece (b ∷ bytes) s size =
+    (symbol_of s ≡ (front_piece b (b ∷ bytes)).0) × (size ≡ (front_piece b (b ∷ bytes)).1) × (0 < size)
+    × StaysOnLine size (b ∷ bytes)
 
 -- the sign at the front of bytes, or what begins no token
 abbrev pub IsSign : List ℕ → Seen → ℕ → Type 0

@@ -76,10 +76,14 @@ second_of _ = Empty
 
 abbrev block_from : Procedures → Statement → Block
 block_from ps s =
-    ABlock (constants_of (first_of s)) (names_of (first_of (second_of s))) ps (first_of (second_of (second_of s))) (place_of (second_of (second_of (second_of s))))
+    ABlock (constants_of (first_of s)) (names_of (first_of (second_of s))) ps (first_of (second_of (second_of s)))
+    (place_of (second_of (second_of (second_of s))))
 
-head_back : (ps : Procedures) (cs : List Constant) (xs : List Name) (s : Statement) (p : Place) → block_from ps (head_as cs xs s p) ≡ ABlock cs xs ps s p
-head_back ps cs xs s p = ap (λ c. ABlock c (names_of (names_as xs)) ps s p) (constants_back cs) ∙ ap (λ x. ABlock cs x ps s p) (names_back xs)
+head_back : (ps : Procedures) (cs : List Constant) (xs : List Name) (s : Statement) (p : Place)
+    → block_from ps (head_as cs xs s p) ≡ ABlock cs xs ps s p
+head_back ps cs xs s p =
+    ap (λ c. ABlock c (names_of (names_as xs)) ps s p) (constants_back cs)
+    ∙ ap (λ x. ABlock cs x ps s p) (names_back xs)
 
 abbrev mutual
   block_as : Block → Statement
@@ -103,17 +107,26 @@ abbrev nothing_said : Said
 nothing_said = record { block = ABlock [] [] NoMore Empty nowhere; procedures = NoMore; name = nobody }
 
 abbrev said : Statement → Said
-said (Then s t) = record { block = block_from (said s).procedures t; procedures = AProcedure (said s).name (said s).block (said t).procedures; name = nobody }
+said (Then s t) =
+    record {
+      block = block_from (said s).procedures t;
+      procedures = AProcedure (said s).name (said s).block
+          (said t).procedures;
+      name = nobody;
+    }
 said (If p c s) = record { block = (said s).block; procedures = NoMore; name = condition_name c }
 said _ = nothing_said
 
 mutual
   block_back : (b : Block) → (said (block_as b)).block ≡ b
-  block_back (ABlock cs xs ps s p) = ap (λ q. block_from q (head_as cs xs s p)) (procedures_back ps) ∙ head_back ps cs xs s p
+  block_back (ABlock cs xs ps s p) =
+      ap (λ q. block_from q (head_as cs xs s p)) (procedures_back ps) ∙ head_back ps cs xs s p
 
   procedures_back : (ps : Procedures) → (said (procedures_as ps)).procedures ≡ ps
   procedures_back NoMore = refl
-  procedures_back (AProcedure x b more) = ap (λ c. AProcedure x c (said (procedures_as more)).procedures) (block_back b) ∙ ap (AProcedure x b) (procedures_back more)
+  procedures_back (AProcedure x b more) =
+      ap (λ c. AProcedure x c (said (procedures_as more)).procedures) (block_back b)
+      ∙ ap (AProcedure x b) (procedures_back more)
 
 abbrev block_of : Statement → Block
 block_of s = (said s).block

@@ -12,4 +12,5 @@ use Rattle.pl0_tree.specs.BlockCode.{block_code}
 pub same_program : (a b : List ℕ) (p q : Block) → a ≡ b → ∥ IsTreeOf a p ∥₁ → ∥ IsTreeOf b q ∥₁ → p ≡ q
 same_program a b p q same first second =
     let alike = Coded-set block_code p q in
-    ∥∥₁_elim first alike (λ x. ∥∥₁_elim second alike (λ y. program_once (subst (λ t. ReadsProgram level_limit (tokens_of t) p) same x.reads) y.reads))
+    ∥∥₁_elim first alike (λ x. ∥∥₁_elim second alike
+    (λ y. program_once (subst (λ t. ReadsProgram level_limit (tokens_of t) p) same x.reads) y.reads))

@@ -13,7 +13,8 @@ returns-then-not-write_all g c =
     let same = c.loop-text.invariant.1 in
     let grew = c.if-not-write_all.ensures.count in
     inr (
-      frames_stop (λ text. text.now) texts i _ _ _ _ c.loop-text-test.true (get_or_default texts i _ _ c.loop-text-test.true) c.loop-text.invariant.0
+      frames_stop (λ text. text.now) texts i _ _ _ _ c.loop-text-test.true
+          (get_or_default texts i _ _ c.loop-text-test.true) c.loop-text.invariant.0
           (rw c.as_bytes.ensures.value at c.if-not-write_all.ensures.written),
       omega (arith, same, grew),
     )
@@ -22,7 +23,8 @@ pub loop-text-preserved : goal.loop-text-preserved
 loop-text-preserved g c =
     let texts = c.args.texts.now in
     let i = c.loop-text.text-index in (
-      frames_go_on (λ text. text.now) texts i _ _ _ _ c.loop-text-test.true (get_or_default texts i _ _ c.loop-text-test.true) c.loop-text.invariant.0
+      frames_go_on (λ text. text.now) texts i _ _ _ _ c.loop-text-test.true
+          (get_or_default texts i _ _ c.loop-text-test.true) c.loop-text.invariant.0
           (rw c.as_bytes.ensures.value at c.if-not-write_all.ensures.written),
       c.if-not-write_all.ensures.count ∙ c.loop-text.invariant.1,
     )
@@ -33,6 +35,7 @@ returns g c =
     let i = c.loop-text.text-index in
     let all = take_all i texts c.loop-text-test.false in
     inl (
-      subst (λ l. Appends (g.O.Sink.written c.args.output.now) (g.O.Sink.written c.loop-text.output) (concat (map (λ text. text.now) l))) all c.loop-text.invariant.0,
+      subst (λ l. Appends (g.O.Sink.written c.args.output.now) (g.O.Sink.written c.loop-text.output)
+          (concat (map (λ text. text.now) l))) all c.loop-text.invariant.0,
       c.loop-text.invariant.1,
     )

@@ -9,8 +9,10 @@ returns-then-bytes-feed-eq13-clause-found c =
     let bytes = c.args.bytes.now in
     let from = c.loop-found.from in
     let at = rw (take_rest bytes from) at c.in-Some.ensures in
-    first_end bytes c.args.judged (from + c.in-Some.found) c.if-judged-feed.true (omega (arith, at.0.high, length-drop from bytes))
-    (no_end_more bytes c.args.judged from c.in-Some.found c.loop-found.invariant.no_end at.0.before) c.if-bytes-feed-eq13.true (feed_at bytes from c.in-Some.found at.1)
+    first_end bytes c.args.judged (from + c.in-Some.found) c.if-judged-feed.true
+    (omega (arith, at.0.high, length-drop from bytes))
+    (no_end_more bytes c.args.judged from c.in-Some.found c.loop-found.invariant.no_end at.0.before)
+    c.if-bytes-feed-eq13.true (feed_at bytes from c.in-Some.found at.1)
 
 pub loop-found-preserved : goal.loop-found-preserved
 loop-found-preserved c =
@@ -27,4 +29,6 @@ loop-found-preserved c =
     }
 
 pub returns-clause-none : goal.returns-clause-none
-returns-clause-none c = no_end_to_end c.args.bytes.now c.args.judged c.loop-found.from c.loop-found.invariant.there c.loop-found.invariant.no_end (rw (take_rest c.args.bytes.now c.loop-found.from) at c.in_default.ensures)
+returns-clause-none c =
+    no_end_to_end c.args.bytes.now c.args.judged c.loop-found.from c.loop-found.invariant.there
+    c.loop-found.invariant.no_end (rw (take_rest c.args.bytes.now c.loop-found.from) at c.in_default.ensures)

@@ -4,8 +4,11 @@ use Rattle.dbg_plan.proofs.ValuesMet.{IsTested, tested_here, holds_told}
 use Rattle.dbg_plan.proofs.evaluation.is_met.Goals as goal
 use Rattle.dbg_plan.proofs.evaluation.is_met.Goals.{After-depth-top}
 
-tests : (c : After-depth-top) → IsTested (program c.args.machine.now) (frames c.args.machine.now) (c.depth-top.result - 1) c.in-Some.condition
-tests c = tested_here c.args.machine.now c.args.breakpoint.now c.in-Some.condition c.depth-top.result c.requires.here c.in-Some.is c.depth-top.ensures.linked c.depth-top.ensures.depth
+tests : (c : After-depth-top) → IsTested (program c.args.machine.now) (frames c.args.machine.now)
+    (c.depth-top.result - 1) c.in-Some.condition
+tests c =
+    tested_here c.args.machine.now c.args.breakpoint.now c.in-Some.condition c.depth-top.result c.requires.here
+    c.in-Some.is c.depth-top.ensures.linked c.depth-top.ensures.depth
 
 pub truth_of-requires : goal.truth_of-requires
 truth_of-requires c = (tests c).0
@@ -13,4 +16,5 @@ truth_of-requires c = (tests c).0
 pub returns-in-Some : goal.returns-in-Some
 returns-in-Some c =
     let t = tests (goal.at.returns-in-Some c).After-depth-top in
-    holds_told c.args.machine.now c.args.breakpoint.now c.in-Some.condition (c.depth-top.result - 1) c.truth_of.result c.unwrap_or.result c.depth-top.ensures.there c.in-Some.is t c.truth_of.ensures c.unwrap_or.ensures
+    holds_told c.args.machine.now c.args.breakpoint.now c.in-Some.condition (c.depth-top.result - 1) c.truth_of.result
+    c.unwrap_or.result c.depth-top.ensures.there c.in-Some.is t c.truth_of.ensures c.unwrap_or.ensures

@@ -4,15 +4,16 @@ use Rattle.pl0_machine.specs.Machine.{frames}
 use Rattle.dbg_plan.specs.Reads.{number_up}
 use Rattle.dbg_plan.proofs.ValuesUp.{turn, turned, variable_there}
 use Rattle.dbg_plan.proofs.evaluation.variable.Goals as goal
-use Rattle.dbg_plan.proofs.evaluation.variable.Goals.{After-loop}
 
 pub static_parent-requires : goal.static_parent-requires
 static_parent-requires c =
-    let t = turn (frames c.args.machine.now) c.args.level c.loop.counter c.args.index c.loop.found c.args.frame c.loop-test.true c.requires c.loop.invariant in t.within
+    let t = turn (frames c.args.machine.now) c.args.level c.loop.counter c.args.index c.loop.found c.args.frame
+    c.loop-test.true c.requires c.loop.invariant in t.within
 
 pub loop-preserved : goal.loop-preserved
 loop-preserved c =
-    turned (frames c.args.machine.now) c.args.level c.loop.counter c.args.index c.loop.found c.in-Some.outer c.args.frame c.loop-test.true c.requires c.loop.invariant c.in-Some.ensures
+    turned (frames c.args.machine.now) c.args.level c.loop.counter c.args.index c.loop.found c.in-Some.outer
+    c.args.frame c.loop-test.true c.requires c.loop.invariant c.in-Some.ensures
 
 pub value-requires : goal.value-requires
 value-requires c =

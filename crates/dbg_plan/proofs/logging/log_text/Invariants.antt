@@ -6,4 +6,5 @@ use Rattle.dbg_plan.proofs.logging.log_text.Given as goal
 
 abbrev pub invariant-loop-part : goal.invariant-loop-part
 invariant-loop-part l =
-    string_bytes l.text ++ filled (plain_parts (drop l.part-index l.parts)) (map answered l.values) ≡ filled (plain_parts l.parts) l.log.values
+    string_bytes l.text ++ filled (plain_parts (drop l.part-index l.parts)) (map answered l.values) ≡ filled
+    (plain_parts l.parts) l.log.values

@@ -11,6 +11,7 @@ invariant_of-result c =
     let main = program_of c.args.unit.now in
     let is = c.in_ok-parts.ensures.parts in
     record {
-      reads = ∣ subst (λ t. ReadsAsParts t (plain_parts c.in_ok-parts.parts.items)) (sym c.in_ok-text.ensures.ok) (reads_as main (step_path main c.args.step) c.args.text.now (plain_parts c.in_ok-parts.parts.items) is) ∣₁;
+      reads = ∣ subst (λ t. ReadsAsParts t (plain_parts c.in_ok-parts.parts.items)) (sym c.in_ok-text.ensures.ok)
+          (reads_as main (step_path main c.args.step) c.args.text.now (plain_parts c.in_ok-parts.parts.items) is) ∣₁;
       few = is.few;
     }

@@ -15,12 +15,14 @@ index-requires c = omega (arith, unit_length c.args.unit.now, c.args.unit.now.st
 pub bind_condition-requires : goal.bind_condition-requires
 bind_condition-requires c =
     subst (λ b. c.index.result.now.block < length (blocks (plain_block b))) (sym c.requires.names)
-    (slice_get_within (blocks (program_of c.args.unit.now)) c.index.result.now.block _ (block_at c.args.unit.now c.args.step c.index.result.now c.requires.within c.index.ensures))
+    (slice_get_within (blocks (program_of c.args.unit.now)) c.index.result.now.block _
+    (block_at c.args.unit.now c.args.step c.index.result.now c.requires.within c.index.ensures))
 
 pub returns-clause-bound : goal.returns-clause-bound
 returns-clause-bound c =
     let bound = rw c.requires.names at c.in_ok-located.ensures in
-    bound (step_path (program_of c.args.unit.now) c.args.step) (block_at c.args.unit.now c.args.step c.index.result.now c.requires.within c.index.ensures)
+    bound (step_path (program_of c.args.unit.now) c.args.step)
+    (block_at c.args.unit.now c.args.step c.index.result.now c.requires.within c.index.ensures)
 
 pub returns-clause-text : goal.returns-clause-text
 returns-clause-text c =
@@ -28,4 +30,8 @@ returns-clause-text c =
     ap with_text c.in_ok-text.ensures.ok
 
 pub invariant_of-result : goal.invariant_of-result
-invariant_of-result c = record { reads = subst (λ t. ∥ ReadsAs t (plain_condition c.args.condition) ∥₁) (sym c.in_ok-text.ensures.ok) c.requires.reads }
+invariant_of-result c =
+    record {
+      reads = subst (λ t. ∥ ReadsAs t (plain_condition c.args.condition) ∥₁) (sym c.in_ok-text.ensures.ok)
+          c.requires.reads;
+    }

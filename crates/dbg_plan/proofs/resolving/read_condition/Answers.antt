@@ -13,9 +13,12 @@ use Rattle.dbg_plan.proofs.resolving.read_condition.Goals.{In-Ok}
 
 pub returns-in-Err-clause-fault : goal.returns-in-Err-clause-fault
 returns-in-Err-clause-fault c =
-    no_condition c.editor_laws.ensures.condition (program_of c.args.unit.now) c.args.step c.args.text.now (not_empty c.args.text.now _ c.is_empty.ensures c.if-is_empty.false) c.in-Err.fault (rw (c.requires.names, c.as_bytes.ensures.value) at c.in-Err.ensures.fault)
+    no_condition c.editor_laws.ensures.condition (program_of c.args.unit.now) c.args.step c.args.text.now
+    (not_empty c.args.text.now _ c.is_empty.ensures c.if-is_empty.false) c.in-Err.fault
+    (rw (c.requires.names, c.as_bytes.ensures.value) at c.in-Err.ensures.fault)
 
-reads_as : (c : In-Ok) → IsConditionOf (program_of c.args.unit.now) (step_path (program_of c.args.unit.now) c.args.step) c.args.text.now (plain_condition c.in-Ok.condition)
+reads_as : (c : In-Ok) → IsConditionOf (program_of c.args.unit.now) (step_path (program_of c.args.unit.now) c.args.step)
+    c.args.text.now (plain_condition c.in-Ok.condition)
 reads_as c = rw (c.requires.names, c.as_bytes.ensures.value) at c.in-Ok.ensures.condition
 
 pub bind-requires-clause-reads : goal.bind-requires-clause-reads
@@ -30,7 +33,8 @@ returns-in-Ok-bind-clause-condition c =
       reads = (
         not_empty text _ c.is_empty.ensures c.if-is_empty.false,
         ap (λ (t : TextCondition). t.text) same,
-        subst (λ (t : TextCondition). IsConditionOf main (step_path main c.args.step) text t.condition) (sym same) (reads_as (goal.at.returns-in-Ok-bind-clause-condition c).In-Ok),
+        subst (λ (t : TextCondition). IsConditionOf main (step_path main c.args.step) text t.condition) (sym same)
+            (reads_as (goal.at.returns-in-Ok-bind-clause-condition c).In-Ok),
       );
       bound = c.in-Ok-bind.ensures.bound;
     }
@@ -42,4 +46,5 @@ parse_condition-requires-clause-step_table c =
     (subst (λ l. AreSteps main l (steps main)) (sym c.deref.ensures.value) (unit_steps c.args.unit.now))
 
 pub parse_condition-requires-clause-within : goal.parse_condition-requires-clause-within
-parse_condition-requires-clause-within c = omega (arith, unit_length c.args.unit.now, ap length c.deref.ensures.value, c.requires.within)
+parse_condition-requires-clause-within c =
+    omega (arith, unit_length c.args.unit.now, ap length c.deref.ensures.value, c.requires.within)

@@ -11,14 +11,17 @@ use Rattle.dbg_plan.proofs.running.has_arrival.Goals as goal
 pub any_met-requires-clause-here : goal.any_met-requires-clause-here
 any_met-requires-clause-here c =
     let asked = c.deref.result.now in
-    let is : option_map arc_value c.args.plan.now ≡ Some asked = ap (λ o. option_map arc_value o) c.in-Some.is ∙ ap (λ l. Some l) (sym c.deref.ensures) in
+    let is : option_map arc_value c.args.plan.now ≡ Some asked =
+    ap (λ o. option_map arc_value o) c.in-Some.is ∙ ap (λ l. Some l) (sym c.deref.ensures) in
     let plan_fits = fits_of c.args.machine.now.unit (option_map arc_value c.args.plan.now) asked is c.requires.fits in
-    rw c.entry.ensures.breakpoints (are_met c.args.machine.now c.next_step.result c.next_step.ensures asked.breakpoints plan_fits.bound)
+    rw c.entry.ensures.breakpoints (are_met c.args.machine.now c.next_step.result c.next_step.ensures asked.breakpoints
+    plan_fits.bound)
 
 pub returns-in-Some : goal.returns-in-Some
 returns-in-Some c =
     let asked = c.deref.result.now in
-    let is : option_map arc_value c.args.plan.now ≡ Some asked = ap (λ o. option_map arc_value o) c.in-Some.is ∙ ap (λ l. Some l) (sym c.deref.ensures) in
+    let is : option_map arc_value c.args.plan.now ≡ Some asked =
+    ap (λ o. option_map arc_value o) c.in-Some.is ∙ ap (λ l. Some l) (sym c.deref.ensures) in
     c.any_met.ensures
     ∙ ap (λ bs. list_any (holds_now c.args.machine.now) bs) c.entry.ensures.breakpoints
     ∙ sym (told_by_step c.args.machine.now c.next_step.result c.next_step.ensures asked.breakpoints)

@@ -7,6 +7,10 @@ pub returns-in-Some-Some : goal.returns-in-Some-Some
 returns-in-Some-Some c =
     let l = c.in-Some-Some.left in
     let r = c.in-Some-Some.right in
-    let told = messages_told l r c.eq.result (c.eq.ensures ∙ ap (λ t. bytes_eq t c.as_str-in-Some-Some.result.now) c.as_str.ensures.value ∙ ap (λ t. bytes_eq (string_bytes l.text) t) c.as_str-in-Some-Some.ensures.value) in
-    subst (λ o. Decides c.eq.result (option_map plain_message o ≡ option_map plain_message c.args.right.now)) (sym c.in-Some-Some.is-0)
-    (subst (λ o. Decides c.eq.result (Some (plain_message l) ≡ option_map plain_message o)) (sym c.in-Some-Some.is-1) told)
+    let told =
+    messages_told l r c.eq.result (c.eq.ensures ∙ ap (λ t. bytes_eq t c.as_str-in-Some-Some.result.now)
+    c.as_str.ensures.value ∙ ap (λ t. bytes_eq (string_bytes l.text) t) c.as_str-in-Some-Some.ensures.value) in
+    subst (λ o. Decides c.eq.result (option_map plain_message o ≡ option_map plain_message c.args.right.now))
+    (sym c.in-Some-Some.is-0)
+    (subst (λ o. Decides c.eq.result (Some (plain_message l) ≡ option_map plain_message o)) (sym c.in-Some-Some.is-1)
+    told)

@@ -13,5 +13,8 @@ returns c =
     let rest = drop c.args.start c.args.ordered.now in
     ap (λ n. c.args.start + n)
     (count_from_yields_List c.take_while.result _ c.count.ensures.ran
-    (YieldsList-from_take_while _ (is_of c.args.step) (YieldsList-from_slice rest (ap iter_rest c.take_while.ensures.source ∙ c.iter.ensures.rest ∙ take_rest c.args.ordered.now c.args.start)) c.take_while.ensures.closure c.take_while.ensures.done (λ x b q k. search (rules, tests)))
+    (YieldsList-from_take_while _ (is_of c.args.step)
+    (YieldsList-from_slice rest (ap iter_rest c.take_while.ensures.source ∙ c.iter.ensures.rest
+    ∙ take_rest c.args.ordered.now c.args.start)) c.take_while.ensures.closure c.take_while.ensures.done
+    (λ x b q k. search (rules, tests)))
     ∙ length-prefix_len (is_of c.args.step) rest)

@@ -13,5 +13,7 @@ hop-requires-clause-runs c =
     let least = min-le_right c.args.most (c.args.to - c.position.result) in
     let within = c.requires.within in
     let is = c.min-steps.ensures in
-    subst (λ (d : Debugged). RunsAt (program_of d) (c.position-2.result + c.min-steps.result)) (sym c.loop-debuggee.invariant.0)
-    (runs_before (program_of c.args.debuggee.now) (c.position-2.result + c.min-steps.result) c.args.to (omega (arith, p, q, is, least, within)) c.requires.runs)
+    subst (λ (d : Debugged). RunsAt (program_of d) (c.position-2.result + c.min-steps.result))
+    (sym c.loop-debuggee.invariant.0)
+    (runs_before (program_of c.args.debuggee.now) (c.position-2.result + c.min-steps.result) c.args.to
+    (omega (arith, p, q, is, least, within)) c.requires.runs)

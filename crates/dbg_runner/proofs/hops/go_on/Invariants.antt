@@ -4,7 +4,9 @@ use Rattle.dbg_runner.specs.Hops.{standing}
 use Rattle.dbg_runner.proofs.hops.go_on.Given as goal
 
 abbrev pub invariant-loop-debuggee : goal.invariant-loop-debuggee
-invariant-loop-debuggee l = (l.debuggee ≡ standing l.fn.debuggee l.debuggee.position) × IsConsidered l.debuggee × (l.debuggee.position ≤ l.limit) × (l.outputs ≡ l.fn.outputs)
+invariant-loop-debuggee l =
+    (l.debuggee ≡ standing l.fn.debuggee l.debuggee.position) × IsConsidered l.debuggee
+    × (l.debuggee.position ≤ l.limit) × (l.outputs ≡ l.fn.outputs)
 
 abbrev pub decreases-loop-debuggee : goal.decreases-loop-debuggee
 decreases-loop-debuggee l = l.limit - l.debuggee.position

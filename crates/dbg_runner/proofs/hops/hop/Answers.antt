@@ -7,23 +7,31 @@ use Rattle.dbg_runner.proofs.Alive.{runs_bounded}
 use Rattle.dbg_runner.proofs.hops.hop.Goals as goal
 
 pub run-advance-requires-clause-bounded : goal.run-advance-requires-clause-bounded
-run-advance-requires-clause-bounded c = runs_bounded c.meaning_laws.ensures.bounded (program_of c.args.debuggee.now) c.args.limit c.requires.runs
+run-advance-requires-clause-bounded c =
+    runs_bounded c.meaning_laws.ensures.bounded (program_of c.args.debuggee.now) c.args.limit c.requires.runs
 
 pub unreachable-requires : goal.unreachable-requires
 unreachable-requires c =
     never_over c.args.limit c.args.debuggee.now c.requires.runs c.requires.within _ _ _ _
-    (subst (λ (led : Advance). RanFrom c.args.limit c.args.debuggee.now c.args.outputs.now.numbers (Some led) c.run-advance.new.debuggee c.run-advance.new.self.numbers c.run-advance.new.self.logs) c.in-Done.is c.in-Some.ensures.ran)
+    (subst (λ (led : Advance). RanFrom c.args.limit c.args.debuggee.now c.args.outputs.now.numbers (Some led)
+    c.run-advance.new.debuggee c.run-advance.new.self.numbers c.run-advance.new.self.logs) c.in-Done.is
+    c.in-Some.ensures.ran)
 
 pub unreachable-requires-in-Fault : goal.unreachable-requires-in-Fault
 unreachable-requires-in-Fault c =
     never_faults c.args.limit c.args.debuggee.now c.requires.runs c.requires.within _ _ _ _ c.in-Fault.field-0
-    (subst (λ (led : Advance). RanFrom c.args.limit c.args.debuggee.now c.args.outputs.now.numbers (Some led) c.run-advance.new.debuggee c.run-advance.new.self.numbers c.run-advance.new.self.logs) c.in-Fault.is c.in-Some.ensures.ran)
+    (subst (λ (led : Advance). RanFrom c.args.limit c.args.debuggee.now c.args.outputs.now.numbers (Some led)
+    c.run-advance.new.debuggee c.run-advance.new.self.numbers c.run-advance.new.self.logs) c.in-Fault.is
+    c.in-Some.ensures.ran)
 
 pub returns-in-None-clause-hopped : goal.returns-in-None-clause-hopped
-returns-in-None-clause-hopped c = hops_to_limit c.args.limit c.args.debuggee.now c.requires.runs c.requires.within _ _ _ _ c.in-None.ensures.ran
+returns-in-None-clause-hopped c =
+    hops_to_limit c.args.limit c.args.debuggee.now c.requires.runs c.requires.within _ _ _ _ c.in-None.ensures.ran
 
 pub returns-in-To-clause-hopped : goal.returns-in-To-clause-hopped
 returns-in-To-clause-hopped c =
     rw c.is_some.ensures
     (hops c.args.limit c.args.debuggee.now c.requires.runs c.requires.within _ _ _ _ c.in-To.due
-    (subst (λ (led : Advance). RanFrom c.args.limit c.args.debuggee.now c.args.outputs.now.numbers (Some led) c.run-advance.new.debuggee c.run-advance.new.self.numbers c.run-advance.new.self.logs) c.in-To.is c.in-Some.ensures.ran))
+    (subst (λ (led : Advance). RanFrom c.args.limit c.args.debuggee.now c.args.outputs.now.numbers (Some led)
+    c.run-advance.new.debuggee c.run-advance.new.self.numbers c.run-advance.new.self.logs) c.in-To.is
+    c.in-Some.ensures.ran))

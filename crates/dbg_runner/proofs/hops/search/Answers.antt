@@ -14,5 +14,6 @@ loop-debuggee-preserved c =
       h.considered,
       h.within,
       c.hop.ensures.room ∙ inv.3,
-      finds c.args.limit old false new c.loop-debuggee.found (ap (λ (d : Debugged). d.counted_from) inv.0 ∙ c.requires.counted) inv.4 h,
+      finds c.args.limit old false new c.loop-debuggee.found
+          (ap (λ (d : Debugged). d.counted_from) inv.0 ∙ c.requires.counted) inv.4 h,
     )

@@ -19,34 +19,40 @@ returns-in-StepBack-clause-on c =
     let old = c.args.debuggee.now in
     let at = c.position-start.ensures.position ∙ ap (λ (m : Standing). m.position) c.machine.ensures in
     let is = c.saturating_sub-to.ensures in
-    on_return old.position old c.go_back.new.debuggee c.saturating_sub-to.result reason.Step 0 c.go_back.ensures.gone (omega (arith, is, at)) (omega arith)
+    on_return old.position old c.go_back.new.debuggee c.saturating_sub-to.result reason.Step 0 c.go_back.ensures.gone
+    (omega (arith, is, at)) (omega arith)
 
 pub returns-in-StepBack-clause-leads : goal.returns-in-StepBack-clause-leads
 returns-in-StepBack-clause-leads c =
     let old = c.args.debuggee.now in
     let at = c.position-start.ensures.position ∙ ap (λ (m : Standing). m.position) c.machine.ensures in
     let is = c.saturating_sub-to.ensures in
-    ap (λ m. goal_of (program_of old) old.breakpoints m old.position) c.in-StepBack.is ∙ ap (λ k. step_to (k - 1)) (sym at) ∙ ap step_to (sym is)
+    ap (λ m. goal_of (program_of old) old.breakpoints m old.position) c.in-StepBack.is
+    ∙ ap (λ k. step_to (k - 1)) (sym at) ∙ ap step_to (sym is)
 
 pub returns-then-start-eq0-clause-on : goal.returns-then-start-eq0-clause-on
 returns-then-start-eq0-clause-on c =
     let old = c.args.debuggee.now in
-    on_return old.position old c.go_back-due.new.debuggee 0 reason.Entry 0 c.go_back-due.ensures.gone (omega arith) (omega arith)
+    on_return old.position old c.go_back-due.new.debuggee 0 reason.Entry 0 c.go_back-due.ensures.gone (omega arith)
+    (omega arith)
 
 pub returns-then-start-eq0-clause-leads : goal.returns-then-start-eq0-clause-leads
 returns-then-start-eq0-clause-leads c =
     let old = c.args.debuggee.now in
     let at = c.position-start.ensures.position ∙ ap (λ (m : Standing). m.position) c.machine.ensures in
-    reverses (program_of old) old.breakpoints c.args.mode old.position c.in_default.not-StepBack c.requires.back ∙ ap (λ k. Some (reversed (program_of old) old.breakpoints k)) (sym at ∙ c.if-start-eq0.true)
+    reverses (program_of old) old.breakpoints c.args.mode old.position c.in_default.not-StepBack c.requires.back
+    ∙ ap (λ k. Some (reversed (program_of old) old.breakpoints k)) (sym at ∙ c.if-start-eq0.true)
 
 pub returns-clause-on : goal.returns-clause-on
 returns-clause-on c =
     let old = c.args.debuggee.now in
     let at = c.position-start.ensures.position ∙ ap (λ (m : Standing). m.position) c.machine.ensures in
     let some = c.if-start-eq0.false in
-    on_search old.position old c.go_back-due.new.debuggee c.then_some.result (omega (arith, at, some)) c.go_back-due.ensures.gone (c.then_some.ensures ∙ then_is c.go_back-due.result _ c.go_back-due.ensures.due)
+    on_search old.position old c.go_back-due.new.debuggee c.then_some.result (omega (arith, at, some))
+    c.go_back-due.ensures.gone (c.then_some.ensures ∙ then_is c.go_back-due.result _ c.go_back-due.ensures.due)
 
 pub returns-clause-leads : goal.returns-clause-leads
 returns-clause-leads c =
     let old = c.args.debuggee.now in
-    search_leads c.args.mode old.position old c.go_back-due.new.debuggee c.then_some.result c.in_default.not-StepBack c.requires.back c.go_back-due.ensures.gone
+    search_leads c.args.mode old.position old c.go_back-due.new.debuggee c.then_some.result c.in_default.not-StepBack
+    c.requires.back c.go_back-due.ensures.gone

@@ -27,7 +27,8 @@ loop-member-preserved c =
     let left = ap (λ ys. members_tokens (changed_members c.args.change (members_view ys))) here in
     let mine = member_tokens c.args.change x.0.now (value_view x.1) in
     let done = c.in_ok-write_member.ensures in (
-      ap (λ ts. ts ++ later) done.tokens ∙ append_assoc l.out.tokens mine later ∙ ap (λ ts. l.out.tokens ++ ts) (sym left) ∙ l.invariant.0,
+      ap (λ ts. ts ++ later) done.tokens ∙ append_assoc l.out.tokens mine later
+          ∙ ap (λ ts. l.out.tokens ++ ts) (sym left) ∙ l.invariant.0,
       (subst (λ ys. MembersHaveNumbers (members_view ys)) here l.invariant.1).1,
       done.before ∙ l.invariant.2,
     )
@@ -39,6 +40,10 @@ returns c =
     let none = drop_all l.member-index xs c.loop-member-test.false in
     let all = changed_members c.args.change (members_view xs) in
     let done : l.out.tokens ++ end_object ∷ [] ≡ c.begin_object.new.self.tokens ++ members_tokens all =
-    ap (λ ys. l.out.tokens ++ members_tokens (changed_members c.args.change (members_view ys))) (sym none) ∙ l.invariant.0 in
-    subst (λ ys. OnOk c.end_object.result (AppendsTokens c.args.out.now c.end_object.new.self (json_tokens (object (changed_members c.args.change (members_view ys))))))
-    c.deref-member-items.ensures.value (object_written all c.args.out.now c.begin_object.new.self l.out c.end_object.new.self c.in_ok-begin_object.ensures done l.invariant.2 c.end_object.ensures)
+    ap (λ ys. l.out.tokens ++ members_tokens (changed_members c.args.change (members_view ys))) (sym none)
+    ∙ l.invariant.0 in
+    subst (λ ys. OnOk c.end_object.result
+    (AppendsTokens c.args.out.now c.end_object.new.self
+    (json_tokens (object (changed_members c.args.change (members_view ys))))))
+    c.deref-member-items.ensures.value (object_written all c.args.out.now c.begin_object.new.self l.out
+    c.end_object.new.self c.in_ok-begin_object.ensures done l.invariant.2 c.end_object.ensures)

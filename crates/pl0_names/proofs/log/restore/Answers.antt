@@ -13,5 +13,6 @@ returns-in-None g c = λ w.
 
 pub returns-in-Some : goal.returns-in-Some
 returns-in-Some g c = λ w.
-    hash_map_updates_str c.args.entry.word.now c.args.index.now c.insert.new.self _ (unless_absent c.insert.result _ c.insert.ensures.updates c.insert.ensures.absent c.requires) w ∙
+    hash_map_updates_str c.args.entry.word.now c.args.index.now c.insert.new.self _
+    (unless_absent c.insert.result _ c.insert.ensures.updates c.insert.ensures.absent c.requires) w ∙
     ap (λ o. update bytes_eq (index_of c.args.index.now) c.args.entry.word.now o w) (sym c.in-Some.is)

@@ -9,20 +9,31 @@ use Rattle.pl0_names.proofs.Declared.{found_as, block_means}
 use Rattle.pl0_names.proofs.names.declared_in.Goals as goal
 use Rattle.pl0_names.proofs.names.declared_in.Goals.{After-constant_in, After-variable_in, After-procedure_in}
 
-constant_is : (c : After-constant_in) → c.constant_in.result ≡ position (λ k. bytes_eq (string_bytes k.name.text) c.args.word.now) (out-Block c.args.block.now).constants.items
-constant_is c = c.constant_in.ensures ∙ ap (position (λ k. bytes_eq (string_bytes k.name.text) c.args.word.now)) c.deref.ensures.value
+constant_is : (c : After-constant_in) → c.constant_in.result ≡ position
+    (λ k. bytes_eq (string_bytes k.name.text) c.args.word.now) (out-Block c.args.block.now).constants.items
+constant_is c =
+    c.constant_in.ensures ∙ ap (position (λ k. bytes_eq (string_bytes k.name.text) c.args.word.now))
+    c.deref.ensures.value
 
-variable_is : (c : After-variable_in) → c.variable_in.result ≡ position (λ x. bytes_eq (string_bytes x.text) c.args.word.now) (out-Block c.args.block.now).variables.items
-variable_is c = c.variable_in.ensures ∙ ap (position (λ x. bytes_eq (string_bytes x.text) c.args.word.now)) c.deref-2.ensures.value
+variable_is : (c : After-variable_in) → c.variable_in.result ≡ position
+    (λ x. bytes_eq (string_bytes x.text) c.args.word.now) (out-Block c.args.block.now).variables.items
+variable_is c =
+    c.variable_in.ensures ∙ ap (position (λ x. bytes_eq (string_bytes x.text) c.args.word.now)) c.deref-2.ensures.value
 
-procedure_is : (c : After-procedure_in) → c.procedure_in.result ≡ position (λ p. bytes_eq (string_bytes (out-Procedure p).name.text) c.args.word.now) (out-Block c.args.block.now).procedures.items
-procedure_is c = c.procedure_in.ensures ∙ ap (position (λ p. bytes_eq (string_bytes (out-Procedure p).name.text) c.args.word.now)) c.deref-3.ensures.value
+procedure_is : (c : After-procedure_in) → c.procedure_in.result ≡ position
+    (λ p. bytes_eq (string_bytes (out-Procedure p).name.text) c.args.word.now)
+    (out-Block c.args.block.now).procedures.items
+procedure_is c =
+    c.procedure_in.ensures ∙ ap (position (λ p. bytes_eq (string_bytes (out-Procedure p).name.text) c.args.word.now))
+    c.deref-3.ensures.value
 
 pub returns-in-Some : goal.returns-in-Some
 returns-in-Some c =
     let w = c.args.word.now in
     let b = c.args.block.now in
-    ap (λ o. found_as w o (position (λ x. bytes_eq (string_bytes x.text) w) (out-Block b).variables.items) (position (λ p. bytes_eq (string_bytes (out-Procedure p).name.text) w) (out-Block b).procedures.items)) (sym c.in-Some.is)
+    ap (λ o. found_as w o (position (λ x. bytes_eq (string_bytes x.text) w) (out-Block b).variables.items)
+    (position (λ p. bytes_eq (string_bytes (out-Procedure p).name.text) w) (out-Block b).procedures.items))
+    (sym c.in-Some.is)
     ∙ block_means w b c.constant_in.result _ _ (constant_is (goal.at.returns-in-Some c).After-constant_in) refl refl
 
 pub returns-in-Some-variable_in : goal.returns-in-Some-variable_in
@@ -32,7 +43,9 @@ returns-in-Some-variable_in c =
     let p = position (λ p. bytes_eq (string_bytes (out-Procedure p).name.text) w) (out-Block b).procedures.items in
     ap (λ o. found_as w None o p) (sym c.in-Some-variable_in.is)
     ∙ ap (λ o. found_as w o c.variable_in.result p) (sym c.in_default.is)
-    ∙ block_means w b c.constant_in.result c.variable_in.result p (constant_is (goal.at.returns-in-Some-variable_in c).After-constant_in) (variable_is (goal.at.returns-in-Some-variable_in c).After-variable_in) refl
+    ∙ block_means w b c.constant_in.result c.variable_in.result p
+    (constant_is (goal.at.returns-in-Some-variable_in c).After-constant_in)
+    (variable_is (goal.at.returns-in-Some-variable_in c).After-variable_in) refl
 
 pub returns-in_err-index : goal.returns-in_err-index
 returns-in_err-index c =
@@ -41,7 +54,10 @@ returns-in_err-index c =
     ∙ ap (λ o. found_as w None None o) (sym c.in_err-index.was)
     ∙ ap (λ o. found_as w None o c.procedure_in.result) (sym c.in_default-variable_in.is)
     ∙ ap (λ o. found_as w o c.variable_in.result c.procedure_in.result) (sym c.in_default.is)
-    ∙ block_means w c.args.block.now c.constant_in.result c.variable_in.result c.procedure_in.result (constant_is (goal.at.returns-in_err-index c).After-constant_in) (variable_is (goal.at.returns-in_err-index c).After-variable_in) (procedure_is (goal.at.returns-in_err-index c).After-procedure_in)
+    ∙ block_means w c.args.block.now c.constant_in.result c.variable_in.result c.procedure_in.result
+    (constant_is (goal.at.returns-in_err-index c).After-constant_in)
+    (variable_is (goal.at.returns-in_err-index c).After-variable_in)
+    (procedure_is (goal.at.returns-in_err-index c).After-procedure_in)
 
 pub returns : goal.returns
 returns c =
@@ -49,4 +65,6 @@ returns c =
     ap (λ o. found_as w None None o) (sym c.in_ok-index.was)
     ∙ ap (λ o. found_as w None o c.procedure_in.result) (sym c.in_default-variable_in.is)
     ∙ ap (λ o. found_as w o c.variable_in.result c.procedure_in.result) (sym c.in_default.is)
-    ∙ block_means w c.args.block.now c.constant_in.result c.variable_in.result c.procedure_in.result (constant_is (goal.at.returns c).After-constant_in) (variable_is (goal.at.returns c).After-variable_in) (procedure_is (goal.at.returns c).After-procedure_in)
+    ∙ block_means w c.args.block.now c.constant_in.result c.variable_in.result c.procedure_in.result
+    (constant_is (goal.at.returns c).After-constant_in) (variable_is (goal.at.returns c).After-variable_in)
+    (procedure_is (goal.at.returns c).After-procedure_in)

@@ -17,8 +17,10 @@ returns-in_err-rest-clause-fault c =
 pub returns-in_err-finish-clause-fault : goal.returns-in_err-finish-clause-fault
 returns-in_err-finish-clause-fault c =
     let tokens = left_of c.args.tokens in
-    text_exits (RefusedAll ending tokens) c.from_residual-in_err-finish.result c.in_err-finish.field-0.0 c.from_residual-in_err-finish.ensures.1
-    (fails c.in_err-finish.field-0.0 (marked {rest = left_of c.in_ok-rest.rest} (stays_all {wanted = ending} {tokens = tokens}) c.in_ok-rest.ensures) c.in_err-finish.ensures)
+    text_exits (RefusedAll ending tokens) c.from_residual-in_err-finish.result c.in_err-finish.field-0.0
+    c.from_residual-in_err-finish.ensures.1
+    (fails c.in_err-finish.field-0.0 (marked {rest = left_of c.in_ok-rest.rest}
+    (stays_all {wanted = ending} {tokens = tokens}) c.in_ok-rest.ensures) c.in_err-finish.ensures)
 
 pub returns-clause-ended : goal.returns-clause-ended
 returns-clause-ended c =

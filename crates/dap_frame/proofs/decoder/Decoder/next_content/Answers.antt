@@ -8,7 +8,9 @@ pub returns-clause-stream : goal.returns-clause-stream
 returns-clause-stream c = λ stream contents before.
     let given = c.extend_from_slice.new.self.items in
     let more = drop c.compact-self-inside.result c.compact-self-inside.new.bytes.items in
-    let left : more ≡ drop (c.self.inside.front + c.in-Some-content_of.size) c.self.inside.bytes.items = c.compact-self-inside.ensures.rest in
-    let frame : IsFrameInFront c.args.self.now.rest given (drop (c.self.inside.front + c.in-Some-content_of.size) c.self.inside.bytes.items) =
+    let left : more ≡ drop (c.self.inside.front + c.in-Some-content_of.size) c.self.inside.bytes.items =
+    c.compact-self-inside.ensures.rest in
+    let frame : IsFrameInFront c.args.self.now.rest given
+    (drop (c.self.inside.front + c.in-Some-content_of.size) c.self.inside.bytes.items) =
     grind (arith, common_steps) in
     frames_one_more stream c.args.self.now.rest more given contents before (rw left frame)

@@ -8,14 +8,16 @@ use Rattle.dbg_plan.proofs.trail.Trail.keep.Goals as goal
 use Rattle.dbg_plan.proofs.trail.Trail.keep.Goals.{After-make_room-self-inside}
 
 -- the trail with room for one more
-roomy : (c : After-make_room-self-inside) → IsTrail (record { checkpoints = c.make_room-self-inside.new.checkpoints; spacing = c.make_room-self-inside.result })
+roomy : (c : After-make_room-self-inside) → IsTrail
+    (record { checkpoints = c.make_room-self-inside.new.checkpoints; spacing = c.make_room-self-inside.result })
 roomy c =
     let room = c.make_room-self-inside.ensures in
     let past = asked (trail_of c.args.self.now) c.position-position.result (sym c.if-not-asks.ensures) in
     let bounded = c.position-position.ensures.bounded in
     let was = c.self.invariant in
     record {
-      ascending = room.ascending (subst (λ l. AreAbove 0 (positions l)) (sym c.in_ok-reserve.ensures.items) was.ascending);
+      ascending =
+          room.ascending (subst (λ l. AreAbove 0 (positions l)) (sym c.in_ok-reserve.ensures.items) was.ascending);
       few = omega (arith, room.room);
       apart = omega (arith, was.apart, room.spacing.0);
       small = omega (arith, past, bounded, room.spacing.1, ap (λ (k : Kept). k.spacing) c.self.view_is);
@@ -24,7 +26,9 @@ roomy c =
 units : (c : After-make_room-self-inside) → AreOf c.args.machine.now.unit c.make_room-self-inside.new.checkpoints.items
 units c =
     let u = c.args.machine.now.unit in
-    c.make_room-self-inside.ensures.units u (subst (λ l. AreOf u l) (sym c.in_ok-reserve.ensures.items) (subst (λ (k : Kept). AreOf u k.checkpoints) (sym c.self.view_is) c.requires))
+    c.make_room-self-inside.ensures.units u
+    (subst (λ l. AreOf u l) (sym c.in_ok-reserve.ensures.items)
+    (subst (λ (k : Kept). AreOf u k.checkpoints) (sym c.self.view_is) c.requires))
 
 pub invariant_of-self-2 : goal.invariant_of-self-2
 invariant_of-self-2 c = roomy (goal.at.invariant_of-self-2 c).After-make_room-self-inside
@@ -39,11 +43,21 @@ invariant_of-self-then-asks c =
     let before = roomy (goal.at.invariant_of-self-then-asks c).After-make_room-self-inside in
     let mid = c.make_room-self-inside.new.checkpoints.items in
     let spacing = c.make_room-self-inside.result in
-    let here : c.in_ok-checkpoint.checkpoint.position ≡ c.position-position.result = ap (λ (m : Standing). m.position) c.in_ok-checkpoint.ensures ∙ sym c.position-position.ensures.position in
+    let here : c.in_ok-checkpoint.checkpoint.position ≡ c.position-position.result =
+    ap (λ (m : Standing). m.position) c.in_ok-checkpoint.ensures ∙ sym c.position-position.ensures.position in
     let past = asked (trail_at mid spacing) c.position-position.result (sym c.if-asks.ensures) in
     record {
-      ascending = subst (λ l. AreAbove 0 (positions l)) (sym c.push_reserved.ensures.items) (pushed_above mid c.in_ok-checkpoint.checkpoint spacing before.ascending before.apart (omega (arith, past, here)));
-      few = omega (arith, ap length c.push_reserved.ensures.items, length-append mid (c.in_ok-checkpoint.checkpoint ∷ []), c.make_room-self-inside.ensures.room);
+      ascending =
+          subst (λ l. AreAbove 0 (positions l)) (sym c.push_reserved.ensures.items)
+          (pushed_above mid c.in_ok-checkpoint.checkpoint spacing before.ascending before.apart
+          (omega (arith, past, here)));
+      few = omega (
+        arith,
+        ap length c.push_reserved.ensures.items,
+        length-append mid
+            (c.in_ok-checkpoint.checkpoint ∷ []),
+        c.make_room-self-inside.ensures.room,
+      );
       apart = before.apart;
       small = before.small;
     }
@@ -54,7 +68,9 @@ invariant_of-self-else-asks c = roomy (goal.at.invariant_of-self-else-asks c).Af
 pub returns-then-asks-clause-units : goal.returns-then-asks-clause-units
 returns-then-asks-clause-units c =
     subst (λ l. AreOf c.args.machine.now.unit l) (sym c.push_reserved.ensures.items)
-    (pushed_of c.args.machine.now.unit c.make_room-self-inside.new.checkpoints.items c.in_ok-checkpoint.checkpoint (units (goal.at.returns-then-asks-clause-units c).After-make_room-self-inside) (ap (λ (m : Standing). m.unit) c.in_ok-checkpoint.ensures))
+    (pushed_of c.args.machine.now.unit c.make_room-self-inside.new.checkpoints.items c.in_ok-checkpoint.checkpoint
+    (units (goal.at.returns-then-asks-clause-units c).After-make_room-self-inside)
+    (ap (λ (m : Standing). m.unit) c.in_ok-checkpoint.ensures))
 
 pub returns-else-asks-clause-units : goal.returns-else-asks-clause-units
 returns-else-asks-clause-units c = units (goal.at.returns-else-asks-clause-units c).After-make_room-self-inside

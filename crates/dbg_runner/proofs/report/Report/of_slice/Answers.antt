@@ -5,9 +5,11 @@ use Rattle.dbg_runner.proofs.report.Report.of_slice.Goals.{in-More, in-Done, in-
 
 pub returns-clause-considered : goal.returns-clause-considered
 returns-clause-considered c =
-    let report = sliced c.args.run c.args.mode c.args.start c.args.before c.args.produced c.args.debuggee.value c.args.outcome in
+    let report =
+    sliced c.args.run c.args.mode c.args.start c.args.before c.args.produced c.args.debuggee.value c.args.outcome in
     elim c.match-outcome.branch [
-      | in-More w ↦ rw w.carried-is (goes_on_considered report c.args.debuggee.value c.requires.lawful w.in-More.is c.requires.stands)
+      | in-More w ↦ rw w.carried-is (goes_on_considered report c.args.debuggee.value c.requires.lawful w.in-More.is
+          c.requires.stands)
       | in-Done w ↦ rw w.carried-is tt
       | in-Due w ↦ rw w.carried-is tt
     ]

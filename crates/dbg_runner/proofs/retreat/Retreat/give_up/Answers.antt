@@ -9,5 +9,7 @@ use Rattle.dbg_runner.proofs.retreat.Retreat.give_up.Goals as goal
 
 pub with_summary-requires : goal.with_summary-requires
 with_summary-requires c =
-    let is = c.summary-summary.ensures ∙ ap (λ (b : Retreating). summary_back c.args.run b c.self.inside.start out.NoMemory) (sym c.self.view_is) in
-    subst (λ (s : Summary). IsReportWith s (Unsliced c.self.inside.debuggee)) (sym is) (gives_up c.self.inside c.self.invariant c.args.run c.self.inside.start refl)
+    let is = c.summary-summary.ensures ∙ ap (λ (b : Retreating). summary_back c.args.run b c.self.inside.start
+    out.NoMemory) (sym c.self.view_is) in
+    subst (λ (s : Summary). IsReportWith s (Unsliced c.self.inside.debuggee)) (sym is)
+    (gives_up c.self.inside c.self.invariant c.args.run c.self.inside.start refl)

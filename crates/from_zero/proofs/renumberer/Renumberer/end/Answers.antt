@@ -5,5 +5,8 @@ use Rattle.from_zero.proofs.renumberer.Renumberer.end.Goals as goal
 
 pub returns-in_ok-extend_from_slice-in-Framed-clause-ok : goal.returns-in_ok-extend_from_slice-in-Framed-clause-ok
 returns-in_ok-extend_from_slice-in-Framed-clause-ok c =
-    let p : Progress = c.args.self.now in
-    (refl, end_held p c.self.inside.decoder c.args.out.now.items c.extend_from_slice.new.self.items (ap (λ q. q.mode) (sym c.self.view_is) ∙ c.in-Framed.is) (search rules) (search rules))
+    let p : Progress = c.args.self.now in (
+      refl,
+      end_held p c.self.inside.decoder c.args.out.now.items c.extend_from_slice.new.self.items
+          (ap (λ q. q.mode) (sym c.self.view_is) ∙ c.in-Framed.is) (search rules) (search rules),
+    )

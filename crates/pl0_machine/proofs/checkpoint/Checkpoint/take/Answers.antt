@@ -9,4 +9,5 @@ in_use-requires-clause-bases c = (uses c.machine.inside c.machine.invariant).fra
 
 pub invariant_of-result : goal.invariant_of-result
 invariant_of-result c =
-    keeps c.machine.inside (record { unit = c.in_ok-unit.unit; state = c.in_ok-state.state }) c.machine.invariant c.in_ok-unit.ensures.cases c.in_ok-state.ensures
+    keeps c.machine.inside (record { unit = c.in_ok-unit.unit; state = c.in_ok-state.state }) c.machine.invariant
+    c.in_ok-unit.ensures.cases c.in_ok-state.ensures

@@ -10,12 +10,15 @@ unit c =
 
 pub resume-requires-clause-cells : goal.resume-requires-clause-cells
 resume-requires-clause-cells c =
-    cells_fit c.self.inside c.self.invariant c.checkpoint.inside c.checkpoint.invariant (unit (goal.at.resume-requires-clause-cells c).After-checkpoint)
+    cells_fit c.self.inside c.self.invariant c.checkpoint.inside c.checkpoint.invariant
+    (unit (goal.at.resume-requires-clause-cells c).After-checkpoint)
 
 pub resume-requires-clause-bases : goal.resume-requires-clause-bases
 resume-requires-clause-bases c =
-    bases_fit c.self.inside c.self.invariant c.checkpoint.inside c.checkpoint.invariant (unit (goal.at.resume-requires-clause-bases c).After-checkpoint)
+    bases_fit c.self.inside c.self.invariant c.checkpoint.inside c.checkpoint.invariant
+    (unit (goal.at.resume-requires-clause-bases c).After-checkpoint)
 
 pub invariant_of-self : goal.invariant_of-self
 invariant_of-self c =
-    resumes c.self.inside c.self.invariant c.checkpoint.inside c.checkpoint.invariant (unit (goal.at.invariant_of-self c).After-checkpoint) c.resume.new.self c.resume.ensures
+    resumes c.self.inside c.self.invariant c.checkpoint.inside c.checkpoint.invariant
+    (unit (goal.at.invariant_of-self c).After-checkpoint) c.resume.new.self c.resume.ensures

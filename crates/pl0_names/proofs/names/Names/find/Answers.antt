@@ -9,35 +9,60 @@ use Rattle.pl0_names.proofs.Outward.{in_table, levels_few, found_here, found_now
 use Rattle.pl0_names.proofs.names.Names.find.Goals as goal
 use Rattle.pl0_names.proofs.names.Names.find.Goals.{After-declared}
 
-nested : (c : After-declared) → AreNestings (plain_block c.args.self.now) c.self.inside.nestings.now (blocks (plain_block c.args.self.now))
-nested c = subst (λ b. AreNestings (plain_block b) c.self.inside.nestings.now (blocks (plain_block b))) c.self.view_is c.self.invariant.nested
+nested : (c : After-declared) → AreNestings (plain_block c.args.self.now) c.self.inside.nestings.now
+    (blocks (plain_block c.args.self.now))
+nested c =
+    subst (λ b. AreNestings (plain_block b) c.self.inside.nestings.now (blocks (plain_block b))) c.self.view_is
+    c.self.invariant.nested
 
 pub block-block-requires-clause-within : goal.block-block-requires-clause-within
 block-block-requires-clause-within c =
-    in_table (plain_block c.args.self.now) c.self.inside.nestings.now (nested (goal.at.block-block-requires-clause-within c).After-declared) c.args.word.now c.args.number c.loop-meaning.around c.loop-meaning.level c.requires c.loop-meaning.invariant
+    in_table (plain_block c.args.self.now) c.self.inside.nestings.now
+    (nested (goal.at.block-block-requires-clause-within c).After-declared) c.args.word.now c.args.number
+    c.loop-meaning.around c.loop-meaning.level c.requires c.loop-meaning.invariant
 
 pub bounds-self-inside-around : goal.bounds-self-inside-around
 bounds-self-inside-around c =
-    in_table (plain_block c.args.self.now) c.self.inside.nestings.now (nested (goal.at.bounds-self-inside-around c).After-declared) c.args.word.now c.args.number c.loop-meaning.around c.loop-meaning.level c.requires c.loop-meaning.invariant
+    in_table (plain_block c.args.self.now) c.self.inside.nestings.now
+    (nested (goal.at.bounds-self-inside-around c).After-declared) c.args.word.now c.args.number
+    c.loop-meaning.around c.loop-meaning.level c.requires c.loop-meaning.invariant
 
 pub returns-in-Some : goal.returns-in-Some
 returns-in-Some c =
-    found_here (plain_block c.args.self.now) c.self.inside.nestings.now (nested (goal.at.returns-in-Some c).After-declared) c.args.word.now c.args.number c.loop-meaning.around c.loop-meaning.level c.requires c.loop-meaning.invariant c.block-block.result c.in-Some.meaning
-    (subst (λ b. (r : Path) → slice_get (blocks (plain_block b)) c.loop-meaning.around ≡ Some r → block_at (plain_block b) r ≡ Some (plain_block c.block-block.result.now)) c.self.view_is c.block-block.ensures) c.in-Some.ensures
+    found_here (plain_block c.args.self.now) c.self.inside.nestings.now
+    (nested (goal.at.returns-in-Some c).After-declared) c.args.word.now c.args.number c.loop-meaning.around
+    c.loop-meaning.level c.requires c.loop-meaning.invariant c.block-block.result c.in-Some.meaning
+    (subst (λ b. (r : Path) → slice_get (blocks (plain_block b)) c.loop-meaning.around ≡ Some r
+    → block_at (plain_block b) r ≡ Some (plain_block c.block-block.result.now)) c.self.view_is
+    c.block-block.ensures) c.in-Some.ensures
 
 pub returns-in_err-nesting : goal.returns-in_err-nesting
 returns-in_err-nesting c = λ q begins.
-    subst (λ o. IsHomeAnswer (plain_block c.args.self.now) q (home (plain_block c.args.self.now) q c.args.word.now) o) (sym c.from_residual.ensures)
-    (found_nowhere (plain_block c.args.self.now) c.self.inside.nestings.now (nested (goal.at.returns-in_err-nesting c).After-declared) c.args.word.now c.args.number c.loop-meaning.around c.loop-meaning.level c.requires c.loop-meaning.invariant c.in_default.ensures c.in_err-nesting.was q begins)
+    subst (λ o. IsHomeAnswer (plain_block c.args.self.now) q (home (plain_block c.args.self.now) q c.args.word.now) o)
+    (sym c.from_residual.ensures)
+    (found_nowhere (plain_block c.args.self.now) c.self.inside.nestings.now
+    (nested (goal.at.returns-in_err-nesting c).After-declared) c.args.word.now c.args.number c.loop-meaning.around
+    c.loop-meaning.level c.requires c.loop-meaning.invariant c.in_default.ensures c.in_err-nesting.was q begins)
 
 pub overflow_add-level : goal.overflow_add-level
 overflow_add-level c =
-    omega (arith, levels_few (plain_block c.args.self.now) c.self.inside.nestings.now (nested (goal.at.overflow_add-level c).After-declared) c.args.word.now c.args.number c.loop-meaning.around c.loop-meaning.level c.requires c.loop-meaning.invariant)
+    omega (
+      arith,
+      levels_few (plain_block c.args.self.now) c.self.inside.nestings.now
+          (nested (goal.at.overflow_add-level c).After-declared) c.args.word.now c.args.number c.loop-meaning.around
+          c.loop-meaning.level c.requires c.loop-meaning.invariant,
+    )
 
 pub loop-meaning-smaller : goal.loop-meaning-smaller
 loop-meaning-smaller c =
-    (walk_on (plain_block c.args.self.now) c.self.inside.nestings.now (nested (goal.at.loop-meaning-smaller c).After-declared) c.args.word.now c.args.number c.loop-meaning.around c.loop-meaning.level c.requires c.loop-meaning.invariant c.in_ok-nesting.nesting c.in_default.ensures c.in_ok-nesting.was).1
+    (walk_on (plain_block c.args.self.now) c.self.inside.nestings.now
+    (nested (goal.at.loop-meaning-smaller c).After-declared) c.args.word.now c.args.number c.loop-meaning.around
+    c.loop-meaning.level c.requires c.loop-meaning.invariant c.in_ok-nesting.nesting c.in_default.ensures
+    c.in_ok-nesting.was).1
 
 pub loop-meaning-preserved : goal.loop-meaning-preserved
 loop-meaning-preserved c =
-    (walk_on (plain_block c.args.self.now) c.self.inside.nestings.now (nested (goal.at.loop-meaning-preserved c).After-declared) c.args.word.now c.args.number c.loop-meaning.around c.loop-meaning.level c.requires c.loop-meaning.invariant c.in_ok-nesting.nesting c.in_default.ensures c.in_ok-nesting.was).0
+    (walk_on (plain_block c.args.self.now) c.self.inside.nestings.now
+    (nested (goal.at.loop-meaning-preserved c).After-declared) c.args.word.now c.args.number c.loop-meaning.around
+    c.loop-meaning.level c.requires c.loop-meaning.invariant c.in_ok-nesting.nesting c.in_default.ensures
+    c.in_ok-nesting.was).0

@@ -12,7 +12,9 @@ use Rattle.pl0_names.proofs.names.Names.with_tables.Goals as goal
 pub overflow_cast-number : goal.overflow_cast-number
 overflow_cast-number c =
     let few = c.requires.few in
-    let all = nestings_lengths (plain_block c.args.main.now) c.args.nestings.now (blocks (plain_block c.args.main.now)) c.requires.nestings in
+    let all =
+    nestings_lengths (plain_block c.args.main.now) c.args.nestings.now (blocks (plain_block c.args.main.now))
+    c.requires.nestings in
     omega (arith, few, all, c.loop-number-test.true)
 
 pub loop-number-preserved : goal.loop-number-preserved
@@ -20,15 +22,32 @@ loop-number-preserved c =
     let main = plain_block c.args.main.now in
     let count = c.loop-number.invariant.1 in
     let grown = c.in_ok-push.ensures.items in
-    let more = one_table_more main (plain_block c.block-declaring.result.now) c.loop-number.tables.items c.in_ok-table.table c.loop-number.number c.loop-number.invariant.0 count c.in_ok-table.ensures c.block-declaring.ensures in
-    (subst (AreTables main) (sym grown) more, omega (arith, ap length grown, length-append c.loop-number.tables.items (c.in_ok-table.table ∷ []), count))
+    let more =
+    one_table_more main (plain_block c.block-declaring.result.now) c.loop-number.tables.items c.in_ok-table.table
+    c.loop-number.number c.loop-number.invariant.0 count c.in_ok-table.ensures c.block-declaring.ensures in (
+      subst (AreTables main) (sym grown) more,
+      omega
+          (arith, ap length grown, length-append c.loop-number.tables.items (c.in_ok-table.table ∷ []), count),
+    )
 
 pub invariant_of-result : goal.invariant_of-result
 invariant_of-result c =
     let count = c.loop-number.invariant.1 in
-    let all = nestings_lengths (plain_block c.args.main.now) c.args.nestings.now (blocks (plain_block c.args.main.now)) c.requires.nestings in
+    let all =
+    nestings_lengths (plain_block c.args.main.now) c.args.nestings.now (blocks (plain_block c.args.main.now))
+    c.requires.nestings in
     record {
       nested = c.requires.nestings;
-      counted = λ ts is. omega (arith, ap length (some_same c.loop-number.tables.items ts is), count, all, c.loop-number-test.false);
-      tabled = λ ts n table q b is. subst (λ l. slice_get l n ≡ Some table → slice_get (blocks (plain_block c.args.main.now)) n ≡ Some q → block_at (plain_block c.args.main.now) q ≡ Some b → IsTableOf b table) (some_same c.loop-number.tables.items ts is) (c.loop-number.invariant.0 n table q b);
+      counted =
+          λ ts is. omega (
+            arith,
+            ap length (some_same c.loop-number.tables.items ts is),
+            count,
+            all,
+            c.loop-number-test.false,
+          );
+      tabled = λ ts n table q b is. subst
+          (λ l. slice_get l n ≡ Some table → slice_get (blocks (plain_block c.args.main.now)) n ≡ Some q
+          → block_at (plain_block c.args.main.now) q ≡ Some b → IsTableOf b table)
+          (some_same c.loop-number.tables.items ts is) (c.loop-number.invariant.0 n table q b);
     }
