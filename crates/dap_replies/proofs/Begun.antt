@@ -22,7 +22,7 @@ pub record OrdersRun (t : Target) (d : Debugged) (m : Mode) (step : Step) : Type
   pub launches_nothing : step.effect.launched ≡ None
   pub sets_nothing : settings_by step.item step.answer ≡ None
 
--- the target when one more run is ordered, and so many numbers are reported
+-- the target when one more run is ordered, and this many numbers are reported
 abbrev pub with_next_run : Target → ℕ → Target
 with_next_run t told = record t { runs = t.runs + 1; told = told }
 

@@ -39,7 +39,7 @@ begins_both : {A : Type 0} (xs ys zs : List A) → Begins xs ys → Begins ys zs
 begins_both xs ys zs first next =
     (first.0 ++ next.0, sym (append_assoc xs first.0 next.0) ∙ ap (λ l. l ++ next.0) first.1 ∙ next.1)
 
--- a beginning of what is added, after what was there
+-- a prefix of what is added, after what was there
 begins_after : {A : Type 0} (xs ys zs : List A) → Begins ys zs → Begins (xs ++ ys) (xs ++ zs)
 begins_after xs ys zs is = (is.0, append_assoc xs ys is.0 ∙ ap (λ l. xs ++ l) is.1)
 
@@ -79,7 +79,7 @@ all_begin : (past : History) (bytes : List ℕ) (new : History) (rest : Rest) �
 all_begin past bytes new rest all = begins_both past all.mid new (takes_begin all.taken) (rests_begin all.rests)
 
 module _ (once : IsReadOnce) where
-  -- what was taken is a beginning of all that can be
+  -- what was taken is a prefix of all that can be
   taken_begins : {past mid other new : History} {bytes left left' : List ℕ} {rest : Rest} → Takes past bytes mid left → Takes past bytes other left' → Rests other left' new rest → Begins mid new
   taken_begins {past = past} {other = other} {new = new} none taken rests = begins_both past other new (takes_begin taken) (rests_begin rests)
   taken_begins (one_more {more = more} request taking front unwanted after taken) none rests = absurd (rests_here once rests request more taking front unwanted)
@@ -159,7 +159,7 @@ leads_apart past rest (e ∷ events) last new left all =
 
 -- ---- what was sent
 
--- what was sent is a beginning of what the history sends
+-- what was sent is a prefix of what the history sends
 record SendsPart (new : History) (old later : Ports) : Type 0 where
   frames : List (List ℕ)
   orders : List PlainOrder

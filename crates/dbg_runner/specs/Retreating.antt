@@ -88,7 +88,7 @@ pub record IsRoomFor (room : Room) (b : Retreating) : Type 0 where
   pub numbers : room.numbers ≡ []
   pub logs : room.logs ≡ []
 
--- the run after it ran more steps again, so many in all
+-- the run after it ran more steps again, this many in all
 abbrev pub further : Retreating → ℕ → ℕ → Retreating
 further b again position = record b { again = again; position = position }
 

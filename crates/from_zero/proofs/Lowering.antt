@@ -54,7 +54,7 @@ one_onward p q first client later session before out byte is none gives part wro
   unfinished = part;
 }
 
--- a byte was taken, and a beginning of what came out was written
+-- a byte was taken, and a prefix of what came out was written
 pub part_written : (p q : Progress) (first client later : Option (List ℕ)) (session before out : List ℕ) (byte : ℕ)
     → IsOnward p first client session → before ≡ []
     → ((more : List ℕ) → before ++ coming p (byte ∷ more) ≡ out ++ coming q more) → AppendsPart client later out
