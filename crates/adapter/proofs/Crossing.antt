@@ -15,14 +15,17 @@ use Rattle.adapter.specs.contracts.jobs.RunnerTask as RunnerTask
 
 pub runner_task_send : (α : NamedLft) (G R : RattleType) → IsSend G → IsSend R → IsSend (RunnerTask.the_row α G R)
 runner_task_send α G R g r =
-    let a = order_receiver_field_send R r in let b = report_sender_field_send R r in search (crosses, sendable) depth 60 fits 20000
+    let a = order_receiver_field_send R r in let b =
+    report_sender_field_send R r in search (crosses, sendable) depth 60 fits 20000
 
-pub runner_output_send : (α : NamedLft) (G R : RattleType) → IsSend G → IsSend R → IsSend (Tuple (OrderReceiver.the_row R ∷ ReportSender.the_row R ∷ MutRef α.mir α.lft G ∷ []))
+pub runner_output_send : (α : NamedLft) (G R : RattleType) → IsSend G → IsSend R
+    → IsSend (Tuple (OrderReceiver.the_row R ∷ ReportSender.the_row R ∷ MutRef α.mir α.lft G ∷ []))
 runner_output_send α G R g r =
     let a = order_receiver_send R r in let b = report_sender_send R r in search (crosses, sendable) depth 60 fits 20000
 
 pub reader_task_send : (α : NamedLft) (I R : RattleType) → IsSend I → IsSend R → IsSend (ReaderTask.the_row α I R)
 reader_task_send α I R i r = let a = client_sender_field_send R r in search (crosses, sendable) depth 60 fits 20000
 
-pub reader_output_send : (α : NamedLft) (I R : RattleType) → IsSend I → IsSend R → IsSend (Tuple (MutRef α.mir α.lft I ∷ ClientSender.the_row R ∷ ReadEnd.the_row ∷ []))
+pub reader_output_send : (α : NamedLft) (I R : RattleType) → IsSend I → IsSend R
+    → IsSend (Tuple (MutRef α.mir α.lft I ∷ ClientSender.the_row R ∷ ReadEnd.the_row ∷ []))
 reader_output_send α I R i r = let a = client_sender_send R r in search (crosses, sendable) depth 60 fits 20000

@@ -58,31 +58,44 @@ ended_has (message.Frame frame ∷ taken) more ended = ended_has taken more ende
 ended_has (message.End ∷ taken) more ended = refl
 
 -- nothing was put after the end
-ended_whole : (taken more : List WriterMessage) → AreEnded taken → AreEnded (taken ++ more) → frames_in taken ≡ frames_in (taken ++ more)
+ended_whole : (taken more : List WriterMessage) → AreEnded taken → AreEnded (taken ++ more)
+    → frames_in taken ≡ frames_in (taken ++ more)
 ended_whole [] more ended whole = absurd ended
-ended_whole (message.Frame frame ∷ taken) more ended whole = ap (λ l. frame.items ∷ l) (ended_whole taken more ended whole)
+ended_whole (message.Frame frame ∷ taken) more ended whole =
+    ap (λ l. frame.items ∷ l) (ended_whole taken more ended whole)
 ended_whole (message.End ∷ []) [] ended whole = refl
 ended_whole (message.End ∷ []) (p ∷ more) ended whole = absurd whole
 ended_whole (message.End ∷ p ∷ taken) more ended whole = absurd ended
 
 -- the frames that were put were written, or a prefix of them
-pub writes_frames : (wrote : Result (Unit {0}) WriteFailed) (taken put : List WriterMessage) (frames : List (List ℕ)) (old later : Output)
-    → Begins taken put → frames_in put ≡ frames → (has_end put ≡ false) ⊎ AreEnded put → IsWrittenUntil wrote taken old later → Writes wrote (concat frames) old later
+pub writes_frames : (wrote : Result (Unit {0}) WriteFailed) (taken put : List WriterMessage) (frames : List (List ℕ))
+    (old later : Output)
+    → Begins taken put → frames_in put ≡ frames → (has_end put ≡ false) ⊎ AreEnded put
+    → IsWrittenUntil wrote taken old later → Writes wrote (concat frames) old later
 writes_frames (Ok done) taken put frames old later begins frames_are (inl without) written =
     absurd (true≢false (sym (ended_has taken begins.0 written.0) ∙ (ap has_end begins.1 ∙ without)))
 writes_frames (Ok done) taken put frames old later begins frames_are (inr ended) written =
-    let same : frames_in taken ≡ frames = ended_whole taken begins.0 written.0 (subst AreEnded (sym begins.1) ended) ∙ (ap frames_in begins.1 ∙ frames_are) in
+    let same : frames_in taken ≡ frames =
+    ended_whole taken begins.0 written.0 (subst AreEnded (sym begins.1) ended)
+    ∙ (ap frames_in begins.1 ∙ frames_are) in
     subst (λ f. WritesAll (concat f) old later) same written.1
 writes_frames (Err failed) taken put frames old later begins frames_are ended written =
     let whole : concat frames ≡ concat (frames_in taken) ++ concat (frames_in begins.0) =
-    ap concat (sym frames_are ∙ (ap frames_in (sym begins.1) ∙ frames_append taken begins.0)) ∙ concat-append (frames_in taken) (frames_in begins.0) in
+    ap concat (sym frames_are ∙ (ap frames_in (sym begins.1) ∙ frames_append taken begins.0))
+    ∙ concat-append (frames_in taken) (frames_in begins.0) in
     let part = written.1.0 in (
-      (part.0, part.1, subst (Begins part.0) (sym whole) (begins_more part.0 (concat (frames_in taken)) (concat (frames_in begins.0)) part.2)),
+      (
+        part.0,
+        part.1,
+        subst (Begins part.0) (sym whole)
+            (begins_more part.0 (concat (frames_in taken)) (concat (frames_in begins.0)) part.2),
+      ),
       written.1.1,
     )
 
 -- without the end the writer ended by a failure
-write_fails : (wrote : Result (Unit {0}) WriteFailed) (taken put : List WriterMessage) (old later : Output) → Begins taken put → has_end put ≡ false → IsWrittenUntil wrote taken old later → is_err wrote ≡ true
+write_fails : (wrote : Result (Unit {0}) WriteFailed) (taken put : List WriterMessage) (old later : Output)
+    → Begins taken put → has_end put ≡ false → IsWrittenUntil wrote taken old later → is_err wrote ≡ true
 write_fails (Ok done) taken put old later begins without written =
     absurd (true≢false (sym (ended_has taken begins.0 written.0) ∙ (ap has_end begins.1 ∙ without)))
 write_fails (Err failed) taken put old later begins without written = refl
@@ -90,33 +103,43 @@ write_fails (Err failed) taken put old later begins without written = refl
 -- ---- the session's faults
 
 -- The order to quit takes no refusal back.
-keeps_refusals : (old later : Ordered) → HasTriedQuit old later → (old.fulls ≤ later.fulls) × (old.refusals ≤ later.refusals)
-keeps_refusals old later (inl pushed) = let fulls = pushed.1 in let refusals = pushed.2 in (omega (arith, fulls), omega (arith, refusals))
+keeps_refusals : (old later : Ordered) → HasTriedQuit old later → (old.fulls ≤ later.fulls)
+    × (old.refusals ≤ later.refusals)
+keeps_refusals old later (inl pushed) =
+    let fulls = pushed.1 in let refusals = pushed.2 in (omega (arith, fulls), omega (arith, refusals))
 keeps_refusals old later (inr refused) = by_count refused.1
   where
-    by_count : ((old.fulls < later.fulls) × (later.refusals ≡ old.refusals)) ⊎ ((old.refusals < later.refusals) × (later.fulls ≡ old.fulls))
+    by_count : ((old.fulls < later.fulls) × (later.refusals ≡ old.refusals))
+        ⊎ ((old.refusals < later.refusals) × (later.fulls ≡ old.fulls))
         → (old.fulls ≤ later.fulls) × (old.refusals ≤ later.refusals)
     by_count (inl full) = let more = full.0 in let same = full.1 in (omega (arith, more), omega (arith, same))
     by_count (inr gone) = let more = gone.0 in let same = gone.1 in (omega (arith, same), omega (arith, more))
 
 -- Where the session answers that the queue of orders was full, it found it so.
-found_full : (events given : List Incoming) (loads : List Load) (sent : Ports) → Drives events given loads nothing_sent sent (Err OrdersFull) → sent.orders_full ≢ 0
+found_full : (events given : List Incoming) (loads : List Load) (sent : Ports)
+    → Drives events given loads nothing_sent sent (Err OrdersFull) → sent.orders_full ≢ 0
 found_full events given loads sent (gives_up cannot from short) = λ none.
     let found = short.fails.breaks.1 in
-    let kept = (keeps_refusals (ordered_at short.stopped) (ordered_at sent) short.quit.quit).0 in omega (arith, found, kept, none)
+    let kept =
+    (keeps_refusals (ordered_at short.stopped) (ordered_at sent) short.quit.quit).0 in omega
+    (arith, found, kept, none)
 
 -- Where it answers that the runner is gone, the port had said so.
-pub found_runner_gone : (events given : List Incoming) (loads : List Load) (sent : Ports) → Drives events given loads nothing_sent sent (Err RunnerGone) → sent.runner_gone ≢ 0
+pub found_runner_gone : (events given : List Incoming) (loads : List Load) (sent : Ports)
+    → Drives events given loads nothing_sent sent (Err RunnerGone) → sent.runner_gone ≢ 0
 found_runner_gone events given loads sent (gives_up cannot from short) = λ none.
     let found = short.fails.breaks.1 in
-    let kept = (keeps_refusals (ordered_at short.stopped) (ordered_at sent) short.quit.quit).1 in omega (arith, found, kept, none)
+    let kept =
+    (keeps_refusals (ordered_at short.stopped) (ordered_at sent) short.quit.quit).1 in omega
+    (arith, found, kept, none)
 
 not_empty : {A : Type 0} (xs : List A) (x : A) → xs ++ x ∷ [] ≢ []
 not_empty [] x none = absurd (search (none, rules))
 not_empty (y ∷ xs) x none = absurd (search (none, rules))
 
 -- Where it answers that the writer is gone, a frame was refused.
-found_gone : (events given : List Incoming) (loads : List Load) (sent : Ports) → Drives events given loads nothing_sent sent (Err WriterGone) → sent.refused ≢ []
+found_gone : (events given : List Incoming) (loads : List Load) (sent : Ports)
+    → Drives events given loads nothing_sent sent (Err WriterGone) → sent.refused ≢ []
 found_gone events given loads sent (gives_up cannot from short) = λ none.
     let broke = short.fails.breaks in
     not_empty short.fails.between.refused broke.frame (sym broke.refused_are ∙ (sym short.quit.refused_are ∙ none))
@@ -164,12 +187,14 @@ last_sent (p ∷ pieces) last [] ys own one other e =
 last_sent (p ∷ pieces) last (x ∷ xs) ys own one other e = last_sent pieces last xs ys own one other (tail_is e)
 
 -- all that was sent was taken where that has an event that is no piece
-all_taken : (end : ReadEnd) (taken client front back : List Incoming) (own : Incoming) (old later : Supply) → IsReadUntil end client old later
+all_taken : (end : ReadEnd) (taken client front back : List Incoming) (own : Incoming) (old later : Supply)
+    → IsReadUntil end client old later
     → Begins taken client → ¬ IsPiece own → taken ≡ front ++ own ∷ back → taken ≡ client
 all_taken end taken client front back own old later read begins other has =
     let sent : front ++ own ∷ (back ++ begins.0) ≡ map Piece read.pieces ++ last_of end =
     sym (append_assoc front (own ∷ back) begins.0) ∙ (ap (λ l. l ++ begins.0) (sym has) ∙ (begins.1 ∙ read.sent_are)) in
-    let none : back ++ begins.0 ≡ [] = last_sent read.pieces (last_of end) front (back ++ begins.0) own (last_one end) other sent in
+    let none : back ++ begins.0 ≡ [] =
+    last_sent read.pieces (last_of end) front (back ++ begins.0) own (last_one end) other sent in
     let nothing : begins.0 ≡ [] = ap (λ l. l ++ begins.0) (sym (append_none back begins.0 none)) ∙ none in
     sym (append-nil taken) ∙ (ap (λ l. taken ++ l) (sym nothing) ∙ begins.1)
 
@@ -177,7 +202,8 @@ all_taken end taken client front back own old later read begins other has =
 
 -- the last act took Quit, or a report was returned
 abbrev EndsBy : List Act → Type 0
-EndsBy acts = ((front : List PlainOrder) × (flat_map order_in acts ≡ front ++ Quit ∷ [])) ⊎ (flat_map handed_back_in acts ≢ [])
+EndsBy acts =
+    ((front : List PlainOrder) × (flat_map order_in acts ≡ front ++ Quit ∷ [])) ⊎ (flat_map handed_back_in acts ≢ [])
 
 -- an act that leads to the end took Quit, or was a report returned
 abbrev Finishes : Act → Runner → Type 0
@@ -205,8 +231,15 @@ last_act act next ended (inr (inl quits)) = inl ([], append-nil (order_in act) �
 last_act act next ended (inr (inr refused)) = inr (λ e. refused (append_none (handed_back_in act) [] e))
 
 act_before : (act : Act) (acts : List Act) → EndsBy acts → EndsBy (act ∷ acts)
-act_before act acts (inl quits) = inl (order_in act ++ quits.0, ap (λ l. order_in act ++ l) quits.1 ∙ sym (append_assoc (order_in act) quits.0 (Quit ∷ [])))
-act_before act acts (inr refused) = inr (λ e. refused (ap (λ l. l ++ flat_map handed_back_in acts) (sym (append_none (handed_back_in act) (flat_map handed_back_in acts) e)) ∙ e))
+act_before act acts (inl quits) =
+    inl (
+      order_in act ++ quits.0,
+      ap (λ l. order_in act ++ l) quits.1
+          ∙ sym (append_assoc (order_in act) quits.0 (Quit ∷ [])),
+    )
+act_before act acts (inr refused) =
+    inr (λ e. refused (ap (λ l. l ++ flat_map handed_back_in acts)
+    (sym (append_none (handed_back_in act) (flat_map handed_back_in acts) e)) ∙ e))
 
 ends_by_some : (from : Runner) (act : Act) (acts : List Act) → Leads from (act ∷ acts) Ended → EndsBy (act ∷ acts)
 ends_by_some from act [] leads = last_act act leads.0 leads.2 (finishes leads.1)
@@ -218,48 +251,67 @@ ends_by (act ∷ acts) leads = ends_by_some Idle act acts leads
 
 -- ---- all together
 
-takes_client : (result : Result Closed SessionFault) (events given client : List Incoming) (loads : List Load) (sent : Ports) (end : ReadEnd) (old later : Supply)
-    → Drives events given loads nothing_sent sent result → IsReadUntil end client old later → Begins (from_client given) client
+takes_client : (result : Result Closed SessionFault) (events given client : List Incoming) (loads : List Load)
+    (sent : Ports) (end : ReadEnd) (old later : Supply)
+    → Drives events given loads nothing_sent sent result → IsReadUntil end client old later
+    → Begins (from_client given) client
     → TakesAllSent result (from_client given) client
 takes_client (Ok closed.Disconnected) events given client loads sent end old later drives read begins = begins
 takes_client (Ok closed.InputEnded) events given client loads sent end old later (closes from serves) read begins =
     let by = closed_by_end events serves.past serves.rest serves.history serves.ending_is in
     let own = interleaved_end events given loads from by.0 by.1 by.2 in
-    all_taken end (from_client given) client (from_client own.0) (from_client own.1) End old later read begins (λ p. p) (ap from_client own.2 ∙ client_append own.0 (End ∷ own.1))
+    all_taken end (from_client given) client (from_client own.0) (from_client own.1) End old later read begins (λ p. p)
+    (ap from_client own.2 ∙ client_append own.0 (End ∷ own.1))
 takes_client (Ok closed.ReadFailed) events given client loads sent end old later (closes from serves) read begins =
     let by = closed_by_failure events serves.past serves.rest serves.history serves.ending_is in
     let own = interleaved_failure events given loads from by.0 by.1 by.2 in
-    all_taken end (from_client given) client (from_client own.0) (from_client own.1) ReadFailed old later read begins (λ p. p) (ap from_client own.2 ∙ client_append own.0 (ReadFailed ∷ own.1))
+    all_taken end (from_client given) client (from_client own.0) (from_client own.1) ReadFailed old later read begins
+    (λ p. p) (ap from_client own.2 ∙ client_append own.0 (ReadFailed ∷ own.1))
 takes_client (Err fault) events given client loads sent end old later drives read begins = begins
 
-all_orders : (events : List Incoming) (by : Ending) (sent : Ports) (acts : List Act) → Serves events by nothing_sent sent → Begins (flat_map order_in acts) sent.orders
-    → EndsBy acts → (flat_map order_in acts ≡ sent.orders) ⊎ (Begins (flat_map order_in acts) sent.orders × (flat_map handed_back_in acts ≢ []))
+all_orders : (events : List Incoming) (by : Ending) (sent : Ports) (acts : List Act)
+    → Serves events by nothing_sent sent → Begins (flat_map order_in acts) sent.orders
+    → EndsBy acts → (flat_map order_in acts ≡ sent.orders) ⊎ (Begins (flat_map order_in acts) sent.orders
+    × (flat_map handed_back_in acts ≢ []))
 all_orders events by sent acts serves begins (inl quits) =
     let whole : orders_of serves.past ≡ quits.0 ++ Quit ∷ begins.0 =
-    sym serves.orders_are ∙ (sym begins.1 ∙ (ap (λ l. l ++ begins.0) quits.1 ∙ append_assoc quits.0 (Quit ∷ []) begins.0)) in
+    sym serves.orders_are ∙ (sym begins.1 ∙ (ap (λ l. l ++ begins.0) quits.1
+    ∙ append_assoc quits.0 (Quit ∷ []) begins.0)) in
     let nothing : begins.0 ≡ [] = quit_is_last events serves.past serves.rest serves.history quits.0 begins.0 whole in
     inl (sym (append-nil (flat_map order_in acts)) ∙ (ap (λ l. flat_map order_in acts ++ l) (sym nothing) ∙ begins.1))
 all_orders events by sent acts serves begins (inr refused) = inr (begins, refused)
 
-takes_orders : (result : Result Closed SessionFault) (events given : List Incoming) (loads : List Load) (sent : Ports) (acts : List Act)
-    → Drives events given loads nothing_sent sent result → Leads Idle acts Ended → Begins (flat_map order_in acts) sent.orders
+takes_orders : (result : Result Closed SessionFault) (events given : List Incoming) (loads : List Load) (sent : Ports)
+    (acts : List Act)
+    → Drives events given loads nothing_sent sent result → Leads Idle acts Ended
+    → Begins (flat_map order_in acts) sent.orders
     → TakesAllOrders result acts sent.orders
-takes_orders (Ok by) events given loads sent acts (closes from serves) leads begins = all_orders events (ending.Closed by) sent acts serves begins (ends_by acts leads)
+takes_orders (Ok by) events given loads sent acts (closes from serves) leads begins =
+    all_orders events (ending.Closed by) sent acts serves begins (ends_by acts leads)
 takes_orders (Err fault) events given loads sent acts drives leads begins = begins
 
 -- Nothing was taken, put or pushed when all began.
-pub gathers : (wrote : Result (Unit {0}) WriteFailed) (result : Result Closed SessionFault) (loads later_loads : List Load) (passed later_passed : List (ℕ × ℕ)) (old later : Streams)
-    (given : List Incoming) (put : List WriterMessage) (pushed : Ordered) (end : ReadEnd) (client : List Incoming) (acts : List Act) (reports : List PlainReport) (orders : List PlainOrder) (taken : List WriterMessage)
+pub gathers : (wrote : Result (Unit {0}) WriteFailed) (result : Result Closed SessionFault)
+    (loads later_loads : List Load) (passed later_passed : List (ℕ × ℕ)) (old later : Streams)
+    (given : List Incoming) (put : List WriterMessage) (pushed : Ordered) (end : ReadEnd) (client : List Incoming)
+    (acts : List Act) (reports : List PlainReport) (orders : List PlainOrder) (taken : List WriterMessage)
     → Drove result [] given loads later_loads nothing_sent put pushed
     → IsReadUntil end client (input_of old) (input_of later) → Begins (from_client given) client
-    → Leads Idle acts Ended → orders ≡ flat_map order_in acts → reports ≡ flat_map sent_in acts → Begins orders pushed.orders → (pushed.fulls ≢ 0 → FourWereInside pushed.orders) → Begins (reports_among given) reports
+    → Leads Idle acts Ended → orders ≡ flat_map order_in acts → reports ≡ flat_map sent_in acts
+    → Begins orders pushed.orders → (pushed.fulls ≢ 0 → FourWereInside pushed.orders)
+    → Begins (reports_among given) reports
     → later_passed ≡ passed ++ flat_map passed_in acts
     → IsWrittenUntil wrote taken (output_of old) (output_of later) → Begins taken put
     → IsDriven wrote result loads later_loads passed later_passed old later
-gathers wrote result loads later_loads passed later_passed old later given put pushed end client acts reports orders taken drove read client_taken leads orders_are reports_are orders_taken four reports_taken gate_passed written put_taken =
+gathers wrote result loads later_loads passed later_passed old later given put pushed end client acts reports orders
+    taken drove read client_taken leads orders_are reports_are orders_taken four reports_taken gate_passed written
+    put_taken =
     let d = drove.driven in
-    let drives : Drives d.events given d.loads nothing_sent drove.later result = subst (λ g. Drives d.events g d.loads nothing_sent drove.later result) (sym d.given_are) d.drives in
-    let begins : Begins (flat_map order_in acts) drove.later.orders = subst (λ o. Begins o drove.later.orders) orders_are (subst (λ o. Begins orders o) drove.orders_are orders_taken) in
+    let drives : Drives d.events given d.loads nothing_sent drove.later result =
+    subst (λ g. Drives d.events g d.loads nothing_sent drove.later result) (sym d.given_are) d.drives in
+    let begins : Begins (flat_map order_in acts) drove.later.orders =
+    subst (λ o. Begins o drove.later.orders) orders_are (subst (λ o. Begins orders o) drove.orders_are orders_taken)
+    in
     record {
       events = d.events;
       given = given;
@@ -270,17 +322,24 @@ gathers wrote result loads later_loads passed later_passed old later given put p
       loads_are = d.loads_are;
       never_gone = drove.never_gone;
       full = λ is. subst FourWereInside drove.orders_are
-          (four (λ none. found_full d.events given d.loads drove.later (subst (λ r. Drives d.events given d.loads nothing_sent drove.later r) is drives) (sym drove.fulls_are ∙ none)));
+          (four (λ none. found_full d.events given d.loads drove.later
+          (subst (λ r. Drives d.events given d.loads nothing_sent drove.later r) is drives)
+          (sym drove.fulls_are ∙ none)));
       writer_gone = λ is. write_fails wrote taken put (output_of old) (output_of later) put_taken
-          (drove.refused (found_gone d.events given d.loads drove.later (subst (λ r. Drives d.events given d.loads nothing_sent drove.later r) is drives))) written;
+          (drove.refused (found_gone d.events given d.loads drove.later
+          (subst (λ r. Drives d.events given d.loads nothing_sent drove.later r) is drives))) written;
       end = end;
       client = client;
       read = read;
-      client_taken = takes_client result d.events given client d.loads drove.later end (input_of old) (input_of later) drives read client_taken;
+      client_taken =
+          takes_client result d.events given client d.loads drove.later end (input_of old) (input_of later) drives read
+          client_taken;
       acts = acts;
       worked = leads;
       orders_taken = takes_orders result d.events given d.loads drove.later acts drives leads begins;
       reports_taken = subst (λ r. Begins (reports_among given) r) reports_are reports_taken;
       gate_passed = gate_passed;
-      written = writes_frames wrote taken put drove.later.frames (output_of old) (output_of later) put_taken drove.frames_are drove.ended written;
+      written =
+          writes_frames wrote taken put drove.later.frames (output_of old) (output_of later) put_taken drove.frames_are
+          drove.ended written;
     }

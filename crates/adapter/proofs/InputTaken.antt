@@ -1,10 +1,9 @@
 -- What of the input a session took, by what closed it.
-use Rattle.std.proofs.Common.{◌≡◌, ◌⊎◌, inl, inr, ℕ, true, false, Bool, true≢false, List, [], ◌∷◌, ◌++◌, Option, None, Some, Result, Ok, Err, refl, sym, ap, ◌∙◌, subst, append_assoc, append-nil}
+use Rattle.std.proofs.Common.{◌≡◌, ◌⊎◌, inl, inr, ℕ, true, false, Bool, true≢false, List, [], ◌∷◌, ◌++◌, Option, None, Some, Ok, refl, sym, ap, ◌∙◌, subst, append_assoc, append-nil}
 use Rattle.std.specs.Prelude.{map}
 use Rattle.std.specs.Io.KnownBytes.{Consumes, IsAtEnd}
 use Rattle.dap_msg.specs.declared.command.Command.{Command}
 use Rattle.dap_msg.specs.declared.command.Command.TheVariants as command
-use Rattle.dap_msg.specs.declared.request.Request.{Request}
 use Rattle.dbg_runner.specs.declared.outcome.SliceOutcome.{SliceOutcome}
 use Rattle.dbg_runner.specs.declared.outcome.SliceOutcome.TheVariants as slice
 use Rattle.dap_history.specs.declared.ending.Closed.TheVariants as closed
@@ -17,9 +16,8 @@ use Rattle.dap_history.specs.Events.{NoMemory as NoMemoryCame}
 use Rattle.dap_history.specs.Interleaving.{Load, IsLoad, Interleaves}
 use Rattle.dap_history.specs.Laws.{stream_of, DisconnectIsLast}
 use Rattle.dap_history.proofs.Closings.{closed_by_end}
-use Rattle.dap_session.specs.Ports.{Ports}
 use Rattle.dap_session.specs.Sending.{Begins}
-use Rattle.dap_session.specs.Serving.{Serves, Drives, closes}
+use Rattle.dap_session.specs.Serving.{Drives, closes}
 use Rattle.dap_wires.specs.declared.reading.ReadEnd.{ReadEnd}
 use Rattle.dap_wires.specs.declared.reading.ReadEnd.TheVariants as ends
 use Rattle.dap_wires.specs.Reading.{IsReadUntil, Loses, last_of}
@@ -41,7 +39,8 @@ consumes_both : (a b c : Option (List ℕ)) (xs ys : List ℕ) → Consumes a b 
 consumes_both None b c xs ys first second = tt
 consumes_both (Some l) None c xs ys first second = absurd first
 consumes_both (Some l) (Some m) None xs ys first second = absurd second
-consumes_both (Some l) (Some m) (Some n) xs ys first second = first ∙ ap (λ k. xs ++ k) second ∙ sym (append_assoc xs ys n)
+consumes_both (Some l) (Some m) (Some n) xs ys first second =
+    first ∙ ap (λ k. xs ++ k) second ∙ sym (append_assoc xs ys n)
 
 consumed_at : (old later : Supply) → later ≡ old → Consumes old.left later.left []
 consumed_at old later same = subst (λ (s : Supply). Consumes old.left s.left []) (sym same) (consumes_none old.left)
@@ -50,15 +49,18 @@ consumed_at old later same = subst (λ (s : Supply). Consumes old.left s.left []
 
 stream_append : (xs ys : List Incoming) → stream_of (xs ++ ys) ≡ stream_of xs ++ stream_of ys
 stream_append [] ys = refl
-stream_append (Piece p ∷ xs) ys = ap (λ l. p ++ l) (stream_append xs ys) ∙ sym (append_assoc p (stream_of xs) (stream_of ys))
+stream_append (Piece p ∷ xs) ys =
+    ap (λ l. p ++ l) (stream_append xs ys) ∙ sym (append_assoc p (stream_of xs) (stream_of ys))
 stream_append (End ∷ xs) ys = stream_append xs ys
 stream_append (ReadFailed ∷ xs) ys = stream_append xs ys
 stream_append (NoMemoryCame ∷ xs) ys = stream_append xs ys
 stream_append (File file ∷ xs) ys = stream_append xs ys
 stream_append (Report r ∷ xs) ys = stream_append xs ys
 
-stream_more : (e : Incoming) (xs ys : List Incoming) → stream_of xs ≡ stream_of ys → stream_of (e ∷ xs) ≡ stream_of (e ∷ ys)
-stream_more e xs ys same = stream_append (e ∷ []) xs ∙ ap (λ l. stream_of (e ∷ []) ++ l) same ∙ sym (stream_append (e ∷ []) ys)
+stream_more : (e : Incoming) (xs ys : List Incoming) → stream_of xs ≡ stream_of ys
+    → stream_of (e ∷ xs) ≡ stream_of (e ∷ ys)
+stream_more e xs ys same =
+    stream_append (e ∷ []) xs ∙ ap (λ l. stream_of (e ∷ []) ++ l) same ∙ sym (stream_append (e ∷ []) ys)
 
 client_stream : (xs : List Incoming) → stream_of (from_client xs) ≡ stream_of xs
 client_stream [] = refl
@@ -71,7 +73,8 @@ client_stream (Report r ∷ xs) = client_stream xs
 
 -- ---- what was read
 
-reads_stream : (e : Incoming) (old later : Supply) → IsRead e old later → Consumes old.left later.left (stream_of (e ∷ []))
+reads_stream : (e : Incoming) (old later : Supply) → IsRead e old later
+    → Consumes old.left later.left (stream_of (e ∷ []))
 reads_stream (Piece p) old later read = subst (λ l. Consumes old.left later.left l) (sym (append-nil p)) read.0
 reads_stream End old later read = read.0
 reads_stream ReadFailed old later read = read.0
@@ -79,19 +82,23 @@ reads_stream NoMemoryCame old later read = read.0
 reads_stream (File file) old later read = absurd read
 reads_stream (Report r) old later same = consumed_at old later same
 
-read_stream : (events : List Incoming) (old later : Supply) → AreRead events old later → Consumes old.left later.left (stream_of events)
+read_stream : (events : List Incoming) (old later : Supply) → AreRead events old later
+    → Consumes old.left later.left (stream_of events)
 read_stream [] old later same = consumed_at old later same
 read_stream (e ∷ events) old later read =
     subst (λ l. Consumes old.left later.left l) (sym (stream_append (e ∷ []) events))
-    (consumes_both old.left read.0.left later.left (stream_of (e ∷ [])) (stream_of events) (reads_stream e old read.0 read.1) (read_stream events read.0 later read.2))
+    (consumes_both old.left read.0.left later.left (stream_of (e ∷ [])) (stream_of events)
+    (reads_stream e old read.0 read.1) (read_stream events read.0 later read.2))
 
 -- an input of which the end was read is at its end
-read_to_end : (events : List Incoming) (old later : Supply) → AreRead (events ++ End ∷ []) old later → IsAtEnd later.left
+read_to_end : (events : List Incoming) (old later : Supply) → AreRead (events ++ End ∷ []) old later
+    → IsAtEnd later.left
 read_to_end [] old later read = subst (λ (s : Supply). IsAtEnd s.left) (sym read.2) read.1.1
 read_to_end (e ∷ events) old later read = read_to_end events read.0 later read.2
 
 -- the last event, which was returned, was read too
-lost_stream : (end : ReadEnd) (mid later : Supply) → Loses end mid later → (lost : List ℕ) × Consumes mid.left later.left lost
+lost_stream : (end : ReadEnd) (mid later : Supply) → Loses end mid later → (lost : List ℕ)
+    × Consumes mid.left later.left lost
 lost_stream ends.Ended mid later same = ([], consumed_at mid later same)
 lost_stream ends.Failed mid later same = ([], consumed_at mid later same)
 lost_stream ends.NoMemory mid later same = ([], consumed_at mid later same)
@@ -137,11 +144,13 @@ no_end_loads : (before : List Incoming) (e : Incoming) (load : Load) → IsLoad 
 no_end_loads before (File file) load is same = absurd cc
 no_end_loads before _ load is same = absurd is
 
-load_stream : (before : List Incoming) (e : Incoming) (load : Load) (events : List Incoming) → IsLoad before e load → stream_of (e ∷ events) ≡ stream_of events
+load_stream : (before : List Incoming) (e : Incoming) (load : Load) (events : List Incoming) → IsLoad before e load
+    → stream_of (e ∷ events) ≡ stream_of events
 load_stream before (File file) load events is = refl
 load_stream before _ load events is = absurd is
 
-inbox_stream : (before events given : List Incoming) (loads : List Load) → Interleaves before events given loads → stream_of given ≡ stream_of events
+inbox_stream : (before events given : List Incoming) (loads : List Load) → Interleaves before events given loads
+    → stream_of given ≡ stream_of events
 inbox_stream before [] given loads from = ap stream_of from.0
 inbox_stream before (e ∷ events) given loads (inl from) =
     inbox_stream (before ++ e ∷ []) events given from.1 from.4 ∙ sym (load_stream before e from.0 events from.3)
@@ -156,14 +165,26 @@ record IsSplit (front back given : List Incoming) : Type 0 where
   pub before : stream_of first ≡ stream_of front
   pub after : stream_of last ≡ stream_of back
 
-split : (so_far events given : List Incoming) (loads : List Load) → Interleaves so_far events given loads → (front back : List Incoming) → events ≡ front ++ End ∷ back → IsSplit front back given
+split : (so_far events given : List Incoming) (loads : List Load) → Interleaves so_far events given loads
+    → (front back : List Incoming) → events ≡ front ++ End ∷ back → IsSplit front back given
 split so_far [] given loads from [] back is = absurd cc
 split so_far [] given loads from (x ∷ front) back is = absurd cc
-split so_far (e ∷ events) given loads (inl from) [] back is = absurd (no_end_loads so_far e from.0 from.3 (ap (first_event End) is))
+split so_far (e ∷ events) given loads (inl from) [] back is =
+    absurd (no_end_loads so_far e from.0 from.3 (ap (first_event End) is))
 split so_far (e ∷ events) given loads (inl from) (x ∷ front) back is =
     let there = split (so_far ++ e ∷ []) events given from.1 from.4 front back (ap later_events is) in
-    let kept : stream_of (x ∷ front) ≡ stream_of front = subst (λ y. stream_of (y ∷ front) ≡ stream_of front) (ap (first_event End) is) (load_stream so_far e from.0 front from.3) in
-    record { first = there.first; last = there.last; given_are = there.given_are; before = there.before ∙ sym kept; after = there.after }
+    let kept : stream_of (x ∷ front) ≡ stream_of front =
+    subst (λ y. stream_of (y ∷ front) ≡ stream_of front) (ap (first_event End) is)
+    (load_stream so_far e from.0 front from.3) in
+    record {
+      first =
+          there.first;
+      last = there.last;
+      given_are = there.given_are;
+      before = there.before
+          ∙ sym kept;
+      after = there.after;
+    }
 split so_far (e ∷ events) given loads (inr from) [] back is = record {
   first = [];
   last = from.0;
@@ -184,14 +205,18 @@ split so_far (e ∷ events) given loads (inr from) (x ∷ front) back is =
 -- ---- closed by the input's end
 
 module _ (events given client : List Incoming) (loads : List Load) (end : ReadEnd) (old later : Supply)
-    (from : Interleaves [] events given loads) (read : IsReadUntil end client old later) (taken : from_client given ≡ client) where
+    (from : Interleaves [] events given loads) (read : IsReadUntil end client old later)
+    (taken : from_client given ≡ client) where
   whole_input : (front back : List Incoming) → events ≡ front ++ End ∷ back → TakesWholeInput events old later
   whole_input front back is = record {
     front = front;
     back = back;
     events_are = is;
-    whole = subst (λ l. Consumes old.left later.left l) all (subst (λ (s : Supply). Consumes old.left s.left (stream_of client)) (sym same) (read_stream client old read.mid read.read));
-    at_end = subst (λ (s : Supply). IsAtEnd s.left) (sym same) (read_to_end (from_client parts.first) old read.mid (subst (λ l. AreRead l old read.mid) last_is read.read));
+    whole = subst (λ l. Consumes old.left later.left l) all
+        (subst (λ (s : Supply). Consumes old.left s.left (stream_of client)) (sym same)
+        (read_stream client old read.mid read.read));
+    at_end = subst (λ (s : Supply). IsAtEnd s.left) (sym same)
+        (read_to_end (from_client parts.first) old read.mid (subst (λ l. AreRead l old read.mid) last_is read.read));
     nothing_after = sym parts.after ∙ none_after;
   }
     where
@@ -205,7 +230,8 @@ module _ (events given client : List Incoming) (loads : List Load) (end : ReadEn
       sent = sym client_is ∙ read.sent_are
 
       none : from_client parts.last ≡ []
-      none = last_sent read.pieces (last_of end) (from_client parts.first) (from_client parts.last) End (last_one end) (λ p. p) sent
+      none = last_sent read.pieces (last_of end) (from_client parts.first) (from_client parts.last) End (last_one end)
+          (λ p. p) sent
 
       none_after : stream_of parts.last ≡ []
       none_after = sym (client_stream parts.last) ∙ ap stream_of none
@@ -214,22 +240,26 @@ module _ (events given client : List Incoming) (loads : List Load) (end : ReadEn
       last_is = client_is ∙ ap (λ l. from_client parts.first ++ End ∷ l) none
 
       ended : end ≡ ends.Ended
-      ended = has_ended end (sym (end_is_last read.pieces (last_of end)) ∙ ap has_end (sym sent) ∙ has_this_end (from_client parts.first) (from_client parts.last))
+      ended = has_ended end (sym (end_is_last read.pieces (last_of end)) ∙ ap has_end (sym sent)
+          ∙ has_this_end (from_client parts.first) (from_client parts.last))
 
       same : later ≡ read.mid
       same = subst (λ e. Loses e read.mid later) ended read.loses
 
       all : stream_of client ≡ stream_of front
-      all = ap stream_of last_is ∙ stream_append (from_client parts.first) (End ∷ []) ∙ append-nil (stream_of (from_client parts.first))
+      all = ap stream_of last_is ∙ stream_append (from_client parts.first) (End ∷ [])
+          ∙ append-nil (stream_of (from_client parts.first))
           ∙ client_stream parts.first ∙ parts.before
 
 pub input_taken_whole : InputIsTakenWhole
 input_taken_whole wrote loads later_loads passed later_passed old later driven = by_drives driven.drives
   where
-    by_drives : Drives driven.events driven.given driven.loaded nothing_sent driven.sent (Ok closed.InputEnded) → TakesWholeInput driven.events (input_of old) (input_of later)
+    by_drives : Drives driven.events driven.given driven.loaded nothing_sent driven.sent (Ok closed.InputEnded)
+        → TakesWholeInput driven.events (input_of old) (input_of later)
     by_drives (closes from serves) =
         let by = closed_by_end driven.events serves.past serves.rest serves.history serves.ending_is in
-        whole_input driven.events driven.given driven.client driven.loaded driven.end (input_of old) (input_of later) from driven.read driven.client_taken by.0 by.1 by.2
+        whole_input driven.events driven.given driven.client driven.loaded driven.end (input_of old) (input_of later)
+        from driven.read driven.client_taken by.0 by.1 by.2
 
 -- ---- closed by a `disconnect`
 
@@ -244,24 +274,37 @@ find : {A B : Type 0} (f : A → Option B) (xs : List A) (y : B) → last_such f
 find f [] y is = absurd cc
 find {A} {B} f (x ∷ xs) y is = by_last (last_such f xs) refl is (λ later. find f xs y later)
   where
-    by_last : (o : Option B) → last_such f xs ≡ o → or_else o (f x) ≡ Some y → (last_such f xs ≡ Some y → IsFound f xs y) → IsFound f (x ∷ xs) y
+    by_last : (o : Option B) → last_such f xs ≡ o → or_else o (f x) ≡ Some y
+        → (last_such f xs ≡ Some y → IsFound f xs y) → IsFound f (x ∷ xs) y
     by_last None same here further = record { front = []; found = x; back = xs; are = refl; gives = here }
     by_last (Some z) same there further =
         let more = further (same ∙ there) in
-        record { front = x ∷ more.front; found = more.found; back = more.back; are = ap (λ l. x ∷ l) more.are; gives = more.gives }
+        record {
+          front =
+              x ∷ more.front;
+          found = more.found;
+          back = more.back;
+          are = ap (λ l. x ∷ l) more.are;
+          gives = more.gives;
+        }
 
-command_disconnects : (c : Command) → closing_command c ≡ Some (ending.Closed closed.Disconnected) → c ≡ command.Disconnect
+command_disconnects : (c : Command) → closing_command c ≡ Some (ending.Closed closed.Disconnected)
+    → c ≡ command.Disconnect
 command_disconnects command.Disconnect is = refl
 command_disconnects _ is = absurd cc
 
-report_disconnects_not : (outcome : SliceOutcome) → ¬ (closing_report outcome ≡ Some (ending.Closed closed.Disconnected))
+report_disconnects_not : (outcome : SliceOutcome) → ¬
+    (closing_report outcome ≡ Some (ending.Closed closed.Disconnected))
 report_disconnects_not slice.NoMemory is = absurd cc
 report_disconnects_not _ is = absurd cc
 
 item_disconnects : (item : Item) → closing item ≡ Some (ending.Closed closed.Disconnected) → AsksToDisconnect item
 item_disconnects (Content None) is = absurd cc
-item_disconnects (Content (Some request)) is =
-    (request.seq, ap (λ c. Content (Some (record { seq = request.seq; body = c }))) (command_disconnects request.body is))
+item_disconnects (Content (Some request)) is = (
+  request.seq,
+  ap (λ c. Content (Some (record { seq = request.seq; body = c })))
+      (command_disconnects request.body is),
+)
 item_disconnects (Loaded launch file) is = absurd cc
 item_disconnects (Accepted r) is = absurd (report_disconnects_not r.outcome is)
 item_disconnects (Fault k) is = absurd cc
@@ -273,13 +316,22 @@ not_none : {A : Type 0} (xs : List A) (x : A) → ¬ (xs ++ x ∷ [] ≡ [])
 not_none [] x is = absurd cc
 not_none (y ∷ xs) x is = absurd cc
 
-module _ (last : DisconnectIsLast) (events given client : List Incoming) (loads : List Load) (end : ReadEnd) (old later : Supply)
-    (from : Interleaves [] events given loads) (read : IsReadUntil end client old later) (taken : Begins (from_client given) client) where
-  first_disconnect : (past : History) (rest : Rest) → IsHistoryOf events past rest → ending_of past ≡ Some (ending.Closed closed.Disconnected) → TakesFirstDisconnect events old later
+module _ (last : DisconnectIsLast) (events given client : List Incoming) (loads : List Load) (end : ReadEnd)
+    (old later : Supply)
+    (from : Interleaves [] events given loads) (read : IsReadUntil end client old later)
+    (taken : Begins (from_client given) client) where
+  first_disconnect : (past : History) (rest : Rest) → IsHistoryOf events past rest
+      → ending_of past ≡ Some (ending.Closed closed.Disconnected) → TakesFirstDisconnect events old later
   first_disconnect past rest history is = record {
     read = stream_of client ++ lost.0;
-    consumed = consumes_both old.left read.mid.left later.left (stream_of client) lost.0 (read_stream client old read.mid read.read) lost.1;
-    begins = (stream_of taken.0 ++ lost.0, sym (append_assoc (stream_of events) (stream_of taken.0) lost.0) ∙ ap (λ l. l ++ lost.0) client_is);
+    consumed =
+        consumes_both old.left read.mid.left later.left (stream_of client) lost.0
+        (read_stream client old read.mid read.read) lost.1;
+    begins = (
+      stream_of taken.0 ++ lost.0,
+      sym (append_assoc (stream_of events) (stream_of taken.0) lost.0)
+          ∙ ap (λ l. l ++ lost.0) client_is,
+    );
     before = closer.front;
     step = closer.found;
     rest = rest;
@@ -287,14 +339,16 @@ module _ (last : DisconnectIsLast) (events given client : List Incoming) (loads 
     asks = asks;
     first = λ front other back before_is others.
         not_none back closer.found (last events past rest history front other (back ++ closer.found ∷ []) others.0
-        (past_is ∙ ap (λ l. l ++ closer.found ∷ []) before_is ∙ append_assoc front (other ∷ back) (closer.found ∷ [])) others.1).0;
+        (past_is ∙ ap (λ l. l ++ closer.found ∷ []) before_is ∙ append_assoc front (other ∷ back) (closer.found ∷ []))
+        others.1).0;
   }
     where
       lost : (lost : List ℕ) × Consumes read.mid.left later.left lost
       lost = lost_stream end read.mid later read.loses
 
       client_is : stream_of events ++ stream_of taken.0 ≡ stream_of client
-      client_is = ap (λ l. l ++ stream_of taken.0) (sym (inbox_stream [] events given loads from) ∙ sym (client_stream given))
+      client_is =
+          ap (λ l. l ++ stream_of taken.0) (sym (inbox_stream [] events given loads from) ∙ sym (client_stream given))
           ∙ sym (stream_append (from_client given) taken.0) ∙ ap stream_of taken.1
 
       closer : IsFound (λ (step : Step). closing step.item) past (ending.Closed closed.Disconnected)
@@ -304,12 +358,16 @@ module _ (last : DisconnectIsLast) (events given client : List Incoming) (loads 
       asks = item_disconnects closer.found.item closer.gives
 
       past_is : past ≡ closer.front ++ closer.found ∷ []
-      past_is = closer.are ∙ ap (λ l. closer.front ++ closer.found ∷ l) (last events past rest history closer.front closer.found closer.back asks.0 closer.are asks.1).0
+      past_is =
+          closer.are ∙ ap (λ l. closer.front ++ closer.found ∷ l)
+          (last events past rest history closer.front closer.found closer.back asks.0 closer.are asks.1).0
 
 pub first_disconnect_closes : DisconnectIsLast → FirstDisconnectCloses
 first_disconnect_closes last wrote loads later_loads passed later_passed old later driven = by_drives driven.drives
   where
-    by_drives : Drives driven.events driven.given driven.loaded nothing_sent driven.sent (Ok closed.Disconnected) → TakesFirstDisconnect driven.events (input_of old) (input_of later)
+    by_drives : Drives driven.events driven.given driven.loaded nothing_sent driven.sent (Ok closed.Disconnected)
+        → TakesFirstDisconnect driven.events (input_of old) (input_of later)
     by_drives (closes from serves) =
-        first_disconnect last driven.events driven.given driven.client driven.loaded driven.end (input_of old) (input_of later) from driven.read driven.client_taken
+        first_disconnect last driven.events driven.given driven.client driven.loaded driven.end (input_of old)
+        (input_of later) from driven.read driven.client_taken
         serves.past serves.rest serves.history serves.ending_is

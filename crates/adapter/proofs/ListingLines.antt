@@ -11,11 +11,14 @@ use Rattle.pl0_unit.specs.Code.{IsUnitOf}
 use Rattle.adapter.specs.Listing.{lines_from, step_line, instruction_line, begun_by, line_feed, listing_text}
 
 drop_item : {A : Type 0} (xs : List A) (i : ℕ) (d : A) → i < length xs → drop i xs ≡ get_or xs i d ∷ drop (i + 1) xs
-drop_item xs i d inside = drop-cons xs i d inside ∙ ap (λ n. get_or xs i d ∷ drop n xs) (let same : suc i ≡ i + 1 = omega arith in same)
+drop_item xs i d inside =
+    drop-cons xs i d inside ∙ ap (λ n. get_or xs i d ∷ drop n xs) (let same : suc i ≡ i + 1 = omega arith in same)
 
 -- what was written and the lines of the items that are left are the whole text
-pub lines_next : {A : Type 0} (line : ℕ → A → List ℕ) (xs : List A) (n : ℕ) (d : A) (old new whole : List ℕ) → n < length xs
-    → new ≡ old ++ line n (get_or xs n d) → old ++ lines_from line n (drop n xs) ≡ whole → new ++ lines_from line (n + 1) (drop (n + 1) xs) ≡ whole
+pub lines_next : {A : Type 0} (line : ℕ → A → List ℕ) (xs : List A) (n : ℕ) (d : A) (old new whole : List ℕ)
+    → n < length xs
+    → new ≡ old ++ line n (get_or xs n d) → old ++ lines_from line n (drop n xs) ≡ whole → new
+    ++ lines_from line (n + 1) (drop (n + 1) xs) ≡ whole
 lines_next line xs n d old new whole inside wrote before =
     ap (λ t. t ++ lines_from line (n + 1) (drop (n + 1) xs)) wrote
     ∙ append_assoc old (line n (get_or xs n d)) (lines_from line (n + 1) (drop (n + 1) xs))
@@ -39,7 +42,8 @@ same_lines main n (s ∷ ss) (t ∷ ts) are =
     ∙ ap (λ l. step_line n t.kind t.place ++ l) (same_lines main (n + 1) ss ts are.1)
 
 -- a listing is written in three parts
-pub listing_whole : (main : Block) (code : List Instruction) (begun kept : List (Option ℕ)) (table : List Step) (start listed parted whole : List ℕ)
+pub listing_whole : (main : Block) (code : List Instruction) (begun kept : List (Option ℕ)) (table : List Step)
+    (start listed parted whole : List ℕ)
     → ∥ IsUnitOf main code begun table ∥₁ → start ≡ []
     → listed ≡ start ++ lines_from (λ n s. step_line n s.kind s.place) 0 table → parted ≡ listed ++ line_feed
     → whole ≡ parted ++ lines_from (λ n i. instruction_line n i (begun_by (slice_get kept n))) 0 code → kept ≡ begun
@@ -47,14 +51,17 @@ pub listing_whole : (main : Block) (code : List Instruction) (begun kept : List 
 listing_whole main code begun kept table start listed parted whole unit empty first second third same_begun =
     third
     ∙ ap (λ b. parted ++ lines_from (λ n i. instruction_line n i (begun_by (slice_get b n))) 0 code) same_begun
-    ∙ ap (λ l. l ++ rest) (second ∙ ap (λ l. l ++ line_feed) (first ∙ ap (λ l. l ++ lines_from (λ n s. step_line n s.kind s.place) 0 table) empty ∙ same))
+    ∙ ap (λ l. l ++ rest) (second ∙ ap (λ l. l ++ line_feed)
+    (first ∙ ap (λ l. l ++ lines_from (λ n s. step_line n s.kind s.place) 0 table) empty ∙ same))
     ∙ append_assoc (lines_from (λ n s. step_line n s.kind s.place) 0 (steps main)) line_feed rest
   where
     rest : List ℕ
     rest = lines_from (λ n i. instruction_line n i (begun_by (slice_get begun n))) 0 code
 
-    same : lines_from (λ n s. step_line n s.kind s.place) 0 table ≡ lines_from (λ n s. step_line n s.kind s.place) 0 (steps main)
+    same : lines_from (λ n s. step_line n s.kind s.place) 0 table ≡ lines_from (λ n s. step_line n s.kind s.place) 0
+        (steps main)
     same = ∥∥₁_elim unit set (λ u. same_lines main 0 table (steps main) u.steps)
       where
-        set : IsProp (lines_from (λ n s. step_line n s.kind s.place) 0 table ≡ lines_from (λ n s. step_line n s.kind s.place) 0 (steps main))
+        set : IsProp (lines_from (λ n s. step_line n s.kind s.place) 0 table ≡ lines_from
+            (λ n s. step_line n s.kind s.place) 0 (steps main))
         set = hlevel codes

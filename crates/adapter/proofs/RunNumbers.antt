@@ -37,7 +37,8 @@ abbrev pub last_from : ℕ → List Act → ℕ
 last_from k [] = k
 last_from k (act ∷ acts) = last_from (next_of k (taken_by act)) acts
 
-pub numbered_acts : (k : ℕ) (acts : List Act) → AreNumbered (k + 1) (filter_map go (flat_map order_in acts)) → NumberedFrom k acts
+pub numbered_acts : (k : ℕ) (acts : List Act) → AreNumbered (k + 1) (filter_map go (flat_map order_in acts))
+    → NumberedFrom k acts
 numbered_acts k [] are = tt
 numbered_acts k (Waited (Go h) ∷ acts) are = (are.0, numbered_acts (k + 1) acts are.1)
 numbered_acts k (Waited (Hold n) ∷ acts) are = (tt, numbered_acts k acts are)
@@ -58,11 +59,13 @@ one_more k last h hs is = omega (arith, is)
 
 pub last_is : (k : ℕ) (acts : List Act) → LastIs k acts
 last_is k [] = omega arith
-last_is k (Waited (Go h) ∷ acts) = one_more k (last_from (k + 1) acts) h (filter_map go (flat_map order_in acts)) (last_is (k + 1) acts)
+last_is k (Waited (Go h) ∷ acts) =
+    one_more k (last_from (k + 1) acts) h (filter_map go (flat_map order_in acts)) (last_is (k + 1) acts)
 last_is k (Waited (Hold n) ∷ acts) = last_is k acts
 last_is k (Waited Quit ∷ acts) = last_is k acts
 last_is k (Looked None ∷ acts) = last_is k acts
-last_is k (Looked (Some (Go h)) ∷ acts) = one_more k (last_from (k + 1) acts) h (filter_map go (flat_map order_in acts)) (last_is (k + 1) acts)
+last_is k (Looked (Some (Go h)) ∷ acts) =
+    one_more k (last_from (k + 1) acts) h (filter_map go (flat_map order_in acts)) (last_is (k + 1) acts)
 last_is k (Looked (Some (Hold n)) ∷ acts) = last_is k acts
 last_is k (Looked (Some Quit) ∷ acts) = last_is k acts
 last_is k (Passed run slice position ∷ acts) = last_is k acts
@@ -81,9 +84,11 @@ last_more k (act ∷ acts) =
     let next = next_more k (taken_by act) in
     let last = last_more (next_of k (taken_by act)) acts in omega (arith, next, last)
 
-numbered_split : (k : ℕ) (xs ys : List Act) → NumberedFrom k (xs ++ ys) → NumberedFrom k xs × NumberedFrom (last_from k xs) ys
+numbered_split : (k : ℕ) (xs ys : List Act) → NumberedFrom k (xs ++ ys) → NumberedFrom k xs
+    × NumberedFrom (last_from k xs) ys
 numbered_split k [] ys are = (tt, are)
-numbered_split k (act ∷ xs) ys are = let more = numbered_split (next_of k (taken_by act)) xs ys are.1 in ((are.0, more.0), more.1)
+numbered_split k (act ∷ xs) ys are =
+    let more = numbered_split (next_of k (taken_by act)) xs ys are.1 in ((are.0, more.0), more.1)
 
 last_split : (k : ℕ) (xs ys : List Act) → last_from k (xs ++ ys) ≡ last_from (last_from k xs) ys
 last_split k [] ys = refl
@@ -105,15 +110,23 @@ abbrev Within : ℕ → ℕ → List PlainReport → Type 0
 Within low high [] = Unit {0}
 Within low high (r ∷ rs) = (low ≤ r.run) × (r.run ≤ high) × Within low high rs
 
-within_both : (low high : ℕ) (xs ys : List PlainReport) → Within low high xs → Within low high ys → Within low high (xs ++ ys)
+within_both : (low high : ℕ) (xs ys : List PlainReport) → Within low high xs → Within low high ys
+    → Within low high (xs ++ ys)
 within_both low high [] ys first second = second
 within_both low high (r ∷ xs) ys first second = (first.0, first.1, within_both low high xs ys first.2 second)
 
-within_wider : (low lower high higher : ℕ) (rs : List PlainReport) → lower ≤ low → high ≤ higher → Within low high rs → Within lower higher rs
+within_wider : (low lower high higher : ℕ) (rs : List PlainReport) → lower ≤ low → high ≤ higher → Within low high rs
+    → Within lower higher rs
 within_wider low lower high higher [] down up within = tt
 within_wider low lower high higher (r ∷ rs) down up within =
     let first = within.0 in
-    let second = within.1 in (omega (arith, first, down), omega (arith, second, up), within_wider low lower high higher rs down up within.2)
+    let second =
+    within.1 in (
+      omega (arith, first, down),
+      omega (arith, second, up),
+      within_wider low lower high higher rs down
+          up within.2,
+    )
 
 -- what an act leads to, after k runs
 abbrev Onward : ℕ → Act → Runner → Type 0
@@ -122,13 +135,16 @@ Onward k act next = OfRun (next_of k (taken_by act)) next × Within k k (sent_in
 at_k : (k : ℕ) (r : PlainReport) → r.run ≡ k → Within k k (r ∷ [])
 at_k k r is = (omega (arith, is), omega (arith, is), tt)
 
-does_run : (k : ℕ) {from next : Runner} {act : Act} → Does from act next → OfRun k from → IsNext k (taken_by act) → Onward k act next
+does_run : (k : ℕ) {from next : Runner} {act : Act} → Does from act next → OfRun k from → IsNext k (taken_by act)
+    → Onward k act next
 does_run k runner.takes_go here number = (number, tt)
 does_run k runner.has_none_to_hold here number = (tt, tt)
 does_run k runner.quits here number = (tt, tt)
 does_run k (runner.passes stands) here number = (here, tt)
-does_run k (runner.goes_on {r = r} of more) here number = (here, at_k k r (ap (λ (h : Heading). h.run) of.of.heading ∙ here))
-does_run k (runner.stops {r = r} of no_more) here number = (tt, at_k k r (ap (λ (h : Heading). h.run) of.of.heading ∙ here))
+does_run k (runner.goes_on {r = r} of more) here number =
+    (here, at_k k r (ap (λ (h : Heading). h.run) of.of.heading ∙ here))
+does_run k (runner.stops {r = r} of no_more) here number =
+    (tt, at_k k r (ap (λ (h : Heading). h.run) of.of.heading ∙ here))
 does_run k (runner.is_refused of) here number = (tt, tt)
 does_run k runner.finds_none here number = (here, tt)
 does_run k runner.finds_go here number = (number, tt)
@@ -139,7 +155,8 @@ does_run k (runner.holds {r = r} of) here number = (tt, at_k k r (ap (λ (h : He
 does_run k (runner.is_refused_held of) here number = (tt, tt)
 
 -- acts report runs from that of their beginning to the last that they take
-leads_run : (k : ℕ) (from : Runner) (acts : List Act) (now : Runner) → Leads from acts now → OfRun k from → NumberedFrom k acts
+leads_run : (k : ℕ) (from : Runner) (acts : List Act) (now : Runner) → Leads from acts now → OfRun k from
+    → NumberedFrom k acts
     → OfRun (last_from k acts) now × Within k (last_from k acts) (flat_map sent_in acts)
 leads_run k from [] now leads here numbered = (subst (OfRun k) leads here, tt)
 leads_run k from (act ∷ acts) now leads here numbered =
@@ -149,11 +166,14 @@ leads_run k from (act ∷ acts) now leads here numbered =
     let last = last_more (next_of k (taken_by act)) acts in (
       onward.0,
       within_both k (last_from (next_of k (taken_by act)) acts) (sent_in act) (flat_map sent_in acts)
-          (within_wider k k k (last_from (next_of k (taken_by act)) acts) (sent_in act) (omega arith) (omega (arith, next, last)) step.1)
-          (within_wider (next_of k (taken_by act)) k (last_from (next_of k (taken_by act)) acts) (last_from (next_of k (taken_by act)) acts) (flat_map sent_in acts) next (omega arith) onward.1),
+          (within_wider k k k (last_from (next_of k (taken_by act)) acts) (sent_in act) (omega arith)
+          (omega (arith, next, last)) step.1)
+          (within_wider (next_of k (taken_by act)) k (last_from (next_of k (taken_by act)) acts)
+          (last_from (next_of k (taken_by act)) acts) (flat_map sent_in acts) next (omega arith) onward.1),
     )
 
-leads_split : (from now : Runner) (xs ys : List Act) → Leads from (xs ++ ys) now → (mid : Runner) × Leads from xs mid × Leads mid ys now
+leads_split : (from now : Runner) (xs ys : List Act) → Leads from (xs ++ ys) now → (mid : Runner) × Leads from xs mid
+    × Leads mid ys now
 leads_split from now [] ys leads = (from, refl, leads)
 leads_split from now (act ∷ xs) ys leads =
     let more = leads_split leads.0 now xs ys leads.2 in (more.0, (leads.0, leads.1, more.1), more.2)
@@ -181,7 +201,8 @@ no_end_below n low high (r ∷ rs) below within =
 no_end_above : (n low high : ℕ) (rs : List PlainReport) → n < low → Within low high rs → NoEnd n rs
 no_end_above n low high [] above within = tt
 no_end_above n low high (r ∷ rs) above within =
-    let down = within.0 in (λ same. absurd (omega (arith, same, down, above)), no_end_above n low high rs above within.2)
+    let down =
+    within.0 in (λ same. absurd (omega (arith, same, down, above)), no_end_above n low high rs above within.2)
 
 -- acts within a run, after which it goes on
 abbrev pub AllKeepOn : List Act → Type 0
@@ -215,7 +236,14 @@ cut_how (later {act = act} keeps cut) = onward (cut_how cut)
   where
     onward : {acts : List Act} → IsCutShort acts ⊎ IsCutByGo acts → IsCutShort (act ∷ acts) ⊎ IsCutByGo (act ∷ acts)
     onward (inl is) = inl (short.later keeps is)
-    onward (inr is) = inr (record { kept = act ∷ is.kept; next = is.next; rest = is.rest; acts_are = ap (λ l. act ∷ l) is.acts_are; keep = (keeps, is.keep) })
+    onward (inr is) =
+        inr (record {
+          kept = act ∷ is.kept;
+          next = is.next;
+          rest = is.rest;
+          acts_are = ap (λ l. act ∷ l) is.acts_are;
+          keep = (keeps, is.keep);
+        })
 
 -- what takes an order sends nothing
 takes_silently : (act : Act) (order : PlainOrder) → taken_by act ≡ Some order → sent_in act ≡ []
@@ -231,7 +259,8 @@ pub record IsEndless (n : ℕ) (acts : List Act) : Type 0 where
   pub not_last : n < last_from 0 acts
   pub none : NoEnd n (flat_map sent_in acts)
 
-module _ (before : List Act) (act : Act) (h : Heading) (now : Runner) (after : List Act) (takes : taken_by act ≡ Some (Go h)) (cut : IsCutByGo after) where
+module _ (before : List Act) (act : Act) (h : Heading) (now : Runner) (after : List Act)
+    (takes : taken_by act ≡ Some (Go h)) (cut : IsCutByGo after) where
   -- how many runs were taken before this one, and up to the next one
   abbrev early : ℕ
   early = last_from 0 before
@@ -245,15 +274,19 @@ module _ (before : List Act) (act : Act) (h : Heading) (now : Runner) (after : L
   abbrev further : List Act
   further = Looked (Some (Go cut.next)) ∷ cut.rest
 
-  pub cut_run : Leads Idle (before ++ act ∷ after) now → NumberedFrom 0 (before ++ act ∷ after) → IsEndless h.run (before ++ act ∷ after)
+  pub cut_run : Leads Idle (before ++ act ∷ after) now → NumberedFrom 0 (before ++ act ∷ after)
+      → IsEndless h.run (before ++ act ∷ after)
   cut_run leads numbered = record {
     first = omega (arith, number);
     not_last = omega (arith, number, whole, kept_more, rest_more);
     none = subst (NoEnd h.run) (sym sent_are)
-        (no_end_both h.run (flat_map sent_in before) (flat_map sent_in after) (no_end_below h.run 0 early (flat_map sent_in before) (omega (arith, number)) first_runs.1)
+        (no_end_both h.run (flat_map sent_in before) (flat_map sent_in after)
+        (no_end_below h.run 0 early (flat_map sent_in before) (omega (arith, number)) first_runs.1)
         (subst (NoEnd h.run) (sym after_are)
-        (no_end_both h.run (flat_map sent_in cut.kept) (flat_map sent_in cut.rest) (all_keep_no_end h.run cut.kept cut.keep)
-        (no_end_above h.run (kept + 1) (last_from (kept + 1) cut.rest) (flat_map sent_in cut.rest) (omega (arith, number, kept_more)) late.1))));
+        (no_end_both h.run (flat_map sent_in cut.kept) (flat_map sent_in cut.rest)
+        (all_keep_no_end h.run cut.kept cut.keep)
+        (no_end_above h.run (kept + 1) (last_from (kept + 1) cut.rest) (flat_map sent_in cut.rest)
+        (omega (arith, number, kept_more)) late.1))));
   }
     where
       parts : (mid : Runner) × Leads Idle before mid × Leads mid (act ∷ after) now
@@ -286,7 +319,8 @@ module _ (before : List Act) (act : Act) (h : Heading) (now : Runner) (after : L
       found : Onward kept (Looked (Some (Go cut.next))) inner.2.0
       found = does_run kept inner.2.1 kept_run.0 inner_numbers.1.0
 
-      late : OfRun (last_from (kept + 1) cut.rest) now × Within (kept + 1) (last_from (kept + 1) cut.rest) (flat_map sent_in cut.rest)
+      late : OfRun (last_from (kept + 1) cut.rest) now × Within (kept + 1) (last_from (kept + 1) cut.rest)
+          (flat_map sent_in cut.rest)
       late = leads_run (kept + 1) inner.2.0 cut.rest now inner.2.2 found.0 inner_numbers.1.1
 
       kept_more : early + 1 ≤ kept
@@ -299,7 +333,9 @@ module _ (before : List Act) (act : Act) (h : Heading) (now : Runner) (after : L
       whole = last_split 0 before (act ∷ after) ∙ ap (last_from begun) cut.acts_are ∙ last_split begun cut.kept further
 
       sent_are : flat_map sent_in (before ++ act ∷ after) ≡ flat_map sent_in before ++ flat_map sent_in after
-      sent_are = flat_map-append sent_in before (act ∷ after) ∙ ap (λ l. flat_map sent_in before ++ (l ++ flat_map sent_in after)) (takes_silently act (Go h) takes)
+      sent_are =
+          flat_map-append sent_in before (act ∷ after) ∙ ap (λ l. flat_map sent_in before
+          ++ (l ++ flat_map sent_in after)) (takes_silently act (Go h) takes)
 
       after_are : flat_map sent_in after ≡ flat_map sent_in cut.kept ++ flat_map sent_in cut.rest
       after_are = ap (flat_map sent_in) cut.acts_are ∙ flat_map-append sent_in cut.kept further

@@ -1,5 +1,5 @@
 -- Each run has one last report, unless it was cut short.
-use Rattle.std.proofs.Common.{◌≡◌, ◌≢◌, ◌⊎◌, inl, inr, ℕ, ◌+◌, ◌<◌, ◌≤◌, List, [], ◌∷◌, ◌++◌, length, Option, None, Some, Result, Ok, refl, sym, ap, ◌∙◌, subst, append-nil, length-append, arith}
+use Rattle.std.proofs.Common.{◌≡◌, ◌≢◌, ◌⊎◌, inl, inr, ℕ, ◌+◌, ◌<◌, ◌≤◌, List, [], ◌∷◌, ◌++◌, length, Option, None, Some, Ok, refl, sym, ap, ◌∙◌, subst, append-nil, length-append, arith}
 use Rattle.std.specs.Prelude.{unwrap_or}
 use Rattle.std.specs.List.{flat_map, filter_map}
 use Rattle.std.proofs.lemmas.Bool.{cases_eq}
@@ -8,14 +8,14 @@ use Rattle.dap_msg.specs.declared.outgoing.StopReason.{StopReason}
 use Rattle.dbg_plan.specs.declared.mode.Mode.{Mode}
 use Rattle.dbg_runner.specs.declared.outcome.SliceOutcome.{SliceOutcome}
 use Rattle.dbg_runner.specs.declared.outcome.SliceOutcome.TheVariants as slice
-use Rattle.dbg_runner.specs.Laws.{taken_by, reports_of_run, AllButLastGoOn, RunsAreReported, HasLast, IsCut, RunsHaveOneLast}
+use Rattle.dbg_runner.specs.Laws.{reports_of_run, RunsAreReported, HasLast, IsCut, RunsHaveOneLast}
 use Rattle.dbg_runner.specs.Plain.{Heading, PlainOrder, PlainReport, Go, Hold, Quit}
 use Rattle.dbg_runner.specs.Queues.{order_in, sent_in}
 use Rattle.dbg_runner.specs.Runner.{Act, Idle, Ended, Leads}
 use Rattle.dap_history.specs.declared.ending.Closed.{Closed}
 use Rattle.dap_history.specs.declared.launch.Launch.{Launch}
 use Rattle.dap_history.specs.declared.situation.Situation.{Situation}
-use Rattle.dap_history.specs.declared.situation.Situation.TheVariants.{Fresh, Ready, Configuring, Running, Stopped, Faulted}
+use Rattle.dap_history.specs.declared.situation.Situation.TheVariants.{Configuring, Running, Stopped, Faulted}
 use Rattle.dap_history.specs.Last.{or_else, last_such}
 use Rattle.dap_history.specs.Plans.{Plan}
 use Rattle.dap_history.specs.History.{Item, Content, Loaded, Accepted, Fault, InputEnd, ReadFailure, MemoryFailure, Effect, Step, History, messages, orders_of}
@@ -35,12 +35,11 @@ use Rattle.dap_history.proofs.Ordered.{CanRun, RunsAs, runs_none, runs_one, all_
 use Rattle.dap_history.proofs.Outputs.{outputs_stop}
 use Rattle.dap_history.proofs.Passing.{loaded_orders}
 use Rattle.dap_history.proofs.Runs.{none_such, AreNumbered}
-use Rattle.dap_history.proofs.Silent.{StopsBy, no_stop, at_first, NextRuns, no_runs, next_run, all_silent}
+use Rattle.dap_history.proofs.Silent.{StopsBy, no_stop, at_first, NextRuns, all_silent}
 use Rattle.dap_history.proofs.Standing.{MarkIs, mark_unwrap, answers_only, ReportsStop, step_stops}
 use Rattle.dap_history.proofs.Started.{IsYoung, was_young}
-use Rattle.dap_session.specs.Ports.{Ports}
 use Rattle.dap_session.specs.Sending.{Begins}
-use Rattle.dap_session.specs.Serving.{Serves, Drives, closes}
+use Rattle.dap_session.specs.Serving.{Drives, closes}
 use Rattle.dap_wires.specs.Senders.{reports_among}
 use Rattle.adapter.specs.Laws.{RunsEndOnce, IsCutShort}
 use Rattle.adapter.specs.Serving.{nothing_sent, TakesAllOrders}
@@ -66,7 +65,8 @@ ended_now : (n : ℕ) (past : History) (step : Step) → Ends n step.item → Ha
 ended_now n [] step ends = inl ends
 ended_now n (s ∷ past) step ends = inr (ended_now n past step ends)
 
-ended_split : (n : ℕ) (past : History) (step : Step) → HasEnded n (past ++ step ∷ []) → HasEnded n past ⊎ Ends n step.item
+ended_split : (n : ℕ) (past : History) (step : Step) → HasEnded n (past ++ step ∷ []) → HasEnded n past
+    ⊎ Ends n step.item
 ended_split n [] step (inl ends) = inr ends
 ended_split n [] step (inr none) = absurd none
 ended_split n (s ∷ past) step (inl here) = inl (inl here)
@@ -111,27 +111,41 @@ module _ (past : History) (step : Step) (here : RunsEnd past) where
   can_run_here Faulted is can = stood_here Faulted is tt
   can_run_here _ is can = absurd can
 
-  report_ends : (Q : Incoming → Type 0) (r : PlainReport) → step.item ≡ Accepted r → IsTaken Q past (Accepted r) → r.outcome ≢ slice.More → Before
-  report_ends Q r item_is taken on = inr (ended_now (runs past) past step (subst (Ends (runs past)) (sym item_is) (accepted_number past r here.counted taken.0, on)))
+  report_ends : (Q : Incoming → Type 0) (r : PlainReport) → step.item ≡ Accepted r → IsTaken Q past (Accepted r)
+      → r.outcome ≢ slice.More → Before
+  report_ends Q r item_is taken on =
+      inr (ended_now (runs past) past step
+      (subst (Ends (runs past)) (sym item_is) (accepted_number past r here.counted taken.0, on)))
 
-  orders_when : (Q : Incoming → Type 0) (item : Item) → step.item ≡ item → IsTaken Q past item → Causes past item step → OrdersNone step.effect ⊎ Before
+  orders_when : (Q : Incoming → Type 0) (item : Item) → step.item ≡ item → IsTaken Q past item → Causes past item step
+      → OrdersNone step.effect ⊎ Before
   orders_when Q (Content None) item_is taken is = inl (ap (λ (e : Effect). filter_map go e.orders) is.effect_is)
-  orders_when Q (Content (Some request)) item_is taken is = by_run (last_such go is.0.effect.orders) refl (all_orders (situation past) past request.body is.0 refl is.1).run
+  orders_when Q (Content (Some request)) item_is taken is =
+      by_run (last_such go is.0.effect.orders) refl (all_orders (situation past) past request.body is.0 refl is.1).run
     where
-      by_run : {back : Option Mode} {put : Option Plan} (o : Option Heading) → last_such go is.0.effect.orders ≡ o → RunsAs (situation past) past back put o → OrdersNone step.effect ⊎ Before
-      by_run None none runs_none = inl (ap (λ (e : Effect). filter_map go e.orders) is.2.effect_is ∙ none_such PlainOrder Heading go is.0.effect.orders none)
-      by_run (Some run) some (runs_one run' goes under counted starts none can) = inr (can_run_here (situation past) refl can)
+      by_run : {back : Option Mode} {put : Option Plan} (o : Option Heading) → last_such go is.0.effect.orders ≡ o
+          → RunsAs (situation past) past back put o → OrdersNone step.effect ⊎ Before
+      by_run None none runs_none =
+          inl (ap (λ (e : Effect). filter_map go e.orders) is.2.effect_is
+          ∙ none_such PlainOrder Heading go is.0.effect.orders none)
+      by_run (Some run) some (runs_one run' goes under counted starts none can) =
+          inr (can_run_here (situation past) refl can)
   orders_when Q (Loaded launch file) item_is taken is =
-      inl (ap (λ (e : Effect). filter_map go e.orders) is.2.effect_is ∙ none_such PlainOrder Heading go is.0.effect.orders (loaded_orders launch file is.0 is.1))
+      inl (ap (λ (e : Effect). filter_map go e.orders) is.2.effect_is
+      ∙ none_such PlainOrder Heading go is.0.effect.orders (loaded_orders launch file is.0 is.1))
   orders_when Q (Accepted r) item_is taken is = by_outcome r.outcome refl
     where
       by_outcome : (e : SliceOutcome) → r.outcome ≡ e → OrdersNone step.effect ⊎ Before
-      by_outcome slice.More same = inl (ap (λ (e : Effect). filter_map go e.orders) (is.effect_is ∙ ap (report_effect past r) same))
+      by_outcome slice.More same =
+          inl (ap (λ (e : Effect). filter_map go e.orders) (is.effect_is ∙ ap (report_effect past r) same))
       by_outcome slice.Done same = inr (report_ends Q r item_is taken (λ more. let e = sym same ∙ more in absurd cc))
       by_outcome slice.Held same = inr (report_ends Q r item_is taken (λ more. let e = sym same ∙ more in absurd cc))
-      by_outcome slice.NoMemory same = inr (report_ends Q r item_is taken (λ more. let e = sym same ∙ more in absurd cc))
-      by_outcome (slice.Due reason) same = inr (report_ends Q r item_is taken (λ more. let e = sym same ∙ more in absurd cc))
-      by_outcome (slice.Fault fault) same = inr (report_ends Q r item_is taken (λ more. let e = sym same ∙ more in absurd cc))
+      by_outcome slice.NoMemory same =
+          inr (report_ends Q r item_is taken (λ more. let e = sym same ∙ more in absurd cc))
+      by_outcome (slice.Due reason) same =
+          inr (report_ends Q r item_is taken (λ more. let e = sym same ∙ more in absurd cc))
+      by_outcome (slice.Fault fault) same =
+          inr (report_ends Q r item_is taken (λ more. let e = sym same ∙ more in absurd cc))
   orders_when Q (Fault k) item_is taken is = inl (ap (λ (e : Effect). filter_map go e.orders) is.effect_is)
   orders_when Q InputEnd item_is taken is = inl (ap (λ (e : Effect). filter_map go e.orders) is.effect_is)
   orders_when Q ReadFailure item_is taken is = inl (ap (λ (e : Effect). filter_map go e.orders) is.effect_is)
@@ -139,23 +153,32 @@ module _ (past : History) (step : Step) (here : RunsEnd past) where
 
   -- ---- where a step stops the program
 
-  stops_not : (effect : Effect) → step.effect ≡ effect → last_such stop_of_event effect.events ≡ None → ¬ ReportsStop step.effect.events
-  stops_not effect is none stop = let e = sym (ap (λ (x : Effect). last_such stop_of_event x.events) is ∙ none) ∙ stop.1 in absurd cc
+  stops_not : (effect : Effect) → step.effect ≡ effect → last_such stop_of_event effect.events ≡ None
+      → ¬ ReportsStop step.effect.events
+  stops_not effect is none stop =
+      let e = sym (ap (λ (x : Effect). last_such stop_of_event x.events) is ∙ none) ∙ stop.1 in absurd cc
 
-  loaded_stops : (launch : Launch) (file : Option (List ℕ)) (reply : Reply) → Launches launch.arguments file reply → last_such stop_of_event reply.effect.events ≡ None
+  loaded_stops : (launch : Launch) (file : Option (List ℕ)) (reply : Reply) → Launches launch.arguments file reply
+      → last_such stop_of_event reply.effect.events ≡ None
   loaded_stops launch None reply is = ap (λ (r : Reply). last_such stop_of_event r.effect.events) is
-  loaded_stops launch (Some text) reply (inl is) = ap (λ (r : Reply). last_such stop_of_event r.effect.events) is.reply_is
-  loaded_stops launch (Some text) reply (inr is) = ap (λ (r : Reply). last_such stop_of_event r.effect.events) is.reply_is
+  loaded_stops launch (Some text) reply (inl is) =
+      ap (λ (r : Reply). last_such stop_of_event r.effect.events) is.reply_is
+  loaded_stops launch (Some text) reply (inr is) =
+      ap (λ (r : Reply). last_such stop_of_event r.effect.events) is.reply_is
 
-  stops_when : (Q : Incoming → Type 0) (item : Item) → step.item ≡ item → IsTaken Q past item → Causes past item step → ReportsStop step.effect.events → Before
+  stops_when : (Q : Incoming → Type 0) (item : Item) → step.item ≡ item → IsTaken Q past item → Causes past item step
+      → ReportsStop step.effect.events → Before
   stops_when Q (Content None) item_is taken is stop = absurd (stops_not _ is.effect_is refl stop)
   stops_when Q (Content (Some request)) item_is taken is stop =
-      by_stop (last_such stop_of_event is.0.effect.events) refl (all_silent (situation past) past request.body is.0 is.1).stops
+      by_stop (last_such stop_of_event is.0.effect.events) refl
+      (all_silent (situation past) past request.body is.0 is.1).stops
     where
-      by_stop : (o : Option StopReason) → last_such stop_of_event is.0.effect.events ≡ o → StopsBy (situation past) past o → Before
+      by_stop : (o : Option StopReason) → last_such stop_of_event is.0.effect.events ≡ o
+          → StopsBy (situation past) past o → Before
       by_stop None none no_stop = absurd (stops_not is.0.effect is.2.effect_is none stop)
       by_stop (Some reason) some (at_first l r s_is launched due) = was_young_here Configuring s_is tt
-  stops_when Q (Loaded launch file) item_is taken is stop = absurd (stops_not is.0.effect is.2.effect_is (loaded_stops launch file is.0 is.1) stop)
+  stops_when Q (Loaded launch file) item_is taken is stop =
+      absurd (stops_not is.0.effect is.2.effect_is (loaded_stops launch file is.0 is.1) stop)
   stops_when Q (Accepted r) item_is taken is stop = by_outcome r.outcome refl
     where
       by_outcome : (e : SliceOutcome) → r.outcome ≡ e → Before
@@ -175,12 +198,15 @@ module _ (past : History) (step : Step) (here : RunsEnd past) where
 -- ---- with one more step
 
 -- orders without a run have no mark, and others lead to Running
-goes_or_not : (os : List PlainOrder) → ((filter_map go os ≡ []) × (last_such order_mark os ≡ None)) ⊎ (last_such order_mark os ≡ Some Running)
+goes_or_not : (os : List PlainOrder) → ((filter_map go os ≡ []) × (last_such order_mark os ≡ None))
+    ⊎ (last_such order_mark os ≡ Some Running)
 goes_or_not [] = inl (refl, refl)
 goes_or_not (o ∷ os) = onward o (goes_or_not os)
   where
-    onward : (o : PlainOrder) → ((filter_map go os ≡ []) × (last_such order_mark os ≡ None)) ⊎ (last_such order_mark os ≡ Some Running)
-        → ((filter_map go (o ∷ os) ≡ []) × (last_such order_mark (o ∷ os) ≡ None)) ⊎ (last_such order_mark (o ∷ os) ≡ Some Running)
+    onward : (o : PlainOrder) → ((filter_map go os ≡ []) × (last_such order_mark os ≡ None))
+        ⊎ (last_such order_mark os ≡ Some Running)
+        → ((filter_map go (o ∷ os) ≡ []) × (last_such order_mark (o ∷ os) ≡ None))
+        ⊎ (last_such order_mark (o ∷ os) ≡ Some Running)
     onward (Go run) (inl none) = inr (ap (λ m. or_else m (Some Running)) none.1)
     onward (Hold n) (inl none) = inl (none.0, ap (λ m. or_else m None) none.1)
     onward Quit (inl none) = inl (none.0, ap (λ m. or_else m None) none.1)
@@ -191,18 +217,21 @@ one_at_most past [] next = omega arith
 one_at_most past (run ∷ []) next = omega arith
 one_at_most past (run ∷ (other ∷ rest)) next = elim next [ ]
 
-module _ (Q : Incoming → Type 0) (past : History) (step : Step) (taken : IsTaken Q past step.item) (causes : Causes past step.item step) (here : RunsEnd past) where
+module _ (Q : Incoming → Type 0) (past : History) (step : Step) (taken : IsTaken Q past step.item)
+    (causes : Causes past step.item step) (here : RunsEnd past) where
   abbrev longer : History
   longer = past ++ step ∷ []
 
   silent_or_running : OrdersNone step.effect ⊎ (situation longer ≡ Running)
   silent_or_running = by_orders (goes_or_not step.effect.orders)
     where
-      by_orders : ((filter_map go step.effect.orders ≡ []) × (last_such order_mark step.effect.orders ≡ None)) ⊎ (last_such order_mark step.effect.orders ≡ Some Running)
+      by_orders : ((filter_map go step.effect.orders ≡ []) × (last_such order_mark step.effect.orders ≡ None))
+          ⊎ (last_such order_mark step.effect.orders ≡ Some Running)
           → OrdersNone step.effect ⊎ (situation longer ≡ Running)
       by_orders (inl none) = inl none.0
       by_orders (inr running) =
-          inr (situation-snoc past step ∙ ap (λ m. unwrap_or (or_else m (last_such message_mark (messages step))) (situation past)) running)
+          inr (situation-snoc past step ∙ ap (λ m. unwrap_or (or_else m (last_such message_mark (messages step)))
+          (situation past)) running)
 
   same_runs : OrdersNone step.effect → runs longer ≡ runs past
   same_runs none = let count = runs-snoc past step ∙ ap (λ rs. runs past + length rs) none in omega (arith, count)
@@ -217,13 +246,18 @@ module _ (Q : Incoming → Type 0) (past : History) (step : Step) (taken : IsTak
   stands_more : IsStanding (situation longer) → NoneGoes (runs longer) longer
   stands_more standing = by_orders silent_or_running
     where
-      by_mark : MarkIs IsStanding (step_mark step) ⊎ ((step_mark step ≡ None) × IsStanding (situation past)) → NoneGoes (runs past) longer
-      by_mark (inl mark) = stops_when past step here Q step.item refl taken causes (step_stops step (answers_only past step.item step causes) mark)
+      by_mark : MarkIs IsStanding (step_mark step) ⊎ ((step_mark step ≡ None) × IsStanding (situation past))
+          → NoneGoes (runs past) longer
+      by_mark (inl mark) =
+          stops_when past step here Q step.item refl taken causes
+          (step_stops step (answers_only past step.item step causes) mark)
       by_mark (inr still) = goes_before (runs past) past (step ∷ []) (here.stands still.1)
 
       by_orders : OrdersNone step.effect ⊎ (situation longer ≡ Running) → NoneGoes (runs longer) longer
       by_orders (inl none) =
-          subst (λ n. NoneGoes n longer) (sym (same_runs none)) (by_mark (mark_unwrap IsStanding (step_mark step) (situation past) (subst IsStanding (situation-snoc past step) standing)))
+          subst (λ n. NoneGoes n longer) (sym (same_runs none))
+          (by_mark (mark_unwrap IsStanding (step_mark step) (situation past)
+          (subst IsStanding (situation-snoc past step) standing)))
       by_orders (inr running) = absurd (subst IsStanding running standing)
 
   each_more : (n : ℕ) → 1 ≤ n → n < runs longer → HasEnded n longer
@@ -240,24 +274,40 @@ module _ (Q : Incoming → Type 0) (past : History) (step : Step) (taken : IsTak
 
       by_place : NoneGoes (runs past) longer → (n ≡ runs past) ⊎ (n ≢ runs past) → HasEnded n longer
       by_place before (inl same) = at_last same before
-      by_place before (inr other) = ended_before n past (step ∷ []) (here.each n first (omega (arith, below, at_most, other)))
+      by_place before (inr other) =
+          ended_before n past (step ∷ []) (here.each n first (omega (arith, below, at_most, other)))
 
       by_orders : OrdersNone step.effect ⊎ NoneGoes (runs past) longer → HasEnded n longer
-      by_orders (inl none) = ended_before n past (step ∷ []) (here.each n first (let same = same_runs none in omega (arith, below, same)))
+      by_orders (inl none) =
+          ended_before n past (step ∷ []) (here.each n first (let same = same_runs none in omega (arith, below, same)))
       by_orders (inr before) = by_place before (cases_eq n (runs past))
 
   runs_end_more : RunsEnd longer
-  runs_end_more = record { counted = counted_more Q past step taken causes here.counted; young = young_more; stands = stands_more; each = each_more }
+  runs_end_more =
+      record {
+        counted = counted_more Q past step taken causes here.counted;
+        young = young_more;
+        stands = stands_more;
+        each = each_more;
+      }
 
 runs_end_kept : (Q : Incoming → Type 0) → IsKept Q RunsEnd
 runs_end_kept Q = record {
   step = λ past item new taking taken after here.
       subst RunsEnd (sym after.new_is)
-      (runs_end_more Q past after.step (subst (IsTaken Q past) (sym after.item_is) taken) (subst (λ i. Causes past i after.step) (sym after.item_is) after.causes) here);
+      (runs_end_more Q past after.step (subst (IsTaken Q past) (sym after.item_is) taken)
+      (subst (λ i. Causes past i after.step) (sym after.item_is) after.causes) here);
 }
 
 runs_end_first : RunsEnd []
-runs_end_first = record { counted = counted_first; young = λ young. refl; stands = λ standing. inl refl; each = λ n first below. absurd (omega (arith, first, below)) }
+runs_end_first =
+    record {
+      counted = counted_first;
+      young = λ young. refl;
+      stands = λ standing. inl refl;
+      each = λ n first below.
+          absurd (omega (arith, first, below));
+    }
 
 -- ---- reports that came
 
@@ -273,10 +323,12 @@ ends_not n past _ taken ends = absurd ends
 not_ended_kept : (n : ℕ) → IsKept (IsOther n) (λ past. ¬ HasEnded n past)
 not_ended_kept n = record {
   step = λ past item new taking taken after none ended.
-      either past item after.step taken none (subst (Ends n) after.item_is) (ended_split n past after.step (subst (HasEnded n) after.new_is ended));
+      either past item after.step taken none (subst (Ends n) after.item_is)
+      (ended_split n past after.step (subst (HasEnded n) after.new_is ended));
 }
   where
-    either : (past : History) (item : Item) (step : Step) → IsTaken (IsOther n) past item → ¬ HasEnded n past → (Ends n step.item → Ends n item) → HasEnded n past ⊎ Ends n step.item → ⊥
+    either : (past : History) (item : Item) (step : Step) → IsTaken (IsOther n) past item → ¬ HasEnded n past
+        → (Ends n step.item → Ends n item) → HasEnded n past ⊎ Ends n step.item → ⊥
     either past item step taken none same (inl before) = none before
     either past item step taken none same (inr now) = ends_not n past item taken (same now)
 
@@ -293,7 +345,8 @@ load_other : (n : ℕ) (before : List Incoming) (e : Incoming) (load : Load) →
 load_other n before (File file) load is = tt
 load_other n before _ load is = absurd is
 
-others_come : (n : ℕ) (before events given : List Incoming) (loads : List Load) → Interleaves before events given loads → AllEvents (IsOther n) given → AllEvents (IsOther n) events
+others_come : (n : ℕ) (before events given : List Incoming) (loads : List Load) → Interleaves before events given loads
+    → AllEvents (IsOther n) given → AllEvents (IsOther n) events
 others_come n before [] given loads from others = tt
 others_come n before (e ∷ events) given loads (inl from) others =
     (load_other n before e from.0 from.3, others_come n (before ++ e ∷ []) events given from.1 from.4 others)
@@ -308,27 +361,34 @@ numbered_front n [] ys are = tt
 numbered_front n (run ∷ xs) ys are = (are.0, numbered_front (n + 1) xs ys are.1)
 
 -- the runner took the first of the orders, or all
-takes_first : (by : Closed) (acts : List Act) (pushed : List PlainOrder) → TakesAllOrders (Ok by) acts pushed → Begins (flat_map order_in acts) pushed
+takes_first : (by : Closed) (acts : List Act) (pushed : List PlainOrder) → TakesAllOrders (Ok by) acts pushed
+    → Begins (flat_map order_in acts) pushed
 takes_first by acts pushed (inl all) = ([], append-nil (flat_map order_in acts) ∙ all)
 takes_first by acts pushed (inr some) = some.0
 
 module _ (events given : List Incoming) (loads : List Load) (past : History) (rest : Rest) (acts : List Act)
     (from : Interleaves [] events given loads) (history : IsHistoryOf events past rest)
-    (orders : Begins (flat_map order_in acts) (orders_of past)) (reports : Begins (reports_among given) (flat_map sent_in acts)) where
+    (orders : Begins (flat_map order_in acts) (orders_of past))
+    (reports : Begins (reports_among given) (flat_map sent_in acts)) where
   ended : RunsEnd past
-  ended = along (λ e. Unit {0}) RunsEnd (runs_end_kept (λ e. Unit {0})) runs_end_first events past rest (any_events events) history
+  ended = along (λ e. Unit {0}) RunsEnd (runs_end_kept (λ e. Unit {0})) runs_end_first events past rest
+      (any_events events) history
 
   all_runs_are : filter_map go (flat_map order_in acts) ++ filter_map go orders.0 ≡ filter_map go (orders_of past)
   all_runs_are = sym (filter_map-append go (flat_map order_in acts) orders.0) ∙ ap (filter_map go) orders.1
 
   numbered : NumberedFrom 0 acts
-  numbered = numbered_acts 0 acts (numbered_front 1 (filter_map go (flat_map order_in acts)) (filter_map go orders.0) (subst (AreNumbered 1) (sym all_runs_are) ended.counted.numbered))
+  numbered =
+      numbered_acts 0 acts (numbered_front 1 (filter_map go (flat_map order_in acts)) (filter_map go orders.0)
+      (subst (AreNumbered 1) (sym all_runs_are) ended.counted.numbered))
 
   taken_runs : last_from 0 acts ≤ runs past
   taken_runs =
       let count = last_is 0 acts in
       let whole = ap length all_runs_are in
-      let parts = length-append (filter_map go (flat_map order_in acts)) (filter_map go orders.0) in omega (arith, count, whole, parts)
+      let parts =
+      length-append (filter_map go (flat_map order_in acts)) (filter_map go orders.0) in omega
+      (arith, count, whole, parts)
 
   -- the next run was ordered only after a last report of this one had come
   not_endless : (n : ℕ) → ¬ IsEndless n acts
@@ -340,22 +400,27 @@ module _ (events given : List Incoming) (loads : List Load) (past : History) (re
       (ended.each n endless.first (let below = endless.not_last in omega (arith, below, taken_runs)))
 
 pub runs_end_once : RunsHaveOneLast → RunsAreReported → RunsEndOnce
-runs_end_once one_last reported by wrote loads later_loads passed later_passed old later driven before act after h acts_are takes = (
-  (reported before act after h Ended worked takes).2,
-  by_end (one_last before act after h worked takes),
-)
+runs_end_once one_last reported by wrote loads later_loads passed later_passed old later driven before act after h
+    acts_are takes = (
+      (reported before act after h Ended worked takes).2,
+      by_end (one_last before act after h worked takes),
+    )
   where
     worked : Leads Idle (before ++ act ∷ after) Ended
     worked = subst (λ l. Leads Idle l Ended) acts_are driven.worked
 
     by_drives : Drives driven.events driven.given driven.loaded nothing_sent driven.sent (Ok by) → ¬ IsCutByGo after
     by_drives (closes from serves) cut =
-        not_endless driven.events driven.given driven.loaded serves.past serves.rest driven.acts from serves.history orders driven.reports_taken h.run
-        (subst (IsEndless h.run) (sym acts_are) (cut_run before act h Ended after takes cut worked (subst (NumberedFrom 0) acts_are
-        (numbered driven.events driven.given driven.loaded serves.past serves.rest driven.acts from serves.history orders driven.reports_taken))))
+        not_endless driven.events driven.given driven.loaded serves.past serves.rest driven.acts from serves.history
+        orders driven.reports_taken h.run
+        (subst (IsEndless h.run) (sym acts_are)
+        (cut_run before act h Ended after takes cut worked (subst (NumberedFrom 0) acts_are
+        (numbered driven.events driven.given driven.loaded serves.past serves.rest driven.acts from serves.history
+        orders driven.reports_taken))))
       where
         orders : Begins (flat_map order_in driven.acts) (orders_of serves.past)
-        orders = subst (Begins (flat_map order_in driven.acts)) serves.orders_are (takes_first by driven.acts driven.sent.orders driven.orders_taken)
+        orders = subst (Begins (flat_map order_in driven.acts)) serves.orders_are
+            (takes_first by driven.acts driven.sent.orders driven.orders_taken)
 
     by_cut : IsCutShort after ⊎ IsCutByGo after → HasLast (reports_of_run after) ⊎ IsCutShort after
     by_cut (inl is) = inr is

@@ -1,24 +1,20 @@
 -- Which faults of a session are answered, and where.
-use Rattle.std.proofs.Common.{◌≡◌, ◌≢◌, ◌<◌, ◌⊎◌, inl, inr, ℕ, List, true, false, true≢false, Result, Ok, Err, refl, sym, ap, ◌∙◌, subst, arith}
+use Rattle.std.proofs.Common.{◌≡◌, ◌≢◌, ◌<◌, ◌⊎◌, true, false, true≢false, Result, Ok, Err, refl, sym, ap, ◌∙◌, subst}
 use Rattle.std.specs.Result.{is_err}
 use Rattle.dap_history.specs.declared.fault.SessionFault.{SessionFault}
 use Rattle.dap_history.specs.declared.fault.SessionFault.TheVariants.{OrdersFull, RunnerGone, WriterGone}
 use Rattle.dap_history.specs.declared.ending.Closed.{Closed}
 use Rattle.dap_history.specs.declared.ending.Closed.TheVariants as closed
-use Rattle.dap_history.specs.Events.{Incoming}
-use Rattle.dap_history.specs.Interleaving.{Load}
-use Rattle.dap_session.specs.Ports.{Ports}
 use Rattle.dap_session.specs.Serving.{Drives}
 use Rattle.dap_wires.specs.declared.writing.WriteFailed.{WriteFailed}
-use Rattle.adapter.specs.declared.serving.Served.{Served}
-use Rattle.adapter.specs.declared.serving.ServeFault.{ServeFault}
 use Rattle.adapter.specs.declared.serving.ServeFault.TheVariants.{Session}
-use Rattle.adapter.specs.Laws.{NobodyIsGone, FindsFour, FullIsFour}
-use Rattle.adapter.specs.Serving.{Streams, nothing_sent, outcome_of, IsDriven, IsServed, drove, had_no_memory, had_no_thread}
+use Rattle.adapter.specs.Laws.{NobodyIsGone, FullIsFour}
+use Rattle.adapter.specs.Serving.{nothing_sent, outcome_of, IsDriven, drove, had_no_memory, had_no_thread}
 use Rattle.adapter.proofs.Gathered.{found_runner_gone}
 
 -- the session's fault is answered only where it ended so, and nothing failed to be written
-answers : (wrote : Result (Unit {0}) WriteFailed) (result : Result Closed SessionFault) (fault : SessionFault) → outcome_of wrote result ≡ Err (Session fault)
+answers : (wrote : Result (Unit {0}) WriteFailed) (result : Result Closed SessionFault) (fault : SessionFault)
+    → outcome_of wrote result ≡ Err (Session fault)
     → (is_err wrote ≡ false) × (result ≡ Err fault)
 answers (Err failed) result fault is = absurd cc
 answers (Ok done) (Ok closed.Disconnected) fault is = absurd cc
@@ -31,15 +27,20 @@ nobody_is_gone outcome loads later_loads passed later_passed old later (drove wr
   λ gone. let a = answers wrote result WriterGone (sym is ∙ gone) in true≢false (sym (driven.writer_gone a.1) ∙ a.0),
   λ gone.
       let a = answers wrote result RunnerGone (sym is ∙ gone) in
-      found_runner_gone driven.events driven.given driven.loaded driven.sent (subst (λ r. Drives driven.events driven.given driven.loaded nothing_sent driven.sent r) a.1 driven.drives) driven.never_gone,
+      found_runner_gone driven.events driven.given driven.loaded driven.sent
+      (subst (λ r. Drives driven.events driven.given driven.loaded nothing_sent driven.sent r) a.1 driven.drives)
+      driven.never_gone,
 )
-nobody_is_gone outcome loads later_loads passed later_passed old later (had_no_memory is same same_loads same_passed) = (λ gone. let e = sym is ∙ gone in absurd cc, λ gone. let e = sym is ∙ gone in absurd cc)
-nobody_is_gone outcome loads later_loads passed later_passed old later (had_no_thread is) = (λ gone. let e = sym is ∙ gone in absurd cc, λ gone. let e = sym is ∙ gone in absurd cc)
+nobody_is_gone outcome loads later_loads passed later_passed old later (had_no_memory is same same_loads same_passed) =
+    (λ gone. let e = sym is ∙ gone in absurd cc, λ gone. let e = sym is ∙ gone in absurd cc)
+nobody_is_gone outcome loads later_loads passed later_passed old later (had_no_thread is) =
+    (λ gone. let e = sym is ∙ gone in absurd cc, λ gone. let e = sym is ∙ gone in absurd cc)
 
 pub full_is_four : FullIsFour
 full_is_four loads later_loads passed later_passed old later (drove wrote result is driven) =
     let a = answers wrote result OrdersFull (sym is) in
-    let four : IsDriven wrote (Err OrdersFull) loads later_loads passed later_passed old later = subst (λ r. IsDriven wrote r loads later_loads passed later_passed old later) a.1 driven in
+    let four : IsDriven wrote (Err OrdersFull) loads later_loads passed later_passed old later =
+    subst (λ r. IsDriven wrote r loads later_loads passed later_passed old later) a.1 driven in
     record { wrote = wrote; driven = four; four = four.full refl }
 full_is_four loads later_loads passed later_passed old later (had_no_memory is same same_loads same_passed) = absurd cc
 full_is_four loads later_loads passed later_passed old later (had_no_thread is) = absurd cc

@@ -33,9 +33,11 @@ Gives path file old new = new ≡ old ++ load_of path (Ok file) ∷ []
 abbrev pub IsChecked : List ℕ → Result (Unit {0}) CheckFault → List Load → List Load → Output → Output → Type 0
 IsChecked path (Ok done) old new before after =
     (file : List ℕ) × (text : List ℕ) × Gives path file old new × IsListingOf file text × WritesAll text before after
-IsChecked path (Err CannotRead) old new before after = (new ≡ old ++ load_of path (Err load.CannotRead) ∷ []) × (after ≡ before)
+IsChecked path (Err CannotRead) old new before after =
+    (new ≡ old ++ load_of path (Err load.CannotRead) ∷ []) × (after ≡ before)
 IsChecked path (Err (Syntax kind place)) old new before after =
     (file : List ℕ) × Gives path file old new × IsFirstFault file kind place × (after ≡ before)
 IsChecked path (Err WriteFailed) old new before after =
     (file : List ℕ) × (text : List ℕ) × Gives path file old new × IsListingOf file text × FailsIn text before after
-IsChecked path (Err NoMemory) old new before after = ((new ≡ old) ⊎ ((file : List ℕ) × Gives path file old new)) × (after ≡ before)
+IsChecked path (Err NoMemory) old new before after =
+    ((new ≡ old) ⊎ ((file : List ℕ) × Gives path file old new)) × (after ≡ before)

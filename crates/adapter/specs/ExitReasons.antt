@@ -76,6 +76,8 @@ last_line WriteFailed = codes "pl0dap: write failed"
 last_line (Framing number) = codes "pl0dap: frame " ++ decimal number
 last_line (Refused number) = codes "pl0dap: refused " ++ decimal number
 last_line CannotRead = codes "pl0dap: cannot read"
-last_line (Syntax number place) = codes "pl0dap: syntax " ++ (decimal number ++ (codes " " ++ (decimal place.line ++ (codes " " ++ decimal place.column))))
+last_line (Syntax number place) =
+    codes "pl0dap: syntax " ++ (decimal number ++ (codes
+    " " ++ (decimal place.line ++ (codes " " ++ decimal place.column))))
 last_line NoMemory = codes "pl0dap: no memory"
 last_line NotUnderstood = []

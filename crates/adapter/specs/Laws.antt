@@ -35,7 +35,8 @@ pub record TakesWholeInput (events : List Incoming) (old later : Supply) : Type 
 -- A session that the input's end closed has taken the whole input.
 abbrev pub InputIsTakenWhole : Type 0
 InputIsTakenWhole =
-    (wrote : Result (Unit {0}) WriteFailed) (loads later_loads : List Load) (passed later_passed : List (ℕ × ℕ)) (old later : Streams)
+    (wrote : Result (Unit {0}) WriteFailed) (loads later_loads : List Load) (passed later_passed : List (ℕ × ℕ))
+    (old later : Streams)
     → (driven : IsDriven wrote (Ok closed.InputEnded) loads later_loads passed later_passed old later)
     → TakesWholeInput driven.events (input_of old) (input_of later)
 
@@ -54,12 +55,14 @@ pub record TakesFirstDisconnect (events : List Incoming) (old later : Supply) : 
   pub rest : Rest
   pub history : IsHistoryOf events (before ++ step ∷ []) rest
   pub asks : AsksToDisconnect step.item
-  pub first : (front : History) (other : Step) (back : History) → before ≡ front ++ other ∷ back → ¬ AsksToDisconnect other.item
+  pub first : (front : History) (other : Step) (back : History) → before ≡ front ++ other ∷ back
+      → ¬ AsksToDisconnect other.item
 
 -- A session that a `disconnect` closed has taken the input up to the first one.
 abbrev pub FirstDisconnectCloses : Type 0
 FirstDisconnectCloses =
-    (wrote : Result (Unit {0}) WriteFailed) (loads later_loads : List Load) (passed later_passed : List (ℕ × ℕ)) (old later : Streams)
+    (wrote : Result (Unit {0}) WriteFailed) (loads later_loads : List Load) (passed later_passed : List (ℕ × ℕ))
+    (old later : Streams)
     → (driven : IsDriven wrote (Ok closed.Disconnected) loads later_loads passed later_passed old later)
     → TakesFirstDisconnect driven.events (input_of old) (input_of later)
 
@@ -75,9 +78,11 @@ pub data IsCutShort : List Act → Type 0 where
 -- last, unless it was cut short. No run cuts another.
 abbrev pub RunsEndOnce : Type 0
 RunsEndOnce =
-    (by : Closed) (wrote : Result (Unit {0}) WriteFailed) (loads later_loads : List Load) (passed later_passed : List (ℕ × ℕ)) (old later : Streams)
+    (by : Closed) (wrote : Result (Unit {0}) WriteFailed) (loads later_loads : List Load)
+    (passed later_passed : List (ℕ × ℕ)) (old later : Streams)
     → (driven : IsDriven wrote (Ok by) loads later_loads passed later_passed old later)
-    → (before : List Act) (act : Act) (after : List Act) (h : Heading) → driven.acts ≡ before ++ act ∷ after → taken_by act ≡ Some (Go h)
+    → (before : List Act) (act : Act) (after : List Act) (h : Heading) → driven.acts ≡ before ++ act ∷ after
+    → taken_by act ≡ Some (Go h)
     → AllButLastGoOn (reports_of_run after) × (HasLast (reports_of_run after) ⊎ IsCutShort after)
 
 -- ---- Faults of the session
@@ -85,15 +90,18 @@ RunsEndOnce =
 -- `serve` never returns the fault that nobody takes frames or orders any more.
 abbrev pub NobodyIsGone : Type 0
 NobodyIsGone =
-    (outcome : Result Served ServeFault) (loads later_loads : List Load) (passed later_passed : List (ℕ × ℕ)) (old later : Streams)
+    (outcome : Result Served ServeFault) (loads later_loads : List Load) (passed later_passed : List (ℕ × ℕ))
+    (old later : Streams)
     → IsServed outcome loads later_loads passed later_passed old later
     → (outcome ≢ Err (Session WriterGone)) × (outcome ≢ Err (Session RunnerGone))
 
--- The session gave up since the queue of orders was full, and four of the orders that it pushed had been inside together.
-pub record FindsFour (loads later_loads : List Load) (passed later_passed : List (ℕ × ℕ)) (old later : Streams) : Type 0 where
-  pub wrote : Result (Unit {0}) WriteFailed
-  pub driven : IsDriven wrote (Err OrdersFull) loads later_loads passed later_passed old later
-  pub four : FourWereInside driven.sent.orders
+-- The session gave up since the queue of orders was full, and four of the orders that it pushed had been inside
+-- together.
+pub record FindsFour (loads later_loads : List Load) (passed later_passed : List (ℕ × ℕ)) (old later : Streams) : Type 0
+  where
+    pub wrote : Result (Unit {0}) WriteFailed
+    pub driven : IsDriven wrote (Err OrdersFull) loads later_loads passed later_passed old later
+    pub four : FourWereInside driven.sent.orders
 
 -- `serve` returns the fault that the queue of orders was full only where four orders were inside together.
 abbrev pub FullIsFour : Type 0

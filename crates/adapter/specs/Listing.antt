@@ -30,7 +30,8 @@ kind_name kind.Return = codes "return"
 -- a step: its number, line, column and kind
 abbrev pub step_line : ℕ → StepKind → Place → List ℕ
 step_line n kind place =
-    decimal n ++ (codes " " ++ (decimal place.line ++ (codes " " ++ (decimal place.column ++ (codes " " ++ (kind_name kind ++ line_feed))))))
+    decimal n ++ (codes " " ++ (decimal place.line ++ (codes " "
+    ++ (decimal place.column ++ (codes " " ++ (kind_name kind ++ line_feed))))))
 
 -- the numbers that Wirth gave to the operations of OPR; 14 writes a number
 abbrev pub operation_number : Operation → ℕ

@@ -29,7 +29,8 @@ abbrev pub KeepsInput : Streams → Streams → Type 0
 KeepsInput old later = (later.left ≡ old.left) × (later.read_failures ≡ old.read_failures)
 
 -- The file at the path was checked, and the reason says how that went.
-pub record EndsChecking (path : Text) (reason : ExitReason) (loads later_loads : List Load) (old later : Streams) : Type 0 where
+pub record EndsChecking (path : Text) (reason : ExitReason) (loads later_loads : List Load) (old later : Streams) : Type
+    0 where
   pub outcome : Result (Unit {0}) CheckFault
   pub checked : IsChecked path outcome loads later_loads (output_of old) (output_of later)
   pub input : KeepsInput old later
@@ -50,7 +51,8 @@ abbrev pub Performs : List Text → ExitReason → List Load → List Load → S
 Performs arguments reason loads later_loads old later =
     (Reads arguments None × EndsServing reason loads later_loads old later)
     ⊎ (((path : Text) × Reads arguments (Some path) × EndsChecking path reason loads later_loads old later)
-    ⊎ (((refusals arguments ≡ DisplayHelp ∷ []) × EndsHelping reason (output_of old) (output_of later) × KeepsInput old later × (later_loads ≡ loads))
+    ⊎ (((refusals arguments ≡ DisplayHelp ∷ []) × EndsHelping reason (output_of old) (output_of later)
+    × KeepsInput old later × (later_loads ≡ loads))
     ⊎ ((later ≡ old) × EndsIdle arguments reason × (later_loads ≡ loads))))
 
 -- what is said of arguments that are not understood: some message, and then the usage
@@ -64,7 +66,8 @@ Reports NotUnderstood before after = (text : List ℕ) × IsUsage text × Says t
 Reports reason before after = Says (last_line reason ++ line_feed) before after
 
 -- The program did what the arguments ask for, ended as that went, and said so on standard error.
-pub record Executes (arguments : List Text) (reason : ExitReason) (loads later_loads : List Load) (old later : Streams) (errors later_errors : Output) : Type 0 where
+pub record Executes (arguments : List Text) (reason : ExitReason) (loads later_loads : List Load) (old later : Streams)
+    (errors later_errors : Output) : Type 0 where
   pub performs : Performs arguments reason loads later_loads old later
   pub reports : Reports reason errors later_errors
 

@@ -69,9 +69,10 @@ TakesAllOrders (Err fault) acts pushed = Begins (flat_map order_in acts) pushed
 -- ---- reader, runner, session and writer, side by side
 
 -- Each came to its end. What the session took is, of the reader and of the runner, a prefix of what each sent; what the
--- loader returned is what the session's launches asked for; the runner took a prefix of the orders that the session pushed,
--- and its slices passed the gate; and the frames that the session put were written.
-pub record IsDriven (wrote : Result (Unit {0}) WriteFailed) (result : Result Closed SessionFault) (loads later_loads : List Load) (passed later_passed : List (ℕ × ℕ)) (old later : Streams) : Type 0 where
+-- loader returned is what the session's launches asked for; the runner took a prefix of the orders that the session
+-- pushed, and its slices passed the gate; and the frames that the session put were written.
+pub record IsDriven (wrote : Result (Unit {0}) WriteFailed) (result : Result Closed SessionFault)
+    (loads later_loads : List Load) (passed later_passed : List (ℕ × ℕ)) (old later : Streams) : Type 0 where
   -- the session
   pub events : List Incoming
   pub given : List Incoming
@@ -81,7 +82,8 @@ pub record IsDriven (wrote : Result (Unit {0}) WriteFailed) (result : Result Clo
   pub drives : Drives events given loaded nothing_sent sent result
   pub loads_are : later_loads ≡ loads ++ loaded
   pub never_gone : sent.runner_gone ≡ 0
-  -- it found the queue of orders full only where four were inside together, and the writer gone only where a write failed
+  -- it found the queue of orders full only where four were inside together, and the writer gone only where a write
+  -- failed
   pub full : result ≡ Err OrdersFull → FourWereInside sent.orders
   pub writer_gone : result ≡ Err WriterGone → is_err wrote ≡ true
   -- the reader
@@ -109,9 +111,12 @@ outcome_of (Ok done) (Err f) = Err (fault.Session f)
 
 -- Serving ended with this outcome. Where there was no memory for the queues, nothing was done. Where a thread can't be
 -- started, nothing more is known.
-pub data IsServed (outcome : Result Served ServeFault) (loads later_loads : List Load) (passed later_passed : List (ℕ × ℕ)) (old later : Streams) : Type 0 where
-  drove : (wrote : Result (Unit {0}) WriteFailed) (result : Result Closed SessionFault) → outcome ≡ outcome_of wrote result
-      → IsDriven wrote result loads later_loads passed later_passed old later → IsServed outcome loads later_loads passed later_passed old later
+pub data IsServed (outcome : Result Served ServeFault) (loads later_loads : List Load)
+    (passed later_passed : List (ℕ × ℕ)) (old later : Streams) : Type 0 where
+  drove : (wrote : Result (Unit {0}) WriteFailed) (result : Result Closed SessionFault)
+      → outcome ≡ outcome_of wrote result
+      → IsDriven wrote result loads later_loads passed later_passed old later
+      → IsServed outcome loads later_loads passed later_passed old later
   had_no_memory : outcome ≡ Err (fault.Session NoMemory) → later ≡ old → later_loads ≡ loads → later_passed ≡ passed
       → IsServed outcome loads later_loads passed later_passed old later
   had_no_thread : outcome ≡ Err fault.NoThread → IsServed outcome loads later_loads passed later_passed old later

@@ -12,7 +12,8 @@ use Rattle.dap_history.specs.Frames.{Counting, shown_frame, shown_frames, at_mos
 use Rattle.dap_inspection.specs.Showing.{IsShownAs, asked_of}
 
 -- frame i stands at this index from the top
-shown_at : (main : Block) (counting : Counting) (c : Configuration) (i : ℕ) (f : Frame) (d : StackFrame) → frame_at c i ≡ Some f →
+shown_at : (main : Block) (counting : Counting) (c : Configuration) (i : ℕ) (f : Frame) (d : StackFrame)
+    → frame_at c i ≡ Some f →
     get_or (shown_frames main counting c) (length c - suc i) d ≡ shown_frame main counting f (i + 1)
 shown_at main counting [] i f d at = cc
 shown_at main counting (g ∷ below) i f d at =
@@ -34,7 +35,8 @@ shown_at main counting (g ∷ below) i f d at =
 abbrev pub rest_of : Block → Counting → Configuration → ℕ → List StackFrame
 rest_of main counting c start = drop start (shown_frames main counting c)
 
-rest_length : (main : Block) (counting : Counting) (c : Configuration) (start : ℕ) → length (rest_of main counting c start) ≡ length c - start
+rest_length : (main : Block) (counting : Counting) (c : Configuration) (start : ℕ)
+    → length (rest_of main counting c start) ≡ length c - start
 rest_length main counting c start = length-drop start (shown_frames main counting c) ∙ ap (λ n. n - start) (all c)
   where
     all : (c : Configuration) → length (shown_frames main counting c) ≡ length c
@@ -42,9 +44,11 @@ rest_length main counting c start = length-drop start (shown_frames main countin
     all (f ∷ below) = ap suc (all below)
 
 -- one more of them
-pub one_more : (main : Block) (counting : Counting) (c : Configuration) (start left index : ℕ) (shown : List StackFrame) (s : StackFrame) →
+pub one_more : (main : Block) (counting : Counting) (c : Configuration) (start left index : ℕ) (shown : List StackFrame)
+    (s : StackFrame) →
     left ≡ length c - start → index < left → IsShownAs main counting (frame_at c (left - index - 1)) (left - index) s →
-    shown ≡ take index (rest_of main counting c start) → shown ++ s ∷ [] ≡ take (index + 1) (rest_of main counting c start)
+    shown ≡ take index (rest_of main counting c start) → shown ++ s
+    ∷ [] ≡ take (index + 1) (rest_of main counting c start)
 one_more main counting c start left index shown s lefts lt is before =
     let rest = rest_of main counting c start in
     let there : index < length rest = omega (arith, rest_length main counting c start, lefts, lt) in
@@ -67,9 +71,11 @@ one_more main counting c start left index shown s lefts lt is before =
         ∙ sym is
 
 -- as many as are asked for
-pub all_asked : (main : Block) (counting : Counting) (c : Configuration) (start levels left : ℕ) → left ≡ length c - start →
+pub all_asked : (main : Block) (counting : Counting) (c : Configuration) (start levels left : ℕ)
+    → left ≡ length c - start →
     take (asked_of levels left) (rest_of main counting c start) ≡ at_most levels (rest_of main counting c start)
-all_asked main counting c start levels left lefts = asked levels (rest_of main counting c start) (lefts ∙ sym (rest_length main counting c start))
+all_asked main counting c start levels left lefts =
+    asked levels (rest_of main counting c start) (lefts ∙ sym (rest_length main counting c start))
   where
     asked : (levels : ℕ) (xs : List StackFrame) → left ≡ length xs → take (asked_of levels left) xs ≡ at_most levels xs
     asked zero xs e = take_all left xs (omega (arith, e))

@@ -9,10 +9,12 @@ use Rattle.dap_history.specs.Inspection.{Asked, scopes}
 use Rattle.dap_history.specs.Replies.{answered, refused}
 use Rattle.dap_inspection.proofs.AliveFrames.{none_alive, there}
 
-pub none_with_zero : (of : Asked) (c : Configuration) (id : ℕ) → id ≡ 0 → refused refusal.UnknownFrame ≡ scopes of id c (frame_by_id c id)
+pub none_with_zero : (of : Asked) (c : Configuration) (id : ℕ) → id ≡ 0
+    → refused refusal.UnknownFrame ≡ scopes of id c (frame_by_id c id)
 none_with_zero of c id is = sym (ap (λ n. scopes of id c (frame_by_id c n)) is)
 
-pub none_with_id : (of : Asked) (c : Configuration) (id : ℕ) → length c < id → refused refusal.UnknownFrame ≡ scopes of id c (frame_by_id c id)
+pub none_with_id : (of : Asked) (c : Configuration) (id : ℕ) → length c < id
+    → refused refusal.UnknownFrame ≡ scopes of id c (frame_by_id c id)
 none_with_id of c id above = sym (ap (scopes of id c) (none_alive c id above))
 
 pub scopes_with_id : (of : Asked) (c : Configuration) (id : ℕ) (found : List Scope) → id ≢ 0 → id ≤ length c →

@@ -23,33 +23,45 @@ use Rattle.dap_inspection.specs.Evaluating.{IsReadIn}
 use Rattle.dap_inspection.proofs.AliveFrames.{by_id}
 
 -- the next step of a frame that was shown is a step of the program
-pub next_within : (main : Block) (o : Option Frame) (view : FrameView) → Shows main o view → view.next_step < length (steps main)
+pub next_within : (main : Block) (o : Option Frame) (view : FrameView) → Shows main o view
+    → view.next_step < length (steps main)
 next_within main None view shows = absurd shows
 next_within main (Some f) view shows = shows.1.within
 
-pub read_there : NextStepsStandInTheirBlocks → (main : Block) (o : Option Frame) (view : FrameView) (text : List ℕ) (e : DeclaredExpression) → Shows main o view → IsExpressionOf main (step_path main view.next_step) text (plain_expression e) → IsReadIn main o text (Some e)
+pub read_there : NextStepsStandInTheirBlocks → (main : Block) (o : Option Frame) (view : FrameView) (text : List ℕ)
+    (e : DeclaredExpression) → Shows main o view → IsExpressionOf main (step_path main view.next_step) text
+    (plain_expression e) → IsReadIn main o text (Some e)
 read_there stand main None view text e shows is = absurd shows
-read_there stand main (Some f) view text e shows is = subst (λ q. IsExpressionOf main q text (plain_expression e)) (stand main f view.next_step shows.1) is
+read_there stand main (Some f) view text e shows is =
+    subst (λ q. IsExpressionOf main q text (plain_expression e)) (stand main f view.next_step shows.1) is
 
-pub not_read_there : NextStepsStandInTheirBlocks → FaultExcludesExpressions → (main : Block) (o : Option Frame) (view : FrameView) (text : List ℕ) (kind : FaultKind) (place : Place) → Shows main o view → IsFirstExpressionFault main (step_path main view.next_step) text kind place → IsReadIn main o text None
+pub not_read_there : NextStepsStandInTheirBlocks → FaultExcludesExpressions
+    → (main : Block) (o : Option Frame) (view : FrameView) (text : List ℕ) (kind : FaultKind) (place : Place)
+    → Shows main o view → IsFirstExpressionFault main (step_path main view.next_step) text kind place
+    → IsReadIn main o text None
 not_read_there stand excludes main None view text kind place shows is = absurd shows
 not_read_there stand excludes main (Some f) view text kind place shows is =
-    λ e. excludes main f.block text kind place e (subst (λ q. IsFirstExpressionFault main q text kind place) (stand main f view.next_step shows.1) is)
+    λ e. excludes main f.block text kind place e
+    (subst (λ q. IsFirstExpressionFault main q text kind place) (stand main f view.next_step shows.1) is)
 
 -- ---- what is answered
 
 module _ (main : Block) (c : Configuration) (id i : ℕ) (text : List ℕ) (alive : IsAlive c id i) where
-  in_frame : (reply : Reply) → EvaluatesIn main c id (frame_at c i) text reply → EvaluatesIn main c id (frame_by_id c id) text reply
+  in_frame : (reply : Reply) → EvaluatesIn main c id (frame_at c i) text reply
+      → EvaluatesIn main c id (frame_by_id c id) text reply
   in_frame reply is = subst (λ o. EvaluatesIn main c id o text reply) (sym (by_id c id i alive)) is
 
-  pub refuses : IsReadIn main (frame_at c i) text None → EvaluatesIn main c id (frame_by_id c id) text (refused refusal.BadExpression)
+  pub refuses : IsReadIn main (frame_at c i) text None → EvaluatesIn main c id (frame_by_id c id) text
+      (refused refusal.BadExpression)
   refuses read = in_frame _ (at (frame_at c i) read)
     where
       at : (o : Option Frame) → IsReadIn main o text None → EvaluatesIn main c id o text (refused refusal.BadExpression)
       at None read = absurd read
       at (Some f) read = inr (record { none = read; reply_is = refl })
 
-  pub answers : (e : DeclaredExpression) (result : Result ℤ EvalFault) (reply : Reply) → IsReadIn main (frame_at c i) text (Some e) → value main c i (plain_expression e) ≡ evaluated result → reply ≡ result_reply result →
+  pub answers : (e : DeclaredExpression) (result : Result ℤ EvalFault) (reply : Reply)
+      → IsReadIn main (frame_at c i) text (Some e) → value main c i (plain_expression e) ≡ evaluated result
+      → reply ≡ result_reply result →
       EvaluatesIn main c id (frame_by_id c id) text reply
   answers e result reply read is same = in_frame reply (at (frame_at c i) read)
     where
@@ -58,4 +70,12 @@ module _ (main : Block) (c : Configuration) (id i : ℕ) (text : List ℕ) (aliv
 
       at : (o : Option Frame) → IsReadIn main o text (Some e) → EvaluatesIn main c id o text reply
       at None read = absurd read
-      at (Some f) read = inl (record { expression = plain_expression e; reads = read; result = result; result_is = ap (λ k. value main c k (plain_expression e)) number ∙ is; reply_is = same })
+      at (Some f) read =
+          inl (record {
+            expression = plain_expression e;
+            reads = read;
+            result = result;
+            result_is =
+                ap (λ k. value main c k (plain_expression e)) number ∙ is;
+            reply_is = same;
+          })

@@ -29,20 +29,24 @@ use Rattle.dap_inspection.proofs.AliveFrames.{there, by_id}
 
 -- the block of a frame that was shown
 abbrev IsBlockOf : Block → FrameView → DeclaredBlock → Type 0
-IsBlockOf main view b = (q : Path) → slice_get (blocks main) view.block ≡ Some q → block_at main q ≡ Some (plain_block b)
+IsBlockOf main view b =
+    (q : Path) → slice_get (blocks main) view.block ≡ Some q → block_at main q ≡ Some (plain_block b)
 
-pub names_are : (main : Block) (o : Option Frame) (view : FrameView) (b : DeclaredBlock) → Shows main o view → IsBlockOf main view b → map plain_name (out-Block b).variables.items ≡ names_in main o
+pub names_are : (main : Block) (o : Option Frame) (view : FrameView) (b : DeclaredBlock) → Shows main o view
+    → IsBlockOf main view b → map plain_name (out-Block b).variables.items ≡ names_in main o
 names_are main None view b shows is = absurd shows
 names_are main (Some f) view b shows is = sym (ap names_of (is f.block shows.0) ∙ ap variables (plain_block_parts b))
 
-count_in : (main : Block) (c : Configuration) (i : ℕ) (o : Option Frame) → frame_at c i ≡ o → ∥ AreLinked main c ∥₁ → length (names_in main o) ≡ variables_of o
+count_in : (main : Block) (c : Configuration) (i : ℕ) (o : Option Frame) → frame_at c i ≡ o → ∥ AreLinked main c ∥₁
+    → length (names_in main o) ≡ variables_of o
 count_in main c i None at linked = refl
 count_in main c i (Some f) at linked = ∥∥₁_elim linked (ℕ_set _ _) (λ links. counted (frame_of main c i f links at))
   where
     counted : IsFrameOf main f → length (names_of (block_at main f.block)) ≡ length f.numbers
     counted is = ap (λ b. length (names_of b)) is.found ∙ sym is.count
 
-pub count_is : (main : Block) (c : Configuration) (i : ℕ) (names : List DeclaredName) → ∥ AreLinked main c ∥₁ → map plain_name names ≡ names_in main (frame_at c i) → length names ≡ variables_of (frame_at c i)
+pub count_is : (main : Block) (c : Configuration) (i : ℕ) (names : List DeclaredName) → ∥ AreLinked main c ∥₁
+    → map plain_name names ≡ names_in main (frame_at c i) → length names ≡ variables_of (frame_at c i)
 count_is main c i names linked are =
     sym (length-map names plain_name) ∙ ap length are ∙ count_in main c i (frame_at c i) refl linked
 
@@ -55,25 +59,38 @@ number_in (Some f) k v is = is
 abbrev variable : DeclaredName → ℤ → Variable
 variable x v = record { name = string_bytes x.text; value = v }
 
-next_named : (names : List DeclaredName) (numbers : List ℤ) (k : ℕ) (x : DeclaredName) (v : ℤ) → k < length names → x ≡ get_or names k x → slice_get numbers k ≡ Some v →
-    named (map plain_name (take (suc k) names)) numbers ≡ named (map plain_name (take k names)) numbers ++ variable x v ∷ []
+next_named : (names : List DeclaredName) (numbers : List ℤ) (k : ℕ) (x : DeclaredName) (v : ℤ) → k < length names
+    → x ≡ get_or names k x → slice_get numbers k ≡ Some v →
+    named (map plain_name (take (suc k) names)) numbers ≡ named (map plain_name (take k names)) numbers ++ variable x v
+    ∷ []
 next_named [] numbers k x v lt is at = absurd (omega arith)
 next_named (y ∷ names) [] k x v lt is at = cc
-next_named (y ∷ names) (w ∷ numbers) zero x v lt is at = let same : w ≡ v = cc in ap (λ z. variable z w ∷ []) (sym is) ∙ ap (λ n. variable x n ∷ []) same
-next_named (y ∷ names) (w ∷ numbers) (suc k) x v lt is at = ap (λ l. variable y w ∷ l) (next_named names numbers k x v (omega arith) is at)
+next_named (y ∷ names) (w ∷ numbers) zero x v lt is at =
+    let same : w ≡ v = cc in ap (λ z. variable z w ∷ []) (sym is) ∙ ap (λ n. variable x n ∷ []) same
+next_named (y ∷ names) (w ∷ numbers) (suc k) x v lt is at =
+    ap (λ l. variable y w ∷ l) (next_named names numbers k x v (omega arith) is at)
 
 -- one variable more is read
-pub one_more : (o : Option Frame) (names : List DeclaredName) (k : ℕ) (x : DeclaredName) (v number : ℤ) (word : List ℕ) (list : List Variable) → k < length names → x ≡ get_or names k x → number_of o k ≡ Some v → number ≡ v → word ≡ string_bytes x.text →
-    list ≡ named (map plain_name (take k names)) (numbers_of o) → list ++ record { name = word; value = number } ∷ [] ≡ named (map plain_name (take (k + 1) names)) (numbers_of o)
+pub one_more : (o : Option Frame) (names : List DeclaredName) (k : ℕ) (x : DeclaredName) (v number : ℤ) (word : List ℕ)
+    (list : List Variable) → k < length names → x ≡ get_or names k x → number_of o k ≡ Some v → number ≡ v
+    → word ≡ string_bytes x.text →
+    list ≡ named (map plain_name (take k names)) (numbers_of o) → list ++ record { name = word; value = number }
+    ∷ [] ≡ named (map plain_name (take (k + 1) names)) (numbers_of o)
 one_more o names k x v number word list lt is at same_number same_word read =
     let more : suc k ≡ k + 1 = omega arith in
-    ap (λ n. list ++ record { name = word; value = n } ∷ []) same_number ∙ ap (λ w. list ++ record { name = w; value = v } ∷ []) same_word ∙ ap (λ l. l ++ variable x v ∷ []) read ∙ sym (next_named names (numbers_of o) k x v lt is (number_in o k v at)) ∙ ap (λ n. named (map plain_name (take n names)) (numbers_of o)) more
+    ap (λ n. list ++ record { name = word; value = n } ∷ []) same_number
+    ∙ ap (λ w. list ++ record { name = w; value = v } ∷ []) same_word ∙ ap (λ l. l ++ variable x v ∷ []) read
+    ∙ sym (next_named names (numbers_of o) k x v lt is (number_in o k v at))
+    ∙ ap (λ n. named (map plain_name (take n names)) (numbers_of o)) more
 
 -- those of a frame are what is shown of it
-pub shown : (of : Asked) (main : Block) (c : Configuration) (id i : ℕ) (names : List DeclaredName) (list : List Variable) → of.program ≡ main → IsAlive c id i →
-    map plain_name names ≡ names_in main (frame_at c i) → list ≡ named (map plain_name names) (numbers_of (frame_at c i)) → answered (body.Variables list) ≡ variables_reply of (frame_by_id c id)
+pub shown : (of : Asked) (main : Block) (c : Configuration) (id i : ℕ) (names : List DeclaredName)
+    (list : List Variable) → of.program ≡ main → IsAlive c id i →
+    map plain_name names ≡ names_in main (frame_at c i) → list ≡ named (map plain_name names)
+    (numbers_of (frame_at c i)) → answered (body.Variables list) ≡ variables_reply of (frame_by_id c id)
 shown of main c id i names list program alive are is =
     let f = there c i alive.within in
     let all : list ≡ variables_of_frame of.program f.0 =
-    is ∙ ap (λ xs. named xs (numbers_of (frame_at c i))) are ∙ ap (λ o. named (names_in main o) (numbers_of o)) f.1 ∙ ap (λ b. variables_of_frame b f.0) (sym program) in
+    is ∙ ap (λ xs. named xs (numbers_of (frame_at c i))) are ∙ ap (λ o. named (names_in main o) (numbers_of o)) f.1
+    ∙ ap (λ b. variables_of_frame b f.0) (sym program) in
     ap (λ l. answered (body.Variables l)) all ∙ sym (ap (variables_reply of) (by_id c id i alive ∙ f.1))

@@ -1,5 +1,5 @@
--- A unit's tables of steps and blocks hold what the definitions say of each number; for `declared_names`, `frame_name` and
--- `stack_frame`.
+-- A unit's tables of steps and blocks hold what the definitions say of each number; for `declared_names`, `frame_name`
+-- and `stack_frame`.
 pub mod UnitTables
 -- What is shown of one frame is what the definition shows; for `stack_frame`.
 pub mod ShownFrame
@@ -11,7 +11,8 @@ pub mod ScopeChain
 pub mod FrameById
 -- A frame is found by its id exactly where it is alive; for `frame_with_id`, and through other lemmas for more.
 pub mod AliveFrames
--- A frame's variables, collected one by one, are those of the definition; for `declared_names`, `valued` and `variables`.
+-- A frame's variables, collected one by one, are those of the definition; for `declared_names`, `valued` and
+-- `variables`.
 pub mod FrameVariables
 -- An expression is read in the scope of a frame's next step; for `evaluate` and `read_in`.
 pub mod FrameReadings

@@ -23,14 +23,20 @@ own_scope main f i = record { name = frame_name main f.block; reference = i + 1 
 abbrev from_top : Block → Frame → Configuration → ℕ → List Scope
 from_top main f below i = own_scope main f i ∷ scopes_from main below f.link
 
-scopes_top : (main : Block) (f : Frame) (below : Configuration) (i : ℕ) → length below ≡ i → scopes_from main (f ∷ below) i ≡ from_top main f below i
-scopes_top main f below i e = cond-true (nat_eq (length below) i) (from_top main f below i) (scopes_from main below i) (eq-eqb (length below) i e)
+scopes_top : (main : Block) (f : Frame) (below : Configuration) (i : ℕ) → length below ≡ i
+    → scopes_from main (f ∷ below) i ≡ from_top main f below i
+scopes_top main f below i e =
+    cond-true (nat_eq (length below) i) (from_top main f below i) (scopes_from main below i) (eq-eqb (length below) i e)
 
-scopes_below : (main : Block) (f : Frame) (below : Configuration) (i : ℕ) → length below ≢ i → scopes_from main (f ∷ below) i ≡ scopes_from main below i
-scopes_below main f below i ne = cond-false (nat_eq (length below) i) (from_top main f below i) (scopes_from main below i) (ne_eqb (length below) i ne)
+scopes_below : (main : Block) (f : Frame) (below : Configuration) (i : ℕ) → length below ≢ i
+    → scopes_from main (f ∷ below) i ≡ scopes_from main below i
+scopes_below main f below i ne =
+    cond-false (nat_eq (length below) i) (from_top main f below i) (scopes_from main below i)
+    (ne_eqb (length below) i ne)
 
 -- a frame's own scope, and those of the frame that its link names
-linked_scopes : (main : Block) (c : Configuration) (i : ℕ) (f : Frame) → frame_at c i ≡ Some f → f.link < i → scopes_from main c i ≡ from_top main f c i
+linked_scopes : (main : Block) (c : Configuration) (i : ℕ) (f : Frame) → frame_at c i ≡ Some f → f.link < i
+    → scopes_from main c i ≡ from_top main f c i
 linked_scopes main [] i f at lower = cc
 linked_scopes main (g ∷ below) i f at lower =
     ⊎_elim
@@ -49,17 +55,20 @@ linked_scopes main (g ∷ below) i f at lower =
     again ne = ap (λ s. own_scope main f i ∷ s) (scopes_below main g below f.link ne)
 
 -- the main block's frame has its own alone
-lowest_scopes : (main : Block) (c : Configuration) (f : Frame) → frame_at c 0 ≡ Some f → scopes_from main c 0 ≡ own_scope main f 0 ∷ []
+lowest_scopes : (main : Block) (c : Configuration) (f : Frame) → frame_at c 0 ≡ Some f
+    → scopes_from main c 0 ≡ own_scope main f 0 ∷ []
 lowest_scopes main [] f at = cc
 lowest_scopes main (g ∷ []) f at = let is : g ≡ f = same_Some g f at in ap (λ h. own_scope main h 0 ∷ []) is
 lowest_scopes main (g ∷ h ∷ below) f at =
     let ne : length (h ∷ below) ≢ 0 = omega arith in
-    scopes_below main g (h ∷ below) 0 ne ∙ lowest_scopes main (h ∷ below) f (sym (frame_at-below g (h ∷ below) 0 ne) ∙ at)
+    scopes_below main g (h ∷ below) 0 ne ∙ lowest_scopes main (h ∷ below) f
+    (sym (frame_at-below g (h ∷ below) 0 ne) ∙ at)
 
 -- ---- links lead down
 
 -- a frame above the lowest is of a block in another
-nested : (main : Block) (c : Configuration) (i : ℕ) (f : Frame) → AreLinked main c → frame_at c (suc i) ≡ Some f → (k : ℕ) × (q : Path) × (f.block ≡ k ∷ q)
+nested : (main : Block) (c : Configuration) (i : ℕ) (f : Frame) → AreLinked main c → frame_at c (suc i) ≡ Some f
+    → (k : ℕ) × (q : Path) × (f.block ≡ k ∷ q)
 nested main [] i f linked at = cc
 nested main (g ∷ below) i f linked at =
     ⊎_elim
@@ -72,11 +81,13 @@ nested main (g ∷ below) i f linked at =
     none : length below ≡ 0 → length below ≡ suc i → ⊥
     none a b = omega (arith, a, b)
 
-    top : (p : Path) → f.block ≡ p → IsLinkedTo f.block f.link below → length below ≡ suc i → (k : ℕ) × (q : Path) × (f.block ≡ k ∷ q)
+    top : (p : Path) → f.block ≡ p → IsLinkedTo f.block f.link below → length below ≡ suc i → (k : ℕ) × (q : Path)
+        × (f.block ≡ k ∷ q)
     top [] e link same = absurd (none (ap length (subst (λ p. IsLinkedTo p f.link below) e link)) same)
     top (k ∷ q) e link same = (k, q, e)
 
-lower : (main : Block) (c : Configuration) (i : ℕ) (f : Frame) → ∥ AreLinked main c ∥₁ → frame_at c (suc i) ≡ Some f → f.link ≤ i
+lower : (main : Block) (c : Configuration) (i : ℕ) (f : Frame) → ∥ AreLinked main c ∥₁ → frame_at c (suc i) ≡ Some f
+    → f.link ≤ i
 lower main c i f linked at = ∥∥₁_elim linked le_prop (λ l. down l (nested main c i f l at))
   where
     down : AreLinked main c → (k : ℕ) × (q : Path) × (f.block ≡ k ∷ q) → f.link ≤ i
@@ -100,15 +111,18 @@ pub record Leads (main : Block) (c : Configuration) (i : ℕ) (scope : Scope) (n
   pub fewer : left_of next ≤ i
 
 pub leads : (main : Block) (c : Configuration) (i : ℕ) (scope : Scope) (next : Option ℕ) → ∥ AreLinked main c ∥₁ →
-    IsScopeOf main (frame_at c (i + 1 - 1)) (i + 1) scope → next ≡ parent_of i (frame_at c i) → Leads main c i scope next
+    IsScopeOf main (frame_at c (i + 1 - 1)) (i + 1) scope → next ≡ parent_of i (frame_at c i)
+    → Leads main c i scope next
 leads main c i scope next linked is parent =
     let same : i + 1 - 1 ≡ i = omega arith in
     frame i (frame_at c i) refl (subst (λ n. IsScopeOf main (frame_at c n) (i + 1) scope) same is) parent
   where
-    frame : (i : ℕ) (o : Option Frame) → frame_at c i ≡ o → IsScopeOf main o (i + 1) scope → next ≡ parent_of i o → Leads main c i scope next
+    frame : (i : ℕ) (o : Option Frame) → frame_at c i ≡ o → IsScopeOf main o (i + 1) scope → next ≡ parent_of i o
+        → Leads main c i scope next
     frame i None at is parent = absurd is
     frame zero (Some f) at is parent = record {
-      scopes = lowest_scopes main c f at ∙ ap (λ s. s ∷ []) (sym is) ∙ ap (λ n. scope ∷ rest_from main c n) (sym parent);
+      scopes = lowest_scopes main c f at ∙ ap (λ s. s ∷ []) (sym is)
+          ∙ ap (λ n. scope ∷ rest_from main c n) (sym parent);
       fewer = omega (arith, ap left_of parent);
     }
     frame (suc i) (Some f) at is parent =
@@ -121,7 +135,8 @@ leads main c i scope next linked is parent =
           fewer = omega (arith, down, ap left_of parent);
         }
 
-pub walked : (main : Block) (c : Configuration) (i : ℕ) (scope : Scope) (here next : Option ℕ) (found all : List Scope) → Leads main c i scope next → here ≡ Some i →
+pub walked : (main : Block) (c : Configuration) (i : ℕ) (scope : Scope) (here next : Option ℕ) (found all : List Scope)
+    → Leads main c i scope next → here ≡ Some i →
     found ++ rest_from main c here ≡ all → (found ++ scope ∷ []) ++ rest_from main c next ≡ all
 walked main c i scope here next found all one is before =
     append_assoc found (scope ∷ []) (rest_from main c next)

@@ -15,12 +15,14 @@ use Rattle.dap_history.specs.Frames.{Counting, frame_name, frame_place, line_of,
 use Rattle.dap_inspection.specs.Showing.{IsShownAs}
 use Rattle.dap_inspection.proofs.UnitTables.{step_within, step_place}
 
-pub shown_within : (u : Compiled) (o : Option Frame) (view : FrameView) → Shows (program_of u) o view → view.next_step < length u.steps.items
+pub shown_within : (u : Compiled) (o : Option Frame) (view : FrameView) → Shows (program_of u) o view
+    → view.next_step < length u.steps.items
 shown_within u None view shows = absurd shows
 shown_within u (Some f) view shows = step_within u view.next_step shows.1.within
 
 -- where the frame's next step stands
-place_is : (u : Compiled) (f : Frame) (view : FrameView) (s : Step) → Shows (program_of u) (Some f) view → s ≡ get_or u.steps.items view.next_step s →
+place_is : (u : Compiled) (f : Frame) (view : FrameView) (s : Step) → Shows (program_of u) (Some f) view
+    → s ≡ get_or u.steps.items view.next_step s →
     frame_place (program_of u) f ≡ Some s.place
 place_is u f view s shows at =
     let within = shown_within u (Some f) view shows in
@@ -31,11 +33,15 @@ place_is u f view s shows at =
     ∙ ap (λ o. option_map (λ (t : Step). t.place) o) there
 
 abbrev framed : Counting → ℕ → List ℕ → Option Place → StackFrame
-framed counting id name place = record { id = id; name = name; line = line_of counting place; column = column_of counting place }
+framed counting id name place =
+    record { id = id; name = name; line = line_of counting place; column = column_of counting place }
 
-pub shown_as : (u : Compiled) (counting : Counting) (o : Option Frame) (view : FrameView) (id line column : ℕ) (name : List ℕ) (s : Step) →
-    Shows (program_of u) o view → ((q : Path) → slice_get (blocks (program_of u)) view.block ≡ Some q → name ≡ frame_name (program_of u) q) →
-    s ≡ get_or u.steps.items view.next_step s → line ≡ s.place.line - counting.lines → column ≡ s.place.column - counting.columns →
+pub shown_as : (u : Compiled) (counting : Counting) (o : Option Frame) (view : FrameView) (id line column : ℕ)
+    (name : List ℕ) (s : Step) →
+    Shows (program_of u) o view → ((q : Path) → slice_get (blocks (program_of u)) view.block ≡ Some q
+    → name ≡ frame_name (program_of u) q) →
+    s ≡ get_or u.steps.items view.next_step s → line ≡ s.place.line - counting.lines
+    → column ≡ s.place.column - counting.columns →
     IsShownAs (program_of u) counting o id (record { id = id; name = name; line = line; column = column })
 shown_as u counting None view id line column name s shows names at lines columns = absurd shows
 shown_as u counting (Some f) view id line column name s shows names at lines columns =

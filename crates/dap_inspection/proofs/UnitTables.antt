@@ -23,7 +23,8 @@ some_within u n some = within (slice_get (blocks (program_of u)) n) refl some
     within (Some q) at some = block_within u n q at
 
 -- the number of a frame's block is one of the table
-pub shown_block_within : (u : Compiled) (o : Option Frame) (view : FrameView) → Shows (program_of u) o view → view.block < length u.nestings.items
+pub shown_block_within : (u : Compiled) (o : Option Frame) (view : FrameView) → Shows (program_of u) o view
+    → view.block < length u.nestings.items
 shown_block_within u None view shows = absurd shows
 shown_block_within u (Some f) view shows = block_within u view.block f.block shows.0
 
@@ -42,5 +43,6 @@ step_within u n lt = subst (λ k. n < k) (sym (unit_length u)) lt
 
 -- a step stands in the table where it stands in the text
 pub step_place : (u : Compiled) (n : ℕ) →
-    option_map (λ (s : Step). s.place) (slice_get u.steps.items n) ≡ option_map (λ (t : StepAt). t.place) (slice_get (steps (program_of u)) n)
+    option_map (λ (s : Step). s.place) (slice_get u.steps.items n) ≡ option_map (λ (t : StepAt). t.place)
+    (slice_get (steps (program_of u)) n)
 step_place u n = same_places (program_of u) u.steps.items (steps (program_of u)) (unit_steps u) n

@@ -11,7 +11,13 @@ use Rattle.dap_history.specs.Replies.{Reply, nothing}
 -- the debuggee's program, its path, and how a client with these settings counts
 abbrev pub question_of : Debugged → List ℕ → InitializeArguments → Asked
 question_of d path settings =
-    record { program = program_of d; path = path; counting = record { lines = offset settings.lines_start_at_1; columns = offset settings.columns_start_at_1 } }
+    record {
+      program =
+          program_of d;
+      path = path;
+      counting =
+          record { lines = offset settings.lines_start_at_1; columns = offset settings.columns_start_at_1 };
+    }
 
 -- the reply with this result and no effect
 abbrev pub replied : Result Body Refusal → Reply

@@ -20,16 +20,19 @@ use Rattle.dbg_runner.specs.Reported.{text_of}
 pub one_program : (u v : Compiled) → text_of u ≡ text_of v → program_of u ≡ program_of v
 one_program u v same =
     let alike = Coded-set block_code (program_of u) (program_of v) in
-    ∥∥₁_elim u.tree.lawful alike (λ x. ∥∥₁_elim v.tree.lawful alike (λ y. program_once (subst (λ t. ReadsProgram level_limit (tokens_of t) (program_of u)) same x.reads) y.reads))
+    ∥∥₁_elim u.tree.lawful alike (λ x. ∥∥₁_elim v.tree.lawful alike
+    (λ y. program_once (subst (λ t. ReadsProgram level_limit (tokens_of t) (program_of u)) same x.reads) y.reads))
 
 one_table : OneCode → (u v : Compiled) → program_of u ≡ program_of v → u.begun_steps.items ≡ v.begun_steps.items
 one_table one u v same =
     let alike = Coded-set (coded_list (coded_option coded_ℕ)) u.begun_steps.items v.begun_steps.items in
     ∥∥₁_elim v.tree.in_order alike (λ ordered. ∥∥₁_elim u.compiled alike (λ x. ∥∥₁_elim v.compiled alike (λ y.
     (one (program_of v) u.code.items v.code.items u.begun_steps.items v.begun_steps.items ordered
-    (subst (λ main. Coded (record { main = main; code = u.code.items; begun_steps = u.begun_steps.items })) same x.coded) y.coded).1)))
+    (subst (λ main. Coded (record { main = main; code = u.code.items; begun_steps = u.begun_steps.items })) same
+    x.coded) y.coded).1)))
 
-pub fits_also : OneCode → (u v : Compiled) (plan : Option Listed) → text_of u ≡ text_of v → MayBePlanOf u plan → MayBePlanOf v plan
+pub fits_also : OneCode → (u v : Compiled) (plan : Option Listed) → text_of u ≡ text_of v → MayBePlanOf u plan
+    → MayBePlanOf v plan
 fits_also one u v None same is = tt
 fits_also one u v (Some plan) same is =
     let program = one_program u v same in record {

@@ -53,7 +53,8 @@ pub record IsUnlaunched (past : History) : Type 0 where
 
 -- the program is the launched one
 pub record IsTarget (t : Target) (u : Compiled) (past : History) : Type 0 where
-  pub launched_is : launched past ≡ Some (record { path = t.path; stop_on_entry = t.stop_on_entry; text = text_of u; program = program_of u })
+  pub launched_is : launched past ≡ Some (record
+      { path = t.path; stop_on_entry = t.stop_on_entry; text = text_of u; program = program_of u })
   pub settings_are : t.settings ≡ settings past
   pub runs_are : t.runs ≡ runs past
   pub told_is : t.told ≡ numbers_told past

@@ -10,7 +10,18 @@ use Rattle.dap_phase.specs.Runs.{Ordered}
 -- what contracts see of a run with these fields
 abbrev pub ordered_of : Inside → Ordered
 ordered_of r =
-    record { unit = r.unit.value; mode = r.mode; position = r.position; breakpoints = breakpoints_of (option_map arc_value r.plan); counted_from = r.counted_from; waiting_plan = option_map (λ (p : Listed). plain_breakpoints p.breakpoints) (option_map arc_value r.waiting_plan); waiting_pause = r.waiting_pause; held = r.held }
+    record {
+      unit =
+          r.unit.value;
+      mode = r.mode;
+      position = r.position;
+      breakpoints = breakpoints_of (option_map arc_value r.plan);
+      counted_from = r.counted_from;
+      waiting_plan = option_map (λ (p : Listed). plain_breakpoints p.breakpoints)
+          (option_map arc_value r.waiting_plan);
+      waiting_pause = r.waiting_pause;
+      held = r.held;
+    }
 
 -- the plan that waits was made for the program
 abbrev pub IsFitting : Inside → Type 0

@@ -8,7 +8,8 @@ use Rattle.dbg_runner.specs.Plain.{Heading, goes_back}
 use Rattle.dbg_runner.specs.Reported.{text_of}
 
 -- A run of a program in a mode, under breakpoints that count from position `counted_from`. Its next report starts at
--- `position`. Breakpoints or a pause may wait until the runner returns the debuggee, and `held` says that this was ordered.
+-- `position`. Breakpoints or a pause may wait until the runner returns the debuggee, and `held` says that this was
+-- ordered.
 pub record Ordered : Type 0 where
   pub unit : Compiled
   pub mode : Mode
@@ -22,12 +23,30 @@ pub record Ordered : Type 0 where
 -- a run of this debuggee at its beginning
 abbrev pub begun : Debugged → Mode → Ordered
 begun d mode =
-    record { unit = d.unit; mode = mode; position = d.position; breakpoints = d.breakpoints; counted_from = d.counted_from; waiting_plan = None; waiting_pause = false; held = false }
+    record {
+      unit =
+          d.unit;
+      mode = mode;
+      position = d.position;
+      breakpoints = d.breakpoints;
+      counted_from = d.counted_from;
+      waiting_plan = None;
+      waiting_pause = false;
+      held = false;
+    }
 
 -- the heading that the next report must have, where the run has this number
 abbrev pub heading_in : ℕ → Ordered → Heading
 heading_in number run =
-    record { run = number; text = text_of run.unit; plan = run.breakpoints; counted_from = run.counted_from; mode = run.mode; start = run.position }
+    record {
+      run =
+          number;
+      text = text_of run.unit;
+      plan = run.breakpoints;
+      counted_from = run.counted_from;
+      mode = run.mode;
+      start = run.position;
+    }
 
 -- the run after the order to hold it; a run that goes back isn't held
 abbrev pub asked_back : Ordered → Ordered

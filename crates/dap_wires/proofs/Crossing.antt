@@ -1,5 +1,5 @@
--- The ends of the queues may go to another thread, as events and orders may. A search that goes down through what these own
--- would break off.
+-- The ends of the queues may go to another thread, as events and orders may. A search that goes down through what these
+-- own would break off.
 use denote.RattleType.{RattleType}
 use denote.Param.Send.{IsSend, sendable}
 use Rattle.std.proofs.Crossing.{crosses, send, sync, frees}
@@ -29,17 +29,23 @@ module _ (R : RattleType) where
   client_sender_field_send r = let a = arrival_send in search (send_end.the_field_send, sendable) depth 60 fits 20000
 
   pub report_sender_send : IsSend R → IsSend (ReportSender.the_row R)
-  report_sender_send r = let a = arrival_send in let b = report_send in search (send_end.the_field_send, history.the_send, crosses, sendable) depth 60 fits 20000
+  report_sender_send r =
+      let a = arrival_send in let b = report_send in search
+      (send_end.the_field_send, history.the_send, crosses, sendable) depth 60 fits 20000
 
   pub report_sender_field_send : IsSend R → IsSend (ReportSender.the_field R).row
-  report_sender_field_send r = let a = arrival_send in let b = report_send in search (send_end.the_field_send, history.the_send, crosses, sendable) depth 60 fits 20000
+  report_sender_field_send r =
+      let a = arrival_send in let b = report_send in search
+      (send_end.the_field_send, history.the_send, crosses, sendable) depth 60 fits 20000
 
   pub order_receiver_send : IsSend R → IsSend (OrderReceiver.the_row R)
   order_receiver_send r =
       let a = order_send in let b = frees in let c = send in let d = sync in
-      search (seat.the_send, slotted.the_field_send, slotted.the_field_sync, parker.the_field_send, crosses, sendable) depth 60 fits 20000
+      search (seat.the_send, slotted.the_field_send, slotted.the_field_sync, parker.the_field_send, crosses, sendable)
+      depth 60 fits 20000
 
   pub order_receiver_field_send : IsSend R → IsSend (OrderReceiver.the_field R).row
   order_receiver_field_send r =
       let a = order_send in let b = frees in let c = send in let d = sync in
-      search (seat.the_send, slotted.the_field_send, slotted.the_field_sync, parker.the_field_send, crosses, sendable) depth 60 fits 20000
+      search (seat.the_send, slotted.the_field_send, slotted.the_field_sync, parker.the_field_send, crosses, sendable)
+      depth 60 fits 20000

@@ -6,19 +6,22 @@ use Rattle.dap_wires.specs.Transfer.{BeginsWith}
 use Rattle.byte_streams.proofs.Known.{consumes_after, consumes_both, keeps_consumes}
 
 -- a read that gave nothing, with room for some
-pub read_nothing : (old mid later : Option (List ℕ)) (n : ℕ) (room : List ℕ) → Keeps old mid → Consumes mid later (take n room) × (n ≡ 0 → 0 < length room → IsAtEnd later) → n ≡ 0 → 0 < length room
+pub read_nothing : (old mid later : Option (List ℕ)) (n : ℕ) (room : List ℕ) → Keeps old mid
+    → Consumes mid later (take n room) × (n ≡ 0 → 0 < length room → IsAtEnd later) → n ≡ 0 → 0 < length room
     → Consumes old later [] × IsAtEnd later
 read_nothing old mid later n room keeps got none some =
     (consumes_after old mid later [] keeps (subst (λ k. Consumes mid later (take k room)) none got.0), got.1 none some)
 
 -- a read that gave some
-pub read_gives : (old mid later : Option (List ℕ)) (n : ℕ) (room piece : List ℕ) → Keeps old mid → Consumes mid later (take n room) × (n ≡ 0 → 0 < length room → IsAtEnd later) → piece ≡ take n room
+pub read_gives : (old mid later : Option (List ℕ)) (n : ℕ) (room piece : List ℕ) → Keeps old mid
+    → Consumes mid later (take n room) × (n ≡ 0 → 0 < length room → IsAtEnd later) → piece ≡ take n room
     → Consumes old later piece
 read_gives old mid later n room piece keeps got is =
     consumes_after old mid later piece keeps (subst (Consumes mid later) (sym is) got.0)
 
 -- what was read, put after nothing
-pub read_alone : (n : ℕ) (room before piece : List ℕ) → piece ≡ before ++ take n room → before ≡ [] → piece ≡ take n room
+pub read_alone : (n : ℕ) (room before piece : List ℕ) → piece ≡ before ++ take n room → before ≡ []
+    → piece ≡ take n room
 read_alone n room before piece is none = is ∙ ap (λ l. l ++ take n room) none
 
 pub piece_short : (n size : ℕ) (room piece : List ℕ) → piece ≡ take n room → length room ≡ size → length piece ≤ size
@@ -34,7 +37,8 @@ piece_some n room piece is some within =
 
 -- all of them, where a read gave none
 pub begins_whole : (bytes : List ℕ) (old mid later : Option (List ℕ)) (n : ℕ) (room : List ℕ) → Consumes old mid bytes
-    → Consumes mid later (take n room) × (n ≡ 0 → 0 < length room → IsAtEnd later) → n ≡ 0 → 0 < length room → length bytes ≤ 65537
+    → Consumes mid later (take n room) × (n ≡ 0 → 0 < length room → IsAtEnd later) → n ≡ 0 → 0 < length room
+    → length bytes ≤ 65537
     → BeginsWith bytes old later
 begins_whole bytes old mid later n room before got none some short = record {
   read = bytes;
@@ -45,7 +49,8 @@ begins_whole bytes old mid later n room before got none some short = record {
 }
 
 -- as many of them as are wanted
-pub begins_cut : (all bytes : List ℕ) (old later : Option (List ℕ)) → Consumes old later all → bytes ≡ take 65537 all → 65537 ≤ length all
+pub begins_cut : (all bytes : List ℕ) (old later : Option (List ℕ)) → Consumes old later all → bytes ≡ take 65537 all
+    → 65537 ≤ length all
     → BeginsWith bytes old later
 begins_cut all bytes old later consumed is long = record {
   read = all;
@@ -55,12 +60,15 @@ begins_cut all bytes old later consumed is long = record {
 }
 
 -- more of them
-pub begins_more : (bytes more : List ℕ) (old mid later : Option (List ℕ)) (n : ℕ) (room : List ℕ) → Consumes old mid bytes
+pub begins_more : (bytes more : List ℕ) (old mid later : Option (List ℕ)) (n : ℕ) (room : List ℕ)
+    → Consumes old mid bytes
     → Consumes mid later (take n room) → more ≡ bytes ++ take n room → Consumes old later more
 begins_more bytes more old mid later n room before got is =
     subst (Consumes old later) (sym is) (consumes_both old mid later bytes (take n room) before got)
 
 -- the same after a read that gave nothing
-pub begins_kept : (bytes : List ℕ) (old mid later : Option (List ℕ)) → Consumes old mid bytes → Keeps mid later → Consumes old later bytes
+pub begins_kept : (bytes : List ℕ) (old mid later : Option (List ℕ)) → Consumes old mid bytes → Keeps mid later
+    → Consumes old later bytes
 begins_kept bytes old mid later before kept =
-    subst (Consumes old later) (append-nil bytes) (consumes_both old mid later bytes [] before (keeps_consumes mid later kept))
+    subst (Consumes old later) (append-nil bytes)
+    (consumes_both old mid later bytes [] before (keeps_consumes mid later kept))

@@ -25,9 +25,11 @@ pub record ReadSoFar (put_old put_new : List Incoming) (old later : Supply) : Ty
 pub read_begins : (put : List Incoming) (old : Supply) → ReadSoFar put put old old
 read_begins put old = record { pieces = []; put_is = sym (append-nil put); read = refl }
 
-are_read-append : (events : List Incoming) (e : Incoming) (old mid later : Supply) → AreRead events old mid → IsRead e mid later → AreRead (events ++ e ∷ []) old later
+are_read-append : (events : List Incoming) (e : Incoming) (old mid later : Supply) → AreRead events old mid
+    → IsRead e mid later → AreRead (events ++ e ∷ []) old later
 are_read-append [] e old mid later before now = (later, subst (λ s. IsRead e s later) before now, refl)
-are_read-append (first ∷ events) e old mid later before now = (before.0, before.1, are_read-append events e before.0 mid later before.2 now)
+are_read-append (first ∷ events) e old mid later before now =
+    (before.0, before.1, are_read-append events e before.0 mid later before.2 now)
 
 some_is_no_none : {A : Type 0} {x : ReadEnd} → Some x ≡ None → A
 some_is_no_none e = absurd (search (e, rules))
@@ -38,14 +40,18 @@ when_ok (Ok done) ok p = p
 when_ok (Err back) ok p = absurd (true≢false ok)
 
 -- one more piece was sent
-pub read_goes_on : (put_old put_mid put_new : List Incoming) (old mid later : Supply) (e : Event) → ReadSoFar put_old put_mid old mid → is_report e ≡ false
-    → end_by (incoming_of e) ≡ None → IsRead (incoming_of e) mid later → put_new ≡ put_mid ++ incoming_of e ∷ [] → ReadSoFar put_old put_new old later
+pub read_goes_on : (put_old put_mid put_new : List Incoming) (old mid later : Supply) (e : Event)
+    → ReadSoFar put_old put_mid old mid → is_report e ≡ false
+    → end_by (incoming_of e) ≡ None → IsRead (incoming_of e) mid later → put_new ≡ put_mid ++ incoming_of e ∷ []
+    → ReadSoFar put_old put_new old later
 read_goes_on put_old put_mid put_new old mid later (event.Piece piece) r own none now put_is =
     let pieces_are = sym (map-append Piece r.pieces (piece.items ∷ [])) in
     record {
       pieces = r.pieces ++ piece.items ∷ [];
-      put_is = one_more put_old put_mid put_new (map Piece r.pieces) (Piece piece.items) r.put_is put_is ∙ ap (λ l. put_old ++ l) pieces_are;
-      read = subst (λ l. AreRead l old later) pieces_are (are_read-append (map Piece r.pieces) (Piece piece.items) old mid later r.read now);
+      put_is = one_more put_old put_mid put_new (map Piece r.pieces) (Piece piece.items) r.put_is put_is
+          ∙ ap (λ l. put_old ++ l) pieces_are;
+      read = subst (λ l. AreRead l old later) pieces_are
+          (are_read-append (map Piece r.pieces) (Piece piece.items) old mid later r.read now);
     }
 read_goes_on put_old put_mid put_new old mid later event.End r own none now put_is = some_is_no_none none
 read_goes_on put_old put_mid put_new old mid later event.ReadFailed r own none now put_is = some_is_no_none none
@@ -55,11 +61,14 @@ read_goes_on put_old put_mid put_new old mid later (event.File (Err fault)) r ow
 read_goes_on put_old put_mid put_new old mid later (event.Report x) r own none now put_is = absurd (true≢false own)
 
 abbrev pub Until : ReadEnd → List Incoming → List Incoming → Supply → Supply → Type 0
-Until end put_old put_new old later = (sent : List Incoming) × (put_new ≡ put_old ++ sent) × IsReadUntil end sent old later
+Until end put_old put_new old later =
+    (sent : List Incoming) × (put_new ≡ put_old ++ sent) × IsReadUntil end sent old later
 
 -- what ended the input was sent
-ends_by : (put_old put_mid put_new : List Incoming) (old mid later : Supply) (e : Incoming) (end : ReadEnd) → ReadSoFar put_old put_mid old mid
-    → last_of end ≡ e ∷ [] → ((s : Supply) → Loses end s s) → IsRead e mid later → put_new ≡ put_mid ++ e ∷ [] → Until end put_old put_new old later
+ends_by : (put_old put_mid put_new : List Incoming) (old mid later : Supply) (e : Incoming) (end : ReadEnd)
+    → ReadSoFar put_old put_mid old mid
+    → last_of end ≡ e ∷ [] → ((s : Supply) → Loses end s s) → IsRead e mid later → put_new ≡ put_mid ++ e ∷ []
+    → Until end put_old put_new old later
 ends_by put_old put_mid put_new old mid later e end r last nothing now put_is = (
   map Piece r.pieces ++ e ∷ [],
   one_more put_old put_mid put_new (map Piece r.pieces) e r.put_is put_is,
@@ -72,8 +81,10 @@ ends_by put_old put_mid put_new old mid later e end r last nothing now put_is = 
   },
 )
 
-pub read_ends : (put_old put_mid put_new : List Incoming) (old mid later : Supply) (e : Event) (end : ReadEnd) → ReadSoFar put_old put_mid old mid
-    → end_by (incoming_of e) ≡ Some end → IsRead (incoming_of e) mid later → put_new ≡ put_mid ++ incoming_of e ∷ [] → Until end put_old put_new old later
+pub read_ends : (put_old put_mid put_new : List Incoming) (old mid later : Supply) (e : Event) (end : ReadEnd)
+    → ReadSoFar put_old put_mid old mid
+    → end_by (incoming_of e) ≡ Some end → IsRead (incoming_of e) mid later → put_new ≡ put_mid ++ incoming_of e ∷ []
+    → Until end put_old put_new old later
 read_ends put_old put_mid put_new old mid later (event.Piece piece) end r is now put_is = some_is_no_none (sym is)
 read_ends put_old put_mid put_new old mid later event.End end r is now put_is =
     rw (sym (same_Some _ _ is)) (ends_by put_old put_mid put_new old mid later _ _ r refl (λ s. refl) now put_is)
@@ -86,10 +97,18 @@ read_ends put_old put_mid put_new old mid later (event.File (Err fault)) end r i
 read_ends put_old put_mid put_new old mid later (event.Report x) end r is now put_is = some_is_no_none (sym is)
 
 -- the last event was returned
-pub read_lost : (put_old put_mid put_new : List Incoming) (old mid later : Supply) (e : Incoming) → ReadSoFar put_old put_mid old mid
+pub read_lost : (put_old put_mid put_new : List Incoming) (old mid later : Supply) (e : Incoming)
+    → ReadSoFar put_old put_mid old mid
     → IsRead e mid later → put_new ≡ put_mid → Until HandedBack put_old put_new old later
 read_lost put_old put_mid put_new old mid later e r now same = (
   map Piece r.pieces,
   same ∙ r.put_is,
-  record { pieces = r.pieces; sent_are = sym (append-nil (map Piece r.pieces)); mid = mid; read = r.read; loses = (e, now) },
+  record {
+    pieces =
+        r.pieces;
+    sent_are = sym (append-nil (map Piece r.pieces));
+    mid = mid;
+    read = r.read;
+    loses = (e, now);
+  },
 )

@@ -25,10 +25,13 @@ use Rattle.dap_wires.proofs.Delivered.{all_first}
 
 flat_append : (xs ys : List Arrival) → flat_map events_in (xs ++ ys) ≡ flat_map events_in xs ++ flat_map events_in ys
 flat_append [] ys = refl
-flat_append (x ∷ xs) ys = ap (λ l. events_in x ++ l) (flat_append xs ys) ∙ sym (append_assoc (events_in x) (flat_map events_in xs) (flat_map events_in ys))
+flat_append (x ∷ xs) ys =
+    ap (λ l. events_in x ++ l) (flat_append xs ys) ∙ sym
+    (append_assoc (events_in x) (flat_map events_in xs) (flat_map events_in ys))
 
 pub came_append : (xs ys : List Arrival) → came (xs ++ ys) ≡ came xs ++ came ys
-came_append xs ys = ap (map incoming_of) (flat_append xs ys) ∙ map-append incoming_of (flat_map events_in xs) (flat_map events_in ys)
+came_append xs ys =
+    ap (map incoming_of) (flat_append xs ys) ∙ map-append incoming_of (flat_map events_in xs) (flat_map events_in ys)
 
 pub client_append : (xs ys : List Incoming) → from_client (xs ++ ys) ≡ from_client xs ++ from_client ys
 client_append [] ys = refl
@@ -61,20 +64,23 @@ all_reports [] = refl
 all_reports (r ∷ reports) = ap (λ l. plain_report r ∷ l) (all_reports reports)
 
 -- events that end with reports
-told_last : (given : List Event) (reports : List Reported) → map incoming_of (given ++ map event.Report reports) ≡ map incoming_of given ++ told reports
+told_last : (given : List Event) (reports : List Reported) → map incoming_of (given ++ map event.Report reports) ≡ map
+    incoming_of given ++ told reports
 told_last given reports = map-append incoming_of given (map event.Report reports)
 
 -- reports came first
 told_first : (reports : _) (ms : List Arrival) → came (arrival.Quiet reports ∷ ms) ≡ told reports.items ++ came ms
 told_first reports ms = map-append incoming_of (map event.Report reports.items) (flat_map events_in ms)
 
-client_after : (reports : _) (ms : List Arrival) → from_client (came (arrival.Quiet reports ∷ ms)) ≡ from_client (came ms)
+client_after : (reports : _) (ms : List Arrival) → from_client (came (arrival.Quiet reports ∷ ms)) ≡ from_client
+    (came ms)
 client_after reports ms =
     ap from_client (told_first reports ms)
     ∙ client_append (told reports.items) (came ms)
     ∙ ap (λ l. l ++ from_client (came ms)) (no_client reports.items)
 
-reports_after : (reports : _) (ms : List Arrival) → reports_among (came (arrival.Quiet reports ∷ ms)) ≡ map plain_report reports.items ++ reports_among (came ms)
+reports_after : (reports : _) (ms : List Arrival) → reports_among (came (arrival.Quiet reports ∷ ms)) ≡ map plain_report
+    reports.items ++ reports_among (came ms)
 reports_after reports ms =
     ap reports_among (told_first reports ms)
     ∙ reports_append (told reports.items) (came ms)
@@ -108,7 +114,8 @@ reports_second (arrival.Quiet reports ∷ ms) =
     ∙ sym (reports_after reports ms)
 
 -- what the session was given of what was taken, but for reports that it wasn't given yet
-module _ (taken inside : List Arrival) (given : List Event) (rest : List Reported) (is : flat_map events_in taken ≡ given ++ map event.Report rest) where
+module _ (taken inside : List Arrival) (given : List Event) (rest : List Reported)
+    (is : flat_map events_in taken ≡ given ++ map event.Report rest) where
   taken_is : came taken ≡ map incoming_of given ++ told rest
   taken_is = ap (map incoming_of) is ∙ told_last given rest
 
@@ -117,51 +124,67 @@ module _ (taken inside : List Arrival) (given : List Event) (rest : List Reporte
       ap from_client (came_append taken inside)
       ∙ client_append (came taken) (came inside)
       ∙ ap (λ l. from_client l ++ from_client (came inside)) taken_is
-      ∙ ap (λ l. l ++ from_client (came inside)) (client_append (map incoming_of given) (told rest) ∙ ap (λ l. from_client (map incoming_of given) ++ l) (no_client rest) ∙ append-nil (from_client (map incoming_of given)))
+      ∙ ap (λ l. l ++ from_client (came inside))
+      (client_append (map incoming_of given) (told rest) ∙ ap (λ l. from_client (map incoming_of given) ++ l)
+      (no_client rest) ∙ append-nil (from_client (map incoming_of given)))
 
-  reports_taken : reports_among (came (taken ++ inside)) ≡ reports_among (map incoming_of given) ++ (map plain_report rest ++ reports_among (came inside))
+  reports_taken : reports_among (came (taken ++ inside)) ≡ reports_among (map incoming_of given)
+      ++ (map plain_report rest ++ reports_among (came inside))
   reports_taken =
       ap reports_among (came_append taken inside)
       ∙ reports_append (came taken) (came inside)
       ∙ ap (λ l. reports_among l ++ reports_among (came inside)) taken_is
-      ∙ ap (λ l. l ++ reports_among (came inside)) (reports_append (map incoming_of given) (told rest) ∙ ap (λ l. reports_among (map incoming_of given) ++ l) (all_reports rest))
+      ∙ ap (λ l. l ++ reports_among (came inside))
+      (reports_append (map incoming_of given) (told rest)
+      ∙ ap (λ l. reports_among (map incoming_of given) ++ l) (all_reports rest))
       ∙ append_assoc (reports_among (map incoming_of given)) (map plain_report rest) (reports_among (came inside))
 
   -- what the session was given of the reader's is a prefix of what that put
-  pub client_begins : (put : List Arrival) → put ≡ of_first is_by_runner (taken ++ inside) → Begins (from_client (map incoming_of given)) (came put)
-  client_begins put put_is = (from_client (came inside), sym client_taken ∙ sym (client_first (taken ++ inside)) ∙ ap came (sym put_is))
+  pub client_begins : (put : List Arrival) → put ≡ of_first is_by_runner (taken ++ inside)
+      → Begins (from_client (map incoming_of given)) (came put)
+  client_begins put put_is =
+      (from_client (came inside), sym client_taken ∙ sym (client_first (taken ++ inside)) ∙ ap came (sym put_is))
 
   -- and of the runner's, which has sent more than it put
   pub reports_begin : (put : List Arrival) (kept : List Reported) → put ≡ of_second is_by_runner (taken ++ inside)
       → Begins (reports_among (map incoming_of given)) (reports_among (came put) ++ map plain_report kept)
   reports_begin put kept put_is = (
     (map plain_report rest ++ reports_among (came inside)) ++ map plain_report kept,
-    sym (append_assoc (reports_among (map incoming_of given)) (map plain_report rest ++ reports_among (came inside)) (map plain_report kept))
-        ∙ ap (λ l. l ++ map plain_report kept) (sym reports_taken ∙ sym (reports_second (taken ++ inside)) ∙ ap (λ l. reports_among (came l)) (sym put_is)),
+    sym (append_assoc (reports_among (map incoming_of given)) (map plain_report rest ++ reports_among (came inside))
+        (map plain_report kept))
+        ∙ ap (λ l. l ++ map plain_report kept)
+        (sym reports_taken ∙ sym (reports_second (taken ++ inside))
+        ∙ ap (λ l. reports_among (came l)) (sym put_is)),
   )
 
 -- one more event was given
-pub event_given : (old : List Event) (e : Event) → map incoming_of (old ++ e ∷ []) ≡ map incoming_of old ++ incoming_of e ∷ []
+pub event_given : (old : List Event) (e : Event) → map incoming_of (old ++ e ∷ []) ≡ map incoming_of old
+    ++ incoming_of e ∷ []
 event_given old e = map-append incoming_of old (e ∷ [])
 
 -- one more client's event was put
-pub client_put : (old new : List Arrival) (e : Event) → new ≡ old ++ of_first is_by_runner (arrival.Event e ∷ []) → of_first is_by_runner (arrival.Event e ∷ []) ≡ arrival.Event e ∷ []
+pub client_put : (old new : List Arrival) (e : Event) → new ≡ old ++ of_first is_by_runner (arrival.Event e ∷ [])
+    → of_first is_by_runner (arrival.Event e ∷ []) ≡ arrival.Event e ∷ []
     → came new ≡ came old ++ incoming_of e ∷ []
 client_put old new e is of_client = ap came (is ∙ ap (λ l. old ++ l) of_client) ∙ came_append old (arrival.Event e ∷ [])
 
 -- one more report was put, where none is kept
-pub report_put : (old new : List Arrival) (kept : List Reported) (r : Reported) → new ≡ old ++ arrival.Event (event.Report r) ∷ [] → kept ≡ []
-    → reports_among (came new) ++ map plain_report kept ≡ (reports_among (came old) ++ map plain_report kept) ++ plain_report r ∷ []
+pub report_put : (old new : List Arrival) (kept : List Reported) (r : Reported) → new ≡ old
+    ++ arrival.Event (event.Report r) ∷ [] → kept ≡ []
+    → reports_among (came new) ++ map plain_report kept ≡ (reports_among (came old) ++ map plain_report kept)
+    ++ plain_report r ∷ []
 report_put old new kept r is none =
     ap (λ k. reports_among (came new) ++ map plain_report k) none
     ∙ append-nil (reports_among (came new))
     ∙ ap (λ l. reports_among (came l)) is
     ∙ ap reports_among (came_append old (arrival.Event (event.Report r) ∷ []))
     ∙ reports_append (came old) (Report (plain_report r) ∷ [])
-    ∙ ap (λ l. l ++ plain_report r ∷ []) (sym (append-nil (reports_among (came old))) ∙ ap (λ k. reports_among (came old) ++ map plain_report k) (sym none))
+    ∙ ap (λ l. l ++ plain_report r ∷ []) (sym (append-nil (reports_among (came old)))
+    ∙ ap (λ k. reports_among (came old) ++ map plain_report k) (sym none))
 
 -- what was kept was put
-pub kept_put : (old new : List Arrival) (kept : _) (was now : List Reported) → new ≡ old ++ arrival.Quiet kept ∷ [] → kept.items ≡ was → now ≡ []
+pub kept_put : (old new : List Arrival) (kept : _) (was now : List Reported) → new ≡ old ++ arrival.Quiet kept ∷ []
+    → kept.items ≡ was → now ≡ []
     → reports_among (came new) ++ map plain_report now ≡ reports_among (came old) ++ map plain_report was
 kept_put old new kept was now is all none =
     ap (λ l. reports_among (came new) ++ map plain_report l) none
@@ -169,7 +192,8 @@ kept_put old new kept was now is all none =
     ∙ ap (λ l. reports_among (came l)) is
     ∙ ap reports_among (came_append old (arrival.Quiet kept ∷ []))
     ∙ reports_append (came old) (came (arrival.Quiet kept ∷ []))
-    ∙ ap (λ l. reports_among (came old) ++ l) (reports_after kept [] ∙ append-nil (map plain_report kept.items) ∙ ap (map plain_report) all)
+    ∙ ap (λ l. reports_among (came old) ++ l)
+    (reports_after kept [] ∙ append-nil (map plain_report kept.items) ∙ ap (map plain_report) all)
 
 -- one more report is kept
 pub report_kept : (sent : List PlainReport) (old new : List Reported) (r : Reported) → new ≡ old ++ r ∷ []
@@ -183,7 +207,8 @@ both : (a b : Bool) → (a && b) ≡ true → (a ≡ true) × (b ≡ true)
 both true b all = (refl, all)
 both false b all = absurd (true≢false (sym all))
 
-pub quiet_kept : (old : List Reported) (r : Reported) → are_quiet old ≡ true → is_quiet r ≡ true → are_quiet (old ++ r ∷ []) ≡ true
+pub quiet_kept : (old : List Reported) (r : Reported) → are_quiet old ≡ true → is_quiet r ≡ true
+    → are_quiet (old ++ r ∷ []) ≡ true
 quiet_kept [] r all one = ap (λ b. b && true) one
 quiet_kept (x ∷ old) r all one =
     let each = both (is_quiet x) (are_quiet old) all in
@@ -197,7 +222,8 @@ frames_append (message.Frame frame ∷ xs) ys = ap (λ l. frame.items ∷ l) (fr
 frames_append (message.End ∷ xs) ys = frames_append xs ys
 
 -- frames were put, and one more
-pub frame_keeps_open : (xs : List WriterMessage) (frame : _) → has_end xs ≡ false → has_end (xs ++ message.Frame frame ∷ []) ≡ false
+pub frame_keeps_open : (xs : List WriterMessage) (frame : _) → has_end xs ≡ false
+    → has_end (xs ++ message.Frame frame ∷ []) ≡ false
 frame_keeps_open [] frame none = refl
 frame_keeps_open (message.Frame first ∷ xs) frame none = frame_keeps_open xs frame none
 frame_keeps_open (message.End ∷ xs) frame none = none
@@ -213,7 +239,8 @@ pub frames_end : (xs : List WriterMessage) → frames_in (xs ++ message.End ∷ 
 frames_end xs = frames_append xs (message.End ∷ []) ∙ append-nil (frames_in xs)
 
 -- what was taken is a prefix of what was put
-pub messages_begin : (put taken inside : List WriterMessage) → put ≡ of_first (λ _. false) (taken ++ inside) → Begins taken put
+pub messages_begin : (put taken inside : List WriterMessage) → put ≡ of_first (λ _. false) (taken ++ inside)
+    → Begins taken put
 messages_begin put taken inside is = (inside, sym (is ∙ all_first (taken ++ inside)))
 
 -- Nothing was refused.
@@ -222,12 +249,15 @@ none_mapped f xs none = ap (map f) none
 
 -- The end was put, or returned.
 module _ {A B : Type 0} where
-  pub finish_ends : (answer : Result A B) (old new : EndLog WriterMessage) → OnOk answer (new ≡ put (λ _. false) old message.End) → OnErr answer (new ≡ old)
+  pub finish_ends : (answer : Result A B) (old new : EndLog WriterMessage)
+      → OnOk answer (new ≡ put (λ _. false) old message.End) → OnErr answer (new ≡ old)
       → has_end old.put_first ≡ false → (has_end new.put_first ≡ false) ⊎ AreEnded new.put_first
-  finish_ends (Ok done) old new sent refused none = inr (subst AreEnded (sym (ap (λ v. v.put_first) sent)) (end_ends old.put_first none))
+  finish_ends (Ok done) old new sent refused none =
+      inr (subst AreEnded (sym (ap (λ v. v.put_first) sent)) (end_ends old.put_first none))
   finish_ends (Err back) old new sent refused none = inl (ap (λ v. has_end v.put_first) refused ∙ none)
 
-  pub finish_keeps : (answer : Result A B) (old new : EndLog WriterMessage) → OnOk answer (new ≡ put (λ _. false) old message.End) → OnErr answer (new ≡ old)
+  pub finish_keeps : (answer : Result A B) (old new : EndLog WriterMessage)
+      → OnOk answer (new ≡ put (λ _. false) old message.End) → OnErr answer (new ≡ old)
       → frames_in new.put_first ≡ frames_in old.put_first
   finish_keeps (Ok done) old new sent refused = ap (λ v. frames_in v.put_first) sent ∙ frames_end old.put_first
   finish_keeps (Err back) old new sent refused = ap (λ v. frames_in v.put_first) refused

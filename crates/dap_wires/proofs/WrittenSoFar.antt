@@ -21,30 +21,55 @@ pub record WrittenSoFar (taken_old taken_new : List WriterMessage) (old later : 
   pub failures : later.failures ≡ old.failures
 
 pub written_begins : (taken : List WriterMessage) (old : Output) → WrittenSoFar taken taken old old
-written_begins taken old = record { taken = []; taken_is = sym (append-nil taken); no_end = refl; written = appends_none old.written; failures = refl }
+written_begins taken old =
+    record {
+      taken = [];
+      taken_is = sym (append-nil taken);
+      no_end = refl;
+      written = appends_none old.written;
+      failures = refl;
+    }
 
 -- nothing was taken
-pub written_waits : (taken_old taken_mid taken_new : List WriterMessage) (old later : Output) → WrittenSoFar taken_old taken_mid old later → taken_new ≡ taken_mid → WrittenSoFar taken_old taken_new old later
-written_waits taken_old taken_mid taken_new old later w same = record { taken = w.taken; taken_is = same ∙ w.taken_is; no_end = w.no_end; written = w.written; failures = w.failures }
+pub written_waits : (taken_old taken_mid taken_new : List WriterMessage) (old later : Output)
+    → WrittenSoFar taken_old taken_mid old later → taken_new ≡ taken_mid → WrittenSoFar taken_old taken_new old later
+written_waits taken_old taken_mid taken_new old later w same =
+    record {
+      taken = w.taken;
+      taken_is = same ∙ w.taken_is;
+      no_end = w.no_end;
+      written = w.written;
+      failures =
+          w.failures;
+    }
 
-bytes_append : (taken : List WriterMessage) (frame : _) → concat (frames_in taken) ++ frame.items ≡ concat (frames_in (taken ++ message.Frame frame ∷ []))
-bytes_append taken frame = sym (ap concat (frames_append taken (message.Frame frame ∷ [])) ∙ concat-append (frames_in taken) (frame.items ∷ []) ∙ ap (λ l. concat (frames_in taken) ++ l) (append-nil frame.items))
+bytes_append : (taken : List WriterMessage) (frame : _) → concat (frames_in taken)
+    ++ frame.items ≡ concat (frames_in (taken ++ message.Frame frame ∷ []))
+bytes_append taken frame =
+    sym (ap concat (frames_append taken (message.Frame frame ∷ [])) ∙ concat-append (frames_in taken) (frame.items ∷ [])
+    ∙ ap (λ l. concat (frames_in taken) ++ l) (append-nil frame.items))
 
 -- one more frame was taken, and written whole
-pub written_goes_on : (taken_old taken_mid taken_new : List WriterMessage) (old mid later : Output) (frame : _) → WrittenSoFar taken_old taken_mid old mid → taken_new ≡ taken_mid ++ message.Frame frame ∷ []
-    → Appends mid.written later.written frame.items → later.failures ≡ mid.failures → WrittenSoFar taken_old taken_new old later
+pub written_goes_on : (taken_old taken_mid taken_new : List WriterMessage) (old mid later : Output) (frame : _)
+    → WrittenSoFar taken_old taken_mid old mid → taken_new ≡ taken_mid ++ message.Frame frame ∷ []
+    → Appends mid.written later.written frame.items → later.failures ≡ mid.failures
+    → WrittenSoFar taken_old taken_new old later
 written_goes_on taken_old taken_mid taken_new old mid later frame w took wrote count = record {
   taken = w.taken ++ message.Frame frame ∷ [];
   taken_is = one_more taken_old taken_mid taken_new w.taken (message.Frame frame) w.taken_is took;
   no_end = frame_keeps_open w.taken frame w.no_end;
-  written = subst (Appends old.written later.written) (bytes_append w.taken frame) (appends_both old.written mid.written later.written (concat (frames_in w.taken)) frame.items w.written wrote);
+  written =
+      subst (Appends old.written later.written) (bytes_append w.taken frame)
+      (appends_both old.written mid.written later.written (concat (frames_in w.taken)) frame.items w.written wrote);
   failures = count ∙ w.failures;
 }
 
 -- a frame was taken, and a prefix of it was written
-pub written_breaks : (taken_old taken_mid taken_new : List WriterMessage) (old mid later : Output) (frame : _) → WrittenSoFar taken_old taken_mid old mid → taken_new ≡ taken_mid ++ message.Frame frame ∷ []
+pub written_breaks : (taken_old taken_mid taken_new : List WriterMessage) (old mid later : Output) (frame : _)
+    → WrittenSoFar taken_old taken_mid old mid → taken_new ≡ taken_mid ++ message.Frame frame ∷ []
     → AppendsPart mid.written later.written frame.items → mid.failures < later.failures
-    → (taken : List WriterMessage) × (taken_new ≡ taken_old ++ taken) × ((has_end taken ≡ false) × FailsIn (concat (frames_in taken)) old later)
+    → (taken : List WriterMessage) × (taken_new ≡ taken_old ++ taken)
+    × ((has_end taken ≡ false) × FailsIn (concat (frames_in taken)) old later)
 written_breaks taken_old taken_mid taken_new old mid later frame w took wrote count = (
   w.taken ++ message.Frame frame ∷ [],
   one_more taken_old taken_mid taken_new w.taken (message.Frame frame) w.taken_is took,
@@ -54,7 +79,11 @@ written_breaks taken_old taken_mid taken_new old mid later frame w took wrote co
       (
         concat (frames_in w.taken) ++ wrote.0,
         appends_both old.written mid.written later.written (concat (frames_in w.taken)) wrote.0 w.written wrote.1,
-        (wrote.2.0, append_assoc (concat (frames_in w.taken)) wrote.0 wrote.2.0 ∙ ap (λ l. concat (frames_in w.taken) ++ l) wrote.2.1 ∙ bytes_append w.taken frame),
+        (
+          wrote.2.0,
+          append_assoc (concat (frames_in w.taken)) wrote.0 wrote.2.0
+              ∙ ap (λ l. concat (frames_in w.taken) ++ l) wrote.2.1 ∙ bytes_append w.taken frame,
+        ),
       ),
       subst (λ n. n < later.failures) w.failures count,
     ),
@@ -62,10 +91,19 @@ written_breaks taken_old taken_mid taken_new old mid later frame w took wrote co
 )
 
 -- the end was taken
-pub written_ends : (taken_old taken_mid taken_new : List WriterMessage) (old later : Output) → WrittenSoFar taken_old taken_mid old later → taken_new ≡ taken_mid ++ message.End ∷ []
-    → (taken : List WriterMessage) × (taken_new ≡ taken_old ++ taken) × (AreEnded taken × WritesAll (concat (frames_in taken)) old later)
+pub written_ends : (taken_old taken_mid taken_new : List WriterMessage) (old later : Output)
+    → WrittenSoFar taken_old taken_mid old later → taken_new ≡ taken_mid ++ message.End ∷ []
+    → (taken : List WriterMessage) × (taken_new ≡ taken_old ++ taken)
+    × (AreEnded taken × WritesAll (concat (frames_in taken)) old later)
 written_ends taken_old taken_mid taken_new old later w took = (
   w.taken ++ message.End ∷ [],
   one_more taken_old taken_mid taken_new w.taken message.End w.taken_is took,
-  (end_ends w.taken w.no_end, (subst (Appends old.written later.written) (ap concat (sym (frames_end w.taken))) w.written, w.failures)),
+  (
+    end_ends w.taken w.no_end,
+    (
+      subst (Appends old.written later.written) (ap concat (sym (frames_end w.taken)))
+          w.written,
+      w.failures,
+    ),
+  ),
 )

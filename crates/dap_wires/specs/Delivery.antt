@@ -1,5 +1,5 @@
--- Defines the rule of a queue, which holds after each step of any end: what was taken and then what is inside is, of each
--- sender, what it put, in its order.
+-- Defines the rule of a queue, which holds after each step of any end: what was taken and then what is inside is, of
+-- each sender, what it put, in its order.
 use Rattle.std.specs.Prelude.{◌≡◌, ℕ, Bool, true, false, not, cond, List, [], ◌∷◌, ◌++◌, filter}
 use mathlib.Core.Option.{some}
 use lib.ListN.{get_elem?}
@@ -9,7 +9,15 @@ module _ {M : Type 0} where
   -- the log of an end, of its parts
   abbrev pub log : Bool → Bool → Bool → List M → List M → List M → EndLog M
   log first second takes put_first put_second taken =
-      record { first = first; second = second; takes = takes; put_first = put_first; put_second = put_second; taken = taken }
+      record {
+        first =
+            first;
+        second = second;
+        takes = takes;
+        put_first = put_first;
+        put_second = put_second;
+        taken = taken;
+      }
 
   module _ (by_second : M → Bool) where
     -- what each sender sent of these messages
@@ -19,8 +27,8 @@ module _ {M : Type 0} where
     abbrev pub of_second : List M → List M
     of_second ms = filter by_second ms
 
-    -- An end that puts, as one sender or the other, knows all that this sender put; the one that takes knows all that was
-    -- taken.
+    -- An end that puts, as one sender or the other, knows all that this sender put; the one that takes knows all that
+    -- was taken.
     pub record Fits (one two taker : ℕ) (taken inside : List M) (end : ℕ) (v : EndLog M) : Type 0 where
       pub first : v.first ≡ true → (end ≡ one) × (v.put_first ≡ of_first (taken ++ inside))
       pub second : v.second ≡ true → (end ≡ two) × (v.put_second ≡ of_second (taken ++ inside))
@@ -40,7 +48,8 @@ module _ {M : Type 0} where
 
     -- the log after a message was put
     abbrev pub put : EndLog M → M → EndLog M
-    put v m = log v.first v.second v.takes (v.put_first ++ of_first (m ∷ [])) (v.put_second ++ of_second (m ∷ [])) v.taken
+    put v m =
+        log v.first v.second v.takes (v.put_first ++ of_first (m ∷ [])) (v.put_second ++ of_second (m ∷ [])) v.taken
 
     -- at one moment these messages were inside, after some that had been taken
     abbrev pub WasInside : EndLog M → List M → Type 0

@@ -13,7 +13,8 @@ pub use Rattle.dap_wires.specs.Full.{FourWereInside}
 module _ {R : Type 0} where
   -- the orders that the session pushed, and how often it found the queue full; the runner is never gone
   abbrev pub pushed_orders : OrderSender R → Ordered
-  pushed_orders e = record { orders = map plain_order (view e.pass).put_first; fulls = length e.fulls.entries; refusals = 0 }
+  pushed_orders e =
+      record { orders = map plain_order (view e.pass).put_first; fulls = length e.fulls.entries; refusals = 0 }
 
   -- four orders that were pushed were inside together
   pub record WasFull (e : OrderSender R) : Type 0 where

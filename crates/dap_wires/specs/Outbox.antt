@@ -12,7 +12,8 @@ use Rattle.dap_session.specs.Ports.{Written}
 module _ {R : Type 0} where
   -- the frames that the session put, and those that were refused
   abbrev pub put_frames : FrameSender R → Written
-  put_frames e = record { frames = frames_in (sender_log e.end).put_first; refused = map (λ frame. frame.items) e.refused.entries }
+  put_frames e =
+      record { frames = frames_in (sender_log e.end).put_first; refused = map (λ frame. frame.items) e.refused.entries }
 
   -- which queue an end belongs to, and which the end that nobody uses
   abbrev pub frame_queue : FrameSender R → QueueId WriterMessage

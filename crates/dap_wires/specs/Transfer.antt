@@ -11,7 +11,9 @@ piece_limit = 4096
 -- What was read of an input for an event: a piece, which is never empty, or the end, or nothing at a failure. A report
 -- comes from elsewhere, and no file is read so.
 abbrev pub IsRead : Incoming → Supply → Supply → Type 0
-IsRead (Piece bytes) old later = Consumes old.left later.left bytes × (length bytes ≤ piece_limit) × (later.failures ≡ old.failures) × (0 < length bytes)
+IsRead (Piece bytes) old later =
+    Consumes old.left later.left bytes × (length bytes ≤ piece_limit) × (later.failures ≡ old.failures)
+    × (0 < length bytes)
 IsRead End old later = Consumes old.left later.left [] × IsAtEnd later.left × (later.failures ≡ old.failures)
 IsRead ReadFailed old later = Consumes old.left later.left [] × (old.failures < later.failures)
 IsRead NoMemory old later = Consumes old.left later.left [] × (later.failures ≡ old.failures)

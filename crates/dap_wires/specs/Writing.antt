@@ -6,8 +6,8 @@ use Rattle.dap_wires.specs.declared.writing.WriteFailed.{WriteFailed}
 use Rattle.dap_wires.specs.WriterMessages.{frames_in, has_end, AreEnded}
 use Rattle.byte_streams.specs.Streams.{Output, WritesAll, FailsIn}
 
--- Frames and then `End` were taken, and the frames were written whole; or frames alone were taken, and the output failed
--- after a prefix of them.
+-- Frames and then `End` were taken, and the frames were written whole; or frames alone were taken, and the output
+-- failed after a prefix of them.
 abbrev pub IsWrittenUntil : Result (Unit {0}) WriteFailed → List WriterMessage → Output → Output → Type 0
 IsWrittenUntil (Ok done) taken old later = AreEnded taken × WritesAll (concat (frames_in taken)) old later
 IsWrittenUntil (Err failed) taken old later = (has_end taken ≡ false) × FailsIn (concat (frames_in taken)) old later

@@ -13,7 +13,7 @@ use Rattle.pl0_tree.specs.Scope.{Path, block_at}
 use Rattle.pl0_tree.specs.Steps.{blocks}
 use Rattle.pl0_tree.specs.Blocks.{AreNestings}
 use Rattle.pl0_meaning.specs.Values.{Frame, Configuration, frame_at}
-use Rattle.pl0_meaning.specs.Frames.{IsFrameOf, AreLinked}
+use Rattle.pl0_meaning.specs.Frames.{AreLinked}
 use Rattle.pl0_meaning.specs.Linking.{frame_of}
 use Rattle.pl0_unit.specs.declared.unit.Unit.{Unit as Compiled}
 use Rattle.pl0_machine.specs.declared.outcome.FrameView.{FrameView}
@@ -23,13 +23,15 @@ use Rattle.pl0_syntax.specs.Tables.{nestings_prop}
 pub unit_nestings : (u : Compiled) → AreNestings (program_of u) u.nestings.items (blocks (program_of u))
 unit_nestings u = ∥∥₁_elim u.nested (nestings_prop (program_of u) u.nestings.items (blocks (program_of u))) (λ h. h)
 
-as_many : (main : Block) (table : List (Option Nesting)) (paths : List Path) → AreNestings main table paths → length table ≡ length paths
+as_many : (main : Block) (table : List (Option Nesting)) (paths : List Path) → AreNestings main table paths
+    → length table ≡ length paths
 as_many main [] [] h = refl
 as_many main [] (q ∷ qs) h = absurd h
 as_many main (n ∷ ns) [] h = absurd h
 as_many main (n ∷ ns) (q ∷ qs) h = let more = as_many main ns qs h.1 in omega (arith, more)
 
-pub known_block : (main : Block) (table : List (Option Nesting)) (o : Option Frame) (view : FrameView) → AreNestings main table (blocks main) → Shows main o view → view.block < length table
+pub known_block : (main : Block) (table : List (Option Nesting)) (o : Option Frame) (view : FrameView)
+    → AreNestings main table (blocks main) → Shows main o view → view.block < length table
 known_block main table None view are shows = absurd shows
 known_block main table (Some f) view are shows =
     let w = slice_get_within (blocks main) view.block f.block shows.0 in
@@ -42,8 +44,10 @@ same_block a b e = cc
 variable_count : (b : DeclaredBlock) → length (variables (plain_block b)) ≡ length (out-Block b).variables.items
 variable_count b = ap length (plain_variables b) ∙ length-map (out-Block b).variables.items plain_name
 
-pub has_variable : (main : Block) (b : DeclaredBlock) (c : Configuration) (i : ℕ) (view : FrameView) (k : ℕ) → ∥ AreLinked main c ∥₁ → Shows main (frame_at c i) view →
-    ((q : Path) → slice_get (blocks main) view.block ≡ Some q → block_at main q ≡ Some (plain_block b)) → k < length (out-Block b).variables.items → k < variables_of (frame_at c i)
+pub has_variable : (main : Block) (b : DeclaredBlock) (c : Configuration) (i : ℕ) (view : FrameView) (k : ℕ)
+    → ∥ AreLinked main c ∥₁ → Shows main (frame_at c i) view →
+    ((q : Path) → slice_get (blocks main) view.block ≡ Some q → block_at main q ≡ Some (plain_block b))
+    → k < length (out-Block b).variables.items → k < variables_of (frame_at c i)
 has_variable main b c i view k linked shows is lt =
     ∥∥₁_elim linked le_prop (λ links. in_frame links (frame_at c i) refl shows)
   where

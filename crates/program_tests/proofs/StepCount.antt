@@ -15,4 +15,5 @@ one_each main (r ∷ table) [] h = absurd h
 one_each main (r ∷ table) (s ∷ all) h = let more = one_each main table all h.1 in omega (arith, more)
 
 pub unit_length : (u : Compiled) → length u.steps.items ≡ length (steps (program_of u))
-unit_length u = ∥∥₁_elim u.compiled (ℕ_set _ _) (λ h. one_each (program_of u) u.steps.items (steps (program_of u)) h.steps)
+unit_length u =
+    ∥∥₁_elim u.compiled (ℕ_set _ _) (λ h. one_each (program_of u) u.steps.items (steps (program_of u)) h.steps)

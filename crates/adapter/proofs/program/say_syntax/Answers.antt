@@ -4,7 +4,8 @@ use Rattle.byte_streams.specs.Streams.{Says, output}
 use Rattle.adapter.proofs.program.say_syntax.Goals as goal
 
 -- three numbers with spaces between them, and a line feed
-line : (a b c : List ℕ) → a ++ (codes " " ++ (b ++ (codes " " ++ (c ++ line_feed)))) ≡ (a ++ (codes " " ++ (b ++ (codes " " ++ c)))) ++ line_feed
+line : (a b c : List ℕ) → a ++ (codes " " ++ (b ++ (codes " " ++ (c ++ line_feed)))) ≡ (a
+    ++ (codes " " ++ (b ++ (codes " " ++ c)))) ++ line_feed
 line a b c =
     ap (λ l. a ++ (codes " " ++ l)) (sym (append_assoc b (codes " " ++ c) line_feed))
     ∙ sym (append_assoc a (codes " " ++ (b ++ (codes " " ++ c))) line_feed)

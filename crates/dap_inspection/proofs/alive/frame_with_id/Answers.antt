@@ -8,5 +8,6 @@ use Rattle.dap_inspection.proofs.alive.frame_with_id.Goals.{then-id-eq0-via-then
 pub returns-then-id-eq0 : goal.returns-then-id-eq0
 returns-then-id-eq0 c = elim c.then-id-eq0.branch [
   | then-id-eq0-via-then-id-eq0 w ↦ ap (frame_by_id (frames c.args.machine.now)) w.if-id-eq0.true
-  | then-id-eq0-via-else-id-eq0+then-id-depth w ↦ none_alive (frames c.args.machine.now) c.args.id (omega (arith, w.if-id-depth.true, c.depth-depth.ensures.depth))
+  | then-id-eq0-via-else-id-eq0+then-id-depth w ↦ none_alive (frames c.args.machine.now) c.args.id
+      (omega (arith, w.if-id-depth.true, c.depth-depth.ensures.depth))
 ]

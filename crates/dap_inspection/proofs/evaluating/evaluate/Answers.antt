@@ -9,17 +9,21 @@ use Rattle.dap_inspection.proofs.evaluating.evaluate.Goals.{In_ok-read}
 alive : (c : In_ok-read) → IsAlive (frames (machine_of c.args.debuggee.now)) c.args.asked.now.frame_id c.in-Some.frame
 alive c = rw c.machine-machine.ensures at c.in-Some.ensures
 
-reads : (c : In_ok-read) → IsReadIn (program (machine_of c.args.debuggee.now)) (frame_of (machine_of c.args.debuggee.now) c.in-Some.frame) c.args.asked.now.expression c.in_ok-read.read
+reads : (c : In_ok-read) → IsReadIn (program (machine_of c.args.debuggee.now))
+    (frame_of (machine_of c.args.debuggee.now) c.in-Some.frame) c.args.asked.now.expression c.in_ok-read.read
 reads c = rw (c.machine-machine.ensures, c.as_str.ensures) at c.in_ok-read.ensures
 
 pub returns-in_default-read : goal.returns-in_default-read
 returns-in_default-read c of same =
     let m = machine_of c.args.debuggee.now in
     let at = (goal.at.returns-in_default-read c).In_ok-read in
-    rw same (refuses (program m) (frames m) c.args.asked.now.frame_id c.in-Some.frame c.args.asked.now.expression (alive at) (rw c.in_default-read.is at (reads at)))
+    rw same (refuses (program m) (frames m) c.args.asked.now.frame_id c.in-Some.frame c.args.asked.now.expression
+    (alive at) (rw c.in_default-read.is at (reads at)))
 
 pub returns : goal.returns
 returns c of same =
     let m = machine_of c.args.debuggee.now in
     let at = (goal.at.returns c).In_ok-read in
-    rw same (answers (program m) (frames m) c.args.asked.now.frame_id c.in-Some.frame c.args.asked.now.expression (alive at) c.in-Some-read.expression c.evaluate.result _ (rw c.in-Some-read.is at (reads at)) c.evaluate.ensures c.reply_of.ensures)
+    rw same (answers (program m) (frames m) c.args.asked.now.frame_id c.in-Some.frame c.args.asked.now.expression
+    (alive at) c.in-Some-read.expression c.evaluate.result _ (rw c.in-Some-read.is at (reads at)) c.evaluate.ensures
+    c.reply_of.ensures)

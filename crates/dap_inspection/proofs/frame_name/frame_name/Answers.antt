@@ -13,4 +13,5 @@ block_name-requires-clause-table c =
 
 pub block_name-requires-clause-within : goal.block_name-requires-clause-within
 block_name-requires-clause-within c =
-    subst (λ t. c.args.block < length t) (sym c.deref.ensures.value) (some_within c.args.unit.now c.args.block c.requires)
+    subst (λ t. c.args.block < length t) (sym c.deref.ensures.value)
+    (some_within c.args.unit.now c.args.block c.requires)

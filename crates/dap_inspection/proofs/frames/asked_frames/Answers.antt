@@ -5,7 +5,8 @@ use Rattle.dap_inspection.proofs.AskedFrames.{rest_of, one_more, all_asked}
 use Rattle.dap_inspection.proofs.frames.asked_frames.Goals as goal
 use Rattle.dap_inspection.proofs.frames.asked_frames.Goals.{After-saturating_sub-left}
 
-left_is : (c : After-saturating_sub-left) → c.saturating_sub-left.result ≡ length (frames c.args.machine.now) - c.args.asked.start_frame
+left_is : (c : After-saturating_sub-left) → c.saturating_sub-left.result ≡ length
+    (frames c.args.machine.now) - c.args.asked.start_frame
 left_is c = omega (arith, c.depth.ensures.depth, c.saturating_sub-left.ensures)
 
 pub loop-index-preserved : goal.loop-index-preserved
@@ -13,7 +14,8 @@ loop-index-preserved c =
     let m = c.args.machine.now in
     let left = left_is (goal.at.loop-index-preserved c).After-saturating_sub-left in
     rw c.in_ok-push.ensures.items
-    (one_more (program m) (counting_of c.args.settings) (frames m) c.args.asked.start_frame _ c.loop-index.index _ _ left (search rules) c.in_ok-stack_frame.ensures c.loop-index.invariant)
+    (one_more (program m) (counting_of c.args.settings) (frames m) c.args.asked.start_frame _ c.loop-index.index _ _
+    left (search rules) c.in_ok-stack_frame.ensures c.loop-index.invariant)
 
 pub returns : goal.returns
 returns c =
@@ -24,4 +26,5 @@ returns c =
     omega (arith, c.count_asked-count.ensures, c.loop-index.auto.index-end, c.loop-index-test.false) in
     c.loop-index.invariant
     ∙ ap (λ n. take n (rest_of (program m) counting (frames m) start)) count
-    ∙ all_asked (program m) counting (frames m) start c.args.asked.levels _ (left_is (goal.at.returns c).After-saturating_sub-left)
+    ∙ all_asked (program m) counting (frames m) start c.args.asked.levels _
+    (left_is (goal.at.returns c).After-saturating_sub-left)

@@ -6,4 +6,5 @@ use Rattle.dap_inspection.proofs.frames.asked_frames.Given as goal
 
 abbrev pub invariant-loop-index : goal.invariant-loop-index
 invariant-loop-index l =
-    l.shown.items ≡ take l.index (rest_of (program l.machine) (counting_of l.settings) (frames l.machine) l.fn.asked.start_frame)
+    l.shown.items ≡ take l.index (rest_of (program l.machine) (counting_of l.settings) (frames l.machine)
+    l.fn.asked.start_frame)

@@ -9,7 +9,8 @@ use Rattle.dap_inspection.proofs.frames.stack_frame.Goals.{After-frame-view}
 same_unit : (c : After-frame-view) → c.deref-unit.result.now ≡ c.args.machine.now.unit
 same_unit c = c.deref-unit.ensures ∙ c.unit.ensures
 
-shows : (c : After-frame-view) → Shows (program_of c.deref-unit.result.now) (frame_of c.args.machine.now (c.args.id - 1)) c.frame-view.result
+shows : (c : After-frame-view) → Shows (program_of c.deref-unit.result.now)
+    (frame_of c.args.machine.now (c.args.id - 1)) c.frame-view.result
 shows c =
     let frame = frame_of c.args.machine.now (c.args.id - 1) in
     subst (λ u. Shows (program_of u) frame c.frame-view.result) (sym (same_unit c)) c.frame-view.ensures
@@ -17,7 +18,9 @@ shows c =
 pub index-requires : goal.index-requires
 index-requires c =
     let u = c.deref-unit.result.now in
-    let within = shown_within u (frame_of c.args.machine.now (c.args.id - 1)) c.frame-view.result (shows (goal.at.index-requires c).After-frame-view) in
+    let within =
+    shown_within u (frame_of c.args.machine.now (c.args.id - 1)) c.frame-view.result
+    (shows (goal.at.index-requires c).After-frame-view) in
     omega (arith, within, u.steps.ok.0)
 
 pub returns : goal.returns
@@ -25,6 +28,8 @@ returns c =
     let here = (goal.at.returns c).After-frame-view in
     let frame = frame_of c.args.machine.now (c.args.id - 1) in
     let counting = counting_of c.args.settings in
-    let shown : StackFrame = record { id = c.args.id; name = c.in_ok-name.name; line = c.counted.result; column = c.counted-2.result } in
+    let shown : StackFrame =
+    record { id = c.args.id; name = c.in_ok-name.name; line = c.counted.result; column = c.counted-2.result } in
     subst (λ u. IsShownAs (program_of u) counting frame c.args.id shown) (same_unit here)
-    (shown_as c.deref-unit.result.now counting frame c.frame-view.result _ _ _ _ _ (shows here) c.in_ok-name.ensures c.index.ensures c.counted.ensures c.counted-2.ensures)
+    (shown_as c.deref-unit.result.now counting frame c.frame-view.result _ _ _ _ _ (shows here) c.in_ok-name.ensures
+    c.index.ensures c.counted.ensures c.counted-2.ensures)

@@ -19,18 +19,25 @@ block-declaring-requires-clause-table c =
 pub block-declaring-requires-clause-within : goal.block-declaring-requires-clause-within
 block-declaring-requires-clause-within c =
     let same : c.deref-unit.result.now ≡ c.args.machine.now.unit = c.deref-unit.ensures ∙ c.unit.ensures in
-    rw c.deref.ensures.value (shown_block_within c.deref-unit.result.now (frame_of c.args.machine.now c.args.frame) c.frame-number.result
-    (subst (λ u. Shows (program_of u) (frame_of c.args.machine.now c.args.frame) c.frame-number.result) (sym same) c.frame-number.ensures))
+    rw c.deref.ensures.value (shown_block_within c.deref-unit.result.now (frame_of c.args.machine.now c.args.frame)
+    c.frame-number.result
+    (subst (λ u. Shows (program_of u) (frame_of c.args.machine.now c.args.frame) c.frame-number.result) (sym same)
+    c.frame-number.ensures))
 
-names_there : (c : After-deref-2) → map plain_name c.deref-2.result.now ≡ names_in (program c.args.machine.now) (frame_of c.args.machine.now c.args.frame)
+names_there : (c : After-deref-2) → map plain_name c.deref-2.result.now ≡ names_in (program c.args.machine.now)
+    (frame_of c.args.machine.now c.args.frame)
 names_there c =
     let m = c.args.machine.now in
     let same : c.deref-unit.result.now ≡ m.unit = c.deref-unit.ensures ∙ c.unit.ensures in
-    let is = subst (λ u. (q : Path) → slice_get (blocks (program_of u)) c.frame-number.result.block ≡ Some q → block_at (program_of u) q ≡ Some (plain_block c.block-declaring.result.now)) same c.block-declaring.ensures in
-    ap (map plain_name) c.deref-2.ensures.value ∙ names_are (program m) (frame_of m c.args.frame) c.frame-number.result c.block-declaring.result.now c.frame-number.ensures is
+    let is = subst (λ u. (q : Path) → slice_get (blocks (program_of u)) c.frame-number.result.block ≡ Some q
+    → block_at (program_of u) q ≡ Some (plain_block c.block-declaring.result.now)) same c.block-declaring.ensures in
+    ap (map plain_name) c.deref-2.ensures.value ∙ names_are (program m) (frame_of m c.args.frame) c.frame-number.result
+    c.block-declaring.result.now c.frame-number.ensures is
 
 pub returns-clause-names : goal.returns-clause-names
 returns-clause-names c = names_there c
 
 pub returns-clause-count : goal.returns-clause-count
-returns-clause-count c = count_is (program c.args.machine.now) (frames c.args.machine.now) c.args.frame c.deref-2.result.now c.depth-depth.ensures.linked (names_there c)
+returns-clause-count c =
+    count_is (program c.args.machine.now) (frames c.args.machine.now) c.args.frame c.deref-2.result.now
+    c.depth-depth.ensures.linked (names_there c)

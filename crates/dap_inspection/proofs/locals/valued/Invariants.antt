@@ -6,4 +6,5 @@ use Rattle.dap_inspection.specs.Locals.{numbers_of}
 use Rattle.dap_inspection.proofs.locals.valued.Given as goal
 
 abbrev pub invariant-loop-index : goal.invariant-loop-index
-invariant-loop-index l = l.list.items ≡ named (map plain_name (take l.index l.names)) (numbers_of (frame_of l.machine l.frame))
+invariant-loop-index l =
+    l.list.items ≡ named (map plain_name (take l.index l.names)) (numbers_of (frame_of l.machine l.frame))

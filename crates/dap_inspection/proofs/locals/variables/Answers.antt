@@ -9,7 +9,8 @@ pub returns : goal.returns
 returns c of same =
     let m = machine_of c.args.debuggee.now in
     let is : c.machine-machine.result.now ≡ m = c.machine-machine.ensures in
-    shown of (program m) (frames m) c.args.asked.variables_reference c.in-Some.frame c.declared_names-names.result.now c.new.result same
+    shown of (program m) (frames m) c.args.asked.variables_reference c.in-Some.frame c.declared_names-names.result.now
+    c.new.result same
     (subst (λ s. NamesFrame (frames s) c.args.asked.variables_reference (Some c.in-Some.frame)) is c.in-Some.ensures)
     (rw is at c.declared_names-names.ensures.names)
     (rw is at (c.new.ensures ∙ c.in_ok-list.ensures))

@@ -5,10 +5,12 @@ use Rattle.dap_inspection.proofs.scope_chain.scope_chain.Goals as goal
 use Rattle.dap_inspection.proofs.scope_chain.scope_chain.Goals.{After-static_parent-next}
 
 one_link : (c : After-static_parent-next) →
-    Leads (program c.args.machine.now) (frames c.args.machine.now) c.in-Some.frame c.in_ok-scope.field-0 c.static_parent-next.result
+    Leads (program c.args.machine.now) (frames c.args.machine.now) c.in-Some.frame c.in_ok-scope.field-0
+    c.static_parent-next.result
 one_link c =
     let m = c.args.machine.now in
-    leads (program m) (frames m) c.in-Some.frame _ _ c.depth-depth.ensures.linked c.in_ok-scope.ensures c.static_parent-next.ensures
+    leads (program m) (frames m) c.in-Some.frame _ _ c.depth-depth.ensures.linked c.in_ok-scope.ensures
+    c.static_parent-next.ensures
 
 pub loop-next-smaller : goal.loop-next-smaller
 loop-next-smaller c = let fewer = (one_link c).fewer in omega (arith, fewer, ap left_of c.in-Some.is)
@@ -19,6 +21,7 @@ loop-next-preserved c =
     let fewer = one.fewer in
     let before = c.loop-next.invariant in
     let m = c.args.machine.now in (
-      rw c.in_ok-push.ensures.items (walked (program m) (frames m) _ _ c.loop-next.next _ _ _ one c.in-Some.is before.0),
+      rw c.in_ok-push.ensures.items (walked (program m) (frames m) _ _ c.loop-next.next _ _ _ one c.in-Some.is
+          before.0),
       omega (arith, fewer, before.1, ap left_of c.in-Some.is),
     )

@@ -25,6 +25,8 @@ returns c = λ of is.
     let same = ap (λ m. length (frames m)) c.machine-machine.ensures in
     let deep = c.depth.ensures.depth in
     let alive = c.if-depth-id.false in
-    let found = c.new.ensures ∙ c.in_ok-scopes.ensures ∙ ap (λ m. scopes_from (program m) (frames m) frame) c.machine-machine.ensures in
+    let found =
+    c.new.ensures ∙ c.in_ok-scopes.ensures ∙ ap (λ m. scopes_from (program m) (frames m) frame)
+    c.machine-machine.ensures in
     scopes_with_id of there c.args.asked.frame_id c.new.result c.if-id-eq0.false (omega (arith, deep, same, alive))
     (found ∙ ap (λ main. scopes_from main there frame) (sym is))

@@ -10,4 +10,5 @@ returns-in-Ok-eq0-clause-bytes g c =
     let count = c.len.ensures in
     let few = c.if-len-ge-MOST.false in
     let short : length c.loop.bytes.items ≤ 65537 = omega (arith, count, few) in
-    begins_whole _ _ _ _ _ c.read.new.room c.loop.invariant.0 c.in-Ok-eq0.ensures.bytes c.in-Ok-eq0.field-0-test room short
+    begins_whole _ _ _ _ _ c.read.new.room c.loop.invariant.0 c.in-Ok-eq0.ensures.bytes c.in-Ok-eq0.field-0-test room
+    short

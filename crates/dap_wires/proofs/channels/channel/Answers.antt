@@ -9,4 +9,5 @@ pub another-first-requires-clause-rule : goal.another-first-requires-clause-rule
 another-first-requires-clause-rule g c = forks_first _ _ _ (ap (λ v. v.first) c.in_ok-sender.ensures.3)
 
 pub another-second-requires-clause-rule : goal.another-second-requires-clause-rule
-another-second-requires-clause-rule g c = forks_second _ _ _ (ap (λ v. v.second) c.another-first.ensures.rule.0 ∙ ap (λ v. v.second) c.in_ok-sender.ensures.3)
+another-second-requires-clause-rule g c =
+    forks_second _ _ _ (ap (λ v. v.second) c.another-first.ensures.rule.0 ∙ ap (λ v. v.second) c.in_ok-sender.ensures.3)

@@ -9,15 +9,22 @@ push_as-requires-clause-rule g c = (pushes _ _ _ _ _ c.requires.pushes, learns_i
 
 pub returns-in-Err-clause-full : goal.returns-in-Err-clause-full
 returns-in-Err-clause-full g c =
-    let held = c.in-Err.ensures.rule.2 in
-    (held.2.0, held.0, held.2.1 c.requires.pushes ∙ all_first _, held.1 ∙ (ap ruled_capacity c.deref.ensures ∙ c.requires.four))
+    let held = c.in-Err.ensures.rule.2 in (
+      held.2.0,
+      held.0,
+      held.2.1 c.requires.pushes ∙ all_first _,
+      held.1
+          ∙ (ap ruled_capacity c.deref.ensures ∙ c.requires.four),
+    )
 
 pub returns-in-Err-clause-many : goal.returns-in-Err-clause-many
 returns-in-Err-clause-many g c =
     let held = c.in-Err.ensures.rule.2 in
     let kept = ap (λ v. v.put_first) c.in-Err.ensures.rule.1 in
-    four_pushed (view c.push_as.new.pass).put_first held.2.0 held.0 (kept ∙ (held.2.1 c.requires.pushes ∙ all_first _)) (held.1 ∙ (ap ruled_capacity c.deref.ensures ∙ c.requires.four))
+    four_pushed (view c.push_as.new.pass).put_first held.2.0 held.0 (kept ∙ (held.2.1 c.requires.pushes ∙ all_first _))
+    (held.1 ∙ (ap ruled_capacity c.deref.ensures ∙ c.requires.four))
 
 pub returns-in-Ok-clause-grows : goal.returns-in-Ok-clause-grows
 returns-in-Ok-clause-grows g c = λ was.
-    still_four (view c.args.pass.now).put_first (view c.push_as.new.pass).put_first c.args.order (ap (λ v. v.put_first) c.in-Ok.ensures.rule) was
+    still_four (view c.args.pass.now).put_first (view c.push_as.new.pass).put_first c.args.order
+    (ap (λ v. v.put_first) c.in-Ok.ensures.rule) was

@@ -30,14 +30,18 @@ returns-in-Ok-read-clause-read g c =
       read_gives _ _ _ n c.read.new.room _ c.loop.invariant.0 c.in-Ok-read.ensures.bytes piece,
       piece_short n _ c.read.new.room _ piece (c.read.auto.room ∙ c.loop.invariant.2),
       c.in-Ok-read.ensures.kept ∙ c.loop.invariant.1,
-      piece_some n c.read.new.room _ piece c.in-Ok-read.count-test.1 (omega (arith, c.in-Ok-read.ensures.within, c.read.auto.room)),
+      piece_some n c.read.new.room _ piece c.in-Ok-read.count-test.1
+          (omega (arith, c.in-Ok-read.ensures.within, c.read.auto.room)),
     )
 
 pub returns-in-Err-Failed-clause-read : goal.returns-in-Err-Failed-clause-read
 returns-in-Err-Failed-clause-read g c =
     let grew = c.in-Err-Failed.ensures.failed (ap Err c.in-Err-Failed.field-0-is) in
-    let before = c.loop.invariant.1 in
-    (keeps_consumes _ _ (keeps_both _ _ _ c.loop.invariant.0 c.in-Err-Failed.ensures.bytes), omega (arith, grew, before))
+    let before = c.loop.invariant.1 in (
+      keeps_consumes _ _ (keeps_both _ _ _ c.loop.invariant.0 c.in-Err-Failed.ensures.bytes),
+      omega
+          (arith, grew, before),
+    )
 
 pub loop-preserved : goal.loop-preserved
 loop-preserved g c = (

@@ -5,4 +5,6 @@ use Rattle.dap_phase.proofs.run.Run.take_back.Goals as goal
 
 pub with_plan-requires-clause-fits : goal.with_plan-requires-clause-fits
 with_plan-requires-clause-fits c =
-    fits_also c.code_laws.ensures.one_code c.self.inside.unit.value c.args.debuggee.value.unit (option_map arc_value c.self.inside.waiting_plan) (sym (rw (← c.self.view_is) at c.requires.text)) c.self.invariant
+    fits_also c.code_laws.ensures.one_code c.self.inside.unit.value c.args.debuggee.value.unit
+    (option_map arc_value c.self.inside.waiting_plan) (sym (rw (← c.self.view_is) at c.requires.text))
+    c.self.invariant
