@@ -8,11 +8,10 @@ use Rattle.dap_msg.specs.declared.command.Command.TheVariants.{Inspect}
 use Rattle.dap_msg.specs.declared.question.Question.{Question}
 use Rattle.dap_msg.specs.declared.outgoing.Body.{Body}
 use Rattle.dap_msg.specs.declared.outgoing.Refusal.{Refusal}
-use Rattle.dap_history.specs.declared.situation.Situation.{Situation}
 use Rattle.dap_history.specs.declared.situation.Situation.TheVariants.{Stopped, Faulted}
 use Rattle.dap_history.specs.History.{History, Launched}
 use Rattle.dap_history.specs.Readings.{position}
-use Rattle.dap_history.specs.Inspection.{RepliesFrom, RepliesAt, asked_of, Inspects, InspectsIn}
+use Rattle.dap_history.specs.Inspection.{RepliesFrom, RepliesAt, asked_of, Inspects}
 use Rattle.dap_history.specs.Replies.{Reply, OfProgram}
 use Rattle.dap_history.specs.Emission.{RepliesIn}
 use Rattle.dap_inspection.specs.Questions.{question_of, replied}
@@ -29,17 +28,28 @@ there (Some c) alive = refl
 -- the answer of the debuggee is that of the program where it stands
 pub inspected :
     (t : Target) (d : Debugged) (past : History) → IsTarget t d.unit past → IsDebuggee d past → IsConsidered d
-    → (question : Question) (reply : Reply) → RepliesFrom (question_of d t.path t.settings) (frames (machine_of d)) question reply → Inspects past question reply
+    → (question : Question) (reply : Reply) → RepliesFrom (question_of d t.path t.settings) (frames (machine_of d))
+    question reply → Inspects past question reply
 inspected t d past target stands considered question reply from =
-    let l : Launched = record { path = t.path; stop_on_entry = t.stop_on_entry; text = d.unit.tree.text.items; program = program_of d.unit } in
-    subst (λ o. OfProgram o (λ l. RepliesAt (asked_of past l) (at l.program (position past)) question reply)) (sym target.launched_is)
+    let l : Launched =
+    record {
+      path = t.path;
+      stop_on_entry = t.stop_on_entry;
+      text = d.unit.tree.text.items;
+      program = program_of
+          d.unit;
+    } in
+    subst (λ o. OfProgram o (λ l. RepliesAt (asked_of past l) (at l.program (position past)) question reply))
+    (sym target.launched_is)
     (subst (λ n. RepliesAt (asked_of past l) (at l.program n) question reply) stands.position_is
     (subst (λ s. RepliesAt (question_of d t.path s) (at l.program d.position) question reply) target.settings_are
-    (subst (λ o. RepliesAt (question_of d t.path t.settings) o question reply) (sym (there (at l.program d.position) considered.running)) from)))
+    (subst (λ o. RepliesAt (question_of d t.path t.settings) o question reply)
+    (sym (there (at l.program d.position) considered.running)) from)))
 
 -- the answer of the debuggee of a phase that stands
 pub answers_there :
-    (p : Phase) (t : Target) (kept d : Debugged) → (p ≡ phase.Stopped t kept) ⊎ (p ≡ phase.Faulted t kept) → d ≡ kept → IsConsidered d
+    (p : Phase) (t : Target) (kept d : Debugged) → (p ≡ phase.Stopped t kept) ⊎ (p ≡ phase.Faulted t kept) → d ≡ kept
+    → IsConsidered d
     → (question : Question) (result : Result Body Refusal)
     → RepliesFrom (question_of d t.path t.settings) (frames (machine_of d)) question (replied result)
     → (past : History) → IsPhase p past → RepliesIn (situation_of p) past (Inspect question) (replied result)
@@ -53,4 +63,5 @@ answers_there p t kept d stands same considered question result from past phase_
   where
     inspects : IsTarget t kept.unit past × IsDebuggee kept past → Inspects past question (replied result)
     inspects there =
-        inspected t d past (subst (λ d. IsTarget t d.unit past) (sym same) there.0) (subst (λ d. IsDebuggee d past) (sym same) there.1) considered question (replied result) from
+        inspected t d past (subst (λ d. IsTarget t d.unit past) (sym same) there.0)
+        (subst (λ d. IsDebuggee d past) (sym same) there.1) considered question (replied result) from

@@ -2,7 +2,7 @@
 use Rattle.std.proofs.Common.{◌≡◌, ℕ, zero, suc, ◌+◌, ◌-◌, ◌<◌, ◌≤◌, Bool, true, false, None, Some, length, drop, ap, arith, length-append, length-drop}
 use Rattle.pl0_tree.specs.Tree.{Block}
 use Rattle.pl0_meaning.specs.Runs.{Outcome, Goes, Faults, Over, outcome, written_by, written_from, written}
-use Rattle.dbg_runner.specs.Lawful.{Went, IsLawfulFor, IsLawful}
+use Rattle.dbg_runner.specs.Lawful.{Went, IsLawful}
 use Rattle.dbg_runner.specs.Plain.{PlainReport, goes_back}
 
 -- a step writes at most one number
@@ -15,15 +15,34 @@ written_by_few Over = omega arith
 written_few : (main : Block) (a count : ℕ) → length (written_from main a count) ≤ count
 written_few main a zero = omega arith
 written_few main a (suc count) =
-    omega (arith, written_by_few (outcome main a), written_few main (a + 1) count, length-append (written_by (outcome main a)) (written_from main (a + 1) count))
+    omega (
+      arith,
+      written_by_few (outcome main a),
+      written_few main (a + 1) count,
+      length-append
+          (written_by (outcome main a)) (written_from main (a + 1) count),
+    )
 
 fits_by : (main : Block) (r : PlainReport) (back : Bool) → r.before ≡ length (written main 0 r.start) → Went main r back
     → (told limit : ℕ) → told < limit → r.end < limit → told + length (drop (told - r.before) r.numbers) < limit
 fits_by main r false before went told limit few ends =
-    omega (arith, few, ends, before, went.begun, ap length went.numbers, written_few main 0 (r.start - 0), written_few main r.start (r.end - r.start), length-drop (told - r.before) r.numbers)
+    omega (
+      arith,
+      few,
+      ends,
+      before,
+      went.begun,
+      ap length went.numbers,
+      written_few main 0 (r.start - 0),
+      written_few
+          main r.start (r.end - r.start),
+      length-drop (told - r.before) r.numbers,
+    )
 fits_by main r true before went told limit few ends =
     omega (arith, few, ap length went.numbers, length-drop (told - r.before) r.numbers)
 
 -- those reported before and those of a report are as few
-pub told_fits : (r : PlainReport) → IsLawful r → (told limit : ℕ) → told < limit → r.end < limit → told + length (drop (told - r.before) r.numbers) < limit
-told_fits r is told limit few ends = fits_by is.program r (goes_back r.mode) is.lawful.before is.lawful.went told limit few ends
+pub told_fits : (r : PlainReport) → IsLawful r → (told limit : ℕ) → told < limit → r.end < limit
+    → told + length (drop (told - r.before) r.numbers) < limit
+told_fits r is told limit few ends =
+    fits_by is.program r (goes_back r.mode) is.lawful.before is.lawful.went told limit few ends

@@ -1,16 +1,17 @@
--- A step that changes nothing that a phase keeps leaves it a phase of the longer history; for `phase_laws` and `refuse`,
--- and through other lemmas for more.
+-- A step that changes nothing that a phase keeps leaves it a phase of the longer history; for `phase_laws` and
+-- `refuse`, and through other lemmas for more.
 pub mod Stays
 -- A reply that nothing follows, and whose step is quiet, leaves the phase as it is; for `conclude` and `refuse`.
 pub mod Unmoved
--- What is replied in the situation of a phase, and what a phase keeps of the launch; for `initialize` and `threads`, and
--- through other lemmas for more.
+-- What is replied in the situation of a phase, and what a phase keeps of the launch; for `initialize` and `threads`,
+-- and through other lemmas for more.
 pub mod Situations
 -- A question is answered from where the program stands; for `inspect` and `result_in`.
 pub mod Asked
 -- How the history goes on after a launch with its file; for `launch`.
 pub mod Launched
--- A step that orders a run of the debuggee leads to Running; for the functions of `reporting`, `retreating` and `running`.
+-- A step that orders a run of the debuggee leads to Running; for the functions of `reporting`, `retreating` and
+-- `running`.
 pub mod Begun
 -- After a report the phase stands for the history with the report's step; for the functions of `reporting`.
 pub mod ReportSteps

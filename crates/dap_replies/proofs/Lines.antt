@@ -25,26 +25,32 @@ use Rattle.dap_replies.specs.Lines.{IsAtStep}
 
 -- ---- one more of a list
 
-pub one_more : {X Y : Type 0} (f : X → Y) (xs : List X) (i : ℕ) (x : X) (done all : List Y) (y : Y) → i < length xs → x ≡ get_or xs i x
+pub one_more : {X Y : Type 0} (f : X → Y) (xs : List X) (i : ℕ) (x : X) (done all : List Y) (y : Y) → i < length xs
+    → x ≡ get_or xs i x
     → done ≡ map f (take i xs) → all ≡ done ++ y ∷ [] → y ≡ f x → all ≡ map f (take (i + 1) xs)
 one_more f xs i x done all y lt at is now new =
     now ∙ ap (λ l. l ++ y ∷ []) is ∙ ap (λ z. map f (take i xs) ++ z ∷ []) (new ∙ ap f at)
     ∙ sym (map-append f (take i xs) (get_or xs i x ∷ [])) ∙ ap (λ l. map f l) (sym (take_more xs i x lt))
 
-more_asked : (less : ℕ) (lines : List SourceBreakpoint) (done : List AskedLine) (line : SourceBreakpoint) (one : AskedLine)
+more_asked : (less : ℕ) (lines : List SourceBreakpoint) (done : List AskedLine) (line : SourceBreakpoint)
+    (one : AskedLine)
     → AreAskedAs less lines done → IsAskedAs less line one → AreAskedAs less (lines ++ line ∷ []) (done ++ one ∷ [])
 more_asked less [] [] line one old new = (new, tt)
 more_asked less [] (a ∷ done) line one old new = absurd old
 more_asked less (x ∷ lines) [] line one old new = absurd old
 more_asked less (x ∷ lines) (a ∷ done) line one old new = (old.0, more_asked less lines done line one old.1 new)
 
-pub one_more_asked : (less : ℕ) (lines : List SourceBreakpoint) (i : ℕ) (line : SourceBreakpoint) (done all : List AskedLine) (one : AskedLine) → i < length lines → line ≡ get_or lines i line
-    → AreAskedAs less (take i lines) done → all ≡ done ++ one ∷ [] → IsAskedAs less line one → AreAskedAs less (take (i + 1) lines) all
+pub one_more_asked : (less : ℕ) (lines : List SourceBreakpoint) (i : ℕ) (line : SourceBreakpoint)
+    (done all : List AskedLine) (one : AskedLine) → i < length lines → line ≡ get_or lines i line
+    → AreAskedAs less (take i lines) done → all ≡ done ++ one ∷ [] → IsAskedAs less line one
+    → AreAskedAs less (take (i + 1) lines) all
 one_more_asked less lines i line done all one lt at is now new =
     subst (λ l. AreAskedAs less l all) (ap (λ x. take i lines ++ x ∷ []) at ∙ sym (take_more lines i line lt))
-    (subst (λ l. AreAskedAs less (take i lines ++ line ∷ []) l) (sym now) (more_asked less (take i lines) done line one is new))
+    (subst (λ l. AreAskedAs less (take i lines ++ line ∷ []) l) (sym now)
+    (more_asked less (take i lines) done line one is new))
 
-pub asked_length : (less : ℕ) (lines : List SourceBreakpoint) (asked : List AskedLine) → AreAskedAs less lines asked → length asked ≡ length lines
+pub asked_length : (less : ℕ) (lines : List SourceBreakpoint) (asked : List AskedLine) → AreAskedAs less lines asked
+    → length asked ≡ length lines
 asked_length less [] [] are = refl
 asked_length less [] (a ∷ asked) are = absurd are
 asked_length less (x ∷ lines) [] are = absurd are
@@ -55,7 +61,8 @@ asked_length less (x ∷ lines) (a ∷ asked) are = ap suc (asked_length less li
 some_step : StepAt
 some_step = record { kind = Return; place = record { line = 1; column = 1 }; path = [] }
 
-at_step : (main : Block) (asked : AskedLine) (a : Resolution) (bs : List Breakpoint) → IsResolvedTo main asked a bs → IsAtStep main a
+at_step : (main : Block) (asked : AskedLine) (a : Resolution) (bs : List Breakpoint) → IsResolvedTo main asked a bs
+    → IsAtStep main a
 at_step main asked (At n) bs is = (position-Some (λ s. nat_le asked.line s.place.line) (steps main) n some_step is.0).0
 at_step main asked NoStep bs is = tt
 at_step main asked BadCondition bs is = tt
@@ -63,11 +70,13 @@ at_step main asked BadHitCondition bs is = tt
 at_step main asked BadLogMessage bs is = tt
 
 -- a line that is resolved to a step is resolved to one of the program
-pub at_steps : (main : Block) (asked : List AskedLine) (answers : List Resolution) (bs : List Breakpoint) → AreResolved main asked answers bs → All (IsAtStep main) answers
+pub at_steps : (main : Block) (asked : List AskedLine) (answers : List Resolution) (bs : List Breakpoint)
+    → AreResolved main asked answers bs → All (IsAtStep main) answers
 at_steps main [] [] bs are = All-nil (IsAtStep main)
 at_steps main [] (a ∷ answers) bs are = absurd are
 at_steps main (x ∷ asked) [] bs are = absurd are
-at_steps main (x ∷ asked) (a ∷ answers) bs are = All-cons (IsAtStep main) a answers (at_step main x a are.0 are.3) (at_steps main asked answers are.1 are.4)
+at_steps main (x ∷ asked) (a ∷ answers) bs are =
+    All-cons (IsAtStep main) a answers (at_step main x a are.0 are.3) (at_steps main asked answers are.1 are.4)
 
 same_line : (main : Block) (ss : List Step) (ts : List StepAt) (n : ℕ) (d : Step) → AreSteps main ss ts → n < length ss
     → (get_or ss n d).place.line ≡ option_map_or (λ (t : StepAt). t.place.line) (slice_get ts n) 0
@@ -76,7 +85,9 @@ same_line main (s ∷ ss) [] n d are lt = absurd are
 same_line main (s ∷ ss) (t ∷ ts) zero d are lt = ap (λ (p : Place). p.line) are.0.place
 same_line main (s ∷ ss) (t ∷ ts) (suc n) d are lt = same_line main ss ts n d are.1 (omega arith)
 
-pub unit_line : (u : Compiled) (n : ℕ) (s : Step) → n < length (steps (program_of u)) → s ≡ get_or u.steps.items n s → s.place.line ≡ step_line (program_of u) n
+pub unit_line : (u : Compiled) (n : ℕ) (s : Step) → n < length (steps (program_of u)) → s ≡ get_or u.steps.items n s
+    → s.place.line ≡ step_line (program_of u) n
 unit_line u n s lt is =
     ap (λ (x : Step). x.place.line) is
-    ∙ ∥∥₁_elim u.compiled (ℕ_set _ _) (λ h. same_line (program_of u) u.steps.items (steps (program_of u)) n s h.steps (omega (arith, unit_length u)))
+    ∙ ∥∥₁_elim u.compiled (ℕ_set _ _) (λ h. same_line (program_of u) u.steps.items (steps (program_of u)) n s h.steps
+    (omega (arith, unit_length u)))

@@ -41,29 +41,35 @@ use Rattle.dap_replies.proofs.Begun.{with_next_run, run_begins}
 -- ---- what a report tells
 
 -- the numbers that are reported are those that the target says
-pub fresh_as : (t : Target) (u : Compiled) (r : Reported) (past : History) → IsTarget t u past → fresh t.told r ≡ told_numbers past (plain_report r)
+pub fresh_as : (t : Target) (u : Compiled) (r : Reported) (past : History) → IsTarget t u past
+    → fresh t.told r ≡ told_numbers past (plain_report r)
 fresh_as t u r past is = ap (λ n. drop (n - r.before) r.numbers) is.told_is
 
-pub outputs_as : (t : Target) (u : Compiled) (r : Reported) (past : History) → IsTarget t u past → outputs_after t.told r ≡ outputs past (plain_report r)
+pub outputs_as : (t : Target) (u : Compiled) (r : Reported) (past : History) → IsTarget t u past
+    → outputs_after t.told r ≡ outputs past (plain_report r)
 outputs_as t u r past is = ap (λ ns. map event.Output ns ++ told_logs r.plan r.logs) (fresh_as t u r past is)
 
 -- the step of a report, with what follows what it tells
 abbrev TellsIn : PlainReport → History → Step → List EventBody → Type 0
 TellsIn r past step more = numbers (messages step) ≡ numbers_in (outputs past r ++ more)
 
-told_after : ReadingsGoOn → (t : Target) (u : Compiled) (r : Reported) (past : History) (step : Step) (more : List EventBody) → IsTarget t u past → TellsIn (plain_report r) past step more → numbers_in more ≡ []
+told_after : ReadingsGoOn → (t : Target) (u : Compiled) (r : Reported) (past : History) (step : Step)
+    (more : List EventBody) → IsTarget t u past → TellsIn (plain_report r) past step more → numbers_in more ≡ []
     → (with_told t r).told ≡ numbers_told (past ++ step ∷ [])
 told_after laws t u r past step more is tells none =
     ap (λ n. n + length (fresh t.told r)) is.told_is
     ∙ ap (λ (ns : List ℤ). numbers_told past + length ns)
     (fresh_as t u r past is
-    ∙ sym (tells ∙ outputs_numbers past (plain_report r) more ∙ ap (λ ns. told_numbers past (plain_report r) ++ ns) none ∙ append-nil (told_numbers past (plain_report r))))
+    ∙ sym (tells ∙ outputs_numbers past (plain_report r) more ∙ ap (λ ns. told_numbers past (plain_report r) ++ ns) none
+    ∙ append-nil (told_numbers past (plain_report r))))
     ∙ sym (laws.numbers_told_is past step)
 
 -- what a target keeps where a report was told
-target_tells : ReadingsGoOn → (t : Target) (u : Compiled) (r : Reported) (past : History) (step : Step) (more : List EventBody)
+target_tells : ReadingsGoOn → (t : Target) (u : Compiled) (r : Reported) (past : History) (step : Step)
+    (more : List EventBody)
     → step.effect.launched ≡ None → filter_map go step.effect.orders ≡ [] → settings_by step.item step.answer ≡ None
-    → IsTarget t u past → TellsIn (plain_report r) past step more → numbers_in more ≡ [] → IsTarget (with_told t r) u (past ++ step ∷ [])
+    → IsTarget t u past → TellsIn (plain_report r) past step more → numbers_in more ≡ []
+    → IsTarget (with_told t r) u (past ++ step ∷ [])
 target_tells laws t u r past step more launches_none no_go sets_none is tells none = record {
   launched_is = launched_stays laws past step launches_none ∙ is.launched_is;
   settings_are = is.settings_are ∙ sym (settings_stay laws past step sets_none);
@@ -72,17 +78,20 @@ target_tells laws t u r past step more launches_none no_go sets_none is tells no
 }
 
 no_mark : (past : History) (r : PlainReport) → last_such message_mark (map Event (outputs past r)) ≡ None
-no_mark past r = ap (λ es. last_such message_mark (map Event es)) (sym (append-nil (outputs past r))) ∙ outputs_mark past r []
+no_mark past r =
+    ap (λ es. last_such message_mark (map Event es)) (sym (append-nil (outputs past r))) ∙ outputs_mark past r []
 
 -- ---- the run goes on
 
 pub report_goes_on : ReadingsGoOn → (t : Target) (run : Ordered) (reported : Reported) (past : History)
     → IsPhase (phase.Running t run) past
-    → IsPhase (phase.Running (with_told t reported) (record run { position = reported.end })) (past ++ report_step (plain_report reported) (reporting (outputs past (plain_report reported))) ∷ [])
+    → IsPhase (phase.Running (with_told t reported) (record run { position = reported.end }))
+    (past ++ report_step (plain_report reported) (reporting (outputs past (plain_report reported))) ∷ [])
 report_goes_on laws t run reported past is = record {
   situation_is = situation_stays laws past step (no_mark past r) ∙ is.situation_is;
   keeps = (
-    target_tells laws t run.unit reported past step [] refl refl refl is.keeps.0 (ap numbers_in (sym (append-nil (outputs past r)))) refl,
+    target_tells laws t run.unit reported past step [] refl refl refl is.keeps.0
+        (ap numbers_in (sym (append-nil (outputs past r)))) refl,
     record {
       first = was.first;
       ordered = last_run_stays laws past step refl ∙ was.ordered;
@@ -111,8 +120,10 @@ report_goes_on laws t run reported past is = record {
 -- ---- the program is over
 
 pub report_ends : ReadingsGoOn → (t : Target) (u : Compiled) (reported : Reported) (past : History) → IsTarget t u past
-    → (situation (past ++ report_step (plain_report reported) (reporting (outputs past (plain_report reported) ++ ends 0)) ∷ []) ≡ Ended)
-    × IsTarget (with_told t reported) u (past ++ report_step (plain_report reported) (reporting (outputs past (plain_report reported) ++ ends 0)) ∷ [])
+    → (situation (past ++ report_step (plain_report reported)
+    (reporting (outputs past (plain_report reported) ++ ends 0)) ∷ []) ≡ Ended)
+    × IsTarget (with_told t reported) u (past ++ report_step (plain_report reported)
+    (reporting (outputs past (plain_report reported) ++ ends 0)) ∷ [])
 report_ends laws t u reported past is = (
   laws.situation_is past step ∙ ap (λ mark. unwrap_or mark (situation past)) (outputs_mark past r (ends 0)),
   target_tells laws t u reported past step (ends 0) refl refl refl is refl refl,
@@ -127,12 +138,24 @@ report_ends laws t u reported past is = (
 -- ---- the debuggee comes back
 
 -- a unit of the program's text will do as well
-same_target : (t : Target) (u v : Compiled) (past : History) → text_of u ≡ text_of v → IsTarget t u past → IsTarget t v past
+same_target : (t : Target) (u v : Compiled) (past : History) → text_of u ≡ text_of v → IsTarget t u past
+    → IsTarget t v past
 same_target t u v past same is = record {
   launched_is =
       is.launched_is
-      ∙ ap (λ text. Some (record { path = t.path; stop_on_entry = t.stop_on_entry; text = text; program = program_of u })) same
-      ∙ ap (λ program. Some (record { path = t.path; stop_on_entry = t.stop_on_entry; text = text_of v; program = program }))
+      ∙ ap (λ text. Some (record {
+        path = t.path;
+        stop_on_entry = t.stop_on_entry;
+        text = text;
+        program = program_of u;
+      })) same
+      ∙ ap (λ program. Some (record {
+        path = t.path;
+        stop_on_entry = t.stop_on_entry;
+        text = text_of v;
+        program =
+            program;
+      }))
       (one_program u v same);
   settings_are = is.settings_are;
   runs_are = is.runs_are;
@@ -148,12 +171,22 @@ pub record Stands (d : Debugged) (r : Reported) (now : Plan) : Type 0 where
 
 -- the plan in force when what waits is put in where a report ends
 abbrev put_in_of : Bool → Option (List Breakpoint) → ℕ → Plan → Option Plan
-put_in_of back waits finish now = if back then Some (from_next finish (unwrap_or waits now.breakpoints)) else put_in_at finish waits
+put_in_of back waits finish now =
+    if back then Some (from_next finish (unwrap_or waits now.breakpoints)) else put_in_at finish waits
 
 -- the debuggee of a report, where the run goes back or not
 abbrev stopped_by : Bool → Reported → Trail → Debugged
 stopped_by back r trail =
-    record { unit = r.unit; position = r.end; breakpoints = r.plan; counted_from = counts_from back r; next = r.end + 1; trail = trail }
+    record {
+      unit =
+          r.unit;
+      position = r.end;
+      breakpoints = r.plan;
+      counted_from = counts_from back r;
+      next = r.end + 1;
+      trail =
+          trail;
+    }
 
 put_in_stands : (back : Bool) (waits : Option (List Breakpoint)) (r : Reported) (trail : Trail) (now : Plan)
     → r.plan ≡ now.breakpoints → r.counted_from ≡ now.counted_from
@@ -178,8 +211,10 @@ plan_then past r = unwrap_or (put_in_by past (plain_report r)) (plan past)
 pub back_stands : (t : Target) (run : Ordered) (r : Reported) (past : History) → GoesOnWith r t run → IsRun run past
     → Stands (back run r) r (plan_then past r)
 back_stands t run r past goes is =
-    subst (λ waits. Stands (back run r) r (unwrap_or (put_in_of (goes_back r.mode) waits r.end (plan past)) (plan past))) is.waiting_plan_is
-    (put_in_stands (goes_back r.mode) run.waiting_plan r (trail_in r.debuggee) (plan past) (ap (λ (h : Heading). h.plan) goes ∙ is.breakpoints_are)
+    subst (λ waits. Stands (back run r) r
+    (unwrap_or (put_in_of (goes_back r.mode) waits r.end (plan past)) (plan past))) is.waiting_plan_is
+    (put_in_stands (goes_back r.mode) run.waiting_plan r (trail_in r.debuggee) (plan past)
+    (ap (λ (h : Heading). h.plan) goes ∙ is.breakpoints_are)
     (ap (λ (h : Heading). h.counted_from) goes ∙ is.counted_from_is))
 
 pub back_target : (t : Target) (run : Ordered) (r : Reported) (past : History) → GoesOnWith r t run
@@ -206,7 +241,8 @@ back_debuggee laws d r past step stood item_is put_in_is = record {
 
 stands_so : (t : Target) (d : Debugged) (reason : StopReason) (past : History) → situation past ≡ stop_mark reason
     → IsTarget t d.unit past → IsDebuggee d past → IsPhase (standing t d reason) past
-stands_so t d (stop.Exception fault) past there target_is debuggee_is = record { situation_is = there; keeps = (target_is, debuggee_is) }
+stands_so t d (stop.Exception fault) past there target_is debuggee_is =
+    record { situation_is = there; keeps = (target_is, debuggee_is) }
 stands_so t d _ past there target_is debuggee_is = record { situation_is = there; keeps = (target_is, debuggee_is) }
 
 pub report_stands : ReadingsGoOn → (t : Target) (run : Ordered) (r : Reported) (reason : StopReason) (past : History)
@@ -215,8 +251,10 @@ pub report_stands : ReadingsGoOn → (t : Target) (run : Ordered) (r : Reported)
     (past ++ report_step (plain_report r) (stands past (plain_report r) (stops reason)) ∷ [])
 report_stands laws t run r reason past goes is =
     stands_so (with_told t r) (back run r) reason (past ++ step ∷ [])
-    (laws.situation_is past step ∙ ap (λ mark. unwrap_or mark (situation past)) (outputs_mark past (plain_report r) (stops reason)))
-    (target_tells laws t (back run r).unit r past step (stops reason) refl refl refl (back_target t run r past goes is) refl refl)
+    (laws.situation_is past step ∙ ap (λ mark. unwrap_or mark (situation past))
+    (outputs_mark past (plain_report r) (stops reason)))
+    (target_tells laws t (back run r).unit r past step (stops reason) refl refl refl (back_target t run r past goes is)
+    refl refl)
     (back_debuggee laws (back run r) r past step (back_stands t run r past goes is.keeps.1) refl refl)
   where
     step : Step
@@ -228,10 +266,19 @@ report_stands laws t run r reason past goes is =
 abbrev pub next_run : History → Reported → Heading
 next_run past r =
     let now = plan_then past r in
-    record { run = runs past + 1; text = text_of r.unit; plan = now.breakpoints; counted_from = now.counted_from; mode = r.mode; start = r.end }
+    record {
+      run =
+          runs past + 1;
+      text = text_of r.unit;
+      plan = now.breakpoints;
+      counted_from = now.counted_from;
+      mode = r.mode;
+      start = r.end;
+    }
 
 same_heading : (n : ℕ) (d : Debugged) (m : Mode) (h : Heading)
-    → n ≡ h.run → text_of d.unit ≡ h.text → d.breakpoints ≡ h.plan → d.counted_from ≡ h.counted_from → m ≡ h.mode → d.position ≡ h.start → heading n d m ≡ h
+    → n ≡ h.run → text_of d.unit ≡ h.text → d.breakpoints ≡ h.plan → d.counted_from ≡ h.counted_from → m ≡ h.mode
+    → d.position ≡ h.start → heading n d m ≡ h
 same_heading n d m h run_is text_is plan_is counted_is mode_is start_is =
     rw (run_is, text_is, plan_is, counted_is, mode_is, start_is)
 
@@ -240,7 +287,8 @@ pub back_heading : (t : Target) (run : Ordered) (r : Reported) (past : History) 
 back_heading t run r past goes is =
     let so = back_stands t run r past goes is.keeps.1 in
     same_heading (t.runs + 1) (back run r) run.mode (next_run past r) (ap (λ n. n + 1) is.keeps.0.runs_are)
-    (ap text_of so.unit_is) so.breakpoints_are so.counted_from_is (sym (ap (λ (h : Heading). h.mode) goes)) so.position_is
+    (ap text_of so.unit_is) so.breakpoints_are so.counted_from_is (sym (ap (λ (h : Heading). h.mode) goes))
+    so.position_is
 
 pub report_begins_again : ReadingsGoOn → (t : Target) (run : Ordered) (r : Reported) (past : History)
     → GoesOnWith r t run → IsPhase (phase.Running t run) past
@@ -249,16 +297,23 @@ pub report_begins_again : ReadingsGoOn → (t : Target) (run : Ordered) (r : Rep
 report_begins_again laws t run r past goes is =
     run_begins laws t (back run r) run.mode past step (back_target t run r past goes is)
     (back_debuggee laws (back run r) r past step (back_stands t run r past goes is.keeps.1) refl refl)
-    (record { orders_are = ap (λ h. Go h ∷ []) (sym (back_heading t run r past goes is)); launches_nothing = refl; sets_nothing = refl })
+    (record {
+      orders_are =
+          ap (λ h. Go h ∷ []) (sym (back_heading t run r past goes is));
+      launches_nothing = refl;
+      sets_nothing = refl;
+    })
     (with_told t r).told
-    (told_after laws t run.unit r past step [] is.keeps.0 (ap numbers_in (sym (append-nil (outputs past (plain_report r))))) refl)
+    (told_after laws t run.unit r past step [] is.keeps.0
+    (ap numbers_in (sym (append-nil (outputs past (plain_report r))))) refl)
   where
     step : Step
     step = report_step (plain_report r) (goes_on past (plain_report r))
 
 -- ---- the debuggee of a report that stops its run
 
-pub stopped_in : (b : Bool) (r : Reported) (o : SliceOutcome) → Stops o → Carries b r o → r.debuggee ≡ Some (stopped r (trail_in r.debuggee))
+pub stopped_in : (b : Bool) (r : Reported) (o : SliceOutcome) → Stops o → Carries b r o
+    → r.debuggee ≡ Some (stopped r (trail_in r.debuggee))
 stopped_in true r (slice.Due reason) stops is = is
 stopped_in true r slice.Held stops is = is
 stopped_in true r (slice.Fault fault) stops is = is

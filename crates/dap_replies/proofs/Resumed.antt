@@ -22,13 +22,12 @@ use Rattle.dbg_plan.specs.declared.mode.Reason.TheVariants as reason
 use Rattle.dbg_runner.specs.Orders.{plain_order}
 use Rattle.dbg_runner.specs.Plain.{PlainOrder, Go}
 use Rattle.dbg_runner.specs.Reported.{heading}
-use Rattle.dap_history.specs.declared.situation.Situation.{Situation}
 use Rattle.dap_history.specs.declared.situation.Situation.TheVariants as situation_is
 use Rattle.dap_history.specs.Last.{or_else, last_such}
 use Rattle.dap_history.specs.History.{Launched, History, Effect}
 use Rattle.dap_history.specs.Readings.{situation, launched, runs, position, plan, initialize_arguments, answer_mark, message_mark}
 use Rattle.dap_history.specs.ReadingLaws.{ReadingsGoOn}
-use Rattle.dap_history.specs.Replies.{Reply, nothing, reporting, ordering, causing, refused, stop_of, stops, ends, told_logs, OfProgram, on_thread}
+use Rattle.dap_history.specs.Replies.{nothing, reporting, ordering, causing, refused, stop_of, stops, ends, told_logs, OfProgram, on_thread}
 use Rattle.dap_history.specs.Running.{goes, resumes, first_mode, first_logs, enters, ConfiguresIn, ResumesIn, Retreats, RetreatsIn, retreat_mode, mode_of, body_of}
 use Rattle.dap_history.proofs.Told.{numbers_in, numbers_of_logs, mark_of_logs}
 use Rattle.dap_history.specs.Emission.{RepliesIn}
@@ -53,21 +52,27 @@ of_program : (o : Option Launched) (l : Launched) (says : Launched → Type 0) �
 of_program o l says o_is is = subst (λ o. OfProgram o says) (sym o_is) is
 
 -- the order of the definitions is that of the next run of the debuggee
-next_order : (t : Target) (d : Debugged) (m : Mode) (past : History) → IsTarget t d.unit past → IsDebuggee d past → resumes past (launched_as t d.unit) m ≡ Go (heading (t.runs + 1) d m) ∷ []
+next_order : (t : Target) (d : Debugged) (m : Mode) (past : History) → IsTarget t d.unit past → IsDebuggee d past
+    → resumes past (launched_as t d.unit) m ≡ Go (heading (t.runs + 1) d m) ∷ []
 next_order t d m past is_t is_d =
     sym (ap (λ n. Go (heading (n + 1) d m) ∷ []) is_t.runs_are
     ∙ ap (λ n. Go (record (heading (runs past + 1) d m) { start = n }) ∷ []) is_d.position_is
-    ∙ ap (λ bs. goes past (launched_as t d.unit) (position past) (record { breakpoints = bs; counted_from = d.counted_from }) m) is_d.breakpoints_are
-    ∙ ap (λ n. goes past (launched_as t d.unit) (position past) (record { breakpoints = (plan past).breakpoints; counted_from = n }) m) is_d.counted_from_is)
+    ∙ ap (λ bs. goes past (launched_as t d.unit) (position past)
+    (record { breakpoints = bs; counted_from = d.counted_from }) m) is_d.breakpoints_are
+    ∙ ap (λ n. goes past (launched_as t d.unit) (position past)
+    (record { breakpoints = (plan past).breakpoints; counted_from = n }) m) is_d.counted_from_is)
 
 -- what is due at position 0, by the definitions
-pub configures : (t : Target) (d : Debugged) (m : Mode) (why : Option Reason) (past : History) → m ≡ first_mode (launched_as t d.unit) → why ≡ due_now d m → IsPhase (phase.Configuring t d) past
-    → RepliesIn (situation past) past command.ConfigurationDone (causing body.None (enters past (launched_as t d.unit) why))
+pub configures : (t : Target) (d : Debugged) (m : Mode) (why : Option Reason) (past : History)
+    → m ≡ first_mode (launched_as t d.unit) → why ≡ due_now d m → IsPhase (phase.Configuring t d) past
+    → RepliesIn (situation past) past command.ConfigurationDone
+    (causing body.None (enters past (launched_as t d.unit) why))
 configures t d m why past m_is why_is is =
     let is_d = is.keeps.1 in
     let l = launched_as t d.unit in
     subst (λ s. ConfiguresIn s past (causing body.None (enters past l why))) (sym is.situation_is)
-    (of_program (launched past) l (λ k. causing body.None (enters past l why) ≡ causing body.None (enters past k (due k.program (plan past).breakpoints (plan past).counted_from (first_mode k) 0)))
+    (of_program (launched past) l (λ k. causing body.None (enters past l why) ≡ causing body.None
+    (enters past k (due k.program (plan past).breakpoints (plan past).counted_from (first_mode k) 0)))
     is.keeps.0.launched_is
     (ap (λ r. causing body.None (enters past l r))
     (why_is
@@ -82,39 +87,69 @@ configures t d m why past m_is why_is is =
 abbrev pub goes_after : List EventBody → List PlainOrder → Effect
 goes_after events orders = record nothing { events = events; orders = orders }
 
-pub goes_on : ReadingsGoOn → (command : Command) (t : Target) (d : Debugged) (m : Mode) (body : Body) (events : List EventBody) (past : History) (given : Given) → initialize_arguments command ≡ None → numbers_in events ≡ []
+pub goes_on : ReadingsGoOn → (command : Command) (t : Target) (d : Debugged) (m : Mode) (body : Body)
+    (events : List EventBody) (past : History) (given : Given) → initialize_arguments command ≡ None
+    → numbers_in events ≡ []
     → IsTarget t d.unit past → IsDebuggee d past → HasGone t d m body events given
-    → RepliesIn (situation past) past command (causing body (goes_after events (resumes past (launched_as t d.unit) m))) → HasReplied command past given
+    → RepliesIn (situation past) past command (causing body (goes_after events (resumes past (launched_as t d.unit) m)))
+    → HasReplied command past given
 goes_on laws command t d m body events past given sets_none tells_none is_t is_d gone replies =
     let next = next_order t d m past is_t is_d in record {
       reply = causing body (goes_after events (resumes past (launched_as t d.unit) m));
       replies = replies;
-      gives = record { result_is = gone.result_is; effect_is = record { events_are = gone.events_are; orders_are = gone.orders_are ∙ sym next } };
+      gives = record {
+        result_is = gone.result_is;
+        effect_is =
+            record { events_are = gone.events_are; orders_are = gone.orders_are ∙ sym next };
+      };
       phase_is = λ seq.
-          let step = request_step (record { seq = seq; body = command }) (causing body (goes_after events (resumes past (launched_as t d.unit) m))) in
+          let step =
+          request_step (record { seq = seq; body = command })
+          (causing body (goes_after events (resumes past (launched_as t d.unit) m))) in
           subst (λ p. IsPhase p (past ++ step ∷ [])) (sym gone.phase_is)
-          (run_begins laws t d m past step is_t (debuggee_stays laws past step refl refl d is_d) (record { orders_are = next; launches_nothing = refl; sets_nothing = sets_none })
+          (run_begins laws t d m past step is_t (debuggee_stays laws past step refl refl d is_d)
+          (record { orders_are = next; launches_nothing = refl; sets_nothing = sets_none })
           t.told (is_t.told_is ∙ sym (told_stays laws past step tells_none)));
     }
 
 -- after these events the program stops where it stands
-pub stops_there : ReadingsGoOn → (command : Command) (t : Target) (d : Debugged) (why : Reason) (events : List EventBody) (past : History) (given : Given) → initialize_arguments command ≡ None
-    → numbers_in (events ++ stops (stop_of why)) ≡ [] → last_such message_mark (map Event (events ++ stops (stop_of why))) ≡ Some situation_is.Stopped
+pub stops_there : ReadingsGoOn → (command : Command) (t : Target) (d : Debugged) (why : Reason)
+    (events : List EventBody) (past : History) (given : Given) → initialize_arguments command ≡ None
+    → numbers_in (events ++ stops (stop_of why)) ≡ [] → last_such message_mark
+    (map Event (events ++ stops (stop_of why))) ≡ Some situation_is.Stopped
     → IsTarget t d.unit past → IsDebuggee d past → HasStopped t d why events given
-    → RepliesIn (situation past) past command (causing body.None (reporting (events ++ stops (stop_of why)))) → HasReplied command past given
+    → RepliesIn (situation past) past command (causing body.None (reporting (events ++ stops (stop_of why))))
+    → HasReplied command past given
 stops_there laws command t d why events past given sets_none tells_none mark is_t is_d stopped replies = record {
   reply = causing body.None (reporting (events ++ stops (stop_of why)));
   replies = replies;
-  gives = record { result_is = stopped.result_is; effect_is = record { events_are = stopped.events_are; orders_are = ap (λ o. option_to_list (option_map plain_order o)) stopped.order_is } };
+  gives = record {
+    result_is = stopped.result_is;
+    effect_is =
+        record {
+          events_are = stopped.events_are;
+          orders_are = ap (λ o. option_to_list (option_map plain_order o))
+              stopped.order_is;
+        };
+  };
   phase_is = λ seq.
-      let step = request_step (record { seq = seq; body = command }) (causing body.None (reporting (events ++ stops (stop_of why)))) in
+      let step =
+      request_step (record { seq = seq; body = command })
+      (causing body.None (reporting (events ++ stops (stop_of why)))) in
       subst (λ p. IsPhase p (past ++ step ∷ [])) (sym stopped.phase_is) (record {
-        situation_is = laws.situation_is past step ∙ ap (λ mark. unwrap_or (or_else mark (answer_mark (name_of command) (Ok body.None))) (situation past)) mark;
-        keeps = (target_stays laws past step refl refl sets_none tells_none t d.unit is_t, debuggee_stays laws past step refl refl d is_d);
+        situation_is =
+            laws.situation_is past step ∙ ap (λ mark. unwrap_or
+            (or_else mark (answer_mark (name_of command) (Ok body.None))) (situation past)) mark;
+        keeps = (
+          target_stays laws past step refl refl sets_none tells_none t d.unit is_t,
+          debuggee_stays laws past step
+              refl refl d is_d,
+        );
       });
 }
 
-over : (t : Target) (u : Compiled) (past : History) (p : Phase) → situation past ≡ situation_is.Ended → IsTarget t u past → IsOver t u p → IsPhase p past
+over : (t : Target) (u : Compiled) (past : History) (p : Phase) → situation past ≡ situation_is.Ended
+    → IsTarget t u past → IsOver t u p → IsPhase p past
 over t u past (phase.Ended t' u') ended is_t is = record {
   situation_is = ended;
   keeps = subst (λ t. IsTarget t u'.value past) (sym is.0) (subst (λ u. IsTarget t u past) (sym is.1) is_t);
@@ -122,15 +157,25 @@ over t u past (phase.Ended t' u') ended is_t is = record {
 over t u past _ ended is_t is = absurd is
 
 -- the program is over
-pub ends_there : ReadingsGoOn → (command : Command) (t : Target) (u : Compiled) (body : Body) (past : History) (given : Given) → initialize_arguments command ≡ None → IsTarget t u past → HasEnded t u body given
+pub ends_there : ReadingsGoOn → (command : Command) (t : Target) (u : Compiled) (body : Body) (past : History)
+    (given : Given) → initialize_arguments command ≡ None → IsTarget t u past → HasEnded t u body given
     → RepliesIn (situation past) past command (causing body (reporting (ends 1))) → HasReplied command past given
 ends_there laws command t u body past given sets_none is_t ended replies = record {
   reply = causing body (reporting (ends 1));
   replies = replies;
-  gives = record { result_is = ended.result_is; effect_is = record { events_are = ended.events_are; orders_are = ap (λ o. option_to_list (option_map plain_order o)) ended.order_is } };
+  gives = record {
+    result_is = ended.result_is;
+    effect_is =
+        record {
+          events_are = ended.events_are;
+          orders_are = ap (λ o. option_to_list (option_map plain_order o))
+              ended.order_is;
+        };
+  };
   phase_is = λ seq.
       let step = request_step (record { seq = seq; body = command }) (causing body (reporting (ends 1))) in
-      over t u (past ++ step ∷ []) given.effect.phase (laws.situation_is past step) (target_stays laws past step refl refl sets_none refl t u is_t) ended.phase_is;
+      over t u (past ++ step ∷ []) given.effect.phase (laws.situation_is past step)
+      (target_stays laws past step refl refl sets_none refl t u is_t) ended.phase_is;
 }
 
 -- ---- `configurationDone`
@@ -140,10 +185,12 @@ abbrev considered : Debugged → Debugged
 considered d = record d { next = d.next + 1 }
 
 still_there : (d : Debugged) (past : History) → IsDebuggee d past → IsDebuggee (considered d) past
-still_there d past is = record { position_is = is.position_is; breakpoints_are = is.breakpoints_are; counted_from_is = is.counted_from_is }
+still_there d past is =
+    record { position_is = is.position_is; breakpoints_are = is.breakpoints_are; counted_from_is = is.counted_from_is }
 
 -- what it logs, by the definitions
-logs_as : (t : Target) (d : Debugged) (past : History) → IsPhase (phase.Configuring t d) past → told_logs d.breakpoints (logs_now d) ≡ first_logs past (launched_as t d.unit)
+logs_as : (t : Target) (d : Debugged) (past : History) → IsPhase (phase.Configuring t d) past
+    → told_logs d.breakpoints (logs_now d) ≡ first_logs past (launched_as t d.unit)
 logs_as t d past is =
     let is_d = is.keeps.1 in
     let main = program_of d.unit in
@@ -152,8 +199,10 @@ logs_as t d past is =
     ∙ ap (λ bs. told_logs bs (logs main bs (plan past).counted_from 0)) is_d.breakpoints_are
 
 -- the debuggee's logs, told of where it was considered
-pub told_there : (d e : Debugged) (ls : List Log) (events : List EventBody) → e ≡ considered d → ls ≡ logs_now d → events ≡ told_logs e.breakpoints ls → events ≡ told_logs d.breakpoints (logs_now d)
-told_there d e ls events e_is ls_are is = is ∙ ap (λ (e : Debugged). told_logs e.breakpoints ls) e_is ∙ ap (told_logs d.breakpoints) ls_are
+pub told_there : (d e : Debugged) (ls : List Log) (events : List EventBody) → e ≡ considered d → ls ≡ logs_now d
+    → events ≡ told_logs e.breakpoints ls → events ≡ told_logs d.breakpoints (logs_now d)
+told_there d e ls events e_is ls_are is =
+    is ∙ ap (λ (e : Debugged). told_logs e.breakpoints ls) e_is ∙ ap (told_logs d.breakpoints) ls_are
 
 stop_mark_of : (why : Reason) → last_such message_mark (map Event (stops (stop_of why))) ≡ Some situation_is.Stopped
 stop_mark_of reason.Breakpoint = refl
@@ -161,59 +210,78 @@ stop_mark_of reason.Entry = refl
 stop_mark_of reason.Step = refl
 
 -- position 0 is due
-pub enters_due : ReadingsGoOn → (t : Target) (d e : Debugged) (m : Mode) (why : Reason) (events : List EventBody) (past : History) (given : Given) → e ≡ considered d → m ≡ first_mode (launched_as t d.unit) → Some why ≡ due_now d m
-    → events ≡ told_logs d.breakpoints (logs_now d) → HasStopped t e why events given → IsPhase (phase.Configuring t d) past → HasReplied command.ConfigurationDone past given
+pub enters_due : ReadingsGoOn → (t : Target) (d e : Debugged) (m : Mode) (why : Reason) (events : List EventBody)
+    (past : History) (given : Given) → e ≡ considered d → m ≡ first_mode (launched_as t d.unit) → Some why ≡ due_now d m
+    → events ≡ told_logs d.breakpoints (logs_now d) → HasStopped t e why events given
+    → IsPhase (phase.Configuring t d) past → HasReplied command.ConfigurationDone past given
 enters_due laws t d e m why events past given e_is m_is why_is events_are stopped is =
     let bs = (plan past).breakpoints in
     let ls = logs (program_of d.unit) bs (plan past).counted_from 0 in
-    stops_there laws command.ConfigurationDone t (considered d) why (first_logs past (launched_as t d.unit)) past given refl
+    stops_there laws command.ConfigurationDone t (considered d) why (first_logs past (launched_as t d.unit)) past given
+    refl
     (numbers_of_logs bs ls (stops (stop_of why)))
     (mark_of_logs bs ls (stops (stop_of why)) ∙ stop_mark_of why)
     is.keeps.0 (still_there d past is.keeps.1)
-    (subst (λ es. HasStopped t (considered d) why es given) (events_are ∙ logs_as t d past is) (subst (λ e. HasStopped t e why events given) e_is stopped))
+    (subst (λ es. HasStopped t (considered d) why es given) (events_are ∙ logs_as t d past is)
+    (subst (λ e. HasStopped t e why events given) e_is stopped))
     (configures t d m (Some why) past m_is why_is is)
 
 -- the first run begins there
-pub enters_running : ReadingsGoOn → (t : Target) (d e : Debugged) (m : Mode) (events : List EventBody) (past : History) (given : Given) → e ≡ considered d → m ≡ first_mode (launched_as t d.unit) → None ≡ due_now d m
-    → events ≡ told_logs d.breakpoints (logs_now d) → HasGone t e mode.Continue body.None events given → IsPhase (phase.Configuring t d) past → HasReplied command.ConfigurationDone past given
+pub enters_running : ReadingsGoOn → (t : Target) (d e : Debugged) (m : Mode) (events : List EventBody) (past : History)
+    (given : Given) → e ≡ considered d → m ≡ first_mode (launched_as t d.unit) → None ≡ due_now d m
+    → events ≡ told_logs d.breakpoints (logs_now d) → HasGone t e mode.Continue body.None events given
+    → IsPhase (phase.Configuring t d) past → HasReplied command.ConfigurationDone past given
 enters_running laws t d e m events past given e_is m_is none_due events_are gone is =
     let bs = (plan past).breakpoints in
     let ls = logs (program_of d.unit) bs (plan past).counted_from 0 in
-    goes_on laws command.ConfigurationDone t (considered d) mode.Continue body.None (first_logs past (launched_as t d.unit)) past given refl
+    goes_on laws command.ConfigurationDone t (considered d) mode.Continue body.None
+    (first_logs past (launched_as t d.unit)) past given refl
     (ap numbers_in (sym (append-nil (told_logs bs ls))) ∙ numbers_of_logs bs ls [])
     is.keeps.0 (still_there d past is.keeps.1)
-    (subst (λ es. HasGone t (considered d) mode.Continue body.None es given) (events_are ∙ logs_as t d past is) (subst (λ e. HasGone t e mode.Continue body.None events given) e_is gone))
+    (subst (λ es. HasGone t (considered d) mode.Continue body.None es given) (events_are ∙ logs_as t d past is)
+    (subst (λ e. HasGone t e mode.Continue body.None events given) e_is gone))
     (configures t d m None past m_is none_due is)
 
 -- ---- `continue`, `next`, `stepIn` and `stepOut`
 
 -- the depth where a machine stands, by the definitions
-pub depth_there : (m : Standing) (depth : ℕ) → configuration m ≡ Some (frames m) → depth ≡ depth_of m → depth ≡ depth_at (program_of m.unit) m.position
+pub depth_there : (m : Standing) (depth : ℕ) → configuration m ≡ Some (frames m) → depth ≡ depth_of m
+    → depth ≡ depth_at (program_of m.unit) m.position
 depth_there m depth there depth_is = depth_is ∙ ap (λ c. unwrap_or (option_map length c) 0) (sym there)
 
 -- the program goes on from a stop
-pub resumes_there : ReadingsGoOn → (t : Target) (d : Debugged) (m : Mode) (body : Body) (kind : ResumeKind) (asked : ThreadArguments) (past : History) (given : Given) → asked.thread_id ≡ 1 → body ≡ body_of kind
-    → m ≡ mode_of kind (depth_at (program_of d.unit) d.position) → HasGone t d m body [] given → IsPhase (phase.Stopped t d) past → HasReplied (command.Resume kind asked) past given
+pub resumes_there : ReadingsGoOn → (t : Target) (d : Debugged) (m : Mode) (body : Body) (kind : ResumeKind)
+    (asked : ThreadArguments) (past : History) (given : Given) → asked.thread_id ≡ 1 → body ≡ body_of kind
+    → m ≡ mode_of kind (depth_at (program_of d.unit) d.position) → HasGone t d m body [] given
+    → IsPhase (phase.Stopped t d) past → HasReplied (command.Resume kind asked) past given
 resumes_there laws t d m body kind asked past given one body_is m_is gone is =
     let l = launched_as t d.unit in
     goes_on laws (command.Resume kind asked) t d m body [] past given refl refl is.keeps.0 is.keeps.1 gone
-    (subst (λ s. ResumesIn s past kind asked.thread_id (causing body (ordering (resumes past l m)))) (sym is.situation_is)
-    (of_program (launched past) l (λ k. causing body (ordering (resumes past l m)) ≡ on_thread asked.thread_id (causing (body_of kind) (ordering (resumes past k (mode_of kind (depth_at k.program (position past)))))))
+    (subst (λ s. ResumesIn s past kind asked.thread_id (causing body (ordering (resumes past l m))))
+    (sym is.situation_is)
+    (of_program (launched past) l (λ k. causing body (ordering (resumes past l m)) ≡ on_thread asked.thread_id
+    (causing (body_of kind) (ordering (resumes past k (mode_of kind (depth_at k.program (position past)))))))
     is.keeps.0.launched_is
     (ap (λ b. causing b (ordering (resumes past l m))) body_is
-    ∙ ap (λ m. causing (body_of kind) (ordering (resumes past l m))) (m_is ∙ ap (λ n. mode_of kind (depth_at l.program n)) is.keeps.1.position_is)
-    ∙ ap (λ n. on_thread n (causing (body_of kind) (ordering (resumes past l (mode_of kind (depth_at l.program (position past))))))) (sym one))))
+    ∙ ap (λ m. causing (body_of kind) (ordering (resumes past l m)))
+    (m_is ∙ ap (λ n. mode_of kind (depth_at l.program n)) is.keeps.1.position_is)
+    ∙ ap (λ n. on_thread n (causing (body_of kind)
+    (ordering (resumes past l (mode_of kind (depth_at l.program (position past))))))) (sym one))))
 
 -- a program that faulted is over
-pub ends_faulted : ReadingsGoOn → (t : Target) (d : Debugged) (body : Body) (kind : ResumeKind) (asked : ThreadArguments) (past : History) (given : Given) → asked.thread_id ≡ 1 → body ≡ body_of kind
-    → HasEnded t d.unit body given → IsPhase (phase.Faulted t d) past → HasReplied (command.Resume kind asked) past given
+pub ends_faulted : ReadingsGoOn → (t : Target) (d : Debugged) (body : Body) (kind : ResumeKind)
+    (asked : ThreadArguments) (past : History) (given : Given) → asked.thread_id ≡ 1 → body ≡ body_of kind
+    → HasEnded t d.unit body given → IsPhase (phase.Faulted t d) past
+    → HasReplied (command.Resume kind asked) past given
 ends_faulted laws t d body kind asked past given one body_is ended is =
     ends_there laws (command.Resume kind asked) t d.unit body past given refl is.keeps.0 ended
     (subst (λ s. ResumesIn s past kind asked.thread_id (causing body (reporting (ends 1)))) (sym is.situation_is)
-    (ap (λ b. causing b (reporting (ends 1))) body_is ∙ ap (λ n. on_thread n (causing (body_of kind) (reporting (ends 1)))) (sym one)))
+    (ap (λ b. causing b (reporting (ends 1)))
+    body_is ∙ ap (λ n. on_thread n (causing (body_of kind) (reporting (ends 1)))) (sym one)))
 
 -- another thread is asked for, where the program stands
-pub stands_refusing : (t : Target) (d : Debugged) (kind : ResumeKind) (asked : ThreadArguments) (past : History) → (asked.thread_id ≡ 1 → ⊥) → IsPhase (phase.Stopped t d) past
+pub stands_refusing : (t : Target) (d : Debugged) (kind : ResumeKind) (asked : ThreadArguments) (past : History)
+    → (asked.thread_id ≡ 1 → ⊥) → IsPhase (phase.Stopped t d) past
     → RepliesIn situation_is.Stopped past (command.Resume kind asked) (refused refusal.UnknownThread)
 stands_refusing t d kind asked past other is =
     of_program (launched past) (launched_as t d.unit) _ is.keeps.0.launched_is (unknown_thread asked.thread_id _ other)
@@ -225,25 +293,37 @@ retreats : (t : Target) (d : Debugged) (m : Mode) (thread : ℕ) (past : History
     → Retreats past m thread (causing body.None (goes_after [] (resumes past (launched_as t d.unit) m)))
 retreats t d m thread past one is_t =
     let l = launched_as t d.unit in
-    of_program (launched past) l (λ k. causing body.None (goes_after [] (resumes past l m)) ≡ on_thread thread (causing body.None (ordering (resumes past k m)))) is_t.launched_is
+    of_program (launched past) l (λ k. causing body.None (goes_after [] (resumes past l m)) ≡ on_thread thread
+    (causing body.None (ordering (resumes past k m)))) is_t.launched_is
     (ap (λ n. on_thread n (causing body.None (ordering (resumes past l m)))) (sym one))
 
-pub returns_there : ReadingsGoOn → (t : Target) (d : Debugged) (kind : RetreatKind) (asked : ThreadArguments) (past : History) (given : Given) → asked.thread_id ≡ 1
-    → HasGone t d (retreat_mode kind) body.None [] given → IsPhase (phase.Stopped t d) past → HasReplied (command.Retreat kind asked) past given
+pub returns_there : ReadingsGoOn → (t : Target) (d : Debugged) (kind : RetreatKind) (asked : ThreadArguments)
+    (past : History) (given : Given) → asked.thread_id ≡ 1
+    → HasGone t d (retreat_mode kind) body.None [] given → IsPhase (phase.Stopped t d) past
+    → HasReplied (command.Retreat kind asked) past given
 returns_there laws t d kind asked past given one gone is =
-    goes_on laws (command.Retreat kind asked) t d (retreat_mode kind) body.None [] past given refl refl is.keeps.0 is.keeps.1 gone
-    (subst (λ s. RetreatsIn s past (retreat_mode kind) asked.thread_id (causing body.None (goes_after [] (resumes past (launched_as t d.unit) (retreat_mode kind))))) (sym is.situation_is)
+    goes_on laws (command.Retreat kind asked) t d (retreat_mode kind) body.None [] past given refl refl is.keeps.0
+    is.keeps.1 gone
+    (subst (λ s. RetreatsIn s past (retreat_mode kind) asked.thread_id
+    (causing body.None (goes_after [] (resumes past (launched_as t d.unit) (retreat_mode kind)))))
+    (sym is.situation_is)
     (retreats t d (retreat_mode kind) asked.thread_id past one is.keeps.0))
 
-pub returns_faulted : ReadingsGoOn → (t : Target) (d : Debugged) (kind : RetreatKind) (asked : ThreadArguments) (past : History) (given : Given) → asked.thread_id ≡ 1
-    → HasGone t d (retreat_mode kind) body.None [] given → IsPhase (phase.Faulted t d) past → HasReplied (command.Retreat kind asked) past given
+pub returns_faulted : ReadingsGoOn → (t : Target) (d : Debugged) (kind : RetreatKind) (asked : ThreadArguments)
+    (past : History) (given : Given) → asked.thread_id ≡ 1
+    → HasGone t d (retreat_mode kind) body.None [] given → IsPhase (phase.Faulted t d) past
+    → HasReplied (command.Retreat kind asked) past given
 returns_faulted laws t d kind asked past given one gone is =
-    goes_on laws (command.Retreat kind asked) t d (retreat_mode kind) body.None [] past given refl refl is.keeps.0 is.keeps.1 gone
-    (subst (λ s. RetreatsIn s past (retreat_mode kind) asked.thread_id (causing body.None (goes_after [] (resumes past (launched_as t d.unit) (retreat_mode kind))))) (sym is.situation_is)
+    goes_on laws (command.Retreat kind asked) t d (retreat_mode kind) body.None [] past given refl refl is.keeps.0
+    is.keeps.1 gone
+    (subst (λ s. RetreatsIn s past (retreat_mode kind) asked.thread_id
+    (causing body.None (goes_after [] (resumes past (launched_as t d.unit) (retreat_mode kind)))))
+    (sym is.situation_is)
     (retreats t d (retreat_mode kind) asked.thread_id past one is.keeps.0))
 
 -- another thread is asked for, where the program stands
-pub returns_refusing : (t : Target) (d : Debugged) (kind : RetreatKind) (asked : ThreadArguments) (past : History) → (asked.thread_id ≡ 1 → ⊥) → IsTarget t d.unit past
+pub returns_refusing : (t : Target) (d : Debugged) (kind : RetreatKind) (asked : ThreadArguments) (past : History)
+    → (asked.thread_id ≡ 1 → ⊥) → IsTarget t d.unit past
     → Retreats past (retreat_mode kind) asked.thread_id (refused refusal.UnknownThread)
 returns_refusing t d kind asked past other is_t =
     of_program (launched past) (launched_as t d.unit) _ is_t.launched_is (unknown_thread asked.thread_id _ other)

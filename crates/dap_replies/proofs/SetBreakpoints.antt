@@ -37,18 +37,23 @@ use Rattle.dap_replies.proofs.Stays.{situation_stays, target_stays, position_sta
 
 -- ---- the reply
 
-sets : (past : History) (t : Target) (u : Compiled) (asked : SetBreakpointsArguments) (reply : Reply) → IsTarget t u past
+sets : (past : History) (t : Target) (u : Compiled) (asked : SetBreakpointsArguments) (reply : Reply)
+    → IsTarget t u past
     → SetsOf (is_at asked.path t.path) past (launched_as t u) asked.breakpoints reply → Sets past asked reply
 sets past t u asked reply target of =
-    subst (λ o. OfProgram o (λ l. SetsOf (is_at asked.path l.path) past l asked.breakpoints reply)) (sym target.launched_is) of
+    subst (λ o. OfProgram o (λ l. SetsOf (is_at asked.path l.path) past l asked.breakpoints reply))
+    (sym target.launched_is) of
 
 -- lines of another source
-sets_other : (past : History) (t : Target) (u : Compiled) (asked : SetBreakpointsArguments) → IsTarget t u past → not (is_at asked.path t.path) ≡ true → Sets past asked (other_source asked.breakpoints)
+sets_other : (past : History) (t : Target) (u : Compiled) (asked : SetBreakpointsArguments) → IsTarget t u past
+    → not (is_at asked.path t.path) ≡ true → Sets past asked (other_source asked.breakpoints)
 sets_other past t u asked target other =
     let reply = other_source asked.breakpoints in
-    sets past t u asked reply target (subst (λ b. SetsOf b past (launched_as t u) asked.breakpoints reply) (sym (not-true (is_at asked.path t.path) other)) refl)
+    sets past t u asked reply target (subst (λ b. SetsOf b past (launched_as t u) asked.breakpoints reply)
+    (sym (not-true (is_at asked.path t.path) other)) refl)
 
-pub replies_other : (p : Phase) (past : History) (asked : SetBreakpointsArguments) → is_other p asked.path ≡ true → IsPhase p past → SetsIn (situation_of p) past asked (other_source asked.breakpoints)
+pub replies_other : (p : Phase) (past : History) (asked : SetBreakpointsArguments) → is_other p asked.path ≡ true
+    → IsPhase p past → SetsIn (situation_of p) past asked (other_source asked.breakpoints)
 replies_other phase.Fresh past asked other is = absurd cc
 replies_other (phase.Ready s) past asked other is = absurd cc
 replies_other (phase.Launching s launch) past asked other is = absurd cc
@@ -59,24 +64,31 @@ replies_other (phase.Faulted t d) past asked other is = sets_other past t d.unit
 replies_other (phase.Ended t u) past asked other is = sets_other past t u.value asked is.keeps other
 
 -- The path is the launched program's, and its lines are answered so.
-pub record AreSet (t : Target) (u : Compiled) (asked : SetBreakpointsArguments) (answers : List BreakpointAnswer) (bs : List Breakpoint) : Type 0 where
+pub record AreSet (t : Target) (u : Compiled) (asked : SetBreakpointsArguments) (answers : List BreakpointAnswer)
+    (bs : List Breakpoint) : Type 0 where
   pub same : is_at asked.path t.path ≡ true
   pub answered : AreAnswered (program_of u) (offset t.settings.lines_start_at_1) asked.breakpoints answers bs
 
-pub sets_here : (past : History) (t : Target) (u : Compiled) (asked : SetBreakpointsArguments) (answers : List BreakpointAnswer) (bs : List Breakpoint) (s : Situation) → situation past ≡ s → IsTarget t u past
+pub sets_here : (past : History) (t : Target) (u : Compiled) (asked : SetBreakpointsArguments)
+    (answers : List BreakpointAnswer) (bs : List Breakpoint) (s : Situation) → situation past ≡ s → IsTarget t u past
     → AreSet t u asked answers bs → Sets past asked (causing (body.Breakpoints answers) (effect_in s past bs))
 sets_here past t u asked answers bs s is target are =
     let reply = causing (body.Breakpoints answers) (effect_in s past bs) in
     let main = program_of u in
     let found = are.answered.resolutions in
-    sets past t u asked reply target (subst (λ b. SetsOf b past (launched_as t u) asked.breakpoints reply) (sym are.same) (record {
+    sets past t u asked reply target (subst (λ b. SetsOf b past (launched_as t u) asked.breakpoints reply)
+    (sym are.same) (record {
       answers = found;
       breakpoints = bs;
-      resolved = subst (λ (i : InitializeArguments). IsResolved main (offset i.lines_start_at_1) asked.breakpoints found bs) target.settings_are are.answered.resolved;
+      resolved =
+          subst (λ (i : InitializeArguments). IsResolved main (offset i.lines_start_at_1) asked.breakpoints found bs)
+          target.settings_are are.answered.resolved;
       reply_is =
           ap (λ l. causing (body.Breakpoints l) (effect_in s past bs))
-          (are.answered.answers_are ∙ ap (λ (i : InitializeArguments). map (answer_of main (offset i.lines_start_at_1)) found) target.settings_are)
-          ∙ ap (λ x. causing (body.Breakpoints (map (answer_of main (offset (settings past).lines_start_at_1)) found)) (effect_in x past bs)) (sym is);
+          (are.answered.answers_are ∙ ap (λ (i : InitializeArguments). map (answer_of main (offset i.lines_start_at_1))
+          found) target.settings_are)
+          ∙ ap (λ x. causing (body.Breakpoints (map (answer_of main (offset (settings past).lines_start_at_1)) found))
+          (effect_in x past bs)) (sym is);
     }))
 
 -- ---- a plan that is put in
@@ -90,13 +102,16 @@ with_plan d bs n = record d { breakpoints = bs; counted_from = n }
 
 -- the answers, and then a plan that is put in and counts from position n
 abbrev puts : List BreakpointAnswer → List Breakpoint → ℕ → Reply
-puts answers bs n = causing (body.Breakpoints answers) (record nothing { put_in = Some (record { breakpoints = bs; counted_from = n }) })
+puts answers bs n =
+    causing (body.Breakpoints answers) (record nothing
+    { put_in = Some (record { breakpoints = bs; counted_from = n }) })
 
 -- what a phase keeps where the session holds the debuggee
 abbrev Holds : Target → Debugged → History → Type 0
 Holds t d past = IsTarget t d.unit past × IsDebuggee d past
 
-holds_after : ReadingsGoOn → (t : Target) (d : Debugged) (bs : List Breakpoint) (n : ℕ) (asked : SetBreakpointsArguments) (answers : List BreakpointAnswer) (past : History) (seq : ℕ) → Holds t d past
+holds_after : ReadingsGoOn → (t : Target) (d : Debugged) (bs : List Breakpoint) (n : ℕ)
+    (asked : SetBreakpointsArguments) (answers : List BreakpointAnswer) (past : History) (seq : ℕ) → Holds t d past
     → Holds t (with_plan d bs n) (past ++ set_step seq asked (puts answers bs n) ∷ [])
 holds_after laws t d bs n asked answers past seq is =
     let step = set_step seq asked (puts answers bs n) in (
@@ -109,43 +124,63 @@ holds_after laws t d bs n asked answers past seq is =
     )
 
 -- The phase now is one of every history in which the debuggee stands so under the new plan, in the same situation.
-put_in : ReadingsGoOn → (t : Target) (d : Debugged) (bs : List Breakpoint) (n : ℕ) (asked : SetBreakpointsArguments) (answers : List BreakpointAnswer) (past : History) (old now : Phase) → IsPhase old past → Holds t d past
-    → SetsIn (situation_of old) past asked (puts answers bs n) → ((new : History) → situation new ≡ situation_of old → Holds t (with_plan d bs n) new → IsPhase now new)
+put_in : ReadingsGoOn → (t : Target) (d : Debugged) (bs : List Breakpoint) (n : ℕ) (asked : SetBreakpointsArguments)
+    (answers : List BreakpointAnswer) (past : History) (old now : Phase) → IsPhase old past → Holds t d past
+    → SetsIn (situation_of old) past asked (puts answers bs n)
+    → ((new : History) → situation new ≡ situation_of old → Holds t (with_plan d bs n) new → IsPhase now new)
     → HasReplied (command.SetBreakpoints asked) past (with_order answers None now)
 put_in laws t d bs n asked answers past old now is holds replies is_now = record {
   reply = puts answers bs n;
   replies = replies_there old past is (command.SetBreakpoints asked) (puts answers bs n) replies;
   gives = record { result_is = refl; effect_is = record { events_are = refl; orders_are = refl } };
   phase_is = λ seq. let step = set_step seq asked (puts answers bs n) in
-      is_now (past ++ step ∷ []) (situation_stays laws past step refl ∙ is.situation_is) (holds_after laws t d bs n asked answers past seq holds);
+      is_now (past ++ step ∷ []) (situation_stays laws past step refl ∙ is.situation_is)
+      (holds_after laws t d bs n asked answers past seq holds);
 }
 
-pub put_in_before_start : ReadingsGoOn → (t : Target) (d now : Debugged) (asked : SetBreakpointsArguments) (answers : List BreakpointAnswer) (bs : List Breakpoint) → AreSet t d.unit asked answers bs
-    → d.next ≡ d.position → now ≡ with_plan d bs d.next → Replies (command.SetBreakpoints asked) (phase.Configuring t d) (with_order answers None (phase.Configuring t now))
+pub put_in_before_start : ReadingsGoOn → (t : Target) (d now : Debugged) (asked : SetBreakpointsArguments)
+    (answers : List BreakpointAnswer) (bs : List Breakpoint) → AreSet t d.unit asked answers bs
+    → d.next ≡ d.position → now ≡ with_plan d bs d.next → Replies (command.SetBreakpoints asked) (phase.Configuring t d)
+    (with_order answers None (phase.Configuring t now))
 put_in_before_start laws t d now asked answers bs are next now_is past is =
-    put_in laws t d bs 0 asked answers past (phase.Configuring t d) (phase.Configuring t now) is (is.keeps.0, is.keeps.1)
+    put_in laws t d bs 0 asked answers past (phase.Configuring t d) (phase.Configuring t now) is
+    (is.keeps.0, is.keeps.1)
     (sets_here past t d.unit asked answers bs Configuring is.situation_is is.keeps.0 are)
-    (λ new at holds. subst (λ x. IsPhase (phase.Configuring t x) new) (sym (now_is ∙ ap (λ n. with_plan d bs n) (next ∙ is.keeps.2))) (record { situation_is = at; keeps = (holds.0, holds.1, is.keeps.2) }))
+    (λ new at holds. subst (λ x. IsPhase (phase.Configuring t x) new)
+    (sym (now_is ∙ ap (λ n. with_plan d bs n) (next ∙ is.keeps.2)))
+    (record { situation_is = at; keeps = (holds.0, holds.1, is.keeps.2) }))
 
 -- the same where the program stands
-put_in_there : ReadingsGoOn → (t : Target) (d now : Debugged) (asked : SetBreakpointsArguments) (answers : List BreakpointAnswer) (past : History) (make : Debugged → Phase) → IsPhase (make d) past → Holds t d past
-    → (SetsIn (situation_of (make d)) past asked (puts answers now.breakpoints (position past + 1))) → now ≡ with_plan d now.breakpoints (d.position + 1)
-    → ((x : Debugged) (new : History) → situation new ≡ situation_of (make d) → Holds t x new → IsPhase (make x) new) → HasReplied (command.SetBreakpoints asked) past (with_order answers None (make now))
+put_in_there : ReadingsGoOn → (t : Target) (d now : Debugged) (asked : SetBreakpointsArguments)
+    (answers : List BreakpointAnswer) (past : History) (make : Debugged → Phase) → IsPhase (make d) past
+    → Holds t d past
+    → (SetsIn (situation_of (make d)) past asked (puts answers now.breakpoints (position past + 1)))
+    → now ≡ with_plan d now.breakpoints (d.position + 1)
+    → ((x : Debugged) (new : History) → situation new ≡ situation_of (make d) → Holds t x new → IsPhase (make x) new)
+    → HasReplied (command.SetBreakpoints asked) past (with_order answers None (make now))
 put_in_there laws t d now asked answers past make is holds replies now_is is_then =
     put_in laws t d now.breakpoints (position past + 1) asked answers past (make d) (make now) is holds replies
-    (λ new at after. subst (λ x. IsPhase (make x) new) (sym (now_is ∙ ap (λ n. with_plan d now.breakpoints (n + 1)) holds.1.position_is)) (is_then (with_plan d now.breakpoints (position past + 1)) new at after))
+    (λ new at after. subst (λ x. IsPhase (make x) new)
+    (sym (now_is ∙ ap (λ n. with_plan d now.breakpoints (n + 1)) holds.1.position_is))
+    (is_then (with_plan d now.breakpoints (position past + 1)) new at after))
 
-pub put_in_at_stop : ReadingsGoOn → (t : Target) (d now : Debugged) (asked : SetBreakpointsArguments) (answers : List BreakpointAnswer) → AreSet t d.unit asked answers now.breakpoints
-    → now ≡ with_plan d now.breakpoints (d.position + 1) → Replies (command.SetBreakpoints asked) (phase.Stopped t d) (with_order answers None (phase.Stopped t now))
+pub put_in_at_stop : ReadingsGoOn → (t : Target) (d now : Debugged) (asked : SetBreakpointsArguments)
+    (answers : List BreakpointAnswer) → AreSet t d.unit asked answers now.breakpoints
+    → now ≡ with_plan d now.breakpoints (d.position + 1) → Replies (command.SetBreakpoints asked) (phase.Stopped t d)
+    (with_order answers None (phase.Stopped t now))
 put_in_at_stop laws t d now asked answers are now_is past is =
     put_in_there laws t d now asked answers past (phase.Stopped t) is is.keeps
-    (sets_here past t d.unit asked answers now.breakpoints Stopped is.situation_is is.keeps.0 are) now_is (λ x new at holds. record { situation_is = at; keeps = holds })
+    (sets_here past t d.unit asked answers now.breakpoints Stopped is.situation_is is.keeps.0 are) now_is
+    (λ x new at holds. record { situation_is = at; keeps = holds })
 
-pub put_in_at_fault : ReadingsGoOn → (t : Target) (d now : Debugged) (asked : SetBreakpointsArguments) (answers : List BreakpointAnswer) → AreSet t d.unit asked answers now.breakpoints
-    → now ≡ with_plan d now.breakpoints (d.position + 1) → Replies (command.SetBreakpoints asked) (phase.Faulted t d) (with_order answers None (phase.Faulted t now))
+pub put_in_at_fault : ReadingsGoOn → (t : Target) (d now : Debugged) (asked : SetBreakpointsArguments)
+    (answers : List BreakpointAnswer) → AreSet t d.unit asked answers now.breakpoints
+    → now ≡ with_plan d now.breakpoints (d.position + 1) → Replies (command.SetBreakpoints asked) (phase.Faulted t d)
+    (with_order answers None (phase.Faulted t now))
 put_in_at_fault laws t d now asked answers are now_is past is =
     put_in_there laws t d now asked answers past (phase.Faulted t) is is.keeps
-    (sets_here past t d.unit asked answers now.breakpoints Faulted is.situation_is is.keeps.0 are) now_is (λ x new at holds. record { situation_is = at; keeps = holds })
+    (sets_here past t d.unit asked answers now.breakpoints Faulted is.situation_is is.keeps.0 are) now_is
+    (λ x new at holds. record { situation_is = at; keeps = holds })
 
 -- ---- a plan that waits
 
@@ -171,13 +206,17 @@ once_held false false n = refl
 -- the last run goes back where its mode does
 pub back_as : (past : History) (run : Ordered) → IsRun run past → is_back past ≡ goes_back run.mode
 back_as past run is =
-    ap (λ (o : Option Heading). option_map_or (λ (h : Heading). goes_back h.mode) o false) is.ordered ∙ ap (λ (h : Heading). goes_back h.mode) is.goes_on
+    ap (λ (o : Option Heading). option_map_or (λ (h : Heading). goes_back h.mode) o false) is.ordered
+    ∙ ap (λ (h : Heading). goes_back h.mode) is.goes_on
 
 -- the order is asked for as the definitions say
-pub once_as : (past : History) (run : Ordered) → IsRun run past → run.held || goes_back run.mode ≡ is_held past || is_back past
-once_as past run is = ap (λ h. h || goes_back run.mode) is.held_is ∙ ap (λ b. is_held past || b) (sym (back_as past run is))
+pub once_as : (past : History) (run : Ordered) → IsRun run past → run.held || goes_back run.mode ≡ is_held past
+    || is_back past
+once_as past run is =
+    ap (λ h. h || goes_back run.mode) is.held_is ∙ ap (λ b. is_held past || b) (sym (back_as past run is))
 
-pub held_after : ReadingsGoOn → (past : History) (step : Step) (run : Ordered) → IsRun run past → step.effect.orders ≡ once (is_held past || is_back past) (runs past)
+pub held_after : ReadingsGoOn → (past : History) (step : Step) (run : Ordered) → IsRun run past
+    → step.effect.orders ≡ once (is_held past || is_back past) (runs past)
     → (asked_back run).held ≡ is_held (past ++ step ∷ [])
 held_after laws past step run is orders_are =
     ap (λ h. h || not (goes_back run.mode)) is.held_is
@@ -186,38 +225,57 @@ held_after laws past step run is orders_are =
     ∙ ap (λ os. unwrap_or (last_such hold_mark os) (is_held past)) (sym orders_are)
     ∙ sym (laws.held_is past step)
 
-run_waits : ReadingsGoOn → (past : History) (run : Ordered) (bs : List Breakpoint) (seq : ℕ) (asked : SetBreakpointsArguments) (answers : List BreakpointAnswer) → IsRun run past
-    → IsRun (asked_back (record run { waiting_plan = Some bs })) (past ++ set_step seq asked (causing (body.Breakpoints answers) (effect_in Running past bs)) ∷ [])
+run_waits : ReadingsGoOn → (past : History) (run : Ordered) (bs : List Breakpoint) (seq : ℕ)
+    (asked : SetBreakpointsArguments) (answers : List BreakpointAnswer) → IsRun run past
+    → IsRun (asked_back (record run { waiting_plan = Some bs }))
+    (past ++ set_step seq asked (causing (body.Breakpoints answers) (effect_in Running past bs)) ∷ [])
 run_waits laws past run bs seq asked answers is =
     let step = set_step seq asked (causing (body.Breakpoints answers) (effect_in Running past bs)) in
     let no_go = once_no_go (is_held past || is_back past) (runs past) in record {
       first = is.first;
       ordered = last_run_stays laws past step no_go ∙ is.ordered;
-      goes_on = ap (λ n. record is.first { start = n }) (position_stays laws past step refl) ∙ is.goes_on ∙ ap (λ n. heading_in n run) (sym (runs_stay laws past step no_go));
+      goes_on =
+          ap (λ n. record is.first { start = n }) (position_stays laws past step refl) ∙ is.goes_on
+          ∙ ap (λ n. heading_in n run) (sym (runs_stay laws past step no_go));
       breakpoints_are = is.breakpoints_are ∙ ap (λ (p : Plan). p.breakpoints) (sym (plan_stays laws past step refl));
       counted_from_is = is.counted_from_is ∙ ap (λ (p : Plan). p.counted_from) (sym (plan_stays laws past step refl));
-      waiting_plan_is = sym (laws.waiting_plan_is past step ∙ ap (λ o. unwrap_or (or_else (option_map (λ run. None) o) (Some (Some bs))) (waiting_plan past)) (no_last go step.effect.orders no_go));
+      waiting_plan_is =
+          sym (laws.waiting_plan_is past step ∙ ap (λ o. unwrap_or
+          (or_else (option_map (λ run. None) o) (Some (Some bs))) (waiting_plan past))
+          (no_last go step.effect.orders no_go));
       waiting_pause_is = is.waiting_pause_is ∙ sym (waiting_pause_stays laws past step no_go refl);
       held_is = held_after laws past step run is refl;
     }
 
-pub waits_in_run : ReadingsGoOn → (t : Target) (run now : Ordered) (asked : SetBreakpointsArguments) (answers : List BreakpointAnswer) (bs : List Breakpoint) (order : Option Order) → AreSet t run.unit asked answers bs
-    → option_to_list (option_map plain_order order) ≡ once (run.held || goes_back run.mode) t.runs → now ≡ asked_back (record run { waiting_plan = Some bs })
+pub waits_in_run : ReadingsGoOn → (t : Target) (run now : Ordered) (asked : SetBreakpointsArguments)
+    (answers : List BreakpointAnswer) (bs : List Breakpoint) (order : Option Order) → AreSet t run.unit asked answers bs
+    → option_to_list (option_map plain_order order) ≡ once (run.held || goes_back run.mode) t.runs
+    → now ≡ asked_back (record run { waiting_plan = Some bs })
     → Replies (command.SetBreakpoints asked) (phase.Running t run) (with_order answers order (phase.Running t now))
 waits_in_run laws t run now asked answers bs order are order_is now_is past is =
     let reply = causing (body.Breakpoints answers) (effect_in Running past bs) in record {
       reply = reply;
-      replies = replies_there (phase.Running t run) past is (command.SetBreakpoints asked) reply (sets_here past t run.unit asked answers bs Running is.situation_is is.keeps.0 are);
+      replies =
+          replies_there (phase.Running t run) past is (command.SetBreakpoints asked) reply
+          (sets_here past t run.unit asked answers bs Running is.situation_is is.keeps.0 are);
       gives = record {
         result_is = refl;
         effect_is = record {
           events_are = refl;
-          orders_are = order_is ∙ ap (λ b. once b t.runs) (once_as past run is.keeps.1) ∙ ap (λ n. once (is_held past || is_back past) n) is.keeps.0.runs_are;
+          orders_are =
+              order_is ∙ ap (λ b. once b t.runs) (once_as past run is.keeps.1)
+              ∙ ap (λ n. once (is_held past || is_back past) n) is.keeps.0.runs_are;
         };
       };
       phase_is = λ seq. let step = set_step seq asked reply in
           subst (λ x. IsPhase (phase.Running t x) (past ++ step ∷ [])) (sym now_is) (record {
-            situation_is = situation_stays laws past step (ap (λ o. or_else o None) (once_no_mark (is_held past || is_back past) (runs past))) ∙ is.situation_is;
-            keeps = (target_stays laws past step refl (once_no_go (is_held past || is_back past) (runs past)) refl refl t run.unit is.keeps.0, run_waits laws past run bs seq asked answers is.keeps.1);
+            situation_is =
+                situation_stays laws past step
+                (ap (λ o. or_else o None) (once_no_mark (is_held past || is_back past) (runs past))) ∙ is.situation_is;
+            keeps = (
+              target_stays laws past step refl (once_no_go (is_held past || is_back past) (runs past)) refl refl
+                  t run.unit is.keeps.0,
+              run_waits laws past run bs seq asked answers is.keeps.1,
+            );
           });
     }

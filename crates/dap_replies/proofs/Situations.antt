@@ -22,13 +22,16 @@ abbrev pub launched_as : Target → Compiled → Launched
 launched_as t u = record { path = t.path; stop_on_entry = t.stop_on_entry; text = text_of u; program = program_of u }
 
 -- the situation of the history is that of the phase
-pub replies_there : (p : Phase) (past : History) → IsPhase p past → (command : Command) (reply : Reply) → RepliesIn (situation_of p) past command reply → RepliesIn (situation past) past command reply
+pub replies_there : (p : Phase) (past : History) → IsPhase p past → (command : Command) (reply : Reply)
+    → RepliesIn (situation_of p) past command reply → RepliesIn (situation past) past command reply
 replies_there p past is command reply = subst (λ s. RepliesIn s past command reply) (sym is.situation_is)
 
-pub initialized_once : (p : Phase) → (p ≡ phase.Fresh → ⊥) → (past : History) (asked : InitializeArguments) → RepliesIn (situation_of p) past (command.Initialize asked) (refused refusal.WrongPhase)
+pub initialized_once : (p : Phase) → (p ≡ phase.Fresh → ⊥) → (past : History) (asked : InitializeArguments)
+    → RepliesIn (situation_of p) past (command.Initialize asked) (refused refusal.WrongPhase)
 initialized_once phase.Fresh begun past asked = absurd (begun refl)
 initialized_once _ begun past asked = refl
 
-pub threads_begun : (p : Phase) → (p ≡ phase.Fresh → ⊥) → (past : History) → RepliesIn (situation_of p) past command.Threads (answered body.Threads)
+pub threads_begun : (p : Phase) → (p ≡ phase.Fresh → ⊥) → (past : History)
+    → RepliesIn (situation_of p) past command.Threads (answered body.Threads)
 threads_begun phase.Fresh begun past = absurd (begun refl)
 threads_begun _ begun past = refl

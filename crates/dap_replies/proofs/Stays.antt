@@ -27,7 +27,8 @@ use Rattle.dap_replies.specs.Replied.{request_step}
 
 -- ---- readings that stay
 
-no_last_of : {B : Type 0} (o last : Option B) (rest : List B) → (rest ≡ [] → last ≡ None) → cons_option o rest ≡ [] → or_else last o ≡ None
+no_last_of : {B : Type 0} (o last : Option B) (rest : List B) → (rest ≡ [] → last ≡ None) → cons_option o rest ≡ []
+    → or_else last o ≡ None
 no_last_of None last rest none_in_rest none = ap (λ l. or_else l None) (none_in_rest none)
 no_last_of (Some b) last rest none_in_rest none = absurd cc
 
@@ -36,48 +37,68 @@ pub no_last : {A B : Type 0} (f : A → Option B) (xs : List A) → filter_map f
 no_last f [] none = refl
 no_last f (x ∷ xs) none = no_last_of (f x) (last_such f xs) (filter_map f xs) (no_last f xs) none
 
-pub situation_stays : ReadingsGoOn → (past : History) (step : Step) → step_mark step ≡ None → situation (past ++ step ∷ []) ≡ situation past
-situation_stays laws past step no_mark = laws.situation_is past step ∙ ap (λ mark. unwrap_or mark (situation past)) no_mark
+pub situation_stays : ReadingsGoOn → (past : History) (step : Step) → step_mark step ≡ None
+    → situation (past ++ step ∷ []) ≡ situation past
+situation_stays laws past step no_mark =
+    laws.situation_is past step ∙ ap (λ mark. unwrap_or mark (situation past)) no_mark
 
-pub settings_stay : ReadingsGoOn → (past : History) (step : Step) → settings_by step.item step.answer ≡ None → settings (past ++ step ∷ []) ≡ settings past
+pub settings_stay : ReadingsGoOn → (past : History) (step : Step) → settings_by step.item step.answer ≡ None
+    → settings (past ++ step ∷ []) ≡ settings past
 settings_stay laws past step sets_none = laws.settings_are past step ∙ ap (λ o. unwrap_or o (settings past)) sets_none
 
-pub launched_stays : ReadingsGoOn → (past : History) (step : Step) → step.effect.launched ≡ None → launched (past ++ step ∷ []) ≡ launched past
-launched_stays laws past step launches_none = laws.launched_is past step ∙ ap (λ o. or_else o (launched past)) launches_none
+pub launched_stays : ReadingsGoOn → (past : History) (step : Step) → step.effect.launched ≡ None
+    → launched (past ++ step ∷ []) ≡ launched past
+launched_stays laws past step launches_none =
+    laws.launched_is past step ∙ ap (λ o. or_else o (launched past)) launches_none
 
-pub last_run_stays : ReadingsGoOn → (past : History) (step : Step) → filter_map go step.effect.orders ≡ [] → last_run (past ++ step ∷ []) ≡ last_run past
-last_run_stays laws past step no_go = laws.last_run_is past step ∙ ap (λ o. or_else o (last_run past)) (no_last go step.effect.orders no_go)
+pub last_run_stays : ReadingsGoOn → (past : History) (step : Step) → filter_map go step.effect.orders ≡ []
+    → last_run (past ++ step ∷ []) ≡ last_run past
+last_run_stays laws past step no_go =
+    laws.last_run_is past step ∙ ap (λ o. or_else o (last_run past)) (no_last go step.effect.orders no_go)
 
-pub runs_stay : ReadingsGoOn → (past : History) (step : Step) → filter_map go step.effect.orders ≡ [] → runs (past ++ step ∷ []) ≡ runs past
-runs_stay laws past step no_go = laws.runs_are past step ∙ ap (λ (l : List Heading). runs past + length l) no_go ∙ omega arith
+pub runs_stay : ReadingsGoOn → (past : History) (step : Step) → filter_map go step.effect.orders ≡ []
+    → runs (past ++ step ∷ []) ≡ runs past
+runs_stay laws past step no_go =
+    laws.runs_are past step ∙ ap (λ (l : List Heading). runs past + length l) no_go ∙ omega arith
 
-pub position_stays : ReadingsGoOn → (past : History) (step : Step) → end_of step.item ≡ None → position (past ++ step ∷ []) ≡ position past
+pub position_stays : ReadingsGoOn → (past : History) (step : Step) → end_of step.item ≡ None
+    → position (past ++ step ∷ []) ≡ position past
 position_stays laws past step no_end = laws.position_is past step ∙ ap (λ o. unwrap_or o (position past)) no_end
 
-pub plan_stays : ReadingsGoOn → (past : History) (step : Step) → step.effect.put_in ≡ None → plan (past ++ step ∷ []) ≡ plan past
+pub plan_stays : ReadingsGoOn → (past : History) (step : Step) → step.effect.put_in ≡ None
+    → plan (past ++ step ∷ []) ≡ plan past
 plan_stays laws past step puts_none = laws.plan_is past step ∙ ap (λ o. unwrap_or o (plan past)) puts_none
 
-pub waiting_plan_stays : ReadingsGoOn → (past : History) (step : Step) → filter_map go step.effect.orders ≡ [] → step.effect.waits ≡ None → waiting_plan (past ++ step ∷ []) ≡ waiting_plan past
+pub waiting_plan_stays : ReadingsGoOn → (past : History) (step : Step) → filter_map go step.effect.orders ≡ []
+    → step.effect.waits ≡ None → waiting_plan (past ++ step ∷ []) ≡ waiting_plan past
 waiting_plan_stays laws past step no_go waits_none =
     laws.waiting_plan_is past step
-    ∙ ap (λ o. unwrap_or (or_else (option_map (λ run. None) o) (option_map Some step.effect.waits)) (waiting_plan past)) (no_last go step.effect.orders no_go)
+    ∙ ap (λ o. unwrap_or (or_else (option_map (λ run. None) o) (option_map Some step.effect.waits)) (waiting_plan past))
+    (no_last go step.effect.orders no_go)
     ∙ ap (λ o. unwrap_or (option_map Some o) (waiting_plan past)) waits_none
 
-pub waiting_pause_stays : ReadingsGoOn → (past : History) (step : Step) → filter_map go step.effect.orders ≡ [] → is_pause step.answer ≡ None → waiting_pause (past ++ step ∷ []) ≡ waiting_pause past
+pub waiting_pause_stays : ReadingsGoOn → (past : History) (step : Step) → filter_map go step.effect.orders ≡ []
+    → is_pause step.answer ≡ None → waiting_pause (past ++ step ∷ []) ≡ waiting_pause past
 waiting_pause_stays laws past step no_go no_pause =
     laws.waiting_pause_is past step
-    ∙ ap (λ o. unwrap_or (or_else (option_map (λ run. false) o) (is_pause step.answer)) (waiting_pause past)) (no_last go step.effect.orders no_go)
+    ∙ ap (λ o. unwrap_or (or_else (option_map (λ run. false) o) (is_pause step.answer)) (waiting_pause past))
+    (no_last go step.effect.orders no_go)
     ∙ ap (λ o. unwrap_or o (waiting_pause past)) no_pause
 
-pub held_stays : ReadingsGoOn → (past : History) (step : Step) → last_such hold_mark step.effect.orders ≡ None → is_held (past ++ step ∷ []) ≡ is_held past
+pub held_stays : ReadingsGoOn → (past : History) (step : Step) → last_such hold_mark step.effect.orders ≡ None
+    → is_held (past ++ step ∷ []) ≡ is_held past
 held_stays laws past step no_hold = laws.held_is past step ∙ ap (λ o. unwrap_or o (is_held past)) no_hold
 
-pub told_stays : ReadingsGoOn → (past : History) (step : Step) → numbers (messages step) ≡ [] → numbers_told (past ++ step ∷ []) ≡ numbers_told past
-told_stays laws past step tells_none = laws.numbers_told_is past step ∙ ap (λ (ns : List ℤ). numbers_told past + length ns) tells_none ∙ omega arith
+pub told_stays : ReadingsGoOn → (past : History) (step : Step) → numbers (messages step) ≡ []
+    → numbers_told (past ++ step ∷ []) ≡ numbers_told past
+told_stays laws past step tells_none =
+    laws.numbers_told_is past step ∙ ap (λ (ns : List ℤ). numbers_told past + length ns) tells_none ∙ omega arith
 
 -- ---- what a phase keeps
 
-pub unlaunched_stays : ReadingsGoOn → (past : History) (step : Step) → step.effect.launched ≡ None → filter_map go step.effect.orders ≡ [] → step.effect.put_in ≡ None → end_of step.item ≡ None → numbers (messages step) ≡ []
+pub unlaunched_stays : ReadingsGoOn → (past : History) (step : Step) → step.effect.launched ≡ None
+    → filter_map go step.effect.orders ≡ [] → step.effect.put_in ≡ None → end_of step.item ≡ None
+    → numbers (messages step) ≡ []
     → IsUnlaunched past → IsUnlaunched (past ++ step ∷ [])
 unlaunched_stays laws past step launches_none no_go puts_none no_end tells_none is = record {
   launched_is = launched_stays laws past step launches_none ∙ is.launched_is;
@@ -87,7 +108,8 @@ unlaunched_stays laws past step launches_none no_go puts_none no_end tells_none 
   plan_is = plan_stays laws past step puts_none ∙ is.plan_is;
 }
 
-pub target_stays : ReadingsGoOn → (past : History) (step : Step) → step.effect.launched ≡ None → filter_map go step.effect.orders ≡ [] → settings_by step.item step.answer ≡ None → numbers (messages step) ≡ []
+pub target_stays : ReadingsGoOn → (past : History) (step : Step) → step.effect.launched ≡ None
+    → filter_map go step.effect.orders ≡ [] → settings_by step.item step.answer ≡ None → numbers (messages step) ≡ []
     → (t : Target) (u : Compiled) → IsTarget t u past → IsTarget t u (past ++ step ∷ [])
 target_stays laws past step launches_none no_go sets_none tells_none t u is = record {
   launched_is = launched_stays laws past step launches_none ∙ is.launched_is;
@@ -96,14 +118,18 @@ target_stays laws past step launches_none no_go sets_none tells_none t u is = re
   told_is = is.told_is ∙ sym (told_stays laws past step tells_none);
 }
 
-pub debuggee_stays : ReadingsGoOn → (past : History) (step : Step) → step.effect.put_in ≡ None → end_of step.item ≡ None → (d : Debugged) → IsDebuggee d past → IsDebuggee d (past ++ step ∷ [])
+pub debuggee_stays : ReadingsGoOn → (past : History) (step : Step) → step.effect.put_in ≡ None → end_of step.item ≡ None
+    → (d : Debugged) → IsDebuggee d past → IsDebuggee d (past ++ step ∷ [])
 debuggee_stays laws past step puts_none no_end d is = record {
   position_is = is.position_is ∙ sym (position_stays laws past step no_end);
   breakpoints_are = is.breakpoints_are ∙ ap (λ (p : Plan). p.breakpoints) (sym (plan_stays laws past step puts_none));
   counted_from_is = is.counted_from_is ∙ ap (λ (p : Plan). p.counted_from) (sym (plan_stays laws past step puts_none));
 }
 
-pub run_stays : ReadingsGoOn → (past : History) (step : Step) → filter_map go step.effect.orders ≡ [] → step.effect.put_in ≡ None → step.effect.waits ≡ None → is_pause step.answer ≡ None → last_such hold_mark step.effect.orders ≡ None → end_of step.item ≡ None → (run : Ordered) → IsRun run past → IsRun run (past ++ step ∷ [])
+pub run_stays : ReadingsGoOn → (past : History) (step : Step) → filter_map go step.effect.orders ≡ []
+    → step.effect.put_in ≡ None → step.effect.waits ≡ None → is_pause step.answer ≡ None
+    → last_such hold_mark step.effect.orders ≡ None → end_of step.item ≡ None → (run : Ordered) → IsRun run past
+    → IsRun run (past ++ step ∷ [])
 run_stays laws past step no_go puts_none waits_none no_pause no_hold no_end run is = record {
   first = is.first;
   ordered = last_run_stays laws past step no_go ∙ is.ordered;
@@ -133,20 +159,27 @@ pub record IsStill (step : Step) : Type 0 where
   pub no_end : end_of step.item ≡ None
   pub tells_none : numbers (messages step) ≡ []
 
-still_unlaunched : ReadingsGoOn → (past : History) (step : Step) → IsStill step → IsUnlaunched past → IsUnlaunched (past ++ step ∷ [])
-still_unlaunched laws past step still = unlaunched_stays laws past step still.launches_none still.no_go still.puts_none still.no_end still.tells_none
+still_unlaunched : ReadingsGoOn → (past : History) (step : Step) → IsStill step → IsUnlaunched past
+    → IsUnlaunched (past ++ step ∷ [])
+still_unlaunched laws past step still =
+    unlaunched_stays laws past step still.launches_none still.no_go still.puts_none still.no_end still.tells_none
 
-still_target : ReadingsGoOn → (past : History) (step : Step) → IsStill step → (t : Target) (u : Compiled) → IsTarget t u past → IsTarget t u (past ++ step ∷ [])
-still_target laws past step still = target_stays laws past step still.launches_none still.no_go still.sets_none still.tells_none
+still_target : ReadingsGoOn → (past : History) (step : Step) → IsStill step → (t : Target) (u : Compiled)
+    → IsTarget t u past → IsTarget t u (past ++ step ∷ [])
+still_target laws past step still =
+    target_stays laws past step still.launches_none still.no_go still.sets_none still.tells_none
 
-still_debuggee : ReadingsGoOn → (past : History) (step : Step) → IsStill step → (d : Debugged) → IsDebuggee d past → IsDebuggee d (past ++ step ∷ [])
+still_debuggee : ReadingsGoOn → (past : History) (step : Step) → IsStill step → (d : Debugged) → IsDebuggee d past
+    → IsDebuggee d (past ++ step ∷ [])
 still_debuggee laws past step still = debuggee_stays laws past step still.puts_none still.no_end
 
-still_run : ReadingsGoOn → (past : History) (step : Step) → IsStill step → (run : Ordered) → IsRun run past → IsRun run (past ++ step ∷ [])
+still_run : ReadingsGoOn → (past : History) (step : Step) → IsStill step → (run : Ordered) → IsRun run past
+    → IsRun run (past ++ step ∷ [])
 still_run laws past step still =
     run_stays laws past step still.no_go still.puts_none still.waits_none still.no_pause still.no_hold still.no_end
 
-keeps_stay : ReadingsGoOn → (p : Phase) (past : History) (step : Step) → IsStill step → Keeps p past → Keeps p (past ++ step ∷ [])
+keeps_stay : ReadingsGoOn → (p : Phase) (past : History) (step : Step) → IsStill step → Keeps p past
+    → Keeps p (past ++ step ∷ [])
 keeps_stay laws phase.Fresh past step still is = still_unlaunched laws past step still is
 keeps_stay laws (phase.Ready s) past step still is =
     (is.0 ∙ sym (settings_stay laws past step still.sets_none), still_unlaunched laws past step still is.1)
@@ -162,7 +195,8 @@ keeps_stay laws (phase.Faulted t d) past step still is =
     (still_target laws past step still t d.unit is.0, still_debuggee laws past step still d is.1)
 keeps_stay laws (phase.Ended t u) past step still is = still_target laws past step still t u.value is
 
-pub still_stays : ReadingsGoOn → (p : Phase) (past : History) (step : Step) → IsStill step → IsPhase p past → IsPhase p (past ++ step ∷ [])
+pub still_stays : ReadingsGoOn → (p : Phase) (past : History) (step : Step) → IsStill step → IsPhase p past
+    → IsPhase p (past ++ step ∷ [])
 still_stays laws p past step still is = record {
   situation_is = situation_stays laws past step still.no_mark ∙ is.situation_is;
   keeps = keeps_stay laws p past step still is.keeps;
@@ -191,10 +225,12 @@ quiet_is_still step quiet = record {
   tells_none = quiet.tells_none;
 }
 
-pub phase_stays : ReadingsGoOn → (p : Phase) (past : History) (step : Step) → IsQuiet step → IsPhase p past → IsPhase p (past ++ step ∷ [])
+pub phase_stays : ReadingsGoOn → (p : Phase) (past : History) (step : Step) → IsQuiet step → IsPhase p past
+    → IsPhase p (past ++ step ∷ [])
 phase_stays laws p past step quiet is = still_stays laws p past step (quiet_is_still step quiet) is
 
-refused_pause : (seq : ℕ) (command : CommandName) (why : Refusal) → is_pause (Some (Answer seq command (Err why))) ≡ None
+refused_pause : (seq : ℕ) (command : CommandName) (why : Refusal)
+    → is_pause (Some (Answer seq command (Err why))) ≡ None
 refused_pause seq (name.Supported supported.Pause) why = refl
 refused_pause seq _ why = refl
 

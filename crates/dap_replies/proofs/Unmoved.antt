@@ -20,8 +20,10 @@ use Rattle.dap_replies.proofs.Stays.{IsQuiet, phase_stays}
 
 pub quiet_reply :
     ReadingsGoOn → (phase : Phase) (result : Result Body Refusal) (command : Command)
-    → ((seq : ℕ) → IsQuiet (request_step (record { seq = seq; body = command }) (record { result = result; effect = nothing })))
-    → (past : History) → IsPhase phase past → RepliesIn (situation_of phase) past command (record { result = result; effect = nothing })
+    → ((seq : ℕ) → IsQuiet (request_step (record { seq = seq; body = command })
+    (record { result = result; effect = nothing })))
+    → (past : History) → IsPhase phase past → RepliesIn (situation_of phase) past command
+    (record { result = result; effect = nothing })
     → HasReplied command past (without_effect phase result)
 quiet_reply laws phase result command quiet past stands replies =
     let reply : Reply = record { result = result; effect = nothing } in
@@ -29,10 +31,13 @@ quiet_reply laws phase result command quiet past stands replies =
       reply = reply;
       replies = replies_there phase past stands command reply replies;
       gives = record { result_is = refl; effect_is = record { events_are = refl; orders_are = refl } };
-      phase_is = λ seq. phase_stays laws phase past (request_step (record { seq = seq; body = command }) reply) (quiet seq) stands;
+      phase_is =
+          λ seq. phase_stays laws phase past (request_step (record { seq = seq; body = command }) reply) (quiet seq)
+          stands;
     }
 
-no_mark : (command : Command) (result : Result Body Refusal) → LeadsNowhere command → answer_mark (name_of command) result ≡ None
+no_mark : (command : Command) (result : Result Body Refusal) → LeadsNowhere command
+    → answer_mark (name_of command) result ≡ None
 no_mark (command.Initialize asked) result leads = absurd leads
 no_mark (command.Launch asked) result leads = absurd leads
 no_mark (command.BadArguments k) result leads = absurd leads
@@ -43,13 +48,15 @@ sets_none : (command : Command) → LeadsNowhere command → initialize_argument
 sets_none (command.Initialize asked) leads = absurd leads
 sets_none _ leads = refl
 
-no_pause : (seq : ℕ) (command : Command) (result : Result Body Refusal) → LeadsNowhere command → is_pause (Some (Answer seq (name_of command) result)) ≡ None
+no_pause : (seq : ℕ) (command : Command) (result : Result Body Refusal) → LeadsNowhere command
+    → is_pause (Some (Answer seq (name_of command) result)) ≡ None
 no_pause seq (command.Pause asked) result leads = absurd leads
 no_pause seq (command.BadArguments k) result leads = absurd leads
 no_pause seq _ result leads = refl
 
 -- an answer to such a command is quiet
-pub leads_nowhere : (command : Command) (result : Result Body Refusal) → LeadsNowhere command → (seq : ℕ) → IsQuiet (request_step (record { seq = seq; body = command }) (record { result = result; effect = nothing }))
+pub leads_nowhere : (command : Command) (result : Result Body Refusal) → LeadsNowhere command → (seq : ℕ)
+    → IsQuiet (request_step (record { seq = seq; body = command }) (record { result = result; effect = nothing }))
 leads_nowhere command (Ok body) leads seq = record {
   effect_is = refl;
   no_mark = no_mark command (Ok body) leads;

@@ -27,10 +27,12 @@ without_effect phase result = record { result = result; effect = record { events
 -- The reply is right for each command that is to be refused for this reason.
 abbrev pub Refuses : Refusal → Phase → Given → Type 0
 Refuses why phase given =
-    (command : Command) (past : History) → IsPhase phase past → RepliesIn (situation_of phase) past command (refused why) → HasReplied command past given
+    (command : Command) (past : History) → IsPhase phase past
+    → RepliesIn (situation_of phase) past command (refused why) → HasReplied command past given
 
 -- The reply is right for each command that is to be answered with this result and has no effect.
 abbrev pub Answers : Result Body Refusal → Phase → Given → Type 0
 Answers result phase given =
     (command : Command) → LeadsNowhere command → (past : History) → IsPhase phase past
-    → RepliesIn (situation_of phase) past command (record { result = result; effect = nothing }) → HasReplied command past given
+    → RepliesIn (situation_of phase) past command (record { result = result; effect = nothing })
+    → HasReplied command past given

@@ -19,18 +19,20 @@ use Rattle.dap_phase.specs.declared.phase.Target.{Target}
 use Rattle.dap_replies.specs.declared.effect.Reply.{Reply}
 
 -- after these events the debuggee goes on in a further run
-pub record HasGone (t : Target) (d : Debugged) (m : Mode) (body : Body) (events : List EventBody) (given : Reply) : Type 0 where
+pub record HasGone (t : Target) (d : Debugged) (m : Mode) (body : Body) (events : List EventBody) (given : Reply) : Type
+    0 where
   pub result_is : given.result ≡ Ok body
   pub events_are : given.effect.events ≡ events
   pub orders_are : option_to_list (option_map plain_order given.effect.order) ≡ Go (heading (t.runs + 1) d m) ∷ []
   pub phase_is : given.effect.phase ≡ phase.Running (record t { runs = t.runs + 1 }) (begun d m)
 
 -- after these events the program stops where it stands
-pub record HasStopped (t : Target) (d : Debugged) (reason : Reason) (events : List EventBody) (given : Reply) : Type 0 where
-  pub result_is : given.result ≡ Ok body.None
-  pub events_are : given.effect.events ≡ events ++ stops (stop_of reason)
-  pub order_is : given.effect.order ≡ None
-  pub phase_is : given.effect.phase ≡ phase.Stopped t d
+pub record HasStopped (t : Target) (d : Debugged) (reason : Reason) (events : List EventBody) (given : Reply) : Type 0
+  where
+    pub result_is : given.result ≡ Ok body.None
+    pub events_are : given.effect.events ≡ events ++ stops (stop_of reason)
+    pub order_is : given.effect.order ≡ None
+    pub phase_is : given.effect.phase ≡ phase.Stopped t d
 
 -- the program of this target has ended
 abbrev pub IsOver : Target → Compiled → Phase → Type 0
@@ -48,7 +50,8 @@ pub record HasEnded (t : Target) (u : Compiled) (body : Body) (given : Reply) : 
 pub record WaitsToPause (t : Target) (run : Ordered) (given : Reply) : Type 0 where
   pub result_is : given.result ≡ Ok body.None
   pub events_are : given.effect.events ≡ []
-  pub orders_are : option_to_list (option_map plain_order given.effect.order) ≡ (if run.held || goes_back run.mode then [] else Hold t.runs ∷ [])
+  pub orders_are : option_to_list (option_map plain_order given.effect.order) ≡ (if run.held
+      || goes_back run.mode then [] else Hold t.runs ∷ [])
   pub phase_is : given.effect.phase ≡ phase.Running t (asked_back (record run { waiting_pause = true }))
 
 -- the program stands

@@ -15,14 +15,22 @@ use Rattle.dap_replies.specs.declared.effect.Reply.{Reply as Given}
 -- the target of a launched program, before any run was ordered
 abbrev pub target_of : InitializeArguments → LaunchArguments → Target
 target_of settings arguments =
-    record { settings = settings; path = arguments.program; stop_on_entry = arguments.stop_on_entry; runs = 0; told = 0 }
+    record {
+      settings =
+          settings;
+      path = arguments.program;
+      stop_on_entry = arguments.stop_on_entry;
+      runs = 0;
+      told = 0;
+    }
 
 -- a program at its start, under the empty plan
 abbrev pub unstarted : Compiled → Debugged
 unstarted unit = record { unit = unit; position = 0; breakpoints = []; counted_from = 0; next = 0; trail = new_trail }
 
 -- the program of the tree waits for its configuration
-pub record HasBegun (settings : InitializeArguments) (arguments : LaunchArguments) (tree : Tree) (given : Given) : Type 0 where
+pub record HasBegun (settings : InitializeArguments) (arguments : LaunchArguments) (tree : Tree) (given : Given) : Type
+    0 where
   pub unit : Compiled
   pub tree_is : unit.tree ≡ tree
   pub result_is : given.result ≡ Ok body.None

@@ -15,7 +15,8 @@ use Rattle.dap_phase.specs.declared.phase.Phase.TheVariants as phase
 use Rattle.dap_replies.specs.declared.effect.Reply.{Reply as Given}
 
 -- Lines of the program's source have these answers and these breakpoints.
-pub record AreAnswered (main : Block) (less : ℕ) (lines : List SourceBreakpoint) (answers : List BreakpointAnswer) (breakpoints : List Breakpoint) : Type 0 where
+pub record AreAnswered (main : Block) (less : ℕ) (lines : List SourceBreakpoint) (answers : List BreakpointAnswer)
+    (breakpoints : List Breakpoint) : Type 0 where
   pub resolutions : List Resolution
   pub resolved : IsResolved main less lines resolutions breakpoints
   pub answers_are : answers ≡ map (answer_of main less) resolutions
@@ -36,4 +37,5 @@ is_other _ path = false
 
 -- the reply with these answers, this order or none, and no events
 abbrev pub with_order : List BreakpointAnswer → Option Order → Phase → Given
-with_order answers order phase = record { result = Ok (body.Breakpoints answers); effect = record { events = []; order = order; phase = phase } }
+with_order answers order phase =
+    record { result = Ok (body.Breakpoints answers); effect = record { events = []; order = order; phase = phase } }

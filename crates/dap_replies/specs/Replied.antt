@@ -31,11 +31,13 @@ step_of item answer effect = record { item = item; answer = answer; effect = eff
 
 -- the step of a request with this reply
 abbrev pub request_step : Request → Reply → Step
-request_step request reply = step_of (Content (Some request)) (Some (Answer request.seq (name_of request.body) reply.result)) reply.effect
+request_step request reply =
+    step_of (Content (Some request)) (Some (Answer request.seq (name_of request.body) reply.result)) reply.effect
 
 -- the step of a launch with its file and this reply
 abbrev pub launch_step : Launch → Option (List ℕ) → Reply → Step
-launch_step launch file reply = step_of (Loaded launch file) (Some (Answer launch.seq (name.Supported supported.Launch) reply.result)) reply.effect
+launch_step launch file reply =
+    step_of (Loaded launch file) (Some (Answer launch.seq (name.Supported supported.Launch) reply.result)) reply.effect
 
 -- the step of an accepted report with this effect
 abbrev pub report_step : PlainReport → Effect → Step
@@ -58,7 +60,8 @@ pub record HasReplied (command : Command) (past : History) (given : Given) : Typ
   pub reply : Reply
   pub replies : RepliesIn (situation past) past command reply
   pub gives : Gives given reply
-  pub phase_is : (seq : ℕ) → IsPhase given.effect.phase (past ++ request_step (record { seq = seq; body = command }) reply ∷ [])
+  pub phase_is : (seq : ℕ) → IsPhase given.effect.phase
+      (past ++ request_step (record { seq = seq; body = command }) reply ∷ [])
 
 -- the contract of a function that replies: the same for each history that the phase stood for
 abbrev pub Replies : Command → Phase → Given → Type 0

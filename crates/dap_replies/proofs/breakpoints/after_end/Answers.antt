@@ -13,7 +13,12 @@ pub returns : goal.returns
 returns c past is =
     let plan = plain_breakpoints c.in_ok-answers.field-0-1.value.breakpoints in
     c.answer.ensures (command.SetBreakpoints c.args.asked.now) tt past is
-    (sets_here past c.args.target c.args.unit.value c.args.asked.now c.in_ok-answers.answers plan Ended is.situation_is is.keeps (record {
+    (sets_here past c.args.target c.args.unit.value c.args.asked.now c.in_ok-answers.answers plan Ended is.situation_is
+    is.keeps (record {
       same = c.requires.same;
-      answered = subst (λ (u : Compiled). AreAnswered (program_of u) (offset c.args.target.settings.lines_start_at_1) c.args.asked.now.breakpoints c.in_ok-answers.answers (plain_breakpoints c.in_ok-answers.field-0-1.value.breakpoints)) c.deref.ensures c.in_ok-answers.ensures.answered;
+      answered =
+          subst (λ (u : Compiled). AreAnswered (program_of u) (offset c.args.target.settings.lines_start_at_1)
+          c.args.asked.now.breakpoints c.in_ok-answers.answers
+          (plain_breakpoints c.in_ok-answers.field-0-1.value.breakpoints)) c.deref.ensures
+          c.in_ok-answers.ensures.answered;
     }))

@@ -14,9 +14,15 @@ use Rattle.dap_replies.proofs.breakpoints.before_start.Goals as goal
 pub returns : goal.returns
 returns c =
     let plan = plain_breakpoints c.in_ok-answers.plan.value.breakpoints in
-    subst (λ given. Replies (command.SetBreakpoints c.args.asked.now) (phase_is.Configuring c.args.target c.args.debuggee) given) (sym c.answered.ensures)
-    (put_in_before_start c.reading_laws.ensures c.args.target c.args.debuggee c.set_plan.new.self c.args.asked.now c.in_ok-answers.answers plan
+    subst (λ given. Replies (command.SetBreakpoints c.args.asked.now)
+    (phase_is.Configuring c.args.target c.args.debuggee) given) (sym c.answered.ensures)
+    (put_in_before_start c.reading_laws.ensures c.args.target c.args.debuggee c.set_plan.new.self c.args.asked.now
+    c.in_ok-answers.answers plan
     (record {
       same = c.requires.same;
-      answered = subst (λ (u : Compiled). AreAnswered (program_of u) (offset c.args.target.settings.lines_start_at_1) c.args.asked.now.breakpoints c.in_ok-answers.answers (plain_breakpoints c.in_ok-answers.plan.value.breakpoints)) (c.deref.ensures ∙ c.unit.ensures) c.in_ok-answers.ensures.answered;
+      answered =
+          subst (λ (u : Compiled). AreAnswered (program_of u) (offset c.args.target.settings.lines_start_at_1)
+          c.args.asked.now.breakpoints c.in_ok-answers.answers
+          (plain_breakpoints c.in_ok-answers.plan.value.breakpoints)) (c.deref.ensures ∙ c.unit.ensures)
+          c.in_ok-answers.ensures.answered;
     }) (subst (λ (x : Debugged). x.next ≡ x.position) c.debuggee.view_is c.debuggee.invariant.here) c.set_plan.ensures)

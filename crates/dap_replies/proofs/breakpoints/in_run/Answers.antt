@@ -15,11 +15,18 @@ use Rattle.dap_replies.proofs.breakpoints.in_run.Goals as goal
 pub returns : goal.returns
 returns c =
     let plan = plain_breakpoints c.in_ok-answers.plan.value.breakpoints in
-    subst (λ given. Replies (command.SetBreakpoints c.args.asked.now) (phase_is.Running c.args.target c.args.run) given) (sym c.answered.ensures)
-    (waits_in_run c.reading_laws.ensures c.args.target c.args.run c.hold-order.new.self c.args.asked.now c.in_ok-answers.answers plan c.hold-order.result
+    subst (λ given. Replies (command.SetBreakpoints c.args.asked.now) (phase_is.Running c.args.target c.args.run) given)
+    (sym c.answered.ensures)
+    (waits_in_run c.reading_laws.ensures c.args.target c.args.run c.hold-order.new.self c.args.asked.now
+    c.in_ok-answers.answers plan c.hold-order.result
     (record {
       same = c.requires.same;
-      answered = subst (λ (u : Compiled). AreAnswered (program_of u) (offset c.args.target.settings.lines_start_at_1) c.args.asked.now.breakpoints c.in_ok-answers.answers (plain_breakpoints c.in_ok-answers.plan.value.breakpoints)) (c.deref.ensures ∙ c.unit.ensures) c.in_ok-answers.ensures.answered;
+      answered =
+          subst (λ (u : Compiled). AreAnswered (program_of u) (offset c.args.target.settings.lines_start_at_1)
+          c.args.asked.now.breakpoints c.in_ok-answers.answers
+          (plain_breakpoints c.in_ok-answers.plan.value.breakpoints)) (c.deref.ensures ∙ c.unit.ensures)
+          c.in_ok-answers.ensures.answered;
     })
-    (c.hold-order.ensures.order ∙ ap (λ (r : Ordered). once (r.held || goes_back r.mode) c.args.target.runs) c.wait_for.ensures)
+    (c.hold-order.ensures.order ∙ ap (λ (r : Ordered). once (r.held || goes_back r.mode) c.args.target.runs)
+    c.wait_for.ensures)
     (c.hold-order.ensures.held ∙ ap asked_back c.wait_for.ensures))

@@ -9,4 +9,6 @@ index-requires c = omega (arith, unit_length c.args.unit.now, (rw c.in-At.is at 
 
 pub returns-in-At : goal.returns-in-At
 returns-in-At c =
-    rw c.in-At.is (ap answer_is.At (c.from.ensures ∙ c.saturating_sub.ensures ∙ ap (λ k. k - c.args.less) (unit_line c.args.unit.now c.in-At.step c.index.result.now (rw c.in-At.is at c.requires) c.index.ensures)))
+    rw c.in-At.is (ap answer_is.At (c.from.ensures ∙ c.saturating_sub.ensures
+    ∙ ap (λ k. k - c.args.less) (unit_line c.args.unit.now c.in-At.step c.index.result.now
+    (rw c.in-At.is at c.requires) c.index.ensures)))

@@ -4,4 +4,5 @@ use Rattle.dap_history.specs.Breakpoints.{answer_of}
 use Rattle.dap_replies.proofs.breakpoints.line_answers.Given as goal
 
 abbrev pub invariant-loop-resolution : goal.invariant-loop-resolution
-invariant-loop-resolution l = l.answers.items ≡ map (answer_of (program_of l.unit) l.less) (take l.resolution-index l.resolutions)
+invariant-loop-resolution l =
+    l.answers.items ≡ map (answer_of (program_of l.unit) l.less) (take l.resolution-index l.resolutions)

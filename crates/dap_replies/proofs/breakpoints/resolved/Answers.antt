@@ -8,7 +8,14 @@ use Rattle.dap_replies.proofs.breakpoints.resolved.Goals as goal
 
 pub resolve-requires : goal.resolve-requires
 resolve-requires c =
-    omega (arith, c.requires.0, ap length c.as_slice.ensures, ap length c.deref.ensures.value, asked_length c.line_offset-less.result c.as_slice.result.now c.in_ok-lines.lines.items c.in_ok-lines.ensures)
+    omega (
+      arith,
+      c.requires.0,
+      ap length c.as_slice.ensures,
+      ap length c.deref.ensures.value,
+      asked_length
+          c.line_offset-less.result c.as_slice.result.now c.in_ok-lines.lines.items c.in_ok-lines.ensures,
+    )
 
 pub asked_lines-requires-clause-within : goal.asked_lines-requires-clause-within
 asked_lines-requires-clause-within c = subst (All LineIsWithin) (sym c.as_slice.ensures) c.requires.1
@@ -16,4 +23,5 @@ asked_lines-requires-clause-within c = subst (All LineIsWithin) (sym c.as_slice.
 pub line_answers-requires : goal.line_answers-requires
 line_answers-requires c =
     subst (λ l. All (IsAtStep (program_of c.args.unit.now)) l) (sym c.deref-2.ensures.value)
-    (at_steps (program_of c.args.unit.now) _ c.in_ok-plan.resolutions.items (plain_breakpoints c.in_ok-plan.plan.breakpoints) c.in_ok-plan.ensures.resolutions)
+    (at_steps (program_of c.args.unit.now) _ c.in_ok-plan.resolutions.items
+    (plain_breakpoints c.in_ok-plan.plan.breakpoints) c.in_ok-plan.ensures.resolutions)

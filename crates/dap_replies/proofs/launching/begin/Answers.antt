@@ -10,5 +10,7 @@ returns c = record {
   result_is = refl;
   events_are = c.new-3.ensures ∙ c.in_ok-events.ensures.items;
   no_order = refl;
-  phase_is = ap (λ d. phase.Configuring (target_of c.args.settings c.args.arguments) d) (c.in_ok-debuggee.ensures ∙ ap unstarted c.in_ok-unit-in-Ok.ensures.ok);
+  phase_is =
+      ap (λ d. phase.Configuring (target_of c.args.settings c.args.arguments) d)
+      (c.in_ok-debuggee.ensures ∙ ap unstarted c.in_ok-unit-in-Ok.ensures.ok);
 }

@@ -12,24 +12,32 @@ use Rattle.dap_replies.proofs.launching.launch.Goals as goal
 
 pub returns-in_default : goal.returns-in_default
 returns-in_default c = λ past waits.
-    subst (λ file. HasLaunched c.args.launch (option_map (λ bytes. bytes.items) file) past c.refuse.result) (sym c.in_default.is)
-    (launch_refused c.reading_laws.ensures c.args.settings c.args.launch None refusal.CannotRead refl c.refuse.result c.refuse.ensures.is past waits)
+    subst (λ file. HasLaunched c.args.launch (option_map (λ bytes. bytes.items) file) past c.refuse.result)
+    (sym c.in_default.is)
+    (launch_refused c.reading_laws.ensures c.args.settings c.args.launch None refusal.CannotRead refl c.refuse.result
+    c.refuse.ensures.is past waits)
 
 pub returns-in-Ok : goal.returns-in-Ok
 returns-in-Ok c = IfOk-weaker c.begin.result _ _ (λ given begun past waits.
     subst (λ file. HasLaunched c.args.launch (option_map (λ bytes. bytes.items) file) past given) (sym c.in-Some.is)
-    (launch_begun c.reading_laws.ensures c.args.settings c.args.launch c.in-Some.text.items c.in-Ok.tree (c.in-Ok.ensures.kept ∙ c.as_slice.ensures.value)
-    (subst (λ text. IsTreeOf text (plain_block c.in-Ok.tree.program)) c.as_slice.ensures.value c.in-Ok.ensures.tree) given begun past waits)) c.begin.ensures
+    (launch_begun c.reading_laws.ensures c.args.settings c.args.launch c.in-Some.text.items c.in-Ok.tree
+    (c.in-Ok.ensures.kept ∙ c.as_slice.ensures.value)
+    (subst (λ text. IsTreeOf text (plain_block c.in-Ok.tree.program)) c.as_slice.ensures.value c.in-Ok.ensures.tree)
+    given begun past waits)) c.begin.ensures
 
 pub returns-in-Err-InText : goal.returns-in-Err-InText
 returns-in-Err-InText c = λ past waits.
-    subst (λ file. HasLaunched c.args.launch (option_map (λ bytes. bytes.items) file) past c.refuse-in-Err-InText.result) (sym c.in-Some.is)
-    (launch_refused c.reading_laws.ensures c.args.settings c.args.launch (Some c.in-Some.text.items) (syntax c.in-Err-InText.kind c.in-Err-InText.place)
+    subst (λ file. HasLaunched c.args.launch (option_map (λ bytes. bytes.items) file) past
+    c.refuse-in-Err-InText.result) (sym c.in-Some.is)
+    (launch_refused c.reading_laws.ensures c.args.settings c.args.launch (Some c.in-Some.text.items)
+    (syntax c.in-Err-InText.kind c.in-Err-InText.place)
     (inl (record {
       kind = c.in-Err-InText.kind;
       place = c.in-Err-InText.place;
       first = subst (λ text. IsFirstFault text c.in-Err-InText.kind c.in-Err-InText.place) c.as_slice.ensures.value
-          (subst (FaultIs (IsFirstFault c.as_slice.result.now)) c.in-Err-InText.field-0-is c.in-Err-InText.ensures.fault);
+          (subst (FaultIs (IsFirstFault c.as_slice.result.now)) c.in-Err-InText.field-0-is
+          c.in-Err-InText.ensures.fault);
       reply_is = refl;
     })) c.refuse-in-Err-InText.result
-    (c.refuse-in-Err-InText.ensures.is ∙ ap (λ why. without_effect (phase.Ready c.args.settings) (Err why)) c.syntax.ensures) past waits)
+    (c.refuse-in-Err-InText.ensures.is ∙ ap (λ why. without_effect (phase.Ready c.args.settings) (Err why))
+    c.syntax.ensures) past waits)

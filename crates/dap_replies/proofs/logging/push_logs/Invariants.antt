@@ -5,4 +5,6 @@ use Rattle.dap_history.specs.Replies.{told_logs}
 use Rattle.dap_replies.proofs.logging.push_logs.Given as goal
 
 abbrev pub invariant-loop-log : goal.invariant-loop-log
-invariant-loop-log l = l.events.items ≡ l.fn.events.items ++ told_logs (breakpoints_of (option_map arc_value l.plan)) (take l.log-index l.logs)
+invariant-loop-log l =
+    l.events.items ≡ l.fn.events.items ++ told_logs (breakpoints_of (option_map arc_value l.plan))
+    (take l.log-index l.logs)

@@ -5,4 +5,5 @@ use Rattle.dap_replies.proofs.refusing.conclude.Goals as goal
 
 pub returns : goal.returns
 returns c = subst (Answers c.args.given c.args.phase) (sym c.without_effect.ensures)
-    (λ command leads. quiet_reply c.reading_laws.ensures c.args.phase c.args.given command (leads_nowhere command c.args.given leads))
+    (λ command leads. quiet_reply c.reading_laws.ensures c.args.phase c.args.given command
+    (leads_nowhere command c.args.given leads))

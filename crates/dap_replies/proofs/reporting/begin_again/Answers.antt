@@ -26,13 +26,18 @@ returns c = λ past is.
     rw (c.in_ok-run.ensures.run, c.take_back-debuggee.ensures, c.mode-mode.ensures) in
     record {
       does = record {
-        events_are = c.new.ensures ∙ c.in_ok-events.ensures ∙ outputs_as t c.args.run.unit c.args.report past is.keeps.0;
-        orders_are = ap (λ o. o ∷ []) (c.in_ok-run.ensures.order ∙ ap Go (ordered ∙ back_heading t c.args.run c.args.report past c.requires.goes_on is));
+        events_are =
+            c.new.ensures ∙ c.in_ok-events.ensures ∙ outputs_as t c.args.run.unit c.args.report past is.keeps.0;
+        orders_are =
+            ap (λ o. o ∷ []) (c.in_ok-run.ensures.order ∙ ap Go
+            (ordered ∙ back_heading t c.args.run c.args.report past c.requires.goes_on is));
       };
       phase_is =
           subst (λ p. IsPhase p (past ++ report_step r (goes_on past r) ∷ []))
-          (sym (ap (λ (u : Target). phase.Running (record u { runs = c.in_ok-number.number }) c.in_ok-run.run') c.tell-target.ensures
-          ∙ ap (λ n. phase.Running (record t { runs = n; told = (with_told t c.args.report).told }) c.in_ok-run.run') number
+          (sym (ap (λ (u : Target). phase.Running (record u { runs = c.in_ok-number.number }) c.in_ok-run.run')
+          c.tell-target.ensures
+          ∙ ap (λ n. phase.Running (record t { runs = n; told = (with_told t c.args.report).told }) c.in_ok-run.run')
+          number
           ∙ ap (phase.Running (with_next_run t (with_told t c.args.report).told)) begins))
           (report_begins_again c.reading_laws.ensures t c.args.run c.args.report past c.requires.goes_on is);
     }

@@ -7,7 +7,6 @@ use Rattle.dap_history.specs.Reports.{outputs}
 use Rattle.dap_phase.specs.declared.phase.Phase.TheVariants as phase
 use Rattle.dap_phase.specs.Phases.{IsTarget, IsPhase}
 use Rattle.dap_replies.specs.Replied.{report_step}
-use Rattle.dap_replies.specs.Reporting.{with_told}
 use Rattle.dap_replies.proofs.ReportSteps.{outputs_as, report_ends}
 use Rattle.dap_replies.proofs.reporting.end.Goals as goal
 
@@ -23,7 +22,8 @@ returns c = λ past is.
             ∙ c.in_ok-push-2.ensures.items
             ∙ ap (λ es. es ++ event.Terminated ∷ []) c.in_ok-push.ensures.items
             ∙ append_assoc c.in_ok-events.events.items (event.Exited 0 ∷ []) (event.Terminated ∷ [])
-            ∙ ap (λ es. es ++ ends 0) (c.in_ok-events.ensures ∙ outputs_as c.args.target c.args.run.unit c.args.report.now past is.keeps.0);
+            ∙ ap (λ es. es ++ ends 0) (c.in_ok-events.ensures
+            ∙ outputs_as c.args.target c.args.run.unit c.args.report.now past is.keeps.0);
         orders_are = refl;
       };
       phase_is =

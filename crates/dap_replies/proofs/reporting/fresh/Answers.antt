@@ -11,5 +11,16 @@ returns-then-skipped-numbers-clause-few c =
     let numbers = c.numbers-numbers.result.now in
     let skipped = c.saturating_sub-skipped.result in
     let ends : c.summary.result.end < 2 ^ 64 = search rules in
-    let fits = told_fits (plain_report report) c.summary.ensures.lawful told (2 ^ 64) c.ranges.told.fits (omega (arith, ends, ap (λ s. s.end) c.summary.ensures.is)) in
-    omega (arith, fits, length-drop (told - report.before) report.numbers, length-take-le (length numbers - skipped) (drop skipped numbers) (omega (arith, length-drop skipped numbers)), ap length c.numbers-numbers.ensures, c.saturating_sub-skipped.ensures, ap (λ s. s.before) c.summary.ensures.is)
+    let fits =
+    told_fits (plain_report report) c.summary.ensures.lawful told (2 ^ 64) c.ranges.told.fits
+    (omega (arith, ends, ap (λ s. s.end) c.summary.ensures.is)) in
+    omega (
+      arith,
+      fits,
+      length-drop (told - report.before) report.numbers,
+      length-take-le (length numbers - skipped)
+          (drop skipped numbers) (omega (arith, length-drop skipped numbers)),
+      ap length c.numbers-numbers.ensures,
+      c.saturating_sub-skipped.ensures,
+      ap (λ s. s.before) c.summary.ensures.is,
+    )

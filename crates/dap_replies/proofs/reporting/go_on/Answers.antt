@@ -13,12 +13,16 @@ pub returns : goal.returns
 returns c = λ past is.
     let r = plain_report c.args.report.now in record {
       does = record {
-        events_are = c.new.ensures ∙ c.in_ok-events.ensures ∙ outputs_as c.args.target c.args.run.unit c.args.report.now past is.keeps.0;
+        events_are =
+            c.new.ensures ∙ c.in_ok-events.ensures ∙ outputs_as c.args.target c.args.run.unit c.args.report.now past
+            is.keeps.0;
         orders_are = refl;
       };
       phase_is =
           subst (λ p. IsPhase p (past ++ report_step r (reporting (outputs past r)) ∷ []))
           (sym (ap (λ t. phase.Running t c.go_on_from.new.self) c.tell-target.ensures
-          ∙ ap (phase.Running (with_told c.args.target c.args.report.now)) (c.go_on_from.ensures ∙ ap (λ n. record c.args.run { position = n }) (ap (λ s. s.end) c.summary.ensures.is))))
+          ∙ ap (phase.Running (with_told c.args.target c.args.report.now))
+          (c.go_on_from.ensures ∙ ap (λ n. record c.args.run { position = n })
+          (ap (λ s. s.end) c.summary.ensures.is))))
           (report_goes_on c.reading_laws.ensures c.args.target c.args.run c.args.report.now past is);
     }

@@ -5,7 +5,7 @@ use Rattle.dap_history.specs.Reports.{stands}
 use Rattle.dap_phase.specs.Phases.{IsPhase}
 use Rattle.dap_replies.specs.Replied.{report_step}
 use Rattle.dap_replies.specs.Reporting.{with_told, standing}
-use Rattle.dap_replies.proofs.ReportSteps.{back, outputs_as, report_stands}
+use Rattle.dap_replies.proofs.ReportSteps.{outputs_as, report_stands}
 use Rattle.dap_replies.proofs.reporting.stand.Goals as goal
 
 pub returns : goal.returns
@@ -16,7 +16,8 @@ returns c = λ past is.
         events_are =
             c.new.ensures
             ∙ c.in_ok-push.ensures.items
-            ∙ ap (λ es. es ++ stops c.args.reason) (c.in_ok-events.ensures ∙ outputs_as c.args.target c.args.run.unit c.args.report past is.keeps.0);
+            ∙ ap (λ es. es ++ stops c.args.reason)
+            (c.in_ok-events.ensures ∙ outputs_as c.args.target c.args.run.unit c.args.report past is.keeps.0);
         orders_are = refl;
       };
       phase_is =
@@ -24,5 +25,6 @@ returns c = λ past is.
           (sym (c.standing.ensures
           ∙ ap (λ t. standing t c.take_back-debuggee.result c.args.reason) c.tell-target.ensures
           ∙ ap (λ d. standing (with_told c.args.target c.args.report) d c.args.reason) c.take_back-debuggee.ensures))
-          (report_stands c.reading_laws.ensures c.args.target c.args.run c.args.report c.args.reason past c.requires.goes_on is);
+          (report_stands c.reading_laws.ensures c.args.target c.args.run c.args.report c.args.reason past
+          c.requires.goes_on is);
     }

@@ -1,10 +1,7 @@
 use Rattle.std.proofs.Common.{[], ◌∙◌, subst}
 use Rattle.std.proofs.lemmas.Result.{IfOk-weaker}
 use Rattle.dap_msg.specs.declared.outgoing.Body.TheVariants as body
-use Rattle.dap_msg.specs.declared.outgoing.Refusal.TheVariants as refusal
 use Rattle.dbg_plan.specs.declared.mode.Mode.{Mode}
-use Rattle.dap_history.specs.declared.situation.Situation.TheVariants as situation_is
-use Rattle.dap_history.specs.Replies.{refused}
 use Rattle.dap_phase.specs.declared.phase.Phase.TheVariants as phase
 use Rattle.dap_replies.specs.Going.{HasGone}
 use Rattle.dap_replies.specs.Replied.{Replies}
@@ -21,7 +18,10 @@ pub returns : goal.returns
 returns c =
     let t = c.args.target in
     let d = c.args.debuggee in
-    IfOk-weaker c.go.result (HasGone t d c.retreat_mode.result body.None c.new.result.items) (Replies (command.Retreat c.args.kind c.args.asked) (phase.Stopped t d))
-    (λ given gone past is. returns_there c.reading_laws.ensures t d c.args.kind c.args.asked past given c.if-asked-ne1.false
-    (subst (λ (m : Mode). HasGone t d m body.None [] given) c.retreat_mode.ensures (subst (λ es. HasGone t d c.retreat_mode.result body.None es given) c.new.ensures.items gone)) is)
+    IfOk-weaker c.go.result (HasGone t d c.retreat_mode.result body.None c.new.result.items)
+    (Replies (command.Retreat c.args.kind c.args.asked) (phase.Stopped t d))
+    (λ given gone past is. returns_there c.reading_laws.ensures t d c.args.kind c.args.asked past given
+    c.if-asked-ne1.false
+    (subst (λ (m : Mode). HasGone t d m body.None [] given) c.retreat_mode.ensures
+    (subst (λ es. HasGone t d c.retreat_mode.result body.None es given) c.new.ensures.items gone)) is)
     c.go.ensures

@@ -4,4 +4,5 @@ use Rattle.dap_replies.proofs.running.configuration_done.Goals as goal
 
 pub returns-in_default : goal.returns-in_default
 returns-in_default c = λ past is.
-    c.refuse.ensures.refuses command_is.ConfigurationDone past is (not_configuring c.args.phase past c.in_default.not-Configuring)
+    c.refuse.ensures.refuses command_is.ConfigurationDone past is
+    (not_configuring c.args.phase past c.in_default.not-Configuring)

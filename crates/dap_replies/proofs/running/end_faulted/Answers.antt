@@ -1,7 +1,4 @@
 use Rattle.std.proofs.lemmas.Result.{IfOk-weaker}
-use Rattle.dap_msg.specs.declared.outgoing.Refusal.TheVariants as refusal
-use Rattle.dap_history.specs.declared.situation.Situation.TheVariants as situation_is
-use Rattle.dap_history.specs.Replies.{refused}
 use Rattle.dap_phase.specs.declared.phase.Phase.TheVariants as phase
 use Rattle.dap_replies.specs.Going.{HasEnded}
 use Rattle.dap_replies.specs.Replied.{Replies}
@@ -19,6 +16,8 @@ pub returns : goal.returns
 returns c =
     let t = c.args.target in
     let d = c.args.debuggee in
-    IfOk-weaker c.end.result (HasEnded t d.unit c.resume_body.result) (Replies (command.Resume c.args.kind c.args.asked) (phase.Faulted t d))
-    (λ given ended past is. ends_faulted c.reading_laws.ensures t d c.resume_body.result c.args.kind c.args.asked past given c.if-asked-ne1.false c.resume_body.ensures ended is)
+    IfOk-weaker c.end.result (HasEnded t d.unit c.resume_body.result)
+    (Replies (command.Resume c.args.kind c.args.asked) (phase.Faulted t d))
+    (λ given ended past is. ends_faulted c.reading_laws.ensures t d c.resume_body.result c.args.kind c.args.asked past
+    given c.if-asked-ne1.false c.resume_body.ensures ended is)
     c.end.ensures

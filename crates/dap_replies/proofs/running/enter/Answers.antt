@@ -14,9 +14,13 @@ returns-in-Some c =
     let t = c.args.target in
     let d = c.args.unstarted in
     let at = c.consider-reason in
-    IfOk-weaker c.stop.result (HasStopped t at.result.1 c.in-Some.reason c.in_ok-events.events.items) (Replies command.ConfigurationDone (phase.Configuring t d))
-    (λ given stopped past is. enters_due c.reading_laws.ensures t d at.result.1 c.first_mode.result c.in-Some.reason c.in_ok-events.events.items past given at.ensures.considered c.first_mode.ensures (sym c.in-Some.is ∙ at.ensures.due)
-    (told_there d at.result.1 at.new.logs c.in_ok-events.events.items at.ensures.considered at.ensures.logs c.in_ok-events.ensures) stopped is)
+    IfOk-weaker c.stop.result (HasStopped t at.result.1 c.in-Some.reason c.in_ok-events.events.items)
+    (Replies command.ConfigurationDone (phase.Configuring t d))
+    (λ given stopped past is. enters_due c.reading_laws.ensures t d at.result.1 c.first_mode.result c.in-Some.reason
+    c.in_ok-events.events.items past given at.ensures.considered c.first_mode.ensures
+    (sym c.in-Some.is ∙ at.ensures.due)
+    (told_there d at.result.1 at.new.logs c.in_ok-events.events.items at.ensures.considered at.ensures.logs
+    c.in_ok-events.ensures) stopped is)
     c.stop.ensures
 
 pub returns : goal.returns
@@ -24,7 +28,11 @@ returns c =
     let t = c.args.target in
     let d = c.args.unstarted in
     let at = c.consider-reason in
-    IfOk-weaker c.go.result (HasGone t at.result.1 mode.Continue body.None c.in_ok-events.events.items) (Replies command.ConfigurationDone (phase.Configuring t d))
-    (λ given gone past is. enters_running c.reading_laws.ensures t d at.result.1 c.first_mode.result c.in_ok-events.events.items past given at.ensures.considered c.first_mode.ensures (sym c.in-None.is ∙ at.ensures.due)
-    (told_there d at.result.1 at.new.logs c.in_ok-events.events.items at.ensures.considered at.ensures.logs c.in_ok-events.ensures) gone is)
+    IfOk-weaker c.go.result (HasGone t at.result.1 mode.Continue body.None c.in_ok-events.events.items)
+    (Replies command.ConfigurationDone (phase.Configuring t d))
+    (λ given gone past is. enters_running c.reading_laws.ensures t d at.result.1 c.first_mode.result
+    c.in_ok-events.events.items past given at.ensures.considered c.first_mode.ensures
+    (sym c.in-None.is ∙ at.ensures.due)
+    (told_there d at.result.1 at.new.logs c.in_ok-events.events.items at.ensures.considered at.ensures.logs
+    c.in_ok-events.ensures) gone is)
     c.go.ensures

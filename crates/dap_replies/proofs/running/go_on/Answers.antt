@@ -21,7 +21,13 @@ returns c =
     let t = c.args.target in
     let d = c.args.debuggee in
     let standing : c.machine.result.now ≡ machine_of d = c.machine.ensures ∙ ap machine_of c.debuggee.ensures.same in
-    let depth = depth_there c.machine.result.now c.depth.result c.depth.ensures.there c.depth.ensures.depth ∙ ap (λ (m : Standing). depth_at (program_of m.unit) m.position) standing in
-    IfOk-weaker c.go.result (HasGone t d c.resume_mode-mode.result c.resume_body.result c.new.result.items) (Replies (command.Resume c.args.kind c.args.asked) (phase.Stopped t d))
-    (λ given gone past is. resumes_there c.reading_laws.ensures t d c.resume_mode-mode.result c.resume_body.result c.args.kind c.args.asked past given c.if-asked-ne1.false c.resume_body.ensures (c.resume_mode-mode.ensures ∙ ap (mode_of c.args.kind) depth) (subst (λ es. HasGone t d c.resume_mode-mode.result c.resume_body.result es given) c.new.ensures.items gone) is)
+    let depth =
+    depth_there c.machine.result.now c.depth.result c.depth.ensures.there c.depth.ensures.depth
+    ∙ ap (λ (m : Standing). depth_at (program_of m.unit) m.position) standing in
+    IfOk-weaker c.go.result (HasGone t d c.resume_mode-mode.result c.resume_body.result c.new.result.items)
+    (Replies (command.Resume c.args.kind c.args.asked) (phase.Stopped t d))
+    (λ given gone past is. resumes_there c.reading_laws.ensures t d c.resume_mode-mode.result c.resume_body.result
+    c.args.kind c.args.asked past given c.if-asked-ne1.false c.resume_body.ensures
+    (c.resume_mode-mode.ensures ∙ ap (mode_of c.args.kind) depth)
+    (subst (λ es. HasGone t d c.resume_mode-mode.result c.resume_body.result es given) c.new.ensures.items gone) is)
     c.go.ensures
