@@ -54,13 +54,18 @@ begins_longer past item new after = (after.step ∷ [], sym after.new_is)
 messages_begin : (past new : History) → Begins past new → Begins (messages_of past) (messages_of new)
 messages_begin past new is = (messages_of is.0, sym (flat_map-append messages past is.0) ∙ ap messages_of is.1)
 
-frames_begin : (past new : History) → Begins past new → Begins (frames_from 1 (messages_of past)) (frames_from 1 (messages_of new))
+frames_begin : (past new : History) → Begins past new → Begins (frames_from 1 (messages_of past))
+    (frames_from 1 (messages_of new))
 frames_begin past new is =
-    let more = messages_begin past new is in
-    (frames_from (1 + length (messages_of past)) more.0, sym (frames_from-append 1 (messages_of past) more.0) ∙ ap (frames_from 1) more.1)
+    let more = messages_begin past new is in (
+      frames_from (1 + length (messages_of past)) more.0,
+      sym (frames_from-append 1 (messages_of past) more.0)
+          ∙ ap (frames_from 1) more.1,
+    )
 
 orders_begin : (past new : History) → Begins past new → Begins (orders_of past) (orders_of new)
-orders_begin past new is = (orders_of is.0, sym (flat_map-append (λ step. step.effect.orders) past is.0) ∙ ap orders_of is.1)
+orders_begin past new is =
+    (orders_of is.0, sym (flat_map-append (λ step. step.effect.orders) past is.0) ∙ ap orders_of is.1)
 
 -- ---- an event that was taken in part
 
@@ -75,84 +80,132 @@ rests_begin {past = past} (open_ended taking is) = begins_same past past refl
 rests_begin {past = past} (faulty k new taking fault after) = begins_longer past _ new after
 rests_begin {past = past} (waits request launch more taking front wanted) = begins_same past past refl
 
-all_begin : (past : History) (bytes : List ℕ) (new : History) (rest : Rest) → TakesAll past bytes new rest → Begins past new
+all_begin : (past : History) (bytes : List ℕ) (new : History) (rest : Rest) → TakesAll past bytes new rest
+    → Begins past new
 all_begin past bytes new rest all = begins_both past all.mid new (takes_begin all.taken) (rests_begin all.rests)
 
 module _ (once : IsReadOnce) where
   -- what was taken is a prefix of all that can be
-  taken_begins : {past mid other new : History} {bytes left left' : List ℕ} {rest : Rest} → Takes past bytes mid left → Takes past bytes other left' → Rests other left' new rest → Begins mid new
-  taken_begins {past = past} {other = other} {new = new} none taken rests = begins_both past other new (takes_begin taken) (rests_begin rests)
-  taken_begins (one_more {more = more} request taking front unwanted after taken) none rests = absurd (rests_here once rests request more taking front unwanted)
-  taken_begins (one_more {past = past} {mid = mid} {bytes = bytes} {more = more} request taking front unwanted after taken) (one_more {mid = mid'} {new = end} {more = more'} {left = left'} request' taking' front' unwanted' after' taken') rests =
+  taken_begins : {past mid other new : History} {bytes left left' : List ℕ} {rest : Rest} → Takes past bytes mid left
+      → Takes past bytes other left' → Rests other left' new rest → Begins mid new
+  taken_begins {past = past} {other = other} {new = new} none taken rests =
+      begins_both past other new (takes_begin taken) (rests_begin rests)
+  taken_begins (one_more {more = more} request taking front unwanted after taken) none rests =
+      absurd (rests_here once rests request more taking front unwanted)
+  taken_begins (one_more {past = past} {mid = mid} {bytes = bytes} {more = more} request taking front unwanted after
+      taken) (one_more {mid = mid'} {new = end} {more = more'} {left = left'} request' taking' front' unwanted' after'
+      taken') rests =
       let same = one_front once bytes request request' more more' front front' in
-      let mids = once.one_after past (Content request) mid mid' after (subst (λ r. IsAfter past (Content r) mid') (sym same.0) after') in
-      taken_begins taken (subst (λ h. Takes h more end left') (sym mids) (subst (λ b. Takes mid' b end left') (sym same.1) taken')) rests
+      let mids =
+      once.one_after past (Content request) mid mid' after
+      (subst (λ r. IsAfter past (Content r) mid') (sym same.0) after') in
+      taken_begins taken (subst (λ h. Takes h more end left') (sym mids)
+      (subst (λ b. Takes mid' b end left') (sym same.1) taken')) rests
 
   may_begin : (past : History) (item : Item) (new : History) → MayTake past item new → Begins past new
   may_begin past item new (inl is) = begins_same past new (sym is.1)
   may_begin past item new (inr is) = begins_longer past item new is.1
 
-  item_begins : (past : History) (item : Item) (next new : History) → IsTaking past → (next ≡ past) ⊎ IsAfter past item next → MayTake past item new → Begins next new
-  item_begins past item next new taking (inl same) may = subst (λ h. Begins h new) (sym same) (may_begin past item new may)
+  item_begins : (past : History) (item : Item) (next new : History) → IsTaking past → (next ≡ past)
+      ⊎ IsAfter past item next → MayTake past item new → Begins next new
+  item_begins past item next new taking (inl same) may =
+      subst (λ h. Begins h new) (sym same) (may_begin past item new may)
   item_begins past item next new taking (inr after) (inl is) = absurd (is.0 taking)
-  item_begins past item next new taking (inr after) (inr is) = begins_same next new (once.one_after past item next new after is.1)
+  item_begins past item next new taking (inr after) (inr is) =
+      begins_same next new (once.one_after past item next new after is.1)
 
-  piece_begins : (past : History) (launch : Option Launch) (bytes : List ℕ) (next new : History) (left : Rest) → TowardByPiece past launch bytes next → LeadsByPiece past launch bytes new left → Begins next new
+  piece_begins : (past : History) (launch : Option Launch) (bytes : List ℕ) (next new : History) (left : Rest)
+      → TowardByPiece past launch bytes next → LeadsByPiece past launch bytes new left → Begins next new
   piece_begins past None bytes next new left toward leads = taken_begins toward.1 leads.taken leads.rests
   piece_begins past (Some launch) bytes next new left toward leads = begins_same next new (toward ∙ sym leads.0)
 
   -- a launch was made with its file, and some contents after it were taken
-  loaded_begins : (past : History) (launch : Launch) (file : Option (List ℕ)) (bytes : List ℕ) (mid other next new : History) (left : List ℕ) (rest : Rest)
-      → IsAfter past (Loaded launch file) mid → Takes mid bytes next left → IsAfter past (Loaded launch file) other → TakesAll other bytes new rest → Begins next new
+  loaded_begins : (past : History) (launch : Launch) (file : Option (List ℕ)) (bytes : List ℕ)
+      (mid other next new : History) (left : List ℕ) (rest : Rest)
+      → IsAfter past (Loaded launch file) mid → Takes mid bytes next left → IsAfter past (Loaded launch file) other
+      → TakesAll other bytes new rest → Begins next new
   loaded_begins past launch file bytes mid other next new left rest after taken there all =
-      let here = subst (λ h. TakesAll h bytes new rest) (once.one_after past (Loaded launch file) other mid there after) all in
+      let here =
+      subst (λ h. TakesAll h bytes new rest) (once.one_after past (Loaded launch file) other mid there after) all in
       taken_begins taken here.taken here.rests
 
-  same_launch : (past : History) (rest : Rest) (launch : Launch) (answer : Result (List ℕ) LoadFault) (file : Option (List ℕ)) (next : History) → rest.launch ≡ Some launch → (toward : LoadsToward past rest answer next) → toward.file ≡ file
+  same_launch : (past : History) (rest : Rest) (launch : Launch) (answer : Result (List ℕ) LoadFault)
+      (file : Option (List ℕ)) (next : History) → rest.launch ≡ Some launch
+      → (toward : LoadsToward past rest answer next) → toward.file ≡ file
       → IsAfter past (Loaded launch file) toward.mid
   same_launch past rest launch answer file next is toward same =
       let launches : toward.launch ≡ launch = let e = sym toward.waits ∙ is in cc in
-      subst (λ f. IsAfter past (Loaded launch f) toward.mid) same (subst (λ l. IsAfter past (Loaded l toward.file) toward.mid) launches toward.loaded)
+      subst (λ f. IsAfter past (Loaded launch f) toward.mid) same
+      (subst (λ l. IsAfter past (Loaded l toward.file) toward.mid) launches toward.loaded)
 
-  file_begins : (past : History) (rest : Rest) (launch : Option Launch) (answer : Result (List ℕ) LoadFault) (next new : History) (left : Rest) → IsTaking past → rest.launch ≡ launch
-      → (next ≡ past) ⊎ LoadsToward past rest answer next → LeadsByFile past rest launch answer new left → Begins next new
+  file_begins : (past : History) (rest : Rest) (launch : Option Launch) (answer : Result (List ℕ) LoadFault)
+      (next new : History) (left : Rest) → IsTaking past → rest.launch ≡ launch
+      → (next ≡ past) ⊎ LoadsToward past rest answer next → LeadsByFile past rest launch answer new left
+      → Begins next new
   file_begins past rest None answer next new left taking is (inl same) leads = begins_same next new (same ∙ sym leads.0)
-  file_begins past rest None answer next new left taking is (inr toward) leads = absurd (let e = sym is ∙ toward.waits in cc)
+  file_begins past rest None answer next new left taking is (inr toward) leads =
+      absurd (let e = sym is ∙ toward.waits in cc)
   file_begins past rest (Some launch) (Ok file) next new left taking is toward (inl not) = absurd (not.0 taking)
   file_begins past rest (Some launch) (Ok file) next new left taking is (inl same) (inr loads) =
-      subst (λ h. Begins h new) (sym same) (begins_both past loads.mid new (begins_longer past _ loads.mid loads.loaded) (all_begin loads.mid rest.bytes new left loads.after))
+      subst (λ h. Begins h new) (sym same)
+      (begins_both past loads.mid new (begins_longer past _ loads.mid loads.loaded)
+      (all_begin loads.mid rest.bytes new left loads.after))
   file_begins past rest (Some launch) (Ok file) next new left taking is (inr toward) (inr loads) =
       let same : toward.file ≡ Some file = let e = toward.file_is in cc in
-      loaded_begins past launch (Some file) rest.bytes toward.mid loads.mid next new toward.left left (same_launch past rest launch (Ok file) (Some file) next is toward same) toward.taken loads.loaded loads.after
-  file_begins past rest (Some launch) (Err load_fault.CannotRead) next new left taking is toward (inl not) = absurd (not.0 taking)
+      loaded_begins past launch (Some file) rest.bytes toward.mid loads.mid next new toward.left left
+      (same_launch past rest launch (Ok file) (Some file) next is toward same) toward.taken loads.loaded loads.after
+  file_begins past rest (Some launch) (Err load_fault.CannotRead) next new left taking is toward (inl not) =
+      absurd (not.0 taking)
   file_begins past rest (Some launch) (Err load_fault.CannotRead) next new left taking is (inl same) (inr loads) =
-      subst (λ h. Begins h new) (sym same) (begins_both past loads.mid new (begins_longer past _ loads.mid loads.loaded) (all_begin loads.mid rest.bytes new left loads.after))
+      subst (λ h. Begins h new) (sym same)
+      (begins_both past loads.mid new (begins_longer past _ loads.mid loads.loaded)
+      (all_begin loads.mid rest.bytes new left loads.after))
   file_begins past rest (Some launch) (Err load_fault.CannotRead) next new left taking is (inr toward) (inr loads) =
       let same : toward.file ≡ None = let e = toward.file_is in cc in
-      loaded_begins past launch None rest.bytes toward.mid loads.mid next new toward.left left (same_launch past rest launch (Err load_fault.CannotRead) None next is toward same) toward.taken loads.loaded loads.after
-  file_begins past rest (Some launch) (Err load_fault.NoMemory) next new left taking is (inl same) leads = subst (λ h. Begins h new) (sym same) (may_begin past MemoryFailure new leads.0)
-  file_begins past rest (Some launch) (Err load_fault.NoMemory) next new left taking is (inr toward) leads = absurd (let e = toward.file_is in cc)
+      loaded_begins past launch None rest.bytes toward.mid loads.mid next new toward.left left
+      (same_launch past rest launch (Err load_fault.CannotRead) None next is toward same) toward.taken loads.loaded
+      loads.after
+  file_begins past rest (Some launch) (Err load_fault.NoMemory) next new left taking is (inl same) leads =
+      subst (λ h. Begins h new) (sym same) (may_begin past MemoryFailure new leads.0)
+  file_begins past rest (Some launch) (Err load_fault.NoMemory) next new left taking is (inr toward) leads =
+      absurd (let e = toward.file_is in cc)
 
-  report_begins : (past : History) (r : PlainReport) (next new : History) → IsTaking past → (next ≡ past) ⊎ (Accepts past r × IsAfter past (Accepted r) next) → LeadsByReport past r new → Begins next new
+  report_begins : (past : History) (r : PlainReport) (next new : History) → IsTaking past → (next ≡ past)
+      ⊎ (Accepts past r × IsAfter past (Accepted r) next) → LeadsByReport past r new → Begins next new
   report_begins past r next new taking (inl same) (inl not) = begins_same next new (same ∙ sym not.1)
-  report_begins past r next new taking (inl same) (inr is) = subst (λ h. Begins h new) (sym same) (begins_longer past (Accepted r) new is.2)
+  report_begins past r next new taking (inl same) (inr is) =
+      subst (λ h. Begins h new) (sym same) (begins_longer past (Accepted r) new is.2)
   report_begins past r next new taking (inr toward) (inl not) = absurd (not.0 (taking, toward.0))
-  report_begins past r next new taking (inr toward) (inr is) = begins_same next new (once.one_after past (Accepted r) next new toward.1 is.2)
+  report_begins past r next new taking (inr toward) (inr is) =
+      begins_same next new (once.one_after past (Accepted r) next new toward.1 is.2)
 
-  event_begins : (past : History) (rest : Rest) (event : Incoming) (next new : History) (left : Rest) → IsTaking past → Toward past rest event next → Leads past rest event new left → Begins next new
-  event_begins past rest (Piece piece) next new left taking toward leads = piece_begins past rest.launch _ next new left toward leads
-  event_begins past rest End next new left taking toward leads = item_begins past InputEnd next new taking toward leads.0
-  event_begins past rest ReadFailed next new left taking toward leads = item_begins past ReadFailure next new taking toward leads.0
-  event_begins past rest NoMemoryCame next new left taking toward leads = subst (λ h. Begins h new) (sym toward) (may_begin past MemoryFailure new leads.0)
-  event_begins past rest (File answer) next new left taking toward leads = file_begins past rest rest.launch answer next new left taking refl toward leads
-  event_begins past rest (Report r) next new left taking toward leads = report_begins past r next new taking toward leads.0
+  event_begins : (past : History) (rest : Rest) (event : Incoming) (next new : History) (left : Rest) → IsTaking past
+      → Toward past rest event next → Leads past rest event new left → Begins next new
+  event_begins past rest (Piece piece) next new left taking toward leads =
+      piece_begins past rest.launch _ next new left toward leads
+  event_begins past rest End next new left taking toward leads =
+      item_begins past InputEnd next new taking toward leads.0
+  event_begins past rest ReadFailed next new left taking toward leads =
+      item_begins past ReadFailure next new taking toward leads.0
+  event_begins past rest NoMemoryCame next new left taking toward leads =
+      subst (λ h. Begins h new) (sym toward) (may_begin past MemoryFailure new leads.0)
+  event_begins past rest (File answer) next new left taking toward leads =
+      file_begins past rest rest.launch answer next new left taking refl toward leads
+  event_begins past rest (Report r) next new left taking toward leads =
+      report_begins past r next new taking toward leads.0
 
 -- ---- a list of events, and its last
 
-leads_apart : (past : History) (rest : Rest) (events : List Incoming) (last : Incoming) (new : History) (left : Rest) → LeadsAll past rest (events ++ last ∷ []) new left
+leads_apart : (past : History) (rest : Rest) (events : List Incoming) (last : Incoming) (new : History) (left : Rest)
+    → LeadsAll past rest (events ++ last ∷ []) new left
     → (mid : History) × (between : Rest) × LeadsAll past rest events mid between × Leads mid between last new left
-leads_apart past rest [] last new left all =
-    (past, rest, (refl, refl), subst (λ h. Leads past rest last h left) (sym all.3.0) (subst (λ r. Leads past rest last all.0 r) (sym all.3.1) all.2))
+leads_apart past rest [] last new left all = (
+  past,
+  rest,
+  (refl, refl),
+  subst (λ h. Leads past rest last h left) (sym all.3.0)
+      (subst (λ r. Leads past rest last all.0 r) (sym all.3.1) all.2),
+)
 leads_apart past rest (e ∷ events) last new left all =
     let next = leads_apart all.0 all.1 events last new left all.3 in
     (next.0, next.1, (all.0, all.1, all.2, next.2), next.3)
@@ -174,7 +227,8 @@ length-frames_from : (n : ℕ) (ms : List Outgoing) → length (frames_from n ms
 length-frames_from n [] = refl
 length-frames_from n (m ∷ ms) = ap (λ k. suc k) (length-frames_from (n + 1) ms)
 
-few_begin : (frames : List (List ℕ)) (past : History) → Begins frames (frames_from 1 (messages_of past)) → next_seq past ≤ 2 ^ 53 → length frames < 2 ^ 53
+few_begin : (frames : List (List ℕ)) (past : History) → Begins frames (frames_from 1 (messages_of past))
+    → next_seq past ≤ 2 ^ 53 → length frames < 2 ^ 53
 few_begin frames past is fits =
     let whole = length-append frames is.0 in
     let same = ap length is.1 in
@@ -184,13 +238,15 @@ few_begin frames past is fits =
 first_fits : (past : History) (old later : Ports) → Sends [] past old later → next_seq past ≤ 2 ^ 53
 first_fits past old later sent = sent.seqs_fit (lit≤ tt)
 
-sends_whole : (past : History) (old later : Ports) → Sends [] past old later → (later.frames ≡ old.frames ++ frames_from 1 (messages_of past)) × (later.orders ≡ old.orders ++ orders_of past)
+sends_whole : (past : History) (old later : Ports) → Sends [] past old later
+    → (later.frames ≡ old.frames ++ frames_from 1 (messages_of past)) × (later.orders ≡ old.orders ++ orders_of past)
 sends_whole past old later sent = (
   sent.frames_are ∙ ap (λ ms. old.frames ++ frames_from 1 ms) (sym sent.adds.messages_are),
   sent.orders_are ∙ ap (λ os. old.orders ++ os) (sym sent.adds.orders_are),
 )
 
-same_part : (past : History) (old between later : Ports) → Sends [] past old between → later ≡ between → SendsPart past old later
+same_part : (past : History) (old between later : Ports) → Sends [] past old between → later ≡ between
+    → SendsPart past old later
 same_part past old between later sent same =
     let all = sends_whole past old between sent in record {
       frames = frames_from 1 (messages_of past);
@@ -202,7 +258,8 @@ same_part past old between later sent same =
       few = few_begin _ past (begins_same _ _ refl) (first_fits past old between sent);
     }
 
-longer_part : (past new : History) (old later : Ports) → Begins past new → SendsPart past old later → SendsPart new old later
+longer_part : (past new : History) (old later : Ports) → Begins past new → SendsPart past old later
+    → SendsPart new old later
 longer_part past new old later is part = record {
   frames = part.frames;
   orders = part.orders;
@@ -213,20 +270,29 @@ longer_part past new old later is part = record {
   few = part.few;
 }
 
-pushed_part : (past next : History) (old between later : Ports) → Sends [] past old between → PushesSome past next between later → SendsPart next old later
+pushed_part : (past next : History) (old between later : Ports) → Sends [] past old between
+    → PushesSome past next between later → SendsPart next old later
 pushed_part past next old between later sent some =
     let all = sends_whole past old between sent in record {
       frames = frames_from 1 (messages_of past);
       orders = orders_of past ++ some.pushed;
       frames_are = some.frames_are ∙ all.0;
-      orders_are = some.orders_are ∙ ap (λ l. l ++ some.pushed) all.1 ∙ append_assoc old.orders (orders_of past) some.pushed;
-      frames_begin = subst (λ ms. Begins (frames_from 1 (messages_of past)) (frames_from 1 ms)) (sym some.adds.messages_are)
-          (frames_from (1 + length (messages_of past)) some.messages, sym (frames_from-append 1 (messages_of past) some.messages));
-      orders_begin = subst (λ os. Begins (orders_of past ++ some.pushed) os) (sym some.adds.orders_are) (begins_after (orders_of past) some.pushed some.orders some.begins);
+      orders_are =
+          some.orders_are ∙ ap (λ l. l ++ some.pushed) all.1 ∙ append_assoc old.orders (orders_of past) some.pushed;
+      frames_begin =
+          subst (λ ms. Begins (frames_from 1 (messages_of past)) (frames_from 1 ms)) (sym some.adds.messages_are) (
+            frames_from (1 + length (messages_of past)) some.messages,
+            sym
+                (frames_from-append 1 (messages_of past) some.messages),
+          );
+      orders_begin =
+          subst (λ os. Begins (orders_of past ++ some.pushed) os) (sym some.adds.orders_are)
+          (begins_after (orders_of past) some.pushed some.orders some.begins);
       few = few_begin _ past (begins_same _ _ refl) (first_fits past old between sent);
     }
 
-put_part : (past next : History) (old between later : Ports) → Sends [] past old between → PutsSome past next between later → SendsPart next old later
+put_part : (past next : History) (old between later : Ports) → Sends [] past old between
+    → PutsSome past next between later → SendsPart next old later
 put_part past next old between later sent some =
     let all = sends_whole past old between sent in
     let seq : next_seq past ≡ 1 + length (messages_of past) = omega arith in
@@ -237,42 +303,54 @@ put_part past next old between later sent some =
     (subst (λ n. Begins (some.put ++ some.frame ∷ []) (frames_from n some.messages)) seq some.begins))) in record {
       frames = frames_from 1 (messages_of past) ++ some.put;
       orders = orders_of past ++ some.orders;
-      frames_are = some.frames_are ∙ ap (λ l. l ++ some.put) all.0 ∙ append_assoc old.frames (frames_from 1 (messages_of past)) some.put;
-      orders_are = some.orders_are ∙ ap (λ l. l ++ some.orders) all.1 ∙ append_assoc old.orders (orders_of past) some.orders;
+      frames_are =
+          some.frames_are ∙ ap (λ l. l ++ some.put) all.0 ∙ append_assoc old.frames (frames_from 1 (messages_of past))
+          some.put;
+      orders_are =
+          some.orders_are ∙ ap (λ l. l ++ some.orders) all.1 ∙ append_assoc old.orders (orders_of past) some.orders;
       frames_begin = begins;
       orders_begin = begins_same _ _ (sym some.adds.orders_are);
       few = few_begin _ next begins (some.seqs_fit (first_fits past old between sent));
     }
 
 -- the fault let through a part of the next step
-broken_part : (fault : SessionFault) (mid next : History) (old between later : Ports) → Begins mid next → Sends [] mid old between → BreaksOff fault mid next between later → SendsPart next old later
+broken_part : (fault : SessionFault) (mid next : History) (old between later : Ports) → Begins mid next
+    → Sends [] mid old between → BreaksOff fault mid next between later → SendsPart next old later
 broken_part (Frame k) mid next old between later at sent breaks = absurd breaks
-broken_part NoMemory mid next old between later at sent breaks = longer_part mid next old later at (same_part mid old between later sent breaks)
-broken_part SeqExhausted mid next old between later at sent breaks = longer_part mid next old later at (same_part mid old between later sent breaks.0)
+broken_part NoMemory mid next old between later at sent breaks =
+    longer_part mid next old later at (same_part mid old between later sent breaks)
+broken_part SeqExhausted mid next old between later at sent breaks =
+    longer_part mid next old later at (same_part mid old between later sent breaks.0)
 broken_part OrdersFull mid next old between later at sent breaks = pushed_part mid next old between later sent breaks.0
 broken_part RunnerGone mid next old between later at sent breaks = pushed_part mid next old between later sent breaks.0
 broken_part WriterGone mid next old between later at sent breaks = put_part mid next old between later sent breaks
 
 -- ---- a whole session
 
-next_toward : (fault : SessionFault) (past : History) (rest : Rest) (event : Incoming) (old later : Ports) (fails : FailsAt fault past rest event old later) → Toward past rest event fails.next
+next_toward : (fault : SessionFault) (past : History) (rest : Rest) (event : Incoming) (old later : Ports)
+    (fails : FailsAt fault past rest event old later) → Toward past rest event fails.next
 next_toward fault past rest event old later fails = by fails.next_is
   where
-    by : (fails.next ≡ fails.mid) ⊎ (Toward past rest event fails.next × ((item : Item) × IsAfter fails.mid item fails.next)) → Toward past rest event fails.next
+    by : (fails.next ≡ fails.mid) ⊎ (Toward past rest event fails.next
+        × ((item : Item) × IsAfter fails.mid item fails.next)) → Toward past rest event fails.next
     by (inl same) = subst (Toward past rest event) (sym same) fails.toward
     by (inr is) = is.0
 
-mid_next : (fault : SessionFault) (past : History) (rest : Rest) (event : Incoming) (old later : Ports) (fails : FailsAt fault past rest event old later) → Begins fails.mid fails.next
+mid_next : (fault : SessionFault) (past : History) (rest : Rest) (event : Incoming) (old later : Ports)
+    (fails : FailsAt fault past rest event old later) → Begins fails.mid fails.next
 mid_next fault past rest event old later fails = by fails.next_is
   where
-    by : (fails.next ≡ fails.mid) ⊎ (Toward past rest event fails.next × ((item : Item) × IsAfter fails.mid item fails.next)) → Begins fails.mid fails.next
+    by : (fails.next ≡ fails.mid) ⊎ (Toward past rest event fails.next
+        × ((item : Item) × IsAfter fails.mid item fails.next)) → Begins fails.mid fails.next
     by (inl same) = begins_same fails.mid fails.next (sym same)
     by (inr is) = begins_longer fails.mid is.1.0 fails.next is.1.1
 
-stops_part : (events : List Incoming) (fault : SessionFault) (old later : Ports) (stops : StopsShort events fault old later) → SendsPart stops.fails.next old stops.stopped
+stops_part : (events : List Incoming) (fault : SessionFault) (old later : Ports)
+    (stops : StopsShort events fault old later) → SendsPart stops.fails.next old stops.stopped
 stops_part events fault old later stops =
     let fails = stops.fails in
-    broken_part fault fails.mid fails.next old fails.between stops.stopped (mid_next fault stops.past stops.rest stops.last stops.mid stops.stopped fails)
+    broken_part fault fails.mid fails.next old fails.between stops.stopped
+    (mid_next fault stops.past stops.rest stops.last stops.mid stops.stopped fails)
     (sends_both [] stops.past fails.mid old stops.mid fails.between stops.sent fails.sent) fails.breaks
 
 -- ---- the history that a session reached
@@ -292,21 +370,27 @@ pub record PutsFew (reached : History) (old later : Ports) : Type 0 where
 
 module _ (laws : ReadingsGoOn) (once : IsReadOnce) (one : HistoryIsOne) where
   -- a history of all events goes on with the last one from where the session stood
-  last_leads : (events : List Incoming) (last : Incoming) (past : History) (rest : Rest) (new : History) (left : Rest) → IsHistoryOf events past rest → IsHistoryOf (events ++ last ∷ []) new left → Leads past rest last new left
+  last_leads : (events : List Incoming) (last : Incoming) (past : History) (rest : Rest) (new : History) (left : Rest)
+      → IsHistoryOf events past rest → IsHistoryOf (events ++ last ∷ []) new left → Leads past rest last new left
   last_leads events last past rest new left here whole =
       let apart = leads_apart [] (only_bytes []) events last new left whole in
       let same = one events apart.0 past apart.1 rest apart.2 here in
       subst (λ r. Leads past r last new left) same.1 (subst (λ h. Leads h apart.1 last new left) same.0 apart.3)
 
   -- a session reached a history on the way to that of all events
-  reached_toward : (events : List Incoming) (reached : History) → AreLawful events → IsOnTheWay events reached → IsReached events reached
+  reached_toward : (events : List Incoming) (reached : History) → AreLawful events → IsOnTheWay events reached
+      → IsReached events reached
   reached_toward events reached lawful way =
       let parts = lawful_apart way.before (way.last ∷ []) (subst AreLawful way.events_are lawful) in
-      let there = retaken_toward laws way.past way.rest way.last reached parts.1 way.taking way.toward (retaken laws way.before way.past way.rest parts.0 way.history) in
+      let there =
+      retaken_toward laws way.past way.rest way.last reached parts.1 way.taking way.toward
+      (retaken laws way.before way.past way.rest parts.0 way.history) in
       record {
         way = inr way;
         begins = λ new left whole.
-            let leads = last_leads way.before way.last way.past way.rest new left way.history (subst (λ es. IsHistoryOf es new left) way.events_are whole) in
+            let leads =
+            last_leads way.before way.last way.past way.rest new left way.history
+            (subst (λ es. IsHistoryOf es new left) way.events_are whole) in
             event_begins once way.past way.rest way.last reached new left way.taking way.toward leads;
         taken = there.1.events;
         rest = there.1.rest;
@@ -315,7 +399,8 @@ module _ (laws : ReadingsGoOn) (once : IsReadOnce) (one : HistoryIsOne) where
       }
 
   -- or that of all events
-  reached_all : (events : List Incoming) (past : History) (rest : Rest) → AreLawful events → IsHistoryOf events past rest → IsReached events past
+  reached_all : (events : List Incoming) (past : History) (rest : Rest) → AreLawful events
+      → IsHistoryOf events past rest → IsReached events past
   reached_all events past rest lawful history = record {
     way = inl (rest, history);
     begins = λ new left whole. begins_same past new (one events past new rest left history whole).0;
@@ -325,7 +410,8 @@ module _ (laws : ReadingsGoOn) (once : IsReadOnce) (one : HistoryIsOne) where
     history = history;
   }
 
-  stops_sent : (events : List Incoming) (fault : SessionFault) (old later : Ports) → AreLawful events → (stops : StopsShort events fault old later) → Sent events old stops.stopped
+  stops_sent : (events : List Incoming) (fault : SessionFault) (old later : Ports) → AreLawful events
+      → (stops : StopsShort events fault old later) → Sent events old stops.stopped
   stops_sent events fault old later lawful stops = record {
     reached = stops.fails.next;
     is_reached = reached_toward events stops.fails.next lawful (record {
@@ -342,7 +428,8 @@ module _ (laws : ReadingsGoOn) (once : IsReadOnce) (one : HistoryIsOne) where
   }
 
   -- all was sent
-  serves_sent : (events : List Incoming) (ending : Ending) (old later : Ports) → AreLawful events → Serves events ending old later → Sent events old later
+  serves_sent : (events : List Incoming) (ending : Ending) (old later : Ports) → AreLawful events
+      → Serves events ending old later → Sent events old later
   serves_sent events ending old later lawful serves = record {
     reached = serves.past;
     is_reached = reached_all events serves.past serves.rest lawful serves.history;
@@ -357,11 +444,15 @@ module _ (laws : ReadingsGoOn) (once : IsReadOnce) (one : HistoryIsOne) where
     };
   }
 
-  fault_sent : (fault : SessionFault) (events given : List Incoming) (loads : List Load) (old later : Ports) → AreLawful events → Drives events given loads old later (Err fault)
+  fault_sent : (fault : SessionFault) (events given : List Incoming) (loads : List Load) (old later : Ports)
+      → AreLawful events → Drives events given loads old later (Err fault)
       → (stopped : Ports) × Sent events old stopped × TriesQuit stopped later
-  fault_sent fault events given loads old later lawful (ends_at_fault from until) = (until.mid, serves_sent events _ old until.mid lawful until.serves, until.quit)
-  fault_sent fault events given loads old later lawful (runs_out_of_memory from short) = (short.stopped, stops_sent events NoMemory old later lawful short, short.quit)
-  fault_sent fault events given loads old later lawful (gives_up cannot from short) = (short.stopped, stops_sent events fault old later lawful short, short.quit)
+  fault_sent fault events given loads old later lawful (ends_at_fault from until) =
+      (until.mid, serves_sent events _ old until.mid lawful until.serves, until.quit)
+  fault_sent fault events given loads old later lawful (runs_out_of_memory from short) =
+      (short.stopped, stops_sent events NoMemory old later lawful short, short.quit)
+  fault_sent fault events given loads old later lawful (gives_up cannot from short) =
+      (short.stopped, stops_sent events fault old later lawful short, short.quit)
 
   pub faults_leave_prefixes : FaultsLeavePrefixes
   faults_leave_prefixes fault given_before given_after loaded_before loaded_after old later driven =
@@ -382,12 +473,26 @@ module _ (laws : ReadingsGoOn) (once : IsReadOnce) (one : HistoryIsOne) where
       )
 
   -- what is put in the end is what was put then
-  puts_few : (events : List Incoming) (old stopped later : Ports) → later.frames ≡ stopped.frames → Sent events old stopped → (reached : History) × IsReached events reached × PutsFew reached old later
-  puts_few events old stopped later same sent =
-      (sent.reached, sent.is_reached, record { frames = sent.part.frames; frames_are = same ∙ sent.part.frames_are; few = sent.part.few; begins = sent.part.frames_begin })
+  puts_few : (events : List Incoming) (old stopped later : Ports) → later.frames ≡ stopped.frames
+      → Sent events old stopped → (reached : History) × IsReached events reached × PutsFew reached old later
+  puts_few events old stopped later same sent = (
+    sent.reached,
+    sent.is_reached,
+    record {
+      frames = sent.part.frames;
+      frames_are = same
+          ∙ sent.part.frames_are;
+      few = sent.part.few;
+      begins = sent.part.frames_begin;
+    },
+  )
 
-  pub drives_few : (result : Result Closed SessionFault) (events given : List Incoming) (loads : List Load) (old later : Ports) → AreLawful events → Drives events given loads old later result
+  pub drives_few : (result : Result Closed SessionFault) (events given : List Incoming) (loads : List Load)
+      (old later : Ports) → AreLawful events → Drives events given loads old later result
       → (reached : History) × IsReached events reached × PutsFew reached old later
-  drives_few (Ok by) events given loads old later lawful (closes from serves) = puts_few events old later later refl (serves_sent events (ending.Closed by) old later lawful serves)
+  drives_few (Ok by) events given loads old later lawful (closes from serves) =
+      puts_few events old later later refl (serves_sent events (ending.Closed by) old later lawful serves)
   drives_few (Err fault) events given loads old later lawful drives =
-      let left = fault_sent fault events given loads old later lawful drives in puts_few events old left.0 later left.2.frames_are left.1
+      let left =
+      fault_sent fault events given loads old later lawful drives in puts_few events old left.0 later
+      left.2.frames_are left.1

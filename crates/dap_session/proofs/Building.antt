@@ -15,7 +15,8 @@ use Rattle.dap_session.specs.Ports.{Written, Ordered, ports}
 use Rattle.dap_session.specs.Sending.{Begins, Adds, PushesSome, BreaksOff}
 use Rattle.dap_session.proofs.Joining.{frames_from-append}
 
-pub adds_both : (xs ys : List Outgoing) (a b c : Built) → AddsFrames xs a b → AddsFrames ys b c → AddsFrames (xs ++ ys) a c
+pub adds_both : (xs ys : List Outgoing) (a b c : Built) → AddsFrames xs a b → AddsFrames ys b c
+    → AddsFrames (xs ++ ys) a c
 adds_both xs ys a b c first then_ =
     record {
       frames_are =
@@ -28,17 +29,25 @@ adds_both xs ys a b c first then_ =
     }
 
 -- one more event
-pub adds_event : (done : List EventBody) (event : EventBody) (a b c : Built) → AddsFrames (map Event done) a b → AddsFrames (Event event ∷ []) b c → AddsFrames (map Event (done ++ event ∷ [])) a c
+pub adds_event : (done : List EventBody) (event : EventBody) (a b c : Built) → AddsFrames (map Event done) a b
+    → AddsFrames (Event event ∷ []) b c → AddsFrames (map Event (done ++ event ∷ [])) a c
 adds_event done event a b c first then_ =
-    subst (λ ms. AddsFrames ms a c) (sym (map-append Event done (event ∷ []))) (adds_both (map Event done) (Event event ∷ []) a b c first then_)
+    subst (λ ms. AddsFrames ms a c) (sym (map-append Event done (event ∷ [])))
+    (adds_both (map Event done) (Event event ∷ []) a b c first then_)
 
 -- frames that were put before one that was refused
-pub begins_all : (put : List (Vec ℕ Global)) (frame : Vec ℕ Global) (rest all : List (Vec ℕ Global)) → put ++ frame ∷ rest ≡ all → Begins (plain_frames put ++ frame.items ∷ []) (plain_frames all)
-begins_all put frame rest all is =
-    (plain_frames rest, append_assoc (plain_frames put) (frame.items ∷ []) (plain_frames rest) ∙ sym (map-append (λ frame. frame.items) put (frame ∷ rest)) ∙ ap plain_frames is)
+pub begins_all : (put : List (Vec ℕ Global)) (frame : Vec ℕ Global) (rest all : List (Vec ℕ Global)) → put ++ frame
+    ∷ rest ≡ all → Begins (plain_frames put ++ frame.items ∷ []) (plain_frames all)
+begins_all put frame rest all is = (
+  plain_frames rest,
+  append_assoc (plain_frames put) (frame.items ∷ []) (plain_frames rest)
+      ∙ sym (map-append (λ frame. frame.items) put (frame ∷ rest)) ∙ ap plain_frames is,
+)
 
-pub adds_step : ReadingsGoOn → (past : History) (step : Step) → Adds past (past ++ step ∷ []) (messages step) step.effect.orders
-adds_step readings past step = record { messages_are = readings.messages_are past step; orders_are = readings.orders_are past step }
+pub adds_step : ReadingsGoOn → (past : History) (step : Step)
+    → Adds past (past ++ step ∷ []) (messages step) step.effect.orders
+adds_step readings past step =
+    record { messages_are = readings.messages_are past step; orders_are = readings.orders_are past step }
 
 -- an order that was refused, seen from its step
 pub pushes_none : (past new : History) (ms : List Outgoing) (os : List PlainOrder) (out : Written) (old later : Ordered)
@@ -55,11 +64,14 @@ pushes_none past new ms os out old later adds same =
       begins = (os, refl);
     }
 
-pub breaks_at_push : (fault : SessionFault) (past new : History) (ms : List Outgoing) (os : List PlainOrder) (out : Written) (old later : Ordered)
+pub breaks_at_push : (fault : SessionFault) (past new : History) (ms : List Outgoing) (os : List PlainOrder)
+    (out : Written) (old later : Ordered)
     → Adds past new ms os → IsNotPushed fault old later → BreaksOff fault past new (ports out old) (ports out later)
 breaks_at_push (Frame k) past new ms os out old later adds refused = absurd refused
 breaks_at_push NoMemory past new ms os out old later adds refused = absurd refused
 breaks_at_push SeqExhausted past new ms os out old later adds refused = absurd refused
-breaks_at_push OrdersFull past new ms os out old later adds refused = (pushes_none past new ms os out old later adds refused.0, refused.1)
-breaks_at_push RunnerGone past new ms os out old later adds refused = (pushes_none past new ms os out old later adds refused.0, refused.1)
+breaks_at_push OrdersFull past new ms os out old later adds refused =
+    (pushes_none past new ms os out old later adds refused.0, refused.1)
+breaks_at_push RunnerGone past new ms os out old later adds refused =
+    (pushes_none past new ms os out old later adds refused.0, refused.1)
 breaks_at_push WriterGone past new ms os out old later adds refused = absurd refused

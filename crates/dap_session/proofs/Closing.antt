@@ -32,12 +32,15 @@ pub record EndsInput (past : History) (rest : Rest) (event : Incoming) (item : I
   pub leads : (new : History) → IsAfter past item new → Leads past rest event new rest
 
 -- closing fails by the port alone
-pub close_needs_none : (result : Result (Unit {0}) SessionFault) (closed : Closed) (last : State) (old later : Ordered) → PushesQuit result old later → OnOk result (last.ending ≡ Some (ending.Closed closed)) → NeededNoMemory result last
+pub close_needs_none : (result : Result (Unit {0}) SessionFault) (closed : Closed) (last : State) (old later : Ordered)
+    → PushesQuit result old later → OnOk result (last.ending ≡ Some (ending.Closed closed)) → NeededNoMemory result last
 close_needs_none (Ok u) closed last old later quits ended = λ open_. absurd (let e = sym ended ∙ open_ in cc)
 close_needs_none (Err fault) closed last old later quits ended = λ lost. subst (λ f. IsNotPushed f old later) lost quits
 
-pub closes : ReadingsGoOn → (result : Result (Unit {0}) SessionFault) (past : History) (rest : Rest) (event : Incoming) (item : Item) (closed : Closed) (last : State) (out : Written) (old later : Ordered) → IsTaking past
-    → EndsInput past rest event item closed → IsAfter past item (past ++ closing_step item ∷ []) → PushesQuit result old later → OnOk result (last.ending ≡ Some (ending.Closed closed))
+pub closes : ReadingsGoOn → (result : Result (Unit {0}) SessionFault) (past : History) (rest : Rest) (event : Incoming)
+    (item : Item) (closed : Closed) (last : State) (out : Written) (old later : Ordered) → IsTaking past
+    → EndsInput past rest event item closed → IsAfter past item (past ++ closing_step item ∷ [])
+    → PushesQuit result old later → OnOk result (last.ending ≡ Some (ending.Closed closed))
     → Handles result past rest event last (ports out old) (ports out later)
 closes laws (Ok u) past rest event item closed last out old later taking ends after quits ended =
     let new = past ++ closing_step item ∷ [] in
@@ -68,5 +71,6 @@ closes laws (Err fault) past rest event item closed last out old later taking en
       refuses_nothing = refuses_none (ports out old);
       next = new;
       next_is = inr (ends.toward new after, (item, after));
-      breaks = breaks_at_push fault past new [] (Quit ∷ []) out old later (adds_step laws past (closing_step item)) quits;
+      breaks = breaks_at_push fault past new [] (Quit ∷ []) out old later (adds_step laws past (closing_step item))
+          quits;
     })

@@ -32,7 +32,8 @@ use Rattle.dap_session.proofs.Joining.{sends_both, refuses_both, sends_nothing}
 -- ---- interleavings, one after another
 
 interleaves_both : (before xs ys : List Incoming) (given more : List Incoming) (loads rest : List Load)
-    → Interleaves before xs given loads → Interleaves (before ++ xs) ys more rest → Interleaves before (xs ++ ys) (given ++ more) (loads ++ rest)
+    → Interleaves before xs given loads → Interleaves (before ++ xs) ys more rest
+    → Interleaves before (xs ++ ys) (given ++ more) (loads ++ rest)
 interleaves_both before [] ys given more loads rest first next =
     subst (λ l. Interleaves before ys (given ++ more) (l ++ rest)) (sym first.1)
     (subst (λ g. Interleaves before ys (g ++ more) rest) (sym first.0)
@@ -95,7 +96,8 @@ pub record Way (session : State) (wanted : Option (List ℕ)) (begin now : Sourc
   pub open_ended : session.ending ≡ None
   pub wanted_is : wanted ≡ path_of session.phase
 
-pub way_begins : (session : State) (begin : Sources) (old : Ports) → StandsFor session [] [] → session.ending ≡ None → None ≡ path_of session.phase
+pub way_begins : (session : State) (begin : Sources) (old : Ports) → StandsFor session [] [] → session.ending ≡ None
+    → None ≡ path_of session.phase
     → Way session None begin begin old old
 way_begins session begin old stands open_ none = record {
   events = [];
@@ -131,7 +133,8 @@ record AddsNothing (events : List Incoming) (event : Incoming) (now next : Sourc
   loads_are : next.loaded ≡ now.loaded
   awaited : Awaits events path
 
-awaits : (session : State) (events : List Incoming) (past : History) (launch : Launch) (path : List ℕ) → StandsFor session events past → session.ending ≡ None
+awaits : (session : State) (events : List Incoming) (past : History) (launch : Launch) (path : List ℕ)
+    → StandsFor session events past → session.ending ≡ None
     → launch_of session.phase ≡ Some launch → path ≡ launch.arguments.program → Awaits events path
 awaits session events past launch path stands open_ is same =
     let taking : IsTaking past = sym stands.ending_is ∙ open_ in record {
@@ -144,7 +147,8 @@ awaits session events past launch path stands open_ is same =
       path_is = same;
     }
 
-awaits_none : (session : State) (events : List Incoming) (past : History) → StandsFor session events past → session.ending ≡ None
+awaits_none : (session : State) (events : List Incoming) (past : History) → StandsFor session events past
+    → session.ending ≡ None
     → launch_of session.phase ≡ None → AwaitsNone events
 awaits_none session events past stands open_ is =
     let taking : IsTaking past = sym stands.ending_is ∙ open_ in record {
@@ -154,22 +158,56 @@ awaits_none session events past stands open_ is =
       waits = inr (sym (stands.goes_on taking).launch_is ∙ is);
     }
 
-adds_file : (events : List Incoming) (path : List ℕ) (answer : Result (List ℕ) LoadFault) (now next : Sources) → Awaits events path
+adds_file : (events : List Incoming) (path : List ℕ) (answer : Result (List ℕ) LoadFault) (now next : Sources)
+    → Awaits events path
     → next.given ≡ now.given → next.loaded ≡ now.loaded ++ stored path answer
     → Adds events (File answer) now next ⊎ AddsNothing events (File answer) now next
 adds_file events path (Ok file) now next awaited given loaded =
-    inl (record { given = []; loads = load_of path (Ok file) ∷ []; given_are = given ∙ sym (append-nil now.given); loads_are = loaded; one = inl (load_of path (Ok file), [], refl, (refl, awaited), (refl, refl)) })
+    inl (record {
+      given = [];
+      loads = load_of path (Ok file) ∷ [];
+      given_are = given
+          ∙ sym (append-nil now.given);
+      loads_are = loaded;
+      one = inl
+          (load_of path (Ok file), [], refl, (refl, awaited), (refl, refl));
+    })
 adds_file events path (Err CannotRead) now next awaited given loaded =
-    inl (record { given = []; loads = load_of path (Err CannotRead) ∷ []; given_are = given ∙ sym (append-nil now.given); loads_are = loaded; one = inl (load_of path (Err CannotRead), [], refl, (refl, awaited), (refl, refl)) })
+    inl (record {
+      given = [];
+      loads = load_of path (Err CannotRead) ∷ [];
+      given_are = given
+          ∙ sym (append-nil now.given);
+      loads_are = loaded;
+      one = inl
+          (load_of path (Err CannotRead), [], refl, (refl, awaited), (refl, refl));
+    })
 adds_file events path (Err NoMemory) now next awaited given loaded =
-    inr (record { path = path; event_is = refl; given_are = given; loads_are = loaded ∙ append-nil now.loaded; awaited = awaited })
+    inr (record {
+      path = path;
+      event_is = refl;
+      given_are = given;
+      loads_are = loaded
+          ∙ append-nil now.loaded;
+      awaited = awaited;
+    })
 
-adds_event : (session : State) (events : List Incoming) (past : History) (wanted : Option (List ℕ)) (launch : Option Launch) (event : Incoming) (now next : Sources)
-    → StandsFor session events past → session.ending ≡ None → launch_of session.phase ≡ launch → wanted ≡ option_map (λ l. l.arguments.program) launch
+adds_event : (session : State) (events : List Incoming) (past : History) (wanted : Option (List ℕ))
+    (launch : Option Launch) (event : Incoming) (now next : Sources)
+    → StandsFor session events past → session.ending ≡ None → launch_of session.phase ≡ launch
+    → wanted ≡ option_map (λ l. l.arguments.program) launch
     → ComesFrom wanted event now next
     → Adds events event now next ⊎ AddsNothing events event now next
 adds_event session events past None None event now next stands open_ is same from =
-    inl (record { given = event ∷ []; loads = []; given_are = from.0; loads_are = from.1 ∙ sym (append-nil now.loaded); one = inr ([], refl, awaits_none session events past stands open_ is, (refl, refl)) })
+    inl (record {
+      given = event ∷ [];
+      loads = [];
+      given_are = from.0;
+      loads_are = from.1
+          ∙ sym (append-nil now.loaded);
+      one = inr
+          ([], refl, awaits_none session events past stands open_ is, (refl, refl));
+    })
 adds_event session events past None (Some launch) event now next stands open_ is same from = absurd cc
 adds_event session events past (Some path) None event now next stands open_ is same from = absurd cc
 adds_event session events past (Some path) (Some launch) (File answer) now next stands open_ is same from =
@@ -188,28 +226,35 @@ wanted_by want_is.Event = None
 wanted_by (want_is.File path) = Some (string_bytes path)
 wanted_by want_is.Closed = None
 
-wants_here : (want : Want) (launch : Option Launch) → WantsHere want launch → wanted_by want ≡ option_map (λ l. l.arguments.program) launch
+wants_here : (want : Want) (launch : Option Launch) → WantsHere want launch
+    → wanted_by want ≡ option_map (λ l. l.arguments.program) launch
 wants_here want None is = ap wanted_by is
 wants_here want (Some launch) is = ap wanted_by is.1 ∙ ap Some is.2
 
-goes_on : (want : Want) (session : State) (e : Option Ending) → session.ending ≡ e → Wants want session e → (want ≡ want_is.Closed → ⊥)
+goes_on : (want : Want) (session : State) (e : Option Ending) → session.ending ≡ e → Wants want session e
+    → (want ≡ want_is.Closed → ⊥)
     → (session.ending ≡ None) × (wanted_by want ≡ path_of session.phase)
 goes_on want session None is wants not = (is, wants_here want (launch_of session.phase) wants)
 goes_on want session (Some (ending.Closed by)) is wants not = absurd (not wants)
 goes_on want session (Some (ending.Fault fault)) is wants not = absurd wants
 
 -- what comes of the event, whatever the session stands for
-pub record Next (session : State) (result : Result Want SessionFault) (event : Incoming) (after : State) (mid later : Ports) : Type 0 where
-  pub comes : (events : List Incoming) (past : History) (stands : StandsFor session events past) → Comes result events past stands.rest event after mid later
+pub record Next (session : State) (result : Result Want SessionFault) (event : Incoming) (after : State)
+    (mid later : Ports) : Type 0 where
+  pub comes : (events : List Incoming) (past : History) (stands : StandsFor session events past)
+      → Comes result events past stands.rest event after mid later
   pub no_memory : LacksMemory event (launch_of session.phase) → result ≡ Err faults.NoMemory
   pub enough : NeedsNoMemory (launch_of session.phase) (Expects session.phase) event → result ≢ Err faults.NoMemory
 
 -- what the history says of an event that needs no memory, the session says too
-needs_none : (session : State) (events : List Incoming) (past : History) (stands : StandsFor session events past) → session.ending ≡ None → (event : Incoming)
-    → NeedsNoMemory stands.rest.launch (Accepts past) event → NeedsNoMemory (launch_of session.phase) (Expects session.phase) event
+needs_none : (session : State) (events : List Incoming) (past : History) (stands : StandsFor session events past)
+    → session.ending ≡ None → (event : Incoming)
+    → NeedsNoMemory stands.rest.launch (Accepts past) event → NeedsNoMemory (launch_of session.phase)
+    (Expects session.phase) event
 needs_none session events past stands open_ End needs = tt
 needs_none session events past stands open_ ReadFailed needs = tt
-needs_none session events past stands open_ (File answer) needs = (stands.goes_on (sym stands.ending_is ∙ open_)).launch_is ∙ needs
+needs_none session events past stands open_ (File answer) needs =
+    (stands.goes_on (sym stands.ending_is ∙ open_)).launch_is ∙ needs
 needs_none session events past stands open_ (Report r) needs =
     let on = stands.goes_on (sym stands.ending_is ∙ open_) in
     (on.launch_is ∙ needs.0, λ expects. needs.1 (accepts_expected session.phase past r on.knows.phase_is expects))
@@ -217,13 +262,16 @@ needs_none session events past stands open_ (Piece piece) needs = absurd needs
 needs_none session events past stands open_ NoMemoryCame needs = absurd needs
 
 -- where the session ran out of memory, the event needs some
-needs_some : (session after : State) (fault : SessionFault) (event : Incoming) (mid later : Ports) (events : List Incoming) (past : History) (stands : StandsFor session events past) → session.ending ≡ None → Next session (Err fault) event after mid later
+needs_some : (session after : State) (fault : SessionFault) (event : Incoming) (mid later : Ports)
+    (events : List Incoming) (past : History) (stands : StandsFor session events past) → session.ending ≡ None
+    → Next session (Err fault) event after mid later
     → fault ≡ faults.NoMemory → ¬ NeedsNoMemory stands.rest.launch (Accepts past) event
 needs_some session after fault event mid later events past stands open_ step lost needs =
     step.enough (needs_none session events past stands open_ event needs) (ap Err lost)
 
 -- the event that comes says that there is no memory only where a launch waits
-lacking : (session : State) (wanted : Option (List ℕ)) (launch : Option Launch) (event : Incoming) (now next : Sources) → wanted ≡ option_map (λ l. l.arguments.program) launch
+lacking : (session : State) (wanted : Option (List ℕ)) (launch : Option Launch) (event : Incoming) (now next : Sources)
+    → wanted ≡ option_map (λ l. l.arguments.program) launch
     → ComesFrom wanted event now next → event ≡ File (Err NoMemory) → next.given ≡ now.given → LacksMemory event launch
 lacking session None launch event now next same from is given = absurd (impossible now.given (sym given ∙ from.0))
   where
@@ -231,15 +279,19 @@ lacking session None launch event now next same from is given = absurd (impossib
     impossible [] e = absurd cc
     impossible (x ∷ l) e = impossible l cc
 lacking session (Some path) None event now next same from is given = absurd cc
-lacking session (Some path) (Some launch) event now next same from is given = subst (λ e. LacksMemory e (Some launch)) (sym is) tt
+lacking session (Some path) (Some launch) event now next same from is given =
+    subst (λ e. LacksMemory e (Some launch)) (sym is) tt
 
 -- the way goes on where the event went well
-pub way_goes_on : (session after : State) (wanted : Option (List ℕ)) (want : Want) (event : Incoming) (begin now next : Sources) (old mid later : Ports)
-    → Way session wanted begin now old mid → ComesFrom wanted event now next → AreLawful (event ∷ []) → Next session (Ok want) event after mid later
+pub way_goes_on : (session after : State) (wanted : Option (List ℕ)) (want : Want) (event : Incoming)
+    (begin now next : Sources) (old mid later : Ports)
+    → Way session wanted begin now old mid → ComesFrom wanted event now next → AreLawful (event ∷ [])
+    → Next session (Ok want) event after mid later
     → (want ≡ want_is.Closed → ⊥)
     → Way after (wanted_by want) begin next old later
 way_goes_on session after wanted want event begin now next old mid later way from law step not =
-    elim (adds_event session way.events way.past wanted (launch_of session.phase) event now next way.stands way.open_ended refl way.wanted_is from) [
+    elim (adds_event session way.events way.past wanted (launch_of session.phase) event now next way.stands
+    way.open_ended refl way.wanted_is from) [
       | inl adds ↦
           let well = step.comes way.events way.past way.stands in
           let on = goes_on want after after.ending refl well.wants not in record {
@@ -247,10 +299,16 @@ way_goes_on session after wanted want event begin now next old mid later way fro
             past = well.new;
             given = way.given ++ adds.given;
             loads = way.loads ++ adds.loads;
-            given_are = adds.given_are ∙ ap (λ l. l ++ adds.given) way.given_are ∙ append_assoc begin.given way.given adds.given;
-            loads_are = adds.loads_are ∙ ap (λ l. l ++ adds.loads) way.loads_are ∙ append_assoc begin.loaded way.loads adds.loads;
+            given_are =
+                adds.given_are ∙ ap (λ l. l ++ adds.given) way.given_are
+                ∙ append_assoc begin.given way.given adds.given;
+            loads_are =
+                adds.loads_are ∙ ap (λ l. l ++ adds.loads) way.loads_are
+                ∙ append_assoc begin.loaded way.loads adds.loads;
             lawful = lawful_both way.events (event ∷ []) way.lawful law;
-            interleaves = interleaves_both [] way.events (event ∷ []) way.given adds.given way.loads adds.loads way.interleaves adds.one;
+            interleaves =
+                interleaves_both [] way.events (event ∷ []) way.given adds.given way.loads adds.loads way.interleaves
+                adds.one;
             stands = well.stands;
             sent = sends_both [] way.past well.new old mid later way.sent well.sends;
             sure = refuses_both old mid later way.sure well.refuses_nothing;
@@ -258,12 +316,16 @@ way_goes_on session after wanted want event begin now next old mid later way fro
             wanted_is = on.1;
           }
       | inr none ↦
-          absurd (let e : Ok want ≡ Err faults.NoMemory = step.no_memory (lacking session wanted (launch_of session.phase) event now next way.wanted_is from none.event_is none.given_are) in cc)
+          absurd (let e : Ok want ≡ Err faults.NoMemory =
+          step.no_memory (lacking session wanted (launch_of session.phase) event now next way.wanted_is from
+          none.event_is none.given_are) in cc)
     ]
 
 -- ---- the end
 
-serves : (events : List Incoming) (past : History) (rest : Rest) (by : Ending) (old later : Ports) → IsHistoryOf events past rest → ending_of past ≡ Some by → Sends [] past old later → RefusesNothing old later → Serves events by old later
+serves : (events : List Incoming) (past : History) (rest : Rest) (by : Ending) (old later : Ports)
+    → IsHistoryOf events past rest → ending_of past ≡ Some by → Sends [] past old later → RefusesNothing old later
+    → Serves events by old later
 serves events past rest by old later history is sent sure = record {
   past = past;
   rest = rest;
@@ -275,8 +337,11 @@ serves events past rest by old later history is sent sure = record {
   refuses_nothing = sure;
 }
 
-stops_short : (events : List Incoming) (past : History) (rest : Rest) (event : Incoming) (old mid later last : Ports) (fault : SessionFault)
-    → IsHistoryOf events past rest → IsTaking past → (fault ≡ faults.NoMemory → ¬ NeedsNoMemory rest.launch (Accepts past) event) → Sends [] past old mid → RefusesNothing old mid → FailsAt fault past rest event mid later → TriesQuit later last
+stops_short : (events : List Incoming) (past : History) (rest : Rest) (event : Incoming) (old mid later last : Ports)
+    (fault : SessionFault)
+    → IsHistoryOf events past rest → IsTaking
+    past → (fault ≡ faults.NoMemory → ¬ NeedsNoMemory rest.launch (Accepts past) event) → Sends [] past old mid
+    → RefusesNothing old mid → FailsAt fault past rest event mid later → TriesQuit later last
     → StopsShort (events ++ event ∷ []) fault old last
 stops_short events past rest event old mid later last fault history taking needs sent sure fails quit = record {
   before = events;
@@ -296,71 +361,110 @@ stops_short events past rest event old mid later last fault history taking needs
 }
 
 -- the result is as the way and its last event lead to
-ends : (events : List Incoming) (past : History) (rest : Rest) (event : Incoming) (after : State) (old mid later last : Ports) (given : List Incoming) (loads : List Load) (fault : SessionFault)
-    → IsHistoryOf events past rest → IsTaking past → (fault ≡ faults.NoMemory → ¬ NeedsNoMemory rest.launch (Accepts past) event) → Sends [] past old mid → RefusesNothing old mid → TriesQuit later last
+ends : (events : List Incoming) (past : History) (rest : Rest) (event : Incoming) (after : State)
+    (old mid later last : Ports) (given : List Incoming) (loads : List Load) (fault : SessionFault)
+    → IsHistoryOf events past rest → IsTaking
+    past → (fault ≡ faults.NoMemory → ¬ NeedsNoMemory rest.launch (Accepts past) event) → Sends [] past old mid
+    → RefusesNothing old mid → TriesQuit later last
     → Comes (Err fault) events past rest event after mid later → Interleaves [] (events ++ event ∷ []) given loads
     → Drives (events ++ event ∷ []) given loads old last (Err fault)
-ends events past rest event after old mid later last given loads (faults.Frame k) history taking needs sent sure quit comes from =
+ends events past rest event after old mid later last given loads (faults.Frame k) history taking needs sent sure quit
+    comes from =
     ends_at_fault from (record {
       mid = later;
-      serves = serves (events ++ event ∷ []) comes.new comes.rest (ending.Fault (faults.Frame k)) old later comes.history comes.ending_is (sends_both [] past comes.new old mid later sent comes.sends) (refuses_both old mid later sure comes.refuses_nothing);
+      serves = serves (events ++ event ∷ []) comes.new comes.rest (ending.Fault (faults.Frame k)) old later
+          comes.history comes.ending_is (sends_both [] past comes.new old mid later sent comes.sends)
+          (refuses_both old mid later sure comes.refuses_nothing);
       quit = quit;
     })
-ends events past rest event after old mid later last given loads faults.NoMemory history taking needs sent sure quit comes from =
-    runs_out_of_memory (inl from) (stops_short events past rest event old mid later last faults.NoMemory history taking needs sent sure comes quit)
-ends events past rest event after old mid later last given loads faults.SeqExhausted history taking needs sent sure quit comes from =
-    gives_up no_seq_is_left from (stops_short events past rest event old mid later last faults.SeqExhausted history taking needs sent sure comes quit)
-ends events past rest event after old mid later last given loads faults.OrdersFull history taking needs sent sure quit comes from =
-    gives_up orders_are_full from (stops_short events past rest event old mid later last faults.OrdersFull history taking needs sent sure comes quit)
-ends events past rest event after old mid later last given loads faults.RunnerGone history taking needs sent sure quit comes from =
-    gives_up runner_is_gone from (stops_short events past rest event old mid later last faults.RunnerGone history taking needs sent sure comes quit)
-ends events past rest event after old mid later last given loads faults.WriterGone history taking needs sent sure quit comes from =
-    gives_up writer_is_gone from (stops_short events past rest event old mid later last faults.WriterGone history taking needs sent sure comes quit)
+ends events past rest event after old mid later last given loads faults.NoMemory history taking needs sent sure quit
+    comes from =
+    runs_out_of_memory (inl from) (stops_short events past rest event old mid later last faults.NoMemory history taking
+    needs sent sure comes quit)
+ends events past rest event after old mid later last given loads faults.SeqExhausted history taking needs sent sure quit
+    comes from =
+    gives_up no_seq_is_left from (stops_short events past rest event old mid later last faults.SeqExhausted history
+    taking needs sent sure comes quit)
+ends events past rest event after old mid later last given loads faults.OrdersFull history taking needs sent sure quit
+    comes from =
+    gives_up orders_are_full from (stops_short events past rest event old mid later last faults.OrdersFull history
+    taking needs sent sure comes quit)
+ends events past rest event after old mid later last given loads faults.RunnerGone history taking needs sent sure quit
+    comes from =
+    gives_up runner_is_gone from (stops_short events past rest event old mid later last faults.RunnerGone history taking
+    needs sent sure comes quit)
+ends events past rest event after old mid later last given loads faults.WriterGone history taking needs sent sure quit
+    comes from =
+    gives_up writer_is_gone from (stops_short events past rest event old mid later last faults.WriterGone history taking
+    needs sent sure comes quit)
 
 -- the session was closed
-pub way_closes : (session after : State) (wanted : Option (List ℕ)) (want : Want) (event : Incoming) (begin now next : Sources) (old mid later : Ports) (by : Closed)
-    → Way session wanted begin now old mid → ComesFrom wanted event now next → AreLawful (event ∷ []) → Next session (Ok want) event after mid later
+pub way_closes : (session after : State) (wanted : Option (List ℕ)) (want : Want) (event : Incoming)
+    (begin now next : Sources) (old mid later : Ports) (by : Closed)
+    → Way session wanted begin now old mid → ComesFrom wanted event now next → AreLawful (event ∷ [])
+    → Next session (Ok want) event after mid later
     → after.ending ≡ Some (ending.Closed by)
     → Driven (Ok by) begin.given next.given begin.loaded next.loaded old later
 way_closes session after wanted want event begin now next old mid later by way from law step is =
-    elim (adds_event session way.events way.past wanted (launch_of session.phase) event now next way.stands way.open_ended refl way.wanted_is from) [
+    elim (adds_event session way.events way.past wanted (launch_of session.phase) event now next way.stands
+    way.open_ended refl way.wanted_is from) [
       | inl adds ↦
           let well = step.comes way.events way.past way.stands in record {
             events = way.events ++ event ∷ [];
             given = way.given ++ adds.given;
             loads = way.loads ++ adds.loads;
-            given_are = adds.given_are ∙ ap (λ l. l ++ adds.given) way.given_are ∙ append_assoc begin.given way.given adds.given;
-            loads_are = adds.loads_are ∙ ap (λ l. l ++ adds.loads) way.loads_are ∙ append_assoc begin.loaded way.loads adds.loads;
+            given_are =
+                adds.given_are ∙ ap (λ l. l ++ adds.given) way.given_are
+                ∙ append_assoc begin.given way.given adds.given;
+            loads_are =
+                adds.loads_are ∙ ap (λ l. l ++ adds.loads) way.loads_are
+                ∙ append_assoc begin.loaded way.loads adds.loads;
             lawful = lawful_both way.events (event ∷ []) way.lawful law;
             drives = closes
-                (interleaves_both [] way.events (event ∷ []) way.given adds.given way.loads adds.loads way.interleaves adds.one)
-                (serves (way.events ++ event ∷ []) well.new well.stands.rest (ending.Closed by) old later well.stands.history (sym well.stands.ending_is ∙ is) (sends_both [] way.past well.new old mid later way.sent well.sends) (refuses_both old mid later way.sure well.refuses_nothing));
+                (interleaves_both [] way.events (event ∷ []) way.given adds.given way.loads adds.loads way.interleaves
+                adds.one)
+                (serves (way.events ++ event ∷ []) well.new well.stands.rest (ending.Closed by) old later
+                well.stands.history (sym well.stands.ending_is ∙ is)
+                (sends_both [] way.past well.new old mid later way.sent well.sends)
+                (refuses_both old mid later way.sure well.refuses_nothing));
           }
       | inr none ↦
-          absurd (let e : Ok want ≡ Err faults.NoMemory = step.no_memory (lacking session wanted (launch_of session.phase) event now next way.wanted_is from none.event_is none.given_are) in cc)
+          absurd (let e : Ok want ≡ Err faults.NoMemory =
+          step.no_memory (lacking session wanted (launch_of session.phase) event now next way.wanted_is from
+          none.event_is none.given_are) in cc)
     ]
 
 -- it gave up
-pub way_fails : (session after : State) (wanted : Option (List ℕ)) (fault : SessionFault) (event : Incoming) (begin now next : Sources) (old mid later last : Ports)
-    → Way session wanted begin now old mid → ComesFrom wanted event now next → AreLawful (event ∷ []) → Next session (Err fault) event after mid later
+pub way_fails : (session after : State) (wanted : Option (List ℕ)) (fault : SessionFault) (event : Incoming)
+    (begin now next : Sources) (old mid later last : Ports)
+    → Way session wanted begin now old mid → ComesFrom wanted event now next → AreLawful (event ∷ [])
+    → Next session (Err fault) event after mid later
     → TriesQuit later last
     → Driven (Err fault) begin.given next.given begin.loaded next.loaded old last
 way_fails session after wanted fault event begin now next old mid later last way from law step quit =
     let needs = needs_some session after fault event mid later way.events way.past way.stands way.open_ended step in
-    elim (adds_event session way.events way.past wanted (launch_of session.phase) event now next way.stands way.open_ended refl way.wanted_is from) [
+    elim (adds_event session way.events way.past wanted (launch_of session.phase) event now next way.stands
+    way.open_ended refl way.wanted_is from) [
       | inl adds ↦ record {
         events = way.events ++ event ∷ [];
         given = way.given ++ adds.given;
         loads = way.loads ++ adds.loads;
-        given_are = adds.given_are ∙ ap (λ l. l ++ adds.given) way.given_are ∙ append_assoc begin.given way.given adds.given;
-        loads_are = adds.loads_are ∙ ap (λ l. l ++ adds.loads) way.loads_are ∙ append_assoc begin.loaded way.loads adds.loads;
+        given_are =
+            adds.given_are ∙ ap (λ l. l ++ adds.given) way.given_are ∙ append_assoc begin.given way.given adds.given;
+        loads_are =
+            adds.loads_are ∙ ap (λ l. l ++ adds.loads) way.loads_are ∙ append_assoc begin.loaded way.loads adds.loads;
         lawful = lawful_both way.events (event ∷ []) way.lawful law;
-        drives = ends way.events way.past way.stands.rest event after old mid later last (way.given ++ adds.given) (way.loads ++ adds.loads) fault way.stands.history (sym way.stands.ending_is ∙ way.open_ended) needs way.sent way.sure quit
+        drives = ends way.events way.past way.stands.rest event after old mid later last (way.given ++ adds.given)
+            (way.loads ++ adds.loads) fault way.stands.history (sym way.stands.ending_is ∙ way.open_ended) needs
+            way.sent way.sure quit
             (step.comes way.events way.past way.stands)
-            (interleaves_both [] way.events (event ∷ []) way.given adds.given way.loads adds.loads way.interleaves adds.one);
+            (interleaves_both [] way.events (event ∷ []) way.given adds.given way.loads adds.loads way.interleaves
+            adds.one);
       }
       | inr none ↦
-          let e : Err fault ≡ Err faults.NoMemory = step.no_memory (lacking session wanted (launch_of session.phase) event now next way.wanted_is from none.event_is none.given_are) in
+          let e : Err fault ≡ Err faults.NoMemory =
+          step.no_memory (lacking session wanted (launch_of session.phase) event now next way.wanted_is from
+          none.event_is none.given_are) in
           let same : fault ≡ faults.NoMemory = cc in record {
             events = way.events ++ event ∷ [];
             given = way.given;
@@ -368,15 +472,26 @@ way_fails session after wanted fault event begin now next old mid later last way
             given_are = none.given_are ∙ way.given_are;
             loads_are = none.loads_are ∙ way.loads_are;
             lawful = lawful_both way.events (event ∷ []) way.lawful law;
-            drives = subst (λ f. Drives (way.events ++ event ∷ []) way.given way.loads old last (Err f)) (sym same) (runs_out_of_memory
-                (inr (record { before = way.events; path = none.path; events_are = ap (λ x. way.events ++ x ∷ []) none.event_is; awaited = none.awaited; interleaves = way.interleaves }))
-                (stops_short way.events way.past way.stands.rest event old mid later last faults.NoMemory way.stands.history (sym way.stands.ending_is ∙ way.open_ended) (λ _. needs same) way.sent way.sure
-                (subst (λ f. Comes (Err f) way.events way.past way.stands.rest event after mid later) same (step.comes way.events way.past way.stands)) quit));
+            drives = subst (λ f. Drives (way.events ++ event ∷ []) way.given way.loads old last (Err f)) (sym same)
+                (runs_out_of_memory
+                (inr (record {
+                  before = way.events;
+                  path = none.path;
+                  events_are = ap (λ x. way.events ++ x ∷ [])
+                      none.event_is;
+                  awaited = none.awaited;
+                  interleaves = way.interleaves;
+                }))
+                (stops_short way.events way.past way.stands.rest event old mid later last faults.NoMemory
+                way.stands.history (sym way.stands.ending_is ∙ way.open_ended) (λ _. needs same) way.sent way.sure
+                (subst (λ f. Comes (Err f) way.events way.past way.stands.rest event after mid later) same
+                (step.comes way.events way.past way.stands)) quit));
           }
     ]
 
 -- a session that says it is closed was closed by something
-pub not_open_ended : (session : State) (e : Option Ending) (want : Want) → session.ending ≡ e → want ≡ want_is.Closed → Wants want session e → IsOpenEnded e → ⊥
+pub not_open_ended : (session : State) (e : Option Ending) (want : Want) → session.ending ≡ e → want ≡ want_is.Closed
+    → Wants want session e → IsOpenEnded e → ⊥
 not_open_ended session None want is closed wants open_ = never want (launch_of session.phase) closed wants
   where
     never : (want : Want) (launch : Option Launch) → want ≡ want_is.Closed → WantsHere want launch → ⊥

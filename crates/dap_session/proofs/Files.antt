@@ -26,45 +26,71 @@ incoming_file (Err fault) = refl
 -- ---- a launch that is made
 
 -- the launch that waits, and the file that was given for it
-pub record IsGiven (rest : Rest) (launch : Launch) (answer : Result (List ℕ) LoadFault) (file : Option (List ℕ)) : Type 0 where
+pub record IsGiven (rest : Rest) (launch : Launch) (answer : Result (List ℕ) LoadFault) (file : Option (List ℕ)) : Type
+    0 where
   pub waits : rest.launch ≡ Some launch
   pub file_is : file_of answer ≡ Some file
 
-leads_by_answer : (past : History) (rest : Rest) (launch : Launch) (answer : Result (List ℕ) LoadFault) (file : Option (List ℕ)) (new : History) (left : Rest) → file_of answer ≡ Some file
+leads_by_answer : (past : History) (rest : Rest) (launch : Launch) (answer : Result (List ℕ) LoadFault)
+    (file : Option (List ℕ)) (new : History) (left : Rest) → file_of answer ≡ Some file
     → Loads past launch file rest.bytes new left → LeadsByFile past rest (Some launch) answer new left
-leads_by_answer past rest launch (Ok bytes) file new left is loads = let e : Some bytes ≡ file = cc in inr (subst (λ f. Loads past launch f rest.bytes new left) (sym e) loads)
-leads_by_answer past rest launch (Err load_fault.CannotRead) file new left is loads = let e : None ≡ file = cc in inr (subst (λ f. Loads past launch f rest.bytes new left) (sym e) loads)
+leads_by_answer past rest launch (Ok bytes) file new left is loads =
+    let e : Some bytes ≡ file = cc in inr (subst (λ f. Loads past launch f rest.bytes new left) (sym e) loads)
+leads_by_answer past rest launch (Err load_fault.CannotRead) file new left is loads =
+    let e : None ≡ file = cc in inr (subst (λ f. Loads past launch f rest.bytes new left) (sym e) loads)
 leads_by_answer past rest launch (Err load_fault.NoMemory) file new left is loads = absurd cc
 
-leads_by_load : (past : History) (rest : Rest) (launch : Launch) (answer : Result (List ℕ) LoadFault) (file : Option (List ℕ)) → IsGiven rest launch answer file → (new : History) (left : Rest)
+leads_by_load : (past : History) (rest : Rest) (launch : Launch) (answer : Result (List ℕ) LoadFault)
+    (file : Option (List ℕ)) → IsGiven rest launch answer file → (new : History) (left : Rest)
     → Loads past launch file rest.bytes new left → Leads past rest (File answer) new left
 leads_by_load past rest launch answer file is new left loads =
-    subst (λ l. LeadsByFile past rest l answer new left) (sym is.waits) (leads_by_answer past rest launch answer file new left is.file_is loads)
+    subst (λ l. LeadsByFile past rest l answer new left) (sym is.waits)
+    (leads_by_answer past rest launch answer file new left is.file_is loads)
 
-toward_by_load : (past : History) (rest : Rest) (launch : Launch) (answer : Result (List ℕ) LoadFault) (file : Option (List ℕ)) → IsGiven rest launch answer file → (mid : History) → IsAfter past (Loaded launch file) mid
+toward_by_load : (past : History) (rest : Rest) (launch : Launch) (answer : Result (List ℕ) LoadFault)
+    (file : Option (List ℕ)) → IsGiven rest launch answer file → (mid : History) → IsAfter past (Loaded launch file) mid
     → (new : History) → TowardByPiece mid None rest.bytes new → Toward past rest (File answer) new
 toward_by_load past rest launch answer file is mid after new taken =
-    inr (record { launch = launch; waits = is.waits; file = file; file_is = is.file_is; mid = mid; loaded = after; left = taken.0; taken = taken.1 })
+    inr (record {
+      launch = launch;
+      waits = is.waits;
+      file = file;
+      file_is = is.file_is;
+      mid = mid;
+      loaded = after;
+      left = taken.0;
+      taken = taken.1;
+    })
 
 -- the contents after it are taken as well
-pub file_taken : (result : Result (Unit {0}) SessionFault) (past : History) (rest : Rest) (launch : Launch) (answer : Result (List ℕ) LoadFault) (file : Option (List ℕ)) (loaded last : State) (old between later : Ports)
-    → IsTaking past → IsGiven rest launch answer file → loaded.stream ≡ record { rest = rest.bytes; fault = None } → TakesItem past (Loaded launch file) loaded old between
-    → ((h : History) → loaded.stream.fault ≡ None → launch_of loaded.phase ≡ None → IsAt loaded h → HandlesContents result h loaded.stream.rest last between later)
+pub file_taken : (result : Result (Unit {0}) SessionFault) (past : History) (rest : Rest) (launch : Launch)
+    (answer : Result (List ℕ) LoadFault) (file : Option (List ℕ)) (loaded last : State) (old between later : Ports)
+    → IsTaking past → IsGiven rest launch answer file → loaded.stream ≡ record { rest = rest.bytes; fault = None }
+    → TakesItem past (Loaded launch file) loaded old between
+    → ((h : History) → loaded.stream.fault ≡ None → launch_of loaded.phase ≡ None → IsAt loaded h
+    → HandlesContents result h loaded.stream.rest last between later)
     → Handles result past rest (File answer) last old later
 file_taken result past rest launch answer file loaded last old between later taking is stream_is item taken =
     let mid = item.new in
-    let contents = subst (λ b. HandlesContents result mid b last between later) (ap (λ s. s.rest) stream_is) (taken mid (ap (λ s. s.fault) stream_is) item.free item.is_at) in
-    goes_after result (TakesAll mid rest.bytes) (Leads past rest (File answer)) (TowardByPiece mid None rest.bytes) (Toward past rest (File answer)) past mid last old between later
+    let contents =
+    subst (λ b. HandlesContents result mid b last between later) (ap (λ s. s.rest) stream_is)
+    (taken mid (ap (λ s. s.fault) stream_is) item.free item.is_at) in
+    goes_after result (TakesAll mid rest.bytes) (Leads past rest (File answer)) (TowardByPiece mid None rest.bytes)
+    (Toward past rest (File answer)) past mid last old between later
     item.sends item.refuses_nothing
-    (λ new left all. leads_by_load past rest launch answer file is new left (record { taking = taking; mid = mid; loaded = item.after; after = all }))
+    (λ new left all. leads_by_load past rest launch answer file is new left
+    (record { taking = taking; mid = mid; loaded = item.after; after = all }))
     (toward_by_load past rest launch answer file is mid item.after) contents
 
 -- ---- a launch that is not made
 
-pub file_lost : (past : History) (rest : Rest) (answer : Result (List ℕ) LoadFault) (last : State) (old : Ports) → Handles (Err NoMemory) past rest (File answer) last old old
+pub file_lost : (past : History) (rest : Rest) (answer : Result (List ℕ) LoadFault) (last : State) (old : Ports)
+    → Handles (Err NoMemory) past rest (File answer) last old old
 file_lost past rest answer last old = inl (stops_at_once (Toward past rest (File answer)) past old (inl refl))
 
-pub load_fails : (fault : SessionFault) (past : History) (rest : Rest) (launch : Launch) (answer : Result (List ℕ) LoadFault) (file : Option (List ℕ)) (last : State) (old later : Ports) → IsGiven rest launch answer file
+pub load_fails : (fault : SessionFault) (past : History) (rest : Rest) (launch : Launch)
+    (answer : Result (List ℕ) LoadFault) (file : Option (List ℕ)) (last : State) (old later : Ports)
+    → IsGiven rest launch answer file
     → FailsAtItem fault past (Loaded launch file) old later → Handles (Err fault) past rest (File answer) last old later
 load_fails fault past rest launch answer file last old later is fails =
     inl (stops_at_item (Toward past rest (File answer)) fault past (Loaded launch file) old later (inl refl)
@@ -72,7 +98,9 @@ load_fails fault past rest launch answer file last old later is fails =
 
 -- ---- a file that no launch waits for
 
-pub file_passed : (past : History) (rest : Rest) (answer : Result (List ℕ) LoadFault) (session last : State) (old : Ports) → last ≡ session → session.ending ≡ None → launch_of session.phase ≡ None → IsTaking past → GoesOn session past rest
+pub file_passed : (past : History) (rest : Rest) (answer : Result (List ℕ) LoadFault) (session last : State)
+    (old : Ports) → last ≡ session → session.ending ≡ None → launch_of session.phase ≡ None → IsTaking past
+    → GoesOn session past rest
     → Handles (Ok tt) past rest (File answer) last old old
 file_passed past rest answer session last old same open_ free taking on =
     subst (λ s. Handles (Ok tt) past rest (File answer) s old old) (sym same)
@@ -81,13 +109,15 @@ file_passed past rest answer session last old same open_ free taking on =
 
 -- ---- no memory for a file
 
-pub lacking : (answer : Result (List ℕ) LoadFault) (launch : Option Launch) → LacksMemory (File answer) launch → (answer ≡ Err load_fault.NoMemory) × (¬ (launch ≡ None))
+pub lacking : (answer : Result (List ℕ) LoadFault) (launch : Option Launch) → LacksMemory (File answer) launch
+    → (answer ≡ Err load_fault.NoMemory) × (¬ (launch ≡ None))
 lacking (Err load_fault.NoMemory) (Some launch) lacks = (refl, λ e. absurd cc)
 lacking (Err load_fault.NoMemory) None lacks = absurd lacks
 lacking (Err load_fault.CannotRead) launch lacks = absurd lacks
 lacking (Ok file) launch lacks = absurd lacks
 
 -- such a file isn't read
-pub not_lacking : (answer : Result (List ℕ) LoadFault) (launch : Option Launch) (file : Option (List ℕ)) → file_of answer ≡ Some file → ¬ LacksMemory (File answer) launch
+pub not_lacking : (answer : Result (List ℕ) LoadFault) (launch : Option Launch) (file : Option (List ℕ))
+    → file_of answer ≡ Some file → ¬ LacksMemory (File answer) launch
 not_lacking answer launch file is lacks =
     let e : None ≡ Some file = sym (ap file_of (lacking answer launch lacks).0) ∙ is in absurd cc

@@ -13,8 +13,10 @@ use Rattle.dap_session.proofs.Items.{refuses_none}
 use Rattle.dap_session.proofs.Joining.{refuses_both, sends_both, sends_nothing}
 
 -- what was sent before is sent as well
-pub goes_after : (result : Result (Unit {0}) SessionFault) (L M : History → Rest → Type 0) (T U : History → Type 0) (past mid : History) (session : State) (old between later : Ports)
-    → Sends past mid old between → RefusesNothing old between → ((new : History) (rest : Rest) → L new rest → M new rest) → ((new : History) → T new → U new)
+pub goes_after : (result : Result (Unit {0}) SessionFault) (L M : History → Rest → Type 0) (T U : History → Type 0)
+    (past mid : History) (session : State) (old between later : Ports)
+    → Sends past mid old between → RefusesNothing old between
+    → ((new : History) (rest : Rest) → L new rest → M new rest) → ((new : History) → T new → U new)
     → Goes result L T mid session between later → Goes result M U past session old later
 goes_after (Ok u) L M T U past mid session old between later sends refuses leads toward goes =
     record {
@@ -52,7 +54,8 @@ goes_after (Err fault) L M T U past mid session old between later sends refuses 
     )
 
 -- an allocation failed before anything was sent
-pub stops_at_once : (T : History → Type 0) (past : History) (old : Ports) → T past → StopsOnTheWay T past NoMemory old old
+pub stops_at_once : (T : History → Type 0) (past : History) (old : Ports) → T past
+    → StopsOnTheWay T past NoMemory old old
 stops_at_once T past old here =
     record {
       mid = past;
@@ -66,7 +69,8 @@ stops_at_once T past old here =
     }
 
 -- the session gave up at the first item
-pub stops_at_item : (T : History → Type 0) (fault : SessionFault) (past : History) (item : Item) (old later : Ports) → T past → ((new : History) → IsAfter past item new → T new)
+pub stops_at_item : (T : History → Type 0) (fault : SessionFault) (past : History) (item : Item) (old later : Ports)
+    → T past → ((new : History) → IsAfter past item new → T new)
     → FailsAtItem fault past item old later → StopsOnTheWay T past fault old later
 stops_at_item T fault past item old later here toward fails =
     record {
@@ -81,7 +85,8 @@ stops_at_item T fault past item old later here toward fails =
     }
 
 -- nothing comes of the event
-pub arrives_at_once : (L : History → Rest → Type 0) (past : History) (rest : Rest) (session : State) (old : Ports) → L past rest → session.ending ≡ None → IsTaking past → GoesOn session past rest → Arrives L past session old old
+pub arrives_at_once : (L : History → Rest → Type 0) (past : History) (rest : Rest) (session : State) (old : Ports)
+    → L past rest → session.ending ≡ None → IsTaking past → GoesOn session past rest → Arrives L past session old old
 arrives_at_once L past rest session old here open_ taking on =
     record {
       new = past;

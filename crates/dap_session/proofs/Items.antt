@@ -27,7 +27,8 @@ use Rattle.dap_session.specs.Steps.{IsStepOf, IsSent}
 use Rattle.dap_session.specs.Handling.{TakesItem, FailsAtItem, HandlesItem}
 
 -- an item that is taken ends the session as it says
-pub ending_after : ReadingsGoOn → (past : History) (step : Step) → IsTaking past → ending_of (past ++ step ∷ []) ≡ closing step.item
+pub ending_after : ReadingsGoOn → (past : History) (step : Step) → IsTaking past
+    → ending_of (past ++ step ∷ []) ≡ closing step.item
 ending_after laws past step taking =
     laws.ending_is past step ∙ ap (or_else (closing step.item)) taking ∙ or_else-none (closing step.item)
 
@@ -46,7 +47,8 @@ pub record HasGoneOn (past : History) (step : Step) (session : State) : Type 0 w
   pub phase_is : IsPhase session.phase (past ++ step ∷ [])
   pub free : launch_of session.phase ≡ None
 
-pub takes_item : ReadingsGoOn → (past : History) (step : Step) (session : State) (old later : Ports) → IsTaking past → Causes past step.item step
+pub takes_item : ReadingsGoOn → (past : History) (step : Step) (session : State) (old later : Ports) → IsTaking past
+    → Causes past step.item step
     → HasGoneOn past step session → WasSent past step session old later
     → TakesItem past step.item session old later
 takes_item laws past step session old later taking causes on was =
@@ -62,17 +64,24 @@ takes_item laws past step session old later taking causes on was =
       refuses_nothing = was.refuses_nothing;
     }
 
-pub fails_at_step : (fault : SessionFault) (past : History) (step : Step) (old later : Ports) → Causes past step.item step → BreaksOff fault past (past ++ step ∷ []) old later
+pub fails_at_step : (fault : SessionFault) (past : History) (step : Step) (old later : Ports)
+    → Causes past step.item step → BreaksOff fault past (past ++ step ∷ []) old later
     → FailsAtItem fault past step.item old later
 fails_at_step fault past step old later causes breaks =
-    record { next = past ++ step ∷ []; next_is = inr (record { step = step; item_is = refl; causes = causes; new_is = refl }); breaks = breaks }
+    record {
+      next =
+          past ++ step ∷ [];
+      next_is = inr (record { step = step; item_is = refl; causes = causes; new_is = refl });
+      breaks = breaks;
+    }
 
 -- an allocation failed before anything was sent
 pub fails_before : (past : History) (item : Item) (old : Ports) → FailsAtItem NoMemory past item old old
 fails_before past item old = record { next = past; next_is = inl refl; breaks = refl }
 
 -- a step of an item with this answer and this effect is what is sent
-pub is_step : (item : Item) (said answer : Option Outgoing) (effect : Effect) (done : Done) → said ≡ answer → Does done effect → IsStepOf said done (step_of item answer effect)
+pub is_step : (item : Item) (said answer : Option Outgoing) (effect : Effect) (done : Done) → said ≡ answer
+    → Does done effect → IsStepOf said done (step_of item answer effect)
 is_step item said answer effect done same does =
     record {
       messages_are =
@@ -82,7 +91,8 @@ is_step item said answer effect done same does =
     }
 
 -- a step that says and orders nothing
-pub sends_silent : ReadingsGoOn → (past : History) (step : Step) → messages step ≡ [] → step.effect.orders ≡ [] → (old : Ports) → Sends past (past ++ step ∷ []) old old
+pub sends_silent : ReadingsGoOn → (past : History) (step : Step) → messages step ≡ [] → step.effect.orders ≡ []
+    → (old : Ports) → Sends past (past ++ step ∷ []) old old
 sends_silent laws past step quiet still old = record {
   messages = [];
   orders = [];
@@ -92,12 +102,15 @@ sends_silent laws past step quiet still old = record {
   };
   frames_are = sym (append-nil old.frames);
   orders_are = sym (append-nil old.orders);
-  seqs_fit = λ fits. let next = laws.next_seq_is past step ∙ ap (λ ms. next_seq past + length ms) quiet in omega (arith, next, fits);
+  seqs_fit =
+      λ fits. let next = laws.next_seq_is past step ∙ ap (λ ms. next_seq past + length ms) quiet in omega
+      (arith, next, fits);
 }
 
 -- ---- a content that is no request
 
-pub skips : ReadingsGoOn → SkippingKeepsThePhase → (past : History) (session : State) (old : Ports) → IsTaking past → session.ending ≡ None → launch_of session.phase ≡ None → Knows session past
+pub skips : ReadingsGoOn → SkippingKeepsThePhase → (past : History) (session : State) (old : Ports) → IsTaking past
+    → session.ending ≡ None → launch_of session.phase ≡ None → Knows session past
     → TakesItem past (Content None) session old old
 skips laws keeps past session old taking open_ free knows =
     takes_item laws past skipped session old old taking (record { answer_is = refl; effect_is = refl })
@@ -110,15 +123,22 @@ skips laws keeps past session old taking open_ free knows =
 
 -- ---- what is sent of a reply
 
-pub is_answer_step : (item : Item) (seq : ℕ) (said name : CommandName) (given : Given) (reply : Reply) → said ≡ name → Gives given reply
-    → IsStepOf (Some (Answer seq said given.result)) given.effect (step_of item (Some (Answer seq name reply.result)) reply.effect)
+pub is_answer_step : (item : Item) (seq : ℕ) (said name : CommandName) (given : Given) (reply : Reply) → said ≡ name
+    → Gives given reply
+    → IsStepOf (Some (Answer seq said given.result)) given.effect
+    (step_of item (Some (Answer seq name reply.result)) reply.effect)
 is_answer_step item seq said name given reply named gives =
     is_step item (Some (Answer seq said given.result)) (Some (Answer seq name reply.result)) reply.effect given.effect
-    (ap (λ r. Some (Answer seq said r)) gives.result_is ∙ ap (λ n. Some (Answer seq n reply.result)) named) gives.effect_is
+    (ap (λ r. Some (Answer seq said r)) gives.result_is ∙ ap (λ n. Some (Answer seq n reply.result)) named)
+    gives.effect_is
 
 -- a step that ends nothing was sent, or broken off
-pub sends_item : ReadingsGoOn → (result : Result (Unit {0}) SessionFault) (past : History) (step : Step) (session : State) (phase : Phase) (old later : Ports) → IsTaking past → Causes past step.item step → closing step.item ≡ None
-    → session.ending ≡ None → IsPhase phase (past ++ step ∷ []) → OnOk result ((h : History) → IsPhase phase h → IsPhase session.phase h) → OnOk result (launch_of session.phase ≡ None) → IsSent result past step session old later
+pub sends_item : ReadingsGoOn → (result : Result (Unit {0}) SessionFault) (past : History) (step : Step)
+    (session : State) (phase : Phase) (old later : Ports) → IsTaking past → Causes past step.item step
+    → closing step.item ≡ None
+    → session.ending ≡ None → IsPhase phase (past ++ step ∷ [])
+    → OnOk result ((h : History) → IsPhase phase h → IsPhase session.phase h)
+    → OnOk result (launch_of session.phase ≡ None) → IsSent result past step session old later
     → HandlesItem result past step.item session old later
 sends_item laws (Ok u) past step session phase old later taking causes on open_ is keeps free sent =
     takes_item laws past step session old later taking causes

@@ -9,19 +9,23 @@ use Rattle.dap_history.specs.Output.{frames_from}
 use Rattle.dap_session.specs.Ports.{Ports}
 use Rattle.dap_session.specs.Sending.{Adds, Sends, RefusesNothing}
 
-pub frames_from-append : (n : ℕ) (xs ys : List Outgoing) → frames_from n (xs ++ ys) ≡ frames_from n xs ++ frames_from (n + length xs) ys
+pub frames_from-append : (n : ℕ) (xs ys : List Outgoing) → frames_from n (xs ++ ys) ≡ frames_from n xs
+    ++ frames_from (n + length xs) ys
 frames_from-append n [] ys = ap (λ k. frames_from k ys) (omega arith)
 frames_from-append n (x ∷ xs) ys =
-    ap (λ l. frame_of (text_of x n) ∷ l) (frames_from-append (n + 1) xs ys ∙ ap (λ k. frames_from (n + 1) xs ++ frames_from k ys) (omega arith))
+    ap (λ l. frame_of (text_of x n) ∷ l) (frames_from-append (n + 1) xs ys
+    ∙ ap (λ k. frames_from (n + 1) xs ++ frames_from k ys) (omega arith))
 
-pub adds_both : (a b c : History) (m n : List Outgoing) (o r : List PlainOrder) → Adds a b m o → Adds b c n r → Adds a c (m ++ n) (o ++ r)
+pub adds_both : (a b c : History) (m n : List Outgoing) (o r : List PlainOrder) → Adds a b m o → Adds b c n r
+    → Adds a c (m ++ n) (o ++ r)
 adds_both a b c m n o r first next =
     record {
       messages_are = next.messages_are ∙ ap (λ l. l ++ n) first.messages_are ∙ append_assoc (messages_of a) m n;
       orders_are = next.orders_are ∙ ap (λ l. l ++ r) first.orders_are ∙ append_assoc (orders_of a) o r;
     }
 
-pub next_seq_along : (a b : History) (m : List Outgoing) (o : List PlainOrder) → Adds a b m o → next_seq b ≡ next_seq a + length m
+pub next_seq_along : (a b : History) (m : List Outgoing) (o : List PlainOrder) → Adds a b m o
+    → next_seq b ≡ next_seq a + length m
 next_seq_along a b m o adds =
     let e = ap length adds.messages_are in let l = length-append (messages_of a) m in omega (arith, e, l)
 
@@ -34,9 +38,12 @@ sends_both a b c p q r first next =
       frames_are =
           next.frames_are ∙ ap (λ l. l ++ frames_from (next_seq b) next.messages) first.frames_are
           ∙ append_assoc p.frames (frames_from (next_seq a) first.messages) (frames_from (next_seq b) next.messages)
-          ∙ ap (λ n. p.frames ++ (frames_from (next_seq a) first.messages ++ frames_from n next.messages)) (next_seq_along a b first.messages first.orders first.adds)
+          ∙ ap (λ n. p.frames ++ (frames_from (next_seq a) first.messages ++ frames_from n next.messages))
+          (next_seq_along a b first.messages first.orders first.adds)
           ∙ ap (λ l. p.frames ++ l) (sym (frames_from-append (next_seq a) first.messages next.messages));
-      orders_are = next.orders_are ∙ ap (λ l. l ++ next.orders) first.orders_are ∙ append_assoc p.orders first.orders next.orders;
+      orders_are =
+          next.orders_are ∙ ap (λ l. l ++ next.orders) first.orders_are
+          ∙ append_assoc p.orders first.orders next.orders;
       seqs_fit = λ fits. next.seqs_fit (first.seqs_fit fits);
     }
 
@@ -51,4 +58,5 @@ sends_nothing past old = record {
 }
 
 pub refuses_both : (p q r : Ports) → RefusesNothing p q → RefusesNothing q r → RefusesNothing p r
-refuses_both p q r first next = record { writer = next.writer ∙ first.writer; runner = next.runner ∙ first.runner; full = next.full ∙ first.full }
+refuses_both p q r first next =
+    record { writer = next.writer ∙ first.writer; runner = next.runner ∙ first.runner; full = next.full ∙ first.full }

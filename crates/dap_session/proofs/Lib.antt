@@ -1,11 +1,12 @@
 -- Two parts that were sent one after another are sent together; for the functions of `driving`, `laws` and `session`.
 pub mod Joining
--- Frames that were added one after another are those of the whole step; for `Frames::add_events`, `Session::send`, `put`
--- and others.
+-- Frames that were added one after another are those of the whole step; for `Frames::add_events`, `Session::send`,
+-- `put` and others.
 pub mod Building
 -- A session at a history takes one item more, or fails at it; for the functions of `driving`, `laws` and `session`.
 pub mod Items
--- A request is answered, or is a launch that waits for its file; for `Session::take_content` and `Session::take_request`.
+-- A request is answered, or is a launch that waits for its file; for `Session::take_content` and
+-- `Session::take_request`.
 pub mod Requests
 -- What a session does with a report, accepted or passed over; for `Session::accept`, `Session::take_report` and others.
 pub mod Reports
@@ -20,14 +21,15 @@ pub mod Pieces
 pub mod Closing
 -- What a session does with the file of a launch; for `Session::take_event` and `Session::take_file`.
 pub mod Files
--- A session that stands for some events stands for one event more after it took it; for `Session::go_on`, `Session::want`
--- and `session_laws`.
+-- A session that stands for some events stands for one event more after it took it; for `Session::go_on`,
+-- `Session::want` and `session_laws`.
 pub mod Standing
 -- A session that is driven takes events until it is closed or fails; for `session_laws` and `take_all`.
 pub mod Driven
 -- A history that a session reached is that of some events, with each content in a piece of its own; for `session_laws`.
 pub mod Retaken
--- What a session sent is a prefix of what the history gives that it reached; for the clause `prefixes` of `session_laws`.
+-- What a session sent is a prefix of what the history gives that it reached; for the clause `prefixes` of
+-- `session_laws`.
 pub mod Beginnings
 -- What a session put is numbered, and read back; for the clause `numbered` of `session_laws`.
 pub mod Numbering

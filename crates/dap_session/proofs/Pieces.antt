@@ -18,7 +18,8 @@ toward_here past None bytes = (bytes, none)
 toward_here past (Some launch) bytes = refl
 
 -- there was no memory for the piece
-pub piece_lost : (session : State) (past : History) (rest : Rest) (piece : List ℕ) (old : Ports) → Handles (Err NoMemory) past rest (Piece piece) session old old
+pub piece_lost : (session : State) (past : History) (rest : Rest) (piece : List ℕ) (old : Ports)
+    → Handles (Err NoMemory) past rest (Piece piece) session old old
 piece_lost session past rest piece old =
     inl (stops_at_once (Toward past rest (Piece piece)) past old (toward_here past rest.launch (rest.bytes ++ piece)))
 
@@ -29,10 +30,12 @@ pub record IsFed (session fed : State) (piece : List ℕ) : Type 0 where
   pub seq_is : fed.next_seq ≡ session.next_seq
   pub stream_is : fed.stream ≡ record { rest = session.stream.rest ++ piece; fault = None }
 
-bytes_are : (session fed : State) (piece : List ℕ) (past : History) (rest : Rest) → IsFed session fed piece → GoesOn session past rest → fed.stream.rest ≡ rest.bytes ++ piece
+bytes_are : (session fed : State) (piece : List ℕ) (past : History) (rest : Rest) → IsFed session fed piece
+    → GoesOn session past rest → fed.stream.rest ≡ rest.bytes ++ piece
 bytes_are session fed piece past rest is on = ap (λ s. s.rest) is.stream_is ∙ ap (λ s. s.rest ++ piece) on.stream_is
 
-at_fed : (session fed : State) (piece : List ℕ) (past : History) (rest : Rest) → IsFed session fed piece → session.ending ≡ None → IsTaking past → GoesOn session past rest → IsAt fed past
+at_fed : (session fed : State) (piece : List ℕ) (past : History) (rest : Rest) → IsFed session fed piece
+    → session.ending ≡ None → IsTaking past → GoesOn session past rest → IsAt fed past
 at_fed session fed piece past rest is open_ taking on =
     record {
       ending_is = is.ending_is ∙ open_ ∙ sym taking;
@@ -43,22 +46,29 @@ at_fed session fed piece past rest is open_ taking on =
     }
 
 -- its contents are taken
-pub piece_taken : (result : Result (Unit {0}) SessionFault) (session fed last : State) (piece : List ℕ) (past : History) (rest : Rest) (old later : Ports) → session.ending ≡ None → IsFed session fed piece → launch_of fed.phase ≡ None
-    → ((h : History) → fed.stream.fault ≡ None → launch_of fed.phase ≡ None → IsAt fed h → HandlesContents result h fed.stream.rest last old later)
+pub piece_taken : (result : Result (Unit {0}) SessionFault) (session fed last : State) (piece : List ℕ) (past : History)
+    (rest : Rest) (old later : Ports) → session.ending ≡ None → IsFed session fed piece → launch_of fed.phase ≡ None
+    → ((h : History) → fed.stream.fault ≡ None → launch_of fed.phase ≡ None → IsAt fed h
+    → HandlesContents result h fed.stream.rest last old later)
     → IsTaking past → GoesOn session past rest → Handles result past rest (Piece piece) last old later
 piece_taken result session fed last piece past rest old later open_ is free taken taking on =
     let bytes = rest.bytes ++ piece in
     let no_launch : None ≡ rest.launch = sym free ∙ ap launch_of is.phase_is ∙ on.launch_is in
-    let goes = taken past (ap (λ s. s.fault) is.stream_is) free (at_fed session fed piece past rest is open_ taking on) in
-    subst (λ launch. Goes result (LeadsByPiece past launch bytes) (TowardByPiece past launch bytes) past last old later) no_launch
-    (subst (λ b. Goes result (LeadsByPiece past None b) (TowardByPiece past None b) past last old later) (bytes_are session fed piece past rest is on) goes)
+    let goes =
+    taken past (ap (λ s. s.fault) is.stream_is) free (at_fed session fed piece past rest is open_ taking on) in
+    subst (λ launch. Goes result (LeadsByPiece past launch bytes) (TowardByPiece past launch bytes) past last old later)
+    no_launch
+    (subst (λ b. Goes result (LeadsByPiece past None b) (TowardByPiece past None b) past last old later)
+    (bytes_are session fed piece past rest is on) goes)
 
 -- it waits with a launch
-waits_with : (launch : Option Launch) (past : History) (bytes : List ℕ) → is_some launch ≡ true → LeadsByPiece past launch bytes past (record { launch = launch; bytes = bytes })
+waits_with : (launch : Option Launch) (past : History) (bytes : List ℕ) → is_some launch ≡ true
+    → LeadsByPiece past launch bytes past (record { launch = launch; bytes = bytes })
 waits_with None past bytes some = absurd cc
 waits_with (Some launch) past bytes some = (refl, refl)
 
-pub piece_waits : (session fed : State) (piece : List ℕ) (past : History) (rest : Rest) (old : Ports) → session.ending ≡ None → IsFed session fed piece → is_some (launch_of fed.phase) ≡ true
+pub piece_waits : (session fed : State) (piece : List ℕ) (past : History) (rest : Rest) (old : Ports)
+    → session.ending ≡ None → IsFed session fed piece → is_some (launch_of fed.phase) ≡ true
     → IsTaking past → GoesOn session past rest → Handles (Ok tt) past rest (Piece piece) fed old old
 piece_waits session fed piece past rest old open_ is some taking on =
     let bytes = rest.bytes ++ piece in

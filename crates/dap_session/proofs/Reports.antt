@@ -26,18 +26,22 @@ ends_nothing _ other = refl
 
 -- ---- a report that is passed over
 
-passed : (past : History) (rest : Rest) (r : PlainReport) (session : State) (old : Ports) → ¬ Accepts past r → session.ending ≡ None → IsTaking past → GoesOn session past rest
+passed : (past : History) (rest : Rest) (r : PlainReport) (session : State) (old : Ports) → ¬ Accepts past r
+    → session.ending ≡ None → IsTaking past → GoesOn session past rest
     → Handles (Ok tt) past rest (Report r) session old old
 passed past rest r session old not open_ taking on =
-    arrives_at_once (Leads past rest (Report r)) past rest session old (inl ((λ both. not both.1), refl), refl) open_ taking on
+    arrives_at_once (Leads past rest (Report r)) past rest session old (inl ((λ both. not both.1), refl), refl) open_
+    taking on
 
 -- what the next report begins with, by the history
-heading_is : (past : History) (t : Target) (run : Ordered) → IsPhase (phase.Running t run) past → (first : Heading) → last_run past ≡ Some first → record first { start = position past } ≡ heading_in t.runs run
+heading_is : (past : History) (t : Target) (run : Ordered) → IsPhase (phase.Running t run) past → (first : Heading)
+    → last_run past ≡ Some first → record first { start = position past } ≡ heading_in t.runs run
 heading_is past t run is first ordered =
     let known = is.keeps in
     let e : Some first ≡ Some known.1.first = sym ordered ∙ known.1.ordered in
     let same : first ≡ known.1.first = cc in
-    ap (λ (h : Heading). record h { start = position past }) same ∙ known.1.goes_on ∙ ap (λ n. heading_in n run) (sym known.0.runs_are)
+    ap (λ (h : Heading). record h { start = position past }) same ∙ known.1.goes_on
+    ∙ ap (λ n. heading_in n run) (sym known.0.runs_are)
 
 -- what the history accepts, the phase expects
 expects : (p : Phase) (past : History) (r : PlainReport) → IsPhase p past → Accepts past r → Expects p r
@@ -50,15 +54,18 @@ expects (phase.Stopped t d) past r is accepts = let e = sym accepts.running ∙ 
 expects (phase.Faulted t d) past r is accepts = let e = sym accepts.running ∙ is.situation_is in absurd cc
 expects (phase.Ended t u) past r is accepts = let e = sym accepts.running ∙ is.situation_is in absurd cc
 
-pub report_passed : (past : History) (rest : Rest) (r : PlainReport) (session last : State) (old : Ports) → last ≡ session → ¬ Expects session.phase r → session.ending ≡ None → IsTaking past → GoesOn session past rest
+pub report_passed : (past : History) (rest : Rest) (r : PlainReport) (session last : State) (old : Ports)
+    → last ≡ session → ¬ Expects session.phase r → session.ending ≡ None → IsTaking past → GoesOn session past rest
     → Handles (Ok tt) past rest (Report r) last old old
 report_passed past rest r session last old same other open_ taking on =
     subst (λ s. Handles (Ok tt) past rest (Report r) s old old) (sym same)
-    (passed past rest r session old (λ accepts. other (expects session.phase past r on.knows.phase_is accepts)) open_ taking on)
+    (passed past rest r session old (λ accepts. other (expects session.phase past r on.knows.phase_is accepts)) open_
+    taking on)
 
 -- ---- a report that is accepted
 
-pub accepts_report : (past : History) (t : Target) (run : Ordered) (r : PlainReport) → IsPhase (phase.Running t run) past → heading_of r ≡ heading_in t.runs run → Accepts past r
+pub accepts_report : (past : History) (t : Target) (run : Ordered) (r : PlainReport)
+    → IsPhase (phase.Running t run) past → heading_of r ≡ heading_in t.runs run → Accepts past r
 accepts_report past t run r is expected =
     record {
       running = is.situation_is;
@@ -83,7 +90,9 @@ pub record HadRun (session : State) (t : Target) (run : Ordered) (r : PlainRepor
   pub phase_was : session.phase ≡ phase.Running t run
   pub expected : heading_of r ≡ heading_in t.runs run
 
-pub report_taken : (result : Result (Unit {0}) SessionFault) (past : History) (rest : Rest) (t : Target) (run : Ordered) (r : PlainReport) (session last : State) (old later : Ports) → HadRun session t run r → last.stream ≡ session.stream → IsTaking past → GoesOn session past rest
+pub report_taken : (result : Result (Unit {0}) SessionFault) (past : History) (rest : Rest) (t : Target) (run : Ordered)
+    (r : PlainReport) (session last : State) (old later : Ports) → HadRun session t run r → last.stream ≡ session.stream
+    → IsTaking past → GoesOn session past rest
     → HandlesItem result past (Accepted r) last old later → Handles result past rest (Report r) last old later
 report_taken (Ok u) past rest t run r session last old later had same taking on item =
     let is = subst (λ p. IsPhase p past) had.phase_was on.knows.phase_is in
@@ -104,4 +113,5 @@ report_taken (Ok u) past rest t run r session last old later had same taking on 
 report_taken (Err fault) past rest t run r session last old later had same taking on item =
     let is = subst (λ p. IsPhase p past) had.phase_was on.knows.phase_is in
     let accepts = accepts_report past t run r is had.expected in
-    inl (stops_at_item (Toward past rest (Report r)) fault past (Accepted r) old later (inl refl) (λ new after. inr (accepts, after)) item)
+    inl (stops_at_item (Toward past rest (Report r)) fault past (Accepted r) old later (inl refl)
+    (λ new after. inr (accepts, after)) item)

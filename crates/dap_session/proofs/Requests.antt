@@ -28,11 +28,13 @@ pub no_request_wanted : (s : Situation) → wanted_in s None ≡ None
 no_request_wanted Ready = refl
 no_request_wanted _ = refl
 
-unwanted_by : (settings : InitializeArguments) (seq : ℕ) (body : Command) → WantsNoFile (phase.Ready settings) body → wanted_by seq body ≡ None
+unwanted_by : (settings : InitializeArguments) (seq : ℕ) (body : Command) → WantsNoFile (phase.Ready settings) body
+    → wanted_by seq body ≡ None
 unwanted_by settings seq (command.Launch arguments) wants = absurd wants
 unwanted_by settings seq _ wants = refl
 
-unwanted_in : (p : Phase) (request : Request) → WantsNoFile p request.body → launch_of p ≡ None → wanted_in (situation_of p) (Some request) ≡ None
+unwanted_in : (p : Phase) (request : Request) → WantsNoFile p request.body → launch_of p ≡ None
+    → wanted_in (situation_of p) (Some request) ≡ None
 unwanted_in (phase.Ready settings) request wants free = unwanted_by settings request.seq request.body wants
 unwanted_in (phase.Launching settings launch) request wants free = absurd cc
 unwanted_in phase.Fresh request wants free = refl
@@ -42,13 +44,16 @@ unwanted_in (phase.Stopped t d) request wants free = refl
 unwanted_in (phase.Faulted t d) request wants free = refl
 unwanted_in (phase.Ended t u) request wants free = refl
 
-pub unwanted : (p : Phase) (past : History) (request : Request) → IsPhase p past → WantsNoFile p request.body → launch_of p ≡ None → wanted_in (situation past) (Some request) ≡ None
-unwanted p past request is wants free = ap (λ s. wanted_in s (Some request)) is.situation_is ∙ unwanted_in p request wants free
+pub unwanted : (p : Phase) (past : History) (request : Request) → IsPhase p past → WantsNoFile p request.body
+    → launch_of p ≡ None → wanted_in (situation past) (Some request) ≡ None
+unwanted p past request is wants free =
+    ap (λ s. wanted_in s (Some request)) is.situation_is ∙ unwanted_in p request wants free
 
 -- ---- what comes of a content
 
 -- the item of a content that wants no file
-pub content_of_item : (result : Result (Unit {0}) SessionFault) (past : History) (request : Option Request) (session : State) (old later : Ports) → wanted_in (situation past) request ≡ None
+pub content_of_item : (result : Result (Unit {0}) SessionFault) (past : History) (request : Option Request)
+    (session : State) (old later : Ports) → wanted_in (situation past) request ≡ None
     → HandlesItem result past (Content request) session old later → HandlesContent result past request session old later
 content_of_item (Ok u) past request session old later none item =
     record {
@@ -72,17 +77,20 @@ pub record IsWaiting (session waiting : State) (settings : InitializeArguments) 
   pub ending_is : waiting.ending ≡ session.ending
   pub seq_is : waiting.next_seq ≡ session.next_seq
 
-launching_phase : (settings : InitializeArguments) (launch : Launch) (past : History) → IsPhase (phase.Ready settings) past → IsPhase (phase.Launching settings launch) past
+launching_phase : (settings : InitializeArguments) (launch : Launch) (past : History)
+    → IsPhase (phase.Ready settings) past → IsPhase (phase.Launching settings launch) past
 launching_phase settings launch past is = record { situation_is = is.situation_is; keeps = is.keeps }
 
-pub launch_waits : (past : History) (request : Request) (arguments : LaunchArguments) (settings : InitializeArguments) (session waiting : State) (old : Ports) → session.ending ≡ None → IsAt session past
+pub launch_waits : (past : History) (request : Request) (arguments : LaunchArguments) (settings : InitializeArguments)
+    (session waiting : State) (old : Ports) → session.ending ≡ None → IsAt session past
     → request.body ≡ command.Launch arguments
     → IsWaiting session waiting settings (record { seq = request.seq; arguments = arguments })
     → TakesContent past (Some request) waiting old old
 launch_waits past request arguments settings session waiting old open_ at launches is =
     let launch : Launch = record { seq = request.seq; arguments = arguments } in
     let taking : IsTaking past = sym at.ending_is ∙ open_ in
-    let was : IsPhase (phase.Ready settings) past = subst (λ p. IsPhase p past) is.phase_was (at.knows taking).phase_is in
+    let was : IsPhase (phase.Ready settings) past =
+    subst (λ p. IsPhase p past) is.phase_was (at.knows taking).phase_is in
     record {
       new = past;
       is_at = record {

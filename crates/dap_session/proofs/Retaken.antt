@@ -49,7 +49,8 @@ no_header header more lines spelled is =
     let ends = length-append lines line_end in omega (arith, whole, parts, long, ends)
 
 no_frame : (content rest : List ℕ) → ¬ IsFrameInFront [] content rest
-no_frame content rest front = no_header front.header (content ++ rest) (lines_of front.lawful.fields) front.lawful.spelled front.spelled
+no_frame content rest front =
+    no_header front.header (content ++ rest) (lines_of front.lawful.fields) front.lawful.spelled front.spelled
 
 no_faulty_line : (fault : FramingFault) → ¬ HasFaultyLine [] fault
 no_faulty_line fault is =
@@ -79,7 +80,8 @@ takes_nothing past = record { mid = past; left = []; taken = none; rests = rests
 
 -- ---- one event more
 
-one_event : {past : History} {launch : Option Launch} → Retaken past launch → (event : Incoming) (new : History) (left : Rest) (other : Option Launch) → AreLawful (event ∷ []) → IsTaking past
+one_event : {past : History} {launch : Option Launch} → Retaken past launch
+    → (event : Incoming) (new : History) (left : Rest) (other : Option Launch) → AreLawful (event ∷ []) → IsTaking past
     → Leads past (only_launch launch) event new left → (IsTaking new → left ≡ only_launch other)
     → Retaken new other
 one_event {past = past} retaken event new left other law taking leads left_is = record {
@@ -92,21 +94,37 @@ one_event {past = past} retaken event new left other law taking leads left_is = 
 }
 
 -- a content without the bytes after it
-alone : (bytes : List ℕ) (request : Option Request) (more : List ℕ) → IsInFront bytes request more → (frame : List ℕ) × IsInFront frame request []
+alone : (bytes : List ℕ) (request : Option Request) (more : List ℕ) → IsInFront bytes request more → (frame : List ℕ)
+    × IsInFront frame request []
 alone bytes request more front = (
   front.framed.header ++ (front.content ++ []),
-  record { content = front.content; framed = record { header = front.framed.header; lawful = front.framed.lawful; spelled = refl }; read = front.read },
+  record {
+    content =
+        front.content;
+    framed = record { header = front.framed.header; lawful = front.framed.lawful; spelled = refl };
+    read = front.read;
+  },
 )
 
-content_given : {past : History} → Retaken past None → (request : Option Request) (bytes more : List ℕ) (new : History) → IsTaking past → IsInFront bytes request more → wanted_in (situation past) request ≡ None → IsAfter past (Content request) new
+content_given : {past : History} → Retaken past None → (request : Option Request) (bytes more : List ℕ) (new : History)
+    → IsTaking past → IsInFront bytes request more → wanted_in (situation past) request ≡ None
+    → IsAfter past (Content request) new
     → Retaken new None
 content_given retaken request bytes more new taking front unwanted after =
     let frame = alone bytes request more front in
     one_event retaken (Piece frame.0) new (only_bytes []) None tt taking
-    (record { mid = new; left = []; taken = one_more request taking frame.1 unwanted after none; rests = rests_by new (ending_of new) refl })
+    (record {
+      mid =
+          new;
+      left = [];
+      taken = one_more request taking frame.1 unwanted after none;
+      rests = rests_by new
+          (ending_of new) refl;
+    })
     (λ still. refl)
 
-launch_given : {past : History} → Retaken past None → (request : Option Request) (launch : Launch) (bytes more : List ℕ) → IsTaking past → IsInFront bytes request more → wanted_in (situation past) request ≡ Some launch
+launch_given : {past : History} → Retaken past None → (request : Option Request) (launch : Launch) (bytes more : List ℕ)
+    → IsTaking past → IsInFront bytes request more → wanted_in (situation past) request ≡ Some launch
     → Retaken past (Some launch)
 launch_given {past = past} retaken request launch bytes more taking front wanted =
     let frame = alone bytes request more front in
@@ -114,7 +132,8 @@ launch_given {past = past} retaken request launch bytes more taking front wanted
     (record { mid = past; left = frame.0; taken = none; rests = waits request launch [] taking frame.1 wanted })
     (λ still. refl)
 
-load_given : {past : History} {launch : Launch} → Retaken past (Some launch) → (file : Option (List ℕ)) (new : History) → IsTaking past → IsAfter past (Loaded launch file) new → Retaken new None
+load_given : {past : History} {launch : Launch} → Retaken past (Some launch) → (file : Option (List ℕ)) (new : History)
+    → IsTaking past → IsAfter past (Loaded launch file) new → Retaken new None
 load_given retaken (Some bytes) new taking after =
     one_event retaken (File (Ok bytes)) new (only_bytes []) None tt taking
     (inr (record { taking = taking; mid = new; loaded = after; after = takes_nothing new })) (λ still. refl)
@@ -122,103 +141,151 @@ load_given retaken None new taking after =
     one_event retaken (File (Err load_fault.CannotRead)) new (only_bytes []) None tt taking
     (inr (record { taking = taking; mid = new; loaded = after; after = takes_nothing new })) (λ still. refl)
 
-report_given : {past : History} {launch : Option Launch} → Retaken past launch → (r : PlainReport) (new : History) → IsLawful r → IsTaking past → Accepts past r → IsAfter past (Accepted r) new → Retaken new launch
+report_given : {past : History} {launch : Option Launch} → Retaken past launch → (r : PlainReport) (new : History)
+    → IsLawful r → IsTaking past → Accepts past r → IsAfter past (Accepted r) new → Retaken new launch
 report_given {launch = launch} retaken r new law taking accepts after =
-    one_event retaken (Report r) new (only_launch launch) launch (law, tt) taking (inr (taking, accepts, after), refl) (λ still. refl)
+    one_event retaken (Report r) new (only_launch launch) launch (law, tt) taking (inr (taking, accepts, after), refl)
+    (λ still. refl)
 
 -- an item that an event is of itself
-item_given : {past : History} {launch : Option Launch} → Retaken past launch → (item : Item) (event : Incoming) (new : History) → AreLawful (event ∷ [])
+item_given : {past : History} {launch : Option Launch} → Retaken past launch
+    → (item : Item) (event : Incoming) (new : History) → AreLawful (event ∷ [])
     → (MayTake past item new → Leads past (only_launch launch) event new (only_launch launch)) → MayTake past item new
     → Retaken new launch
-item_given {launch = launch} retaken item event new law leads (inl not) = subst (λ h. Retaken h launch) (sym not.1) retaken
+item_given {launch = launch} retaken item event new law leads (inl not) =
+    subst (λ h. Retaken h launch) (sym not.1) retaken
 item_given {launch = launch} retaken item event new law leads (inr is) =
     one_event retaken event new (only_launch launch) launch law is.0 (leads (inr is)) (λ still. refl)
 
 -- ---- events
 
 module _ (laws : ReadingsGoOn) where
-  takes_given : {past new : History} {bytes left : List ℕ} → Takes past bytes new left → Retaken past None → Retaken new None
+  takes_given : {past new : History} {bytes left : List ℕ} → Takes past bytes new left → Retaken past None
+      → Retaken new None
   takes_given none retaken = retaken
   takes_given (one_more {mid = mid} {bytes = bytes} {more = more} request taking front unwanted after taken) retaken =
       takes_given taken (content_given retaken request bytes more mid taking front unwanted after)
 
-  rests_given : {past new : History} {bytes : List ℕ} {rest : Rest} → Rests past bytes new rest → Retaken past None → Retaken new rest.launch
+  rests_given : {past new : History} {bytes : List ℕ} {rest : Rest} → Rests past bytes new rest → Retaken past None
+      → Retaken new rest.launch
   rests_given (closed not) retaken = retaken
   rests_given (open_ended taking is) retaken = retaken
   rests_given {past = past} {bytes = bytes} (faulty k new taking fault after) retaken =
-      one_event retaken (Piece bytes) new (only_bytes bytes) None tt taking (record { mid = past; left = bytes; taken = none; rests = faulty k new taking fault after })
+      one_event retaken (Piece bytes) new (only_bytes bytes) None tt taking
+      (record { mid = past; left = bytes; taken = none; rests = faulty k new taking fault after })
       (λ still. absurd (ended laws past (Fault k) _ new taking refl after still))
-  rests_given {bytes = bytes} (waits request launch more taking front wanted) retaken = launch_given retaken request launch bytes more taking front wanted
+  rests_given {bytes = bytes} (waits request launch more taking front wanted) retaken =
+      launch_given retaken request launch bytes more taking front wanted
 
-  all_given : {past new : History} {bytes : List ℕ} {rest : Rest} → TakesAll past bytes new rest → Retaken past None → Retaken new rest.launch
+  all_given : {past new : History} {bytes : List ℕ} {rest : Rest} → TakesAll past bytes new rest → Retaken past None
+      → Retaken new rest.launch
   all_given all retaken = rests_given all.rests (takes_given all.taken retaken)
 
-  piece_given : (past : History) (launch : Option Launch) (bytes : List ℕ) (new : History) (left : Rest) → LeadsByPiece past launch bytes new left → Retaken past launch → Retaken new left.launch
+  piece_given : (past : History) (launch : Option Launch) (bytes : List ℕ) (new : History) (left : Rest)
+      → LeadsByPiece past launch bytes new left → Retaken past launch → Retaken new left.launch
   piece_given past None bytes new left leads retaken = all_given leads retaken
   piece_given past (Some launch) bytes new left leads retaken =
-      subst (λ h. Retaken h left.launch) (sym leads.0) (subst (λ (r : Rest). Retaken past r.launch) (sym leads.1) retaken)
+      subst (λ h. Retaken h left.launch) (sym leads.0)
+      (subst (λ (r : Rest). Retaken past r.launch) (sym leads.1) retaken)
 
   -- nothing comes of the event
-  passed_over : (past : History) (rest : Rest) (launch : Option Launch) (new : History) (left : Rest) → rest.launch ≡ launch → new ≡ past → left ≡ rest → Retaken past launch → Retaken new left.launch
+  passed_over : (past : History) (rest : Rest) (launch : Option Launch) (new : History) (left : Rest)
+      → rest.launch ≡ launch → new ≡ past → left ≡ rest → Retaken past launch → Retaken new left.launch
   passed_over past rest launch new left is same left_is retaken =
-      subst (λ h. Retaken h left.launch) (sym same) (subst (Retaken past) (sym is ∙ ap (λ (r : Rest). r.launch) (sym left_is)) retaken)
+      subst (λ h. Retaken h left.launch) (sym same)
+      (subst (Retaken past) (sym is ∙ ap (λ (r : Rest). r.launch) (sym left_is)) retaken)
 
-  file_given : (past : History) (rest : Rest) (launch : Option Launch) (answer : Result (List ℕ) LoadFault) (new : History) (left : Rest) → rest.launch ≡ launch → LeadsByFile past rest launch answer new left → Retaken past launch → Retaken new left.launch
-  file_given past rest None answer new left is leads retaken = passed_over past rest None new left is leads.0 leads.1 retaken
-  file_given past rest (Some launch) (Ok bytes) new left is (inl not) retaken = passed_over past rest (Some launch) new left is not.1 not.2 retaken
-  file_given past rest (Some launch) (Ok bytes) new left is (inr loads) retaken = all_given loads.after (load_given retaken (Some bytes) loads.mid loads.taking loads.loaded)
-  file_given past rest (Some launch) (Err load_fault.CannotRead) new left is (inl not) retaken = passed_over past rest (Some launch) new left is not.1 not.2 retaken
-  file_given past rest (Some launch) (Err load_fault.CannotRead) new left is (inr loads) retaken = all_given loads.after (load_given retaken None loads.mid loads.taking loads.loaded)
+  file_given : (past : History) (rest : Rest) (launch : Option Launch) (answer : Result (List ℕ) LoadFault)
+      (new : History) (left : Rest) → rest.launch ≡ launch → LeadsByFile past rest launch answer new left
+      → Retaken past launch → Retaken new left.launch
+  file_given past rest None answer new left is leads retaken =
+      passed_over past rest None new left is leads.0 leads.1 retaken
+  file_given past rest (Some launch) (Ok bytes) new left is (inl not) retaken =
+      passed_over past rest (Some launch) new left is not.1 not.2 retaken
+  file_given past rest (Some launch) (Ok bytes) new left is (inr loads) retaken =
+      all_given loads.after (load_given retaken (Some bytes) loads.mid loads.taking loads.loaded)
+  file_given past rest (Some launch) (Err load_fault.CannotRead) new left is (inl not) retaken =
+      passed_over past rest (Some launch) new left is not.1 not.2 retaken
+  file_given past rest (Some launch) (Err load_fault.CannotRead) new left is (inr loads) retaken =
+      all_given loads.after (load_given retaken None loads.mid loads.taking loads.loaded)
   file_given past rest (Some launch) (Err load_fault.NoMemory) new left is leads retaken =
-      passed_over new rest (Some launch) new left is refl leads.1 (item_given retaken MemoryFailure NoMemoryCame new tt (λ may. (may, refl)) leads.0)
+      passed_over new rest (Some launch) new left is refl leads.1
+      (item_given retaken MemoryFailure NoMemoryCame new tt (λ may. (may, refl)) leads.0)
 
-  event_given : (past : History) (rest : Rest) (event : Incoming) (new : History) (left : Rest) → AreLawful (event ∷ []) → Leads past rest event new left → Retaken past rest.launch → Retaken new left.launch
+  event_given : (past : History) (rest : Rest) (event : Incoming) (new : History) (left : Rest) → AreLawful (event ∷ [])
+      → Leads past rest event new left → Retaken past rest.launch → Retaken new left.launch
   event_given past rest (Piece piece) new left law leads retaken = piece_given past rest.launch _ new left leads retaken
   event_given past rest End new left law leads retaken =
-      passed_over new rest rest.launch new left refl refl leads.1 (item_given retaken InputEnd End new tt (λ may. (may, refl)) leads.0)
+      passed_over new rest rest.launch new left refl refl leads.1
+      (item_given retaken InputEnd End new tt (λ may. (may, refl)) leads.0)
   event_given past rest ReadFailed new left law leads retaken =
-      passed_over new rest rest.launch new left refl refl leads.1 (item_given retaken ReadFailure ReadFailed new tt (λ may. (may, refl)) leads.0)
+      passed_over new rest rest.launch new left refl refl leads.1
+      (item_given retaken ReadFailure ReadFailed new tt (λ may. (may, refl)) leads.0)
   event_given past rest NoMemoryCame new left law leads retaken =
-      passed_over new rest rest.launch new left refl refl leads.1 (item_given retaken MemoryFailure NoMemoryCame new tt (λ may. (may, refl)) leads.0)
-  event_given past rest (File answer) new left law leads retaken = file_given past rest rest.launch answer new left refl leads retaken
-  event_given past rest (Report r) new left law leads retaken = passed_over new rest rest.launch new left refl refl leads.1 (by leads.0)
+      passed_over new rest rest.launch new left refl refl leads.1
+      (item_given retaken MemoryFailure NoMemoryCame new tt (λ may. (may, refl)) leads.0)
+  event_given past rest (File answer) new left law leads retaken =
+      file_given past rest rest.launch answer new left refl leads retaken
+  event_given past rest (Report r) new left law leads retaken =
+      passed_over new rest rest.launch new left refl refl leads.1 (by leads.0)
     where
       by : LeadsByReport past r new → Retaken new rest.launch
       by (inl not) = subst (λ h. Retaken h rest.launch) (sym not.1) retaken
       by (inr is) = report_given retaken r new law.0 is.0 is.1 is.2
 
-  events_given : (past : History) (rest : Rest) (events : List Incoming) (new : History) (left : Rest) → AreLawful events → LeadsAll past rest events new left → Retaken past rest.launch → Retaken new left.launch
-  events_given past rest [] new left lawful all retaken = passed_over past rest rest.launch new left refl all.0 all.1 retaken
+  events_given : (past : History) (rest : Rest) (events : List Incoming) (new : History) (left : Rest)
+      → AreLawful events → LeadsAll past rest events new left → Retaken past rest.launch → Retaken new left.launch
+  events_given past rest [] new left lawful all retaken =
+      passed_over past rest rest.launch new left refl all.0 all.1 retaken
   events_given past rest (e ∷ events) new left lawful all retaken =
       let apart = lawful_apart (e ∷ []) events lawful in
       events_given all.0 all.1 events new left apart.1 all.3 (event_given past rest e all.0 all.1 apart.0 all.2 retaken)
 
-  pub retaken : (events : List Incoming) (past : History) (rest : Rest) → AreLawful events → IsHistoryOf events past rest → Retaken past rest.launch
+  pub retaken : (events : List Incoming) (past : History) (rest : Rest) → AreLawful events
+      → IsHistoryOf events past rest → Retaken past rest.launch
   retaken events past rest lawful history =
       events_given [] (only_bytes []) events past rest lawful history
       (record { events = []; rest = only_bytes []; lawful = tt; history = (refl, refl); rest_is = λ taking. refl })
 
   -- ---- some items of one event more
 
-  toward_piece : (past : History) (launch : Option Launch) (bytes : List ℕ) (new : History) → TowardByPiece past launch bytes new → Retaken past launch → Retaken new launch
+  toward_piece : (past : History) (launch : Option Launch) (bytes : List ℕ) (new : History)
+      → TowardByPiece past launch bytes new → Retaken past launch → Retaken new launch
   toward_piece past None bytes new toward here = takes_given toward.1 here
   toward_piece past (Some launch) bytes new toward here = subst (λ h. Retaken h (Some launch)) (sym toward) here
 
-  toward_item : (past : History) (launch : Option Launch) (item : Item) (event : Incoming) (new : History) → AreLawful (event ∷ []) → IsTaking past → (MayTake past item new → Leads past (only_launch launch) event new (only_launch launch))
+  toward_item : (past : History) (launch : Option Launch) (item : Item) (event : Incoming) (new : History)
+      → AreLawful (event ∷ []) → IsTaking
+      past → (MayTake past item new → Leads past (only_launch launch) event new (only_launch launch))
       → (new ≡ past) ⊎ IsAfter past item new → Retaken past launch → IsRetaken new
-  toward_item past launch item event new law taking leads (inl same) here = (launch, subst (λ h. Retaken h launch) (sym same) here)
-  toward_item past launch item event new law taking leads (inr after) here = (launch, item_given here item event new law leads (inr (taking, after)))
+  toward_item past launch item event new law taking leads (inl same) here =
+      (launch, subst (λ h. Retaken h launch) (sym same) here)
+  toward_item past launch item event new law taking leads (inr after) here =
+      (launch, item_given here item event new law leads (inr (taking, after)))
 
-  toward_file : (past : History) (rest : Rest) (answer : Result (List ℕ) LoadFault) (new : History) → IsTaking past → (new ≡ past) ⊎ LoadsToward past rest answer new → Retaken past rest.launch → IsRetaken new
-  toward_file past rest answer new taking (inl same) here = (rest.launch, subst (λ h. Retaken h rest.launch) (sym same) here)
-  toward_file past rest answer new taking (inr loads) here =
-      (None, takes_given loads.taken (load_given (subst (Retaken past) loads.waits here) loads.file loads.mid taking loads.loaded))
+  toward_file : (past : History) (rest : Rest) (answer : Result (List ℕ) LoadFault) (new : History) → IsTaking past
+      → (new ≡ past) ⊎ LoadsToward past rest answer new → Retaken past rest.launch → IsRetaken new
+  toward_file past rest answer new taking (inl same) here =
+      (rest.launch, subst (λ h. Retaken h rest.launch) (sym same) here)
+  toward_file past rest answer new taking (inr loads) here = (
+    None,
+    takes_given loads.taken (load_given (subst (Retaken past) loads.waits here) loads.file loads.mid taking
+        loads.loaded),
+  )
 
-  pub retaken_toward : (past : History) (rest : Rest) (event : Incoming) (new : History) → AreLawful (event ∷ []) → IsTaking past → Toward past rest event new → Retaken past rest.launch → IsRetaken new
-  retaken_toward past rest (Piece piece) new law taking toward here = (rest.launch, toward_piece past rest.launch _ new toward here)
-  retaken_toward past rest End new law taking toward here = toward_item past rest.launch InputEnd End new tt taking (λ may. (may, refl)) toward here
-  retaken_toward past rest ReadFailed new law taking toward here = toward_item past rest.launch ReadFailure ReadFailed new tt taking (λ may. (may, refl)) toward here
-  retaken_toward past rest NoMemoryCame new law taking toward here = (rest.launch, subst (λ h. Retaken h rest.launch) (sym toward) here)
-  retaken_toward past rest (File answer) new law taking toward here = toward_file past rest answer new taking toward here
-  retaken_toward past rest (Report r) new law taking (inl same) here = (rest.launch, subst (λ h. Retaken h rest.launch) (sym same) here)
-  retaken_toward past rest (Report r) new law taking (inr is) here = (rest.launch, report_given here r new law.0 taking is.0 is.1)
+  pub retaken_toward : (past : History) (rest : Rest) (event : Incoming) (new : History) → AreLawful (event ∷ [])
+      → IsTaking past → Toward past rest event new → Retaken past rest.launch → IsRetaken new
+  retaken_toward past rest (Piece piece) new law taking toward here =
+      (rest.launch, toward_piece past rest.launch _ new toward here)
+  retaken_toward past rest End new law taking toward here =
+      toward_item past rest.launch InputEnd End new tt taking (λ may. (may, refl)) toward here
+  retaken_toward past rest ReadFailed new law taking toward here =
+      toward_item past rest.launch ReadFailure ReadFailed new tt taking (λ may. (may, refl)) toward here
+  retaken_toward past rest NoMemoryCame new law taking toward here =
+      (rest.launch, subst (λ h. Retaken h rest.launch) (sym toward) here)
+  retaken_toward past rest (File answer) new law taking toward here =
+      toward_file past rest answer new taking toward here
+  retaken_toward past rest (Report r) new law taking (inl same) here =
+      (rest.launch, subst (λ h. Retaken h rest.launch) (sym same) here)
+  retaken_toward past rest (Report r) new law taking (inr is) here =
+      (rest.launch, report_given here r new law.0 taking is.0 is.1)

@@ -14,7 +14,7 @@ use Rattle.dap_history.specs.Readings.{closing, ending_of}
 use Rattle.dap_history.specs.ReadingLaws.{ReadingsGoOn}
 use Rattle.dap_history.specs.Emission.{IsAfter}
 use Rattle.dap_history.specs.Events as event
-use Rattle.dap_history.specs.Events.{Incoming, Rest, only_bytes, IsTaking, Takes, none, Rests, closed, open_ended, faulty, waits, TakesAll, Loads, LeadsByPiece, LeadsByFile, Leads, LeadsAll}
+use Rattle.dap_history.specs.Events.{Incoming, Rest, only_bytes, IsTaking, Takes, Rests, closed, open_ended, faulty, waits, TakesAll, Loads, LeadsByPiece, LeadsByFile, Leads, LeadsAll}
 use Rattle.dap_phase.specs.declared.phase.Phase.TheVariants as phase
 use Rattle.dap_phase.specs.Phases.{launch_of}
 use Rattle.dap_session.specs.declared.want.Want.{Want}
@@ -26,64 +26,108 @@ use Rattle.dap_session.specs.Handling.{Arrives, StopsOnTheWay, Handles}
 use Rattle.dap_session.proofs.Items.{ending_after}
 
 -- one event after others
-pub leads_one_more : (past : History) (rest : Rest) (events : List Incoming) (mid : History) (between : Rest) (event : Incoming) (new : History) (left : Rest)
-    → LeadsAll past rest events mid between → Leads mid between event new left → LeadsAll past rest (events ++ event ∷ []) new left
-leads_one_more past rest [] mid between event new left all leads =
-    (new, left, subst (λ h. Leads h rest event new left) all.0 (subst (λ b. Leads mid b event new left) all.1 leads), (refl, refl))
+pub leads_one_more : (past : History) (rest : Rest) (events : List Incoming) (mid : History) (between : Rest)
+    (event : Incoming) (new : History) (left : Rest)
+    → LeadsAll past rest events mid between → Leads mid between event new left
+    → LeadsAll past rest (events ++ event ∷ []) new left
+leads_one_more past rest [] mid between event new left all leads = (
+  new,
+  left,
+  subst (λ h. Leads h rest event new left) all.0 (subst (λ b. Leads mid b event new left) all.1 leads),
+  (refl, refl),
+)
 leads_one_more past rest (e ∷ events) mid between event new left all leads =
     (all.0, all.1, all.2, leads_one_more all.0 all.1 events mid between event new left all.3 leads)
 
 -- ---- where a session goes on after an event, only items that it takes were taken
 
 -- after an item that ends a session it takes nothing
-pub ended : ReadingsGoOn → (past : History) (item : Item) (ending : Ending) (new : History) → IsTaking past → closing item ≡ Some ending → IsAfter past item new → ¬ IsTaking new
+pub ended : ReadingsGoOn → (past : History) (item : Item) (ending : Ending) (new : History) → IsTaking past
+    → closing item ≡ Some ending → IsAfter past item new → ¬ IsTaking new
 ended laws past item ending new taking closes after still =
     let e : Some ending ≡ None =
-    sym closes ∙ sym (ap closing after.item_is) ∙ sym (ending_after laws past after.step taking) ∙ ap ending_of (sym after.new_is) ∙ still in
+    sym closes ∙ sym (ap closing after.item_is) ∙ sym (ending_after laws past after.step taking)
+    ∙ ap ending_of (sym after.new_is) ∙ still in
     absurd cc
 
-toward_by_rests : ReadingsGoOn → (past : History) (bytes : List ℕ) (mid : History) (left : List ℕ) (new : History) (rest : Rest) → Takes past bytes mid left → Rests mid left new rest → IsTaking new → (more : List ℕ) × Takes past bytes new more
+toward_by_rests : ReadingsGoOn → (past : History) (bytes : List ℕ) (mid : History) (left : List ℕ) (new : History)
+    (rest : Rest) → Takes past bytes mid left → Rests mid left new rest → IsTaking new → (more : List ℕ)
+    × Takes past bytes new more
 toward_by_rests laws past bytes mid left new rest taken (closed not) still = (left, taken)
 toward_by_rests laws past bytes mid left new rest taken (open_ended taking open_) still = (left, taken)
-toward_by_rests laws past bytes mid left new rest taken (waits request launch more taking front wanted) still = (left, taken)
-toward_by_rests laws past bytes mid left new rest taken (faulty k after_fault taking is after) still = absurd (ended laws mid (Fault k) _ new taking refl after still)
+toward_by_rests laws past bytes mid left new rest taken (waits request launch more taking front wanted) still =
+    (left, taken)
+toward_by_rests laws past bytes mid left new rest taken (faulty k after_fault taking is after) still =
+    absurd (ended laws mid (Fault k) _ new taking refl after still)
 
-toward_by_all : ReadingsGoOn → (past : History) (bytes : List ℕ) (new : History) (rest : Rest) → TakesAll past bytes new rest → IsTaking new → (more : List ℕ) × Takes past bytes new more
-toward_by_all laws past bytes new rest all still = toward_by_rests laws past bytes all.mid all.left new rest all.taken all.rests still
+toward_by_all : ReadingsGoOn → (past : History) (bytes : List ℕ) (new : History) (rest : Rest)
+    → TakesAll past bytes new rest → IsTaking new → (more : List ℕ) × Takes past bytes new more
+toward_by_all laws past bytes new rest all still =
+    toward_by_rests laws past bytes all.mid all.left new rest all.taken all.rests still
 
-toward_by_piece : ReadingsGoOn → (past : History) (launch : Option Launch) (bytes : List ℕ) (new : History) (left : Rest) → LeadsByPiece past launch bytes new left → IsTaking new → TowardByPiece past launch bytes new
+toward_by_piece : ReadingsGoOn → (past : History) (launch : Option Launch) (bytes : List ℕ) (new : History)
+    (left : Rest) → LeadsByPiece past launch bytes new left → IsTaking new → TowardByPiece past launch bytes new
 toward_by_piece laws past None bytes new left leads still = toward_by_all laws past bytes new left leads still
 toward_by_piece laws past (Some launch) bytes new left leads still = leads.0
 
-toward_by_loads : ReadingsGoOn → (past : History) (rest : Rest) (launch : Launch) (answer : Result (List ℕ) LoadFault) (file : Option (List ℕ)) (new : History) (left : Rest) → rest.launch ≡ Some launch → file_of answer ≡ Some file
+toward_by_loads : ReadingsGoOn → (past : History) (rest : Rest) (launch : Launch) (answer : Result (List ℕ) LoadFault)
+    (file : Option (List ℕ)) (new : History) (left : Rest) → rest.launch ≡ Some launch → file_of answer ≡ Some file
     → Loads past launch file rest.bytes new left → IsTaking new → LoadsToward past rest answer new
 toward_by_loads laws past rest launch answer file new left is file_is loads still =
     let taken = toward_by_all laws loads.mid rest.bytes new left loads.after still in
-    record { launch = launch; waits = is; file = file; file_is = file_is; mid = loads.mid; loaded = loads.loaded; left = taken.0; taken = taken.1 }
+    record {
+      launch =
+          launch;
+      waits = is;
+      file = file;
+      file_is = file_is;
+      mid = loads.mid;
+      loaded = loads.loaded;
+      left = taken.0;
+      taken = taken.1;
+    }
 
-toward_by_file : ReadingsGoOn → (past : History) (rest : Rest) (launch : Option Launch) (answer : Result (List ℕ) LoadFault) (new : History) (left : Rest) → rest.launch ≡ launch → IsTaking past → LeadsByFile past rest launch answer new left → IsTaking new
+toward_by_file : ReadingsGoOn → (past : History) (rest : Rest) (launch : Option Launch)
+    (answer : Result (List ℕ) LoadFault) (new : History) (left : Rest) → rest.launch ≡ launch → IsTaking past
+    → LeadsByFile past rest launch answer new left → IsTaking new
     → (new ≡ past) ⊎ LoadsToward past rest answer new
 toward_by_file laws past rest None answer new left is taking leads still = inl leads.0
 toward_by_file laws past rest (Some launch) (Ok file) new left is taking (inl not) still = inl not.1
-toward_by_file laws past rest (Some launch) (Ok file) new left is taking (inr loads) still = inr (toward_by_loads laws past rest launch (Ok file) (Some file) new left is refl loads still)
+toward_by_file laws past rest (Some launch) (Ok file) new left is taking (inr loads) still =
+    inr (toward_by_loads laws past rest launch (Ok file) (Some file) new left is refl loads still)
 toward_by_file laws past rest (Some launch) (Err load_fault.CannotRead) new left is taking (inl not) still = inl not.1
 toward_by_file laws past rest (Some launch) (Err load_fault.CannotRead) new left is taking (inr loads) still =
     inr (toward_by_loads laws past rest launch (Err load_fault.CannotRead) None new left is refl loads still)
 toward_by_file laws past rest (Some launch) (Err load_fault.NoMemory) new left is taking leads still =
-    elim leads.0 [ inl not ↦ inl not.1 | inr after ↦ absurd (ended laws past MemoryFailure _ new taking refl after.1 still) ]
+    elim leads.0 [
+      | inl not ↦ inl not.1
+      | inr after ↦ absurd
+          (ended laws past MemoryFailure _ new taking refl after.1 still)
+    ]
 
-leads_toward : ReadingsGoOn → (past : History) (rest : Rest) (e : Incoming) (new : History) (left : Rest) → IsTaking past → Leads past rest e new left → IsTaking new → Toward past rest e new
-leads_toward laws past rest (event.Piece piece) new left taking leads still = toward_by_piece laws past rest.launch (rest.bytes ++ piece) new left leads still
-leads_toward laws past rest event.End new left taking leads still = elim leads.0 [ inl not ↦ inl not.1 | inr after ↦ inr after.1 ]
-leads_toward laws past rest event.ReadFailed new left taking leads still = elim leads.0 [ inl not ↦ inl not.1 | inr after ↦ inr after.1 ]
+leads_toward : ReadingsGoOn → (past : History) (rest : Rest) (e : Incoming) (new : History) (left : Rest)
+    → IsTaking past → Leads past rest e new left → IsTaking new → Toward past rest e new
+leads_toward laws past rest (event.Piece piece) new left taking leads still =
+    toward_by_piece laws past rest.launch (rest.bytes ++ piece) new left leads still
+leads_toward laws past rest event.End new left taking leads still =
+    elim leads.0 [ inl not ↦ inl not.1 | inr after ↦ inr after.1 ]
+leads_toward laws past rest event.ReadFailed new left taking leads still =
+    elim leads.0 [ inl not ↦ inl not.1 | inr after ↦ inr after.1 ]
 leads_toward laws past rest event.NoMemory new left taking leads still =
-    elim leads.0 [ inl not ↦ not.1 | inr after ↦ absurd (ended laws past MemoryFailure _ new taking refl after.1 still) ]
-leads_toward laws past rest (event.File answer) new left taking leads still = toward_by_file laws past rest rest.launch answer new left refl taking leads still
-leads_toward laws past rest (event.Report r) new left taking leads still = elim leads.0 [ inl not ↦ inl not.1 | inr is ↦ inr (is.1, is.2) ]
+    elim leads.0 [
+      | inl not ↦ not.1
+      | inr after ↦ absurd
+          (ended laws past MemoryFailure _ new taking refl after.1 still)
+    ]
+leads_toward laws past rest (event.File answer) new left taking leads still =
+    toward_by_file laws past rest rest.launch answer new left refl taking leads still
+leads_toward laws past rest (event.Report r) new left taking leads still =
+    elim leads.0 [ inl not ↦ inl not.1 | inr is ↦ inr (is.1, is.2) ]
 
 -- ---- what comes of the event
 
-fails_at : (fault : SessionFault) (past : History) (rest : Rest) (e : Incoming) (old later : Ports) → StopsOnTheWay (Toward past rest e) past fault old later → FailsAt fault past rest e old later
+fails_at : (fault : SessionFault) (past : History) (rest : Rest) (e : Incoming) (old later : Ports)
+    → StopsOnTheWay (Toward past rest e) past fault old later → FailsAt fault past rest e old later
 fails_at fault past rest e old later stops =
     record {
       mid = stops.mid;
@@ -97,40 +141,49 @@ fails_at fault past rest e old later stops =
     }
 
 -- a fault that is none of framing
-comes_of_stop : (fault : SessionFault) (events : List Incoming) (past : History) (rest : Rest) (e : Incoming) (session : State) (old later : Ports) → StopsOnTheWay (Toward past rest e) past fault old later
+comes_of_stop : (fault : SessionFault) (events : List Incoming) (past : History) (rest : Rest) (e : Incoming)
+    (session : State) (old later : Ports) → StopsOnTheWay (Toward past rest e) past fault old later
     → Comes (Err fault) events past rest e session old later
 comes_of_stop (Frame k) events past rest e session old later stops = absurd stops.breaks
 comes_of_stop NoMemory events past rest e session old later stops = fails_at NoMemory past rest e old later stops
-comes_of_stop SeqExhausted events past rest e session old later stops = fails_at SeqExhausted past rest e old later stops
+comes_of_stop SeqExhausted events past rest e session old later stops =
+    fails_at SeqExhausted past rest e old later stops
 comes_of_stop OrdersFull events past rest e session old later stops = fails_at OrdersFull past rest e old later stops
 comes_of_stop RunnerGone events past rest e session old later stops = fails_at RunnerGone past rest e old later stops
 comes_of_stop WriterGone events past rest e session old later stops = fails_at WriterGone past rest e old later stops
 
 -- the session gave up
-pub comes_of_fault : (fault : SessionFault) (events : List Incoming) (past : History) (e : Incoming) (start session last : State) (old later : Ports) (stands : StandsFor start events past) → Handles (Err fault) past stands.rest e session old later
+pub comes_of_fault : (fault : SessionFault) (events : List Incoming) (past : History) (e : Incoming)
+    (start session last : State) (old later : Ports) (stands : StandsFor start events past)
+    → Handles (Err fault) past stands.rest e session old later
     → Comes (Err fault) events past stands.rest e last old later
-comes_of_fault fault events past e start session last old later stands (inl stops) = comes_of_stop fault events past stands.rest e last old later stops
+comes_of_fault fault events past e start session last old later stands (inl stops) =
+    comes_of_stop fault events past stands.rest e last old later stops
 comes_of_fault fault events past e start session last old later stands (inr ends) =
     rw ends.1 (record {
       new = ends.2.new;
       rest = ends.2.rest;
-      history = leads_one_more [] (only_bytes []) events past stands.rest e ends.2.new ends.2.rest stands.history ends.2.way;
+      history =
+          leads_one_more [] (only_bytes []) events past stands.rest e ends.2.new ends.2.rest stands.history ends.2.way;
       ending_is = ends.2.ending_is;
       sends = ends.2.sends;
       refuses_nothing = ends.2.refuses_nothing;
     })
 
 -- The session came through the event. It asks for something next, or there was no memory to ask.
-pub comes_of_want : ReadingsGoOn → (result : Result Want SessionFault) (events : List Incoming) (past : History) (e : Incoming) (start session : State) (old later : Ports) (stands : StandsFor start events past) → IsTaking past
+pub comes_of_want : ReadingsGoOn → (result : Result Want SessionFault) (events : List Incoming) (past : History)
+    (e : Incoming) (start session : State) (old later : Ports) (stands : StandsFor start events past) → IsTaking past
     → Arrives (Leads past stands.rest e) past session old later
-    → IfOk result (λ want. Wants want session session.ending) → IfErr result (λ fault. (fault ≡ NoMemory) × (session.ending ≡ None))
+    → IfOk result (λ want. Wants want session session.ending)
+    → IfErr result (λ fault. (fault ≡ NoMemory) × (session.ending ≡ None))
     → Comes result events past stands.rest e session old later
 comes_of_want laws (Ok want) events past e start session old later stands taking came wants lost =
     record {
       new = came.new;
       stands = record {
         rest = came.rest;
-        history = leads_one_more [] (only_bytes []) events past stands.rest e came.new came.rest stands.history came.way;
+        history =
+            leads_one_more [] (only_bytes []) events past stands.rest e came.new came.rest stands.history came.way;
         ending_is = came.ending_is;
         goes_on = came.goes_on;
       };
@@ -151,14 +204,19 @@ comes_of_want laws (Err fault) events past e start session old later stands taki
     })
 
 -- a launch waits for the file at the path
-pub wants_file : (session : State) (path : String Global) (settings : InitializeArguments) (launch : Launch) → session.ending ≡ None → session.phase ≡ phase.Launching settings launch → string_bytes path ≡ launch.arguments.program
+pub wants_file : (session : State) (path : String Global) (settings : InitializeArguments) (launch : Launch)
+    → session.ending ≡ None → session.phase ≡ phase.Launching settings launch
+    → string_bytes path ≡ launch.arguments.program
     → Wants (want_is.File path) session session.ending
 wants_file session path settings launch open_ launching spelled =
     subst (λ ending. Wants (want_is.File path) session ending) (sym open_)
     (subst (λ p. WantsHere (want_is.File path) (launch_of p)) (sym launching) (path, refl, spelled))
 
 -- where no launch waits, nothing has to be made to ask for what comes next
-pub want_needs_none : (result : Result Want SessionFault) (session : State) → (session.ending ≡ None → launch_of session.phase ≡ None) → IfErr result (λ fault. (fault ≡ NoMemory) × (session.ending ≡ None)) → IfErr result (λ fault. launch_of session.phase ≢ None)
+pub want_needs_none : (result : Result Want SessionFault) (session : State)
+    → (session.ending ≡ None → launch_of session.phase ≡ None)
+    → IfErr result (λ fault. (fault ≡ NoMemory) × (session.ending ≡ None))
+    → IfErr result (λ fault. launch_of session.phase ≢ None)
     → result ≢ Err NoMemory
 want_needs_none (Ok want) session free lost waits_ = λ e. absurd cc
 want_needs_none (Err fault) session free lost waits_ = λ e. absurd (waits_ (free lost.1))

@@ -24,5 +24,6 @@ sources given loaded = record { given = given; loaded = loaded }
 -- The event is the loader's answer where a file is wanted, and otherwise the next event of the inbox.
 abbrev pub ComesFrom : Option (List ℕ) → Incoming → Sources → Sources → Type 0
 ComesFrom None event old later = (later.given ≡ old.given ++ event ∷ []) × (later.loaded ≡ old.loaded)
-ComesFrom (Some path) (File answer) old later = (later.given ≡ old.given) × (later.loaded ≡ old.loaded ++ stored path answer)
+ComesFrom (Some path) (File answer) old later =
+    (later.given ≡ old.given) × (later.loaded ≡ old.loaded ++ stored path answer)
 ComesFrom (Some path) event old later = ⊥

@@ -71,7 +71,8 @@ pub record TakesContent (past : History) (request : Option Request) (session : S
   pub refuses_nothing : RefusesNothing old later
 
 -- The session gave up at the content.
-pub record FailsAtContent (fault : SessionFault) (past : History) (request : Option Request) (old later : Ports) : Type 0 where
+pub record FailsAtContent (fault : SessionFault) (past : History) (request : Option Request) (old later : Ports) : Type
+    0 where
   pub next : History
   pub next_is : (next ≡ past) ⊎ LeadsByContent past request None next
   pub breaks : BreaksOff fault past next old later
@@ -84,17 +85,19 @@ HandlesContent (Err fault) past request session old later = FailsAtContent fault
 -- ---- one after another
 
 -- Everything that `leads` describes was taken, and everything that it adds to the history was sent.
-pub record Arrives (leads : History → Rest → Type 0) (past : History) (session : State) (old later : Ports) : Type 0 where
-  pub new : History
-  pub rest : Rest
-  pub way : leads new rest
-  pub ending_is : session.ending ≡ ending_of new
-  pub goes_on : IsTaking new → GoesOn session new rest
-  pub sends : Sends past new old later
-  pub refuses_nothing : RefusesNothing old later
+pub record Arrives (leads : History → Rest → Type 0) (past : History) (session : State) (old later : Ports) : Type 0
+  where
+    pub new : History
+    pub rest : Rest
+    pub way : leads new rest
+    pub ending_is : session.ending ≡ ending_of new
+    pub goes_on : IsTaking new → GoesOn session new rest
+    pub sends : Sends past new old later
+    pub refuses_nothing : RefusesNothing old later
 
 -- The same, and then a framing fault ended the session.
-pub record ArrivesAtFault (leads : History → Rest → Type 0) (past : History) (fault : FramingFault) (old later : Ports) : Type 0 where
+pub record ArrivesAtFault (leads : History → Rest → Type 0) (past : History) (fault : FramingFault)
+    (old later : Ports) : Type 0 where
   pub new : History
   pub rest : Rest
   pub way : leads new rest
@@ -103,7 +106,8 @@ pub record ArrivesAtFault (leads : History → Rest → Type 0) (past : History)
   pub refuses_nothing : RefusesNothing old later
 
 -- The session gave up on the way.
-pub record StopsOnTheWay (toward : History → Type 0) (past : History) (fault : SessionFault) (old later : Ports) : Type 0 where
+pub record StopsOnTheWay (toward : History → Type 0) (past : History) (fault : SessionFault) (old later : Ports) : Type
+    0 where
   pub mid : History
   pub way : toward mid
   pub between : Ports
@@ -114,7 +118,8 @@ pub record StopsOnTheWay (toward : History → Type 0) (past : History) (fault :
   pub breaks : BreaksOff fault mid next between later
 
 -- one of the three, by the result
-abbrev pub Goes : Result (Unit {0}) SessionFault → (History → Rest → Type 0) → (History → Type 0) → History → State → Ports → Ports → Type 0
+abbrev pub Goes : Result (Unit {0}) SessionFault → (History → Rest → Type 0) → (History → Type 0) → History → State
+    → Ports → Ports → Type 0
 Goes (Ok u) leads toward past session old later = Arrives leads past session old later
 Goes (Err fault) leads toward past session old later =
     StopsOnTheWay toward past fault old later
@@ -122,11 +127,13 @@ Goes (Err fault) leads toward past session old later =
 
 -- the same for the contents at the front of these bytes
 abbrev pub HandlesContents : Result (Unit {0}) SessionFault → History → List ℕ → State → Ports → Ports → Type 0
-HandlesContents result past bytes session old later = Goes result (TakesAll past bytes) (TowardByPiece past None bytes) past session old later
+HandlesContents result past bytes session old later =
+    Goes result (TakesAll past bytes) (TowardByPiece past None bytes) past session old later
 
 -- the same for an event
 abbrev pub Handles : Result (Unit {0}) SessionFault → History → Rest → Incoming → State → Ports → Ports → Type 0
-Handles result past rest event session old later = Goes result (Leads past rest event) (Toward past rest event) past session old later
+Handles result past rest event session old later =
+    Goes result (Leads past rest event) (Toward past rest event) past session old later
 
 -- No memory was needed to take the event, and none is needed to ask for the next.
 abbrev pub NeededNoMemory : Result (Unit {0}) SessionFault → State → Type 0
@@ -142,5 +149,6 @@ plain_file (Err fault) = Err fault
 
 -- A Quit was pushed, or the port refused it.
 abbrev pub PushesQuit : Result (Unit {0}) SessionFault → Ordered → Ordered → Type 0
-PushesQuit (Ok u) old later = (later.orders ≡ old.orders ++ Quit ∷ []) × (later.fulls ≡ old.fulls) × (later.refusals ≡ old.refusals)
+PushesQuit (Ok u) old later =
+    (later.orders ≡ old.orders ++ Quit ∷ []) × (later.fulls ≡ old.fulls) × (later.refusals ≡ old.refusals)
 PushesQuit (Err fault) old later = IsNotPushed fault old later

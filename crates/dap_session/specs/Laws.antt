@@ -26,8 +26,9 @@ pub record IsOnTheWay (events : List Incoming) (reached : History) : Type 0 wher
   pub taking : IsTaking past
   pub toward : Toward past rest last reached
 
--- A session reached this history with the events: it took all of them, or gave up at the last one. The history is a prefix
--- of any history of all the events. It is itself the history of some lawful events, so the laws of histories hold of it.
+-- A session reached this history with the events: it took all of them, or gave up at the last one. The history is a
+-- prefix of any history of all the events. It is itself the history of some lawful events, so the laws of histories
+-- hold of it.
 pub record IsReached (events : List Incoming) (reached : History) : Type 0 where
   pub way : ((rest : Rest) × IsHistoryOf events reached rest) ⊎ IsOnTheWay events reached
   pub begins : (past : History) (rest : Rest) → IsHistoryOf events past rest → Begins reached past
@@ -36,7 +37,8 @@ pub record IsReached (events : List Incoming) (reached : History) : Type 0 where
   pub lawful : AreLawful taken
   pub history : IsHistoryOf taken reached rest
 
--- The frames that were put are a prefix of those of the history's messages, and the orders pushed a prefix of its orders.
+-- The frames that were put are a prefix of those of the history's messages, and the orders pushed a prefix of its
+-- orders.
 pub record SendsPrefix (reached : History) (old later : Ports) : Type 0 where
   pub frames : List (List ℕ)
   pub orders : List PlainOrder
@@ -45,26 +47,30 @@ pub record SendsPrefix (reached : History) (old later : Ports) : Type 0 where
   pub frames_begin : Begins frames (frames_from 1 (messages_of reached))
   pub orders_begin : Begins orders (orders_of reached)
 
--- Whatever fault ends a session, what it sent is a prefix of what the history that it reached says; after that, one Quit
--- was pushed or refused.
+-- Whatever fault ends a session, what it sent is a prefix of what the history that it reached says; after that, one
+-- Quit was pushed or refused.
 abbrev pub FaultsLeavePrefixes : Type 0
 FaultsLeavePrefixes =
-    (fault : SessionFault) (given_before given_after : List Incoming) (loaded_before loaded_after : List Load) (old later : Ports)
+    (fault : SessionFault) (given_before given_after : List Incoming) (loaded_before loaded_after : List Load)
+    (old later : Ports)
     → (driven : Driven (Err fault) given_before given_after loaded_before loaded_after old later)
-    → (reached : History) × IsReached driven.events reached × (stopped : Ports) × SendsPrefix reached old stopped × TriesQuit stopped later
+    → (reached : History) × IsReached driven.events reached × (stopped : Ports) × SendsPrefix reached old stopped
+    × TriesQuit stopped later
 
--- The frames that were put are fewer than 2^53. The content of the nth is read as the nth message of the history, and says
--- that its seq is n.
+-- The frames that were put are fewer than 2^53. The content of the nth is read as the nth message of the history, and
+-- says that its seq is n.
 pub record PutsNumbered (reached : History) (old later : Ports) : Type 0 where
   pub frames : List (List ℕ)
   pub frames_are : later.frames ≡ old.frames ++ frames
   pub few : length frames < 2 ^ 53
   pub read : (n : ℕ) (frame : List ℕ) → slice_get frames n ≡ Some frame
-      → (message : Outgoing) × (content : List ℕ) × (slice_get (messages_of reached) n ≡ Some message) × (frame ≡ frame_of content) × ReadsAsMessage message (n + 1) content
+      → (message : Outgoing) × (content : List ℕ) × (slice_get (messages_of reached) n ≡ Some message)
+      × (frame ≡ frame_of content) × ReadsAsMessage message (n + 1) content
 
 -- However a session ends, the frames that it put are numbered from 1, as the messages of the history that it reached.
 abbrev pub FramesAreNumbered : Type 0
 FramesAreNumbered =
-    (result : Result Closed SessionFault) (given_before given_after : List Incoming) (loaded_before loaded_after : List Load) (old later : Ports)
+    (result : Result Closed SessionFault) (given_before given_after : List Incoming)
+    (loaded_before loaded_after : List Load) (old later : Ports)
     → (driven : Driven result given_before given_after loaded_before loaded_after old later)
     → (reached : History) × IsReached driven.events reached × PutsNumbered reached old later

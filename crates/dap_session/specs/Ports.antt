@@ -9,8 +9,8 @@ pub record Written : Type 0 where
   pub frames : List (List ℕ)
   pub refused : List (List ℕ)
 
--- The orders pushed, the oldest first, and how many were refused: `fulls` because there was no room, and `refusals` because
--- nobody takes orders any more.
+-- The orders pushed, the oldest first, and how many were refused: `fulls` because there was no room, and `refusals`
+-- because nobody takes orders any more.
 pub record Ordered : Type 0 where
   pub orders : List PlainOrder
   pub fulls : ℕ
@@ -30,4 +30,11 @@ pub record Ports : Type 0 where
 
 -- both ports
 abbrev pub ports : Written → Ordered → Ports
-ports out orders = record { frames = out.frames; orders = orders.orders; refused = out.refused; runner_gone = orders.refusals; orders_full = orders.fulls }
+ports out orders =
+    record {
+      frames = out.frames;
+      orders = orders.orders;
+      refused = out.refused;
+      runner_gone = orders.refusals;
+      orders_full = orders.fulls;
+    }

@@ -62,8 +62,9 @@ pub record PutsSome (past new : History) (old later : Ports) : Type 0 where
   pub begins : Begins (put ++ frame ∷ []) (frames_from (next_seq past) messages)
   pub seqs_fit : SeqsFit past new
 
--- What was sent of one more step, which leads from `past` to `new`, where this fault ended the sending. The fault has its
--- cause: a port refused, or no seq is left for a message. Frames are built first, then orders pushed, then frames put.
+-- What was sent of one more step, which leads from `past` to `new`, where this fault ended the sending. The fault has
+-- its cause: a port refused, or no seq is left for a message. Frames are built first, then orders pushed, then frames
+-- put.
 abbrev pub BreaksOff : SessionFault → History → History → Ports → Ports → Type 0
 BreaksOff (Frame k) past new old later = ⊥
 BreaksOff NoMemory past new old later = later ≡ old
@@ -77,7 +78,8 @@ abbrev pub HasTriedQuit : Ordered → Ordered → Type 0
 HasTriedQuit old later =
     ((later.orders ≡ old.orders ++ Quit ∷ []) × (later.fulls ≡ old.fulls) × (later.refusals ≡ old.refusals))
     ⊎ ((later.orders ≡ old.orders)
-    × (((old.fulls < later.fulls) × (later.refusals ≡ old.refusals)) ⊎ ((old.refusals < later.refusals) × (later.fulls ≡ old.fulls))))
+    × (((old.fulls < later.fulls) × (later.refusals ≡ old.refusals))
+    ⊎ ((old.refusals < later.refusals) × (later.fulls ≡ old.fulls))))
 
 -- what the port of orders did
 abbrev pub ordered_at : Ports → Ordered

@@ -28,14 +28,16 @@ pub record Serves (events : List Incoming) (ending : Ending) (old later : Ports)
   pub seqs_fit : next_seq past ≤ 2 ^ 53
   pub refuses_nothing : RefusesNothing old later
 
--- A framing fault ended the session. Everything that the events cause was sent, and then one Quit was pushed or refused.
+-- A framing fault ended the session. Everything that the events cause was sent, and then one Quit was pushed or
+-- refused.
 pub record ServesUntilFault (events : List Incoming) (fault : FramingFault) (old later : Ports) : Type 0 where
   pub mid : Ports
   pub serves : Serves events (ending.Fault (Frame fault)) old mid
   pub quit : TriesQuit mid later
 
--- The session gave up at the last event, and hadn't ended before it. What the others cause was sent, then a prefix of what
--- the last one causes, and then one Quit was pushed or refused. `NoMemory` occurs only at an event that needs memory.
+-- The session gave up at the last event, and hadn't ended before it. What the others cause was sent, then a prefix of
+-- what the last one causes, and then one Quit was pushed or refused. `NoMemory` occurs only at an event that needs
+-- memory.
 pub record StopsShort (events : List Incoming) (fault : SessionFault) (old later : Ports) : Type 0 where
   pub before : List Incoming
   pub last : Incoming
@@ -61,7 +63,8 @@ pub data CannotSend : SessionFault → Type 0 where
   writer_is_gone : CannotSend WriterGone
 
 -- What the events that an inbox and a loader returned lead to, and the result.
-pub data Drives (events given : List Incoming) (loads : List Load) (old later : Ports) : Result Closed SessionFault → Type 0 where
+pub data Drives (events given : List Incoming) (loads : List Load) (old later : Ports) : Result Closed SessionFault
+    → Type 0 where
   -- the session was closed
   closes : {by : Closed} → Interleaves [] events given loads → Serves events (ending.Closed by) old later
       → Drives events given loads old later (Ok by)
@@ -72,11 +75,13 @@ pub data Drives (events given : List Incoming) (loads : List Load) (old later : 
   runs_out_of_memory : InterleavesUpTo events given loads → StopsShort events NoMemory old later
       → Drives events given loads old later (Err NoMemory)
   -- it couldn't send what the last event gives
-  gives_up : {fault : SessionFault} → CannotSend fault → Interleaves [] events given loads → StopsShort events fault old later
+  gives_up : {fault : SessionFault} → CannotSend fault → Interleaves [] events given loads
+      → StopsShort events fault old later
       → Drives events given loads old later (Err fault)
 
 -- an inbox and a loader returned these events and answers, and this is what they led to
-pub record Driven (result : Result Closed SessionFault) (given_before given_after : List Incoming) (loaded_before loaded_after : List Load) (old later : Ports) : Type 0 where
+pub record Driven (result : Result Closed SessionFault) (given_before given_after : List Incoming)
+    (loaded_before loaded_after : List Load) (old later : Ports) : Type 0 where
   pub events : List Incoming
   pub given : List Incoming
   pub loads : List Load

@@ -44,7 +44,8 @@ pub record StandsFor (session : State) (events : List Incoming) (past : History)
 -- the file of a launch that waits, or the next event
 abbrev pub WantsHere : Want → Option Launch → Type 0
 WantsHere want None = want ≡ want_is.Event
-WantsHere want (Some launch) = (path : String Global) × (want ≡ want_is.File path) × (string_bytes path ≡ launch.arguments.program)
+WantsHere want (Some launch) =
+    (path : String Global) × (want ≡ want_is.File path) × (string_bytes path ≡ launch.arguments.program)
 
 -- what the session asks for next, by its ending
 abbrev pub Wants : Want → State → Option Ending → Type 0

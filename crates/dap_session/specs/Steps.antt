@@ -20,5 +20,6 @@ pub record IsStepOf (answer : Option Outgoing) (done : Done) (step : Step) : Typ
 -- The step after `past` was sent, or its sending was ended by the fault.
 abbrev pub IsSent : Result (Unit {0}) SessionFault → History → Step → State → Ports → Ports → Type 0
 IsSent (Ok u) past step session old later =
-    Sends past (past ++ step ∷ []) old later × RefusesNothing old later × (session.next_seq ≡ next_seq (past ++ step ∷ []))
+    Sends past (past ++ step ∷ []) old later × RefusesNothing old later
+    × (session.next_seq ≡ next_seq (past ++ step ∷ []))
 IsSent (Err fault) past step session old later = BreaksOff fault past (past ++ step ∷ []) old later

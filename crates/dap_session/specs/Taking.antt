@@ -3,7 +3,7 @@ use Rattle.std.specs.Prelude.{◌≡◌, ◌⊎◌, ◌++◌, ◌∷◌, [], ℕ
 use Rattle.dap_frame.specs.declared.fault.FramingFault.{FramingFault}
 use Rattle.dbg_runner.specs.Plain.{PlainReport, heading_of}
 use Rattle.dap_history.specs.declared.fault.SessionFault.{SessionFault}
-use Rattle.dap_history.specs.declared.fault.SessionFault.TheVariants.{Frame, NoMemory, SeqExhausted, OrdersFull, RunnerGone, WriterGone}
+use Rattle.dap_history.specs.declared.fault.SessionFault.TheVariants.{Frame, NoMemory}
 use Rattle.dap_history.specs.declared.fault.LoadFault.{LoadFault}
 use Rattle.dap_history.specs.declared.fault.LoadFault.TheVariants as load_fault
 use Rattle.dap_history.specs.declared.ending.Ending.TheVariants.{Fault}
@@ -36,15 +36,16 @@ file_of (Err load_fault.CannotRead) = Some None
 file_of (Err load_fault.NoMemory) = None
 
 -- the launch was made with its file, and some contents after it were taken
-pub record LoadsToward (past : History) (rest : Rest) (answer : Result (List ℕ) LoadFault) (new : History) : Type 0 where
-  pub launch : Launch
-  pub waits : rest.launch ≡ Some launch
-  pub file : Option (List ℕ)
-  pub file_is : file_of answer ≡ Some file
-  pub mid : History
-  pub loaded : IsAfter past (Loaded launch file) mid
-  pub left : List ℕ
-  pub taken : Takes mid rest.bytes new left
+pub record LoadsToward (past : History) (rest : Rest) (answer : Result (List ℕ) LoadFault) (new : History) : Type 0
+  where
+    pub launch : Launch
+    pub waits : rest.launch ≡ Some launch
+    pub file : Option (List ℕ)
+    pub file_is : file_of answer ≡ Some file
+    pub mid : History
+    pub loaded : IsAfter past (Loaded launch file) mid
+    pub left : List ℕ
+    pub taken : Takes mid rest.bytes new left
 
 -- From the history `past`, items of the event were taken in order, perhaps not all of them, which led to `new`.
 abbrev pub Toward : History → Rest → Incoming → History → Type 0
@@ -62,8 +63,8 @@ abbrev pub Expects : Phase → PlainReport → Type 0
 Expects (phase.Running t run) r = heading_of r ≡ heading_in t.runs run
 Expects _ r = ⊥
 
--- The event needs no memory: it is the end of the input or a failed read, or a file that no launch waits for, or a report
--- that isn't accepted while no launch waits.
+-- The event needs no memory: it is the end of the input or a failed read, or a file that no launch waits for, or a
+-- report that isn't accepted while no launch waits.
 abbrev pub NeedsNoMemory : Option Launch → (PlainReport → Type 0) → Incoming → Type 0
 NeedsNoMemory launch accepts End = Unit {0}
 NeedsNoMemory launch accepts ReadFailed = Unit {0}
@@ -79,19 +80,22 @@ LacksMemory _ _ = ⊥
 
 -- ---- what an event leads to
 
--- The session gave up at the event. Some of its steps were sent completely, and one more step as far as the fault allowed.
-pub record FailsAt (fault : SessionFault) (past : History) (rest : Rest) (event : Incoming) (old later : Ports) : Type 0 where
-  pub mid : History
-  pub toward : Toward past rest event mid
-  pub between : Ports
-  pub sent : Sends past mid old between
-  pub refuses_nothing : RefusesNothing old between
-  pub next : History
-  pub next_is : (next ≡ mid) ⊎ (Toward past rest event next × ((item : Item) × IsAfter mid item next))
-  pub breaks : BreaksOff fault mid next between later
+-- The session gave up at the event. Some of its steps were sent completely, and one more step as far as the fault
+-- allowed.
+pub record FailsAt (fault : SessionFault) (past : History) (rest : Rest) (event : Incoming) (old later : Ports) : Type 0
+  where
+    pub mid : History
+    pub toward : Toward past rest event mid
+    pub between : Ports
+    pub sent : Sends past mid old between
+    pub refuses_nothing : RefusesNothing old between
+    pub next : History
+    pub next_is : (next ≡ mid) ⊎ (Toward past rest event next × ((item : Item) × IsAfter mid item next))
+    pub breaks : BreaksOff fault mid next between later
 
 -- A framing fault ended the session at the event, and everything that the event causes was sent.
-pub record EndsAt (fault : FramingFault) (events : List Incoming) (past : History) (event : Incoming) (old later : Ports) : Type 0 where
+pub record EndsAt (fault : FramingFault) (events : List Incoming) (past : History) (event : Incoming)
+    (old later : Ports) : Type 0 where
   pub new : History
   pub rest : Rest
   pub history : IsHistoryOf (events ++ event ∷ []) new rest
@@ -100,7 +104,8 @@ pub record EndsAt (fault : FramingFault) (events : List Incoming) (past : Histor
   pub refuses_nothing : RefusesNothing old later
 
 -- The session stands for the events and this one, and what this one causes was sent.
-pub record GoesWell (events : List Incoming) (past : History) (event : Incoming) (want : Want) (session : State) (old later : Ports) : Type 0 where
+pub record GoesWell (events : List Incoming) (past : History) (event : Incoming) (want : Want) (session : State)
+    (old later : Ports) : Type 0 where
   pub new : History
   pub stands : StandsFor session (events ++ event ∷ []) new
   pub sends : Sends past new old later

@@ -12,10 +12,12 @@ returns-clause-prefixes c = faults_leave_prefixes c.reading_laws.ensures (record
 }) c.history_laws.ensures.one
 
 pub returns-clause-numbered : goal.returns-clause-numbered
-returns-clause-numbered c = frames_are_numbered c.history_laws.ensures.numbered c.history_laws.ensures.read_back c.reading_laws.ensures (record {
-  one_frame = c.frame_laws.ensures.frames;
-  one_fault = c.frame_laws.ensures.faults;
-  not_both = c.frame_laws.ensures.both;
-  one_request = c.message_laws.ensures.reading;
-  one_after = c.history_laws.ensures.one_effect;
-}) c.history_laws.ensures.one
+returns-clause-numbered c =
+    frames_are_numbered c.history_laws.ensures.numbered c.history_laws.ensures.read_back c.reading_laws.ensures
+    (record {
+      one_frame = c.frame_laws.ensures.frames;
+      one_fault = c.frame_laws.ensures.faults;
+      not_both = c.frame_laws.ensures.both;
+      one_request = c.message_laws.ensures.reading;
+      one_after = c.history_laws.ensures.one_effect;
+    }) c.history_laws.ensures.one

@@ -14,22 +14,27 @@ returns-in_err-send-clause-comes g c = λ past taking is_phase seq_is.
     let h = c.in-Ok.ensures past is_phase in
     let step = request_step c.args.request h.reply in
     let p = err_from_is_err_and c.from_residual.result c.from_residual.ensures.1 in
-    rw (p.1, p.2) (fails_at_step c.in_err-send.field-0.0 past step _ _ (h.reply, h.replies, record { answer_is = refl; effect_is = refl })
+    rw (p.1, p.2) (fails_at_step c.in_err-send.field-0.0 past step _ _
+    (h.reply, h.replies, record { answer_is = refl; effect_is = refl })
     (c.in_err-send.ensures.sent past step seq_is
-    (is_answer_step step.item c.args.request.seq c.into_name.result (name_of c.args.request.body) c.in-Ok.field-0 h.reply c.into_name.ensures h.gives)))
+    (is_answer_step step.item c.args.request.seq c.into_name.result (name_of c.args.request.body) c.in-Ok.field-0
+    h.reply c.into_name.ensures h.gives)))
 
 pub returns-clause-comes : goal.returns-clause-comes
 returns-clause-comes g c = λ past taking is_phase seq_is.
     let h = c.in-Ok.ensures past is_phase in
     let step = request_step c.args.request h.reply in
     let sent = c.in_ok-send.ensures.sent past step seq_is
-    (is_answer_step step.item c.args.request.seq c.into_name.result (name_of c.args.request.body) c.in-Ok.field-0 h.reply c.into_name.ensures h.gives) in
+    (is_answer_step step.item c.args.request.seq c.into_name.result (name_of c.args.request.body) c.in-Ok.field-0
+    h.reply c.into_name.ensures h.gives) in
     let same = ap (λ s. s.phase) c.self-2.view_is in
     takes_item c.reading_laws.ensures past step _ _ _ taking
     (h.reply, h.replies, record { answer_is = refl; effect_is = refl })
     (record {
       ending_is = c.ending_by-ending.ensures;
-      phase_is = subst (λ p. IsPhase p (past ++ step ∷ [])) (sym same) (c.in_ok-send.ensures.phase _ (h.phase_is c.args.request.seq));
+      phase_is =
+          subst (λ p. IsPhase p (past ++ step ∷ [])) (sym same)
+          (c.in_ok-send.ensures.phase _ (h.phase_is c.args.request.seq));
       free = ap launch_of same ∙ c.in_ok-send.ensures.free;
     })
     (record { sends = sent.0; refuses_nothing = sent.1; seq_is = ap (λ s. s.next_seq) c.self-2.view_is ∙ sent.2 })

@@ -21,4 +21,5 @@ returns-clause-comes g c = λ past taking is_phase seq_is.
     (h.reply, h.launches, record { answer_is = refl; effect_is = refl }) refl
     (c.send.ensures.ending ∙ c.requires) h.phase_is c.send.ensures.phase c.send.ensures.free
     (c.send.ensures.sent past step seq_is
-    (is_answer_step item c.args.launch.seq (name.Supported supported.Launch) (name.Supported supported.Launch) c.in-Ok.field-0 h.reply refl h.gives))
+    (is_answer_step item c.args.launch.seq (name.Supported supported.Launch) (name.Supported supported.Launch)
+    c.in-Ok.field-0 h.reply refl h.gives))

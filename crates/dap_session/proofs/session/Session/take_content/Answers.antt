@@ -11,7 +11,8 @@ returns-in-Ok-None-clause-comes g c = λ past at.
       None,
       rw c.in-Ok-None.field-0-is at c.in-Ok-None.ensures.ok,
       content_of_item (Ok tt) past None c.args.self.now _ _ (no_request_wanted (situation past))
-          (skips c.reading_laws.ensures c.phase_laws.ensures past c.args.self.now _ taking c.requires.taking c.requires.free (at.knows taking)),
+          (skips c.reading_laws.ensures c.phase_laws.ensures past c.args.self.now _ taking c.requires.taking
+          c.requires.free (at.knows taking)),
     )
 
 pub returns-in-Err-clause-comes : goal.returns-in-Err-clause-comes

@@ -15,16 +15,41 @@ returns-in-Piece-clause-comes g c = λ past rest taking on.
 pub returns-in-End-clause-comes : goal.returns-in-End-clause-comes
 returns-in-End-clause-comes g c = λ past rest taking on.
     rw c.in-End.is (closes c.reading_laws.ensures c.close.result past rest End InputEnd closed.InputEnded _ _ _ _ taking
-    (record { closing_is = refl; here = inl refl; toward = λ new after. inr after; leads = λ new after. (inr (taking, after), refl) })
-    (record { step = closing_step InputEnd; item_is = refl; causes = record { answer_is = refl; effect_is = refl }; new_is = refl })
+    (record {
+      closing_is =
+          refl;
+      here = inl refl;
+      toward = λ new after. inr after;
+      leads = λ new after. (inr (taking, after), refl);
+    })
+    (record {
+      step =
+          closing_step InputEnd;
+      item_is = refl;
+      causes = record { answer_is = refl; effect_is = refl };
+      new_is = refl;
+    })
     c.close.ensures.quits c.close.ensures.ending)
 
 pub returns-in-ReadFailed-clause-comes : goal.returns-in-ReadFailed-clause-comes
 returns-in-ReadFailed-clause-comes g c = λ past rest taking on.
     let close = c.close-in-ReadFailed in
-    rw c.in-ReadFailed.is (closes c.reading_laws.ensures close.result past rest ReadFailed ReadFailure closed.ReadFailed _ _ _ _ taking
-    (record { closing_is = refl; here = inl refl; toward = λ new after. inr after; leads = λ new after. (inr (taking, after), refl) })
-    (record { step = closing_step ReadFailure; item_is = refl; causes = record { answer_is = refl; effect_is = refl }; new_is = refl })
+    rw c.in-ReadFailed.is (closes c.reading_laws.ensures close.result past rest ReadFailed ReadFailure closed.ReadFailed
+    _ _ _ _ taking
+    (record {
+      closing_is =
+          refl;
+      here = inl refl;
+      toward = λ new after. inr after;
+      leads = λ new after. (inr (taking, after), refl);
+    })
+    (record {
+      step =
+          closing_step ReadFailure;
+      item_is = refl;
+      causes = record { answer_is = refl; effect_is = refl };
+      new_is = refl;
+    })
     close.ensures.quits close.ensures.ending)
 
 pub returns-in-NoMemory-clause-comes : goal.returns-in-NoMemory-clause-comes
@@ -44,11 +69,14 @@ returns-in-File-clause-no_memory g c = λ lacks.
     c.take_file.ensures.no_memory (rw (c.in-File.is, incoming_file c.in-File.file) at lacks)
 
 pub returns-in-End-clause-enough : goal.returns-in-End-clause-enough
-returns-in-End-clause-enough g c = λ needs. close_needs_none c.close.result closed.InputEnded _ _ _ c.close.ensures.quits c.close.ensures.ending
+returns-in-End-clause-enough g c =
+    λ needs. close_needs_none c.close.result closed.InputEnded _ _ _ c.close.ensures.quits c.close.ensures.ending
 
 pub returns-in-ReadFailed-clause-enough : goal.returns-in-ReadFailed-clause-enough
 returns-in-ReadFailed-clause-enough g c = λ needs.
-    let close = c.close-in-ReadFailed in close_needs_none close.result closed.ReadFailed _ _ _ close.ensures.quits close.ensures.ending
+    let close =
+    c.close-in-ReadFailed in close_needs_none close.result closed.ReadFailed _ _ _ close.ensures.quits
+    close.ensures.ending
 
 pub returns-in-File-clause-enough : goal.returns-in-File-clause-enough
 returns-in-File-clause-enough g c = λ needs.

@@ -7,4 +7,5 @@ pub returns-in-Ok-clause-ok : goal.returns-in-Ok-clause-ok
 returns-in-Ok-clause-ok c =
     let open_ : c.args.self.now.ending ≡ None = grind (arith, common_steps) in
     let launching = sym (ap (λ s. s.phase) c.self.view_is) ∙ c.in-Launching.is in
-    wants_file c.args.self.now c.in-Ok.path c.in-Launching.field-0 c.in-Launching.launch open_ launching (c.in-Ok.ensures.ok ∙ c.as_str.ensures)
+    wants_file c.args.self.now c.in-Ok.path c.in-Launching.field-0 c.in-Launching.launch open_ launching
+    (c.in-Ok.ensures.ok ∙ c.as_str.ensures)

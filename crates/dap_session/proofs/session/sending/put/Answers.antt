@@ -12,6 +12,8 @@ returns-then-is_err-clause-err g c = record {
   frame = c.in-Some.frame.items;
   refused_are = grind (arith, common_steps);
   begins =
-      let steps : c.loop-frame.frame-iterator.rest.items ≡ c.in-Some.frame ∷ c.next.new.self.rest.items = c.in-Some.ensures.steps.0 in
-      begins_all c.loop-frame.yielded c.in-Some.frame c.next.new.self.rest.items c.args.frames.items (ap (λ l. c.loop-frame.yielded ++ l) (sym steps) ∙ c.loop-frame.invariant.4);
+      let steps : c.loop-frame.frame-iterator.rest.items ≡ c.in-Some.frame ∷ c.next.new.self.rest.items =
+      c.in-Some.ensures.steps.0 in
+      begins_all c.loop-frame.yielded c.in-Some.frame c.next.new.self.rest.items c.args.frames.items
+      (ap (λ l. c.loop-frame.yielded ++ l) (sym steps) ∙ c.loop-frame.invariant.4);
 }
