@@ -73,7 +73,8 @@ abbrev mutual
   -- after those found
   members_are_sorted : Members → Members → Bool
   members_are_sorted no_members found = true
-  members_are_sorted (member k d ms) found = is_after k found && (is_sorted d && members_are_sorted ms (then_member found k d))
+  members_are_sorted (member k d ms) found =
+      is_after k found && (is_sorted d && members_are_sorted ms (then_member found k d))
 
 -- ---- the members go in one after another
 
@@ -90,7 +91,8 @@ put_after k d (member l e ms) is =
     put_step k l d e ms (then_member ms k d) (slice_cmp nat_cmp k l) both.0 (sym (put_after k d ms both.1))
 
 -- one member after another is all of them
-then_members_none : (l : List ℕ) (e : Data) (ms found : Members) → then_members (member l e found) ms ≡ member l e (then_members found ms)
+then_members_none : (l : List ℕ) (e : Data) (ms found : Members)
+    → then_members (member l e found) ms ≡ member l e (then_members found ms)
 then_members_none l e no_members found = refl
 then_members_none l e (member k d ms) found = then_members_none l e ms (then_member found k d)
 
@@ -107,7 +109,8 @@ mutual
   read_as (number (float x)) fits sorted = absurd fits
   read_as (string s) fits sorted = refl
   read_as (array ds) fits sorted = ap (option_map array) (items_read ds fits sorted)
-  read_as (object ms) fits sorted = ap (option_map object) (members_read ms no_members fits sorted ∙ ap Some (all_members ms))
+  read_as (object ms) fits sorted =
+      ap (option_map object) (members_read ms no_members fits sorted ∙ ap Some (all_members ms))
 
   items_read : (ds : Items) → ItemsFit ds → items_are_sorted ds ≡ true → of_items (items_outline ds) ≡ Some ds
   items_read no_items fits sorted = refl
@@ -115,12 +118,14 @@ mutual
       let both = and_parts (is_sorted d) (items_are_sorted ds) sorted in
       rw (read_as d fits.0 both.0, items_read ds fits.1 both.1)
 
-  members_read : (ms found : Members) → MembersFit ms → members_are_sorted ms found ≡ true → of_members (members_outline ms) found ≡ Some (then_members found ms)
+  members_read : (ms found : Members) → MembersFit ms → members_are_sorted ms found ≡ true
+      → of_members (members_outline ms) found ≡ Some (then_members found ms)
   members_read no_members found fits sorted = refl
   members_read (member k d ms) found fits sorted =
       let first = and_parts (is_after k found) _ sorted in
       let next = and_parts (is_sorted d) _ first.1 in
-      rw (read_as d fits.0 next.0) (ap (of_members (members_outline ms)) (put_after k d found first.0) ∙ members_read ms (then_member found k d) fits.1 next.1)
+      rw (read_as d fits.0 next.0) (ap (of_members (members_outline ms)) (put_after k d found first.0)
+      ∙ members_read ms (then_member found k d) fits.1 next.1)
 
 -- ---- numbers are JSON's, and the depth is the value's
 
@@ -166,15 +171,19 @@ abbrev whole : Option (json.Json × List Token) → Option Data
 whole o = option_and_then of_json (option_and_then (λ p. json.if_last p.0 p.1) o)
 
 lexed : (d : Data) → Fits d → tokens (compact_text d) ≡ tree.json_tokens (outline d)
-lexed d fits = ap tokens (sym (print-outline d)) ∙ tokens-print (tree.json_tokens (outline d)) (ArePrintable-json_tokens (outline d) (has_numbers d fits))
+lexed d fits =
+    ap tokens (sym (print-outline d)) ∙ tokens-print (tree.json_tokens (outline d))
+    (ArePrintable-json_tokens (outline d) (has_numbers d fits))
 
 round_trip : (d : Data) → Fits d → is_sorted d ≡ true → depth d ≤ max_depth → read (compact_text d) ≡ Some d
 round_trip d fits sorted shallow =
-    ap whole (ap (json.value max_depth) (lexed d fits ∙ sym (append-nil _)) ∙ value-json_tokens (outline d) max_depth [] (omega (arith, as_deep d))) ∙ read_as d fits sorted
+    ap whole (ap (json.value max_depth) (lexed d fits ∙ sym (append-nil _))
+    ∙ value-json_tokens (outline d) max_depth [] (omega (arith, as_deep d))) ∙ read_as d fits sorted
 
 -- ---- messages
 
-each_sorted : {A : Type 0} (f : A → Data) → ((x : A) → is_sorted (f x) ≡ true) → (xs : List A) → items_are_sorted (items_of (map f xs)) ≡ true
+each_sorted : {A : Type 0} (f : A → Data) → ((x : A) → is_sorted (f x) ≡ true) → (xs : List A)
+    → items_are_sorted (items_of (map f xs)) ≡ true
 each_sorted f sorted [] = refl
 each_sorted f sorted (x ∷ xs) = rw (sorted x) (each_sorted f sorted xs)
 
@@ -185,12 +194,15 @@ breakpoint_sorted (Unverified why) = refl
 message_sorted : (message : Outgoing) (seq : ℕ) → is_sorted (value_of message seq) ≡ true
 message_sorted (Answer request_seq command (Ok body.None)) seq = refl
 message_sorted (Answer request_seq command (Ok body.Capabilities)) seq = refl
-message_sorted (Answer request_seq command (Ok (body.Breakpoints answers))) seq = rw (each_sorted breakpoint breakpoint_sorted answers)
+message_sorted (Answer request_seq command (Ok (body.Breakpoints answers))) seq =
+    rw (each_sorted breakpoint breakpoint_sorted answers)
 message_sorted (Answer request_seq command (Ok body.Threads)) seq = refl
 message_sorted (Answer request_seq command (Ok body.Continued)) seq = refl
-message_sorted (Answer request_seq command (Ok (body.StackTrace path frames total))) seq = rw (each_sorted (stack_frame path) (λ f. refl) frames)
+message_sorted (Answer request_seq command (Ok (body.StackTrace path frames total))) seq =
+    rw (each_sorted (stack_frame path) (λ f. refl) frames)
 message_sorted (Answer request_seq command (Ok (body.Scopes scopes))) seq = rw (each_sorted scope (λ s. refl) scopes)
-message_sorted (Answer request_seq command (Ok (body.Variables variables))) seq = rw (each_sorted variable (λ v. refl) variables)
+message_sorted (Answer request_seq command (Ok (body.Variables variables))) seq =
+    rw (each_sorted variable (λ v. refl) variables)
 message_sorted (Answer request_seq command (Ok (body.Value v))) seq = refl
 message_sorted (Answer request_seq command (Err r)) seq = refl
 message_sorted (Event event.Initialized) seq = refl
@@ -204,12 +216,16 @@ message_sorted (Event (event.Log text)) seq = refl
 message_sorted (Event (event.Exited code)) seq = refl
 message_sorted (Event event.Terminated) seq = refl
 
-pub text_is_read : (message : Outgoing) (seq : ℕ) → Fits (value_of message seq) → read (text_of message seq) ≡ Some (value_of message seq)
-text_is_read message seq fits = round_trip (value_of message seq) fits (message_sorted message seq) (nests_little message seq)
+pub text_is_read : (message : Outgoing) (seq : ℕ) → Fits (value_of message seq)
+    → read (text_of message seq) ≡ Some (value_of message seq)
+text_is_read message seq fits =
+    round_trip (value_of message seq) fits (message_sorted message seq) (nests_little message seq)
 
-each_fits : {A : Type 0} (f : A → Data) (P : A → Type 0) → ((x : A) → P x → Fits (f x)) → (xs : List A) → All P xs → ItemsFit (items_of (map f xs))
+each_fits : {A : Type 0} (f : A → Data) (P : A → Type 0) → ((x : A) → P x → Fits (f x)) → (xs : List A) → All P xs
+    → ItemsFit (items_of (map f xs))
 each_fits f P fits [] all = tt
-each_fits f P fits (x ∷ xs) all = (fits x (all 0 x (omega arith)), each_fits f P fits xs (λ k d lt. all (suc k) d (omega arith)))
+each_fits f P fits (x ∷ xs) all =
+    (fits x (all 0 x (omega arith)), each_fits f P fits xs (λ k d lt. all (suc k) d (omega arith)))
 
 breakpoint_fits : (b : BreakpointAnswer) → LineFits b → Fits (breakpoint b)
 breakpoint_fits (At line) fits = (fits, (tt, tt))
@@ -226,30 +242,43 @@ small n is = omega arith
 
 message_fits : (message : Outgoing) (seq : ℕ) → NumbersFit message → seq < 2 ^ 64 → Fits (value_of message seq)
 message_fits (Answer request_seq command (Ok body.None)) seq fits below = (tt, (fits.0, (below, (tt, (tt, tt)))))
-message_fits (Answer request_seq command (Ok body.Capabilities)) seq fits below = ((tt, (tt, (tt, (tt, (tt, tt))))), (tt, (fits.0, (below, (tt, (tt, tt))))))
+message_fits (Answer request_seq command (Ok body.Capabilities)) seq fits below =
+    ((tt, (tt, (tt, (tt, (tt, tt))))), (tt, (fits.0, (below, (tt, (tt, tt))))))
 message_fits (Answer request_seq command (Ok (body.Breakpoints answers))) seq fits below =
     ((each_fits breakpoint LineFits breakpoint_fits answers fits.1, tt), (tt, (fits.0, (below, (tt, (tt, tt))))))
 message_fits (Answer request_seq command (Ok body.Threads)) seq fits below =
     ((((small 1 (lit≤ tt), (tt, tt)), tt), tt), (tt, (fits.0, (below, (tt, (tt, tt))))))
-message_fits (Answer request_seq command (Ok body.Continued)) seq fits below = ((tt, tt), (tt, (fits.0, (below, (tt, (tt, tt))))))
-message_fits (Answer request_seq command (Ok (body.StackTrace path frames total))) seq fits below =
-    ((each_fits (stack_frame path) FrameFits (frame_fits path) frames fits.1.0, (fits.1.1, tt)), (tt, (fits.0, (below, (tt, (tt, tt))))))
+message_fits (Answer request_seq command (Ok body.Continued)) seq fits below =
+    ((tt, tt), (tt, (fits.0, (below, (tt, (tt, tt))))))
+message_fits (Answer request_seq command (Ok (body.StackTrace path frames total))) seq fits below = (
+  (each_fits (stack_frame path) FrameFits (frame_fits path) frames fits.1.0, (fits.1.1, tt)),
+  (tt, (fits.0, (below, (tt, (tt, tt))))),
+)
 message_fits (Answer request_seq command (Ok (body.Scopes scopes))) seq fits below =
     ((each_fits scope ReferenceFits scope_fits scopes fits.1, tt), (tt, (fits.0, (below, (tt, (tt, tt))))))
-message_fits (Answer request_seq command (Ok (body.Variables variables))) seq fits below =
-    ((each_fits variable (λ v. Unit {0}) (λ v is. (tt, (tt, (small 0 (lit≤ tt), tt)))) variables (λ k d lt. tt), tt), (tt, (fits.0, (below, (tt, (tt, tt))))))
-message_fits (Answer request_seq command (Ok (body.Value v))) seq fits below = ((tt, (small 0 (lit≤ tt), tt)), (tt, (fits.0, (below, (tt, (tt, tt))))))
+message_fits (Answer request_seq command (Ok (body.Variables variables))) seq fits below = (
+  (each_fits variable (λ v. Unit {0}) (λ v is. (tt, (tt, (small 0 (lit≤ tt), tt)))) variables (λ k d lt. tt), tt),
+  (tt, (fits.0, (below, (tt, (tt, tt))))),
+)
+message_fits (Answer request_seq command (Ok (body.Value v))) seq fits below =
+    ((tt, (small 0 (lit≤ tt), tt)), (tt, (fits.0, (below, (tt, (tt, tt))))))
 message_fits (Answer request_seq command (Err r)) seq fits below = (tt, (tt, (tt, (fits.0, (below, (tt, (tt, tt)))))))
 message_fits (Event event.Initialized) seq fits below = (tt, (below, (tt, tt)))
-message_fits (Event (event.Stopped reason.Breakpoint)) seq fits below = ((tt, (tt, (small 1 (lit≤ tt), tt))), (tt, (below, (tt, tt))))
-message_fits (Event (event.Stopped reason.Step)) seq fits below = ((tt, (tt, (small 1 (lit≤ tt), tt))), (tt, (below, (tt, tt))))
-message_fits (Event (event.Stopped reason.Entry)) seq fits below = ((tt, (tt, (small 1 (lit≤ tt), tt))), (tt, (below, (tt, tt))))
-message_fits (Event (event.Stopped reason.Pause)) seq fits below = ((tt, (tt, (small 1 (lit≤ tt), tt))), (tt, (below, (tt, tt))))
-message_fits (Event (event.Stopped (reason.Exception fault))) seq fits below = ((tt, (tt, (tt, (small 1 (lit≤ tt), tt)))), (tt, (below, (tt, tt))))
+message_fits (Event (event.Stopped reason.Breakpoint)) seq fits below =
+    ((tt, (tt, (small 1 (lit≤ tt), tt))), (tt, (below, (tt, tt))))
+message_fits (Event (event.Stopped reason.Step)) seq fits below =
+    ((tt, (tt, (small 1 (lit≤ tt), tt))), (tt, (below, (tt, tt))))
+message_fits (Event (event.Stopped reason.Entry)) seq fits below =
+    ((tt, (tt, (small 1 (lit≤ tt), tt))), (tt, (below, (tt, tt))))
+message_fits (Event (event.Stopped reason.Pause)) seq fits below =
+    ((tt, (tt, (small 1 (lit≤ tt), tt))), (tt, (below, (tt, tt))))
+message_fits (Event (event.Stopped (reason.Exception fault))) seq fits below =
+    ((tt, (tt, (tt, (small 1 (lit≤ tt), tt)))), (tt, (below, (tt, tt))))
 message_fits (Event (event.Output v)) seq fits below = ((tt, (tt, tt)), (tt, (below, (tt, tt))))
 message_fits (Event (event.Log text)) seq fits below = ((tt, (tt, tt)), (tt, (below, (tt, tt))))
 message_fits (Event (event.Exited code)) seq fits below = ((fits, tt), (tt, (below, (tt, tt))))
 message_fits (Event event.Terminated) seq fits below = (tt, (below, (tt, tt)))
 
 pub messages_are_read_back : MessagesAreReadBack
-messages_are_read_back message seq fits below = (text_is_read message seq (message_fits message seq fits below), says message seq)
+messages_are_read_back message seq fits below =
+    (text_is_read message seq (message_fits message seq fits below), says message seq)

@@ -1,5 +1,5 @@
--- Defines the questions about the program where it stands: the StackTrace, Scopes, Variables and Evaluate Requests of the
--- Debug Adapter Protocol.
+-- Defines the questions about the program where it stands: the StackTrace, Scopes, Variables and Evaluate Requests of
+-- the Debug Adapter Protocol.
 use Rattle.std.specs.Prelude.{ℕ, List, codes, Option, option_map}
 use Rattle.serde_json.specs.Data.{Data}
 use Rattle.dap_msg.specs.Evaluate.{evaluate_arguments}
