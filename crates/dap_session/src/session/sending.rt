@@ -29,7 +29,7 @@ const SEQ_END: u64 = 1 << 53;
 /// The frames of the messages built so far.
 #[derive(Drop)]
 struct Frames {
-    /// The content of the message that is being built. Its memory is used again for the next.
+    /// The content of the message that is being built.
     content: Vec<u8>,
     /// The frames, in order.
     frames: Vec<Vec<u8>>,
