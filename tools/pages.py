@@ -1,6 +1,6 @@
 #!/usr/bin/env python3
 """Checks the pages: that files and headings that they name are there, and that lines of prose have at most 124 columns; and
-that lines of definitions and proofs have at most 120, but for imports, which the kit keeps on one line.
+that lines of definitions and proofs have at most 120, but for imports, which the kit keeps on one line, and names of goals.
 
 usage: pages.py
 
@@ -93,7 +93,7 @@ def long_logic() -> Iterator[str]:
     """The lines of definitions and proofs that are too long."""
     for file in sorted(TOP.glob("crates/*/specs/**/*.antt")) + sorted(TOP.glob("crates/*/proofs/**/*.antt")):
         for number, line in enumerate(file.read_text(encoding="utf-8").splitlines(), 1):
-            if len(line) > LOGIC_COLUMNS and not line.startswith(("use ", "pub use ")):
+            if len(line) > LOGIC_COLUMNS and not line.startswith(("use ", "pub use ")) and " : goal." not in line:
                 yield f"{file.relative_to(TOP)}:{number}: {len(line)} columns"
 
 
