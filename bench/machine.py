@@ -4,8 +4,8 @@
 usage: machine.py PROGRAM SPEED
 
 PROGRAM is pl0dap, whose `--check` gives the code to the C interpreter; SPEED is the program `speed`, which steps the machine.
-Both run each of bench/programs to its end, in turn, so that whatever else the computer does slows both. The figure to hold is
-0.8 of the C interpreter's steps per second.
+Both run each of bench/programs to its end, in turn, so that whatever else the computer does slows both. The figures to hold are
+5 times the C interpreter's steps a second for `count`, 4.5 for `links` and 1.5 for `divide`.
 """
 import os
 import re
