@@ -8,7 +8,6 @@ use Rattle.dap_msg.specs.declared.command.Command.TheVariants.{Inspect}
 use Rattle.dap_msg.specs.declared.question.Question.{Question}
 use Rattle.dap_msg.specs.declared.outgoing.Body.{Body}
 use Rattle.dap_msg.specs.declared.outgoing.Refusal.{Refusal}
-use Rattle.dap_history.specs.declared.situation.Situation.TheVariants.{Stopped, Faulted}
 use Rattle.dap_history.specs.History.{History, Launched}
 use Rattle.dap_history.specs.Readings.{position}
 use Rattle.dap_history.specs.Inspection.{RepliesFrom, RepliesAt, asked_of, Inspects}

@@ -15,9 +15,9 @@ pub mod Launched
 pub mod Begun
 -- After a report the phase stands for the history with the report's step; for the functions of `reporting`.
 pub mod ReportSteps
--- Which requests are refused, by the situation; for the functions of `retreating` and `running`.
+-- Which requests are refused, by the situation; for `configuration_done` and `take_standing`.
 pub mod Refused
--- How runs begin, go on and end at a request; for the functions of `retreating` and `running`.
+-- How runs begin, go on and end at a request; for the functions of `retreating` and `running` and for `take_standing`.
 pub mod Resumed
 -- Lines that are asked for and answered one after another are all of them; for `asked_lines`, `line_answer` and
 -- `resolved`.

@@ -1,64 +1,57 @@
 -- Requests that are refused.
-use Rattle.std.proofs.Common.{◌≡◌, ℕ, refl, rules}
+use Rattle.std.proofs.Common.{◌≡◌, ℕ, false, nat_eq, if◌then◌else◌, refl, sym, ap}
+use Rattle.dap_msg.specs.declared.command.Command.TheVariants as command
+use Rattle.dap_msg.specs.declared.outgoing.Refusal.{Refusal}
 use Rattle.dap_msg.specs.declared.outgoing.Refusal.TheVariants as refusal
+use Rattle.dap_msg.specs.declared.requests.resume.ResumeKind.{ResumeKind}
+use Rattle.dap_msg.specs.declared.requests.resume.ThreadArguments.{ThreadArguments}
+use Rattle.dap_history.specs.declared.situation.Situation.{Situation}
 use Rattle.dap_history.specs.History.{History}
 use Rattle.dap_history.specs.Replies.{Reply, refused, on_thread}
-use Rattle.dap_msg.specs.declared.requests.resume.ResumeKind.{ResumeKind}
-use Rattle.dap_history.specs.Running.{ConfiguresIn, ResumesIn, RetreatsIn}
+use Rattle.dap_history.specs.Running.{ConfiguresIn, ResumesIn, RetreatsIn, retreat_mode}
 use Rattle.dap_phase.specs.declared.phase.Phase.{Phase}
 use Rattle.dap_phase.specs.declared.phase.Phase.TheVariants as phase
 use Rattle.dap_phase.specs.declared.phase.Target.{Target}
 use Rattle.dap_phase.specs.Runs.{Ordered}
 use Rattle.dbg_plan.specs.Debugged.{Debugged}
 use Rattle.dbg_plan.specs.declared.mode.Mode.{Mode}
-use Rattle.dap_phase.specs.Phases.{situation_of}
+use Rattle.dap_phase.specs.Phases.{IsPhase, situation_of}
+use Rattle.dap_replies.specs.declared.effect.Reply.{Reply as Given}
+use Rattle.dap_replies.specs.Answering.{Refuses, RefusesToMove}
 
 -- the configuration is over, or didn't begin
 pub not_configuring : (p : Phase) (past : History) → ((t : Target) (d : Debugged) → p ≡ phase.Configuring t d → ⊥)
     → ConfiguresIn (situation_of p) past (refused refusal.WrongPhase)
-not_configuring phase.Fresh past not = refl
-not_configuring (phase.Ready s) past not = refl
-not_configuring (phase.Launching s launch) past not = refl
 not_configuring (phase.Configuring t d) past not = absurd (not t d refl)
-not_configuring (phase.Running t run) past not = refl
-not_configuring (phase.Stopped t d) past not = refl
-not_configuring (phase.Faulted t d) past not = refl
-not_configuring (phase.Ended t u) past not = refl
+not_configuring _ past not = refl
+
+-- Commands to this thread that resume the program or go back are refused for this reason.
+abbrev pub AreRefused : Situation → History → ℕ → Refusal → Type 0
+AreRefused s past thread why =
+    ((kind : ResumeKind) → ResumesIn s past kind thread (refused why))
+    × ((m : Mode) → RetreatsIn s past m thread (refused why))
+
+-- then a reply that refuses for this reason is right for them
+pub refuses_moves : (p : Phase) (asked : ThreadArguments) (why : Refusal) (given : Given) → Refuses why p given
+    → ((past : History) → IsPhase p past → AreRefused (situation_of p) past asked.thread_id why)
+    → RefusesToMove asked p given
+refuses_moves p asked why given refuses are = (
+  λ kind past is. refuses (command.Resume kind asked) past is ((are past is).0 kind),
+  λ kind past is. refuses (command.Retreat kind asked) past is ((are past is).1 (retreat_mode kind)),
+)
 
 -- no program has begun, or it is over
-pub nothing_resumes : (p : Phase) (past : History) (resume_kind : ResumeKind) (thread : ℕ)
-    → ((t : Target) (run : Ordered) → p ≡ phase.Running t run → ⊥)
+pub nothing_moves : (p : Phase) (past : History) (thread : ℕ)
     → ((t : Target) (d : Debugged) → p ≡ phase.Stopped t d → ⊥)
     → ((t : Target) (d : Debugged) → p ≡ phase.Faulted t d → ⊥)
-    → ResumesIn (situation_of p) past resume_kind thread (refused refusal.WrongPhase)
-nothing_resumes phase.Fresh past resume_kind thread not_running not_stopped not_faulted = refl
-nothing_resumes (phase.Ready s) past resume_kind thread not_running not_stopped not_faulted = refl
-nothing_resumes (phase.Launching s launch) past resume_kind thread not_running not_stopped not_faulted = refl
-nothing_resumes (phase.Configuring t d) past resume_kind thread not_running not_stopped not_faulted = refl
-nothing_resumes (phase.Running t run) past resume_kind thread not_running not_stopped not_faulted =
-    absurd (not_running t run refl)
-nothing_resumes (phase.Stopped t d) past resume_kind thread not_running not_stopped not_faulted =
-    absurd (not_stopped t d refl)
-nothing_resumes (phase.Faulted t d) past resume_kind thread not_running not_stopped not_faulted =
-    absurd (not_faulted t d refl)
-nothing_resumes (phase.Ended t u) past resume_kind thread not_running not_stopped not_faulted = refl
-
-pub nothing_retreats : (p : Phase) (past : History) (m : Mode) (thread : ℕ)
     → ((t : Target) (run : Ordered) → p ≡ phase.Running t run → ⊥)
-    → ((t : Target) (d : Debugged) → p ≡ phase.Stopped t d → ⊥)
-    → ((t : Target) (d : Debugged) → p ≡ phase.Faulted t d → ⊥)
-    → RetreatsIn (situation_of p) past m thread (refused refusal.WrongPhase)
-nothing_retreats phase.Fresh past m thread not_running not_stopped not_faulted = refl
-nothing_retreats (phase.Ready s) past m thread not_running not_stopped not_faulted = refl
-nothing_retreats (phase.Launching s launch) past m thread not_running not_stopped not_faulted = refl
-nothing_retreats (phase.Configuring t d) past m thread not_running not_stopped not_faulted = refl
-nothing_retreats (phase.Running t run) past m thread not_running not_stopped not_faulted =
-    absurd (not_running t run refl)
-nothing_retreats (phase.Stopped t d) past m thread not_running not_stopped not_faulted = absurd (not_stopped t d refl)
-nothing_retreats (phase.Faulted t d) past m thread not_running not_stopped not_faulted = absurd (not_faulted t d refl)
-nothing_retreats (phase.Ended t u) past m thread not_running not_stopped not_faulted = refl
+    → AreRefused (situation_of p) past thread refusal.WrongPhase
+nothing_moves (phase.Stopped t d) past thread not_stopped not_faulted not_running = absurd (not_stopped t d refl)
+nothing_moves (phase.Faulted t d) past thread not_stopped not_faulted not_running = absurd (not_faulted t d refl)
+nothing_moves (phase.Running t run) past thread not_stopped not_faulted not_running = absurd (not_running t run refl)
+nothing_moves _ past thread not_stopped not_faulted not_running = (λ kind. refl, λ m. refl)
 
 -- no thread but number 1 is known
-pub unknown_thread : (thread : ℕ) (reply : Reply) → (thread ≡ 1 → ⊥)
+pub unknown_thread : (thread : ℕ) (reply : Reply) → nat_eq thread 1 ≡ false
     → refused refusal.UnknownThread ≡ on_thread thread reply
-unknown_thread thread reply other = search rules
+unknown_thread thread reply other = ap (λ b. if b then reply else refused refusal.UnknownThread) (sym other)

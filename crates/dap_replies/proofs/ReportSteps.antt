@@ -22,7 +22,7 @@ use Rattle.dap_history.specs.Last.{last_such}
 use Rattle.dap_history.specs.Plans.{Plan}
 use Rattle.dap_history.specs.History.{Item, Accepted, Step, History, messages}
 use Rattle.dap_history.specs.ReadingLaws.{ReadingsGoOn}
-use Rattle.dap_history.specs.Readings.{stop_mark, message_mark, situation, settings_by, go, end_of, position, numbers, numbers_told, plan, waiting_plan, runs}
+use Rattle.dap_history.specs.Readings.{stop_mark, message_mark, situation, settings_by, go, end_of, position, numbers, numbers_told, plan, runs}
 use Rattle.dap_history.specs.Replies.{reporting, stops, ends, told_logs}
 use Rattle.dap_history.specs.Reports.{outputs, from_next, put_in_at, put_in_by, stands, goes_on}
 use Rattle.dap_history.specs.declared.situation.Situation.TheVariants.{Ended}

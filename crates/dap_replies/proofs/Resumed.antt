@@ -1,6 +1,6 @@
 -- Runs that begin, go on and end at a request.
 use Rattle.std.proofs.Common.{◌≡◌, ℕ, ◌+◌, List, ◌∷◌, [], ◌++◌, map, Option, None, Some, Ok, refl, sym, subst, ap, ◌∙◌, append-nil}
-use Rattle.std.specs.Prelude.{unwrap_or, option_map, length}
+use Rattle.std.specs.Prelude.{false, nat_eq, unwrap_or, option_map, length}
 use Rattle.std.specs.Option.{option_to_list}
 use Rattle.pl0_unit.specs.declared.unit.Unit.{Unit as Compiled}
 use Rattle.pl0_machine.specs.Machine.{Standing, program_of, configuration, frames, depth_of}
@@ -27,23 +27,25 @@ use Rattle.dap_history.specs.Last.{or_else, last_such}
 use Rattle.dap_history.specs.History.{Launched, History, Effect}
 use Rattle.dap_history.specs.Readings.{situation, launched, runs, position, plan, initialize_arguments, answer_mark, message_mark}
 use Rattle.dap_history.specs.ReadingLaws.{ReadingsGoOn}
-use Rattle.dap_history.specs.Replies.{nothing, reporting, ordering, causing, refused, stop_of, stops, ends, told_logs, OfProgram, on_thread}
+use Rattle.dap_history.specs.Replies.{Reply, nothing, reporting, ordering, causing, stop_of, stops, ends, told_logs, OfProgram, on_thread}
 use Rattle.dap_history.specs.Running.{goes, resumes, first_mode, first_logs, enters, ConfiguresIn, ResumesIn, Retreats, RetreatsIn, retreat_mode, mode_of, body_of}
 use Rattle.dap_history.proofs.Told.{numbers_in, numbers_of_logs, mark_of_logs}
 use Rattle.dap_history.specs.Emission.{RepliesIn}
 use Rattle.dap_phase.specs.declared.phase.Phase.{Phase}
 use Rattle.dap_phase.specs.declared.phase.Phase.TheVariants as phase
 use Rattle.dap_phase.specs.declared.phase.Target.{Target}
-use Rattle.dap_phase.specs.Phases.{IsTarget, IsDebuggee, IsPhase}
+use Rattle.dap_phase.specs.Phases.{IsTarget, IsDebuggee, IsPhase, situation_of}
 use Rattle.dap_replies.specs.declared.effect.Reply.{Reply as Given}
 use Rattle.dap_msg.specs.declared.requests.resume.ResumeKind.{ResumeKind}
 use Rattle.dap_msg.specs.declared.requests.resume.RetreatKind.{RetreatKind}
 use Rattle.dap_replies.specs.Replied.{request_step, HasReplied}
-use Rattle.dap_replies.specs.Going.{HasGone, HasStopped, HasEnded, IsOver}
-use Rattle.dap_replies.proofs.Situations.{launched_as}
+use Rattle.dap_replies.specs.declared.standing.StandsAt.{StandsAt}
+use Rattle.dap_replies.specs.declared.standing.StandsAt.TheVariants as stands_at
+use Rattle.dap_replies.specs.Going.{HasGone, HasStopped, HasEnded, IsOver, phase_at}
+use Rattle.dap_replies.proofs.Situations.{launched_as, replies_there}
 use Rattle.dap_replies.proofs.Begun.{run_begins}
 use Rattle.dap_msg.specs.declared.outgoing.Refusal.TheVariants as refusal
-use Rattle.dap_replies.proofs.Refused.{unknown_thread}
+use Rattle.dap_replies.proofs.Refused.{AreRefused, unknown_thread}
 use Rattle.dap_replies.proofs.Stays.{told_stays, target_stays, debuggee_stays}
 
 -- ---- the definitions
@@ -279,13 +281,6 @@ ends_faulted laws t d body kind asked past given one body_is ended is =
     (ap (λ b. causing b (reporting (ends 1)))
     body_is ∙ ap (λ n. on_thread n (causing (body_of kind) (reporting (ends 1)))) (sym one)))
 
--- another thread is asked for, where the program stands
-pub stands_refusing : (t : Target) (d : Debugged) (kind : ResumeKind) (asked : ThreadArguments) (past : History)
-    → (asked.thread_id ≡ 1 → ⊥) → IsPhase (phase.Stopped t d) past
-    → RepliesIn situation_is.Stopped past (command.Resume kind asked) (refused refusal.UnknownThread)
-stands_refusing t d kind asked past other is =
-    of_program (launched past) (launched_as t d.unit) _ is.keeps.0.launched_is (unknown_thread asked.thread_id _ other)
-
 -- ---- `stepBack` and `reverseContinue`
 
 -- the reply of the definitions
@@ -297,33 +292,40 @@ retreats t d m thread past one is_t =
     (causing body.None (ordering (resumes past k m)))) is_t.launched_is
     (ap (λ n. on_thread n (causing body.None (ordering (resumes past l m)))) (sym one))
 
-pub returns_there : ReadingsGoOn → (t : Target) (d : Debugged) (kind : RetreatKind) (asked : ThreadArguments)
-    (past : History) (given : Given) → asked.thread_id ≡ 1
-    → HasGone t d (retreat_mode kind) body.None [] given → IsPhase (phase.Stopped t d) past
+-- the program goes back from a stop or from a fault
+pub returns_there : ReadingsGoOn → (s : StandsAt) (t : Target) (d : Debugged) (kind : RetreatKind)
+    (asked : ThreadArguments) (past : History) (given : Given) → asked.thread_id ≡ 1
+    → HasGone t d (retreat_mode kind) body.None [] given → IsPhase (phase_at s t d) past
     → HasReplied (command.Retreat kind asked) past given
-returns_there laws t d kind asked past given one gone is =
-    goes_on laws (command.Retreat kind asked) t d (retreat_mode kind) body.None [] past given refl refl is.keeps.0
-    is.keeps.1 gone
-    (subst (λ s. RetreatsIn s past (retreat_mode kind) asked.thread_id
-    (causing body.None (goes_after [] (resumes past (launched_as t d.unit) (retreat_mode kind)))))
-    (sym is.situation_is)
-    (retreats t d (retreat_mode kind) asked.thread_id past one is.keeps.0))
+returns_there laws s t d kind asked past given one gone is =
+    let there = keeps_there s t d past is in
+    let m = retreat_mode kind in
+    goes_on laws (command.Retreat kind asked) t d m body.None [] past given refl refl there.0 there.1 gone
+    (replies_there (phase_at s t d) past is (command.Retreat kind asked)
+    (causing body.None (goes_after [] (resumes past (launched_as t d.unit) m)))
+    (retreats_there s t d past m asked.thread_id _ (retreats t d m asked.thread_id past one there.0)))
+  where
+    keeps_there : (s : StandsAt) (t : Target) (d : Debugged) (past : History) → IsPhase (phase_at s t d) past
+        → IsTarget t d.unit past × IsDebuggee d past
+    keeps_there stands_at.Stop t d past is = is.keeps
+    keeps_there stands_at.Fault t d past is = is.keeps
 
-pub returns_faulted : ReadingsGoOn → (t : Target) (d : Debugged) (kind : RetreatKind) (asked : ThreadArguments)
-    (past : History) (given : Given) → asked.thread_id ≡ 1
-    → HasGone t d (retreat_mode kind) body.None [] given → IsPhase (phase.Faulted t d) past
-    → HasReplied (command.Retreat kind asked) past given
-returns_faulted laws t d kind asked past given one gone is =
-    goes_on laws (command.Retreat kind asked) t d (retreat_mode kind) body.None [] past given refl refl is.keeps.0
-    is.keeps.1 gone
-    (subst (λ s. RetreatsIn s past (retreat_mode kind) asked.thread_id
-    (causing body.None (goes_after [] (resumes past (launched_as t d.unit) (retreat_mode kind)))))
-    (sym is.situation_is)
-    (retreats t d (retreat_mode kind) asked.thread_id past one is.keeps.0))
+    retreats_there : (s : StandsAt) (t : Target) (d : Debugged) (past : History) (m : Mode) (thread : ℕ)
+        (reply : Reply) → Retreats past m thread reply
+        → RetreatsIn (situation_of (phase_at s t d)) past m thread reply
+    retreats_there stands_at.Stop t d past m thread reply is = is
+    retreats_there stands_at.Fault t d past m thread reply is = is
+
+-- ---- refusals
 
 -- another thread is asked for, where the program stands
-pub returns_refusing : (t : Target) (d : Debugged) (kind : RetreatKind) (asked : ThreadArguments) (past : History)
-    → (asked.thread_id ≡ 1 → ⊥) → IsTarget t d.unit past
-    → Retreats past (retreat_mode kind) asked.thread_id (refused refusal.UnknownThread)
-returns_refusing t d kind asked past other is_t =
-    of_program (launched past) (launched_as t d.unit) _ is_t.launched_is (unknown_thread asked.thread_id _ other)
+pub unknown_there : (s : StandsAt) (t : Target) (d : Debugged) (thread : ℕ) (past : History) → nat_eq thread 1 ≡ false
+    → IsPhase (phase_at s t d) past → AreRefused (situation_of (phase_at s t d)) past thread refusal.UnknownThread
+unknown_there stands_at.Stop t d thread past other is = (
+  λ kind. of_program (launched past) (launched_as t d.unit) _ is.keeps.0.launched_is (unknown_thread thread _ other),
+  λ m. of_program (launched past) (launched_as t d.unit) _ is.keeps.0.launched_is (unknown_thread thread _ other),
+)
+unknown_there stands_at.Fault t d thread past other is = (
+  λ kind. unknown_thread thread _ other,
+  λ m. of_program (launched past) (launched_as t d.unit) _ is.keeps.0.launched_is (unknown_thread thread _ other),
+)

@@ -31,6 +31,9 @@ use Rattle.dap_phase.specs.declared.phase.Target.{Target}
 use Rattle.dap_phase.specs.Runs.{Ordered, heading_in, asked_back}
 use Rattle.dap_phase.specs.Phases.{situation_of, IsTarget, IsDebuggee, IsRun, IsPhase}
 use Rattle.dap_replies.specs.Replied.{HasReplied, Replies, request_step}
+use Rattle.dap_replies.specs.declared.standing.StandsAt.{StandsAt}
+use Rattle.dap_replies.specs.declared.standing.StandsAt.TheVariants as stands_at
+use Rattle.dap_replies.specs.Going.{phase_at}
 use Rattle.dap_replies.specs.Lines.{AreAnswered, is_other, with_order}
 use Rattle.dap_replies.proofs.Situations.{launched_as, replies_there}
 use Rattle.dap_replies.proofs.Stays.{situation_stays, target_stays, position_stays, plan_stays, last_run_stays, runs_stay, waiting_pause_stays, no_last}
@@ -164,20 +167,15 @@ put_in_there laws t d now asked answers past make is holds replies now_is is_the
     (sym (now_is ∙ ap (λ n. with_plan d now.breakpoints (n + 1)) holds.1.position_is))
     (is_then (with_plan d now.breakpoints (position past + 1)) new at after))
 
-pub put_in_at_stop : ReadingsGoOn → (t : Target) (d now : Debugged) (asked : SetBreakpointsArguments)
+pub put_in_standing : ReadingsGoOn → (s : StandsAt) (t : Target) (d now : Debugged) (asked : SetBreakpointsArguments)
     (answers : List BreakpointAnswer) → AreSet t d.unit asked answers now.breakpoints
-    → now ≡ with_plan d now.breakpoints (d.position + 1) → Replies (command.SetBreakpoints asked) (phase.Stopped t d)
-    (with_order answers None (phase.Stopped t now))
-put_in_at_stop laws t d now asked answers are now_is past is =
+    → now ≡ with_plan d now.breakpoints (d.position + 1)
+    → Replies (command.SetBreakpoints asked) (phase_at s t d) (with_order answers None (phase_at s t now))
+put_in_standing laws stands_at.Stop t d now asked answers are now_is past is =
     put_in_there laws t d now asked answers past (phase.Stopped t) is is.keeps
     (sets_here past t d.unit asked answers now.breakpoints Stopped is.situation_is is.keeps.0 are) now_is
     (λ x new at holds. record { situation_is = at; keeps = holds })
-
-pub put_in_at_fault : ReadingsGoOn → (t : Target) (d now : Debugged) (asked : SetBreakpointsArguments)
-    (answers : List BreakpointAnswer) → AreSet t d.unit asked answers now.breakpoints
-    → now ≡ with_plan d now.breakpoints (d.position + 1) → Replies (command.SetBreakpoints asked) (phase.Faulted t d)
-    (with_order answers None (phase.Faulted t now))
-put_in_at_fault laws t d now asked answers are now_is past is =
+put_in_standing laws stands_at.Fault t d now asked answers are now_is past is =
     put_in_there laws t d now asked answers past (phase.Faulted t) is is.keeps
     (sets_here past t d.unit asked answers now.breakpoints Faulted is.situation_is is.keeps.0 are) now_is
     (λ x new at holds. record { situation_is = at; keeps = holds })

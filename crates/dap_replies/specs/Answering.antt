@@ -2,6 +2,9 @@
 use Rattle.std.specs.Prelude.{[], None, Result}
 use Rattle.dap_msg.specs.declared.command.Command.{Command}
 use Rattle.dap_msg.specs.declared.command.Command.TheVariants as command
+use Rattle.dap_msg.specs.declared.requests.resume.ResumeKind.{ResumeKind}
+use Rattle.dap_msg.specs.declared.requests.resume.RetreatKind.{RetreatKind}
+use Rattle.dap_msg.specs.declared.requests.resume.ThreadArguments.{ThreadArguments}
 use Rattle.dap_msg.specs.declared.outgoing.Body.{Body}
 use Rattle.dap_msg.specs.declared.outgoing.Refusal.{Refusal}
 use Rattle.dap_history.specs.History.{History}
@@ -10,7 +13,7 @@ use Rattle.dap_history.specs.Emission.{RepliesIn}
 use Rattle.dap_phase.specs.declared.phase.Phase.{Phase}
 use Rattle.dap_phase.specs.Phases.{IsPhase, situation_of}
 use Rattle.dap_replies.specs.declared.effect.Reply.{Reply as Given}
-use Rattle.dap_replies.specs.Replied.{HasReplied}
+use Rattle.dap_replies.specs.Replied.{HasReplied, Replies}
 
 -- an answer to the command changes no reading, even where it succeeds
 abbrev pub LeadsNowhere : Command → Type 0
@@ -36,3 +39,9 @@ Answers result phase given =
     (command : Command) → LeadsNowhere command → (past : History) → IsPhase phase past
     → RepliesIn (situation_of phase) past command (record { result = result; effect = nothing })
     → HasReplied command past given
+
+-- The reply is right for each command to this thread that resumes the program or goes back.
+abbrev pub RefusesToMove : ThreadArguments → Phase → Given → Type 0
+RefusesToMove asked phase given =
+    ((kind : ResumeKind) → Replies (command.Resume kind asked) phase given)
+    × ((kind : RetreatKind) → Replies (command.Retreat kind asked) phase given)

@@ -10,11 +10,13 @@ ghost use Rattle.dbg_plan.specs.Breakpoints.{plain_breakpoints};
 ghost use Rattle.dbg_plan.specs.Plans.{IsPlanOf};
 ghost use Rattle.dap_history.specs.Breakpoints.{offset, IsAskedAs, AreAskedAs, answer_of, is_at};
 ghost use Rattle.dap_phase.specs.declared.phase.Phase.TheVariants as phase_is;
+ghost use Rattle.dap_replies.specs.Going.{phase_at};
 ghost use Rattle.dap_replies.specs.Lines.{AreAnswered, IsAtStep, is_other, with_order};
 ghost use Rattle.dap_replies.specs.Replied.{Replies};
 
 use crate::effect::{Effect, Reply};
 use crate::refusing::{answer, refuse};
+use crate::standing::{StandsAt, phase_at};
 use dap_history::reading_laws;
 use dap_msg::{
     Body, BreakpointAnswer, BreakpointRefusal, InitializeArguments, Items, Refusal,
@@ -53,8 +55,12 @@ pub(crate) fn set_breakpoints(
         }
         Phase::Configuring(target, debuggee) => before_start(alloc, target, debuggee, asked),
         Phase::Running(target, run) => in_run(alloc, target, run, asked),
-        Phase::Stopped(target, debuggee) => at_stop(alloc, target, debuggee, asked),
-        Phase::Faulted(target, debuggee) => at_fault(alloc, target, debuggee, asked),
+        Phase::Stopped(target, debuggee) => {
+            where_it_stands(alloc, StandsAt::Stop, target, debuggee, asked)
+        }
+        Phase::Faulted(target, debuggee) => {
+            where_it_stands(alloc, StandsAt::Fault, target, debuggee, asked)
+        }
         Phase::Ended(target, unit) => after_end(alloc, target, unit, asked),
     }
 }
@@ -132,36 +138,21 @@ fn in_run(
     Ok(answered(alloc, answers, order, Phase::Running(target, run)))
 }
 
-/// Replies where the program is stopped: the plan is put in at once.
-fn at_stop(
+/// Replies where the program stands: the plan is put in at once.
+fn where_it_stands(
     alloc: Global,
+    stands: StandsAt,
     target: Target,
     debuggee: StoppedDebuggee,
     asked: &SetBreakpointsArguments,
 ) -> Result<Reply, AllocError>
     requires within { AreWithin asked.now }
     requires same { is_at asked.now.path target.path ≡ true }
-    ensures { IfOk result (Replies (command.SetBreakpoints asked.now) (phase_is.Stopped target debuggee)) }
+    ensures { IfOk result (Replies (command.SetBreakpoints asked.now) (phase_at stands target debuggee)) }
 {
     reading_laws();
     let (answers, debuggee) = put_in(alloc, debuggee, target.settings, asked)?;
-    Ok(answered(alloc, answers, None, Phase::Stopped(target, debuggee)))
-}
-
-/// Replies where the program is stopped before a fault: the plan is put in at once.
-fn at_fault(
-    alloc: Global,
-    target: Target,
-    debuggee: StoppedDebuggee,
-    asked: &SetBreakpointsArguments,
-) -> Result<Reply, AllocError>
-    requires within { AreWithin asked.now }
-    requires same { is_at asked.now.path target.path ≡ true }
-    ensures { IfOk result (Replies (command.SetBreakpoints asked.now) (phase_is.Faulted target debuggee)) }
-{
-    reading_laws();
-    let (answers, debuggee) = put_in(alloc, debuggee, target.settings, asked)?;
-    Ok(answered(alloc, answers, None, Phase::Faulted(target, debuggee)))
+    Ok(answered(alloc, answers, None, phase_at(stands, target, debuggee)))
 }
 
 /// Resolves the lines, and puts the plan into a debuggee that stands.

@@ -20,6 +20,7 @@ mod replying;
 mod reporting;
 mod retreating;
 mod running;
+mod standing;
 mod threads;
 
 pub use effect::{Effect, Reply};

@@ -7,6 +7,7 @@ ghost use Rattle.dap_replies.specs.Replied.{Replies};
 
 use crate::effect::{Effect, Reply};
 use crate::refusing::{refuse, without_effect};
+use crate::standing::is_main_thread;
 use dap_history::reading_laws;
 use dap_msg::{Body, Items, Refusal, ThreadArguments};
 use dap_phase::{Phase, Run, Target};
@@ -34,7 +35,7 @@ fn interrupt(alloc: Global, target: Target, run: Run, asked: ThreadArguments) ->
     ensures { Replies (command_is.Pause asked) (phase_is.Running target run) result }
 {
     reading_laws();
-    if asked.thread_id != 1 {
+    if !is_main_thread(asked) {
         let phase = Phase::Running(target, run);
         return refuse(alloc, phase, Refusal::UnknownThread);
     }
@@ -63,7 +64,7 @@ fn remain(alloc: Global, phase: Phase, asked: ThreadArguments) -> Reply
     ensures { Replies (command_is.Pause asked) phase result }
 {
     reading_laws();
-    if asked.thread_id != 1 {
+    if !is_main_thread(asked) {
         return refuse(alloc, phase, Refusal::UnknownThread);
     }
     without_effect(alloc, phase, Ok(Body::None))

@@ -14,6 +14,7 @@ use crate::effect::{Effect, Reply};
 use crate::logging::push_logs;
 use crate::refusing::refuse;
 use crate::reporting::stop_reason;
+use crate::standing::{StandsAt, take_standing};
 use dap_history::reading_laws;
 use dap_msg::{Body, EventBody, Items, Refusal, ResumeKind, ThreadArguments};
 use dap_phase::{Phase, Run, Target, Unstarted};
@@ -114,34 +115,17 @@ pub(crate) fn resume(
     ensures { IfOk result (Replies (command_is.Resume kind asked) phase) }
 {
     reading_laws();
-    match phase {
-        Phase::Running(target, run) => {
-            let phase = Phase::Running(target, run);
-            Ok(refuse(alloc, phase, Refusal::NotStopped))
+    match take_standing(alloc, phase, asked) {
+        Ok((StandsAt::Stop, target, debuggee)) => {
+            let mode = resume_mode(kind, debuggee.debuggee().machine().depth());
+            go(target, debuggee, mode, resume_body(kind), Vec::new(alloc))
         }
-        Phase::Stopped(target, debuggee) => go_on(alloc, target, debuggee, kind, asked),
-        Phase::Faulted(target, debuggee) => end_faulted(alloc, target, debuggee, kind, asked),
-        phase => Ok(refuse(alloc, phase, Refusal::WrongPhase)),
+        // However it is resumed, a program that stopped before a fault ends.
+        Ok((StandsAt::Fault, target, debuggee)) => {
+            end(alloc, target, debuggee, resume_body(kind))
+        }
+        Err(refused) => Ok(refused),
     }
-}
-
-/// Replies where the program is stopped: it goes on.
-fn go_on(
-    alloc: Global,
-    target: Target,
-    debuggee: StoppedDebuggee,
-    kind: ResumeKind,
-    asked: ThreadArguments,
-) -> Result<Reply, AllocError>
-    ensures { IfOk result (Replies (command_is.Resume kind asked) (phase_is.Stopped target debuggee)) }
-{
-    reading_laws();
-    if asked.thread_id != 1 {
-        let phase = Phase::Stopped(target, debuggee);
-        return Ok(refuse(alloc, phase, Refusal::UnknownThread));
-    }
-    let mode = resume_mode(kind, debuggee.debuggee().machine().depth());
-    go(target, debuggee, mode, resume_body(kind), Vec::new(alloc))
 }
 
 /// Returns the mode of a run that is resumed where this many frames are live.
@@ -166,24 +150,6 @@ fn resume_body(kind: ResumeKind) -> Body
         ResumeKind::StepIn => Body::None,
         ResumeKind::StepOut => Body::None,
     }
-}
-
-/// Replies where the program is stopped before a fault: however it is resumed, the program ends.
-fn end_faulted(
-    alloc: Global,
-    target: Target,
-    debuggee: StoppedDebuggee,
-    kind: ResumeKind,
-    asked: ThreadArguments,
-) -> Result<Reply, AllocError>
-    ensures { IfOk result (Replies (command_is.Resume kind asked) (phase_is.Faulted target debuggee)) }
-{
-    reading_laws();
-    if asked.thread_id != 1 {
-        let phase = Phase::Faulted(target, debuggee);
-        return Ok(refuse(alloc, phase, Refusal::UnknownThread));
-    }
-    end(alloc, target, debuggee, resume_body(kind))
 }
 
 /// Returns the reply with this answer, after which the program, which faulted, has ended.

@@ -1,19 +1,28 @@
-use Rattle.std.proofs.Common.{subst, refl}
-use Rattle.dap_phase.specs.Phases.{IsPhase}
-use Rattle.dap_replies.proofs.Refused.{nothing_retreats}
+use Rattle.std.proofs.Common.{[], subst, sym}
+use Rattle.std.proofs.lemmas.Result.{IfOk-weaker}
+use Rattle.dbg_plan.specs.declared.mode.Mode.{Mode}
 use Rattle.dap_msg.specs.declared.command.Command.TheVariants as command
-use Rattle.dap_history.specs.Running.{retreat_mode}
+use Rattle.dap_msg.specs.declared.outgoing.Body.TheVariants as body
+use Rattle.dap_phase.specs.Phases.{IsPhase}
+use Rattle.dap_replies.specs.Going.{HasGone}
+use Rattle.dap_replies.specs.Replied.{Replies}
+use Rattle.dap_replies.proofs.Resumed.{returns_there}
 use Rattle.dap_replies.proofs.retreating.retreat.Goals as goal
 
-pub returns-in-Running : goal.returns-in-Running
-returns-in-Running c = λ past is.
-    c.refuse.ensures.refuses (command.Retreat c.args.kind c.args.asked) past
-    (subst (λ p. IsPhase p past) c.in-Running.is is)
-    refl
+pub returns-in-Ok : goal.returns-in-Ok
+returns-in-Ok c =
+    let arm = c.in-Ok in
+    let t = arm.target in
+    let d = arm.debuggee in
+    let m = c.retreat_mode-mode in
+    IfOk-weaker c.go.result (HasGone t d m.result body.None c.new.result.items)
+    (Replies (command.Retreat c.args.kind c.args.asked) c.args.phase)
+    (λ given gone past is. returns_there c.reading_laws.ensures arm.field-0-0 t d c.args.kind c.args.asked past given
+    arm.ensures.known
+    (subst (λ (m : Mode). HasGone t d m body.None [] given) m.ensures
+    (subst (λ es. HasGone t d m.result body.None es given) c.new.ensures.items gone))
+    (subst (λ p. IsPhase p past) (sym arm.ensures.stands) is))
+    c.go.ensures
 
-pub returns-in_default : goal.returns-in_default
-returns-in_default c = λ past is.
-    let p = c.args.phase in
-    c.refuse-in_default.ensures.refuses (command.Retreat c.args.kind c.args.asked) past is
-    (nothing_retreats p past (retreat_mode c.args.kind) c.args.asked.thread_id c.in_default.not-Running
-    c.in_default.not-Stopped c.in_default.not-Faulted)
+pub returns-in-Err : goal.returns-in-Err
+returns-in-Err c = c.in-Err.ensures.refused.1 c.args.kind

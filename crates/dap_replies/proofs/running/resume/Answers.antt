@@ -1,18 +1,47 @@
-use Rattle.std.proofs.Common.{subst, refl}
-use Rattle.dap_phase.specs.Phases.{IsPhase}
-use Rattle.dap_replies.proofs.Refused.{nothing_resumes}
+use Rattle.std.proofs.Common.{◌≡◌, ap, subst, sym, ◌∙◌}
+use Rattle.std.proofs.lemmas.Result.{IfOk-weaker}
+use Rattle.dbg_plan.specs.Due.{depth_at}
+use Rattle.dbg_plan.specs.Debugged.{machine_of}
+use Rattle.pl0_machine.specs.Machine.{Standing, program_of}
+use Rattle.dap_history.specs.Running.{mode_of}
 use Rattle.dap_msg.specs.declared.command.Command.TheVariants as command
+use Rattle.dap_phase.specs.Phases.{IsPhase}
+use Rattle.dap_replies.specs.Going.{HasGone, HasEnded, phase_at}
+use Rattle.dap_replies.specs.Replied.{Replies}
+use Rattle.dap_replies.proofs.Resumed.{depth_there, resumes_there, ends_faulted}
 use Rattle.dap_replies.proofs.running.resume.Goals as goal
 
-pub returns-in-Running : goal.returns-in-Running
-returns-in-Running c = λ past is.
-    c.refuse.ensures.refuses (command.Resume c.args.kind c.args.asked) past
-    (subst (λ p. IsPhase p past) c.in-Running.is is)
-    refl
+pub returns-in-Ok-Stop-default-default : goal.returns-in-Ok-Stop-default-default
+returns-in-Ok-Stop-default-default c =
+    let arm = c.in-Ok-Stop-default-default in
+    let t = arm.target in
+    let d = arm.debuggee in
+    let stopped = subst (λ s. phase_at s t d ≡ c.args.phase) arm.field-0-0-is arm.ensures.stands in
+    let standing : c.machine.result.now ≡ machine_of d = c.machine.ensures ∙ ap machine_of c.debuggee.ensures.same in
+    let depth =
+    depth_there c.machine.result.now c.depth.result c.depth.ensures.there c.depth.ensures.depth
+    ∙ ap (λ (m : Standing). depth_at (program_of m.unit) m.position) standing in
+    IfOk-weaker c.go.result (HasGone t d c.resume_mode-mode.result c.resume_body.result c.new.result.items)
+    (Replies (command.Resume c.args.kind c.args.asked) c.args.phase)
+    (λ given gone past is. resumes_there c.reading_laws.ensures t d c.resume_mode-mode.result c.resume_body.result
+    c.args.kind c.args.asked past given arm.ensures.known c.resume_body.ensures
+    (c.resume_mode-mode.ensures ∙ ap (mode_of c.args.kind) depth)
+    (subst (λ es. HasGone t d c.resume_mode-mode.result c.resume_body.result es given) c.new.ensures.items gone)
+    (subst (λ p. IsPhase p past) (sym stopped) is))
+    c.go.ensures
 
-pub returns-in_default : goal.returns-in_default
-returns-in_default c = λ past is.
-    let p = c.args.phase in
-    c.refuse-in_default.ensures.refuses (command.Resume c.args.kind c.args.asked) past is
-    (nothing_resumes p past c.args.kind c.args.asked.thread_id c.in_default.not-Running c.in_default.not-Stopped
-    c.in_default.not-Faulted)
+pub returns-in-Ok-Fault-default-default : goal.returns-in-Ok-Fault-default-default
+returns-in-Ok-Fault-default-default c =
+    let arm = c.in-Ok-Fault-default-default in
+    let t = arm.target in
+    let d = arm.debuggee in
+    let faulted = subst (λ s. phase_at s t d ≡ c.args.phase) arm.field-0-0-is arm.ensures.stands in
+    let body = c.resume_body-in-Ok-Fault-default-default in
+    IfOk-weaker c.end.result (HasEnded t d.unit body.result)
+    (Replies (command.Resume c.args.kind c.args.asked) c.args.phase)
+    (λ given ended past is. ends_faulted c.reading_laws.ensures t d body.result c.args.kind c.args.asked past given
+    arm.ensures.known body.ensures ended (subst (λ p. IsPhase p past) (sym faulted) is))
+    c.end.ensures
+
+pub returns-in-Err : goal.returns-in-Err
+returns-in-Err c = c.in-Err.ensures.refused.0 c.args.kind
