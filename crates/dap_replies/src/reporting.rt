@@ -36,7 +36,7 @@ pub fn report(alloc: Global, target: Target, run: Run, report: Report) -> Result
     ensures memory { OnOk result (report.outcome ≢ slice.NoMemory) }
 {
     match report.summary().outcome {
-        SliceOutcome::More => go_on(alloc, target, run, &report),
+        SliceOutcome::More => keep_running(alloc, target, run, &report),
         SliceOutcome::Due(reason) => stand(alloc, target, run, report, stop_reason(reason)),
         SliceOutcome::Held => come_back(alloc, target, run, report),
         SliceOutcome::Done => end(alloc, target, run, &report),
@@ -49,7 +49,12 @@ pub fn report(alloc: Global, target: Target, run: Run, report: Report) -> Result
 }
 
 /// The run isn't over: it goes on.
-fn go_on(alloc: Global, target: Target, mut run: Run, report: &Report) -> Result<Effect, AllocError>
+fn keep_running(
+    alloc: Global,
+    target: Target,
+    mut run: Run,
+    report: &Report,
+) -> Result<Effect, AllocError>
     ensures { IfOk result (Leads target run report.now (λ past. reporting (outputs past (plain_report report.now)))) }
 {
     reading_laws();

@@ -1,4 +1,5 @@
-//! Whether the program stands where a command can resume it or take it back, and whether the thread is known.
+//! Judges whether a command that resumes the program or goes back is served: only where the program stands, and only for
+//! its one thread.
 
 ghost use Rattle.std.specs.Prelude.{◌≡◌, nat_eq, IfErr, IfOk, OnOk};
 ghost use Rattle.dap_replies.specs.Answering.{RefusesToMove};

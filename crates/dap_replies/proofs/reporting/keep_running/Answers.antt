@@ -7,7 +7,7 @@ use Rattle.dap_phase.specs.Phases.{IsPhase}
 use Rattle.dap_replies.specs.Replied.{report_step}
 use Rattle.dap_replies.specs.Reporting.{with_told}
 use Rattle.dap_replies.proofs.ReportSteps.{outputs_as, report_goes_on}
-use Rattle.dap_replies.proofs.reporting.go_on.Goals as goal
+use Rattle.dap_replies.proofs.reporting.keep_running.Goals as goal
 
 pub returns : goal.returns
 returns c = λ past is.
