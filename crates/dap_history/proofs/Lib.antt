@@ -109,3 +109,6 @@ pub mod Lines
 pub mod Leading
 -- While a session takes items, nothing whole is left unread; for the clause `unread` of `history_laws`.
 pub mod Unread
+-- Each step leads where the table of transitions says, so the situation is where the steps lead from Fresh; for the
+-- clauses `moves` and `situation` of `history_laws`.
+pub mod Transitions
