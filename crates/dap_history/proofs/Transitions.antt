@@ -1,6 +1,6 @@
 -- Each step leads where the table of transitions says, so the situation is where the steps lead from Fresh.
-use Rattle.std.proofs.Common.{◌≡◌, inl, inr, ℕ, List, [], ◌∷◌, ◌++◌, Bool, true, false, ◌||◌, Option, None, Some, Result, Ok, Err, refl, sym, ◌∙◌, ap, subst, append-nil}
-use Rattle.std.specs.Prelude.{map, unwrap_or, if◌then◌else◌}
+use Rattle.std.proofs.Common.{◌≡◌, inl, inr, ℕ, List, [], ◌∷◌, ◌++◌, Bool, true, false, Option, None, Some, Result, Ok, Err, refl, sym, ◌∙◌, ap, subst, append-nil}
+use Rattle.std.specs.Prelude.{map, unwrap_or, option_map}
 use Rattle.dap_msg.specs.Commands.{name_of}
 use Rattle.dap_msg.specs.declared.command.Command.{Command}
 use Rattle.dap_msg.specs.declared.command.Command.TheVariants as command
@@ -20,21 +20,20 @@ use Rattle.dbg_plan.specs.Breakpoints.{Breakpoint}
 use Rattle.dbg_plan.specs.Due.{depth_at}
 use Rattle.dbg_plan.specs.declared.mode.Mode.{Mode}
 use Rattle.dbg_plan.specs.declared.mode.Reason.{Reason}
-use Rattle.dbg_plan.specs.declared.mode.Reason.TheVariants as reason
 use Rattle.dbg_runner.specs.declared.outcome.SliceOutcome.{SliceOutcome}
 use Rattle.dbg_runner.specs.declared.outcome.SliceOutcome.TheVariants as slice
-use Rattle.dbg_runner.specs.Plain.{PlainReport, Hold, Quit}
+use Rattle.dbg_runner.specs.Plain.{Heading, PlainReport, Quit}
 use Rattle.dap_history.specs.declared.launch.Launch.{Launch}
 use Rattle.dap_history.specs.declared.situation.Situation.{Situation}
 use Rattle.dap_history.specs.declared.situation.Situation.TheVariants.{Fresh, Ready, Configuring, Running, Stopped, Faulted, Ended}
 use Rattle.dap_history.specs.Last.{or_else, last_such}
 use Rattle.dap_history.specs.History.{Launched, Item, Content, Loaded, Accepted, Fault, InputEnd, ReadFailure, MemoryFailure, Step, History, Effect, with_answer}
-use Rattle.dap_history.specs.Readings.{order_mark, message_mark, situation, position, plan, runs, is_held, is_back, waiting_pause}
+use Rattle.dap_history.specs.Readings.{order_mark, message_mark, situation, position, plan, waiting_pause}
 use Rattle.dap_history.specs.Replies.{Reply, nothing, reporting, ordering, stops, stop_of, exception_of, ends}
 use Rattle.dap_history.specs.Launching.{initialize_in, Launches}
 use Rattle.dap_history.specs.Breakpoints.{effect_in, hold_once}
 use Rattle.dap_history.specs.Running.{resumes, first_logs, enters, mode_of}
-use Rattle.dap_history.specs.Reports.{outputs, held, report_effect}
+use Rattle.dap_history.specs.Reports.{held, report_effect}
 use Rattle.dap_history.specs.Emission.{RepliesIn, Answers, HasEffect, Causes}
 use Rattle.dap_history.specs.Events.{Incoming, Rest, IsHistoryOf}
 use Rattle.dap_history.specs.GoingBack.{back_by}
@@ -43,10 +42,12 @@ use Rattle.dap_history.specs.Transitions.{runs_unless, report_leads, item_leads,
 use Rattle.dap_history.proofs.Readings.{situation-snoc}
 use Rattle.dap_history.proofs.Along.{IsTaken, IsKept, any_events, along}
 use Rattle.dap_history.proofs.Each.{WasTaken, EachTaken, each_kept, each_first}
-use Rattle.dap_history.proofs.Told.{stop_of_logs, mark_of_logs}
+use Rattle.dap_history.proofs.Told.{stop_of_logs, mark_of_logs, stop_marks}
 use Rattle.dap_history.proofs.Silent.{first_at, due_first}
-use Rattle.dap_history.proofs.Outputs.{outputs_stop, outputs_mark}
+use Rattle.dap_history.proofs.Outputs.{outputs_stop, outputs_mark, outputs_stop_not, outputs_unmarked}
 use Rattle.dap_history.proofs.Passing.{mark_of_effect}
+use Rattle.dap_history.proofs.GoingBack.{marks_are}
+use Rattle.dap_history.proofs.Asked.{no_go_held}
 use Rattle.dap_history.proofs.Shapes.{resume_kind_by, IsCalm, Shape, refuses, is_calm, sets, begins, resumes_by, is_over, retreats, interrupts, quits, shaped}
 
 -- what an item is answered with and causes leads from the situation where the table says
@@ -59,12 +60,8 @@ Fits s item answer effect =
 -- ---- replies
 
 -- an order to hold, or none, leads nowhere
-once_unmarked : (held : Bool) (n : ℕ) → last_such order_mark (if held then [] else Hold n ∷ []) ≡ None
-once_unmarked true n = refl
-once_unmarked false n = refl
-
 hold_unmarked : (past : History) → last_such order_mark (hold_once past) ≡ None
-hold_unmarked past = once_unmarked (is_held past || is_back past) (runs past)
+hold_unmarked past = marks_are (hold_once past) ∙ ap (option_map (λ (run : Heading). Running)) (no_go_held past)
 
 -- any command but `initialize`
 abbrev IsOther : Command → Type 0
@@ -122,15 +119,8 @@ module _ (seq : ℕ) (past : History) where
       ∙ ap runs_unless (stop_of_logs (plan past).breakpoints (first_at past l) []))
   enters_leads l (Some r) =
       ap (λ m. unwrap_or (or_else m None) Configuring)
-      (mark_of_logs (plan past).breakpoints (first_at past l) (stops (stop_of r)))
-      ∙ by_reason r
+      (mark_of_logs (plan past).breakpoints (first_at past l) (stops (stop_of r)) ∙ stop_marks r)
       ∙ sym (ap runs_unless (stop_of_logs (plan past).breakpoints (first_at past l) (stops (stop_of r))))
-    where
-      by_reason : (r : Reason)
-          → unwrap_or (or_else (last_such message_mark (map Event (stops (stop_of r)))) None) Configuring ≡ Stopped
-      by_reason reason.Breakpoint = refl
-      by_reason reason.Entry = refl
-      by_reason reason.Step = refl
 
   forward_leads : (asked : Command) (resume_kind : ResumeKind) (l : Launched) (m : Mode)
       → resume_kind_by asked ≡ Some resume_kind → Granted Stopped asked (ordering (resumes past l m))
@@ -212,32 +202,16 @@ ReportFits e effect =
     unwrap_or (mark_of_effect effect) Running ≡ report_leads e Running (last_such stop_of_event effect.events)
 
 module _ (past : History) (r : PlainReport) where
-  unmarked : last_such message_mark (map Event (outputs past r)) ≡ None
-  unmarked =
-      ap (λ es. last_such message_mark (map Event es)) (sym (append-nil (outputs past r))) ∙ outputs_mark past r []
-
-  no_stop_in : last_such stop_of_event (outputs past r) ≡ None
-  no_stop_in = ap (last_such stop_of_event) (sym (append-nil (outputs past r))) ∙ outputs_stop past r []
-
-  stop_fits : (why : Reason)
-      → unwrap_or (last_such message_mark (map Event (outputs past r ++ stops (stop_of why)))) Running ≡ Stopped
-  stop_fits why = ap (λ m. unwrap_or m Running) (outputs_mark past r (stops (stop_of why))) ∙ by_reason why
-    where
-      by_reason : (why : Reason)
-          → unwrap_or (last_such message_mark (map Event (stops (stop_of why)))) Running ≡ Stopped
-      by_reason reason.Breakpoint = refl
-      by_reason reason.Entry = refl
-      by_reason reason.Step = refl
-
   held_fits : (pauses : Bool) → ReportFits slice.Held (held past r pauses)
   held_fits true =
       ap (λ m. unwrap_or m Running) (outputs_mark past r (stops stop.Pause))
       ∙ sym (ap runs_unless (outputs_stop past r (stops stop.Pause)))
-  held_fits false = sym (ap runs_unless no_stop_in)
+  held_fits false = sym (ap runs_unless (outputs_stop_not past r))
 
   report_fits : (e : SliceOutcome) → ReportFits e (report_effect past r e)
-  report_fits slice.More = ap (λ m. unwrap_or m Running) unmarked
-  report_fits (slice.Due why) = stop_fits why
+  report_fits slice.More = ap (λ m. unwrap_or m Running) (outputs_unmarked past r)
+  report_fits (slice.Due why) =
+      ap (λ m. unwrap_or m Running) (outputs_mark past r (stops (stop_of why)) ∙ stop_marks why)
   report_fits slice.Held = held_fits (waiting_pause past)
   report_fits slice.Done = ap (λ m. unwrap_or m Running) (outputs_mark past r (ends 0))
   report_fits (slice.Fault fault) =
