@@ -1,9 +1,9 @@
 -- A run goes back as asked and is not held, and counts begin anew after it.
-use Rattle.std.proofs.Common.{◌≡◌, ◌⊎◌, inl, inr, ℕ, ◌+◌, List, [], ◌∷◌, ◌++◌, true, false, Option, None, Some, Ok, refl, sym, ◌∙◌, ap, subst, append-nil}
-use Rattle.std.specs.Prelude.{map, unwrap_or, option_map, if◌then◌else◌, IsSome}
+use Rattle.std.proofs.Common.{◌≡◌, ◌⊎◌, inl, inr, ℕ, ◌+◌, List, [], ◌∷◌, ◌++◌, true, false, Option, None, Some, Ok, refl, sym, ◌∙◌, ap, subst}
+use Rattle.std.specs.Prelude.{unwrap_or, option_map, if◌then◌else◌, IsSome}
 use Rattle.std.specs.Option.{option_map_or}
 use Rattle.dap_msg.specs.declared.command.CommandName.{CommandName}
-use Rattle.dap_msg.specs.declared.outgoing.Outgoing.TheVariants.{Answer, Event}
+use Rattle.dap_msg.specs.declared.outgoing.Outgoing.TheVariants.{Answer}
 use Rattle.dap_msg.specs.declared.outgoing.Body.{Body}
 use Rattle.dap_msg.specs.declared.outgoing.StopReason.{StopReason}
 use Rattle.pl0_tree.specs.Tree.{Block}
@@ -20,7 +20,7 @@ use Rattle.dap_history.specs.Last.{or_else, last_such}
 use Rattle.dap_history.specs.History.{Item, Content, Loaded, Accepted, Fault, InputEnd, ReadFailure, MemoryFailure, Step, History, Effect, messages}
 use Rattle.dap_history.specs.Readings.{go, situation, position, plan, is_back, last_run, end_of, message_mark, order_mark, step_mark, waiting_plan}
 use Rattle.dap_history.specs.Replies.{nothing}
-use Rattle.dap_history.specs.Reports.{outputs, from_next, put_in_at, report_effect}
+use Rattle.dap_history.specs.Reports.{from_next, put_in_at, report_effect}
 use Rattle.dap_history.specs.Emission.{Causes}
 use Rattle.dap_history.specs.Stops.{run_in, stop_of_event, IsStanding}
 use Rattle.dap_history.specs.GoingBack.{back_in, EachGoesBackAsAsked, CountsBeginAnew, RetreatsAreNotHeld}
@@ -31,7 +31,7 @@ use Rattle.dap_history.proofs.Along.{IsTaken, IsKept, IsLawfulEvent, any_events,
 use Rattle.dap_history.proofs.Each.{WasTaken, EachTaken, each_kept, each_first}
 use Rattle.dap_history.proofs.Early.{IsEarly}
 use Rattle.dap_history.proofs.Silent.{StopsBy, no_stop, at_first, all_silent}
-use Rattle.dap_history.proofs.Outputs.{outputs_mark}
+use Rattle.dap_history.proofs.Outputs.{outputs_unmarked}
 use Rattle.dap_history.proofs.Standing.{MarkIs, mark_unwrap, answers_only, ReportsStop, step_stops}
 use Rattle.dap_history.proofs.Passing.{IsConfiguring, mark_of_effect, mark_of, Ran}
 use Rattle.dap_history.proofs.Stopping.{ran_first, ran_more}
@@ -93,7 +93,8 @@ retreats_not_held events past rest history before step after past_is back =
 
 -- ---- a step that orders a run leads to Running
 
-marks_are : (os : List PlainOrder) → last_such order_mark os ≡ option_map (λ (run : Heading). Running) (last_such go os)
+pub marks_are : (os : List PlainOrder)
+    → last_such order_mark os ≡ option_map (λ (run : Heading). Running) (last_such go os)
 marks_are [] = refl
 marks_are (o ∷ os) = ap (λ m. or_else m (order_mark o)) (marks_are os) ∙ each o (last_such go os)
   where
@@ -149,8 +150,7 @@ module _ (one : OneProgram) (joins : WrittenJoins) where
       → GoesBackBy main r e → MarkIs IsStanding (mark_of_effect (report_effect past r e))
       → Counted past (Accepted r) (report_effect past r e)
   come past r main slice.More back by mark =
-      absurd (subst (MarkIs IsStanding) (ap (λ es. last_such message_mark (map Event es))
-      (sym (append-nil (outputs past r))) ∙ outputs_mark past r []) mark)
+      absurd (subst (MarkIs IsStanding) (outputs_unmarked past r) mark)
   come past r main (slice.Due reason) back by mark =
       ap (λ b. (unwrap_or (if b then Some (from_next r.end (unwrap_or (waiting_plan past) (plan past).breakpoints)) else
       put_in_at r.end (waiting_plan past)) (plan past)).counted_from) back

@@ -9,7 +9,7 @@ pub mod Numbered
 -- A `disconnect` that is taken is the last item, and its answer the last message; for the clause `last` of
 -- `history_laws`.
 pub mod Last
--- What numbers and logs say among events; for `history_laws` and `run_laws`.
+-- What numbers and logs say among events, and to which situation a stop leads; for `history_laws` and `run_laws`.
 pub mod Told
 -- The reply to a question has no effect; for `history_laws` and `run_laws`.
 pub mod Questions
@@ -109,3 +109,6 @@ pub mod Lines
 pub mod Leading
 -- While a session takes items, nothing whole is left unread; for the clause `unread` of `history_laws`.
 pub mod Unread
+-- Each step leads where the table of transitions says, so the situation is where the steps lead from Fresh; for the
+-- clauses `moves` and `situation` of `history_laws`.
+pub mod Transitions

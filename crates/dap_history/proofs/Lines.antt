@@ -1,5 +1,5 @@
 -- Each run is under the breakpoints of the lines that were set last, and counts from where they were set.
-use Rattle.std.proofs.Common.{◌≡◌, inl, inr, ℕ, ◌+◌, List, [], ◌∷◌, ◌++◌, Bool, true, false, ◌||◌, Option, None, Some, Result, Ok, Err, refl, sym, ◌∙◌, ap, subst, append-nil}
+use Rattle.std.proofs.Common.{◌≡◌, inl, inr, ℕ, ◌+◌, List, [], ◌∷◌, ◌++◌, Bool, true, false, ◌||◌, Option, None, Some, Result, Ok, Err, refl, sym, ◌∙◌, ap, subst}
 use Rattle.std.specs.Prelude.{if◌then◌else◌, is_some, map, option_map, unwrap_or}
 use Rattle.std.specs.Option.{option_map_or}
 use Rattle.dap_msg.specs.declared.requests.resume.ResumeKind.{ResumeKind}
@@ -12,7 +12,6 @@ use Rattle.dap_msg.specs.declared.outgoing.Outgoing.{Outgoing}
 use Rattle.dap_msg.specs.declared.outgoing.Outgoing.TheVariants.{Answer, Event}
 use Rattle.dap_msg.specs.declared.outgoing.Body.{Body}
 use Rattle.dap_msg.specs.declared.outgoing.Body.TheVariants as body
-use Rattle.dap_msg.specs.declared.outgoing.EventBody.TheVariants as event
 use Rattle.dap_msg.specs.declared.outgoing.Refusal.{Refusal}
 use Rattle.dap_msg.specs.declared.outgoing.StopReason.TheVariants as stop
 use Rattle.dap_msg.specs.declared.requests.initialize.InitializeArguments.{InitializeArguments}
@@ -23,7 +22,6 @@ use Rattle.pl0_meaning.specs.Laws.{WrittenJoins}
 use Rattle.dbg_plan.specs.Breakpoints.{Breakpoint}
 use Rattle.dbg_plan.specs.declared.mode.Mode.{Mode}
 use Rattle.dbg_plan.specs.declared.mode.Reason.{Reason}
-use Rattle.dbg_plan.specs.declared.mode.Reason.TheVariants as reason
 use Rattle.dbg_runner.specs.declared.outcome.SliceOutcome.{SliceOutcome}
 use Rattle.dbg_runner.specs.declared.outcome.SliceOutcome.TheVariants as slice
 use Rattle.dbg_runner.specs.Plain.{PlainReport, PlainOrder, Go, Hold, Quit, Heading, goes_back}
@@ -38,7 +36,7 @@ use Rattle.dap_history.specs.Replies.{Reply, nothing, ordering, refused, causing
 use Rattle.dap_history.specs.Launching.{Launches, launches}
 use Rattle.dap_history.specs.Breakpoints.{offset, line_offset, IsResolved, answer_of, effect_in, is_at}
 use Rattle.dap_history.specs.Running.{body_of, resumes, enters}
-use Rattle.dap_history.specs.Reports.{Accepts, outputs, from_next, put_in_at, put_in_by, held, report_effect}
+use Rattle.dap_history.specs.Reports.{Accepts, from_next, put_in_at, put_in_by, held, report_effect}
 use Rattle.dap_history.specs.Considered.{starts_by}
 use Rattle.dap_history.specs.Emission.{Causes}
 use Rattle.dap_history.specs.GoingBack.{back_by}
@@ -50,9 +48,9 @@ use Rattle.dap_history.proofs.Texts.{OneProgram}
 use Rattle.dap_history.proofs.Along.{IsTaken, IsKept, IsLawfulEvent, lawful_events, along}
 use Rattle.dap_history.proofs.Each.{WasTaken, EachTaken, each_kept, each_first}
 use Rattle.dap_history.proofs.Early.{IsEarly}
-use Rattle.dap_history.proofs.Told.{mark_of_logs}
+use Rattle.dap_history.proofs.Told.{mark_of_logs, stop_marks}
 use Rattle.dap_history.proofs.Silent.{all_silent, first_at, due_first}
-use Rattle.dap_history.proofs.Outputs.{outputs_mark, report_launches}
+use Rattle.dap_history.proofs.Outputs.{outputs_mark, report_launches, outputs_unmarked}
 use Rattle.dap_history.proofs.Passing.{Ran, loaded_orders}
 use Rattle.dap_history.proofs.Stopping.{ran_more, ran_first}
 use Rattle.dap_history.proofs.Ordering.{is_back_is}
@@ -173,11 +171,6 @@ resuming_goes _ resume_kind is = absurd cc
 back_goes : (asked : Command) (m : Mode) → back_by asked ≡ Some m → IsGoing asked
 back_goes (command.Retreat k a) m is = tt
 back_goes _ m is = absurd cc
-
-stop_marks : (r : Reason) → message_mark (Event (event.Stopped (stop_of r))) ≡ Some Stopped
-stop_marks reason.Breakpoint = refl
-stop_marks reason.Entry = refl
-stop_marks reason.Step = refl
 
 module _ (l : Launched) (v : View) where
   stands_there : (s : Situation) → IsStanding s → Planned l s v → Stands l v
@@ -379,10 +372,6 @@ module _ (past : History) (r : PlainReport) (accepts : Accepts past r) (l : Laun
       (sym (ap (λ os. or_else (last_such order_mark os) (last_such message_mark (map Event effect.events))) none ∙ is))
       planned
 
-  unmarked : last_such message_mark (map Event (outputs past r)) ≡ None
-  unmarked =
-      ap (λ es. last_such message_mark (map Event es)) (sym (append-nil (outputs past r))) ∙ outputs_mark past r []
-
   held_planned : (pauses : Bool) → Reported slice.Held (held past r pauses)
   held_planned true =
       by_mark slice.Held (held past r true) (Some Stopped) refl (outputs_mark past r (stops stop.Pause))
@@ -390,7 +379,8 @@ module _ (past : History) (r : PlainReport) (accepts : Accepts past r) (l : Laun
   held_planned false = (are_put, _, refl, refl, refl)
 
   report_planned : (e : SliceOutcome) → Reported e (report_effect past r e)
-  report_planned slice.More = by_mark slice.More (report_effect past r slice.More) None refl unmarked here
+  report_planned slice.More =
+      by_mark slice.More (report_effect past r slice.More) None refl (outputs_unmarked past r) here
   report_planned (slice.Due why) =
       by_mark (slice.Due why) (report_effect past r (slice.Due why)) (Some Stopped) refl
       (outputs_mark past r (stops (stop_of why)) ∙ stop_marks why) (are_put, put_counts)

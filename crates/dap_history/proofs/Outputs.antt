@@ -80,6 +80,15 @@ outputs_mark past r es =
     ∙ mark_of_numbers (told_numbers past r) (told_logs r.plan r.logs ++ es)
     ∙ mark_of_logs r.plan r.logs es
 
+-- alone they report no stop, and lead to no situation
+module _ (past : History) (r : PlainReport) where
+  pub outputs_stop_not : last_such stop_of_event (outputs past r) ≡ None
+  outputs_stop_not = ap (last_such stop_of_event) (sym (append-nil (outputs past r))) ∙ outputs_stop past r []
+
+  pub outputs_unmarked : last_such message_mark (map Event (outputs past r)) ≡ None
+  outputs_unmarked =
+      ap (λ es. last_such message_mark (map Event es)) (sym (append-nil (outputs past r))) ∙ outputs_mark past r []
+
 abbrev pub if_paused : Bool → List EventBody
 if_paused true = stops stop.Pause
 if_paused false = []

@@ -1,12 +1,13 @@
 -- A session that is paused, and one whose breakpoints change, while the program runs: what each item causes, computed
 -- from the definitions, for any program whose first slice is followed by a Held report; and one that goes back.
-use Rattle.std.proofs.Common.{◌≡◌, ℕ, pos, List, [], ◌∷◌, ◌++◌, None, Some, Ok, refl}
+use Rattle.std.proofs.Common.{◌≡◌, ℕ, pos, List, [], ◌∷◌, ◌++◌, None, Some, Ok, refl, ap}
 use Rattle.std.specs.Prelude.{false}
 use Rattle.dap_msg.specs.declared.command.Command.{Command}
 use Rattle.dap_msg.specs.declared.command.Command.TheVariants as command
 use Rattle.dap_msg.specs.Commands.{name_of}
 use Rattle.dap_msg.specs.declared.command.CommandName.TheVariants as name
 use Rattle.dap_msg.specs.declared.command.Supported.TheVariants as supported
+use Rattle.dap_msg.specs.declared.requests.resume.ResumeKind.TheVariants as resume
 use Rattle.dap_msg.specs.declared.requests.resume.RetreatKind.TheVariants as retreat
 use Rattle.dap_msg.specs.declared.outgoing.Outgoing.TheVariants.{Answer}
 use Rattle.dap_msg.specs.declared.outgoing.Body.TheVariants as body
@@ -20,7 +21,7 @@ use Rattle.dbg_plan.specs.declared.mode.Reason.TheVariants as reason
 use Rattle.dbg_runner.specs.Plain.{PlainReport, Go, Hold}
 use Rattle.dbg_runner.specs.declared.outcome.SliceOutcome.{SliceOutcome}
 use Rattle.dbg_runner.specs.declared.outcome.SliceOutcome.TheVariants as slice
-use Rattle.dap_history.specs.declared.situation.Situation.TheVariants.{Configuring, Running}
+use Rattle.dap_history.specs.declared.situation.Situation.TheVariants.{Fresh, Configuring, Running, Stopped, Faulted, Ended}
 use Rattle.dap_history.specs.History.{Content, Loaded, Accepted, Step, History, Effect}
 use Rattle.dap_history.specs.Readings.{from_one, situation, runs, position, reached, numbers_told, plan, waiting_plan, waiting_pause, is_held}
 use Rattle.dap_history.specs.Replies.{Reply, nothing, answered}
@@ -28,6 +29,7 @@ use Rattle.dap_history.specs.Launching.{launches}
 use Rattle.dap_history.specs.Breakpoints.{effect_in}
 use Rattle.dap_history.specs.Reports.{Accepts, report_effect}
 use Rattle.dap_history.specs.Emission.{RepliesIn}
+use Rattle.dap_history.specs.Transitions.{after_step, after_steps}
 
 abbrev taken : ℕ → Command → Reply → Step
 taken seq asked reply =
@@ -282,3 +284,27 @@ module _ (text : List ℕ) (program : Block) (path : List ℕ) (bs : List Breakp
   tells_the_rest : report_effect back once_more slice.Done ≡ record nothing
       { events = event.Output (pos 8) ∷ event.Exited 0 ∷ event.Terminated ∷ [] }
   tells_the_rest = refl
+
+  -- ---- situations, by the table of transitions
+
+  leads_there : (after_steps Fresh begun ≡ Configuring) × (after_steps Fresh running ≡ Running)
+      × (after_steps Fresh again ≡ Running) × (after_steps Fresh stopped ≡ Stopped)
+      × (after_steps Fresh going_back ≡ Running) × (after_steps Fresh back ≡ Stopped)
+  leads_there = (refl, refl, refl, refl, refl, refl)
+
+  -- a pause that is granted keeps Running; then the report of the held run leads to Stopped
+  pauses_there : (after_steps Fresh paused ≡ Running) × (after_step Running (reported (report 256 256 slice.Held)
+      (report_effect paused (report 256 256 slice.Held) slice.Held)) ≡ Stopped)
+  pauses_there = (refl, refl)
+
+  abbrev continues : Command
+  continues = command.Resume resume.Continue (record { thread_id = 1 })
+
+  -- `continue` is refused in Running, and before a fault it ends the program
+  refused_there : (reply : Reply) → RepliesIn Running again continues reply
+      → after_step Running (taken 6 continues reply) ≡ Running
+  refused_there reply is = ap (λ (r : Reply). after_step Running (taken 6 continues r)) is
+
+  ends_there : (reply : Reply) → RepliesIn Faulted again continues reply
+      → after_step Faulted (taken 6 continues reply) ≡ Ended
+  ends_there reply is = ap (λ (r : Reply). after_step Faulted (taken 6 continues r)) is

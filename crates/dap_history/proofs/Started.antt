@@ -13,7 +13,6 @@ use Rattle.dap_msg.specs.declared.outgoing.Body.TheVariants as body
 use Rattle.dap_msg.specs.declared.outgoing.Refusal.{Refusal}
 use Rattle.dap_msg.specs.declared.outgoing.Outgoing.TheVariants.{Answer, Event}
 use Rattle.dbg_plan.specs.declared.mode.Reason.{Reason}
-use Rattle.dbg_plan.specs.declared.mode.Reason.TheVariants as reason
 use Rattle.dap_history.specs.declared.situation.Situation.{Situation}
 use Rattle.dap_history.specs.declared.situation.Situation.TheVariants.{Fresh, Ready, Configuring, Running, Stopped, Faulted, Ended}
 use Rattle.dap_history.specs.Last.{or_else, last_such}
@@ -28,7 +27,7 @@ use Rattle.dap_history.specs.Events.{Incoming}
 use Rattle.dap_history.proofs.Readings.{situation-snoc}
 use Rattle.dap_history.proofs.Along.{IsTaken}
 use Rattle.dap_history.proofs.Early.{IsEarlyMark, unanswered_late, answered_late, result_late, early_reply}
-use Rattle.dap_history.proofs.Told.{mark_of_logs}
+use Rattle.dap_history.proofs.Told.{mark_of_logs, stop_marks}
 use Rattle.dap_history.proofs.Silent.{due_first}
 use Rattle.dap_history.proofs.Standing.{MarkIs, mark_unwrap}
 use Rattle.dap_history.proofs.Passing.{IsConfiguring, IsLoaded, loaded_there, mark_of_effect}
@@ -120,14 +119,9 @@ enters_late past l (Some r) = (
   Stopped,
   mark_of_logs (plan past).breakpoints
       (position_logs l.program (plan past).breakpoints (plan past).counted_from 0) (stops (stop_of r))
-      ∙ by_reason r,
+      ∙ stop_marks r,
   λ x. x,
 )
-  where
-    by_reason : (r : Reason) → last_such message_mark (map Event (stops (stop_of r))) ≡ Some Stopped
-    by_reason reason.Breakpoint = refl
-    by_reason reason.Entry = refl
-    by_reason reason.Step = refl
 
 -- a reply that starts the program, and where it leads
 abbrev Starts : Situation → History → Reply → Type 0

@@ -1,5 +1,5 @@
 -- Each stop is where it has to be.
-use Rattle.std.proofs.Common.{◌≡◌, ◌⊎◌, inl, inr, ℕ, ◌<◌, ◌≤◌, List, [], ◌∷◌, ◌++◌, Bool, true, false, Option, None, Some, refl, sym, ◌∙◌, ap, subst, append-nil, arith}
+use Rattle.std.proofs.Common.{◌≡◌, ◌⊎◌, inl, inr, ℕ, ◌<◌, ◌≤◌, List, [], ◌∷◌, ◌++◌, Bool, true, false, Option, None, Some, refl, sym, ◌∙◌, ap, subst, arith}
 use Rattle.std.specs.Prelude.{unwrap_or}
 use Rattle.dap_msg.specs.declared.outgoing.StopReason.{StopReason}
 use Rattle.dap_msg.specs.declared.outgoing.StopReason.TheVariants as stop
@@ -20,7 +20,7 @@ use Rattle.dap_history.specs.History.{Launched, Item, Content, Loaded, Accepted,
 use Rattle.dap_history.specs.Readings.{go, situation, position, launched, last_run, waiting_pause, end_of, order_mark, step_mark}
 use Rattle.dap_history.specs.Replies.{Reply, stops, ends, stop_of, exception_of}
 use Rattle.dap_history.specs.Launching.{Launches}
-use Rattle.dap_history.specs.Reports.{Accepts, outputs, held, report_effect}
+use Rattle.dap_history.specs.Reports.{Accepts, held, report_effect}
 use Rattle.dap_history.specs.Emission.{Causes}
 use Rattle.dap_history.proofs.Texts.{OneProgram}
 use Rattle.dap_history.specs.Stops.{stop_of_event, stop_in, NoneDueUpTo, NoneDueBefore, due_in, IsRunsStop, IsRetreatsStop, IsStopOf, IsRightStop, EachStopIsRight}
@@ -28,7 +28,7 @@ use Rattle.dap_history.proofs.Readings.{situation-snoc, position-snoc, launched-
 use Rattle.dap_history.proofs.Along.{IsTaken, IsKept, IsLawfulEvent, lawful_events, along}
 use Rattle.dap_history.proofs.Each.{WasTaken, EachTaken, each_kept, each_first}
 use Rattle.dap_history.proofs.Silent.{StopsBy, no_stop, at_first, all_silent}
-use Rattle.dap_history.proofs.Outputs.{outputs_stop}
+use Rattle.dap_history.proofs.Outputs.{outputs_stop, outputs_stop_not}
 use Rattle.dap_history.proofs.Standing.{MarkIs, mark_unwrap, answers_only}
 use Rattle.dap_history.proofs.Progress.{Progress, progress_more, progress_first, report_program}
 use Rattle.dap_history.proofs.Early.{IsEarly}
@@ -243,9 +243,6 @@ module _ (one : OneProgram) (joins : WrittenJoins) where
   abbrev RightStop : History → StopReason → ℕ → Type 0
   RightStop before reason m =
       (l : Launched) × (launched before ≡ Some l) × IsRightStop l before (last_run before) reason m
-
-  outputs_stop_not : (past : History) (r : PlainReport) → last_such stop_of_event (outputs past r) ≡ None
-  outputs_stop_not past r = ap (last_such stop_of_event) (sym (append-nil (outputs past r))) ∙ outputs_stop past r []
 
   due_stop : (l : Launched) (run : Heading) (m : ℕ) (r : Reason) → (due_in l run m ≡ Some r) × (run.start < m)
       × NoneDueBefore l run m → IsRunsStop l run (stop_of r) m

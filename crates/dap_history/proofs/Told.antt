@@ -1,5 +1,5 @@
--- What numbers and logs say among events.
-use Rattle.std.proofs.Common.{◌≡◌, ℕ, List, [], ◌∷◌, ◌++◌, ℤ, refl, ◌∙◌, ap}
+-- What numbers and logs say among events, and to which situation a stop leads.
+use Rattle.std.proofs.Common.{◌≡◌, ℕ, List, [], ◌∷◌, ◌++◌, ℤ, Some, refl, ◌∙◌, ap}
 use Rattle.std.specs.Prelude.{map}
 use Rattle.std.specs.List.{filter_map}
 use Rattle.dap_msg.specs.declared.outgoing.Outgoing.TheVariants.{Event}
@@ -7,9 +7,12 @@ use Rattle.dap_msg.specs.declared.outgoing.EventBody.{EventBody}
 use Rattle.dap_msg.specs.declared.outgoing.EventBody.TheVariants as event
 use Rattle.dbg_plan.specs.Breakpoints.{Breakpoint}
 use Rattle.dbg_plan.specs.Logs.{Log}
+use Rattle.dbg_plan.specs.declared.mode.Reason.{Reason}
+use Rattle.dbg_plan.specs.declared.mode.Reason.TheVariants as reason
+use Rattle.dap_history.specs.declared.situation.Situation.TheVariants.{Stopped}
 use Rattle.dap_history.specs.Last.{last_such}
 use Rattle.dap_history.specs.Readings.{message_mark, output}
-use Rattle.dap_history.specs.Replies.{text_of_log, told_logs}
+use Rattle.dap_history.specs.Replies.{stop_of, text_of_log, told_logs}
 use Rattle.dap_history.specs.Laws.{log_of}
 use Rattle.dap_history.specs.Stops.{stop_of_event}
 use Rattle.dap_history.proofs.Readings.{or_else-none}
@@ -63,3 +66,10 @@ module _ (bs : List Breakpoint) where
       (map Event (told_logs bs ls ++ es)) ≡ last_such message_mark (map Event es)
   mark_of_logs [] es = refl
   mark_of_logs (l ∷ ls) es = or_else-none _ ∙ mark_of_logs ls es
+
+-- ---- stops
+
+pub stop_marks : (r : Reason) → message_mark (Event (event.Stopped (stop_of r))) ≡ Some Stopped
+stop_marks reason.Breakpoint = refl
+stop_marks reason.Entry = refl
+stop_marks reason.Step = refl

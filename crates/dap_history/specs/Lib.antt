@@ -35,6 +35,8 @@ pub mod Considered
 pub mod Laws
 -- the laws of stops
 pub mod Stops
+-- where each step leads, and that the situation goes by it
+pub mod Transitions
 -- the laws of going back
 pub mod GoingBack
 -- the laws of runs

@@ -72,7 +72,7 @@ order_mark Quit = None
 abbrev pub step_mark : Step → Option Situation
 step_mark step = or_else (last_such order_mark step.effect.orders) (last_such message_mark (messages step))
 
--- how far the client and the program have come
+-- How far the client and the program have come. `Transitions` has the same as a table, which is read forwards.
 abbrev pub situation : History → Situation
 situation past = unwrap_or (last_such step_mark past) Fresh
 

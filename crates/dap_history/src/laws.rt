@@ -5,6 +5,7 @@ ghost use Rattle.dap_history.specs.ReadingLaws.{ReadingsGoOn};
 ghost use Rattle.dap_history.specs.GoingBack.{EachGoesBackAsAsked, CountsBeginAnew, RetreatsAreNotHeld};
 ghost use Rattle.dap_history.specs.Lines.{PlanIsOfLines, EachRunHasItsLines, EachRunCountsFrom};
 ghost use Rattle.dap_history.specs.Runs.{RunsCountFromOne, EachRunIsAsAsked, GrantedRunsAreOrdered, HeldRunsGoOn, HoldOnce, WaitsAreHeld};
+ghost use Rattle.dap_history.specs.Transitions.{EachStepLeads, SituationIsAfterSteps};
 ghost use Rattle.dap_history.specs.Stops.{EachRunStartsThere, EachStopIsRight, EachReportIsTold, EachReplyIsTold, QuestionsAreAnsweredThere};
 
 use dap_frame::frame_laws;
@@ -20,6 +21,8 @@ pub fn history_laws()
     ensures leads { EachItemLeads }
     ensures contents { ContentsAreOfTheStream }
     ensures unread { RestIsOpen }
+    ensures moves { EachStepLeads }
+    ensures situation { SituationIsAfterSteps }
     ensures cuts { CutsChangeNothing }
     ensures answered { EachIsAnsweredOnce }
     ensures numbered { SeqCountFromOne }

@@ -18,6 +18,7 @@ use Rattle.dap_history.proofs.Standing.{questions_answered}
 use Rattle.dap_history.proofs.OneReply.{one_after}
 use Rattle.dap_history.proofs.Texts.{one_program}
 use Rattle.dap_history.proofs.OneHistory.{one_history}
+use Rattle.dap_history.proofs.Transitions.{each_step_leads, situation_after}
 use Rattle.dap_history.proofs.laws.history_laws.Goals as goal
 
 pub returns-clause-one_effect : goal.returns-clause-one_effect
@@ -111,3 +112,9 @@ pub returns-clause-leads : goal.returns-clause-leads
 returns-clause-leads c =
     each_item_leads (one_program c.text_laws.ensures.program) c.meaning_laws.ensures.joins
     c.meaning_laws.ensures.no_gaps
+
+pub returns-clause-moves : goal.returns-clause-moves
+returns-clause-moves c = each_step_leads
+
+pub returns-clause-situation : goal.returns-clause-situation
+returns-clause-situation c = situation_after

@@ -1,0 +1,294 @@
+-- Each step leads where the table of transitions says, so the situation is where the steps lead from Fresh.
+use Rattle.std.proofs.Common.{◌≡◌, inl, inr, ℕ, List, [], ◌∷◌, ◌++◌, Bool, true, false, Option, None, Some, Result, Ok, Err, refl, sym, ◌∙◌, ap, subst, append-nil}
+use Rattle.std.specs.Prelude.{map, unwrap_or, option_map}
+use Rattle.dap_msg.specs.Commands.{name_of}
+use Rattle.dap_msg.specs.declared.command.Command.{Command}
+use Rattle.dap_msg.specs.declared.command.Command.TheVariants as command
+use Rattle.dap_msg.specs.declared.command.CommandName.{CommandName}
+use Rattle.dap_msg.specs.declared.command.CommandName.TheVariants as name
+use Rattle.dap_msg.specs.declared.command.Supported.TheVariants as supported
+use Rattle.dap_msg.specs.declared.requests.resume.ResumeKind.{ResumeKind}
+use Rattle.dap_msg.specs.declared.requests.set_breakpoints.SetBreakpointsArguments.{SetBreakpointsArguments}
+use Rattle.dap_msg.specs.declared.requests.initialize.InitializeArguments.{InitializeArguments}
+use Rattle.dap_msg.specs.declared.outgoing.Body.{Body}
+use Rattle.dap_msg.specs.declared.outgoing.Body.TheVariants as body
+use Rattle.dap_msg.specs.declared.outgoing.Refusal.{Refusal}
+use Rattle.dap_msg.specs.declared.outgoing.Outgoing.{Outgoing}
+use Rattle.dap_msg.specs.declared.outgoing.Outgoing.TheVariants.{Answer, Event}
+use Rattle.dap_msg.specs.declared.outgoing.StopReason.TheVariants as stop
+use Rattle.dbg_plan.specs.Breakpoints.{Breakpoint}
+use Rattle.dbg_plan.specs.Due.{depth_at}
+use Rattle.dbg_plan.specs.declared.mode.Mode.{Mode}
+use Rattle.dbg_plan.specs.declared.mode.Reason.{Reason}
+use Rattle.dbg_runner.specs.declared.outcome.SliceOutcome.{SliceOutcome}
+use Rattle.dbg_runner.specs.declared.outcome.SliceOutcome.TheVariants as slice
+use Rattle.dbg_runner.specs.Plain.{Heading, PlainReport, Quit}
+use Rattle.dap_history.specs.declared.launch.Launch.{Launch}
+use Rattle.dap_history.specs.declared.situation.Situation.{Situation}
+use Rattle.dap_history.specs.declared.situation.Situation.TheVariants.{Fresh, Ready, Configuring, Running, Stopped, Faulted, Ended}
+use Rattle.dap_history.specs.Last.{or_else, last_such}
+use Rattle.dap_history.specs.History.{Launched, Item, Content, Loaded, Accepted, Fault, InputEnd, ReadFailure, MemoryFailure, Step, History, Effect, with_answer}
+use Rattle.dap_history.specs.Readings.{order_mark, message_mark, situation, position, plan, waiting_pause}
+use Rattle.dap_history.specs.Replies.{Reply, nothing, reporting, ordering, stops, stop_of, exception_of, ends}
+use Rattle.dap_history.specs.Launching.{initialize_in, Launches}
+use Rattle.dap_history.specs.Breakpoints.{effect_in, hold_once}
+use Rattle.dap_history.specs.Running.{resumes, first_logs, enters, mode_of}
+use Rattle.dap_history.specs.Reports.{held, report_effect}
+use Rattle.dap_history.specs.Emission.{RepliesIn, Answers, HasEffect, Causes}
+use Rattle.dap_history.specs.Events.{Incoming, Rest, IsHistoryOf}
+use Rattle.dap_history.specs.GoingBack.{back_by}
+use Rattle.dap_history.specs.Stops.{stop_of_event, IsStanding}
+use Rattle.dap_history.specs.Transitions.{runs_unless, report_leads, item_leads, after_step, after_steps, EachStepLeads, SituationIsAfterSteps}
+use Rattle.dap_history.proofs.Readings.{situation-snoc}
+use Rattle.dap_history.proofs.Along.{IsTaken, IsKept, any_events, along}
+use Rattle.dap_history.proofs.Each.{WasTaken, EachTaken, each_kept, each_first}
+use Rattle.dap_history.proofs.Told.{stop_of_logs, mark_of_logs, stop_marks}
+use Rattle.dap_history.proofs.Silent.{first_at, due_first}
+use Rattle.dap_history.proofs.Outputs.{outputs_stop, outputs_mark, outputs_stop_not, outputs_unmarked}
+use Rattle.dap_history.proofs.Passing.{mark_of_effect}
+use Rattle.dap_history.proofs.GoingBack.{marks_are}
+use Rattle.dap_history.proofs.Asked.{no_go_held}
+use Rattle.dap_history.proofs.Shapes.{resume_kind_by, IsCalm, Shape, refuses, is_calm, sets, begins, resumes_by, is_over, retreats, interrupts, quits, shaped}
+
+-- what an item is answered with and causes leads from the situation where the table says
+abbrev Fits : Situation → Item → Option Outgoing → Effect → Type 0
+Fits s item answer effect =
+    unwrap_or (or_else (last_such order_mark effect.orders)
+    (last_such message_mark (with_answer answer (map Event effect.events)))) s
+    ≡ item_leads item answer (last_such stop_of_event effect.events) s
+
+-- ---- replies
+
+-- an order to hold, or none, leads nowhere
+hold_unmarked : (past : History) → last_such order_mark (hold_once past) ≡ None
+hold_unmarked past = marks_are (hold_once past) ∙ ap (option_map (λ (run : Heading). Running)) (no_go_held past)
+
+-- any command but `initialize`
+abbrev IsOther : Command → Type 0
+IsOther (command.Initialize a) = ⊥
+IsOther _ = Unit {0}
+
+module _ (seq : ℕ) (past : History) where
+  -- the same for a request
+  abbrev Leads : Situation → Command → Result Body Refusal → Effect → Type 0
+  Leads s asked result effect =
+      Fits s (Content (Some (record { seq = seq; body = asked }))) (Some (Answer seq (name_of asked) result)) effect
+
+  abbrev ReplyLeads : Situation → Command → Reply → Type 0
+  ReplyLeads s asked reply = Leads s asked reply.result reply.effect
+
+  initialize_leads : (s : Situation) (a : InitializeArguments) → ReplyLeads s (command.Initialize a) (initialize_in s)
+  initialize_leads Fresh a = refl
+  initialize_leads Ready a = refl
+  initialize_leads Configuring a = refl
+  initialize_leads Running a = refl
+  initialize_leads Stopped a = refl
+  initialize_leads Faulted a = refl
+  initialize_leads Ended a = refl
+
+  calm_leads : (s : Situation) (asked : Command) (result : Result Body Refusal) → IsOther asked → IsCalm past s asked
+      → Leads s asked result nothing
+  calm_leads s (command.Initialize a) result other calm = absurd other
+  calm_leads s (command.Launch a) result other calm = absurd calm
+  calm_leads s command.ConfigurationDone result other calm = absurd calm
+  calm_leads s (command.Resume k a) result other calm = absurd calm
+  calm_leads s (command.Retreat k a) result other calm = absurd calm
+  calm_leads s (command.BadArguments k) result other calm = absurd calm
+  calm_leads s _ (Ok b) other calm = refl
+  calm_leads s _ (Err why) other calm = refl
+
+  -- where the request is granted; the body of the answer doesn't matter
+  abbrev Granted : Situation → Command → Effect → Type 0
+  Granted s asked effect = Leads s asked (Ok body.None) effect
+
+  sets_lead : (s t : Situation) (a : SetBreakpointsArguments) (bs : List Breakpoint)
+      → Granted s (command.SetBreakpoints a) (effect_in t past bs)
+  sets_lead s Fresh a bs = refl
+  sets_lead s Ready a bs = refl
+  sets_lead s Configuring a bs = refl
+  sets_lead s Running a bs = ap (λ m. unwrap_or (or_else m None) s) (hold_unmarked past)
+  sets_lead s Stopped a bs = refl
+  sets_lead s Faulted a bs = refl
+  sets_lead s Ended a bs = refl
+
+  enters_leads : (l : Launched) (why : Option Reason)
+      → Granted Configuring command.ConfigurationDone (enters past l why)
+  enters_leads l None =
+      sym
+      (ap (λ es. runs_unless (last_such stop_of_event es)) (sym (append-nil (first_logs past l)))
+      ∙ ap runs_unless (stop_of_logs (plan past).breakpoints (first_at past l) []))
+  enters_leads l (Some r) =
+      ap (λ m. unwrap_or (or_else m None) Configuring)
+      (mark_of_logs (plan past).breakpoints (first_at past l) (stops (stop_of r)) ∙ stop_marks r)
+      ∙ sym (ap runs_unless (stop_of_logs (plan past).breakpoints (first_at past l) (stops (stop_of r))))
+
+  forward_leads : (asked : Command) (resume_kind : ResumeKind) (l : Launched) (m : Mode)
+      → resume_kind_by asked ≡ Some resume_kind → Granted Stopped asked (ordering (resumes past l m))
+  forward_leads (command.Resume k a) resume_kind l m by = refl
+  forward_leads _ resume_kind l m by = absurd cc
+
+  over_leads : (asked : Command) (resume_kind : ResumeKind) → resume_kind_by asked ≡ Some resume_kind
+      → Granted Faulted asked (reporting (ends 1))
+  over_leads (command.Resume k a) resume_kind by = refl
+  over_leads _ resume_kind by = absurd cc
+
+  back_leads : (s : Situation) (asked : Command) (m : Mode) (l : Launched) → IsStanding s → back_by asked ≡ Some m
+      → Granted s asked (ordering (resumes past l m))
+  back_leads Stopped (command.Retreat k a) m l stands by = refl
+  back_leads Faulted (command.Retreat k a) m l stands by = refl
+  back_leads Stopped _ m l stands by = absurd cc
+  back_leads Faulted _ m l stands by = absurd cc
+  back_leads _ asked m l stands by = absurd stands
+
+  module _ (reply : Reply) (s : Situation) (asked : Command) (other : IsOther asked) where
+    -- it leads as this reply does
+    as_reply : (known : Reply) → reply ≡ known → ReplyLeads s asked known → ReplyLeads s asked reply
+    as_reply known is leads = subst (ReplyLeads s asked) (sym is) leads
+
+    shape_leads : Shape past s asked reply → ReplyLeads s asked reply
+    shape_leads (refuses why is) = as_reply _ is refl
+    shape_leads (is_calm calm is) =
+        subst (Leads s asked reply.result) (sym is) (calm_leads s asked reply.result other calm)
+    shape_leads (sets a l by there same resolves) =
+        as_reply _ resolves.reply_is
+        (subst (λ c. Granted s c (effect_in (situation past) past resolves.breakpoints)) (sym by)
+        (sets_lead s (situation past) a resolves.breakpoints))
+    shape_leads (begins l by here there is) =
+        as_reply _ is
+        (subst (λ c. Granted s c (enters past l (due_first past l))) (sym by)
+        (subst (λ t. Granted t command.ConfigurationDone (enters past l (due_first past l))) (sym here)
+        (enters_leads l (due_first past l))))
+    shape_leads (resumes_by resume_kind l by here there is) =
+        let m = mode_of resume_kind (depth_at l.program (position past)) in
+        as_reply _ is
+        (subst (λ t. Granted t asked (ordering (resumes past l m))) (sym here) (forward_leads asked resume_kind l m by))
+    shape_leads (is_over resume_kind by here is) =
+        as_reply _ is
+        (subst (λ t. Granted t asked (reporting (ends 1))) (sym here) (over_leads asked resume_kind by))
+    shape_leads (retreats m l by back stands there is) = as_reply _ is (back_leads s asked m l stands by)
+    shape_leads (interrupts a by here is) =
+        as_reply _ is
+        (subst (λ c. Granted s c (ordering (hold_once past))) (sym by)
+        (ap (λ m. unwrap_or (or_else m None) s) (hold_unmarked past)))
+    shape_leads (quits by is) = as_reply _ is (subst (λ c. Granted s c (ordering (Quit ∷ []))) (sym by) refl)
+
+  reply_leads : (reply : Reply) (s : Situation) (asked : Command) → RepliesIn s past asked reply
+      → ReplyLeads s asked reply
+  reply_leads reply s (command.Initialize a) is =
+      subst (ReplyLeads s (command.Initialize a)) (sym is) (initialize_leads s a)
+  reply_leads reply s asked is = shape_leads reply s asked tt (shaped past reply s asked is)
+
+-- ---- items
+
+by_reply : (seq : ℕ) (launch : Launch) (file : Option (List ℕ)) (reply known : Reply) → reply ≡ known
+    → Fits Ready (Loaded launch file) (Some (Answer seq (name.Supported supported.Launch) known.result)) known.effect
+    → Fits Ready (Loaded launch file) (Some (Answer seq (name.Supported supported.Launch) reply.result)) reply.effect
+by_reply seq launch file reply known is fits =
+    subst (λ (r : Reply). Fits Ready (Loaded launch file)
+    (Some (Answer seq (name.Supported supported.Launch) r.result)) r.effect) (sym is) fits
+
+-- what a launch's file brings leads on from Ready
+launch_fits : (seq : ℕ) (launch : Launch) (file : Option (List ℕ)) (reply : Reply)
+    → Launches launch.arguments file reply
+    → Fits Ready (Loaded launch file) (Some (Answer seq (name.Supported supported.Launch) reply.result)) reply.effect
+launch_fits seq launch None reply is = by_reply seq launch None reply _ is refl
+launch_fits seq launch (Some text) reply (inl refused_) = by_reply seq launch (Some text) reply _ refused_.reply_is refl
+launch_fits seq launch (Some text) reply (inr launched_) =
+    by_reply seq launch (Some text) reply _ launched_.reply_is refl
+
+-- what an accepted report causes leads on from Running
+abbrev ReportFits : SliceOutcome → Effect → Type 0
+ReportFits e effect =
+    unwrap_or (mark_of_effect effect) Running ≡ report_leads e Running (last_such stop_of_event effect.events)
+
+module _ (past : History) (r : PlainReport) where
+  held_fits : (pauses : Bool) → ReportFits slice.Held (held past r pauses)
+  held_fits true =
+      ap (λ m. unwrap_or m Running) (outputs_mark past r (stops stop.Pause))
+      ∙ sym (ap runs_unless (outputs_stop past r (stops stop.Pause)))
+  held_fits false = sym (ap runs_unless (outputs_stop_not past r))
+
+  report_fits : (e : SliceOutcome) → ReportFits e (report_effect past r e)
+  report_fits slice.More = ap (λ m. unwrap_or m Running) (outputs_unmarked past r)
+  report_fits (slice.Due why) =
+      ap (λ m. unwrap_or m Running) (outputs_mark past r (stops (stop_of why)) ∙ stop_marks why)
+  report_fits slice.Held = held_fits (waiting_pause past)
+  report_fits slice.Done = ap (λ m. unwrap_or m Running) (outputs_mark past r (ends 0))
+  report_fits (slice.Fault fault) =
+      ap (λ m. unwrap_or m Running) (outputs_mark past r (stops (stop.Exception (exception_of fault))))
+  report_fits slice.NoMemory = refl
+
+abbrev StepFits : Situation → Item → Step → Type 0
+StepFits s item step = Fits s item step.answer step.effect
+
+effect_fits : (s : Situation) (item : Item) (effect : Effect) (step : Step) → HasEffect effect step
+    → Fits s item None effect → StepFits s item step
+effect_fits s item effect step has fits =
+    subst (λ a. Fits s item a step.effect) (sym has.answer_is) (subst (Fits s item None) (sym has.effect_is) fits)
+
+answer_fits : (s : Situation) (item : Item) (seq : ℕ) (command : CommandName) (reply : Reply) (step : Step)
+    → Answers seq command reply step → Fits s item (Some (Answer seq command reply.result)) reply.effect
+    → StepFits s item step
+answer_fits s item seq command reply step answers fits =
+    subst (λ a. Fits s item a step.effect) (sym answers.answer_is)
+    (subst (Fits s item (Some (Answer seq command reply.result))) (sym answers.effect_is) fits)
+
+item_fits : (Q : Incoming → Type 0) (past : History) (item : Item) (step : Step) → IsTaken Q past item
+    → Causes past item step → StepFits (situation past) item step
+item_fits Q past (Content None) step taken is = effect_fits (situation past) (Content None) nothing step is refl
+item_fits Q past (Content (Some request)) step taken is =
+    answer_fits (situation past) (Content (Some request)) _ _ is.0 step is.2
+    (reply_leads request.seq past is.0 (situation past) request.body is.1)
+item_fits Q past (Loaded launch file) step taken is =
+    subst (λ s. StepFits s (Loaded launch file) step) (sym taken)
+    (answer_fits Ready (Loaded launch file) _ _ is.0 step is.2 (launch_fits launch.seq launch file is.0 is.1))
+item_fits Q past (Accepted r) step taken is =
+    subst (λ s. StepFits s (Accepted r) step) (sym taken.0.running)
+    (effect_fits Running (Accepted r) _ step is (report_fits past r r.outcome))
+item_fits Q past (Fault k) step taken is = effect_fits (situation past) (Fault k) nothing step is refl
+item_fits Q past InputEnd step taken is = effect_fits (situation past) InputEnd (ordering (Quit ∷ [])) step is refl
+item_fits Q past ReadFailure step taken is =
+    effect_fits (situation past) ReadFailure (ordering (Quit ∷ [])) step is refl
+item_fits Q past MemoryFailure step taken is = effect_fits (situation past) MemoryFailure nothing step is refl
+
+-- ---- along a history
+
+after_steps-snoc : (s : Situation) (steps : List Step) (step : Step)
+    → after_steps s (steps ++ step ∷ []) ≡ after_step (after_steps s steps) step
+after_steps-snoc s [] step = refl
+after_steps-snoc s (first ∷ steps) step = after_steps-snoc (after_step s first) steps step
+
+-- the situation is where the steps lead
+abbrev IsLed : History → Type 0
+IsLed past = situation past ≡ after_steps Fresh past
+
+abbrev Any : Incoming → Type 0
+Any e = Unit {0}
+
+step_leads : (past : History) (step : Step) → IsTaken Any past step.item → Causes past step.item step
+    → situation (past ++ step ∷ []) ≡ after_step (situation past) step
+step_leads past step taken causes = situation-snoc past step ∙ item_fits Any past step.item step taken causes
+
+led_kept : IsKept Any IsLed
+led_kept = record {
+  step = λ past item new taking taken after here. subst IsLed (sym after.new_is)
+      (step_leads past after.step (subst (IsTaken Any past) (sym after.item_is) taken)
+      (subst (λ i. Causes past i after.step) (sym after.item_is) after.causes)
+      ∙ ap (λ s. after_step s after.step) here ∙ sym (after_steps-snoc Fresh past after.step));
+}
+
+module _ (events : List Incoming) (past : History) (rest : Rest) (history : IsHistoryOf events past rest) where
+  each : EachTaken Any IsLed past
+  each = along Any (EachTaken Any IsLed) (each_kept Any IsLed led_kept) (each_first Any IsLed refl) events past rest
+      (any_events events) history
+
+-- ---- the laws
+
+pub each_step_leads : EachStepLeads
+each_step_leads events past rest history before step after past_is = step_leads before step was.taken was.causes
+  where
+    was : WasTaken Any IsLed before step
+    was = (each events past rest history).each before step after past_is
+
+pub situation_after : SituationIsAfterSteps
+situation_after events past rest history = (each events past rest history).now
