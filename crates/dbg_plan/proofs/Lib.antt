@@ -29,6 +29,8 @@ pub mod SameMessages
 pub mod HitNumbers
 -- A list of breakpoints in the order of their steps is cut into a part for each step; for `starts_of` and others.
 pub mod Parts
+-- A table of the comparisons that stand alone at their steps is made step by step; for `comparisons_of`.
+pub mod OnlyOnes
 -- Lines that are answered one after another give the whole resolution; for `resolve_line` and `resolve`.
 pub mod Lines
 -- A mark is set exactly at the addresses where steps with breakpoints begin; for the functions of `counting`,

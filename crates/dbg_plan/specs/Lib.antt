@@ -34,6 +34,8 @@ pub mod Bound
 pub mod Resolving
 -- what a fault says of a text that is no message
 pub mod MessageFaults
+-- the conditions that a run evaluates in its loop
+pub mod Comparisons
 -- how a plan's table stands for its breakpoints
 pub mod Table
 -- how a log's fields stand for it

@@ -1,17 +1,19 @@
 //! The values of expressions and conditions in the frames of a machine.
 
-ghost use Rattle.std.specs.Prelude.{◌≡◌, ◌<◌, IsSome, IsTrue, IfSome, Some, Ok, false};
+ghost use Rattle.std.specs.Prelude.{◌≡◌, ◌<◌, IsSome, Some, Ok};
 ghost use Rattle.pl0_tree.specs.Plain.{plain_expression};
 ghost use Rattle.pl0_meaning.specs.Values.{value, name_number, or_zero};
 ghost use Rattle.pl0_meaning.specs.Arithmetic.{IsArithmetic};
 ghost use Rattle.pl0_machine.specs.Machine.{program, frames, depth_of};
 ghost use Rattle.dbg_plan.specs.Debugged.{IsRunning};
 ghost use Rattle.dbg_plan.specs.Values.{answered};
+ghost use Rattle.dbg_plan.specs.Comparisons.{expression_of, condition_of};
 ghost use Rattle.dbg_plan.specs.Reads.{number_up, bound_value, bound_truth, CanRead, CanTest};
 ghost use Rattle.dbg_plan.specs.Counting.{holds_now, IsMetHere};
 
 use crate::binding::{Located, locate};
 use crate::breakpoint::Breakpoint;
+use crate::comparison::{Comparison, Operand};
 use crate::located::{LocatedCondition, LocatedExpression};
 use pl0_machine::Machine;
 use pl0_meaning::{RunFault, apply, compare, is_odd, negate};
@@ -100,56 +102,28 @@ fn truth_of(
     }
 }
 
-/// The value of a number or of a variable of the frame itself; `None` for any other expression, whose value takes a
-/// loop or a recursion. It is inlined, so that a loop that asks for it keeps the machine's registers in the
-/// processor's.
+/// The value of an operand in a frame of its block.
 #[inline(always)]
-fn leaf_value(machine: &Machine, frame: usize, expression: &LocatedExpression) -> Option<i64>
-    requires { CanRead (frames machine.now) frame expression.now }
-    ensures { IfSome result (λ number. bound_value (frames machine.now) frame expression.now ≡ Ok number) }
+fn operand_value(machine: &Machine, frame: usize, operand: Operand) -> i64
+    requires { CanRead (frames machine.now) frame (expression_of operand) }
+    ensures { bound_value (frames machine.now) frame (expression_of operand) ≡ Ok result }
 {
-    match expression {
-        LocatedExpression::Number(number) => Some(*number),
-        LocatedExpression::Variable { level: 0, index } => Some(machine.value(frame, *index)),
-        LocatedExpression::Variable { .. } => None,
-        LocatedExpression::Negate(_) => None,
-        LocatedExpression::Binary(_, _, _) => None,
+    match operand {
+        Operand::Number(number) => number,
+        Operand::Variable(index) => machine.value(frame, index),
     }
 }
 
-/// Whether a condition compares numbers and variables of the frame itself, and doesn't hold.
+/// Whether a comparison holds in a frame of its block. It is inlined, so that a loop that asks for it keeps the machine's
+/// registers in the processor's.
 #[inline(always)]
-fn compares_false(machine: &Machine, frame: usize, condition: &LocatedCondition) -> bool
-    requires { CanTest (frames machine.now) frame condition.now }
-    ensures { IsTrue result → bound_truth (frames machine.now) frame condition.now ≡ Ok false }
+pub fn compares(machine: &Machine, frame: usize, comparison: Comparison) -> bool
+    requires { CanTest (frames machine.now) frame (condition_of comparison) }
+    ensures { bound_truth (frames machine.now) frame (condition_of comparison) ≡ Ok result }
 {
-    let LocatedCondition::Compare(relation, left, right) = condition else {
-        return false;
-    };
-    match (
-        leaf_value(machine, frame, left),
-        leaf_value(machine, frame, right),
-    ) {
-        (Some(x), Some(y)) => !compare(*relation, x, y),
-        _ => false,
-    }
-}
-
-/// Whether the condition of a breakpoint at the machine's step compares numbers and variables of the newest frame, and
-/// doesn't hold.
-#[inline(always)]
-pub fn is_plainly_unmet(machine: &Machine, breakpoint: &Breakpoint) -> bool
-    requires running { IsRunning machine.now }
-    requires here { IsMetHere machine.now breakpoint.now }
-    ensures { IsTrue result → holds_now machine.now breakpoint.now ≡ false }
-{
-    match &breakpoint.condition {
-        None => false,
-        Some(condition) => {
-            let top = machine.depth() - 1;
-            compares_false(machine, top, &condition.located)
-        }
-    }
+    let x = operand_value(machine, frame, comparison.left);
+    let y = operand_value(machine, frame, comparison.right);
+    compare(comparison.relation, x, y)
 }
 
 /// Whether the condition of a breakpoint at the machine's step holds, or has none or faults.

@@ -8,9 +8,10 @@ ghost use Rattle.dbg_plan.specs.PlainParts.{plain_parts};
 ghost use Rattle.dbg_plan.specs.Plans.{breakpoints_of};
 
 use crate::breakpoint::Breakpoint;
+use crate::comparison::Comparison;
 use crate::message::Part;
 use crate::same::same_breakpoints;
-use crate::table::{starts_of, watched_of};
+use crate::table::{comparisons_of, starts_of, watched_of};
 use pl0_tree::StepNumber;
 use std::alloc::{AllocError, Global};
 use std::marker::Model;
@@ -23,6 +24,8 @@ pub struct Plan {
     starts: Vec<usize>,
     // For each address of the code, whether the step that begins there has a breakpoint.
     watched: Vec<bool>,
+    // For each step the condition of its breakpoint, if that is one and a comparison.
+    comparisons: Vec<Option<Comparison>>,
 }
 
 impl Model for Plan {
@@ -42,9 +45,10 @@ impl Model for Plan {
 }
 
 impl Plan {
-    ghost use Rattle.std.specs.Prelude.{Decides};
+    ghost use Rattle.std.specs.Prelude.{Decides, IfSome};
     ghost use Rattle.dbg_plan.specs.Breakpoints.{plain_breakpoints};
     ghost use Rattle.dbg_plan.specs.PlainParts.{plain_parts};
+    ghost use Rattle.dbg_plan.specs.Comparisons.{IsOnlyOne};
     ghost use Rattle.dbg_plan.specs.Plans.{those_of, watched_lines, parts_at, IsNumbered};
 
     /// Returns the plan of these breakpoints, for a program of `steps` steps. `lines` says for each address of its code
@@ -64,10 +68,12 @@ impl Plan {
         ordered.sort_by_key(|breakpoint| breakpoint.step)?;
         let starts = starts_of(alloc, &ordered, steps)?;
         let watched = watched_of(alloc, lines, &starts)?;
+        let comparisons = comparisons_of(alloc, &ordered, &starts, steps)?;
         Ok(Plan {
             ordered,
             starts,
             watched,
+            comparisons,
         })
     }
 
@@ -113,6 +119,15 @@ impl Plan {
         ensures numbered { IsNumbered self.now.breakpoints }
     {
         &self.ordered[self.starts[step]..self.starts[step + 1]]
+    }
+
+    /// Returns the condition of a step's breakpoint, if the step has one breakpoint whose condition is a comparison.
+    #[inline(always)]
+    pub(crate) fn comparison(&self, step: StepNumber) -> Option<Comparison>
+        requires { step < self.now.steps }
+        ensures { IfSome result (IsOnlyOne (those_of step self.now.breakpoints)) }
+    {
+        self.comparisons[step]
     }
 
     /// Returns the parts of the message of the breakpoint with this number, from 0; no parts if it has no message.

@@ -11,7 +11,7 @@ ghost use Rattle.dbg_plan.specs.Running.{has_arrival};
 ghost use Rattle.dbg_plan.specs.Quiet.{Watches, RanByMachine, considered_after};
 
 use crate::breakpoint::Breakpoint;
-use crate::evaluation::{is_met, is_plainly_unmet};
+use crate::evaluation::{compares, is_met};
 use crate::plan::Plan;
 use pl0_machine::{Machine, StepOutcome};
 use std::sync::Arc;
@@ -66,9 +66,9 @@ fn is_unmet(machine: &Machine, plan: &Option<Arc<Plan>>) -> bool
     let Some(plan) = plan else {
         return false;
     };
-    match plan.entry(machine.next_step()) {
-        [breakpoint] => is_plainly_unmet(machine, breakpoint),
-        _ => false,
+    match plan.comparison(machine.next_step()) {
+        None => false,
+        Some(comparison) => !compares(machine, machine.depth() - 1, comparison),
     }
 }
 

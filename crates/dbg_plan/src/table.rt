@@ -4,9 +4,10 @@ ghost use Rattle.std.specs.Prelude.{◌≡◌, ℕ, ◌+◌, ◌<◌, ◌≤◌,
 ghost use Rattle.std.specs.List.{prefix_len};
 ghost use Rattle.std.specs.List.Sorted.{IsNonDecreasingBy};
 ghost use Rattle.dbg_plan.specs.Plans.{is_of, those_of};
-ghost use Rattle.dbg_plan.specs.Table.{IsPart, has_part};
+ghost use Rattle.dbg_plan.specs.Table.{AreOnlyOnes, IsPart, has_part};
 
 use crate::breakpoint::Breakpoint;
+use crate::comparison::{Comparison, only_comparison};
 use pl0_tree::StepNumber;
 use std::alloc::{AllocError, Global};
 
@@ -45,6 +46,29 @@ fn end_of(ordered: &[Breakpoint], start: usize, step: StepNumber) -> usize
             .iter()
             .take_while(|breakpoint| breakpoint.step == step)
             .count()
+}
+
+/// Returns for each step the condition of its breakpoint, if it has one breakpoint whose condition is a comparison. Those of
+/// a step stand in `ordered` from its start up to the next.
+///
+/// # Errors
+///
+/// Out of memory.
+pub fn comparisons_of(
+    alloc: Global,
+    ordered: &[Breakpoint],
+    starts: &[usize],
+    steps: usize,
+) -> Result<Vec<Option<Comparison>>, AllocError>
+    requires long { length starts.now ≡ steps + 1 }
+    requires parts { (s : ℕ) → s < steps → IsPart ordered.now starts.now s (those_of s ordered.now) }
+    ensures { IfOk result (λ comparisons. AreOnlyOnes ordered.now steps comparisons.items) }
+{
+    let mut comparisons = Vec::with_capacity(alloc, steps)?;
+    for step in 0..steps {
+        comparisons.push(only_comparison(&ordered[starts[step]..starts[step + 1]]))?;
+    }
+    Ok(comparisons)
 }
 
 /// Returns for each address whether the step that begins there has a breakpoint. `lines` says which step that is.

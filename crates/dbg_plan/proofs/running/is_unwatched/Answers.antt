@@ -1,4 +1,4 @@
-use Rattle.std.proofs.Common.{◌≡◌, ap, sym, ◌∙◌, subst, option_map, Some, Bool, true, false, not, IsTrue, refl, List, length, slice_get, ◌<◌}
+use Rattle.std.proofs.Common.{ap, sym, ◌∙◌, subst, option_map, Some, Bool, false, List, length, slice_get, ◌<◌}
 use Rattle.std.specs.Arc.{arc_value}
 use Rattle.std.proofs.lemmas.Option.{slice_get_within, get_or_from_slice_get}
 use Rattle.dbg_plan.specs.Breakpoints.{plain_breakpoints}
@@ -6,7 +6,7 @@ use Rattle.dbg_plan.specs.Plans.{breakpoints_of}
 use Rattle.dbg_plan.specs.Running.{has_arrival}
 use Rattle.dbg_plan.specs.Quiet.{Watches}
 use Rattle.dbg_plan.proofs.Watching.{there}
-use Rattle.dbg_plan.proofs.Unwatched.{fits_of, none_by_step}
+use Rattle.dbg_plan.proofs.Unwatched.{fits_of, not_so, none_by_step}
 use Rattle.dbg_plan.proofs.running.is_unwatched.Goals as goal
 use Rattle.dbg_plan.proofs.running.is_unwatched.Goals.{In-Some}
 
@@ -14,10 +14,6 @@ table : (c : In-Some) → Watches (option_map arc_value c.args.plan.now) (Some c
 table c =
     subst (λ w. Watches (option_map arc_value c.args.plan.now) (option_map (λ t. t.now) w)) c.in-Some.is
     c.requires.table
-
-not_so : (b : Bool) → IsTrue (not b) → b ≡ false
-not_so true h = cc
-not_so false h = refl
 
 pub bounds-watched-address : goal.bounds-watched-address
 bounds-watched-address c =
