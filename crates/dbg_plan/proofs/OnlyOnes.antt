@@ -29,7 +29,8 @@ module _ (ordered : List Breakpoint) (step : ℕ) (old : List (Option Comparison
   each_of : (s : ℕ) (c : Comparison) → slice_get (old ++ x ∷ []) s ≡ Some (Some c) → IsOnlyOne (those_of s ordered) c
   each_of s c e = by_place (found old x s c e)
     where
-      by_place : (slice_get old s ≡ Some (Some c)) ⊎ ((s ≡ length old) × (x ≡ Some c)) → IsOnlyOne (those_of s ordered) c
+      by_place : (slice_get old s ≡ Some (Some c)) ⊎ ((s ≡ length old) × (x ≡ Some c)) → IsOnlyOne (those_of s ordered)
+          c
       by_place (inl before) = are.each s c before
       by_place (inr last) =
           subst (λ k. IsOnlyOne (those_of k ordered) c) (sym (last.0 ∙ are.long))
