@@ -14,7 +14,7 @@ use Rattle.dap_history.specs.History.{Item, Content, History}
 use Rattle.dap_history.specs.Readings.{situation, ending_of}
 use Rattle.dap_history.specs.Launching.{wanted_in}
 use Rattle.dap_history.specs.Emission.{IsAfter}
-use Rattle.dap_history.specs.Events.{Incoming, Rest, IsTaking, TakesAll, Leads}
+use Rattle.dap_history.specs.Events.{Incoming, Rest, IsTaking, Takes, LeadsByEvent}
 use Rattle.dap_phase.specs.Phases.{launch_of}
 use Rattle.dap_session.specs.Ports.{Ordered, Ports}
 use Rattle.dap_session.specs.Building.{IsNotPushed}
@@ -128,12 +128,12 @@ Goes (Err fault) leads toward past session old later =
 -- the same for the contents at the front of these bytes
 abbrev pub HandlesContents : Result (Unit {0}) SessionFault → History → List ℕ → State → Ports → Ports → Type 0
 HandlesContents result past bytes session old later =
-    Goes result (TakesAll past bytes) (TowardByPiece past None bytes) past session old later
+    Goes result (Takes past bytes) (TowardByPiece past None bytes) past session old later
 
 -- the same for an event
 abbrev pub Handles : Result (Unit {0}) SessionFault → History → Rest → Incoming → State → Ports → Ports → Type 0
 Handles result past rest event session old later =
-    Goes result (Leads past rest event) (Toward past rest event) past session old later
+    Goes result (LeadsByEvent past rest event) (Toward past rest event) past session old later
 
 -- No memory was needed to take the event, and none is needed to ask for the next.
 abbrev pub NeededNoMemory : Result (Unit {0}) SessionFault → State → Type 0
