@@ -21,8 +21,8 @@ use Rattle.dap_session.specs.declared.want.Want.{Want}
 use Rattle.dap_session.specs.declared.want.Want.TheVariants as want_is
 use Rattle.dap_session.specs.Ports.{Ports}
 use Rattle.dap_session.specs.State.{State, StandsFor, WantsHere, Wants}
-use Rattle.dap_session.specs.Taking.{TakesSome, no_content, one_content, TowardByPiece, LoadsToward, file_of, Toward, FailsAt, Comes}
-use Rattle.dap_session.specs.Handling.{Arrives, StopsOnTheWay, Handles}
+use Rattle.dap_session.specs.Taking.{TakesSome, no_content, one_content, TowardByPiece, LoadsToward, file_of, Toward, FailsAt, Comes, TakesEvent}
+use Rattle.dap_session.specs.Handling.{Arrives, StopsOnTheWay, Handles, NeededNoMemory, HandlesEvent}
 use Rattle.dap_session.proofs.Items.{ending_after}
 
 -- one event after others
@@ -149,7 +149,7 @@ comes_of_stop RunnerGone events past rest e session old later stops = fails_at R
 comes_of_stop WriterGone events past rest e session old later stops = fails_at WriterGone past rest e old later stops
 
 -- the session gave up
-pub comes_of_fault : (fault : SessionFault) (events : List Incoming) (past : History) (e : Incoming)
+comes_of_fault : (fault : SessionFault) (events : List Incoming) (past : History) (e : Incoming)
     (start session last : State) (old later : Ports) (stands : StandsFor start events past)
     → Handles (Err fault) past stands.rest e session old later
     → Comes (Err fault) events past stands.rest e last old later
@@ -167,14 +167,16 @@ comes_of_fault fault events past e start session last old later stands (inr ends
     })
 
 -- The session came through the event. It asks for something next, or there was no memory to ask.
-pub comes_of_want : ReadingsGoOn → (result : Result Want SessionFault) (events : List Incoming) (past : History)
-    (e : Incoming) (start session : State) (old later : Ports) (stands : StandsFor start events past) → IsTaking past
+comes_of_want : ReadingsGoOn → (result : Result Want SessionFault) (events : List Incoming) (past : History)
+    (e : Incoming) (start session last : State) (old later : Ports) (stands : StandsFor start events past)
+    → IsTaking past
     → Arrives (LeadsByEvent past stands.rest e) past session old later
     → IfOk result (λ want. Wants want session session.ending)
     → IfErr result (λ fault. (fault ≡ NoMemory) × (session.ending ≡ None))
-    → Comes result events past stands.rest e session old later
-comes_of_want laws (Ok want) events past e start session old later stands taking came wants lost =
-    record {
+    → ((want : Want) → result ≡ Ok want → last ≡ session)
+    → Comes result events past stands.rest e last old later
+comes_of_want laws (Ok want) events past e start session last old later stands taking came wants lost same =
+    rw (same want refl) (record {
       new = came.new;
       stands = record {
         rest = came.rest;
@@ -186,8 +188,8 @@ comes_of_want laws (Ok want) events past e start session old later stands taking
       sends = came.sends;
       refuses_nothing = came.refuses_nothing;
       wants = wants;
-    }
-comes_of_want laws (Err fault) events past e start session old later stands taking came wants lost =
+    })
+comes_of_want laws (Err fault) events past e start session last old later stands taking came wants lost same =
     rw lost.0 (record {
       mid = came.new;
       toward = leads_toward laws past stands.rest e came.new came.rest taking came.way (sym came.ending_is ∙ lost.1);
@@ -209,10 +211,59 @@ wants_file session path settings launch open_ launching spelled =
     (subst (λ p. WantsHere (want_is.File path) (launch_of p)) (sym launching) (path, refl, spelled))
 
 -- where no launch waits, nothing has to be made to ask for what comes next
-pub want_needs_none : (result : Result Want SessionFault) (session : State)
+want_needs_none : (result : Result Want SessionFault) (session : State)
     → (session.ending ≡ None → launch_of session.phase ≡ None)
     → IfErr result (λ fault. (fault ≡ NoMemory) × (session.ending ≡ None))
     → IfErr result (λ fault. launch_of session.phase ≢ None)
     → result ≢ Err NoMemory
 want_needs_none (Ok want) session free lost waits_ = λ e. absurd cc
 want_needs_none (Err fault) session free lost waits_ = λ e. absurd (waits_ (free lost.1))
+
+-- ---- the event is taken
+
+-- the same, of the history of the events that it stands for
+handled_from : (start session : State) (e : Incoming) (taken : Result (Unit {0}) SessionFault) (old later : Ports)
+    → start.ending ≡ None → HandlesEvent start e taken session old later → (events : List Incoming) (past : History)
+    (stands : StandsFor start events past) → Handles taken past stands.rest e session old later
+handled_from start session e taken old later open_ handled events past stands =
+    let taking : IsTaking past = sym stands.ending_is ∙ open_ in
+    handled.comes past stands.rest taking (stands.goes_on taking)
+
+-- with the result under another name
+pub takes_as : (start last : State) (e : Incoming) (result same : Result Want SessionFault) (old later : Ports)
+    → result ≡ same → TakesEvent start e result last old later → TakesEvent start e same last old later
+takes_as start last e result same old later is takes = subst (λ r. TakesEvent start e r last old later) is takes
+
+-- it gave up at the event
+pub takes_of_fault : (start session last : State) (e : Incoming) (taken : Result (Unit {0}) SessionFault)
+    (fault : SessionFault) (old later : Ports) → start.ending ≡ None → HandlesEvent start e taken session old later
+    → taken ≡ Err fault → TakesEvent start e (Err fault) last old later
+takes_of_fault start session last e taken fault old later open_ handled is = record {
+  comes = λ events past stands. comes_of_fault fault events past e start session last old later stands
+      (subst (λ t. Handles t past stands.rest e session old later) is
+      (handled_from start session e taken old later open_ handled events past stands));
+  no_memory = λ lacks.
+      let lost = sym is ∙ handled.no_memory lacks in
+      let same : fault ≡ NoMemory = cc in ap Err same;
+  enough = λ needs lost. (subst (λ t. NeededNoMemory t session) is (handled.enough needs)) cc;
+}
+
+-- it came through the event
+pub takes_of_want : ReadingsGoOn → (start session last : State) (e : Incoming) (taken : Result (Unit {0}) SessionFault)
+    (result : Result Want SessionFault) (old later : Ports) → start.ending ≡ None
+    → HandlesEvent start e taken session old later → taken ≡ Ok tt
+    → IfOk result (λ want. Wants want session session.ending)
+    → IfErr result (λ fault. (fault ≡ NoMemory) × (session.ending ≡ None))
+    → IfErr result (λ fault. launch_of session.phase ≢ None)
+    → ((want : Want) → result ≡ Ok want → last ≡ session)
+    → TakesEvent start e result last old later
+takes_of_want laws start session last e taken result old later open_ handled is wants lost waits_ same = record {
+  comes = λ events past stands. comes_of_want laws result events past e start session last old later stands
+      (sym stands.ending_is ∙ open_)
+      (subst (λ t. Handles t past stands.rest e session old later) is
+      (handled_from start session e taken old later open_ handled events past stands))
+      wants lost same;
+  no_memory = λ lacks. absurd (let never = sym is ∙ handled.no_memory lacks in cc);
+  enough = λ needs. want_needs_none result session (subst (λ t. NeededNoMemory t session) is (handled.enough needs))
+      lost waits_;
+}

@@ -20,7 +20,7 @@ use Rattle.dap_session.specs.Ports.{Ordered, Ports}
 use Rattle.dap_session.specs.Building.{IsNotPushed}
 use Rattle.dap_session.specs.Sending.{Sends, RefusesNothing, BreaksOff}
 use Rattle.dap_session.specs.State.{State, Knows, GoesOn}
-use Rattle.dap_session.specs.Taking.{TowardByPiece, Toward}
+use Rattle.dap_session.specs.Taking.{TowardByPiece, Toward, LacksMemory, Expects, NeedsNoMemory}
 
 -- The session is at this history: it has the history's ending, and until then its fields are the readings.
 pub record IsAt (session : State) (past : History) : Type 0 where
@@ -139,6 +139,15 @@ Handles result past rest event session old later =
 abbrev pub NeededNoMemory : Result (Unit {0}) SessionFault → State → Type 0
 NeededNoMemory (Ok u) session = session.ending ≡ None → launch_of session.phase ≡ None
 NeededNoMemory (Err fault) session = fault ≢ NoMemory
+
+-- The session, which goes on, handles the event with this result, at whatever history it is. Where memory was lacking
+-- for the event, the result is `NoMemory`; an event that needs none, and asking for the next, take none.
+pub record HandlesEvent (session : State) (event : Incoming) (result : Result (Unit {0}) SessionFault) (after : State)
+    (old later : Ports) : Type 0 where
+  pub comes : (past : History) (rest : Rest) → IsTaking past → GoesOn session past rest
+      → Handles result past rest event after old later
+  pub no_memory : LacksMemory event (launch_of session.phase) → result ≡ Err NoMemory
+  pub enough : NeedsNoMemory (launch_of session.phase) (Expects session.phase) event → NeededNoMemory result after
 
 -- a file as plain data
 abbrev pub plain_file : Result (Vec ℕ Global) LoadFault → Result (List ℕ) LoadFault

@@ -1,5 +1,5 @@
 -- Defines what one event that a session takes leads to.
-use Rattle.std.specs.Prelude.{◌≡◌, ◌⊎◌, ◌++◌, ◌∷◌, [], ℕ, List, Option, Some, None, Result, Ok, Err}
+use Rattle.std.specs.Prelude.{◌≡◌, ◌≢◌, ◌⊎◌, ◌++◌, ◌∷◌, [], ℕ, List, Option, Some, None, Result, Ok, Err}
 use Rattle.dap_frame.specs.declared.fault.FramingFault.{FramingFault}
 use Rattle.dap_msg.specs.declared.request.Request.{Request}
 use Rattle.dbg_runner.specs.Plain.{PlainReport, heading_of}
@@ -18,6 +18,7 @@ use Rattle.dap_history.specs.Events.{Incoming, Piece, End, ReadFailed, File, Rep
 use Rattle.dap_history.specs.Events.{NoMemory as NoMemoryCame}
 use Rattle.dap_phase.specs.declared.phase.Phase.{Phase}
 use Rattle.dap_phase.specs.declared.phase.Phase.TheVariants as phase
+use Rattle.dap_phase.specs.Phases.{launch_of}
 use Rattle.dap_phase.specs.Runs.{heading_in}
 use Rattle.dap_session.specs.declared.want.Want.{Want}
 use Rattle.dap_session.specs.Ports.{Ports}
@@ -127,3 +128,12 @@ abbrev pub Comes : Result Want SessionFault → List Incoming → History → Re
 Comes (Ok want) events past rest event session old later = GoesWell events past event want session old later
 Comes (Err (Frame fault)) events past rest event session old later = EndsAt fault events past event old later
 Comes (Err fault) events past rest event session old later = FailsAt fault past rest event old later
+
+-- The session, which goes on, takes the event with this result. Whatever events it stands for, the result is what one
+-- more leads to. Where memory was lacking for the event it is `NoMemory`; an event that needs none never leads to that.
+pub record TakesEvent (session : State) (event : Incoming) (result : Result Want SessionFault) (after : State)
+    (old later : Ports) : Type 0 where
+  pub comes : (events : List Incoming) (past : History) (stands : StandsFor session events past)
+      → Comes result events past stands.rest event after old later
+  pub no_memory : LacksMemory event (launch_of session.phase) → result ≡ Err NoMemory
+  pub enough : NeedsNoMemory (launch_of session.phase) (Expects session.phase) event → result ≢ Err NoMemory
