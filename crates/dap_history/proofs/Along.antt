@@ -16,7 +16,7 @@ use Rattle.dap_history.specs.Last.{or_else}
 use Rattle.dap_history.specs.Readings.{situation, closing, ending_of}
 use Rattle.dap_history.proofs.Readings.{ending_of-snoc}
 use Rattle.dap_history.specs.Launching.{wanted_in}
-use Rattle.dap_history.specs.Events.{Incoming, Piece, End, ReadFailed, NoMemory, File, Report, AreLawful, Rest, only_bytes, IsTaking, Takes, none, one_more, Rests, closed, open_ended, faulty, waits, TakesAll, MayTake, LeadsByPiece, LeadsByFile, LeadsByReport, Loads, Leads, LeadsAll, IsHistoryOf}
+use Rattle.dap_history.specs.Events.{Incoming, Piece, End, ReadFailed, NoMemory, File, Report, AreLawful, Rest, only_bytes, IsTaking, Takes, one_more, closed, open_ended, faulty, waits, MayTake, LeadsByPiece, LeadsByFile, LeadsByReport, Loads, LeadsByEvent, Leads, IsHistoryOf}
 
 -- an item is taken only so: a content that wants no file, a launch in Ready, a report that is accepted; and what an
 -- event brings is as Q says of it
@@ -83,24 +83,16 @@ module _ (Q : Incoming → Type 0) (P : History → Type 0) (kept : IsKept Q P) 
   abbrev Holds : History → Rest → Type 0
   Holds past rest = P past × WaitsWell past rest
 
-  along_takes : {past : History} {bytes : List ℕ} {new : History} {left : List ℕ} → Takes past bytes new left → P past
-      → P new
-  along_takes none here = here
+  along_takes : {past : History} {bytes : List ℕ} {new : History} {rest : Rest} → Takes past bytes new rest → P past
+      → Holds new rest
   along_takes (one_more {past = past} {mid = mid} request taking front unwanted after more) here =
       along_takes more (kept.step past (Content request) mid taking unwanted after here)
-
-  along_rests : (past : History) (bytes : List ℕ) {new : History} {rest : Rest} → Rests past bytes new rest → P past
-      → Holds new rest
-  along_rests past bytes (closed not) here = (here, λ taking launch is. absurd (not taking))
-  along_rests past bytes (open_ended taking is) here = (here, λ taking launch is. absurd cc)
-  along_rests past bytes (faulty k new taking is after) here =
+  along_takes (closed not) here = (here, λ taking launch is. absurd (not taking))
+  along_takes (open_ended taking is) here = (here, λ taking launch is. absurd cc)
+  along_takes {past = past} (faulty k new taking is after) here =
       (kept.step past (Fault k) new taking tt after here, λ taking launch is. absurd cc)
-  along_rests past bytes (waits request launch more taking front wanted) here =
+  along_takes {past = past} (waits request launch more taking front wanted) here =
       (here, λ taking launch is. wanted_ready (situation past) request _ wanted)
-
-  along_all : (past : History) (bytes : List ℕ) (new : History) (rest : Rest) → TakesAll past bytes new rest → P past
-      → Holds new rest
-  along_all past bytes new rest all here = along_rests all.mid all.left all.rests (along_takes all.taken here)
 
   along_may : (past : History) (rest : Rest) (item : Item) (new : History) (by : Ending) → IsTaken Q past item
       → closing item ≡ Some by → MayTake past item new → Holds past rest → Holds new rest
@@ -113,14 +105,14 @@ module _ (Q : Incoming → Type 0) (P : History → Type 0) (kept : IsKept Q P) 
 
   along_piece : (past : History) (rest : Rest) (launch : Option Launch) (bytes : List ℕ) (new : History) (left : Rest)
       → rest.launch ≡ launch → LeadsByPiece past launch bytes new left → Holds past rest → Holds new left
-  along_piece past rest None bytes new left same all here = along_all past bytes new left all here.0
+  along_piece past rest None bytes new left same all here = along_takes all here.0
   along_piece past rest (Some launch) bytes new left same is here =
       subst (λ h. Holds h left) (sym is.0) (here.0, λ taking other waits_. here.1 taking launch same)
 
   along_loads : (past : History) (launch : Launch) (file : Option (List ℕ)) (bytes : List ℕ) (new : History)
       (left : Rest) → situation past ≡ Ready → Loads past launch file bytes new left → P past → Holds new left
   along_loads past launch file bytes new left ready loads here =
-      along_all loads.mid bytes new left loads.after
+      along_takes loads.after
       (kept.step past (Loaded launch file) loads.mid loads.taking ready loads.loaded here)
 
   along_file : (past : History) (rest : Rest) (launch : Option Launch) (file : Result (List ℕ) LoadFault)
@@ -148,7 +140,7 @@ module _ (Q : Incoming → Type 0) (P : History → Type 0) (kept : IsKept Q P) 
   )
 
   along_event : (past : History) (rest : Rest) (event : Incoming) (new : History) (left : Rest) → Q event
-      → Leads past rest event new left → Holds past rest → Holds new left
+      → LeadsByEvent past rest event new left → Holds past rest → Holds new left
   along_event past rest (Piece piece) new left good leads here =
       along_piece past rest rest.launch (rest.bytes ++ piece) new left refl leads here
   along_event past rest End new left good leads here =
@@ -163,7 +155,7 @@ module _ (Q : Incoming → Type 0) (P : History → Type 0) (kept : IsKept Q P) 
       subst (λ l. Holds new l) (sym leads.1) (along_report past rest r new good leads.0 here)
 
   along_from : (past : History) (rest : Rest) (events : List Incoming) (new : History) (left : Rest)
-      → AllEvents Q events → LeadsAll past rest events new left → Holds past rest → Holds new left
+      → AllEvents Q events → Leads past rest events new left → Holds past rest → Holds new left
   along_from past rest [] new left good all here =
       subst (λ h. Holds h left) (sym all.0) (subst (λ r. Holds past r) (sym all.1) here)
   along_from past rest (e ∷ events) new left good all here =

@@ -20,7 +20,7 @@ use Rattle.dap_history.specs.History.{Item, Content, Loaded, Accepted, Fault, In
 use Rattle.dap_history.specs.Readings.{situation}
 use Rattle.dap_history.specs.Launching.{wanted_by, wanted_in}
 use Rattle.dap_history.specs.Emission.{IsAfter}
-use Rattle.dap_history.specs.Events.{Incoming, Piece, End, ReadFailed, NoMemory, File, Report, Rest, only_bytes, IsInFront, Takes, none, one_more, Rests, closed, open_ended, faulty, waits, TakesAll, MayTake, LeadsByPiece, LeadsByFile, LeadsByReport, Loads, LeadsAll}
+use Rattle.dap_history.specs.Events.{Incoming, Piece, End, ReadFailed, NoMemory, File, Report, Rest, only_bytes, IsInFront, Takes, one_more, closed, open_ended, faulty, waits, MayTake, LeadsByPiece, LeadsByFile, LeadsByReport, Loads, Leads}
 use Rattle.dap_history.specs.Laws.{stream_of, launch_request, read_as, waiting, contents_read, AreRead, ContentsAreOfTheStream}
 
 -- ---- what is read
@@ -78,17 +78,6 @@ module _ (join : FramesJoin) where
   Gains past bytes new left launch =
       (rs : List (Option Request)) × Gives bytes left rs × (contents_read new launch ≡ reads past ++ rs)
 
-  takes_gain : {past new : History} {bytes left : List ℕ} → Takes past bytes new left → Gains past bytes new left None
-  takes_gain {past = past} {bytes = bytes} none = ([], gives_nothing bytes, refl)
-  takes_gain {past = past} {new = new} {bytes = bytes} {left = left}
-      (one_more {mid = mid} {more = more} request taking front unwanted after taken) =
-      let rest = takes_gain taken in (
-        request ∷ rest.0,
-        gives_both bytes more left (request ∷ []) rest.0 (gives_one bytes request more front) rest.1,
-        rest.2 ∙ ap (λ rs. rs ++ rest.0) (reads_after past (Content request) mid after)
-            ∙ append_assoc (reads past) (request ∷ []) rest.0,
-      )
-
   wanted_is : (seq : ℕ) (body : Command) (launch : Launch) → wanted_by seq body ≡ Some launch
       → ◌≡◌ {A = Request} (record { seq = seq; body = body }) (launch_request launch)
   wanted_is seq (command.Launch arguments) launch is =
@@ -100,28 +89,26 @@ module _ (join : FramesJoin) where
   request_is Ready (Some request) launch is = ap Some (wanted_is request.seq request.body launch is)
   request_is _ request launch is = absurd cc
 
-  rests_gain : {past new : History} {bytes : List ℕ} {rest : Rest} → Rests past bytes new rest
+  takes_gain : {past new : History} {bytes : List ℕ} {rest : Rest} → Takes past bytes new rest
       → Gains past bytes new rest.bytes rest.launch
-  rests_gain {bytes = bytes} (closed not) = ([], gives_nothing bytes, refl)
-  rests_gain {bytes = bytes} (open_ended taking is) = ([], gives_nothing bytes, refl)
-  rests_gain {past = past} {bytes = bytes} (faulty k new taking fault after) =
+  takes_gain {past = past} {new = new} {bytes = bytes} {rest = rest}
+      (one_more {mid = mid} {more = more} request taking front unwanted after taken) =
+      let next = takes_gain taken in (
+        request ∷ next.0,
+        gives_both bytes more rest.bytes (request ∷ []) next.0 (gives_one bytes request more front) next.1,
+        next.2 ∙ ap (λ rs. rs ++ next.0) (reads_after past (Content request) mid after)
+            ∙ append_assoc (reads past) (request ∷ []) next.0,
+      )
+  takes_gain {bytes = bytes} (closed not) = ([], gives_nothing bytes, refl)
+  takes_gain {bytes = bytes} (open_ended taking is) = ([], gives_nothing bytes, refl)
+  takes_gain {past = past} {bytes = bytes} (faulty k new taking fault after) =
       ([], gives_nothing bytes, ap (λ rs. rs ++ []) (reads_after past (Fault k) new after ∙ append-nil (reads past)))
-  rests_gain {past = past} {bytes = bytes} (waits request launch more taking front wanted) = (
+  takes_gain {past = past} {bytes = bytes} (waits request launch more taking front wanted) = (
     request ∷ [],
     gives_one bytes request more front,
     ap (λ r. reads past ++ r ∷ [])
         (sym (request_is (situation past) request launch wanted)),
   )
-
-  all_gain : (past : History) (bytes : List ℕ) (new : History) (rest : Rest) → TakesAll past bytes new rest
-      → Gains past bytes new rest.bytes rest.launch
-  all_gain past bytes new rest all =
-      let a = takes_gain all.taken in
-      let b = rests_gain all.rests in (
-        a.0 ++ b.0,
-        gives_both bytes all.left rest.bytes a.0 b.0 a.1 b.1,
-        b.2 ∙ ap (λ rs. rs ++ b.0) (sym (append-nil (reads all.mid)) ∙ a.2) ∙ append_assoc (reads past) a.0 b.0,
-      )
 
   -- ---- what events give
 
@@ -143,7 +130,7 @@ module _ (join : FramesJoin) where
       goes_on (stream ++ piece) past (before.bytes ++ piece) new rest
       (subst (Gives (stream ++ piece) (before.bytes ++ piece)) (ap (contents_read past) is ∙ append-nil (reads past))
       (gives_more stream before.bytes (contents_read past before.launch) piece here))
-      (all_gain past (before.bytes ++ piece) new rest leads)
+      (takes_gain leads)
   piece_holds stream piece past before (Some launch) new rest is leads here =
       subst (λ h. Holds (stream ++ piece) h rest) (sym leads.0)
       (subst (λ r. Holds (stream ++ piece) past r) (sym leads.1)
@@ -157,7 +144,7 @@ module _ (join : FramesJoin) where
       goes_on stream loads.mid before.bytes new rest
       (subst (Gives stream before.bytes) (ap (contents_read past) is
       ∙ sym (reads_after past (Loaded launch file) loads.mid loads.loaded)) here)
-      (all_gain loads.mid before.bytes new rest loads.after)
+      (takes_gain loads.after)
 
   -- an item that is no content changes nothing here
   same_holds : (stream : List ℕ) (past : History) (before : Rest) (new : History) (rest : Rest) → reads new ≡ reads past
@@ -217,7 +204,7 @@ module _ (join : FramesJoin) where
   report_same past r new (inr is) = after_same past (Accepted r) new refl is.2
 
   events_hold : (stream : List ℕ) (past : History) (before : Rest) (events : List Incoming) (new : History)
-      (rest : Rest) → LeadsAll past before events new rest → Holds stream past before
+      (rest : Rest) → Leads past before events new rest → Holds stream past before
       → Holds (stream ++ stream_of events) new rest
   events_hold stream past before [] new rest all here =
       subst (λ s. Holds s new rest) (sym (append-nil stream))

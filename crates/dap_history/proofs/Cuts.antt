@@ -8,7 +8,7 @@ use Rattle.dap_frame.proofs.Feeding.{frame_longer}
 use Rattle.dap_msg.specs.declared.request.Request.{Request}
 use Rattle.dap_history.specs.declared.launch.Launch.{Launch}
 use Rattle.dap_history.specs.History.{History, Fault}
-use Rattle.dap_history.specs.Events.{Incoming, Piece, Rest, only_bytes, IsTaking, IsInFront, Takes, none, one_more, Rests, closed, open_ended, faulty, waits, TakesAll, LeadsByPiece, Leads, LeadsAll}
+use Rattle.dap_history.specs.Events.{Incoming, Piece, Rest, only_bytes, IsTaking, IsInFront, Takes, one_more, closed, open_ended, faulty, waits, LeadsByPiece, LeadsByEvent, Leads}
 use Rattle.dap_history.specs.Laws.{CutsChangeNothing}
 use Rattle.dap_history.proofs.Along.{closes_for_good}
 
@@ -51,105 +51,55 @@ fault_more bytes more BadLength is = line_more bytes more BadLength is
 fault_more bytes more TooLarge is = line_more bytes more TooLarge is
 fault_more bytes more NoRoom is = absurd is
 
-takes_more : {past new : History} {bytes left : List ℕ} (more : List ℕ) → Takes past bytes new left
-    → Takes past (bytes ++ more) new (left ++ more)
-takes_more more none = none
-takes_more {bytes = bytes} more (one_more {more = rest} request taking front unwanted after taken) =
-    one_more request taking (in_front_more bytes request rest more front) unwanted after (takes_more more taken)
-
-takes_join : {past mid new : History} {bytes between left : List ℕ} → Takes past bytes mid between
-    → Takes mid between new left → Takes past bytes new left
-takes_join none b = b
-takes_join (one_more request taking front unwanted after taken) b =
-    one_more request taking front unwanted after (takes_join taken b)
-
 -- ---- a closed session takes nothing
 
-not_taken : {past new : History} {bytes left : List ℕ} → ¬ IsTaking past → Takes past bytes new left → (past ≡ new)
-    × (bytes ≡ left)
-not_taken not none = (refl, refl)
-not_taken not (one_more request taking front unwanted after taken) = absurd (not taking)
-
-not_rested : {past new : History} {bytes : List ℕ} {rest : Rest} → ¬ IsTaking past → Rests past bytes new rest
+stays_closed : {past new : History} {bytes : List ℕ} {rest : Rest} → ¬ IsTaking past → Takes past bytes new rest
     → (new ≡ past) × (rest ≡ only_bytes bytes)
-not_rested not (closed not') = (refl, refl)
-not_rested not (open_ended taking is) = absurd (not taking)
-not_rested not (faulty k new taking fault after) = absurd (not taking)
-not_rested not (waits request launch more taking front wanted) = absurd (not taking)
-
-stays_closed : (past : History) (bytes : List ℕ) (new : History) (rest : Rest) → ¬ IsTaking past
-    → TakesAll past bytes new rest → (new ≡ past) × (rest ≡ only_bytes bytes)
-stays_closed past bytes new rest not all =
-    let same = not_taken not all.taken in
-    let is = not_rested (subst (λ h. ¬ IsTaking h) same.0 not) all.rests in
-    (is.0 ∙ sym same.0, is.1 ∙ ap only_bytes (sym same.1))
+stays_closed not (one_more request taking front unwanted after taken) = absurd (not taking)
+stays_closed not (closed not') = (refl, refl)
+stays_closed not (open_ended taking is) = absurd (not taking)
+stays_closed not (faulty k new taking fault after) = absurd (not taking)
+stays_closed not (waits request launch more taking front wanted) = absurd (not taking)
 
 -- ---- two pieces as one
 
-two_rests : {past start mid : History} {bytes left : List ℕ} {between : Rest} (b : List ℕ) (new : History) (rest : Rest)
-    → Takes start bytes past left → Rests past left mid between
-    → LeadsByPiece mid between.launch (between.bytes ++ b) new rest → TakesAll start (bytes ++ b) new rest
-two_rests b new rest taken (closed not) second =
-    record {
-      mid =
-          second.mid;
-      left = second.left;
-      taken = takes_join (takes_more b taken) second.taken;
-      rests = second.rests;
-    }
-two_rests b new rest taken (open_ended taking is) second =
-    record {
-      mid =
-          second.mid;
-      left = second.left;
-      taken = takes_join (takes_more b taken) second.taken;
-      rests = second.rests;
-    }
-two_rests {past = past} {start = start} {bytes = bytes} {left = left} b new rest taken
-    (faulty k mid' taking fault after) second =
-    let is = stays_closed mid' (left ++ b) new rest (closes_for_good past (Fault k) mid' _ refl after) second in
-    subst (λ h. TakesAll start (bytes ++ b) h rest) (sym is.0)
-    (subst (λ r. TakesAll start (bytes ++ b) mid' r) (sym is.1)
-    (record {
-      mid =
-          past;
-      left = left ++ b;
-      taken = takes_more b taken;
-      rests = faulty k mid' taking (fault_more left b k fault)
-          after;
-    }))
-two_rests {past = past} {start = start} {bytes = bytes} {left = left} b new rest taken
-    (waits request launch more taking front wanted) second =
-    subst (λ h. TakesAll start (bytes ++ b) h rest) (sym second.0)
-    (subst (λ r. TakesAll start (bytes ++ b) past r) (sym second.1)
-    (record {
-      mid =
-          past;
-      left = left ++ b;
-      taken = takes_more b taken;
-      rests = waits request launch (more ++ b) taking
-          (in_front_more left request more b front) wanted;
-    }))
+two_takes : {past mid : History} {bytes : List ℕ} {between : Rest} (b : List ℕ) (new : History) (rest : Rest)
+    → Takes past bytes mid between → LeadsByPiece mid between.launch (between.bytes ++ b) new rest
+    → Takes past (bytes ++ b) new rest
+two_takes {bytes = bytes} b new rest (one_more {more = more} request taking front unwanted after taken) second =
+    one_more request taking (in_front_more bytes request more b front) unwanted after
+    (two_takes b new rest taken second)
+two_takes b new rest (closed not) second = second
+two_takes b new rest (open_ended taking is) second = second
+two_takes {past = past} {bytes = bytes} b new rest (faulty k mid taking fault after) second =
+    let is = stays_closed (closes_for_good past (Fault k) mid _ refl after) second in
+    subst (λ h. Takes past (bytes ++ b) h rest) (sym is.0)
+    (subst (λ r. Takes past (bytes ++ b) mid r) (sym is.1)
+    (faulty k mid taking (fault_more bytes b k fault) after))
+two_takes {past = past} {bytes = bytes} b new rest (waits request launch more taking front wanted) second =
+    subst (λ h. Takes past (bytes ++ b) h rest) (sym second.0)
+    (subst (λ r. Takes past (bytes ++ b) past r) (sym second.1)
+    (waits request launch (more ++ b) taking (in_front_more bytes request more b front) wanted))
 
 two_by_piece : (past : History) (launch : Option Launch) (bytes b : List ℕ) (mid : History) (between : Rest)
     (new : History) (rest : Rest) → LeadsByPiece past launch bytes mid between
     → LeadsByPiece mid between.launch (between.bytes ++ b) new rest → LeadsByPiece past launch (bytes ++ b) new rest
-two_by_piece past None bytes b mid between new rest first second = two_rests b new rest first.taken first.rests second
+two_by_piece past None bytes b mid between new rest first second = two_takes b new rest first second
 two_by_piece past (Some launch) bytes b mid between new rest first second =
     let again : (new ≡ mid) × (rest ≡ record { launch = Some launch; bytes = bytes ++ b }) =
     subst (λ (r : Rest). LeadsByPiece mid r.launch (r.bytes ++ b) new rest) first.1 second in
     (again.0 ∙ first.0, again.1)
 
 two_pieces : (past : History) (before : Rest) (a b : List ℕ) (mid : History) (between : Rest) (new : History)
-    (rest : Rest) → Leads past before (Piece a) mid between
-    → Leads mid between (Piece b) new rest → Leads past before (Piece (a ++ b)) new rest
+    (rest : Rest) → LeadsByEvent past before (Piece a) mid between
+    → LeadsByEvent mid between (Piece b) new rest → LeadsByEvent past before (Piece (a ++ b)) new rest
 two_pieces past before a b mid between new rest first second =
     subst (λ bytes. LeadsByPiece past before.launch bytes new rest) (append_assoc before.bytes a b)
     (two_by_piece past before.launch (before.bytes ++ a) b mid between new rest first second)
 
 joined : (a b : List ℕ) (before after : List Incoming) (past : History) (start : Rest) (new : History) (rest : Rest)
-    → LeadsAll past start (before ++ (Piece a ∷ Piece b ∷ after)) new rest
-    → LeadsAll past start (before ++ (Piece (a ++ b) ∷ after)) new rest
+    → Leads past start (before ++ (Piece a ∷ Piece b ∷ after)) new rest
+    → Leads past start (before ++ (Piece (a ++ b) ∷ after)) new rest
 joined a b [] after past start new rest all =
     (all.3.0, all.3.1, two_pieces past start a b all.0 all.1 all.3.0 all.3.1 all.2 all.3.2, all.3.3)
 joined a b (e ∷ before) after past start new rest all =

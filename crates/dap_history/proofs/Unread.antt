@@ -12,7 +12,7 @@ use Rattle.dap_history.specs.declared.fault.LoadFault.TheVariants as load_fault
 use Rattle.dap_history.specs.History.{Item, Fault, InputEnd, ReadFailure, MemoryFailure, History}
 use Rattle.dap_history.specs.Readings.{closing}
 use Rattle.dap_history.specs.Laws.{RestIsOpen}
-use Rattle.dap_history.specs.Events.{Incoming, Piece, End, ReadFailed, NoMemory, File, Report, Rest, only_bytes, IsTaking, Rests, closed, open_ended, faulty, waits, TakesAll, MayTake, LeadsByPiece, LeadsByFile, LeadsByReport, Leads, LeadsAll}
+use Rattle.dap_history.specs.Events.{Incoming, Piece, End, ReadFailed, NoMemory, File, Report, Rest, only_bytes, IsTaking, Takes, one_more, closed, open_ended, faulty, waits, MayTake, LeadsByPiece, LeadsByFile, LeadsByReport, LeadsByEvent, Leads}
 use Rattle.dap_history.proofs.Along.{closes_for_good, any_events, along_waits}
 use Rattle.dap_history.proofs.GoingBack.{Anything, anything_kept}
 
@@ -56,17 +56,14 @@ unread_same : (past : History) (rest : Rest) (new : History) (left : Rest) → n
 unread_same past rest new left same there here =
     subst (λ h. Unread h left) (sym same) (subst (λ r. Unread past r) (sym there) here)
 
-unread_rests : (past : History) (bytes : List ℕ) {new : History} {rest : Rest} → Rests past bytes new rest
+unread_takes : {past : History} {bytes : List ℕ} {new : History} {rest : Rest} → Takes past bytes new rest
     → Unread new rest
-unread_rests past bytes (closed not) taking none = absurd (not taking)
-unread_rests past bytes (open_ended taking_ is) taking none = is
-unread_rests past bytes (faulty k new taking_ is after) taking none =
+unread_takes (one_more request taking_ front unwanted after taken) taking none = unread_takes taken taking none
+unread_takes (closed not) taking none = absurd (not taking)
+unread_takes (open_ended taking_ is) taking none = is
+unread_takes {past = past} (faulty k new taking_ is after) taking none =
     absurd (closes_for_good past (Fault k) new _ refl after taking)
-unread_rests past bytes (waits request launch more taking_ front wanted) taking none = absurd cc
-
-unread_all : (past : History) (bytes : List ℕ) (new : History) (rest : Rest) → TakesAll past bytes new rest
-    → Unread new rest
-unread_all past bytes new rest all = unread_rests all.mid all.left all.rests
+unread_takes (waits request launch more taking_ front wanted) taking none = absurd cc
 
 unread_may : (past : History) (rest left : Rest) (item : Item) (new : History) (by : Ending) → closing item ≡ Some by
     → MayTake past item new × (left ≡ rest) → Unread past rest → Unread new left
@@ -76,7 +73,7 @@ unread_may past rest left item new by closes (inr is, same) here =
 
 unread_piece : (past : History) (launch : Option Launch) (bytes : List ℕ) (new : History) (left : Rest)
     → LeadsByPiece past launch bytes new left → Unread new left
-unread_piece past None bytes new left all = unread_all past bytes new left all
+unread_piece past None bytes new left all = unread_takes all
 unread_piece past (Some launch) bytes new left is =
     λ taking none. let e = sym (ap (λ (r : Rest). r.launch) is.1) ∙ none in absurd cc
 
@@ -85,11 +82,11 @@ unread_file : (past : History) (rest : Rest) (launch : Option Launch) (file : Re
 unread_file past rest None file new left is here = unread_same past rest new left is.0 is.1 here
 unread_file past rest (Some launch) (Ok file) new left (inl is) here = unread_same past rest new left is.1 is.2 here
 unread_file past rest (Some launch) (Ok file) new left (inr loads) here =
-    unread_all loads.mid rest.bytes new left loads.after
+    unread_takes loads.after
 unread_file past rest (Some launch) (Err load_fault.CannotRead) new left (inl is) here =
     unread_same past rest new left is.1 is.2 here
 unread_file past rest (Some launch) (Err load_fault.CannotRead) new left (inr loads) here =
-    unread_all loads.mid rest.bytes new left loads.after
+    unread_takes loads.after
 unread_file past rest (Some launch) (Err load_fault.NoMemory) new left is here =
     unread_may past rest left MemoryFailure new _ refl is here
 
@@ -101,7 +98,7 @@ unread_report past rest r new left (inr is) same here =
     (here is.0 (ap (λ (l : Rest). l.launch) (sym same) ∙ none))
 
 unread_event : (past : History) (rest : Rest) (event : Incoming) (new : History) (left : Rest)
-    → Leads past rest event new left → Unread past rest → Unread new left
+    → LeadsByEvent past rest event new left → Unread past rest → Unread new left
 unread_event past rest (Piece piece) new left leads here =
     unread_piece past rest.launch (rest.bytes ++ piece) new left leads
 unread_event past rest End new left leads here = unread_may past rest left InputEnd new _ refl leads here
@@ -111,7 +108,7 @@ unread_event past rest (File file) new left leads here = unread_file past rest r
 unread_event past rest (Report r) new left leads here = unread_report past rest r new left leads.0 leads.1 here
 
 unread_from : (past : History) (rest : Rest) (events : List Incoming) (new : History) (left : Rest)
-    → LeadsAll past rest events new left → Unread past rest → Unread new left
+    → Leads past rest events new left → Unread past rest → Unread new left
 unread_from past rest [] new left all here = unread_same past rest new left all.0 all.1 here
 unread_from past rest (e ∷ events) new left all here =
     unread_from all.0 all.1 events new left all.3 (unread_event past rest e all.0 all.1 all.2 here)

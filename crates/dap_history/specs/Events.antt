@@ -50,31 +50,25 @@ pub record IsInFront (bytes : List ℕ) (request : Option Request) (more : List 
   pub framed : IsFrameInFront bytes content more
   pub read : IsRequestOf content request
 
--- From the history `past`, contents at the front of the bytes that want no file are taken one after another; the
--- history is `new` then, and the bytes `left` remain.
-pub data Takes : History → List ℕ → History → List ℕ → Type 0 where
-  none : {past : History} {bytes : List ℕ} → Takes past bytes past bytes
-  one_more : {past mid new : History} {bytes more left : List ℕ} (request : Option Request) →
+-- From the history `past`, contents at the front of the bytes are taken one after another until no further one is. The
+-- history is `new` then, and `rest` isn't taken yet.
+pub data Takes : History → List ℕ → History → Rest → Type 0 where
+  -- a content that wants no file is taken, and then those after it
+  one_more : {past mid new : History} {bytes more : List ℕ} {rest : Rest} (request : Option Request) →
       IsTaking past → IsInFront bytes request more → wanted_in (situation past) request ≡ None →
-      IsAfter past (Content request) mid → Takes mid more new left → Takes past bytes new left
-
--- No further content is taken: the session is closed; or nothing complete stands at the front of the bytes; or a
--- framing fault does; or a launch does, which waits for its file.
-pub data Rests (past : History) (bytes : List ℕ) : History → Rest → Type 0 where
-  closed : ¬ IsTaking past → Rests past bytes past (only_bytes bytes)
-  open_ended : IsTaking past → IsOpen bytes → Rests past bytes past (only_bytes bytes)
-  faulty : (k : FramingFault) (new : History) → IsTaking past → FaultAt bytes k → IsAfter past (Fault k) new →
-      Rests past bytes new (only_bytes bytes)
-  waits : (request : Option Request) (launch : Launch) (more : List ℕ) → IsTaking past → IsInFront bytes request more →
-      wanted_in (situation past) request ≡ Some launch → Rests past bytes past
-      (record { launch = Some launch; bytes = more })
-
--- all contents of the bytes are taken that can be
-pub record TakesAll (past : History) (bytes : List ℕ) (new : History) (rest : Rest) : Type 0 where
-  pub mid : History
-  pub left : List ℕ
-  pub taken : Takes past bytes mid left
-  pub rests : Rests mid left new rest
+      IsAfter past (Content request) mid → Takes mid more new rest → Takes past bytes new rest
+  -- the session is closed
+  closed : {past : History} {bytes : List ℕ} → ¬ IsTaking past → Takes past bytes past (only_bytes bytes)
+  -- nothing complete stands in front
+  open_ended : {past : History} {bytes : List ℕ} → IsTaking past → IsOpen bytes →
+      Takes past bytes past (only_bytes bytes)
+  -- a framing fault does
+  faulty : {past : History} {bytes : List ℕ} (k : FramingFault) (new : History) → IsTaking past → FaultAt bytes k →
+      IsAfter past (Fault k) new → Takes past bytes new (only_bytes bytes)
+  -- a launch does, which waits for its file
+  waits : {past : History} {bytes : List ℕ} (request : Option Request) (launch : Launch) (more : List ℕ) →
+      IsTaking past → IsInFront bytes request more → wanted_in (situation past) request ≡ Some launch →
+      Takes past bytes past (record { launch = Some launch; bytes = more })
 
 -- an item is taken unless the session is closed
 abbrev pub MayTake : History → Item → History → Type 0
@@ -82,7 +76,7 @@ MayTake past item new = ((¬ IsTaking past) × (new ≡ past)) ⊎ (IsTaking pas
 
 -- A piece of the stream. While a launch waits for its file, the bytes wait too.
 abbrev pub LeadsByPiece : History → Option Launch → List ℕ → History → Rest → Type 0
-LeadsByPiece past None bytes new left = TakesAll past bytes new left
+LeadsByPiece past None bytes new left = Takes past bytes new left
 LeadsByPiece past (Some launch) bytes new left = (new ≡ past) × (left ≡ record { launch = Some launch; bytes = bytes })
 
 -- the file of a launch; then the contents after it
@@ -91,7 +85,7 @@ pub record Loads (past : History) (launch : Launch) (file : Option (List ℕ)) (
   pub taking : IsTaking past
   pub mid : History
   pub loaded : IsAfter past (Loaded launch file) mid
-  pub after : TakesAll mid bytes new left
+  pub after : Takes mid bytes new left
 
 -- A file. One that no launch waits for is ignored, and so is any after the session is closed.
 abbrev pub LeadsByFile : History → Rest → Option Launch → Result (List ℕ) LoadFault → History → Rest → Type 0
@@ -108,21 +102,21 @@ LeadsByReport past r new =
     ((¬ (IsTaking past × Accepts past r)) × (new ≡ past)) ⊎ (IsTaking past × Accepts past r
     × IsAfter past (Accepted r) new)
 
--- An event leads from the history `past` and the rest to the history `new` and the rest `left`.
-abbrev pub Leads : History → Rest → Incoming → History → Rest → Type 0
-Leads past rest (Piece piece) new left = LeadsByPiece past rest.launch (rest.bytes ++ piece) new left
-Leads past rest End new left = MayTake past InputEnd new × (left ≡ rest)
-Leads past rest ReadFailed new left = MayTake past ReadFailure new × (left ≡ rest)
-Leads past rest NoMemory new left = MayTake past MemoryFailure new × (left ≡ rest)
-Leads past rest (File file) new left = LeadsByFile past rest rest.launch file new left
-Leads past rest (Report r) new left = LeadsByReport past r new × (left ≡ rest)
+-- one event, by what it is
+abbrev pub LeadsByEvent : History → Rest → Incoming → History → Rest → Type 0
+LeadsByEvent past rest (Piece piece) new left = LeadsByPiece past rest.launch (rest.bytes ++ piece) new left
+LeadsByEvent past rest End new left = MayTake past InputEnd new × (left ≡ rest)
+LeadsByEvent past rest ReadFailed new left = MayTake past ReadFailure new × (left ≡ rest)
+LeadsByEvent past rest NoMemory new left = MayTake past MemoryFailure new × (left ≡ rest)
+LeadsByEvent past rest (File file) new left = LeadsByFile past rest rest.launch file new left
+LeadsByEvent past rest (Report r) new left = LeadsByReport past r new × (left ≡ rest)
 
--- one event after another
-abbrev pub LeadsAll : History → Rest → List Incoming → History → Rest → Type 0
-LeadsAll past rest [] new left = (new ≡ past) × (left ≡ rest)
-LeadsAll past rest (e ∷ events) new left =
-    (mid : History) × (between : Rest) × Leads past rest e mid between × LeadsAll mid between events new left
+-- Events, one after another, lead from the history `past` and the rest to the history `new` and the rest `left`.
+abbrev pub Leads : History → Rest → List Incoming → History → Rest → Type 0
+Leads past rest [] new left = (new ≡ past) × (left ≡ rest)
+Leads past rest (e ∷ events) new left =
+    (mid : History) × (between : Rest) × LeadsByEvent past rest e mid between × Leads mid between events new left
 
 -- the history that a list of events gives, and what came and isn't taken yet
 abbrev pub IsHistoryOf : List Incoming → History → Rest → Type 0
-IsHistoryOf events past rest = LeadsAll [] (only_bytes []) events past rest
+IsHistoryOf events past rest = Leads [] (only_bytes []) events past rest

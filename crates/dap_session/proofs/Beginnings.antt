@@ -14,16 +14,16 @@ use Rattle.dap_history.specs.declared.fault.SessionFault.TheVariants.{Frame, NoM
 use Rattle.dap_history.specs.History.{Item, Content, Loaded, Accepted, InputEnd, ReadFailure, MemoryFailure, History, messages, messages_of, orders_of, next_seq}
 use Rattle.dap_history.specs.Emission.{IsAfter}
 use Rattle.dap_history.specs.ReadingLaws.{ReadingsGoOn}
-use Rattle.dap_history.specs.Events.{Incoming, Piece, End, ReadFailed, File, Report, Rest, only_bytes, IsTaking, AreLawful, Takes, none, one_more, Rests, closed, open_ended, faulty, waits, TakesAll, MayTake, LeadsByPiece, LeadsByFile, LeadsByReport, Leads, LeadsAll, IsHistoryOf}
+use Rattle.dap_history.specs.Events.{Incoming, Piece, End, ReadFailed, File, Report, Rest, only_bytes, IsTaking, AreLawful, Takes, one_more, closed, open_ended, faulty, waits, MayTake, LeadsByPiece, LeadsByFile, LeadsByReport, LeadsByEvent, Leads, IsHistoryOf}
 use Rattle.dap_history.specs.Events.{NoMemory as NoMemoryCame}
 use Rattle.dap_history.specs.Laws.{HistoryIsOne}
 use Rattle.dap_history.specs.Interleaving.{Load}
 use Rattle.dap_history.specs.Output.{frames_from}
 use Rattle.dap_history.specs.Reports.{Accepts}
-use Rattle.dap_history.proofs.OneHistory.{IsReadOnce, one_front, rests_here}
+use Rattle.dap_history.proofs.OneHistory.{IsReadOnce, goes_on}
 use Rattle.dap_session.specs.Ports.{Ports}
 use Rattle.dap_session.specs.Sending.{Sends, Begins, PushesSome, PutsSome, BreaksOff, TriesQuit}
-use Rattle.dap_session.specs.Taking.{TowardByPiece, LoadsToward, Toward, FailsAt}
+use Rattle.dap_session.specs.Taking.{TakesSome, no_content, one_content, TowardByPiece, LoadsToward, Toward, FailsAt}
 use Rattle.dap_session.specs.Serving.{Serves, StopsShort, Drives, closes, ends_at_fault, runs_out_of_memory, gives_up}
 use Rattle.dap_session.specs.Laws.{IsOnTheWay, IsReached, FaultsLeavePrefixes}
 use Rattle.dap_session.proofs.Joining.{frames_from-append, sends_both}
@@ -69,38 +69,24 @@ orders_begin past new is =
 
 -- ---- an event that was taken in part
 
-takes_begin : {past new : History} {bytes left : List ℕ} → Takes past bytes new left → Begins past new
-takes_begin {past = past} none = begins_same past past refl
+takes_begin : {past new : History} {bytes : List ℕ} {rest : Rest} → Takes past bytes new rest → Begins past new
 takes_begin {past = past} {new = new} (one_more {mid = mid} request taking front unwanted after taken) =
     begins_both past mid new (begins_longer past (Content request) mid after) (takes_begin taken)
-
-rests_begin : {past new : History} {bytes : List ℕ} {rest : Rest} → Rests past bytes new rest → Begins past new
-rests_begin {past = past} (closed not) = begins_same past past refl
-rests_begin {past = past} (open_ended taking is) = begins_same past past refl
-rests_begin {past = past} (faulty k new taking fault after) = begins_longer past _ new after
-rests_begin {past = past} (waits request launch more taking front wanted) = begins_same past past refl
-
-all_begin : (past : History) (bytes : List ℕ) (new : History) (rest : Rest) → TakesAll past bytes new rest
-    → Begins past new
-all_begin past bytes new rest all = begins_both past all.mid new (takes_begin all.taken) (rests_begin all.rests)
+takes_begin {past = past} (closed not) = begins_same past past refl
+takes_begin {past = past} (open_ended taking is) = begins_same past past refl
+takes_begin {past = past} (faulty k new taking fault after) = begins_longer past _ new after
+takes_begin {past = past} (waits request launch more taking front wanted) = begins_same past past refl
 
 module _ (once : IsReadOnce) where
   -- what was taken is a prefix of all that can be
-  taken_begins : {past mid other new : History} {bytes left left' : List ℕ} {rest : Rest} → Takes past bytes mid left
-      → Takes past bytes other left' → Rests other left' new rest → Begins mid new
-  taken_begins {past = past} {other = other} {new = new} none taken rests =
-      begins_both past other new (takes_begin taken) (rests_begin rests)
-  taken_begins (one_more {more = more} request taking front unwanted after taken) none rests =
-      absurd (rests_here once rests request more taking front unwanted)
-  taken_begins (one_more {past = past} {mid = mid} {bytes = bytes} {more = more} request taking front unwanted after
-      taken) (one_more {mid = mid'} {new = end} {more = more'} {left = left'} request' taking' front' unwanted' after'
-      taken') rests =
-      let same = one_front once bytes request request' more more' front front' in
-      let mids =
-      once.one_after past (Content request) mid mid' after
-      (subst (λ r. IsAfter past (Content r) mid') (sym same.0) after') in
-      taken_begins taken (subst (λ h. Takes h more end left') (sym mids)
-      (subst (λ b. Takes mid' b end left') (sym same.1) taken')) rests
+  some_begin : {past mid new : History} {bytes left : List ℕ} {rest : Rest} → TakesSome past bytes mid left
+      → Takes past bytes new rest → Begins mid new
+  some_begin no_content all = takes_begin all
+  some_begin {new = new} {rest = rest}
+      (one_content {past = past} {mid = mid} {more = more} request taking front unwanted after taken) all =
+      let next = goes_on once all request more taking front unwanted in
+      some_begin taken (subst (λ h. Takes h more new rest)
+      (sym (once.one_after past (Content request) mid next.0 after next.1)) next.2)
 
   may_begin : (past : History) (item : Item) (new : History) → MayTake past item new → Begins past new
   may_begin past item new (inl is) = begins_same past new (sym is.1)
@@ -116,18 +102,17 @@ module _ (once : IsReadOnce) where
 
   piece_begins : (past : History) (launch : Option Launch) (bytes : List ℕ) (next new : History) (left : Rest)
       → TowardByPiece past launch bytes next → LeadsByPiece past launch bytes new left → Begins next new
-  piece_begins past None bytes next new left toward leads = taken_begins toward.1 leads.taken leads.rests
+  piece_begins past None bytes next new left toward leads = some_begin toward.1 leads
   piece_begins past (Some launch) bytes next new left toward leads = begins_same next new (toward ∙ sym leads.0)
 
   -- a launch was made with its file, and some contents after it were taken
   loaded_begins : (past : History) (launch : Launch) (file : Option (List ℕ)) (bytes : List ℕ)
       (mid other next new : History) (left : List ℕ) (rest : Rest)
-      → IsAfter past (Loaded launch file) mid → Takes mid bytes next left → IsAfter past (Loaded launch file) other
-      → TakesAll other bytes new rest → Begins next new
+      → IsAfter past (Loaded launch file) mid → TakesSome mid bytes next left → IsAfter past (Loaded launch file) other
+      → Takes other bytes new rest → Begins next new
   loaded_begins past launch file bytes mid other next new left rest after taken there all =
-      let here =
-      subst (λ h. TakesAll h bytes new rest) (once.one_after past (Loaded launch file) other mid there after) all in
-      taken_begins taken here.taken here.rests
+      some_begin taken
+      (subst (λ h. Takes h bytes new rest) (once.one_after past (Loaded launch file) other mid there after) all)
 
   same_launch : (past : History) (rest : Rest) (launch : Launch) (answer : Result (List ℕ) LoadFault)
       (file : Option (List ℕ)) (next : History) → rest.launch ≡ Some launch
@@ -149,7 +134,7 @@ module _ (once : IsReadOnce) where
   file_begins past rest (Some launch) (Ok file) next new left taking is (inl same) (inr loads) =
       subst (λ h. Begins h new) (sym same)
       (begins_both past loads.mid new (begins_longer past _ loads.mid loads.loaded)
-      (all_begin loads.mid rest.bytes new left loads.after))
+      (takes_begin loads.after))
   file_begins past rest (Some launch) (Ok file) next new left taking is (inr toward) (inr loads) =
       let same : toward.file ≡ Some file = let e = toward.file_is in cc in
       loaded_begins past launch (Some file) rest.bytes toward.mid loads.mid next new toward.left left
@@ -159,7 +144,7 @@ module _ (once : IsReadOnce) where
   file_begins past rest (Some launch) (Err load_fault.CannotRead) next new left taking is (inl same) (inr loads) =
       subst (λ h. Begins h new) (sym same)
       (begins_both past loads.mid new (begins_longer past _ loads.mid loads.loaded)
-      (all_begin loads.mid rest.bytes new left loads.after))
+      (takes_begin loads.after))
   file_begins past rest (Some launch) (Err load_fault.CannotRead) next new left taking is (inr toward) (inr loads) =
       let same : toward.file ≡ None = let e = toward.file_is in cc in
       loaded_begins past launch None rest.bytes toward.mid loads.mid next new toward.left left
@@ -180,7 +165,7 @@ module _ (once : IsReadOnce) where
       begins_same next new (once.one_after past (Accepted r) next new toward.1 is.2)
 
   event_begins : (past : History) (rest : Rest) (event : Incoming) (next new : History) (left : Rest) → IsTaking past
-      → Toward past rest event next → Leads past rest event new left → Begins next new
+      → Toward past rest event next → LeadsByEvent past rest event new left → Begins next new
   event_begins past rest (Piece piece) next new left taking toward leads =
       piece_begins past rest.launch _ next new left toward leads
   event_begins past rest End next new left taking toward leads =
@@ -197,14 +182,14 @@ module _ (once : IsReadOnce) where
 -- ---- a list of events, and its last
 
 leads_apart : (past : History) (rest : Rest) (events : List Incoming) (last : Incoming) (new : History) (left : Rest)
-    → LeadsAll past rest (events ++ last ∷ []) new left
-    → (mid : History) × (between : Rest) × LeadsAll past rest events mid between × Leads mid between last new left
+    → Leads past rest (events ++ last ∷ []) new left
+    → (mid : History) × (between : Rest) × Leads past rest events mid between × LeadsByEvent mid between last new left
 leads_apart past rest [] last new left all = (
   past,
   rest,
   (refl, refl),
-  subst (λ h. Leads past rest last h left) (sym all.3.0)
-      (subst (λ r. Leads past rest last all.0 r) (sym all.3.1) all.2),
+  subst (λ h. LeadsByEvent past rest last h left) (sym all.3.0)
+      (subst (λ r. LeadsByEvent past rest last all.0 r) (sym all.3.1) all.2),
 )
 leads_apart past rest (e ∷ events) last new left all =
     let next = leads_apart all.0 all.1 events last new left all.3 in
@@ -371,11 +356,12 @@ pub record PutsFew (reached : History) (old later : Ports) : Type 0 where
 module _ (laws : ReadingsGoOn) (once : IsReadOnce) (one : HistoryIsOne) where
   -- a history of all events goes on with the last one from where the session stood
   last_leads : (events : List Incoming) (last : Incoming) (past : History) (rest : Rest) (new : History) (left : Rest)
-      → IsHistoryOf events past rest → IsHistoryOf (events ++ last ∷ []) new left → Leads past rest last new left
+      → IsHistoryOf events past rest → IsHistoryOf (events ++ last ∷ []) new left → LeadsByEvent past rest last new left
   last_leads events last past rest new left here whole =
       let apart = leads_apart [] (only_bytes []) events last new left whole in
       let same = one events apart.0 past apart.1 rest apart.2 here in
-      subst (λ r. Leads past r last new left) same.1 (subst (λ h. Leads h apart.1 last new left) same.0 apart.3)
+      subst (λ r. LeadsByEvent past r last new left) same.1
+      (subst (λ h. LeadsByEvent h apart.1 last new left) same.0 apart.3)
 
   -- a session reached a history on the way to that of all events
   reached_toward : (events : List Incoming) (reached : History) → AreLawful events → IsOnTheWay events reached

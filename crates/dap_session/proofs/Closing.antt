@@ -10,7 +10,7 @@ use Rattle.dap_history.specs.Readings.{closing}
 use Rattle.dap_history.specs.ReadingLaws.{ReadingsGoOn}
 use Rattle.dap_history.specs.Replies.{ordering}
 use Rattle.dap_history.specs.Emission.{IsAfter}
-use Rattle.dap_history.specs.Events.{Incoming, Rest, IsTaking, Leads}
+use Rattle.dap_history.specs.Events.{Incoming, Rest, IsTaking, LeadsByEvent}
 use Rattle.dap_session.specs.Ports.{Written, Ordered, ports}
 use Rattle.dap_session.specs.Building.{IsNotPushed}
 use Rattle.dap_session.specs.State.{State}
@@ -29,7 +29,7 @@ pub record EndsInput (past : History) (rest : Rest) (event : Incoming) (item : I
   pub closing_is : closing item ≡ Some (ending.Closed closed)
   pub here : Toward past rest event past
   pub toward : (new : History) → IsAfter past item new → Toward past rest event new
-  pub leads : (new : History) → IsAfter past item new → Leads past rest event new rest
+  pub leads : (new : History) → IsAfter past item new → LeadsByEvent past rest event new rest
 
 -- closing fails by the port alone
 pub close_needs_none : (result : Result (Unit {0}) SessionFault) (closed : Closed) (last : State) (old later : Ordered)

@@ -1,5 +1,5 @@
 -- A session that is driven.
-use Rattle.std.proofs.Common.{◌≡◌, ◌≢◌, ◌⊎◌, inl, inr, ℕ, List, [], ◌∷◌, ◌++◌, Option, None, Some, option_map, Result, Ok, Err, refl, sym, ◌∙◌, ap, subst, append_assoc, append-nil, lit≤}
+use Rattle.std.proofs.Common.{◌≡◌, ◌⊎◌, inl, inr, ℕ, List, [], ◌∷◌, ◌++◌, Option, None, Some, option_map, Result, Ok, Err, refl, sym, ◌∙◌, ap, subst, append_assoc, append-nil, lit≤}
 use Rattle.std.specs.Prelude.{string_bytes}
 use Rattle.dap_history.specs.declared.ending.Closed.{Closed}
 use Rattle.dap_history.specs.declared.ending.Ending.{Ending}
@@ -23,7 +23,7 @@ use Rattle.dap_session.specs.declared.want.Want.TheVariants as want_is
 use Rattle.dap_session.specs.Ports.{Ports, load_of}
 use Rattle.dap_session.specs.Sending.{Sends, RefusesNothing, TriesQuit}
 use Rattle.dap_session.specs.State.{State, StandsFor, Wants, WantsHere, IsOpenEnded}
-use Rattle.dap_session.specs.Taking.{LacksMemory, Expects, NeedsNoMemory, FailsAt, Comes}
+use Rattle.dap_session.specs.Taking.{LacksMemory, Expects, NeedsNoMemory, FailsAt, Comes, TakesEvent}
 use Rattle.dap_session.specs.Serving.{Serves, StopsShort, no_seq_is_left, orders_are_full, runner_is_gone, writer_is_gone, Drives, closes, ends_at_fault, runs_out_of_memory, gives_up, Driven}
 use Rattle.dap_session.specs.Coming.{Sources, stored, ComesFrom}
 use Rattle.dap_session.proofs.Reports.{accepts_expected}
@@ -238,14 +238,6 @@ goes_on want session None is wants not = (is, wants_here want (launch_of session
 goes_on want session (Some (ending.Closed by)) is wants not = absurd (not wants)
 goes_on want session (Some (ending.Fault fault)) is wants not = absurd wants
 
--- what comes of the event, whatever the session stands for
-pub record Next (session : State) (result : Result Want SessionFault) (event : Incoming) (after : State)
-    (mid later : Ports) : Type 0 where
-  pub comes : (events : List Incoming) (past : History) (stands : StandsFor session events past)
-      → Comes result events past stands.rest event after mid later
-  pub no_memory : LacksMemory event (launch_of session.phase) → result ≡ Err faults.NoMemory
-  pub enough : NeedsNoMemory (launch_of session.phase) (Expects session.phase) event → result ≢ Err faults.NoMemory
-
 -- what the history says of an event that needs no memory, the session says too
 needs_none : (session : State) (events : List Incoming) (past : History) (stands : StandsFor session events past)
     → session.ending ≡ None → (event : Incoming)
@@ -264,7 +256,7 @@ needs_none session events past stands open_ NoMemoryCame needs = absurd needs
 -- where the session ran out of memory, the event needs some
 needs_some : (session after : State) (fault : SessionFault) (event : Incoming) (mid later : Ports)
     (events : List Incoming) (past : History) (stands : StandsFor session events past) → session.ending ≡ None
-    → Next session (Err fault) event after mid later
+    → TakesEvent session event (Err fault) after mid later
     → fault ≡ faults.NoMemory → ¬ NeedsNoMemory stands.rest.launch (Accepts past) event
 needs_some session after fault event mid later events past stands open_ step lost needs =
     step.enough (needs_none session events past stands open_ event needs) (ap Err lost)
@@ -286,7 +278,7 @@ lacking session (Some path) (Some launch) event now next same from is given =
 pub way_goes_on : (session after : State) (wanted : Option (List ℕ)) (want : Want) (event : Incoming)
     (begin now next : Sources) (old mid later : Ports)
     → Way session wanted begin now old mid → ComesFrom wanted event now next → AreLawful (event ∷ [])
-    → Next session (Ok want) event after mid later
+    → TakesEvent session event (Ok want) after mid later
     → (want ≡ want_is.Closed → ⊥)
     → Way after (wanted_by want) begin next old later
 way_goes_on session after wanted want event begin now next old mid later way from law step not =
@@ -402,7 +394,7 @@ ends events past rest event after old mid later last given loads faults.WriterGo
 pub way_closes : (session after : State) (wanted : Option (List ℕ)) (want : Want) (event : Incoming)
     (begin now next : Sources) (old mid later : Ports) (by : Closed)
     → Way session wanted begin now old mid → ComesFrom wanted event now next → AreLawful (event ∷ [])
-    → Next session (Ok want) event after mid later
+    → TakesEvent session event (Ok want) after mid later
     → after.ending ≡ Some (ending.Closed by)
     → Driven (Ok by) begin.given next.given begin.loaded next.loaded old later
 way_closes session after wanted want event begin now next old mid later by way from law step is =
@@ -438,7 +430,7 @@ way_closes session after wanted want event begin now next old mid later by way f
 pub way_fails : (session after : State) (wanted : Option (List ℕ)) (fault : SessionFault) (event : Incoming)
     (begin now next : Sources) (old mid later last : Ports)
     → Way session wanted begin now old mid → ComesFrom wanted event now next → AreLawful (event ∷ [])
-    → Next session (Err fault) event after mid later
+    → TakesEvent session event (Err fault) after mid later
     → TriesQuit later last
     → Driven (Err fault) begin.given next.given begin.loaded next.loaded old last
 way_fails session after wanted fault event begin now next old mid later last way from law step quit =

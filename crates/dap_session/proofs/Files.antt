@@ -9,13 +9,13 @@ use Rattle.dap_history.specs.declared.fault.SessionFault.TheVariants.{NoMemory}
 use Rattle.dap_history.specs.declared.launch.Launch.{Launch}
 use Rattle.dap_history.specs.History.{Loaded, History}
 use Rattle.dap_history.specs.Emission.{IsAfter}
-use Rattle.dap_history.specs.Events.{Rest, File, IsTaking, none, TakesAll, Loads, LeadsByFile, Leads}
+use Rattle.dap_history.specs.Events.{Rest, File, IsTaking, Takes, Loads, LeadsByFile, LeadsByEvent}
 use Rattle.dap_phase.specs.Phases.{launch_of}
 use Rattle.dap_session.specs.declared.ports.Event.TheVariants as event
 use Rattle.dap_session.specs.Incoming.{incoming_of}
 use Rattle.dap_session.specs.Ports.{Ports}
 use Rattle.dap_session.specs.State.{State, GoesOn}
-use Rattle.dap_session.specs.Taking.{TowardByPiece, file_of, Toward, LacksMemory}
+use Rattle.dap_session.specs.Taking.{no_content, TowardByPiece, file_of, Toward, LacksMemory}
 use Rattle.dap_session.specs.Handling.{IsAt, TakesItem, FailsAtItem, HandlesContents, Handles, plain_file}
 use Rattle.dap_session.proofs.Going.{goes_after, stops_at_once, stops_at_item, arrives_at_once}
 
@@ -42,7 +42,7 @@ leads_by_answer past rest launch (Err load_fault.NoMemory) file new left is load
 
 leads_by_load : (past : History) (rest : Rest) (launch : Launch) (answer : Result (List ℕ) LoadFault)
     (file : Option (List ℕ)) → IsGiven rest launch answer file → (new : History) (left : Rest)
-    → Loads past launch file rest.bytes new left → Leads past rest (File answer) new left
+    → Loads past launch file rest.bytes new left → LeadsByEvent past rest (File answer) new left
 leads_by_load past rest launch answer file is new left loads =
     subst (λ l. LeadsByFile past rest l answer new left) (sym is.waits)
     (leads_by_answer past rest launch answer file new left is.file_is loads)
@@ -75,7 +75,7 @@ file_taken result past rest launch answer file loaded last old between later tak
     let contents =
     subst (λ b. HandlesContents result mid b last between later) (ap (λ s. s.rest) stream_is)
     (taken mid (ap (λ s. s.fault) stream_is) item.free item.is_at) in
-    goes_after result (TakesAll mid rest.bytes) (Leads past rest (File answer)) (TowardByPiece mid None rest.bytes)
+    goes_after result (Takes mid rest.bytes) (LeadsByEvent past rest (File answer)) (TowardByPiece mid None rest.bytes)
     (Toward past rest (File answer)) past mid last old between later
     item.sends item.refuses_nothing
     (λ new left all. leads_by_load past rest launch answer file is new left
@@ -94,7 +94,7 @@ pub load_fails : (fault : SessionFault) (past : History) (rest : Rest) (launch :
     → FailsAtItem fault past (Loaded launch file) old later → Handles (Err fault) past rest (File answer) last old later
 load_fails fault past rest launch answer file last old later is fails =
     inl (stops_at_item (Toward past rest (File answer)) fault past (Loaded launch file) old later (inl refl)
-    (λ new after. toward_by_load past rest launch answer file is new after new (rest.bytes, none)) fails)
+    (λ new after. toward_by_load past rest launch answer file is new after new (rest.bytes, no_content)) fails)
 
 -- ---- a file that no launch waits for
 
@@ -104,7 +104,7 @@ pub file_passed : (past : History) (rest : Rest) (answer : Result (List ℕ) Loa
     → Handles (Ok tt) past rest (File answer) last old old
 file_passed past rest answer session last old same open_ free taking on =
     subst (λ s. Handles (Ok tt) past rest (File answer) s old old) (sym same)
-    (arrives_at_once (Leads past rest (File answer)) past rest session old
+    (arrives_at_once (LeadsByEvent past rest (File answer)) past rest session old
     (subst (λ l. LeadsByFile past rest l answer past rest) (sym free ∙ on.launch_is) (refl, refl)) open_ taking on)
 
 -- ---- no memory for a file

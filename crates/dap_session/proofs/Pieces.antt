@@ -5,16 +5,16 @@ use Rattle.dap_history.specs.declared.fault.SessionFault.{SessionFault}
 use Rattle.dap_history.specs.declared.fault.SessionFault.TheVariants.{NoMemory}
 use Rattle.dap_history.specs.declared.launch.Launch.{Launch}
 use Rattle.dap_history.specs.History.{History}
-use Rattle.dap_history.specs.Events.{Rest, Piece, IsTaking, none, LeadsByPiece}
+use Rattle.dap_history.specs.Events.{Rest, Piece, IsTaking, LeadsByPiece}
 use Rattle.dap_phase.specs.Phases.{IsPhase, launch_of}
 use Rattle.dap_session.specs.Ports.{Ports}
 use Rattle.dap_session.specs.State.{State, GoesOn}
-use Rattle.dap_session.specs.Taking.{TowardByPiece, Toward}
+use Rattle.dap_session.specs.Taking.{no_content, TowardByPiece, Toward}
 use Rattle.dap_session.specs.Handling.{IsAt, Goes, Handles, HandlesContents}
 use Rattle.dap_session.proofs.Going.{stops_at_once, arrives_at_once}
 
 toward_here : (past : History) (launch : Option Launch) (bytes : List ℕ) → TowardByPiece past launch bytes past
-toward_here past None bytes = (bytes, none)
+toward_here past None bytes = (bytes, no_content)
 toward_here past (Some launch) bytes = refl
 
 -- there was no memory for the piece

@@ -7,7 +7,7 @@ use Rattle.dap_history.specs.declared.fault.SessionFault.{SessionFault}
 use Rattle.dap_history.specs.History.{Accepted, History}
 use Rattle.dap_history.specs.Readings.{closing_report, last_run, position}
 use Rattle.dap_history.specs.Reports.{Accepts}
-use Rattle.dap_history.specs.Events.{Rest, Report, IsTaking, Leads}
+use Rattle.dap_history.specs.Events.{Rest, Report, IsTaking, LeadsByEvent}
 use Rattle.dap_phase.specs.declared.phase.Phase.{Phase}
 use Rattle.dap_phase.specs.declared.phase.Phase.TheVariants as phase
 use Rattle.dap_phase.specs.declared.phase.Target.{Target}
@@ -30,8 +30,8 @@ passed : (past : History) (rest : Rest) (r : PlainReport) (session : State) (old
     → session.ending ≡ None → IsTaking past → GoesOn session past rest
     → Handles (Ok tt) past rest (Report r) session old old
 passed past rest r session old not open_ taking on =
-    arrives_at_once (Leads past rest (Report r)) past rest session old (inl ((λ both. not both.1), refl), refl) open_
-    taking on
+    arrives_at_once (LeadsByEvent past rest (Report r)) past rest session old (inl ((λ both. not both.1), refl), refl)
+    open_ taking on
 
 -- what the next report begins with, by the history
 heading_is : (past : History) (t : Target) (run : Ordered) → IsPhase (phase.Running t run) past → (first : Heading)

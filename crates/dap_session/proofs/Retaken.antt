@@ -17,9 +17,9 @@ use Rattle.dap_history.specs.ReadingLaws.{ReadingsGoOn}
 use Rattle.dap_history.specs.Launching.{wanted_in}
 use Rattle.dap_history.specs.Reports.{Accepts}
 use Rattle.dap_history.specs.Emission.{IsAfter}
-use Rattle.dap_history.specs.Events.{Incoming, Piece, End, ReadFailed, File, Report, AreLawful, Rest, only_bytes, IsTaking, IsInFront, Takes, none, one_more, Rests, closed, open_ended, faulty, waits, TakesAll, MayTake, LeadsByPiece, LeadsByFile, LeadsByReport, Leads, LeadsAll, IsHistoryOf}
+use Rattle.dap_history.specs.Events.{Incoming, Piece, End, ReadFailed, File, Report, AreLawful, Rest, only_bytes, IsTaking, IsInFront, Takes, one_more, closed, open_ended, faulty, waits, MayTake, LeadsByPiece, LeadsByFile, LeadsByReport, LeadsByEvent, Leads, IsHistoryOf}
 use Rattle.dap_history.specs.Events.{NoMemory as NoMemoryCame}
-use Rattle.dap_session.specs.Taking.{TowardByPiece, LoadsToward, Toward}
+use Rattle.dap_session.specs.Taking.{TakesSome, no_content, one_content, TowardByPiece, LoadsToward, Toward}
 use Rattle.dap_session.proofs.Driven.{lawful_both, lawful_apart}
 use Rattle.dap_session.proofs.Standing.{leads_one_more, ended}
 
@@ -71,25 +71,25 @@ no_fault framing.NoMemory is = is
 nothing_in_front : IsOpen []
 nothing_in_front = record { no_frame = no_frame; no_fault = no_fault }
 
-rests_by : (past : History) (ending : Option Ending) → ending_of past ≡ ending → Rests past [] past (only_bytes [])
-rests_by past None is = open_ended is nothing_in_front
-rests_by past (Some by) is = closed (λ taking. let e = sym taking ∙ is in cc)
+nothing_by : (past : History) (ending : Option Ending) → ending_of past ≡ ending → Takes past [] past (only_bytes [])
+nothing_by past None is = open_ended is nothing_in_front
+nothing_by past (Some by) is = closed (λ taking. let e = sym taking ∙ is in cc)
 
-takes_nothing : (past : History) → TakesAll past [] past (only_bytes [])
-takes_nothing past = record { mid = past; left = []; taken = none; rests = rests_by past (ending_of past) refl }
+takes_nothing : (past : History) → Takes past [] past (only_bytes [])
+takes_nothing past = nothing_by past (ending_of past) refl
 
 -- ---- one event more
 
 one_event : {past : History} {launch : Option Launch} → Retaken past launch
     → (event : Incoming) (new : History) (left : Rest) (other : Option Launch) → AreLawful (event ∷ []) → IsTaking past
-    → Leads past (only_launch launch) event new left → (IsTaking new → left ≡ only_launch other)
+    → LeadsByEvent past (only_launch launch) event new left → (IsTaking new → left ≡ only_launch other)
     → Retaken new other
 one_event {past = past} retaken event new left other law taking leads left_is = record {
   events = retaken.events ++ event ∷ [];
   rest = left;
   lawful = lawful_both retaken.events (event ∷ []) retaken.lawful law;
   history = leads_one_more [] (only_bytes []) retaken.events past retaken.rest event new left retaken.history
-      (subst (λ rest. Leads past rest event new left) (sym (retaken.rest_is taking)) leads);
+      (subst (λ rest. LeadsByEvent past rest event new left) (sym (retaken.rest_is taking)) leads);
   rest_is = left_is;
 }
 
@@ -113,14 +113,7 @@ content_given : {past : History} → Retaken past None → (request : Option Req
 content_given retaken request bytes more new taking front unwanted after =
     let frame = alone bytes request more front in
     one_event retaken (Piece frame.0) new (only_bytes []) None tt taking
-    (record {
-      mid =
-          new;
-      left = [];
-      taken = one_more request taking frame.1 unwanted after none;
-      rests = rests_by new
-          (ending_of new) refl;
-    })
+    (one_more request taking frame.1 unwanted after (takes_nothing new))
     (λ still. refl)
 
 launch_given : {past : History} → Retaken past None → (request : Option Request) (launch : Launch) (bytes more : List ℕ)
@@ -129,7 +122,7 @@ launch_given : {past : History} → Retaken past None → (request : Option Requ
 launch_given {past = past} retaken request launch bytes more taking front wanted =
     let frame = alone bytes request more front in
     one_event retaken (Piece frame.0) past (only_launch (Some launch)) (Some launch) tt taking
-    (record { mid = past; left = frame.0; taken = none; rests = waits request launch [] taking frame.1 wanted })
+    (waits request launch [] taking frame.1 wanted)
     (λ still. refl)
 
 load_given : {past : History} {launch : Launch} → Retaken past (Some launch) → (file : Option (List ℕ)) (new : History)
@@ -150,8 +143,8 @@ report_given {launch = launch} retaken r new law taking accepts after =
 -- an item that an event is of itself
 item_given : {past : History} {launch : Option Launch} → Retaken past launch
     → (item : Item) (event : Incoming) (new : History) → AreLawful (event ∷ [])
-    → (MayTake past item new → Leads past (only_launch launch) event new (only_launch launch)) → MayTake past item new
-    → Retaken new launch
+    → (MayTake past item new → LeadsByEvent past (only_launch launch) event new (only_launch launch))
+    → MayTake past item new → Retaken new launch
 item_given {launch = launch} retaken item event new law leads (inl not) =
     subst (λ h. Retaken h launch) (sym not.1) retaken
 item_given {launch = launch} retaken item event new law leads (inr is) =
@@ -160,30 +153,28 @@ item_given {launch = launch} retaken item event new law leads (inr is) =
 -- ---- events
 
 module _ (laws : ReadingsGoOn) where
-  takes_given : {past new : History} {bytes left : List ℕ} → Takes past bytes new left → Retaken past None
+  some_given : {past new : History} {bytes left : List ℕ} → TakesSome past bytes new left → Retaken past None
       → Retaken new None
-  takes_given none retaken = retaken
+  some_given no_content retaken = retaken
+  some_given (one_content {mid = mid} {bytes = bytes} {more = more} request taking front unwanted after some)
+      retaken =
+      some_given some (content_given retaken request bytes more mid taking front unwanted after)
+
+  takes_given : {past new : History} {bytes : List ℕ} {rest : Rest} → Takes past bytes new rest → Retaken past None
+      → Retaken new rest.launch
   takes_given (one_more {mid = mid} {bytes = bytes} {more = more} request taking front unwanted after taken) retaken =
       takes_given taken (content_given retaken request bytes more mid taking front unwanted after)
-
-  rests_given : {past new : History} {bytes : List ℕ} {rest : Rest} → Rests past bytes new rest → Retaken past None
-      → Retaken new rest.launch
-  rests_given (closed not) retaken = retaken
-  rests_given (open_ended taking is) retaken = retaken
-  rests_given {past = past} {bytes = bytes} (faulty k new taking fault after) retaken =
-      one_event retaken (Piece bytes) new (only_bytes bytes) None tt taking
-      (record { mid = past; left = bytes; taken = none; rests = faulty k new taking fault after })
+  takes_given (closed not) retaken = retaken
+  takes_given (open_ended taking is) retaken = retaken
+  takes_given {past = past} {bytes = bytes} (faulty k new taking fault after) retaken =
+      one_event retaken (Piece bytes) new (only_bytes bytes) None tt taking (faulty k new taking fault after)
       (λ still. absurd (ended laws past (Fault k) _ new taking refl after still))
-  rests_given {bytes = bytes} (waits request launch more taking front wanted) retaken =
+  takes_given {bytes = bytes} (waits request launch more taking front wanted) retaken =
       launch_given retaken request launch bytes more taking front wanted
-
-  all_given : {past new : History} {bytes : List ℕ} {rest : Rest} → TakesAll past bytes new rest → Retaken past None
-      → Retaken new rest.launch
-  all_given all retaken = rests_given all.rests (takes_given all.taken retaken)
 
   piece_given : (past : History) (launch : Option Launch) (bytes : List ℕ) (new : History) (left : Rest)
       → LeadsByPiece past launch bytes new left → Retaken past launch → Retaken new left.launch
-  piece_given past None bytes new left leads retaken = all_given leads retaken
+  piece_given past None bytes new left leads retaken = takes_given leads retaken
   piece_given past (Some launch) bytes new left leads retaken =
       subst (λ h. Retaken h left.launch) (sym leads.0)
       (subst (λ (r : Rest). Retaken past r.launch) (sym leads.1) retaken)
@@ -203,17 +194,17 @@ module _ (laws : ReadingsGoOn) where
   file_given past rest (Some launch) (Ok bytes) new left is (inl not) retaken =
       passed_over past rest (Some launch) new left is not.1 not.2 retaken
   file_given past rest (Some launch) (Ok bytes) new left is (inr loads) retaken =
-      all_given loads.after (load_given retaken (Some bytes) loads.mid loads.taking loads.loaded)
+      takes_given loads.after (load_given retaken (Some bytes) loads.mid loads.taking loads.loaded)
   file_given past rest (Some launch) (Err load_fault.CannotRead) new left is (inl not) retaken =
       passed_over past rest (Some launch) new left is not.1 not.2 retaken
   file_given past rest (Some launch) (Err load_fault.CannotRead) new left is (inr loads) retaken =
-      all_given loads.after (load_given retaken None loads.mid loads.taking loads.loaded)
+      takes_given loads.after (load_given retaken None loads.mid loads.taking loads.loaded)
   file_given past rest (Some launch) (Err load_fault.NoMemory) new left is leads retaken =
       passed_over new rest (Some launch) new left is refl leads.1
       (item_given retaken MemoryFailure NoMemoryCame new tt (λ may. (may, refl)) leads.0)
 
   event_given : (past : History) (rest : Rest) (event : Incoming) (new : History) (left : Rest) → AreLawful (event ∷ [])
-      → Leads past rest event new left → Retaken past rest.launch → Retaken new left.launch
+      → LeadsByEvent past rest event new left → Retaken past rest.launch → Retaken new left.launch
   event_given past rest (Piece piece) new left law leads retaken = piece_given past rest.launch _ new left leads retaken
   event_given past rest End new left law leads retaken =
       passed_over new rest rest.launch new left refl refl leads.1
@@ -234,7 +225,7 @@ module _ (laws : ReadingsGoOn) where
       by (inr is) = report_given retaken r new law.0 is.0 is.1 is.2
 
   events_given : (past : History) (rest : Rest) (events : List Incoming) (new : History) (left : Rest)
-      → AreLawful events → LeadsAll past rest events new left → Retaken past rest.launch → Retaken new left.launch
+      → AreLawful events → Leads past rest events new left → Retaken past rest.launch → Retaken new left.launch
   events_given past rest [] new left lawful all retaken =
       passed_over past rest rest.launch new left refl all.0 all.1 retaken
   events_given past rest (e ∷ events) new left lawful all retaken =
@@ -251,12 +242,12 @@ module _ (laws : ReadingsGoOn) where
 
   toward_piece : (past : History) (launch : Option Launch) (bytes : List ℕ) (new : History)
       → TowardByPiece past launch bytes new → Retaken past launch → Retaken new launch
-  toward_piece past None bytes new toward here = takes_given toward.1 here
+  toward_piece past None bytes new toward here = some_given toward.1 here
   toward_piece past (Some launch) bytes new toward here = subst (λ h. Retaken h (Some launch)) (sym toward) here
 
   toward_item : (past : History) (launch : Option Launch) (item : Item) (event : Incoming) (new : History)
       → AreLawful (event ∷ []) → IsTaking
-      past → (MayTake past item new → Leads past (only_launch launch) event new (only_launch launch))
+      past → (MayTake past item new → LeadsByEvent past (only_launch launch) event new (only_launch launch))
       → (new ≡ past) ⊎ IsAfter past item new → Retaken past launch → IsRetaken new
   toward_item past launch item event new law taking leads (inl same) here =
       (launch, subst (λ h. Retaken h launch) (sym same) here)
@@ -269,7 +260,7 @@ module _ (laws : ReadingsGoOn) where
       (rest.launch, subst (λ h. Retaken h rest.launch) (sym same) here)
   toward_file past rest answer new taking (inr loads) here = (
     None,
-    takes_given loads.taken (load_given (subst (Retaken past) loads.waits here) loads.file loads.mid taking
+    some_given loads.taken (load_given (subst (Retaken past) loads.waits here) loads.file loads.mid taking
         loads.loaded),
   )
 

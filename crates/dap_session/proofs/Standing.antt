@@ -14,26 +14,26 @@ use Rattle.dap_history.specs.Readings.{closing, ending_of}
 use Rattle.dap_history.specs.ReadingLaws.{ReadingsGoOn}
 use Rattle.dap_history.specs.Emission.{IsAfter}
 use Rattle.dap_history.specs.Events as event
-use Rattle.dap_history.specs.Events.{Incoming, Rest, only_bytes, IsTaking, Takes, Rests, closed, open_ended, faulty, waits, TakesAll, Loads, LeadsByPiece, LeadsByFile, Leads, LeadsAll}
+use Rattle.dap_history.specs.Events.{Incoming, Rest, only_bytes, IsTaking, Takes, one_more, closed, open_ended, faulty, waits, Loads, LeadsByPiece, LeadsByFile, LeadsByEvent, Leads}
 use Rattle.dap_phase.specs.declared.phase.Phase.TheVariants as phase
 use Rattle.dap_phase.specs.Phases.{launch_of}
 use Rattle.dap_session.specs.declared.want.Want.{Want}
 use Rattle.dap_session.specs.declared.want.Want.TheVariants as want_is
 use Rattle.dap_session.specs.Ports.{Ports}
 use Rattle.dap_session.specs.State.{State, StandsFor, WantsHere, Wants}
-use Rattle.dap_session.specs.Taking.{TowardByPiece, LoadsToward, file_of, Toward, FailsAt, Comes}
-use Rattle.dap_session.specs.Handling.{Arrives, StopsOnTheWay, Handles}
+use Rattle.dap_session.specs.Taking.{TakesSome, no_content, one_content, TowardByPiece, LoadsToward, file_of, Toward, FailsAt, Comes, TakesEvent}
+use Rattle.dap_session.specs.Handling.{Arrives, StopsOnTheWay, Handles, NeededNoMemory, HandlesEvent}
 use Rattle.dap_session.proofs.Items.{ending_after}
 
 -- one event after others
 pub leads_one_more : (past : History) (rest : Rest) (events : List Incoming) (mid : History) (between : Rest)
     (event : Incoming) (new : History) (left : Rest)
-    → LeadsAll past rest events mid between → Leads mid between event new left
-    → LeadsAll past rest (events ++ event ∷ []) new left
+    → Leads past rest events mid between → LeadsByEvent mid between event new left
+    → Leads past rest (events ++ event ∷ []) new left
 leads_one_more past rest [] mid between event new left all leads = (
   new,
   left,
-  subst (λ h. Leads h rest event new left) all.0 (subst (λ b. Leads mid b event new left) all.1 leads),
+  subst (λ h. LeadsByEvent h rest event new left) all.0 (subst (λ b. LeadsByEvent mid b event new left) all.1 leads),
   (refl, refl),
 )
 leads_one_more past rest (e ∷ events) mid between event new left all leads =
@@ -50,31 +50,27 @@ ended laws past item ending new taking closes after still =
     ∙ ap ending_of (sym after.new_is) ∙ still in
     absurd cc
 
-toward_by_rests : ReadingsGoOn → (past : History) (bytes : List ℕ) (mid : History) (left : List ℕ) (new : History)
-    (rest : Rest) → Takes past bytes mid left → Rests mid left new rest → IsTaking new → (more : List ℕ)
-    × Takes past bytes new more
-toward_by_rests laws past bytes mid left new rest taken (closed not) still = (left, taken)
-toward_by_rests laws past bytes mid left new rest taken (open_ended taking open_) still = (left, taken)
-toward_by_rests laws past bytes mid left new rest taken (waits request launch more taking front wanted) still =
-    (left, taken)
-toward_by_rests laws past bytes mid left new rest taken (faulty k after_fault taking is after) still =
-    absurd (ended laws mid (Fault k) _ new taking refl after still)
-
-toward_by_all : ReadingsGoOn → (past : History) (bytes : List ℕ) (new : History) (rest : Rest)
-    → TakesAll past bytes new rest → IsTaking new → (more : List ℕ) × Takes past bytes new more
-toward_by_all laws past bytes new rest all still =
-    toward_by_rests laws past bytes all.mid all.left new rest all.taken all.rests still
+toward_by_contents : ReadingsGoOn → {past new : History} {bytes : List ℕ} {rest : Rest} → Takes past bytes new rest
+    → IsTaking new → (more : List ℕ) × TakesSome past bytes new more
+toward_by_contents laws (one_more request taking front unwanted after taken) still =
+    let next = toward_by_contents laws taken still in
+    (next.0, one_content request taking front unwanted after next.1)
+toward_by_contents laws {bytes = bytes} (closed not) still = (bytes, no_content)
+toward_by_contents laws {bytes = bytes} (open_ended taking open_) still = (bytes, no_content)
+toward_by_contents laws {past = past} (faulty k new taking is after) still =
+    absurd (ended laws past (Fault k) _ new taking refl after still)
+toward_by_contents laws {bytes = bytes} (waits request launch more taking front wanted) still = (bytes, no_content)
 
 toward_by_piece : ReadingsGoOn → (past : History) (launch : Option Launch) (bytes : List ℕ) (new : History)
     (left : Rest) → LeadsByPiece past launch bytes new left → IsTaking new → TowardByPiece past launch bytes new
-toward_by_piece laws past None bytes new left leads still = toward_by_all laws past bytes new left leads still
+toward_by_piece laws past None bytes new left leads still = toward_by_contents laws leads still
 toward_by_piece laws past (Some launch) bytes new left leads still = leads.0
 
 toward_by_loads : ReadingsGoOn → (past : History) (rest : Rest) (launch : Launch) (answer : Result (List ℕ) LoadFault)
     (file : Option (List ℕ)) (new : History) (left : Rest) → rest.launch ≡ Some launch → file_of answer ≡ Some file
     → Loads past launch file rest.bytes new left → IsTaking new → LoadsToward past rest answer new
 toward_by_loads laws past rest launch answer file new left is file_is loads still =
-    let taken = toward_by_all laws loads.mid rest.bytes new left loads.after still in
+    let taken = toward_by_contents laws loads.after still in
     record {
       launch =
           launch;
@@ -106,7 +102,7 @@ toward_by_file laws past rest (Some launch) (Err load_fault.NoMemory) new left i
     ]
 
 leads_toward : ReadingsGoOn → (past : History) (rest : Rest) (e : Incoming) (new : History) (left : Rest)
-    → IsTaking past → Leads past rest e new left → IsTaking new → Toward past rest e new
+    → IsTaking past → LeadsByEvent past rest e new left → IsTaking new → Toward past rest e new
 leads_toward laws past rest (event.Piece piece) new left taking leads still =
     toward_by_piece laws past rest.launch (rest.bytes ++ piece) new left leads still
 leads_toward laws past rest event.End new left taking leads still =
@@ -153,7 +149,7 @@ comes_of_stop RunnerGone events past rest e session old later stops = fails_at R
 comes_of_stop WriterGone events past rest e session old later stops = fails_at WriterGone past rest e old later stops
 
 -- the session gave up
-pub comes_of_fault : (fault : SessionFault) (events : List Incoming) (past : History) (e : Incoming)
+comes_of_fault : (fault : SessionFault) (events : List Incoming) (past : History) (e : Incoming)
     (start session last : State) (old later : Ports) (stands : StandsFor start events past)
     → Handles (Err fault) past stands.rest e session old later
     → Comes (Err fault) events past stands.rest e last old later
@@ -171,14 +167,16 @@ comes_of_fault fault events past e start session last old later stands (inr ends
     })
 
 -- The session came through the event. It asks for something next, or there was no memory to ask.
-pub comes_of_want : ReadingsGoOn → (result : Result Want SessionFault) (events : List Incoming) (past : History)
-    (e : Incoming) (start session : State) (old later : Ports) (stands : StandsFor start events past) → IsTaking past
-    → Arrives (Leads past stands.rest e) past session old later
+comes_of_want : ReadingsGoOn → (result : Result Want SessionFault) (events : List Incoming) (past : History)
+    (e : Incoming) (start session last : State) (old later : Ports) (stands : StandsFor start events past)
+    → IsTaking past
+    → Arrives (LeadsByEvent past stands.rest e) past session old later
     → IfOk result (λ want. Wants want session session.ending)
     → IfErr result (λ fault. (fault ≡ NoMemory) × (session.ending ≡ None))
-    → Comes result events past stands.rest e session old later
-comes_of_want laws (Ok want) events past e start session old later stands taking came wants lost =
-    record {
+    → ((want : Want) → result ≡ Ok want → last ≡ session)
+    → Comes result events past stands.rest e last old later
+comes_of_want laws (Ok want) events past e start session last old later stands taking came wants lost same =
+    rw (same want refl) (record {
       new = came.new;
       stands = record {
         rest = came.rest;
@@ -190,8 +188,8 @@ comes_of_want laws (Ok want) events past e start session old later stands taking
       sends = came.sends;
       refuses_nothing = came.refuses_nothing;
       wants = wants;
-    }
-comes_of_want laws (Err fault) events past e start session old later stands taking came wants lost =
+    })
+comes_of_want laws (Err fault) events past e start session last old later stands taking came wants lost same =
     rw lost.0 (record {
       mid = came.new;
       toward = leads_toward laws past stands.rest e came.new came.rest taking came.way (sym came.ending_is ∙ lost.1);
@@ -213,10 +211,59 @@ wants_file session path settings launch open_ launching spelled =
     (subst (λ p. WantsHere (want_is.File path) (launch_of p)) (sym launching) (path, refl, spelled))
 
 -- where no launch waits, nothing has to be made to ask for what comes next
-pub want_needs_none : (result : Result Want SessionFault) (session : State)
+want_needs_none : (result : Result Want SessionFault) (session : State)
     → (session.ending ≡ None → launch_of session.phase ≡ None)
     → IfErr result (λ fault. (fault ≡ NoMemory) × (session.ending ≡ None))
     → IfErr result (λ fault. launch_of session.phase ≢ None)
     → result ≢ Err NoMemory
 want_needs_none (Ok want) session free lost waits_ = λ e. absurd cc
 want_needs_none (Err fault) session free lost waits_ = λ e. absurd (waits_ (free lost.1))
+
+-- ---- the event is taken
+
+-- the same, of the history of the events that it stands for
+handled_from : (start session : State) (e : Incoming) (taken : Result (Unit {0}) SessionFault) (old later : Ports)
+    → start.ending ≡ None → HandlesEvent start e taken session old later → (events : List Incoming) (past : History)
+    (stands : StandsFor start events past) → Handles taken past stands.rest e session old later
+handled_from start session e taken old later open_ handled events past stands =
+    let taking : IsTaking past = sym stands.ending_is ∙ open_ in
+    handled.comes past stands.rest taking (stands.goes_on taking)
+
+-- with the result under another name
+pub takes_as : (start last : State) (e : Incoming) (result same : Result Want SessionFault) (old later : Ports)
+    → result ≡ same → TakesEvent start e result last old later → TakesEvent start e same last old later
+takes_as start last e result same old later is takes = subst (λ r. TakesEvent start e r last old later) is takes
+
+-- it gave up at the event
+pub takes_of_fault : (start session last : State) (e : Incoming) (taken : Result (Unit {0}) SessionFault)
+    (fault : SessionFault) (old later : Ports) → start.ending ≡ None → HandlesEvent start e taken session old later
+    → taken ≡ Err fault → TakesEvent start e (Err fault) last old later
+takes_of_fault start session last e taken fault old later open_ handled is = record {
+  comes = λ events past stands. comes_of_fault fault events past e start session last old later stands
+      (subst (λ t. Handles t past stands.rest e session old later) is
+      (handled_from start session e taken old later open_ handled events past stands));
+  no_memory = λ lacks.
+      let lost = sym is ∙ handled.no_memory lacks in
+      let same : fault ≡ NoMemory = cc in ap Err same;
+  enough = λ needs lost. (subst (λ t. NeededNoMemory t session) is (handled.enough needs)) cc;
+}
+
+-- it came through the event
+pub takes_of_want : ReadingsGoOn → (start session last : State) (e : Incoming) (taken : Result (Unit {0}) SessionFault)
+    (result : Result Want SessionFault) (old later : Ports) → start.ending ≡ None
+    → HandlesEvent start e taken session old later → taken ≡ Ok tt
+    → IfOk result (λ want. Wants want session session.ending)
+    → IfErr result (λ fault. (fault ≡ NoMemory) × (session.ending ≡ None))
+    → IfErr result (λ fault. launch_of session.phase ≢ None)
+    → ((want : Want) → result ≡ Ok want → last ≡ session)
+    → TakesEvent start e result last old later
+takes_of_want laws start session last e taken result old later open_ handled is wants lost waits_ same = record {
+  comes = λ events past stands. comes_of_want laws result events past e start session last old later stands
+      (sym stands.ending_is ∙ open_)
+      (subst (λ t. Handles t past stands.rest e session old later) is
+      (handled_from start session e taken old later open_ handled events past stands))
+      wants lost same;
+  no_memory = λ lacks. absurd (let never = sym is ∙ handled.no_memory lacks in cc);
+  enough = λ needs. want_needs_none result session (subst (λ t. NeededNoMemory t session) is (handled.enough needs))
+      lost waits_;
+}

@@ -14,13 +14,13 @@ use Rattle.dap_history.specs.History.{Item, Content, History}
 use Rattle.dap_history.specs.Readings.{situation, ending_of}
 use Rattle.dap_history.specs.Launching.{wanted_in}
 use Rattle.dap_history.specs.Emission.{IsAfter}
-use Rattle.dap_history.specs.Events.{Incoming, Rest, IsTaking, TakesAll, Leads}
+use Rattle.dap_history.specs.Events.{Incoming, Rest, IsTaking, Takes, LeadsByEvent}
 use Rattle.dap_phase.specs.Phases.{launch_of}
 use Rattle.dap_session.specs.Ports.{Ordered, Ports}
 use Rattle.dap_session.specs.Building.{IsNotPushed}
 use Rattle.dap_session.specs.Sending.{Sends, RefusesNothing, BreaksOff}
 use Rattle.dap_session.specs.State.{State, Knows, GoesOn}
-use Rattle.dap_session.specs.Taking.{TowardByPiece, Toward}
+use Rattle.dap_session.specs.Taking.{TowardByPiece, Toward, LacksMemory, Expects, NeedsNoMemory}
 
 -- The session is at this history: it has the history's ending, and until then its fields are the readings.
 pub record IsAt (session : State) (past : History) : Type 0 where
@@ -128,17 +128,26 @@ Goes (Err fault) leads toward past session old later =
 -- the same for the contents at the front of these bytes
 abbrev pub HandlesContents : Result (Unit {0}) SessionFault → History → List ℕ → State → Ports → Ports → Type 0
 HandlesContents result past bytes session old later =
-    Goes result (TakesAll past bytes) (TowardByPiece past None bytes) past session old later
+    Goes result (Takes past bytes) (TowardByPiece past None bytes) past session old later
 
 -- the same for an event
 abbrev pub Handles : Result (Unit {0}) SessionFault → History → Rest → Incoming → State → Ports → Ports → Type 0
 Handles result past rest event session old later =
-    Goes result (Leads past rest event) (Toward past rest event) past session old later
+    Goes result (LeadsByEvent past rest event) (Toward past rest event) past session old later
 
 -- No memory was needed to take the event, and none is needed to ask for the next.
 abbrev pub NeededNoMemory : Result (Unit {0}) SessionFault → State → Type 0
 NeededNoMemory (Ok u) session = session.ending ≡ None → launch_of session.phase ≡ None
 NeededNoMemory (Err fault) session = fault ≢ NoMemory
+
+-- The session, which goes on, handles the event with this result, at whatever history it is. Where memory was lacking
+-- for the event, the result is `NoMemory`; an event that needs none, and asking for the next, take none.
+pub record HandlesEvent (session : State) (event : Incoming) (result : Result (Unit {0}) SessionFault) (after : State)
+    (old later : Ports) : Type 0 where
+  pub comes : (past : History) (rest : Rest) → IsTaking past → GoesOn session past rest
+      → Handles result past rest event after old later
+  pub no_memory : LacksMemory event (launch_of session.phase) → result ≡ Err NoMemory
+  pub enough : NeedsNoMemory (launch_of session.phase) (Expects session.phase) event → NeededNoMemory result after
 
 -- a file as plain data
 abbrev pub plain_file : Result (Vec ℕ Global) LoadFault → Result (List ℕ) LoadFault

@@ -1,6 +1,7 @@
 -- Defines what one event that a session takes leads to.
-use Rattle.std.specs.Prelude.{◌≡◌, ◌⊎◌, ◌++◌, ◌∷◌, [], ℕ, List, Option, Some, None, Result, Ok, Err}
+use Rattle.std.specs.Prelude.{◌≡◌, ◌≢◌, ◌⊎◌, ◌++◌, ◌∷◌, [], ℕ, List, Option, Some, None, Result, Ok, Err}
 use Rattle.dap_frame.specs.declared.fault.FramingFault.{FramingFault}
+use Rattle.dap_msg.specs.declared.request.Request.{Request}
 use Rattle.dbg_runner.specs.Plain.{PlainReport, heading_of}
 use Rattle.dap_history.specs.declared.fault.SessionFault.{SessionFault}
 use Rattle.dap_history.specs.declared.fault.SessionFault.TheVariants.{Frame, NoMemory}
@@ -8,14 +9,16 @@ use Rattle.dap_history.specs.declared.fault.LoadFault.{LoadFault}
 use Rattle.dap_history.specs.declared.fault.LoadFault.TheVariants as load_fault
 use Rattle.dap_history.specs.declared.ending.Ending.TheVariants.{Fault}
 use Rattle.dap_history.specs.declared.launch.Launch.{Launch}
-use Rattle.dap_history.specs.History.{Item, Loaded, Accepted, InputEnd, ReadFailure, History}
-use Rattle.dap_history.specs.Readings.{ending_of}
+use Rattle.dap_history.specs.History.{Item, Content, Loaded, Accepted, InputEnd, ReadFailure, History}
+use Rattle.dap_history.specs.Readings.{situation, ending_of}
+use Rattle.dap_history.specs.Launching.{wanted_in}
 use Rattle.dap_history.specs.Reports.{Accepts}
 use Rattle.dap_history.specs.Emission.{IsAfter}
-use Rattle.dap_history.specs.Events.{Incoming, Piece, End, ReadFailed, File, Report, Rest, Takes, IsHistoryOf}
+use Rattle.dap_history.specs.Events.{Incoming, Piece, End, ReadFailed, File, Report, Rest, IsTaking, IsInFront, IsHistoryOf}
 use Rattle.dap_history.specs.Events.{NoMemory as NoMemoryCame}
 use Rattle.dap_phase.specs.declared.phase.Phase.{Phase}
 use Rattle.dap_phase.specs.declared.phase.Phase.TheVariants as phase
+use Rattle.dap_phase.specs.Phases.{launch_of}
 use Rattle.dap_phase.specs.Runs.{heading_in}
 use Rattle.dap_session.specs.declared.want.Want.{Want}
 use Rattle.dap_session.specs.Ports.{Ports}
@@ -24,9 +27,17 @@ use Rattle.dap_session.specs.State.{State, StandsFor, Wants}
 
 -- ---- how far an event was taken
 
+-- From the history `past`, some contents at the front of the bytes that want no file were taken one after another; the
+-- history is `new` then, and the bytes `left` remain.
+pub data TakesSome : History → List ℕ → History → List ℕ → Type 0 where
+  no_content : {past : History} {bytes : List ℕ} → TakesSome past bytes past bytes
+  one_content : {past mid new : History} {bytes more left : List ℕ} (request : Option Request) →
+      IsTaking past → IsInFront bytes request more → wanted_in (situation past) request ≡ None →
+      IsAfter past (Content request) mid → TakesSome mid more new left → TakesSome past bytes new left
+
 -- from `past`, some contents at the front of the bytes were taken, or none while a launch waits
 abbrev pub TowardByPiece : History → Option Launch → List ℕ → History → Type 0
-TowardByPiece past None bytes new = (left : List ℕ) × Takes past bytes new left
+TowardByPiece past None bytes new = (left : List ℕ) × TakesSome past bytes new left
 TowardByPiece past (Some launch) bytes new = new ≡ past
 
 -- what a launch is made with: the file's bytes, or none where it can't be read; nothing where there was no memory
@@ -45,7 +56,7 @@ pub record LoadsToward (past : History) (rest : Rest) (answer : Result (List ℕ
     pub mid : History
     pub loaded : IsAfter past (Loaded launch file) mid
     pub left : List ℕ
-    pub taken : Takes mid rest.bytes new left
+    pub taken : TakesSome mid rest.bytes new left
 
 -- From the history `past`, items of the event were taken in order, perhaps not all of them, which led to `new`.
 abbrev pub Toward : History → Rest → Incoming → History → Type 0
@@ -117,3 +128,12 @@ abbrev pub Comes : Result Want SessionFault → List Incoming → History → Re
 Comes (Ok want) events past rest event session old later = GoesWell events past event want session old later
 Comes (Err (Frame fault)) events past rest event session old later = EndsAt fault events past event old later
 Comes (Err fault) events past rest event session old later = FailsAt fault past rest event old later
+
+-- The session, which goes on, takes the event with this result. Whatever events it stands for, the result is what one
+-- more leads to. Where memory was lacking for the event it is `NoMemory`; an event that needs none never leads to that.
+pub record TakesEvent (session : State) (event : Incoming) (result : Result Want SessionFault) (after : State)
+    (old later : Ports) : Type 0 where
+  pub comes : (events : List Incoming) (past : History) (stands : StandsFor session events past)
+      → Comes result events past stands.rest event after old later
+  pub no_memory : LacksMemory event (launch_of session.phase) → result ≡ Err NoMemory
+  pub enough : NeedsNoMemory (launch_of session.phase) (Expects session.phase) event → result ≢ Err NoMemory

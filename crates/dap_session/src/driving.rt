@@ -1,13 +1,12 @@
 //! A whole session: the loop over its events.
 
-ghost use Rattle.std.specs.Prelude.{◌≡◌, ◌++◌, ◌∷◌, [], option_map, string_bytes};
+ghost use Rattle.std.specs.Prelude.{◌≡◌, ◌∷◌, [], option_map, string_bytes};
 ghost use Rattle.dap_history.specs.Events.{AreLawful};
 ghost use Rattle.dap_session.specs.Coming.{Sources, ComesFrom, sources};
 ghost use Rattle.dap_session.specs.Incoming.{incoming_of};
 ghost use Rattle.dap_session.specs.Ports.{ports};
 ghost use Rattle.dap_session.specs.Sending.{HasTriedQuit};
 ghost use Rattle.dap_session.specs.Serving.{Driven};
-ghost use Rattle.dap_session.specs.State.{StandsFor};
 
 use crate::ports::{Event, Inbox, Loader, OrderFault, Orders, Out};
 use crate::session::Session;
@@ -41,26 +40,6 @@ pub fn drive<I: Inbox, L: Loader, O: Out, D: Orders>(
     ensures orders { D.origin orders.new ≡ D.origin orders.old }
 {
     let mut session = Session::new(alloc);
-    take_all(rt, &mut session, inbox, loader, out, orders)
-}
-
-/// Takes events in a session that has taken none, until it is closed or gives up.
-fn take_all<I: Inbox, L: Loader, O: Out, D: Orders>(
-    rt: &impl Wait,
-    session: &mut Session,
-    inbox: &mut I,
-    loader: &mut L,
-    out: &mut O,
-    orders: &mut D,
-) -> Result<Closed, SessionFault>
-    requires { StandsFor session.old [] [] }
-    ensures driven { Driven result (I.given inbox.old) (I.given inbox.new) (L.loaded loader.old) (L.loaded loader.new)
-        (ports (O.seen out.old) (D.seen orders.old))
-        (ports (O.seen out.new) (D.seen orders.new)) }
-    ensures inbox { I.origin inbox.new ≡ I.origin inbox.old }
-    ensures out { O.origin out.new ≡ O.origin out.old }
-    ensures orders { D.origin orders.new ≡ D.origin orders.old }
-{
     let mut wanted = None;
     for _ in rt.forever() {
         let event = next_event(&wanted, inbox, loader);

@@ -41,18 +41,16 @@ impl Model for Session {
 }
 
 impl Session {
-    ghost use Rattle.std.specs.Prelude.{◌≡◌, ◌≢◌, [], List, Some, None, Err, IfOk, IfErr, OnOk};
+    ghost use Rattle.std.specs.Prelude.{◌≡◌, ◌≢◌, [], Some, None, IfOk, IfErr, OnOk};
     ghost use Rattle.dap_history.specs.declared.fault.SessionFault.TheVariants.{NoMemory};
     ghost use Rattle.dap_history.specs.declared.ending.Ending.{Ending as AnEnding};
     ghost use Rattle.dap_history.specs.declared.ending.Ending.TheVariants as ending;
-    ghost use Rattle.dap_history.specs.History.{History};
-    ghost use Rattle.dap_history.specs.Events.{Incoming, Rest, IsTaking};
     ghost use Rattle.dap_phase.specs.Phases.{launch_of};
     ghost use Rattle.dap_session.specs.Incoming.{incoming_of};
     ghost use Rattle.dap_session.specs.Ports.{ports};
-    ghost use Rattle.dap_session.specs.State.{StandsFor, GoesOn, IsOpenEnded, Wants, answer_of};
-    ghost use Rattle.dap_session.specs.Taking.{LacksMemory, Expects, NeedsNoMemory, Comes};
-    ghost use Rattle.dap_session.specs.Handling.{Handles, IsWell, NeededNoMemory};
+    ghost use Rattle.dap_session.specs.State.{StandsFor, IsOpenEnded, Wants, answer_of};
+    ghost use Rattle.dap_session.specs.Taking.{TakesEvent};
+    ghost use Rattle.dap_session.specs.Handling.{IsWell, HandlesEvent};
 
     /// Returns a session that has taken no event. It takes no memory.
     pub fn new(alloc: Global) -> Session
@@ -90,15 +88,10 @@ impl Session {
         out: &mut O,
         orders: &mut D,
     ) -> Result<Want, SessionFault>
-        // Whatever events the session stands for, this is what one more leads to.
-        ensures comes { self.old.ending ≡ None → (events : List Incoming) (past : History) (stands : StandsFor self.old events past) →
-            Comes result events past stands.rest (incoming_of event) self.new
+        ensures takes { self.old.ending ≡ None → TakesEvent self.old (incoming_of event) result self.new
             (ports (O.seen out.old) (D.seen orders.old))
             (ports (O.seen out.new) (D.seen orders.new)) }
         ensures failed { IfErr result (λ fault. self.new.ending ≡ Some (ending.Fault fault)) }
-        ensures no_memory { self.old.ending ≡ None → LacksMemory (incoming_of event) (launch_of self.old.phase) → result ≡ Err NoMemory }
-        // An event that needs no memory never leads to `NoMemory`.
-        ensures enough { self.old.ending ≡ None → NeedsNoMemory (launch_of self.old.phase) (Expects self.old.phase) (incoming_of event) → result ≢ Err NoMemory }
         // Once the session is closed or gave up, every call returns the same, and nothing changes.
         ensures answer { (over : AnEnding) → self.old.ending ≡ Some over → result ≡ answer_of over }
         ensures quiet { self.old.ending ≢ None → ports (O.seen out.new) (D.seen orders.new) ≡ ports (O.seen out.old) (D.seen orders.old) }
@@ -111,33 +104,15 @@ impl Session {
             Some(Ending::Closed(_)) => return Ok(Want::Closed),
             None => {}
         }
-        let result = self.go_on(event, out, orders);
+        reading_laws();
+        let result = match self.take_event(event, out, orders) {
+            Ok(()) => self.want(),
+            Err(fault) => Err(fault),
+        };
         if let Err(fault) = result {
             self.ending = Some(Ending::Fault(fault));
         }
         result
-    }
-
-    /// Takes an event in a session that hasn't ended, and returns what the session asks for next.
-    fn go_on<O: Out, D: Orders>(
-        &mut self,
-        event: Event,
-        out: &mut O,
-        orders: &mut D,
-    ) -> Result<Want, SessionFault>
-        requires { self.old.ending ≡ None }
-        ensures comes { (events : List Incoming) (past : History) (stands : StandsFor self.old events past) →
-            Comes result events past stands.rest (incoming_of event) self.new
-            (ports (O.seen out.old) (D.seen orders.old))
-            (ports (O.seen out.new) (D.seen orders.new)) }
-        ensures no_memory { LacksMemory (incoming_of event) (launch_of self.old.phase) → result ≡ Err NoMemory }
-        ensures enough { NeedsNoMemory (launch_of self.old.phase) (Expects self.old.phase) (incoming_of event) → result ≢ Err NoMemory }
-        ensures out { O.origin out.new ≡ O.origin out.old }
-        ensures orders { D.origin orders.new ≡ D.origin orders.old }
-    {
-        reading_laws();
-        self.take_event(event, out, orders)?;
-        self.want()
     }
 
     /// Takes an event in a session that hasn't ended.
@@ -148,12 +123,9 @@ impl Session {
         orders: &mut D,
     ) -> Result<(), SessionFault>
         requires { self.old.ending ≡ None }
-        ensures comes { (past : History) (rest : Rest) → IsTaking past → GoesOn self.old past rest →
-            Handles result past rest (incoming_of event) self.new
+        ensures handles { HandlesEvent self.old (incoming_of event) result self.new
             (ports (O.seen out.old) (D.seen orders.old))
             (ports (O.seen out.new) (D.seen orders.new)) }
-        ensures no_memory { LacksMemory (incoming_of event) (launch_of self.old.phase) → result ≡ Err NoMemory }
-        ensures enough { NeedsNoMemory (launch_of self.old.phase) (Expects self.old.phase) (incoming_of event) → NeededNoMemory result self.new }
         ensures well { OnOk result (IsWell self.new.ending) }
         ensures out { O.origin out.new ≡ O.origin out.old }
         ensures orders { D.origin orders.new ≡ D.origin orders.old }

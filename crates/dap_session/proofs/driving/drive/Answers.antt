@@ -1,6 +1,6 @@
 use Rattle.std.proofs.Common.{refl, ◌∙◌}
 use Rattle.dap_session.proofs.Driven.{way_goes_on, way_closes, way_fails, not_open_ended}
-use Rattle.dap_session.proofs.driving.take_all.Goals as goal
+use Rattle.dap_session.proofs.driving.drive.Goals as goal
 
 pub loop-preserved-in-Ok-Event : goal.loop-preserved-in-Ok-Event
 loop-preserved-in-Ok-Event g c = (
@@ -9,13 +9,7 @@ loop-preserved-in-Ok-Event g c = (
   c.take.ensures.orders ∙ c.loop.invariant.2,
   rw c.in-Ok-Event.field-0-is at (way_goes_on c.loop.session c.take.new.self _ c.in-Ok-Event.field-0 _ _ _ _ _ _ _
       c.loop.invariant.3 c.next_event-event.ensures.from c.next_event-event.ensures.lawful
-      (record {
-        comes =
-            c.in-Ok-Event.ensures.comes c.loop.invariant.3.open_ended;
-        no_memory = c.in-Ok-Event.ensures.no_memory
-            c.loop.invariant.3.open_ended;
-        enough = c.in-Ok-Event.ensures.enough c.loop.invariant.3.open_ended;
-      })
+      (c.in-Ok-Event.ensures.takes c.loop.invariant.3.open_ended)
       (λ e. let f = c.in-Ok-Event.field-0-is in cc)),
 )
 
@@ -26,13 +20,7 @@ loop-preserved g c = (
   c.take.ensures.orders ∙ c.loop.invariant.2,
   rw c.in-Ok-File.field-0-is at (way_goes_on c.loop.session c.take.new.self _ c.in-Ok-File.field-0 _ _ _ _ _ _ _
       c.loop.invariant.3 c.next_event-event.ensures.from c.next_event-event.ensures.lawful
-      (record {
-        comes =
-            c.in-Ok-File.ensures.comes c.loop.invariant.3.open_ended;
-        no_memory = c.in-Ok-File.ensures.no_memory
-            c.loop.invariant.3.open_ended;
-        enough = c.in-Ok-File.ensures.enough c.loop.invariant.3.open_ended;
-      })
+      (c.in-Ok-File.ensures.takes c.loop.invariant.3.open_ended)
       (λ e. let f = c.in-Ok-File.field-0-is in cc)),
 )
 
@@ -40,30 +28,18 @@ pub returns-in-Some-closed-clause-driven : goal.returns-in-Some-closed-clause-dr
 returns-in-Some-closed-clause-driven g c =
     way_closes c.loop.session c.take.new.self _ c.in-Ok-Closed.field-0 _ _ _ _ _ _ _ c.in-Some-closed.closed
     c.loop.invariant.3 c.next_event-event.ensures.from c.next_event-event.ensures.lawful
-    (record {
-      comes =
-          c.in-Ok-Closed.ensures.comes c.loop.invariant.3.open_ended;
-      no_memory = c.in-Ok-Closed.ensures.no_memory
-          c.loop.invariant.3.open_ended;
-      enough = c.in-Ok-Closed.ensures.enough c.loop.invariant.3.open_ended;
-    })
+    (c.in-Ok-Closed.ensures.takes c.loop.invariant.3.open_ended)
     c.in-Some-closed.ensures
 
 pub unreachable-requires : goal.unreachable-requires
 unreachable-requires g c =
     not_open_ended c.take.new.self c.take.new.self.ending c.in-Ok-Closed.field-0 refl c.in-Ok-Closed.field-0-is
-    (c.in-Ok-Closed.ensures.comes c.loop.invariant.3.open_ended c.loop.invariant.3.events c.loop.invariant.3.past
-    c.loop.invariant.3.stands).wants c.in-None-closed.ensures
+    ((c.in-Ok-Closed.ensures.takes c.loop.invariant.3.open_ended).comes c.loop.invariant.3.events
+    c.loop.invariant.3.past c.loop.invariant.3.stands).wants c.in-None-closed.ensures
 
 pub returns-in-Err-clause-driven : goal.returns-in-Err-clause-driven
 returns-in-Err-clause-driven g c =
     way_fails c.loop.session c.take.new.self _ c.in-Err.fault _ _ _ _ _ _ _ _ c.loop.invariant.3
     c.next_event-event.ensures.from c.next_event-event.ensures.lawful
-    (record {
-      comes =
-          c.in-Err.ensures.comes c.loop.invariant.3.open_ended;
-      no_memory = c.in-Err.ensures.no_memory
-          c.loop.invariant.3.open_ended;
-      enough = c.in-Err.ensures.enough c.loop.invariant.3.open_ended;
-    })
+    (c.in-Err.ensures.takes c.loop.invariant.3.open_ended)
     (record { frames_are = refl; refused_are = refl; quit = c.try_quit.ensures.quit })
