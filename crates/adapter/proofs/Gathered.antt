@@ -35,7 +35,7 @@ use Rattle.byte_streams.specs.Streams.{Supply, Output, WritesAll}
 use Rattle.dap_wires.specs.Writing.{IsWrittenUntil}
 use Rattle.dap_wires.proofs.Sending.{client_append, frames_append}
 use Rattle.adapter.specs.Jobs.{Drove}
-use Rattle.adapter.specs.Serving.{Streams, input_of, output_of, nothing_sent, Writes, TakesAllSent, TakesAllOrders, IsDriven}
+use Rattle.adapter.specs.Serving.{World, input_of, output_of, nothing_sent, Writes, TakenOfSent, TakenOfPushed, IsDriven}
 
 -- ---- lists
 
@@ -255,7 +255,7 @@ takes_client : (result : Result Closed SessionFault) (events given client : List
     (sent : Ports) (end : ReadEnd) (old later : Supply)
     → Drives events given loads nothing_sent sent result → IsReadUntil end client old later
     → Begins (from_client given) client
-    → TakesAllSent result (from_client given) client
+    → TakenOfSent result (from_client given) client
 takes_client (Ok closed.Disconnected) events given client loads sent end old later drives read begins = begins
 takes_client (Ok closed.InputEnded) events given client loads sent end old later (closes from serves) read begins =
     let by = closed_by_end events serves.past serves.rest serves.history serves.ending_is in
@@ -285,27 +285,26 @@ takes_orders : (result : Result Closed SessionFault) (events given : List Incomi
     (acts : List Act)
     → Drives events given loads nothing_sent sent result → Leads Idle acts Ended
     → Begins (flat_map order_in acts) sent.orders
-    → TakesAllOrders result acts sent.orders
+    → TakenOfPushed result acts sent.orders
 takes_orders (Ok by) events given loads sent acts (closes from serves) leads begins =
     all_orders events (ending.Closed by) sent acts serves begins (ends_by acts leads)
 takes_orders (Err fault) events given loads sent acts drives leads begins = begins
 
 -- Nothing was taken, put or pushed when all began.
 pub gathers : (wrote : Result (Unit {0}) WriteFailed) (result : Result Closed SessionFault)
-    (loads later_loads : List Load) (passed later_passed : List (ℕ × ℕ)) (old later : Streams)
+    (before after : World)
     (given : List Incoming) (put : List WriterMessage) (pushed : Ordered) (end : ReadEnd) (client : List Incoming)
     (acts : List Act) (reports : List PlainReport) (orders : List PlainOrder) (taken : List WriterMessage)
-    → Drove result [] given loads later_loads nothing_sent put pushed
-    → IsReadUntil end client (input_of old) (input_of later) → Begins (from_client given) client
+    → Drove result [] given before.loads after.loads nothing_sent put pushed
+    → IsReadUntil end client (input_of before.streams) (input_of after.streams) → Begins (from_client given) client
     → Leads Idle acts Ended → orders ≡ flat_map order_in acts → reports ≡ flat_map sent_in acts
     → Begins orders pushed.orders → (pushed.fulls ≢ 0 → FourWereInside pushed.orders)
     → Begins (reports_among given) reports
-    → later_passed ≡ passed ++ flat_map passed_in acts
-    → IsWrittenUntil wrote taken (output_of old) (output_of later) → Begins taken put
-    → IsDriven wrote result loads later_loads passed later_passed old later
-gathers wrote result loads later_loads passed later_passed old later given put pushed end client acts reports orders
-    taken drove read client_taken leads orders_are reports_are orders_taken four reports_taken gate_passed written
-    put_taken =
+    → after.passed ≡ before.passed ++ flat_map passed_in acts
+    → IsWrittenUntil wrote taken (output_of before.streams) (output_of after.streams) → Begins taken put
+    → IsDriven wrote result before after
+gathers wrote result before after given put pushed end client acts reports orders taken
+    drove read client_taken leads orders_are reports_are orders_taken four reports_taken gate_passed written put_taken =
     let d = drove.driven in
     let drives : Drives d.events given d.loads nothing_sent drove.later result =
     subst (λ g. Drives d.events g d.loads nothing_sent drove.later result) (sym d.given_are) d.drives in
@@ -313,33 +312,41 @@ gathers wrote result loads later_loads passed later_passed old later given put p
     subst (λ o. Begins o drove.later.orders) orders_are (subst (λ o. Begins orders o) drove.orders_are orders_taken)
     in
     record {
-      events = d.events;
       given = given;
-      loaded = d.loads;
       sent = drove.later;
-      lawful = d.lawful;
-      drives = drives;
-      loads_are = d.loads_are;
-      never_gone = drove.never_gone;
-      full = λ is. subst FourWereInside drove.orders_are
-          (four (λ none. found_full d.events given d.loads drove.later
-          (subst (λ r. Drives d.events given d.loads nothing_sent drove.later r) is drives)
-          (sym drove.fulls_are ∙ none)));
-      writer_gone = λ is. write_fails wrote taken put (output_of old) (output_of later) put_taken
-          (drove.refused (found_gone d.events given d.loads drove.later
-          (subst (λ r. Drives d.events given d.loads nothing_sent drove.later r) is drives))) written;
-      end = end;
-      client = client;
-      read = read;
-      client_taken =
-          takes_client result d.events given client d.loads drove.later end (input_of old) (input_of later) drives read
-          client_taken;
-      acts = acts;
-      worked = leads;
-      orders_taken = takes_orders result d.events given d.loads drove.later acts drives leads begins;
-      reports_taken = subst (λ r. Begins (reports_among given) r) reports_are reports_taken;
-      gate_passed = gate_passed;
-      written =
-          writes_frames wrote taken put drove.later.frames (output_of old) (output_of later) put_taken drove.frames_are
-          drove.ended written;
+      session = record {
+        events = d.events;
+        loaded = d.loads;
+        lawful = d.lawful;
+        drives = drives;
+        loads_are = d.loads_are;
+        never_gone = drove.never_gone;
+        full = λ is. subst FourWereInside drove.orders_are
+            (four (λ none. found_full d.events given d.loads drove.later
+            (subst (λ r. Drives d.events given d.loads nothing_sent drove.later r) is drives)
+            (sym drove.fulls_are ∙ none)));
+      };
+      reader = record {
+        end = end;
+        client = client;
+        read = read;
+        client_taken =
+            takes_client result d.events given client d.loads drove.later end (input_of before.streams)
+            (input_of after.streams) drives read client_taken;
+      };
+      runner = record {
+        acts = acts;
+        worked = leads;
+        orders_taken = takes_orders result d.events given d.loads drove.later acts drives leads begins;
+        reports_taken = subst (λ r. Begins (reports_among given) r) reports_are reports_taken;
+        gate_passed = gate_passed;
+      };
+      writer = record {
+        written =
+            writes_frames wrote taken put drove.later.frames (output_of before.streams) (output_of after.streams)
+            put_taken drove.frames_are drove.ended written;
+        writer_gone = λ is. write_fails wrote taken put (output_of before.streams) (output_of after.streams) put_taken
+            (drove.refused (found_gone d.events given d.loads drove.later
+            (subst (λ r. Drives d.events given d.loads nothing_sent drove.later r) is drives))) written;
+      };
     }

@@ -1,5 +1,5 @@
 -- What of the input a session took, by what closed it.
-use Rattle.std.proofs.Common.{◌≡◌, ◌⊎◌, inl, inr, ℕ, true, false, Bool, true≢false, List, [], ◌∷◌, ◌++◌, Option, None, Some, Ok, refl, sym, ap, ◌∙◌, subst, append_assoc, append-nil}
+use Rattle.std.proofs.Common.{◌≡◌, inl, inr, ℕ, true, false, Bool, true≢false, List, [], ◌∷◌, ◌++◌, Option, None, Some, Ok, refl, sym, ap, ◌∙◌, subst, append_assoc, append-nil}
 use Rattle.std.specs.Prelude.{map}
 use Rattle.std.specs.Io.KnownBytes.{Consumes, IsAtEnd}
 use Rattle.dap_msg.specs.declared.command.Command.{Command}
@@ -26,7 +26,7 @@ use Rattle.dap_wires.specs.Transfer.{IsRead, AreRead}
 use Rattle.dap_wires.proofs.Sending.{client_append}
 use Rattle.byte_streams.specs.Streams.{Supply}
 use Rattle.adapter.specs.Laws.{TakesWholeInput, InputIsTakenWhole, AsksToDisconnect, TakesFirstDisconnect, FirstDisconnectCloses}
-use Rattle.adapter.specs.Serving.{nothing_sent, input_of}
+use Rattle.adapter.specs.Serving.{nothing_sent, input_of, SessionSends}
 use Rattle.adapter.proofs.Gathered.{last_one, last_sent}
 
 -- ---- bytes left
@@ -252,14 +252,18 @@ module _ (events given client : List Incoming) (loads : List Load) (end : ReadEn
           ∙ client_stream parts.first ∙ parts.before
 
 pub input_taken_whole : InputIsTakenWhole
-input_taken_whole wrote loads later_loads passed later_passed old later driven = by_drives driven.drives
+input_taken_whole wrote before after driven = by_drives session.drives
   where
-    by_drives : Drives driven.events driven.given driven.loaded nothing_sent driven.sent (Ok closed.InputEnded)
-        → TakesWholeInput driven.events (input_of old) (input_of later)
+    session : SessionSends (Ok closed.InputEnded) driven.given driven.sent before.loads after.loads
+    session = driven.session
+
+    by_drives : Drives session.events driven.given session.loaded nothing_sent driven.sent (Ok closed.InputEnded)
+        → TakesWholeInput session.events (input_of before.streams) (input_of after.streams)
     by_drives (closes from serves) =
-        let by = closed_by_end driven.events serves.past serves.rest serves.history serves.ending_is in
-        whole_input driven.events driven.given driven.client driven.loaded driven.end (input_of old) (input_of later)
-        from driven.read driven.client_taken by.0 by.1 by.2
+        let by = closed_by_end session.events serves.past serves.rest serves.history serves.ending_is in
+        whole_input session.events driven.given driven.reader.client session.loaded driven.reader.end
+        (input_of before.streams) (input_of after.streams)
+        from driven.reader.read driven.reader.client_taken by.0 by.1 by.2
 
 -- ---- closed by a `disconnect`
 
@@ -363,11 +367,14 @@ module _ (last : DisconnectIsLast) (events given client : List Incoming) (loads 
           (last events past rest history closer.front closer.found closer.back asks.0 closer.are asks.1).0
 
 pub first_disconnect_closes : DisconnectIsLast → FirstDisconnectCloses
-first_disconnect_closes last wrote loads later_loads passed later_passed old later driven = by_drives driven.drives
+first_disconnect_closes last wrote before after driven = by_drives session.drives
   where
-    by_drives : Drives driven.events driven.given driven.loaded nothing_sent driven.sent (Ok closed.Disconnected)
-        → TakesFirstDisconnect driven.events (input_of old) (input_of later)
+    session : SessionSends (Ok closed.Disconnected) driven.given driven.sent before.loads after.loads
+    session = driven.session
+
+    by_drives : Drives session.events driven.given session.loaded nothing_sent driven.sent (Ok closed.Disconnected)
+        → TakesFirstDisconnect session.events (input_of before.streams) (input_of after.streams)
     by_drives (closes from serves) =
-        first_disconnect last driven.events driven.given driven.client driven.loaded driven.end (input_of old)
-        (input_of later) from driven.read driven.client_taken
+        first_disconnect last session.events driven.given driven.reader.client session.loaded driven.reader.end
+        (input_of before.streams) (input_of after.streams) from driven.reader.read driven.reader.client_taken
         serves.past serves.rest serves.history serves.ending_is

@@ -42,7 +42,7 @@ use Rattle.dap_session.specs.Sending.{Begins}
 use Rattle.dap_session.specs.Serving.{Drives, closes}
 use Rattle.dap_wires.specs.Senders.{reports_among}
 use Rattle.adapter.specs.Laws.{RunsEndOnce, IsCutShort}
-use Rattle.adapter.specs.Serving.{nothing_sent, TakesAllOrders}
+use Rattle.adapter.specs.Serving.{nothing_sent, TakenOfPushed, SessionSends}
 use Rattle.adapter.proofs.RunNumbers.{NumberedFrom, last_from, numbered_acts, last_is, NoEnd, no_end_front, cut_how, IsCutByGo, IsEndless, cut_run}
 
 -- ---- which runs have ended
@@ -361,7 +361,7 @@ numbered_front n [] ys are = tt
 numbered_front n (run ∷ xs) ys are = (are.0, numbered_front (n + 1) xs ys are.1)
 
 -- the runner took the first of the orders, or all
-takes_first : (by : Closed) (acts : List Act) (pushed : List PlainOrder) → TakesAllOrders (Ok by) acts pushed
+takes_first : (by : Closed) (acts : List Act) (pushed : List PlainOrder) → TakenOfPushed (Ok by) acts pushed
     → Begins (flat_map order_in acts) pushed
 takes_first by acts pushed (inl all) = ([], append-nil (flat_map order_in acts) ∙ all)
 takes_first by acts pushed (inr some) = some.0
@@ -400,32 +400,35 @@ module _ (events given : List Incoming) (loads : List Load) (past : History) (re
       (ended.each n endless.first (let below = endless.not_last in omega (arith, below, taken_runs)))
 
 pub runs_end_once : RunsHaveOneLast → RunsAreReported → RunsEndOnce
-runs_end_once one_last reported by wrote loads later_loads passed later_passed old later driven before act after h
-    acts_are takes = (
-      (reported before act after h Ended worked takes).2,
-      by_end (one_last before act after h worked takes),
-    )
+runs_end_once one_last reported by wrote before after driven front act back h acts_are takes =
+    ((reported front act back h Ended worked takes).2, by_end (one_last front act back h worked takes))
   where
-    worked : Leads Idle (before ++ act ∷ after) Ended
-    worked = subst (λ l. Leads Idle l Ended) acts_are driven.worked
+    session : SessionSends (Ok by) driven.given driven.sent before.loads after.loads
+    session = driven.session
 
-    by_drives : Drives driven.events driven.given driven.loaded nothing_sent driven.sent (Ok by) → ¬ IsCutByGo after
+    acts : List Act
+    acts = driven.runner.acts
+
+    worked : Leads Idle (front ++ act ∷ back) Ended
+    worked = subst (λ l. Leads Idle l Ended) acts_are driven.runner.worked
+
+    by_drives : Drives session.events driven.given session.loaded nothing_sent driven.sent (Ok by) → ¬ IsCutByGo back
     by_drives (closes from serves) cut =
-        not_endless driven.events driven.given driven.loaded serves.past serves.rest driven.acts from serves.history
-        orders driven.reports_taken h.run
+        not_endless session.events driven.given session.loaded serves.past serves.rest acts from serves.history
+        orders driven.runner.reports_taken h.run
         (subst (IsEndless h.run) (sym acts_are)
-        (cut_run before act h Ended after takes cut worked (subst (NumberedFrom 0) acts_are
-        (numbered driven.events driven.given driven.loaded serves.past serves.rest driven.acts from serves.history
-        orders driven.reports_taken))))
+        (cut_run front act h Ended back takes cut worked (subst (NumberedFrom 0) acts_are
+        (numbered session.events driven.given session.loaded serves.past serves.rest acts from serves.history
+        orders driven.runner.reports_taken))))
       where
-        orders : Begins (flat_map order_in driven.acts) (orders_of serves.past)
-        orders = subst (Begins (flat_map order_in driven.acts)) serves.orders_are
-            (takes_first by driven.acts driven.sent.orders driven.orders_taken)
+        orders : Begins (flat_map order_in acts) (orders_of serves.past)
+        orders = subst (Begins (flat_map order_in acts)) serves.orders_are
+            (takes_first by acts driven.sent.orders driven.runner.orders_taken)
 
-    by_cut : IsCutShort after ⊎ IsCutByGo after → HasLast (reports_of_run after) ⊎ IsCutShort after
+    by_cut : IsCutShort back ⊎ IsCutByGo back → HasLast (reports_of_run back) ⊎ IsCutShort back
     by_cut (inl is) = inr is
-    by_cut (inr is) = absurd (by_drives driven.drives is)
+    by_cut (inr is) = absurd (by_drives session.drives is)
 
-    by_end : HasLast (reports_of_run after) ⊎ IsCut after → HasLast (reports_of_run after) ⊎ IsCutShort after
+    by_end : HasLast (reports_of_run back) ⊎ IsCut back → HasLast (reports_of_run back) ⊎ IsCutShort back
     by_end (inl last) = inl last
     by_end (inr cut) = by_cut (cut_how cut)

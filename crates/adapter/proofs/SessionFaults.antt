@@ -1,5 +1,5 @@
 -- Which faults of a session are answered, and where.
-use Rattle.std.proofs.Common.{◌≡◌, ◌≢◌, ◌<◌, ◌⊎◌, true, false, true≢false, Result, Ok, Err, refl, sym, ap, ◌∙◌, subst}
+use Rattle.std.proofs.Common.{◌≡◌, true, false, true≢false, Result, Ok, Err, refl, sym, ap, ◌∙◌, subst}
 use Rattle.std.specs.Result.{is_err}
 use Rattle.dap_history.specs.declared.fault.SessionFault.{SessionFault}
 use Rattle.dap_history.specs.declared.fault.SessionFault.TheVariants.{OrdersFull, RunnerGone, WriterGone}
@@ -23,24 +23,27 @@ answers (Ok done) (Ok closed.ReadFailed) fault is = absurd cc
 answers (Ok done) (Err f) fault is = (refl, let same : f ≡ fault = cc in ap Err same)
 
 pub nobody_is_gone : NobodyIsGone
-nobody_is_gone outcome loads later_loads passed later_passed old later (drove wrote result is driven) = (
-  λ gone. let a = answers wrote result WriterGone (sym is ∙ gone) in true≢false (sym (driven.writer_gone a.1) ∙ a.0),
+nobody_is_gone outcome before after (drove wrote result is driven) = (
+  λ gone.
+      let a = answers wrote result WriterGone (sym is ∙ gone) in
+      true≢false (sym (driven.writer.writer_gone a.1) ∙ a.0),
   λ gone.
       let a = answers wrote result RunnerGone (sym is ∙ gone) in
-      found_runner_gone driven.events driven.given driven.loaded driven.sent
-      (subst (λ r. Drives driven.events driven.given driven.loaded nothing_sent driven.sent r) a.1 driven.drives)
-      driven.never_gone,
+      let session = driven.session in
+      found_runner_gone session.events driven.given session.loaded driven.sent
+      (subst (λ r. Drives session.events driven.given session.loaded nothing_sent driven.sent r) a.1 session.drives)
+      session.never_gone,
 )
-nobody_is_gone outcome loads later_loads passed later_passed old later (had_no_memory is same same_loads same_passed) =
+nobody_is_gone outcome before after (had_no_memory is same) =
     (λ gone. let e = sym is ∙ gone in absurd cc, λ gone. let e = sym is ∙ gone in absurd cc)
-nobody_is_gone outcome loads later_loads passed later_passed old later (had_no_thread is) =
+nobody_is_gone outcome before after (had_no_thread is) =
     (λ gone. let e = sym is ∙ gone in absurd cc, λ gone. let e = sym is ∙ gone in absurd cc)
 
 pub full_is_four : FullIsFour
-full_is_four loads later_loads passed later_passed old later (drove wrote result is driven) =
+full_is_four before after (drove wrote result is driven) =
     let a = answers wrote result OrdersFull (sym is) in
-    let four : IsDriven wrote (Err OrdersFull) loads later_loads passed later_passed old later =
-    subst (λ r. IsDriven wrote r loads later_loads passed later_passed old later) a.1 driven in
-    record { wrote = wrote; driven = four; four = four.full refl }
-full_is_four loads later_loads passed later_passed old later (had_no_memory is same same_loads same_passed) = absurd cc
-full_is_four loads later_loads passed later_passed old later (had_no_thread is) = absurd cc
+    let four : IsDriven wrote (Err OrdersFull) before after =
+    subst (λ r. IsDriven wrote r before after) a.1 driven in
+    record { wrote = wrote; driven = four; four = four.session.full refl }
+full_is_four before after (had_no_memory is same) = absurd cc
+full_is_four before after (had_no_thread is) = absurd cc

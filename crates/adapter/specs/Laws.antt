@@ -10,7 +10,6 @@ use Rattle.dap_history.specs.declared.ending.Closed.TheVariants as closed
 use Rattle.dap_history.specs.declared.fault.SessionFault.TheVariants.{OrdersFull, RunnerGone, WriterGone}
 use Rattle.dap_history.specs.History.{Item, Content, Step, History}
 use Rattle.dap_history.specs.Events.{Incoming, End, Rest, IsHistoryOf}
-use Rattle.dap_history.specs.Interleaving.{Load}
 use Rattle.dap_history.specs.Laws.{stream_of}
 use Rattle.dap_session.specs.Sending.{Begins}
 use Rattle.dap_wires.specs.declared.writing.WriteFailed.{WriteFailed}
@@ -19,7 +18,7 @@ use Rattle.byte_streams.specs.Streams.{Supply}
 use Rattle.adapter.specs.declared.serving.Served.{Served}
 use Rattle.adapter.specs.declared.serving.ServeFault.{ServeFault}
 use Rattle.adapter.specs.declared.serving.ServeFault.TheVariants.{Session}
-use Rattle.adapter.specs.Serving.{Streams, input_of, IsDriven, IsServed}
+use Rattle.adapter.specs.Serving.{World, input_of, IsDriven, IsServed}
 
 -- ---- The input
 
@@ -35,10 +34,9 @@ pub record TakesWholeInput (events : List Incoming) (old later : Supply) : Type 
 -- A session that the input's end closed has taken the whole input.
 abbrev pub InputIsTakenWhole : Type 0
 InputIsTakenWhole =
-    (wrote : Result (Unit {0}) WriteFailed) (loads later_loads : List Load) (passed later_passed : List (ℕ × ℕ))
-    (old later : Streams)
-    → (driven : IsDriven wrote (Ok closed.InputEnded) loads later_loads passed later_passed old later)
-    → TakesWholeInput driven.events (input_of old) (input_of later)
+    (wrote : Result (Unit {0}) WriteFailed) (before after : World)
+    → (driven : IsDriven wrote (Ok closed.InputEnded) before after)
+    → TakesWholeInput driven.session.events (input_of before.streams) (input_of after.streams)
 
 -- a request to disconnect
 abbrev pub AsksToDisconnect : Item → Type 0
@@ -61,10 +59,9 @@ pub record TakesFirstDisconnect (events : List Incoming) (old later : Supply) : 
 -- A session that a `disconnect` closed has taken the input up to the first one.
 abbrev pub FirstDisconnectCloses : Type 0
 FirstDisconnectCloses =
-    (wrote : Result (Unit {0}) WriteFailed) (loads later_loads : List Load) (passed later_passed : List (ℕ × ℕ))
-    (old later : Streams)
-    → (driven : IsDriven wrote (Ok closed.Disconnected) loads later_loads passed later_passed old later)
-    → TakesFirstDisconnect driven.events (input_of old) (input_of later)
+    (wrote : Result (Unit {0}) WriteFailed) (before after : World)
+    → (driven : IsDriven wrote (Ok closed.Disconnected) before after)
+    → TakesFirstDisconnect driven.session.events (input_of before.streams) (input_of after.streams)
 
 -- ---- Runs
 
@@ -78,34 +75,27 @@ pub data IsCutShort : List Act → Type 0 where
 -- last, unless it was cut short. No run cuts another.
 abbrev pub RunsEndOnce : Type 0
 RunsEndOnce =
-    (by : Closed) (wrote : Result (Unit {0}) WriteFailed) (loads later_loads : List Load)
-    (passed later_passed : List (ℕ × ℕ)) (old later : Streams)
-    → (driven : IsDriven wrote (Ok by) loads later_loads passed later_passed old later)
-    → (before : List Act) (act : Act) (after : List Act) (h : Heading) → driven.acts ≡ before ++ act ∷ after
+    (by : Closed) (wrote : Result (Unit {0}) WriteFailed) (before after : World)
+    → (driven : IsDriven wrote (Ok by) before after)
+    → (front : List Act) (act : Act) (back : List Act) (h : Heading) → driven.runner.acts ≡ front ++ act ∷ back
     → taken_by act ≡ Some (Go h)
-    → AllButLastGoOn (reports_of_run after) × (HasLast (reports_of_run after) ⊎ IsCutShort after)
+    → AllButLastGoOn (reports_of_run back) × (HasLast (reports_of_run back) ⊎ IsCutShort back)
 
 -- ---- Faults of the session
 
 -- `serve` never returns the fault that nobody takes frames or orders any more.
 abbrev pub NobodyIsGone : Type 0
 NobodyIsGone =
-    (outcome : Result Served ServeFault) (loads later_loads : List Load) (passed later_passed : List (ℕ × ℕ))
-    (old later : Streams)
-    → IsServed outcome loads later_loads passed later_passed old later
+    (outcome : Result Served ServeFault) (before after : World) → IsServed outcome before after
     → (outcome ≢ Err (Session WriterGone)) × (outcome ≢ Err (Session RunnerGone))
 
 -- The session gave up since the queue of orders was full, and four of the orders that it pushed had been inside
 -- together.
-pub record FindsFour (loads later_loads : List Load) (passed later_passed : List (ℕ × ℕ)) (old later : Streams) : Type 0
-  where
-    pub wrote : Result (Unit {0}) WriteFailed
-    pub driven : IsDriven wrote (Err OrdersFull) loads later_loads passed later_passed old later
-    pub four : FourWereInside driven.sent.orders
+pub record FindsFour (before after : World) : Type 0 where
+  pub wrote : Result (Unit {0}) WriteFailed
+  pub driven : IsDriven wrote (Err OrdersFull) before after
+  pub four : FourWereInside driven.sent.orders
 
 -- `serve` returns the fault that the queue of orders was full only where four orders were inside together.
 abbrev pub FullIsFour : Type 0
-FullIsFour =
-    (loads later_loads : List Load) (passed later_passed : List (ℕ × ℕ)) (old later : Streams)
-    → IsServed (Err (Session OrdersFull)) loads later_loads passed later_passed old later
-    → FindsFour loads later_loads passed later_passed old later
+FullIsFour = (before after : World) → IsServed (Err (Session OrdersFull)) before after → FindsFour before after

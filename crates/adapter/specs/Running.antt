@@ -14,14 +14,14 @@ use Rattle.adapter.specs.Arguments.{Reads, IsParsed, refusals}
 use Rattle.adapter.specs.Checking.{IsChecked}
 use Rattle.adapter.specs.ExitReasons.{reason_of_serve, reason_of_check, last_line}
 use Rattle.adapter.specs.Listing.{line_feed}
-use Rattle.adapter.specs.Serving.{Streams, output_of, IsServed}
+use Rattle.adapter.specs.Serving.{Streams, world, output_of, IsServed}
 use Rattle.byte_streams.specs.Streams.{Output, WritesAll, FailsIn, Says}
 
 -- A client was served, through a gate that nothing had passed, and the reason says how that went.
 pub record EndsServing (reason : ExitReason) (loads later_loads : List Load) (old later : Streams) : Type 0 where
   pub outcome : Result Served ServeFault
   pub passed : List (ℕ × ℕ)
-  pub served : IsServed outcome loads later_loads [] passed old later
+  pub served : IsServed outcome (world loads [] old) (world later_loads passed later)
   pub reason_is : reason ≡ reason_of_serve outcome
 
 -- nothing was read

@@ -36,6 +36,16 @@ abbrev pub streams : Option (List ℕ) → ℕ → Option (List ℕ) → ℕ →
 streams left read_failures written write_failures =
     record { left = left; written = written; read_failures = read_failures; write_failures = write_failures }
 
+-- What stands outside of a run, at one moment: what the loader was asked for and returned so far, which slices passed
+-- the gate, and the streams.
+pub record World : Type 0 where
+  pub loads : List Load
+  pub passed : List (ℕ × ℕ)
+  pub streams : Streams
+
+abbrev pub world : List Load → List (ℕ × ℕ) → Streams → World
+world loads passed streams = record { loads = loads; passed = passed; streams = streams }
+
 abbrev pub input_of : Streams → Supply
 input_of s = supply s.left s.read_failures
 
@@ -53,53 +63,70 @@ Writes (Err failed) bytes old later = FailsIn bytes old later
 
 -- ---- which of what was sent was taken
 
--- After the input's end, or a failure to read, all that the reader sent was taken.
-abbrev pub TakesAllSent : Result Closed SessionFault → List Incoming → List Incoming → Type 0
-TakesAllSent (Ok closed.Disconnected) taken sent = Begins taken sent
-TakesAllSent (Ok closed.InputEnded) taken sent = taken ≡ sent
-TakesAllSent (Ok closed.ReadFailed) taken sent = taken ≡ sent
-TakesAllSent (Err fault) taken sent = Begins taken sent
+-- What the session took of what the reader sent: all, where the input's end or a failed read closed it, else a prefix.
+abbrev pub TakenOfSent : Result Closed SessionFault → List Incoming → List Incoming → Type 0
+TakenOfSent (Ok closed.Disconnected) taken sent = Begins taken sent
+TakenOfSent (Ok closed.InputEnded) taken sent = taken ≡ sent
+TakenOfSent (Ok closed.ReadFailed) taken sent = taken ≡ sent
+TakenOfSent (Err fault) taken sent = Begins taken sent
 
--- Where the session was closed, the runner took all orders, unless a report was returned to it.
-abbrev pub TakesAllOrders : Result Closed SessionFault → List Act → List PlainOrder → Type 0
-TakesAllOrders (Ok by) acts pushed =
+-- What the runner took of the orders that the session pushed: all, where something closed the session, unless a report
+-- was returned to the runner; else a prefix.
+abbrev pub TakenOfPushed : Result Closed SessionFault → List Act → List PlainOrder → Type 0
+TakenOfPushed (Ok by) acts pushed =
     (flat_map order_in acts ≡ pushed) ⊎ (Begins (flat_map order_in acts) pushed × (flat_map handed_back_in acts ≢ []))
-TakesAllOrders (Err fault) acts pushed = Begins (flat_map order_in acts) pushed
+TakenOfPushed (Err fault) acts pushed = Begins (flat_map order_in acts) pushed
 
--- ---- reader, runner, session and writer, side by side
+-- ---- session, reader, runner and writer, side by side
 
--- Each came to its end. What the session took is, of the reader and of the runner, a prefix of what each sent; what the
--- loader returned is what the session's launches asked for; the runner took a prefix of the orders that the session
--- pushed, and its slices passed the gate; and the frames that the session put were written.
-pub record IsDriven (wrote : Result (Unit {0}) WriteFailed) (result : Result Closed SessionFault)
-    (loads later_loads : List Load) (passed later_passed : List (ℕ × ℕ)) (old later : Streams) : Type 0 where
-  -- the session
+-- The session took what the inbox gave, and the files that the loader returned for its launches: these are the events.
+-- It sent what they lead to, by the way in which it ended, and the loader was asked for nothing else. It was never
+-- answered that the runner is gone, and found the queue of orders full only where four were inside together.
+pub record SessionSends (result : Result Closed SessionFault) (given : List Incoming) (sent : Ports)
+    (loads later_loads : List Load) : Type 0 where
   pub events : List Incoming
-  pub given : List Incoming
   pub loaded : List Load
-  pub sent : Ports
   pub lawful : AreLawful events
   pub drives : Drives events given loaded nothing_sent sent result
   pub loads_are : later_loads ≡ loads ++ loaded
   pub never_gone : sent.runner_gone ≡ 0
-  -- it found the queue of orders full only where four were inside together, and the writer gone only where a write
-  -- failed
   pub full : result ≡ Err OrdersFull → FourWereInside sent.orders
-  pub writer_gone : result ≡ Err WriterGone → is_err wrote ≡ true
-  -- the reader
+
+-- The reader sent to the inbox what it read. Of that the session took all, or a prefix, by the way in which it ended.
+pub record ReaderSends (result : Result Closed SessionFault) (given : List Incoming)
+    (old later : Supply) : Type 0 where
   pub end : ReadEnd
   pub client : List Incoming
-  pub read : IsReadUntil end client (input_of old) (input_of later)
-  pub client_taken : TakesAllSent result (from_client given) client
-  -- the runner
+  pub read : IsReadUntil end client old later
+  pub client_taken : TakenOfSent result (from_client given) client
+
+-- The runner did these acts, from its start to its end. Of the orders it took all, or a prefix, by the way in which the
+-- session ended; of the reports that it sent, the session took a prefix. The slices that passed the gate are its own.
+pub record RunnerActs (result : Result Closed SessionFault) (given : List Incoming) (orders : List PlainOrder)
+    (passed later_passed : List (ℕ × ℕ)) : Type 0 where
   pub acts : List Act
   pub worked : Leads Idle acts Ended
-  pub orders_taken : TakesAllOrders result acts sent.orders
+  pub orders_taken : TakenOfPushed result acts orders
   pub reports_taken : Begins (reports_among given) (flat_map sent_in acts)
-  -- the gate
   pub gate_passed : later_passed ≡ passed ++ flat_map passed_in acts
-  -- the writer
-  pub written : Writes wrote (concat sent.frames) (output_of old) (output_of later)
+
+-- The writer wrote the frames that the session put, or the output failed after a prefix of them. The session found the
+-- writer gone only where a write failed.
+pub record WriterWrites (wrote : Result (Unit {0}) WriteFailed) (result : Result Closed SessionFault)
+    (frames : List (List ℕ)) (old later : Output) : Type 0 where
+  pub written : Writes wrote (concat frames) old later
+  pub writer_gone : result ≡ Err WriterGone → is_err wrote ≡ true
+
+-- Each of the four came to its end. They share what the inbox gave to the session, which came from the reader and the
+-- runner, and what the session sent: frames to the writer, and orders to the runner.
+pub record IsDriven (wrote : Result (Unit {0}) WriteFailed) (result : Result Closed SessionFault)
+    (before after : World) : Type 0 where
+  pub given : List Incoming
+  pub sent : Ports
+  pub session : SessionSends result given sent before.loads after.loads
+  pub reader : ReaderSends result given (input_of before.streams) (input_of after.streams)
+  pub runner : RunnerActs result given sent.orders before.passed after.passed
+  pub writer : WriterWrites wrote result sent.frames (output_of before.streams) (output_of after.streams)
 
 -- how serving ended, by how the writer and the session ended
 abbrev pub outcome_of : Result (Unit {0}) WriteFailed → Result Closed SessionFault → Result Served ServeFault
@@ -111,12 +138,8 @@ outcome_of (Ok done) (Err f) = Err (fault.Session f)
 
 -- Serving ended with this outcome. Where there was no memory for the queues, nothing was done. Where a thread can't be
 -- started, nothing more is known.
-pub data IsServed (outcome : Result Served ServeFault) (loads later_loads : List Load)
-    (passed later_passed : List (ℕ × ℕ)) (old later : Streams) : Type 0 where
+pub data IsServed (outcome : Result Served ServeFault) (before after : World) : Type 0 where
   drove : (wrote : Result (Unit {0}) WriteFailed) (result : Result Closed SessionFault)
-      → outcome ≡ outcome_of wrote result
-      → IsDriven wrote result loads later_loads passed later_passed old later
-      → IsServed outcome loads later_loads passed later_passed old later
-  had_no_memory : outcome ≡ Err (fault.Session NoMemory) → later ≡ old → later_loads ≡ loads → later_passed ≡ passed
-      → IsServed outcome loads later_loads passed later_passed old later
-  had_no_thread : outcome ≡ Err fault.NoThread → IsServed outcome loads later_loads passed later_passed old later
+      → outcome ≡ outcome_of wrote result → IsDriven wrote result before after → IsServed outcome before after
+  had_no_memory : outcome ≡ Err (fault.Session NoMemory) → after ≡ before → IsServed outcome before after
+  had_no_thread : outcome ≡ Err fault.NoThread → IsServed outcome before after

@@ -8,7 +8,7 @@ ghost use Rattle.dap_wires.specs.Inbox.{client_events, client_queue, sent_report
 ghost use Rattle.dap_wires.specs.Orders.{FourWereInside, pushed_orders, push_queue, taken_orders, pop_queue};
 ghost use Rattle.dap_wires.specs.Outbox.{messages_put, ended_queue, ended_unused_queue, messages_received};
 ghost use Rattle.dap_wires.specs.Senders.{from_client, reports_among};
-ghost use Rattle.adapter.specs.Serving.{streams, outcome_of, IsServed};
+ghost use Rattle.adapter.specs.Serving.{streams, world, outcome_of, IsServed};
 
 use crate::jobs::{ReaderTask, RunnerTask, SessionEnds, SessionTask, WriterTask};
 use crate::tasks::run_beside;
@@ -81,9 +81,11 @@ where
     O: Sink + Send,
     L: Loader,
     G: Gate + Send,
-    ensures { IsServed result (L.loaded loader.old) (L.loaded loader.new) (G.passed gate.old) (G.passed gate.new)
-        (streams (I.left input.old) (I.failures input.old) (O.written output.old) (O.failures output.old))
-        (streams (I.left input.new) (I.failures input.new) (O.written output.new) (O.failures output.new)) }
+    ensures { IsServed result
+        (world (L.loaded loader.old) (G.passed gate.old)
+        (streams (I.left input.old) (I.failures input.old) (O.written output.old) (O.failures output.old)))
+        (world (L.loaded loader.new) (G.passed gate.new)
+        (streams (I.left input.new) (I.failures input.new) (O.written output.new) (O.failures output.new))) }
 {
     let (client, reports, events) = inbox(*rt, alloc)?;
     let (frames, messages) = outbox(*rt, alloc)?;

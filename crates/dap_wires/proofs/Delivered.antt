@@ -8,7 +8,7 @@ use lib.ListN.{get_elem?}
 use Rattle.crossbeam_channel.specs.Fifo.{Pushes, Pops, Forks, Merges, Learns}
 use Rattle.atomic_table.proofs.Lists.{at_set}
 use Rattle.dap_wires.specs.declared.end_log.EndLog.{EndLog}
-use Rattle.dap_wires.specs.Delivery.{log, of_first, of_second, Fits, Delivers, May, put, took, WasInside, Balances, only_first, only_second, without_first, without_second, idle, with_first, with_second}
+use Rattle.dap_wires.specs.Delivery.{unused, every_right, of_first, of_second, Fits, Delivers, May, put, took, WasInside, Balances, only_first, only_second, without_first, without_second, idle, with_first, with_second}
 
 module _ {M : Type 0} where
   abbrev Each : (ℕ → EndLog M → Type 0) → List (EndLog M) → Type 0
@@ -137,15 +137,15 @@ module _ {M : Type 0} where
         )
 
     -- one pass with every right over an empty queue
-    pub begins : Delivers by [] (log true true true [] [] [] ∷ [])
+    pub begins : Delivers by [] (unused every_right ∷ [])
     begins = record {
       one = 0;
       two = 0;
       taker = 0;
       taken = [];
-      each = λ j u e. each_set (Fits by 0 0 0 [] []) (log true true true [] [] [] ∷ []) 0 (log true true true [] [] [])
+      each = λ j u e. each_set (Fits by 0 0 0 [] []) (unused every_right ∷ []) 0 (unused every_right)
           (record { first = λ _. (refl, refl); second = λ _. (refl, refl); takes = λ _. (refl, refl) })
-          (λ k w other at. absurd (other (at_first (log true true true [] [] []) w k at)))
+          (λ k w other at. absurd (other (at_first (unused every_right) w k at)))
           j u e;
     }
 

@@ -5,19 +5,48 @@ use mathlib.Core.Option.{some}
 use lib.ListN.{get_elem?}
 use Rattle.dap_wires.specs.declared.end_log.EndLog.{EndLog}
 
+-- What an end may do: put what the first sender sends, put what the second sends, and take what was sent.
+pub record Rights : Type 0 where
+  pub first : Bool
+  pub second : Bool
+  pub takes : Bool
+
+abbrev pub every_right : Rights
+every_right = record { first = true; second = true; takes = true }
+
+abbrev pub no_right : Rights
+no_right = record { first = false; second = false; takes = false }
+
+-- the rights of the ends of a new queue
+abbrev pub first_sender : Rights
+first_sender = record { first = true; second = false; takes = false }
+
+abbrev pub second_sender : Rights
+second_sender = record { first = false; second = true; takes = false }
+
+abbrev pub only_receiver : Rights
+only_receiver = record { first = false; second = false; takes = true }
+
 module _ {M : Type 0} where
-  -- the log of an end, of its parts
-  abbrev pub log : Bool → Bool → Bool → List M → List M → List M → EndLog M
-  log first second takes put_first put_second taken =
+  abbrev pub rights : EndLog M → Rights
+  rights v = record { first = v.first; second = v.second; takes = v.takes }
+
+  -- the log of an end with these rights, which put and took these messages
+  abbrev pub log : Rights → List M → List M → List M → EndLog M
+  log may put_first put_second taken =
       record {
         first =
-            first;
-        second = second;
-        takes = takes;
+            may.first;
+        second = may.second;
+        takes = may.takes;
         put_first = put_first;
         put_second = put_second;
         taken = taken;
       }
+
+  -- the log of an end that has done nothing
+  abbrev pub unused : Rights → EndLog M
+  unused may = log may [] [] []
 
   module _ (by_second : M → Bool) where
     -- what each sender sent of these messages
@@ -49,7 +78,7 @@ module _ {M : Type 0} where
     -- the log after a message was put
     abbrev pub put : EndLog M → M → EndLog M
     put v m =
-        log v.first v.second v.takes (v.put_first ++ of_first (m ∷ [])) (v.put_second ++ of_second (m ∷ [])) v.taken
+        log (rights v) (v.put_first ++ of_first (m ∷ [])) (v.put_second ++ of_second (m ∷ [])) v.taken
 
     -- at one moment these messages were inside, after some that had been taken
     abbrev pub WasInside : EndLog M → List M → Type 0
@@ -64,31 +93,33 @@ module _ {M : Type 0} where
 
   -- the log after a message was taken
   abbrev pub took : EndLog M → M → EndLog M
-  took v m = log v.first v.second v.takes v.put_first v.put_second (v.taken ++ m ∷ [])
+  took v m = log (rights v) v.put_first v.put_second (v.taken ++ m ∷ [])
 
   -- ---- rights that are split off and joined again
 
   -- the log of an end that has one sender's right alone
   abbrev pub only_first : EndLog M → EndLog M
-  only_first v = log v.first false false v.put_first [] []
+  only_first v = log (record { first = v.first; second = false; takes = false }) v.put_first [] []
 
   abbrev pub only_second : EndLog M → EndLog M
-  only_second v = log false v.second false [] v.put_second []
+  only_second v = log (record { first = false; second = v.second; takes = false }) [] v.put_second []
 
   -- the log that is left without that right
   abbrev pub without_first : EndLog M → EndLog M
-  without_first v = log false v.second v.takes [] v.put_second v.taken
+  without_first v = log (record { first = false; second = v.second; takes = v.takes }) [] v.put_second v.taken
 
   abbrev pub without_second : EndLog M → EndLog M
-  without_second v = log v.first false v.takes v.put_first [] v.taken
+  without_second v = log (record { first = v.first; second = false; takes = v.takes }) v.put_first [] v.taken
 
   -- the log of an end that has no right
   abbrev pub idle : EndLog M
-  idle = log false false false [] [] []
+  idle = unused no_right
 
   -- the log with one sender's right and messages joined from another log
   abbrev pub with_first : EndLog M → EndLog M → EndLog M
-  with_first v w = log true v.second v.takes w.put_first v.put_second v.taken
+  with_first v w =
+      log (record { first = true; second = v.second; takes = v.takes }) w.put_first v.put_second v.taken
 
   abbrev pub with_second : EndLog M → EndLog M → EndLog M
-  with_second v w = log v.first true v.takes v.put_first w.put_second v.taken
+  with_second v w =
+      log (record { first = v.first; second = true; takes = v.takes }) v.put_first w.put_second v.taken

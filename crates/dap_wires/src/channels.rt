@@ -1,7 +1,7 @@
 //! A queue of two senders and one receiver.
 
-ghost use Rattle.std.specs.Prelude.{◌≡◌, ◌<◌, true, false, [], IfOk, IfErr, OnOk, OnErr, IfSome, IfNone, List, ◌++◌};
-ghost use Rattle.dap_wires.specs.Delivery.{log, put, took, May, of_first, of_second};
+ghost use Rattle.std.specs.Prelude.{◌≡◌, ◌<◌, true, IfOk, IfErr, OnOk, OnErr, IfSome, IfNone, List, ◌++◌};
+ghost use Rattle.dap_wires.specs.Delivery.{unused, first_sender, second_sender, only_receiver, put, took, May, of_first, of_second};
 ghost use Rattle.dap_wires.specs.Ends.{sender_log, receiver_log, receive_log, sender_queue, receiver_queue, receive_log_queue, sender_room, receiver_room};
 
 use crate::ends::{ReceiveEnd, ReceiveLog, SendEnd};
@@ -26,9 +26,9 @@ pub(crate) fn channel<M: Sent + Drop, R: Wait + Copy + Drop>(
     capacity: usize,
 ) -> Result<(SendEnd<M, R>, SendEnd<M, R>, ReceiveEnd<M, R>), AllocError>
     requires { 0 < capacity }
-    ensures first { IfOk result (λ r. sender_log r.0 ≡ log true false false [] [] []) }
-    ensures second { IfOk result (λ r. sender_log r.1 ≡ log false true false [] [] []) }
-    ensures receiver { IfOk result (λ r. receiver_log r.2 ≡ log false false true [] [] []) }
+    ensures first { IfOk result (λ r. sender_log r.0 ≡ unused first_sender) }
+    ensures second { IfOk result (λ r. sender_log r.1 ≡ unused second_sender) }
+    ensures receiver { IfOk result (λ r. receiver_log r.2 ≡ unused only_receiver) }
     ensures one { IfOk result (λ r. (sender_queue r.1 ≡ sender_queue r.0) × (receiver_queue r.2 ≡ sender_queue r.0)) }
     ensures room { IfOk result (λ r. (sender_room r.0 ≡ capacity) × (sender_room r.1 ≡ capacity) × (receiver_room r.2 ≡ capacity)) }
 {

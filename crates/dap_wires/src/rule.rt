@@ -16,12 +16,11 @@ pub(crate) trait Sent {
 pub(crate) struct InOrder;
 
 impl<M: Sent> Protocol<M, EndLog<M>> for InOrder {
-    ghost use Rattle.std.specs.Prelude.{true, []};
-    ghost use Rattle.dap_wires.specs.Delivery.{Delivers, log};
+    ghost use Rattle.dap_wires.specs.Delivery.{Delivers, unused, every_right};
 
     ghost holds = { Delivers M.by_second };
 
-    ghost first = { log true true true [] [] [] };
+    ghost first = { unused every_right };
 }
 
 /// The step that puts a message.
@@ -107,12 +106,11 @@ impl<M> Join<EndLog<M>> for Second {
 // The same rule for a queue of `crossbeam_queue`, which has traits of its own.
 
 impl<M: Sent> queue::Protocol<M, EndLog<M>> for InOrder {
-    ghost use Rattle.std.specs.Prelude.{true, []};
-    ghost use Rattle.dap_wires.specs.Delivery.{Delivers, log};
+    ghost use Rattle.dap_wires.specs.Delivery.{Delivers, unused, every_right};
 
     ghost holds = { Delivers M.by_second };
 
-    ghost first = { log true true true [] [] [] };
+    ghost first = { unused every_right };
 }
 
 impl<M: Sent> queue::Outcome<M, EndLog<M>> for Puts {

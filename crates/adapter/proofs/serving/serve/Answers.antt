@@ -13,7 +13,7 @@ use Rattle.dap_wires.specs.Senders.{from_client, reports_among}
 use Rattle.byte_streams.specs.Streams.{supply, output as output_at}
 use Rattle.dap_wires.specs.Writing.{IsWrittenUntil}
 use Rattle.adapter.specs.Jobs.{Drove}
-use Rattle.adapter.specs.Serving.{streams, outcome_of, nothing_sent, IsDriven, drove}
+use Rattle.adapter.specs.Serving.{World, world, streams, outcome_of, nothing_sent, IsDriven, drove}
 use Rattle.adapter.proofs.Crossing.{runner_task_send, runner_output_send, reader_task_send, reader_output_send}
 use Rattle.adapter.proofs.Gathered.{gathers, moved}
 use Rattle.adapter.proofs.serving.serve.Goals as goal
@@ -101,14 +101,16 @@ returns g c =
     let four : (pushed_orders ends.orders).fulls ≢ 0 → FourWereInside (pushed_orders ends.orders).orders = facts.9 in
     let passed : g.G.Gate.passed c.in-Some.gate.now ≡ g.G.Gate.passed c.args.gate.now ++ flat_map passed_in r.3.0 =
     r.3.4 ∙ ap (λ x. g.G.Gate.passed x ++ flat_map passed_in r.3.0) c.new-runner.ensures.gate in
-    let driven : IsDriven c.in-Some.wrote closed (g.L.Loader.loaded c.args.loader.now)
-    (g.L.Loader.loaded c.in-Some.driven.0.now) (g.G.Gate.passed c.args.gate.now)
-    (g.G.Gate.passed c.in-Some.gate.now)
+    let before : World =
+    world (g.L.Loader.loaded c.args.loader.now) (g.G.Gate.passed c.args.gate.now)
     (streams (g.I.Source.left c.args.input.now) (g.I.Source.failures c.args.input.now)
-    (g.O.Sink.written c.args.output.now) (g.O.Sink.failures c.args.output.now))
+    (g.O.Sink.written c.args.output.now) (g.O.Sink.failures c.args.output.now)) in
+    let after : World =
+    world (g.L.Loader.loaded c.in-Some.driven.0.now) (g.G.Gate.passed c.in-Some.gate.now)
     (streams (g.I.Source.left c.in-Some.input.now) (g.I.Source.failures c.in-Some.input.now)
-    (g.O.Sink.written c.in-Some.output.now) (g.O.Sink.failures c.in-Some.output.now)) =
-    gathers c.in-Some.wrote closed _ _ _ _ _ _ (received ends.inbox) (messages_put ends.outbox)
+    (g.O.Sink.written c.in-Some.output.now) (g.O.Sink.failures c.in-Some.output.now)) in
+    let driven : IsDriven c.in-Some.wrote closed before after =
+    gathers c.in-Some.wrote closed before after (received ends.inbox) (messages_put ends.outbox)
     (pushed_orders ends.orders) _ i.2.0 r.3.0 _ (taken_orders c.in-Some.taken) w.3.0
     session read
     (subst (λ l. Begins (from_client (received ends.inbox)) l) client inbox_client)
