@@ -378,12 +378,8 @@ module _ (one : OneProgram) (joins : WrittenJoins) (no_gaps : RunsHaveNoGaps) wh
     replies (command.Resume k a) plain = goes_on (situation past) refl _ a.thread_id
     replies (command.Retreat k a) plain = goes_back_by (situation past) refl _ a.thread_id
     replies (command.Pause a) plain = (_, refl)
-    replies (command.Inspect (question.StackTrace a)) plain =
-        inspects (question.StackTrace a) (λ l c. (_, refl)) (situation past) refl
-    replies (command.Inspect (question.Scopes a)) plain =
-        inspects (question.Scopes a) (λ l c. (_, refl)) (situation past) refl
-    replies (command.Inspect (question.Variables a)) plain =
-        inspects (question.Variables a) (λ l c. (_, refl)) (situation past) refl
+    replies (command.Inspect (question.Evaluate a)) plain = absurd plain
+    replies (command.Inspect q) plain = inspects q (λ l c. (_, refl)) (situation past) refl
     replies command.Disconnect plain = (_, refl)
     replies (command.Unsupported text) plain = (_, refl)
     replies (command.BadArguments k) plain = (_, refl)

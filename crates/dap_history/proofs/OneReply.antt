@@ -409,11 +409,9 @@ module _ (once : IsTextOnce) where
 
   one_from : (of : Of) (c : Configuration) (question : Question) (r s : Reply) → RepliesFrom of c question r
       → RepliesFrom of c question s → r ≡ s
-  one_from of c (question.StackTrace asked) r s a b = a ∙ sym b
-  one_from of c (question.Scopes asked) r s a b = a ∙ sym b
-  one_from of c (question.Variables asked) r s a b = a ∙ sym b
   one_from of c (question.Evaluate asked) r s a b =
       one_evaluates of.program c asked.frame_id (frame_by_id c asked.frame_id) asked.expression r s a b
+  one_from of c _ r s a b = a ∙ sym b
 
   one_at : (of : Of) (c : Option Configuration) (question : Question) (r s : Reply) → RepliesAt of c question r
       → RepliesAt of c question s → r ≡ s

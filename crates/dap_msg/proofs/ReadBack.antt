@@ -1,5 +1,5 @@
 -- The text of a message is read back as its value.
-use Rattle.std.proofs.Common.{◌≡◌, ℕ, suc, ◌<◌, ◌≤◌, ◌^◌, ◌&&◌, Bool, true, false, List, [], ◌∷◌, map, Option, Some, Ok, Err, option_map, option_and_then, Ordering, Less, Equal, Greater, refl, sym, ap, ◌∙◌, arith, lit≤, append-nil}
+use Rattle.std.proofs.Common.{rules, ◌≡◌, ℕ, suc, ◌<◌, ◌≤◌, ◌^◌, ◌&&◌, Bool, true, false, List, [], ◌∷◌, map, Option, Some, Ok, Err, option_map, option_and_then, Ordering, Less, Equal, Greater, refl, sym, ap, ◌∙◌, arith, lit≤, append-nil}
 use Rattle.std.specs.Prelude.{All}
 use Rattle.std.specs.Ordering.{nat_cmp, match_ordering}
 use Rattle.std.specs.Cmp.Lexicographic.{slice_cmp}
@@ -34,7 +34,6 @@ use Rattle.dap_msg.specs.declared.outgoing.Scope.{Scope}
 use Rattle.dap_msg.specs.declared.outgoing.StackFrame.{StackFrame}
 use Rattle.dap_msg.specs.declared.outgoing.StopReason.TheVariants as reason
 use Rattle.dap_msg.proofs.Names.{says}
-use Rattle.dap_msg.proofs.Shapes.{nests_little}
 
 -- ---- values with their keys in order
 
@@ -191,35 +190,36 @@ breakpoint_sorted : (b : BreakpointAnswer) → is_sorted (breakpoint b) ≡ true
 breakpoint_sorted (At line) = refl
 breakpoint_sorted (Unverified why) = refl
 
-message_sorted : (message : Outgoing) (seq : ℕ) → is_sorted (value_of message seq) ≡ true
-message_sorted (Answer request_seq command (Ok body.None)) seq = refl
-message_sorted (Answer request_seq command (Ok body.Capabilities)) seq = refl
-message_sorted (Answer request_seq command (Ok (body.Breakpoints answers))) seq =
-    rw (each_sorted breakpoint breakpoint_sorted answers)
-message_sorted (Answer request_seq command (Ok body.Threads)) seq = refl
-message_sorted (Answer request_seq command (Ok body.Continued)) seq = refl
-message_sorted (Answer request_seq command (Ok (body.StackTrace path frames total))) seq =
-    rw (each_sorted (stack_frame path) (λ f. refl) frames)
-message_sorted (Answer request_seq command (Ok (body.Scopes scopes))) seq = rw (each_sorted scope (λ s. refl) scopes)
-message_sorted (Answer request_seq command (Ok (body.Variables variables))) seq =
-    rw (each_sorted variable (λ v. refl) variables)
-message_sorted (Answer request_seq command (Ok (body.Value v))) seq = refl
-message_sorted (Answer request_seq command (Err r)) seq = refl
-message_sorted (Event event.Initialized) seq = refl
-message_sorted (Event (event.Stopped reason.Breakpoint)) seq = refl
-message_sorted (Event (event.Stopped reason.Step)) seq = refl
-message_sorted (Event (event.Stopped reason.Entry)) seq = refl
-message_sorted (Event (event.Stopped reason.Pause)) seq = refl
-message_sorted (Event (event.Stopped (reason.Exception fault))) seq = refl
-message_sorted (Event (event.Output v)) seq = refl
-message_sorted (Event (event.Log text)) seq = refl
-message_sorted (Event (event.Exited code)) seq = refl
-message_sorted (Event event.Terminated) seq = refl
+each_flat : {A : Type 0} (f : A → Data) (n : ℕ) → ((x : A) → depth (f x) ≤ n) → (xs : List A)
+    → items_depth (items_of (map f xs)) ≤ n
+each_flat f n flat [] = omega arith
+each_flat f n flat (x ∷ xs) = omega (arith, flat x, each_flat f n flat xs)
+
+breakpoint_flat : (b : BreakpointAnswer) → depth (breakpoint b) ≤ 2
+breakpoint_flat (At line) = lit≤ tt
+breakpoint_flat (Unverified why) = lit≤ tt
+
+-- the keys of each object ascend, and it nests no deeper than may be read; `_` stands for each message without a list
+regular : (message : Outgoing) (seq : ℕ) → (is_sorted (value_of message seq) ≡ true)
+    × (depth (value_of message seq) ≤ max_depth)
+regular (Answer request_seq command (Ok (body.Breakpoints answers))) seq =
+    let flat = each_flat breakpoint 2 breakpoint_flat answers in
+    (rw (each_sorted breakpoint breakpoint_sorted answers) refl, omega (arith, flat))
+regular (Answer request_seq command (Ok (body.StackTrace path frames total))) seq = (
+  rw (each_sorted (stack_frame path) (λ f. refl) frames) refl,
+  omega (arith, each_flat (stack_frame path) 2 (λ f. lit≤ tt) frames),
+)
+regular (Answer request_seq command (Ok (body.Scopes scopes))) seq =
+    (rw (each_sorted scope (λ s. refl) scopes) refl, omega (arith, each_flat scope 2 (λ s. lit≤ tt) scopes))
+regular (Answer request_seq command (Ok (body.Variables variables))) seq =
+    (rw (each_sorted variable (λ v. refl) variables) refl, omega (arith, each_flat variable 2 (λ v. lit≤ tt) variables))
+regular (Event (event.Stopped reason.Step)) seq = (refl, lit≤ tt)
+regular _ seq = (refl, lit≤ tt)
 
 pub text_is_read : (message : Outgoing) (seq : ℕ) → Fits (value_of message seq)
     → read (text_of message seq) ≡ Some (value_of message seq)
 text_is_read message seq fits =
-    round_trip (value_of message seq) fits (message_sorted message seq) (nests_little message seq)
+    round_trip (value_of message seq) fits (regular message seq).0 (regular message seq).1
 
 each_fits : {A : Type 0} (f : A → Data) (P : A → Type 0) → ((x : A) → P x → Fits (f x)) → (xs : List A) → All P xs
     → ItemsFit (items_of (map f xs))
@@ -243,7 +243,7 @@ small n is = omega arith
 message_fits : (message : Outgoing) (seq : ℕ) → NumbersFit message → seq < 2 ^ 64 → Fits (value_of message seq)
 message_fits (Answer request_seq command (Ok body.None)) seq fits below = (tt, (fits.0, (below, (tt, (tt, tt)))))
 message_fits (Answer request_seq command (Ok body.Capabilities)) seq fits below =
-    ((tt, (tt, (tt, (tt, (tt, tt))))), (tt, (fits.0, (below, (tt, (tt, tt))))))
+    (search rules, (tt, (fits.0, (below, (tt, (tt, tt))))))
 message_fits (Answer request_seq command (Ok (body.Breakpoints answers))) seq fits below =
     ((each_fits breakpoint LineFits breakpoint_fits answers fits.1, tt), (tt, (fits.0, (below, (tt, (tt, tt))))))
 message_fits (Answer request_seq command (Ok body.Threads)) seq fits below =

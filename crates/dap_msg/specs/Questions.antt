@@ -1,6 +1,8 @@
 -- Defines the questions about the program where it stands: the StackTrace, Scopes, Variables and Evaluate Requests of
 -- the Debug Adapter Protocol.
-use Rattle.std.specs.Prelude.{ℕ, List, codes, Option, option_map}
+use Rattle.std.specs.Prelude.{ℕ, List, [], ◌∷◌, codes, Option, option_map}
+use Rattle.std.specs.List.{find}
+use Rattle.std.specs.Str.{bytes_eq}
 use Rattle.serde_json.specs.Data.{Data}
 use Rattle.dap_msg.specs.Evaluate.{evaluate_arguments}
 use Rattle.dap_msg.specs.Scopes.{scopes_arguments}
@@ -17,6 +19,14 @@ question_text kind.StackTrace = codes "stackTrace"
 question_text kind.Scopes = codes "scopes"
 question_text kind.Variables = codes "variables"
 question_text kind.Evaluate = codes "evaluate"
+
+-- the kinds of all questions
+abbrev pub every_question : List QuestionKind
+every_question = kind.StackTrace ∷ kind.Scopes ∷ kind.Variables ∷ kind.Evaluate ∷ []
+
+-- the kind of question of this name, or none
+abbrev pub question_kind : List ℕ → Option QuestionKind
+question_kind text = find (λ k. bytes_eq (question_text k) text) every_question
 
 -- the kind of a question
 abbrev pub kind_of : Question → QuestionKind

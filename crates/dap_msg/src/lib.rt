@@ -33,6 +33,7 @@
 
 mod arguments;
 mod command;
+mod entries;
 mod events;
 mod items;
 mod laws;

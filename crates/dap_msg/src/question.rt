@@ -2,7 +2,7 @@
 
 ghost use Rattle.std.specs.Prelude.{◌≡◌, IfOk};
 ghost use Rattle.serde_json.specs.View.{view};
-ghost use Rattle.dap_msg.specs.Questions.{question_text, kind_of, question_of};
+ghost use Rattle.dap_msg.specs.Questions.{question_text, question_kind, kind_of, question_of};
 
 use crate::requests::evaluate::{self, EvaluateArguments};
 use crate::requests::scopes::{self, ScopesArguments};
@@ -25,6 +25,24 @@ pub enum QuestionKind {
 }
 
 impl QuestionKind {
+    /// Every kind.
+    const ALL: [QuestionKind; 4] = [
+        QuestionKind::StackTrace,
+        QuestionKind::Scopes,
+        QuestionKind::Variables,
+        QuestionKind::Evaluate,
+    ];
+
+    /// Returns the kind of the question of this name; `None` where there is none.
+    pub(crate) fn from_name(name: &str) -> Option<QuestionKind>
+        ensures { result ≡ question_kind name.now }
+    {
+        QuestionKind::ALL
+            .iter()
+            .copied()
+            .find(|kind| kind.name() == name)
+    }
+
     /// The command's name as it stands in a message.
     pub(crate) fn name(self) -> &'static str
         ensures { result.now ≡ question_text self }

@@ -1,5 +1,5 @@
 use Rattle.dap_msg.proofs.Pieces.{and_then, object_written}
-use Rattle.dap_msg.proofs.requests.scopes.write_scope.Goals as goal
+use Rattle.dap_msg.proofs.requests.scopes.ScopeEntry.write.Goals as goal
 
 pub returns : goal.returns
 returns c =
