@@ -14,7 +14,7 @@ fn text(rt: &impl Abort, alloc: Global, text: &str) -> Text {
     Text::new(String::from_str(alloc, text).expect(rt, "memory"))
 }
 
-/// An answer to the request 4.
+/// An answer to a request whose `seq` is 4.
 fn answer(command: Supported, outcome: Result<Body, Refusal>) -> Outgoing {
     Outgoing::Answer {
         request_seq: 4,

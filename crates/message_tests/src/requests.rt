@@ -5,7 +5,7 @@ use dap_msg::{Request, read};
 use std::alloc::Global;
 use std::process::Abort;
 
-/// What the request 1 for `initialize`, without arguments, is read as.
+/// What a request for `initialize` without arguments, whose `seq` is 1, is read as.
 const INITIALIZE_1: &str =
     "Some(Request { seq: 1, body: Initialize(InitializeArguments { lines_start_at_1: true, columns_start_at_1: true }) })";
 
