@@ -1,48 +1,61 @@
-use Rattle.std.proofs.Common.{◌≡◌, ◌<◌, true, false, option_map, Some, None, refl, sym, subst, arith}
+use Rattle.std.proofs.Common.{◌≡◌, ◌<◌, ◌≤◌, true, false, option_map, Some, None, refl, sym, ap, ◌∙◌, subst, arith}
 use Rattle.std.specs.Arc.{arc_value}
-use Rattle.dbg_plan.proofs.Stepping.{went_on}
+use Rattle.pl0_machine.specs.declared.outcome.StepOutcome.{StepOutcome}
+use Rattle.pl0_machine.specs.Machine.{Standing}
+use Rattle.pl0_machine.specs.Stretches.{IsTable, RanOn}
 use Rattle.dbg_plan.specs.Plans.{breakpoints_of}
-use Rattle.dbg_plan.specs.Quiet.{RanByMachine}
-use Rattle.dbg_plan.proofs.Quiet.{Quietly, none_yet, goes, ended}
+use Rattle.dbg_plan.specs.Quiet.{watched_of}
+use Rattle.dbg_plan.proofs.Quiet.{Quietly, goes, ended, stops, has_table, stretched}
 use Rattle.dbg_plan.proofs.running.run_quietly.Goals as goal
+use Rattle.dbg_plan.proofs.running.run_quietly.Goals.{In-steps, After-run}
 
-pub steps-init : goal.steps-init
-steps-init c = none_yet _ _ _ c.requires.running c.requires.within
+pub run-requires-clause-table : goal.run-requires-clause-table
+run-requires-clause-table c =
+    let same = ap (λ (m : Standing). m.unit) c.steps.invariant.ends.0 in
+    subst (λ t. IsTable c.steps.machine.unit t) (sym c.watched_by-watched.ensures)
+    (subst (λ u. IsTable u (watched_of (option_map arc_value c.args.plan.now))) (sym same)
+    (has_table c.args.machine.now.unit (option_map arc_value c.args.plan.now) c.requires.fits))
 
-pub is_quiet-requires-clause-running : goal.is_quiet-requires-clause-running
-is_quiet-requires-clause-running c = λ is.
-    (went_on c.steps.machine c.step-outcome.new.self c.step-outcome.result c.step-outcome.ensures None is).1
+ran : (c : After-run) → RanOn c.args.limit (watched_of (option_map arc_value c.args.plan.now)) c.steps.machine c.run.result
+    c.run.new.self
+ran c = subst (λ t. RanOn c.args.limit t c.steps.machine c.run.result c.run.new.self) c.watched_by-watched.ensures
+    c.run.ensures
+
+pub returns-in-None : goal.returns-in-None
+returns-in-None c =
+    let plan = option_map arc_value c.args.plan.now in
+    let all =
+    subst (λ o. RanOn c.args.limit (watched_of plan) c.steps.machine o c.run.new.self) c.in-None.is
+    (ran (goal.at.returns-in-None c).After-run) in
+    let reached = all.1 in
+    stops c.args.limit plan c.args.machine.now c.run.new.self
+    (stretched c.args.limit plan c.args.machine.now c.steps.machine c.run.new.self c.requires.fits c.steps.invariant
+    all.0 (omega (arith, reached))) (omega (arith, reached))
+
+abbrev RanSome : (c : After-run) → StepOutcome → Type 0
+RanSome c outcome =
+    RanOn c.args.limit (watched_of (option_map arc_value c.args.plan.now)) c.steps.machine (Some outcome) c.run.new.self
+
+before : (c : After-run) (outcome : StepOutcome) (all : RanSome c outcome)
+    → Quietly c.args.limit (breakpoints_of (option_map arc_value c.args.plan.now)) c.args.machine.now all.0
+before c outcome all =
+    let below = all.2 in
+    stretched c.args.limit (option_map arc_value c.args.plan.now) c.args.machine.now c.steps.machine all.0
+    c.requires.fits c.steps.invariant all.1 (omega (arith, below))
+
+pub returns-then-not-is_quiet : goal.returns-then-not-is_quiet
+returns-then-not-is_quiet c =
+    let here = (goal.at.returns-then-not-is_quiet c).After-run in
+    let all = subst (λ o. RanOn c.args.limit (watched_of (option_map arc_value c.args.plan.now)) c.steps.machine o
+    c.run.new.self) c.in-Some.is (ran here) in
+    ended c.args.limit (option_map arc_value c.args.plan.now) c.args.machine.now all.0 (before here c.in-Some.outcome all)
+    c.in-Some.outcome c.run.new.self all.3 all.2
+    (λ quietly. let other : c.is_quiet.result ≡ true = c.is_quiet.ensures.1 quietly in let is = c.if-not-is_quiet.true in cc)
 
 pub steps-preserved : goal.steps-preserved
 steps-preserved c =
-    let below : c.steps.machine.position < c.args.limit =
-    omega (arith, c.position.ensures.position, c.steps-test.true) in
-    goes c.args.limit (option_map arc_value c.args.plan.now) _ c.steps.machine c.steps.invariant c.step-outcome.result
-    c.step-outcome.new.self c.step-outcome.ensures below (c.if-not-is_quiet.ensures refl)
-
-pub settles-moved-requires-clause-running : goal.settles-moved-requires-clause-running
-settles-moved-requires-clause-running c = λ is.
-    (went_on c.steps.machine c.step-outcome.new.self c.step-outcome.result c.step-outcome.ensures None is).1
-
-pub steps-preserved-else-not-quiet : goal.steps-preserved-else-not-quiet
-steps-preserved-else-not-quiet c =
-    let below : c.steps.machine.position < c.args.limit =
-    omega (arith, c.position.ensures.position, c.steps-test.true) in
-    let told = c.settles-moved.ensures.quiet in
-    let quiet : c.settles-moved.result.1 ≡ true = c.if-not-quiet.false in
-    subst (λ m. Quietly c.args.limit (breakpoints_of (option_map arc_value c.args.plan.now)) c.args.machine m)
-    (sym c.settles-moved.ensures.machine)
-    (goes c.args.limit (option_map arc_value c.args.plan.now) _ c.steps.machine c.steps.invariant c.step-outcome.result
-    c.step-outcome.new.self c.step-outcome.ensures below (told.0 quiet))
-
-pub returns-then-not-quiet : goal.returns-then-not-quiet
-returns-then-not-quiet c =
-    let below : c.steps.machine.position < c.args.limit =
-    omega (arith, c.position.ensures.position, c.steps-test.true) in
-    let told = c.settles-moved.ensures.quiet in
-    let loud : c.settles-moved.result.1 ≡ false = c.if-not-quiet.true in
-    subst (λ m. RanByMachine c.args.limit (option_map arc_value c.args.plan.now) c.args.machine
-    (Some c.step-outcome.result) m) (sym c.settles-moved.ensures.machine)
-    (ended c.args.limit (option_map arc_value c.args.plan.now) _ c.steps.machine c.steps.invariant c.step-outcome.result
-    c.step-outcome.new.self c.step-outcome.ensures below
-    (λ quietly. let other : c.settles-moved.result.1 ≡ true = told.1 quietly in cc))
+    let here = (goal.at.steps-preserved c).After-run in
+    let all = subst (λ o. RanOn c.args.limit (watched_of (option_map arc_value c.args.plan.now)) c.steps.machine o
+    c.run.new.self) c.in-Some.is (ran here) in
+    goes c.args.limit (option_map arc_value c.args.plan.now) c.args.machine.now all.0 (before here c.in-Some.outcome all)
+    c.in-Some.outcome c.run.new.self all.3 all.2 (c.is_quiet.ensures.0 c.if-not-is_quiet.false)
