@@ -16,8 +16,8 @@ run-requires-clause-table c =
     (subst (λ u. IsTable u (watched_of (option_map arc_value c.args.plan.now))) (sym same)
     (has_table c.args.machine.now.unit (option_map arc_value c.args.plan.now) c.requires.fits))
 
-ran : (c : After-run) → RanOn c.args.limit (watched_of (option_map arc_value c.args.plan.now)) c.steps.machine c.run.result
-    c.run.new.self
+ran : (c : After-run)
+    → RanOn c.args.limit (watched_of (option_map arc_value c.args.plan.now)) c.steps.machine c.run.result c.run.new.self
 ran c = subst (λ t. RanOn c.args.limit t c.steps.machine c.run.result c.run.new.self) c.watched_by-watched.ensures
     c.run.ensures
 
@@ -48,14 +48,19 @@ returns-then-not-is_quiet c =
     let here = (goal.at.returns-then-not-is_quiet c).After-run in
     let all = subst (λ o. RanOn c.args.limit (watched_of (option_map arc_value c.args.plan.now)) c.steps.machine o
     c.run.new.self) c.in-Some.is (ran here) in
-    ended c.args.limit (option_map arc_value c.args.plan.now) c.args.machine.now all.0 (before here c.in-Some.outcome all)
+    ended c.args.limit (option_map arc_value c.args.plan.now) c.args.machine.now all.0
+    (before here c.in-Some.outcome all)
     c.in-Some.outcome c.run.new.self all.3 all.2
-    (λ quietly. let other : c.is_quiet.result ≡ true = c.is_quiet.ensures.1 quietly in let is = c.if-not-is_quiet.true in cc)
+    (λ quietly.
+    let other : c.is_quiet.result ≡ true = c.is_quiet.ensures.1 quietly in
+    let is = c.if-not-is_quiet.true in
+    cc)
 
 pub steps-preserved : goal.steps-preserved
 steps-preserved c =
     let here = (goal.at.steps-preserved c).After-run in
     let all = subst (λ o. RanOn c.args.limit (watched_of (option_map arc_value c.args.plan.now)) c.steps.machine o
     c.run.new.self) c.in-Some.is (ran here) in
-    goes c.args.limit (option_map arc_value c.args.plan.now) c.args.machine.now all.0 (before here c.in-Some.outcome all)
+    goes c.args.limit (option_map arc_value c.args.plan.now) c.args.machine.now all.0
+    (before here c.in-Some.outcome all)
     c.in-Some.outcome c.run.new.self all.3 all.2 (c.is_quiet.ensures.0 c.if-not-is_quiet.false)

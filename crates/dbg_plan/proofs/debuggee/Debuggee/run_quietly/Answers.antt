@@ -11,7 +11,8 @@ invariant_of-self c =
     let outcome = c.run_quietly-outcome in
     subst (λ b. IsCounting (record c.self.inside { machine = outcome.new.machine; considered = b }))
     (sym c.stays_considered-self-inside.ensures)
-    (counting_after c.self.inside c.self.invariant behind c.args.limit outcome.result outcome.new.machine outcome.ensures)
+    (counting_after c.self.inside c.self.invariant behind c.args.limit outcome.result outcome.new.machine
+    outcome.ensures)
 
 pub returns-clause-ran : goal.returns-clause-ran
 returns-clause-ran c =
