@@ -14,7 +14,7 @@ use Rattle.dbg_plan.specs.Plans.{Listed, watched_lines, has_breakpoint, breakpoi
 use Rattle.dbg_plan.specs.Debugged.{IsRunning}
 use Rattle.pl0_machine.specs.Stretches.{ahead, IsTable, HasMark, IsPassed, Stretches}
 use Rattle.dbg_plan.specs.Running.{has_arrival, IsQuiet, RanQuietly}
-use Rattle.dbg_plan.specs.Quiet.{watched_of, RanByMachine}
+use Rattle.dbg_plan.specs.Quiet.{watched_of, Ends, RanByMachine}
 use Rattle.dbg_plan.specs.Counting.{MayBePlanOf}
 use Rattle.dbg_plan.proofs.Watching.{there}
 use Rattle.dbg_plan.proofs.Unwatched.{none_by_step}
@@ -116,6 +116,30 @@ module _ (limit : ℕ) (plan : Option Listed) where
   further_on m a b =
       let e : m.position + a + b ≡ m.position + (a + b) = omega arith in
       ap (λ (p : ℕ). record m { position = p }) e
+
+  -- a run that went on from where quiet steps led
+  pub resumed : (start m new : Standing) (outcome : Option StepOutcome)
+      → Quietly limit (breakpoints_of plan) start m → RanByMachine limit plan m outcome new
+      → RanByMachine limit plan start outcome new
+  resumed start m new outcome q ran =
+      let there = ap (λ x. ahead x ran.steps) q.ends.0 ∙ further_on start q.steps ran.steps in
+      let place = ap (λ (x : Standing). x.position) q.ends.0 in
+      let within = ran.within in
+      record {
+        steps = q.steps + ran.steps;
+        quiet = λ k lt.
+            ⊎_elim (λ before. q.quiet k before)
+            (λ after.
+            let rest : k - q.steps < ran.steps = omega (arith, after, lt) in
+            let same : q.steps + (k - q.steps) ≡ k = omega (arith, after) in
+            subst (λ x. IsQuiet (breakpoints_of plan) x)
+            (ap (λ x. ahead x (k - q.steps)) q.ends.0 ∙ further_on start q.steps (k - q.steps)
+            ∙ ap (λ n. ahead start n) same) (ran.quiet (k - q.steps) rest))
+            (cases_lt k q.steps);
+        running = subst (λ x. IsRunning x) there ran.running;
+        within = omega (arith, place, within);
+        ends = subst (λ x. Ends limit (breakpoints_of plan) x outcome new) there ran.ends;
+      }
 
   pub stretched : (start m new : Standing) → MayBePlanOf start.unit plan
       → Quietly limit (breakpoints_of plan) start m → Stretches (watched_of plan) m new → new.position ≤ limit
