@@ -1,6 +1,8 @@
 -- Quiet steps of a machine.
-use Rattle.std.proofs.Common.{◌≡◌, ⊎_elim, ℕ, ◌+◌, ◌<◌, ◌≤◌, false, List, [], ◌∷◌, length, Option, Some, None, ℤ, refl, sym, ap, ◌∙◌, subst, arith}
-use Rattle.std.proofs.lemmas.Bool.{cases_eq}
+use Rattle.std.proofs.Common.{◌≡◌, ⊎_elim, ℕ, ◌+◌, ◌-◌, ◌<◌, ◌≤◌, Bool, false, List, [], ◌∷◌, length, Option, Some, None, ℤ, refl, sym, ap, ◌∙◌, subst, arith}
+use Rattle.std.proofs.lemmas.Bool.{cases_eq, cases_lt}
+use Rattle.std.proofs.lemmas.List.{length-map}
+use Rattle.pl0_unit.specs.declared.unit.Unit.{Unit as Compiled}
 use Rattle.pl0_meaning.specs.Values.{Configuration}
 use Rattle.pl0_meaning.specs.Runs.{Outcome, Goes, Faults, Over, at, led_to, written_by}
 use Rattle.pl0_meaning.specs.Linking.{at_next}
@@ -8,10 +10,14 @@ use Rattle.pl0_machine.specs.declared.outcome.StepOutcome.{StepOutcome}
 use Rattle.pl0_machine.specs.declared.outcome.StepOutcome.TheVariants.{Went, Done}
 use Rattle.pl0_machine.specs.Machine.{Standing, program, frames_of, outcome_of, Stepped}
 use Rattle.dbg_plan.specs.Breakpoints.{Breakpoint}
-use Rattle.dbg_plan.specs.Plans.{Listed, breakpoints_of}
+use Rattle.dbg_plan.specs.Plans.{Listed, watched_lines, has_breakpoint, breakpoints_of}
 use Rattle.dbg_plan.specs.Debugged.{IsRunning}
-use Rattle.dbg_plan.specs.Running.{ahead, has_arrival, IsQuiet, RanQuietly}
-use Rattle.dbg_plan.specs.Quiet.{RanByMachine}
+use Rattle.pl0_machine.specs.Stretches.{ahead, IsTable, HasMark, IsPassed, Stretches}
+use Rattle.dbg_plan.specs.Running.{has_arrival, IsQuiet, RanQuietly}
+use Rattle.dbg_plan.specs.Quiet.{watched_of, Ends, RanByMachine}
+use Rattle.dbg_plan.specs.Counting.{MayBePlanOf}
+use Rattle.dbg_plan.proofs.Watching.{there}
+use Rattle.dbg_plan.proofs.Unwatched.{none_by_step}
 use Rattle.dbg_plan.proofs.Stepping.{went_on}
 
 -- a step that wrote nothing and led to a position without a breakpoint
@@ -79,6 +85,85 @@ none_yet limit breakpoints start running within =
       within = omega (arith, within);
       ends = (here, running, within);
     }
+
+-- ---- steps that lead to no address in the table
+
+pub has_table : (u : Compiled) (plan : Option Listed) → MayBePlanOf u plan → IsTable u (watched_of plan)
+unfolding watched_lines
+has_table u None fits = tt
+has_table u (Some asked) fits =
+    ap length fits.watched ∙ length-map u.begun_steps.items (has_breakpoint asked.breakpoints)
+
+no_arrival : (plan : Option Listed) (m : Standing) → MayBePlanOf m.unit plan → HasMark (watched_of plan) m false
+    → has_arrival (breakpoints_of plan) m ≡ false
+no_arrival None m fits unmarked = refl
+no_arrival (Some asked) m fits unmarked =
+    let next = unmarked.1 in
+    let has_one =
+    there asked.breakpoints m.unit.begun_steps.items asked.watched unmarked.0 next.step fits.watched next.begins in
+    none_by_step m next.step next.next asked.breakpoints (same_entry _ _ (sym has_one ∙ unmarked.2))
+  where
+    same_entry : (a b : Bool) → ◌≡◌ {A = Option Bool} (Some a) (Some b) → a ≡ b
+    same_entry a b e = cc
+
+module _ (limit : ℕ) (plan : Option Listed) where
+  quiet_passed : (m : Standing) → MayBePlanOf m.unit plan → IsPassed (watched_of plan) m
+      → IsQuiet (breakpoints_of plan) m
+  quiet_passed m fits p =
+      record { silent = p.silent; running = p.running; unmet = no_arrival plan (ahead m 1) fits p.unmarked }
+
+  further_on : (m : Standing) (a b : ℕ) → ahead (ahead m a) b ≡ ahead m (a + b)
+  further_on m a b =
+      let e : m.position + a + b ≡ m.position + (a + b) = omega arith in
+      ap (λ (p : ℕ). record m { position = p }) e
+
+  -- a run that went on from where quiet steps led
+  pub resumed : (start m new : Standing) (outcome : Option StepOutcome)
+      → Quietly limit (breakpoints_of plan) start m → RanByMachine limit plan m outcome new
+      → RanByMachine limit plan start outcome new
+  resumed start m new outcome q ran =
+      let there = ap (λ x. ahead x ran.steps) q.ends.0 ∙ further_on start q.steps ran.steps in
+      let place = ap (λ (x : Standing). x.position) q.ends.0 in
+      let within = ran.within in
+      record {
+        steps = q.steps + ran.steps;
+        quiet = λ k lt.
+            ⊎_elim (λ before. q.quiet k before)
+            (λ after.
+            let rest : k - q.steps < ran.steps = omega (arith, after, lt) in
+            let same : q.steps + (k - q.steps) ≡ k = omega (arith, after) in
+            subst (λ x. IsQuiet (breakpoints_of plan) x)
+            (ap (λ x. ahead x (k - q.steps)) q.ends.0 ∙ further_on start q.steps (k - q.steps)
+            ∙ ap (λ n. ahead start n) same) (ran.quiet (k - q.steps) rest))
+            (cases_lt k q.steps);
+        running = subst (λ x. IsRunning x) there ran.running;
+        within = omega (arith, place, within);
+        ends = subst (λ x. Ends limit (breakpoints_of plan) x outcome new) there ran.ends;
+      }
+
+  pub stretched : (start m new : Standing) → MayBePlanOf start.unit plan
+      → Quietly limit (breakpoints_of plan) start m → Stretches (watched_of plan) m new → new.position ≤ limit
+      → Quietly limit (breakpoints_of plan) start new
+  stretched start m new fits q s within =
+      let led = s.led ∙ ap (λ x. ahead x s.steps) q.ends.0 ∙ further_on start q.steps s.steps in
+      let place = ap (λ (x : Standing). x.position) led in
+      record {
+        steps = q.steps + s.steps;
+        quiet = λ k lt.
+            ⊎_elim (λ before. q.quiet k before)
+            (λ after.
+            let rest : k - q.steps < s.steps = omega (arith, after, lt) in
+            let same : q.steps + (k - q.steps) ≡ k = omega (arith, after) in
+            let there = further_on start q.steps (k - q.steps) ∙ ap (λ n. ahead start n) same in
+            subst (λ x. IsQuiet (breakpoints_of plan) x) there
+            (quiet_passed (ahead (ahead start q.steps) (k - q.steps)) fits
+            (subst (λ x. IsPassed (watched_of plan) (ahead x (k - q.steps))) q.ends.0
+            (s.passed (k - q.steps) rest))))
+            (cases_lt k q.steps);
+        running = subst (λ x. IsRunning x) led s.running;
+        within = omega (arith, place, within);
+        ends = (led, s.running, within);
+      }
 
 module _ (limit : ℕ) (plan : Option Listed) (start m : Standing) (q : Quietly limit (breakpoints_of plan) start m) where
   abbrev breakpoints : List Breakpoint

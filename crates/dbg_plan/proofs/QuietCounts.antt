@@ -12,7 +12,8 @@ use Rattle.dbg_plan.specs.Plans.{breakpoints_of}
 use Rattle.dbg_plan.specs.Counts.{IsCounting, debugged_of, plan_of, next_at, next_of}
 use Rattle.dbg_plan.specs.Kept.{trail_of}
 use Rattle.dbg_plan.specs.Debugged.{Debugged, machine_of, IsNext}
-use Rattle.dbg_plan.specs.Running.{ahead, forward, IsQuiet, RanFrom}
+use Rattle.pl0_machine.specs.Stretches.{ahead}
+use Rattle.dbg_plan.specs.Running.{forward, IsQuiet, RanFrom}
 use Rattle.dbg_plan.specs.Quiet.{Ends, EndsAt, RanByMachine, RanTo, considered_after}
 use Rattle.dbg_plan.proofs.Unwatched.{uncounted}
 use Rattle.dbg_plan.proofs.Further.{was_considered, stays_counting}

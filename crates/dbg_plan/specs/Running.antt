@@ -3,6 +3,7 @@ use Rattle.std.specs.Prelude.{◌≡◌, ℕ, ◌+◌, ◌<◌, ◌≤◌, ◌++
 use Rattle.std.specs.List.{list_any}
 use Rattle.pl0_meaning.specs.Runs.{written_by}
 use Rattle.pl0_machine.specs.Machine.{Standing, program, configuration, outcome_of}
+use Rattle.pl0_machine.specs.Stretches.{ahead}
 use Rattle.dbg_plan.specs.Breakpoints.{Breakpoint}
 use Rattle.dbg_plan.specs.Due.{arrives_in}
 use Rattle.dbg_plan.specs.declared.mode.Mode.TheVariants.{Continue}
@@ -12,10 +13,6 @@ use Rattle.dbg_plan.specs.Debugged.{Debugged, machine_of, IsRunning}
 use Rattle.dbg_plan.specs.Advances.{Advanced}
 
 -- ---- quiet steps
-
--- the machine n positions further
-abbrev pub ahead : Standing → ℕ → Standing
-ahead m n = record m { position = m.position + n }
 
 -- the program has arrived at one of these breakpoints, whether that is due there or not
 abbrev pub has_arrival : List Breakpoint → Standing → Bool

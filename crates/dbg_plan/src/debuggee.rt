@@ -13,9 +13,8 @@ use crate::evaluation::{EvalFault, evaluate};
 use crate::logs::Logs;
 use crate::mode::{Mode, Reason};
 use crate::plan::Plan;
-use crate::running::{run_on, stays_considered};
+use crate::running::{run_quietly, stays_considered};
 use crate::trail::Trail;
-use core::mem::replace_with;
 use pl0_machine::{Machine, StepOutcome};
 use pl0_meaning::RunFault;
 use pl0_tree::Expression;
@@ -225,7 +224,7 @@ impl Debuggee {
         ensures ran { RanTo limit self.old result self.new }
         ensures next { (written : Option ℤ) → result ≡ Some (Went written) → IsNext self.new }
     {
-        let outcome = replace_with(&mut self.machine, (limit, &self.plan), run_on);
+        let outcome = run_quietly(&mut self.machine, limit, &self.plan);
         self.considered = stays_considered(outcome);
         outcome
     }
