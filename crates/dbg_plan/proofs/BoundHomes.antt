@@ -17,14 +17,6 @@ use Rattle.dbg_plan.specs.declared.located.LocatedExpression.{LocatedExpression}
 use Rattle.dbg_plan.specs.declared.located.LocatedExpression.TheVariants as bound
 use Rattle.dbg_plan.specs.Bound.{IsDeclaredBound, IsNameBound}
 
-pub nowhere_bound : (main : Block) (q : Path) (w : List ℕ) → IsHomeAnswer main q (home main q w) None
-    → IsNameBound main q (home main q w) (bound.Number (pos 0))
-nowhere_bound main q w is = by_home (home main q w) is
-  where
-    by_home : (o : Option Home) → IsHomeAnswer main q o None → IsNameBound main q o (bound.Number (pos 0))
-    by_home None is = refl
-    by_home (Some h) is = absurd is
-
 module _ (main : Block) (q : Path) (w : List ℕ) (a : Answer) (is : IsHomeAnswer main q (home main q w) (Some a)) where
   -- what stands for the declaration of the home stands for the name
   pub bound_by : (m : Meaning) (b : LocatedExpression) → meaning_of a.meaning ≡ m
@@ -74,13 +66,3 @@ module _ (main : Block) (q : Path) (w : List ℕ) (a : Answer) (is : IsHomeAnswe
         ),
     refl,
   ))
-
-  pub variable_bound : (k : ℕ) → meaning_of a.meaning ≡ AVariable k
-      → IsNameBound main q (home main q w) (bound.Variable a.level k)
-  variable_bound k same =
-      bound_by (AVariable k) (bound.Variable a.level k) same
-      (λ r there level. ap (λ n. bound.Variable n k) (omega (arith, level)))
-
-  pub procedure_bound : (k : ℕ) → meaning_of a.meaning ≡ AProcedure k
-      → IsNameBound main q (home main q w) (bound.Number (pos 0))
-  procedure_bound k same = bound_by (AProcedure k) (bound.Number (pos 0)) same (λ r there level. refl)

@@ -153,14 +153,6 @@ lacks byte text none = λ k d lt is. none k lt (get_or_default text k 0 d lt ∙
 
 -- ---- messages
 
-pub no_message : (main : Block) (n : ℕ) (text : List ℕ) → text ≢ []
-    → ((parts : List Part) → ¬ IsMessageOf main (step_path main n) text parts) → ¬ HasMessageAt main n text
-no_message main n text some none has = by_message has.message has.reads
-  where
-    by_message : (o : Option Message) → ReadsMessageAt main n text o → ⊥
-    by_message None empty = some empty
-    by_message (Some m) reads = none m.parts reads.2
-
 -- what is read with names reads so whatever they mean
 pub reads_as : (main : Block) (q : Path) (text : List ℕ) (parts : List Part) → IsMessageOf main q text parts
     → ReadsAsParts text parts

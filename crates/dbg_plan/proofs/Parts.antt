@@ -27,9 +27,6 @@ rises_lower : (m n : ℕ) (bs : List Breakpoint) → m ≤ n → Rises n bs → 
 rises_lower m n [] le rises = tt
 rises_lower m n (b ∷ bs) le rises = let low = rises.0 in (omega arith, rises.1)
 
-is_of_same : (i : ℕ) (b : Breakpoint) → i ≡ b.step → is_of i b ≡ true
-is_of_same i b e = grind (arith, nat_tests)
-
 is_of_above : (i : ℕ) (b : Breakpoint) → i < b.step → is_of i b ≡ false
 is_of_above i b lt = grind (arith, nat_tests)
 

@@ -247,22 +247,6 @@ none_listed (b ∷ bs) all is e =
 
 -- ---- the walk along two lists
 
-pub same_so_far : (xs ys : List Breakpoint) (i : ℕ) (x y : Breakpoint) → i < length xs → i < length ys
-    → x ≡ get_or xs i x → y ≡ get_or ys i y →
-    map numbered_of (take i xs) ≡ map numbered_of (take i ys) → numbered_of x ≡ numbered_of y
-    → map numbered_of (take (i + 1) xs) ≡ map numbered_of (take (i + 1) ys)
-same_so_far xs ys i x y lt lt' is is' before same =
-    one_more xs i x lt is
-    ∙ ap (λ l. l ++ numbered_of x ∷ []) before
-    ∙ ap (λ e. map numbered_of (take i ys) ++ e ∷ []) same
-    ∙ sym (one_more ys i y lt' is')
-  where
-    one_more : (xs : List Breakpoint) (i : ℕ) (x : Breakpoint) → i < length xs → x ≡ get_or xs i x
-        → map numbered_of (take (i + 1) xs) ≡ map numbered_of (take i xs) ++ numbered_of x ∷ []
-    one_more xs i x lt is =
-        ap (map numbered_of) (take_more xs i x lt ∙ ap (λ b. take i xs ++ b ∷ []) (sym is))
-        ∙ map-append numbered_of (take i xs) (x ∷ [])
-
 pub same_there : (xs ys : List Breakpoint) (i : ℕ) (x y : Breakpoint) → i < length xs → i < length ys
     → x ≡ get_or xs i x → y ≡ get_or ys i y → map numbered_of xs ≡ map numbered_of ys → numbered_of x ≡ numbered_of y
 same_there xs ys i x y lt lt' is is' same =
@@ -276,9 +260,6 @@ same_there xs ys i x y lt lt' is is' same =
 
     some : (e f : Numbered) → ◌≡◌ {A = Option Numbered} (Some e) (Some f) → e ≡ f
     some e f is = cc
-
-pub same_long : (xs ys : List Breakpoint) → map numbered_of xs ≡ map numbered_of ys → length xs ≡ length ys
-same_long xs ys e = omega (arith, ap length e, length-map xs numbered_of, length-map ys numbered_of)
 
 -- ---- plans
 
@@ -318,7 +299,3 @@ no_plain (b ∷ bs) e = cc
 
 pub none_told : (bs : List Breakpoint) (r : Bool) → Decides r (bs ≡ []) → Decides r (plain_breakpoints bs ≡ [])
 none_told bs r told = Decides-like r (ap plain_breakpoints) (no_plain bs) told
-
-pub none_told_back : (bs : List Breakpoint) (r : Bool) → Decides r (bs ≡ [])
-    → Decides r (◌≡◌ {A = List PlainBreakpoint} [] (plain_breakpoints bs))
-none_told_back bs r told = Decides-like r (λ e. sym (ap plain_breakpoints e)) (λ e. no_plain bs (sym e)) told

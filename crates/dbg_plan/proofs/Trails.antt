@@ -87,9 +87,6 @@ pub record Thinning (old new : List Standing) (place : ℕ) : Type 0 where
   pub so_far : length done ≡ place
   pub left : length rest + 2 * place ≡ length old
 
-pub none_thinned : (old : List Standing) → Thinning old old 0
-none_thinned old = record { done = []; rest = old; is = refl; all = refl; so_far = refl; left = omega arith }
-
 take_first : (done rest : List Standing) (c : Standing) → take (length done + 1) (done ++ c ∷ rest) ≡ done ++ c ∷ []
 take_first [] rest c = refl
 take_first (d ∷ done) rest c =
@@ -128,16 +125,6 @@ thins old now next place t more removed = by_rest t.rest t.is t.all t.left
           so_far = length-append t.done (b ∷ []) ∙ omega (arith, n);
           left = omega (arith, left);
         }
-
-pub all_thinned : (old now : List Standing) (place : ℕ) → Thinning old now place → length old < 2 * place + 2
-    → now ≡ at_odd_places old
-all_thinned old now place t done = by_rest t.rest t.is t.all t.left
-  where
-    by_rest : (rest : List Standing) → now ≡ t.done ++ rest → at_odd_places old ≡ t.done ++ at_odd_places rest
-        → length rest + 2 * place ≡ length old → now ≡ at_odd_places old
-    by_rest [] is all left = is ∙ sym all
-    by_rest (b ∷ []) is all left = is ∙ sym all
-    by_rest (b ∷ c ∷ rest) is all left = absurd (omega (arith, left))
 
 -- ---- the rule
 

@@ -23,9 +23,6 @@ alive_before main n None h = h
 alive_before main n (Some []) h = absurd (omega (arith, h, ap length (over (nat_eq n last_position))))
 alive_before main n (Some (f ∷ below)) h = omega arith
 
-runs_one_before : (main : Block) (n : ℕ) → RunsAt main (n + 1) → RunsAt main n
-runs_one_before main n = rw add-one (λ (h : RunsAt main (suc n)). alive_before main n (at main n) h)
-
 -- what runs at a position ran at each one before it
 pub runs_before : (main : Block) (m n : ℕ) → m ≤ n → RunsAt main n → RunsAt main m
 runs_before main m zero le h = let e : m ≡ zero = omega (arith, le) in subst (λ k. RunsAt main k) (sym e) h

@@ -117,39 +117,10 @@ took_all to why most steps old new before is gone none =
         ⊎_elim (λ (lt : a < b). is ∙ min-eq_left (omega (arith, lt)))
         (λ (ge : b ≤ a). absurd (other (is ∙ min-eq_right ge))) (cases_lt a b)
 
-least_first : (a b : ℕ) → a ≤ b → min a b ≡ a
-least_first a b le = min-eq_left le
-
 moved_on : (old new : Debugged) (p t : ℕ) → new ≡ moved old p t → new ≡ moved old new.position new.counted_from
 moved_on old new p t is = is ∙ ap (λ (d : Debugged). moved old d.position d.counted_from) (sym is)
 
 -- ---- a search
-
--- it goes on
-pub searches_on : (n again : ℕ) (old new : Debugged) (found more : Option ℕ) (limit : ℕ)
-    → IsOn n old again (Searches found)
-    → limit ≡ min (n - 1) (again + slice_limit) → limit < n - 1 → new ≡ standing old limit → IsConsidered new
-    → more ≡ last_due (program_of new) new.breakpoints (limit + 1)
-    → RanAgain n again old (Searches found) limit new (Searches more)
-searches_on n again old new found more limit on is lt gone considered more_is =
-    let all : limit ≡ again + slice_limit =
-    ⊎_elim (λ (before : n - 1 < again + slice_limit). absurd
-    (omega (arith, lt, is, least_first (n - 1) (again + slice_limit) (omega (arith, before)))))
-    (λ (after : again + slice_limit ≤ n - 1). is ∙ min-eq_right after) (cases_lt (n - 1) (again + slice_limit)) in
-    record {
-      on = subst (λ d. IsOn n d limit (Searches more)) (sym gone) (
-        on.0,
-        omega (arith, lt),
-        refl,
-        more_is ∙ ap (λ (d : Debugged). last_due (program_of d) d.breakpoints (limit + 1)) gone,
-      );
-      leads = ap (λ (d : Debugged). reversed (program_of d) d.breakpoints n) gone;
-      kept = moved_on old new limit old.counted_from gone;
-      considered = considered;
-      further = omega (arith, all);
-      within = omega (arith, all);
-      all = λ none. all;
-    }
 
 -- it ends, and the run turns to where it stops
 module _ (n again : ℕ) (old : Debugged) (found more : Option ℕ) (limit : ℕ) (on : IsOn n old again (Searches found))
@@ -208,19 +179,3 @@ module _ (n again : ℕ) (old : Debugged) (found more : Option ℕ) (limit : ℕ
         }
 
 -- ---- on the way to where it stops
-
-pub returns_on : (n again : ℕ) (old : Debugged) (to : ℕ) (why : Reason) (steps : ℕ) (new : Debugged)
-    → IsOn n old again (Returns to why)
-    → steps ≡ min slice_limit (to - old.position) → new ≡ standing old (old.position + steps) → IsConsidered new
-    → RanAgain n again old (Returns to why) (again + steps) new (Returns to why)
-returns_on n again old to why steps new on is went considered =
-    let least = min-le_left slice_limit (to - old.position) in
-    record {
-      on = goes_on_returning n again old to why slice_limit steps new on is went;
-      leads = refl;
-      kept = moved_on old new (old.position + steps) old.counted_from went;
-      considered = considered;
-      further = omega arith;
-      within = omega (arith, is, least);
-      all = λ none. let all = took_all to why slice_limit steps old new on.0 is went none in omega (arith, all);
-    }

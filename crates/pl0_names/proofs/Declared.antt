@@ -138,12 +138,6 @@ table_means main tables all n table here w found is q at =
     ∙ meant_known (first_declaration w there.0) ∙ ap (λ o. option_map means
     (option_and_then (first_declaration w) o)) (sym there.1)
 
-pub no_tables : (main : Block) → AreTables main []
-no_tables main n table q b here at there = absurd (none_here here)
-  where
-    none_here : None ≡ Some table → ⊥
-    none_here e = cc
-
 -- one table more
 pub one_table_more : (main b : Block) (tables : List (List (List (List ℕ × Declared))))
     (table : List (List (List ℕ × Declared))) (n : ℕ) → AreTables main tables → length tables ≡ n → IsTableOf b table →

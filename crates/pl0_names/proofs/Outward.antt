@@ -73,12 +73,6 @@ pub record IsWalk (main : Block) (w : List ℕ) (start n levels : ℕ) : Type 0 
   pub within : n < length (blocks main)
   pub walked : (q : Path) → slice_get (blocks main) start ≡ Some q → Walked main w q n levels
 
-pub walk_begins : (main : Block) (w : List ℕ) (start : ℕ) → start < length (blocks main) → IsWalk main w start start 0
-walk_begins main w start lt = record {
-  within = lt;
-  walked = λ q begins. record { path = q; at = begins; levels_are = omega arith; same = refl };
-}
-
 -- what the block of a number declares the word as
 abbrev pub Says : Block → List ℕ → ℕ → Option Kept → Type 0
 Says main w n said =

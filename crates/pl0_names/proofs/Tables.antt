@@ -1,11 +1,11 @@
 -- What the map of indices says, beside the log.
-use Rattle.std.proofs.Common.{Bool, ◌≡◌, ℕ, ◌+◌, ◌-◌, ◌<◌, List, [], ◌∷◌, length, reverse, get_or, refl, sym, ap, subst, ◌∙◌, Option, Some, None, true, false, cond, arith, rules}
+use Rattle.std.proofs.Common.{Bool, ◌≡◌, ℕ, ◌+◌, ◌-◌, ◌<◌, List, ◌∷◌, length, reverse, get_or, refl, sym, ap, subst, ◌∙◌, Option, Some, None, true, cond, arith, rules}
 use Rattle.std.specs.Prelude.{IsSome, is_some, option_map, Result, Ok, Err, OnOk, OnErr}
 use Rattle.std.specs.Map.{update}
 use Rattle.std.specs.Str.{bytes_eq}
 use Rattle.std.specs.HashMap.{HashMap}
 use Rattle.std.proofs.lemmas.Slice.Eq.{bytes_eq-Decides}
-use Rattle.std.proofs.lemmas.Bool.{both_ways, eqb-true, eqb-false}
+use Rattle.std.proofs.lemmas.Bool.{both_ways, eqb-true}
 use Rattle.std.proofs.lemmas.List.{reverse-reverse, length-reverse}
 use denote.Ref.{Bor}
 use Rattle.pl0_names.specs.declared.log.Entry.{Entry}
@@ -29,14 +29,6 @@ module _ {T : Type 0} where
       let both : IsNested n (e ∷ es) = subst (IsNested n) is nested in
       let first : e.level < n = both.0 in
       nested_more (e.level + 1) n es (omega arith) both.1
-
-  -- no declaration of the innermost block is left
-  pub all_cut : (n : ℕ) (es : List (Entry T)) → ends_at n es ≡ false → IsNested (n + 1) es → IsNested n es
-  all_cut n [] ends nested = tt
-  all_cut n (e ∷ es) ends nested =
-      let other : e.level ≡ n → ⊥ = eqb-false e.level n ends in
-      let first : e.level < n + 1 = nested.0 in
-      (omega arith, nested.1)
 
 module _ {S T : Type 0} where
   pub put_indexed : (m m' : HashMap (Bor (List ℕ)) ℕ S) (e : Entry T) (es es' : List (Entry T)) (at : ℕ)

@@ -34,10 +34,6 @@ skip (suc k) p (b ∷ bytes) stays =
     ap (λ c. tokens_from (record { line = p.line; column = c }) 0 (drop k bytes))
     (let same : p.column + 1 + k ≡ p.column + suc k = omega arith in same)
 
-pub past_space : (p : Place) (b : ℕ) (bytes : List ℕ) → is_space b ≡ true
-    → tokens_from p 0 (b ∷ bytes) ≡ tokens_from (behind p b) 0 bytes
-past_space p b bytes space = cond-true (is_space b) _ _ space
-
 pub past_token : (p : Place) (b : ℕ) (bytes : List ℕ) (s : Seen) (size : ℕ) → is_space b ≡ false
     → IsPiece (b ∷ bytes) s size → tokens_from p 0 (b ∷ bytes) ≡ at (symbol_of s) p
     ∷ tokens_from (along p size) 0 (drop size (b ∷ bytes))
