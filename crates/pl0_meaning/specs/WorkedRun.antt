@@ -1,31 +1,39 @@
 -- A worked example: the run of a text with nested procedures, computed from the definitions of `Values` and `Runs`.
--- Each line that ends in `refl` was checked by computing both of its sides.
---
---      1  var n;
---      2  procedure p;
---      3  var k;
---      4  procedure q;
---      5  k := k + n;
---      6  begin
---      7  k := n;
---      8  n := n - 1;
---      9  if n > 0 then call p;
---     10  call q;
---     11  ! k
---     12  end;
---     13  begin n := 2; call p end.
+-- Each line that ends in `refl` was checked by computing both of its sides; `reads_as_main` derives by the grammar that
+-- the bytes of the text read as the tree.
 use Rattle.std.specs.Prelude.{◌≡◌, ℕ, zero, suc, ◌+◌, ◌++◌, List, [], ◌∷◌, length, Option, Some, None, ℤ, pos, refl, map, codes}
 use Rattle.pl0_tree.specs.declared.tree.Place.{Place}
+use Rattle.pl0_tree.specs.declared.tree.Operator.{Operator}
 use Rattle.pl0_tree.specs.declared.tree.Operator.TheVariants.{Add, Subtract}
 use Rattle.pl0_tree.specs.declared.tree.Relation.TheVariants.{Greater}
-use Rattle.pl0_tree.specs.Tree.{Name, Variable, Number, Binary, Compare, Empty, Then, Assign, Call, Write, If, Block, ABlock, NoMore, AProcedure}
+use Rattle.pl0_tree.specs.declared.token.Mark.{Mark}
+use Rattle.pl0_tree.specs.Tree.{Name, Expression, Variable, Number, Binary, Compare, Empty, Then, Assign, Call, Write, If, Block, ABlock, NoMore, AProcedure}
 use Rattle.pl0_tree.specs.Steps.{StepAt}
+use Rattle.pl0_tree.specs.Tokens.{Token, Named, Numeral, Marked, tokens_of}
+use Rattle.pl0_tree.specs.Reading.{at as token_at, name_at, IsAdding, plus, minus, greater, ReadsTerm, ReadsExpression, unsigned, no_term, one_term, factors, no_factor, name, number, comparison, assignment, call, write, sequence, choice, last_statement, one_statement, no_constants, variables, no_variables, last_variable, block, no_procedure, one_procedure, ReadsProgram, program}
 use Rattle.pl0_meaning.specs.Values.{Configuration, next_step}
 use Rattle.pl0_meaning.specs.Runs.{at, written}
 
 abbrev line_and_column : Option StepAt → ℕ × ℕ
 line_and_column None = (0, 0)
 line_and_column (Some s) = (s.place.line, s.place.column)
+
+-- the text; below, places are line and column in it
+abbrev text : List ℕ
+text =
+    codes "var n;\n"
+    ++ codes "procedure p;\n"
+    ++ codes "var k;\n"
+    ++ codes "procedure q;\n"
+    ++ codes "k := k + n;\n"
+    ++ codes "begin\n"
+    ++ codes "k := n;\n"
+    ++ codes "n := n - 1;\n"
+    ++ codes "if n > 0 then call p;\n"
+    ++ codes "call q;\n"
+    ++ codes "! k\n"
+    ++ codes "end;\n"
+    ++ codes "begin n := 2; call p end."
 
 -- a row of the table of a run: the depth, and where the next step stands
 abbrev row : Block → Option Configuration → List (ℕ × (ℕ × ℕ))
@@ -80,6 +88,41 @@ outer = ABlock [] (k 3 5 ∷ []) (AProcedure (q 4 11) inner NoMore)
 abbrev main : Block
 main = ABlock [] (n 1 5 ∷ []) (AProcedure (p 2 11) outer NoMore)
     (Then (Assign (n 13 7) (Number (pos 2))) (Then (Call (place 13 15) (p 13 20)) Empty)) (place 13 25)
+
+-- a name or a number by itself is an expression
+a_name : {n : ℕ} {word : List ℕ} {p : Place} {rest : List Token} →
+    ReadsExpression n (token_at (Named word) p ∷ rest) (Variable (name_at word p)) rest
+a_name = unsigned (factors name no_factor) no_term
+
+a_number : {n : ℕ} {v : ℤ} {p : Place} {rest : List Token} →
+    ReadsExpression n (token_at (Numeral v) p ∷ rest) (Number v) rest
+a_number = unsigned (factors number no_factor) no_term
+
+-- a name, a sign and a term
+two_terms : {n : ℕ} {word : List ℕ} {p q : Place} {m : Mark} {o : Operator} {s rest : List Token}
+    {right : Expression} → IsAdding m o → ReadsTerm n s right rest →
+    ReadsExpression n (token_at (Named word) p ∷ token_at (Marked m) q ∷ s)
+    (Binary o (Variable (name_at word p)) right) rest
+two_terms sign term = unsigned (factors name no_factor) (one_term sign term no_term)
+
+-- the bytes of the text read as the tree
+reads_as_main : ReadsProgram 64 (tokens_of text) main
+reads_as_main =
+    program (block no_constants (variables last_variable)
+    (one_procedure
+    (block no_constants (variables last_variable)
+    (one_procedure
+    (block no_constants no_variables no_procedure
+    (assignment (two_terms plus (factors name no_factor))))
+    no_procedure)
+    (sequence
+    (one_statement (assignment a_name)
+    (one_statement (assignment (two_terms minus (factors number no_factor)))
+    (one_statement (choice (comparison a_name greater a_number) call)
+    (one_statement call
+    (last_statement (write a_name))))))))
+    no_procedure)
+    (sequence (one_statement (assignment a_number) (last_statement call))))
 
 -- The run has 20 steps. Each row has the number of frames alive before a step, and its line and column.
 first_half : table main 0 10 ≡
