@@ -130,21 +130,13 @@ one_line_fault fields line TooLarge TooLarge h b = refl
 pub fault_cases : (bytes : List ℕ) (k : FramingFault) → FaultAt bytes k → ((k ≡ HeaderTooLong) × IsTooLong bytes)
     ⊎ HasFaultyLine bytes k
 fault_cases bytes HeaderTooLong h = inl (refl, h)
-fault_cases bytes BadField h = inr h
-fault_cases bytes NoLength h = inr h
-fault_cases bytes TwoLengths h = inr h
-fault_cases bytes BadLength h = inr h
-fault_cases bytes TooLarge h = inr h
 fault_cases bytes NoMemory h = absurd h
+fault_cases bytes _ h = inr h
 
 pub fault_from_line : (bytes : List ℕ) (k : FramingFault) → HasFaultyLine bytes k → FaultAt bytes k
 fault_from_line bytes HeaderTooLong h = absurd h.faulty
-fault_from_line bytes BadField h = h
-fault_from_line bytes NoLength h = h
-fault_from_line bytes TwoLengths h = h
-fault_from_line bytes BadLength h = h
-fault_from_line bytes TooLarge h = h
 fault_from_line bytes NoMemory h = absurd h.faulty
+fault_from_line bytes _ h = h
 
 -- after faultless fields and a part in which no line ends stands no faulty line
 pub no_faulty_line : (fs : List Field) (part : List ℕ) (k : FramingFault) → AreFaultless fs → HasNoLineEnd part

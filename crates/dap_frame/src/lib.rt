@@ -1,19 +1,17 @@
 //! Frames of the Debug Adapter Protocol's base protocol: read from a stream that comes in any pieces, and written.
 //!
 //! ```
-//! let mut stream = Vec::new(alloc);
-//! encode(b"{}".as_slice(), &mut stream).expect(&rt, "memory");
-//! assert_eq!(&rt;
-//!     stream.as_slice(),
-//!     b"Content-Length: 2\r\n\r\n{}".as_slice()
-//! );
-//! let mut decoder = Decoder::new(alloc);
-//! decoder.feed(stream.as_slice()).expect(&rt, "memory");
-//! let content = decoder
-//!     .next_content()
-//!     .expect(&rt, "no fault")
-//!     .expect(&rt, "a content");
-//! assert_eq!(&rt; content.as_slice(), b"{}".as_slice());
+//! use dap_frame::{Decoder, FramingFault, encode};
+//! use std::alloc::Global;
+//!
+//! /// Frames a content, and reads it back: the result is `Some` of the same bytes, if there are at most 1,048,576.
+//! fn round_trip(alloc: Global, content: &[u8]) -> Result<Option<Vec<u8>>, FramingFault> {
+//!     let mut stream = Vec::new(alloc);
+//!     encode(content, &mut stream)?;
+//!     let mut decoder = Decoder::new(alloc);
+//!     decoder.feed(stream.as_slice())?;
+//!     decoder.next_content()
+//! }
 //! ```
 //!
 //! The one contract: after any pieces, the stream is the frames of the contents returned so far, followed by the bytes that

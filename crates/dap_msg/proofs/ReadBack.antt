@@ -33,7 +33,7 @@ use Rattle.dap_msg.specs.declared.outgoing.EventBody.TheVariants as event
 use Rattle.dap_msg.specs.declared.outgoing.Scope.{Scope}
 use Rattle.dap_msg.specs.declared.outgoing.StackFrame.{StackFrame}
 use Rattle.dap_msg.specs.declared.outgoing.StopReason.TheVariants as reason
-use Rattle.dap_msg.proofs.Names.{says}
+use Rattle.dap_msg.proofs.Said.{says}
 
 -- ---- values with their keys in order
 
@@ -232,12 +232,12 @@ breakpoint_fits (At line) fits = (fits, (tt, tt))
 breakpoint_fits (Unverified why) fits = (tt, (tt, tt))
 
 frame_fits : (path : List ℕ) (f : StackFrame) → FrameFits f → Fits (stack_frame path f)
-frame_fits path f fits = (fits.2, (fits.0, (fits.1, (tt, ((tt, tt), tt)))))
+frame_fits path f fits = search fits
 
 scope_fits : (s : Scope) → ReferenceFits s → Fits (scope s)
 scope_fits s fits = (tt, (tt, (fits, tt)))
 
-small : (n : ℕ) → n ≤ 1 → n < 2 ^ 64
+small : (n : ℕ) → n ≤ 9 → n < 2 ^ 64
 small n is = omega arith
 
 message_fits : (message : Outgoing) (seq : ℕ) → NumbersFit message → seq < 2 ^ 64 → Fits (value_of message seq)
@@ -247,7 +247,7 @@ message_fits (Answer request_seq command (Ok body.Capabilities)) seq fits below 
 message_fits (Answer request_seq command (Ok (body.Breakpoints answers))) seq fits below =
     ((each_fits breakpoint LineFits breakpoint_fits answers fits.1, tt), (tt, (fits.0, (below, (tt, (tt, tt))))))
 message_fits (Answer request_seq command (Ok body.Threads)) seq fits below =
-    ((((small 1 (lit≤ tt), (tt, tt)), tt), tt), (tt, (fits.0, (below, (tt, (tt, tt))))))
+    ((((small _ (lit≤ tt), (tt, tt)), tt), tt), (tt, (fits.0, (below, (tt, (tt, tt))))))
 message_fits (Answer request_seq command (Ok body.Continued)) seq fits below =
     ((tt, tt), (tt, (fits.0, (below, (tt, (tt, tt))))))
 message_fits (Answer request_seq command (Ok (body.StackTrace path frames total))) seq fits below = (
@@ -257,23 +257,23 @@ message_fits (Answer request_seq command (Ok (body.StackTrace path frames total)
 message_fits (Answer request_seq command (Ok (body.Scopes scopes))) seq fits below =
     ((each_fits scope ReferenceFits scope_fits scopes fits.1, tt), (tt, (fits.0, (below, (tt, (tt, tt))))))
 message_fits (Answer request_seq command (Ok (body.Variables variables))) seq fits below = (
-  (each_fits variable (λ v. Unit {0}) (λ v is. (tt, (tt, (small 0 (lit≤ tt), tt)))) variables (λ k d lt. tt), tt),
+  (each_fits variable (λ v. Unit {0}) (λ v is. (tt, (tt, (small _ (lit≤ tt), tt)))) variables (λ k d lt. tt), tt),
   (tt, (fits.0, (below, (tt, (tt, tt))))),
 )
 message_fits (Answer request_seq command (Ok (body.Value v))) seq fits below =
-    ((tt, (small 0 (lit≤ tt), tt)), (tt, (fits.0, (below, (tt, (tt, tt))))))
+    ((tt, (small _ (lit≤ tt), tt)), (tt, (fits.0, (below, (tt, (tt, tt))))))
 message_fits (Answer request_seq command (Err r)) seq fits below = (tt, (tt, (tt, (fits.0, (below, (tt, (tt, tt)))))))
 message_fits (Event event.Initialized) seq fits below = (tt, (below, (tt, tt)))
 message_fits (Event (event.Stopped reason.Breakpoint)) seq fits below =
-    ((tt, (tt, (small 1 (lit≤ tt), tt))), (tt, (below, (tt, tt))))
+    ((tt, (tt, (small _ (lit≤ tt), tt))), (tt, (below, (tt, tt))))
 message_fits (Event (event.Stopped reason.Step)) seq fits below =
-    ((tt, (tt, (small 1 (lit≤ tt), tt))), (tt, (below, (tt, tt))))
+    ((tt, (tt, (small _ (lit≤ tt), tt))), (tt, (below, (tt, tt))))
 message_fits (Event (event.Stopped reason.Entry)) seq fits below =
-    ((tt, (tt, (small 1 (lit≤ tt), tt))), (tt, (below, (tt, tt))))
+    ((tt, (tt, (small _ (lit≤ tt), tt))), (tt, (below, (tt, tt))))
 message_fits (Event (event.Stopped reason.Pause)) seq fits below =
-    ((tt, (tt, (small 1 (lit≤ tt), tt))), (tt, (below, (tt, tt))))
+    ((tt, (tt, (small _ (lit≤ tt), tt))), (tt, (below, (tt, tt))))
 message_fits (Event (event.Stopped (reason.Exception fault))) seq fits below =
-    ((tt, (tt, (tt, (small 1 (lit≤ tt), tt)))), (tt, (below, (tt, tt))))
+    ((tt, (tt, (tt, (small _ (lit≤ tt), tt)))), (tt, (below, (tt, tt))))
 message_fits (Event (event.Output v)) seq fits below = ((tt, (tt, tt)), (tt, (below, (tt, tt))))
 message_fits (Event (event.Log text)) seq fits below = ((tt, (tt, tt)), (tt, (below, (tt, tt))))
 message_fits (Event (event.Exited code)) seq fits below = ((fits, tt), (tt, (below, (tt, tt))))

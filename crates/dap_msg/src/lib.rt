@@ -2,33 +2,47 @@
 //! written as contents.
 //!
 //! ```
-//! let content = br#"{"seq":3,"type":"request","command":"threads"}"#;
-//! let request = read(alloc, content.as_slice())
-//!     .expect(&rt, "memory")
-//!     .expect(&rt, "a request");
-//! let answer = Outgoing::Answer {
-//!     request_seq: request.seq,
-//!     command: request.body.into_name(),
-//!     result: Ok(Body::Threads),
-//! };
-//! let mut text = Vec::new(alloc);
-//! write(&answer, 1, &mut text).expect(&rt, "memory");
-//! let expected =
-//!     br#"{"body":{"threads":[{"id":1,"name":"main"}]},"command":"threads","request_seq":3,"seq":1,"success":true,"type":"response"}"#;
-//! assert_eq!(&rt; text.as_slice(), expected.as_slice());
+//! use dap_msg::{Body, Command, MsgFault, Outgoing, Refusal, read, write};
+//! use std::alloc::Global;
+//!
+//! /// Returns the content of the answer to a request, numbered `seq`, or `None` where the content is no request.
+//! fn answered(alloc: Global, content: &[u8], seq: u64) -> Result<Option<Vec<u8>>, MsgFault> {
+//!     let Some(request) = read(alloc, content)? else {
+//!         return Ok(None);
+//!     };
+//!     let result = match &request.body {
+//!         Command::Threads => Ok(Body::Threads),
+//!         _ => Err(Refusal::Unsupported),
+//!     };
+//!     let answer = Outgoing::Answer {
+//!         request_seq: request.seq,
+//!         command: request.body.into_name(),
+//!         result,
+//!     };
+//!     let mut text = Vec::new(alloc);
+//!     write(&answer, seq, &mut text)?;
+//!     Ok(Some(text))
+//! }
 //! ```
 //!
+//! It serves a debugger of whole numbers with one thread: the capabilities, the thread `main`, the refusals and the faults
+//! of a program are those of this repository's adapter. For another language it is a pattern.
+//!
 //! The one contract: [`read`] returns exactly the request that a content is, or `None` where it is
-//! none; which value a content has is said by `serde_json`'s own definition of reading. [`write`]
+//! none; which value a content has is said by `serde_json`'s own definition of reading. [`read_from`] does the same
+//! by the first `seq` that the client may use. [`write`]
 //! appends exactly the defined text of a message.
 //!
 //! Each command has a file in `src/requests` (its arguments, and the body of its answer) and one in
 //! `specs` that defines them; `Request` in `specs` says which request a content is, and `Outgoing`
 //! what the content of a message is. A further command needs a variant of [`Supported`], of
 //! [`Command`] and of [`Body`], and such a pair of files; one that asks about the program where it stands
-//! needs a variant of [`Question`] and of [`QuestionKind`] in place of the first two. [`message_laws`] says of all contents
-//! what doesn't depend on the commands: a content is one request or none (`proofs/Once`), and a
-//! request has the `seq` and the `command` of its content (`proofs/WellFormed`).
+//! needs a variant of [`Question`] and of [`QuestionKind`] in place of the first two, and one that resumes or goes
+//! back a variant of [`ResumeKind`] or [`RetreatKind`].
+//!
+//! [`message_laws`] is the check on these definitions: a content is one request or none (`proofs/Once`), with its
+//! `seq` and `command` (`proofs/WellFormed`); what a request asks is said member by member in `Asked` of `specs`,
+//! and what a message says in `Said`, in the protocol's words and without the other files.
 #![tactic(auto)]
 
 mod arguments;
@@ -55,8 +69,8 @@ pub use outgoing::{
     StackFrame, StopReason, Variable,
 };
 pub use question::{Question, QuestionKind};
-pub use reading::read;
-pub use request::Request;
+pub use reading::{read, read_from};
+pub use request::{FirstSeq, Request};
 pub use requests::evaluate::EvaluateArguments;
 pub use requests::initialize::InitializeArguments;
 pub use requests::launch::LaunchArguments;

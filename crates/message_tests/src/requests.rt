@@ -1,7 +1,7 @@
 //! Tests of contents read as requests.
 
 use crate::text::repeated;
-use dap_msg::{Request, read};
+use dap_msg::{FirstSeq, Request, read, read_from};
 use std::alloc::Global;
 use std::process::Abort;
 
@@ -51,18 +51,25 @@ const CONTENTS: [(&[u8], &str); 14] = [
     ),
 ];
 
-/// Values of `seq`, and what a request with each of them is read as.
-const SEQS: [(&str, &str); 9] = [
-    ("0", "None"),
-    ("1.0", "None"),
-    ("1e0", "None"),
-    ("\"1\"", "None"),
-    ("-1", "None"),
-    ("-0", "None"),
-    ("1e400", "None"),
-    ("9007199254740992", "None"),
+/// The number of a request for `threads`, and what it is read as where clients count from 1 and where they count from 0.
+const SEQS: [(&str, &str, &str); 11] = [
+    ("0", "None", "Some(Request { seq: 0, body: Threads })"),
+    ("1.0", "None", "None"),
+    ("1e0", "None", "None"),
+    ("\"1\"", "None", "None"),
+    ("-1", "None", "None"),
+    ("-0", "None", "None"),
+    ("0.0", "None", "None"),
+    ("1e400", "None", "None"),
+    ("9007199254740992", "None", "None"),
+    (
+        "1",
+        "Some(Request { seq: 1, body: Threads })",
+        "Some(Request { seq: 1, body: Threads })",
+    ),
     (
         "9007199254740991",
+        "Some(Request { seq: 9007199254740991, body: Threads })",
         "Some(Request { seq: 9007199254740991, body: Threads })",
     ),
 ];
@@ -368,11 +375,17 @@ fn reads_contents(rt: HostRuntime) {
 #[test]
 fn reads_seqs(rt: HostRuntime) {
     let alloc = rt.alloc();
-    for (seq, expected) in SEQS.as_slice() {
+    for (seq, from_one, from_zero) in SEQS.as_slice() {
         let content = format!(in alloc;
             "{{\"command\":\"threads\",\"type\":\"request\",\"seq\":{seq}}}"
         ).expect(&rt, "memory");
-        assert!(rt; reads(&rt, alloc, content.as_bytes(), expected), "{seq}");
+        let content = content.as_bytes();
+        assert!(rt; reads(&rt, alloc, content, from_one), "{seq}");
+        for (first, expected) in [(FirstSeq::One, from_one), (FirstSeq::Zero, from_zero)] {
+            let request = read_from(alloc, first, content).expect(&rt, "memory");
+            let request = format!(in alloc; "{request:?}").expect(&rt, "memory");
+            assert_eq!(rt; request.as_str(), *expected, "{seq} from {first:?}");
+        }
     }
 }
 

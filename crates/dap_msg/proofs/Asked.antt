@@ -1,0 +1,769 @@
+-- What a request asks is what its content says.
+use Rattle.std.proofs.Common.{◌≡◌, ℕ, ◌≤◌, nat_le, Bool, true, false, not, List, [], ◌∷◌, length, codes, Option, None, Some, option_map, option_and_then, refl, sym, ap, subst, ◌∙◌, arith}
+use Rattle.std.specs.Prelude.{All, unwrap_or, is_some}
+use Rattle.std.specs.Option.{option_map_or}
+use Rattle.std.proofs.lemmas.Bool.{and_parts, and_from, true≢false, leb-true, le-leb}
+use Rattle.std.proofs.lemmas.Slice.Eq.{bytes_eq-Decides}
+use Rattle.serde_json.specs.Data.{Data, null, boolean, number, string, array, object, unsigned, Items, no_items, item, Members, no_members}
+use Rattle.serde_json.specs.Find.{get, as_bool, as_str, as_array}
+use Rattle.dap_msg.specs.Arguments.{object_or_empty, or_default, optional, required, from_two, from_three, from_four, whole, whole_to, last_whole, text_to}
+use Rattle.dap_msg.specs.Asked.{IsCalled, IsPrintable, AsksInitialize, AsksLaunch, AsksBreakpoint, AsksSetBreakpoints, AsksThread, AsksStackTrace, AsksScopes, AsksVariables, AsksEvaluate, IsGiven, IsAsked}
+use Rattle.dap_msg.specs.Commands.{command_text, supported_command}
+use Rattle.dap_msg.specs.Evaluate.{evaluate_arguments, expression_limit}
+use Rattle.dap_msg.specs.Initialize.{initialize_arguments}
+use Rattle.dap_msg.specs.Launch.{is_path, path, debugs, launch_arguments}
+use Rattle.dap_msg.specs.Laws.{ArgumentsAreMembers}
+use Rattle.dap_msg.specs.Members.{Has, HasOr, IsObjectOrAbsent, SayEach}
+use Rattle.dap_msg.specs.Questions.{question_text, question_kind, question_of}
+use Rattle.dap_msg.specs.Request.{IsReadAs, fitted_or_bad, command_of}
+use Rattle.dap_msg.specs.Resume.{resume_text, retreat_text, thread_arguments}
+use Rattle.dap_msg.specs.Scopes.{scopes_arguments}
+use Rattle.dap_msg.specs.SetBreakpoints.{last_line, text_limit, breakpoint_limit, some_text, only_object, breakpoint_of_object, read_each, source_breakpoint, source_breakpoints, source_path, set_breakpoints_arguments}
+use Rattle.dap_msg.specs.StackTrace.{stack_trace_arguments}
+use Rattle.dap_msg.specs.Variables.{variables_arguments}
+use Rattle.dap_msg.specs.declared.command.Command.{Command}
+use Rattle.dap_msg.specs.declared.command.Command.TheVariants as command
+use Rattle.dap_msg.specs.declared.command.Supported.{Supported}
+use Rattle.dap_msg.specs.declared.command.Supported.TheVariants as supported
+use Rattle.dap_msg.specs.declared.question.Question.{Question}
+use Rattle.dap_msg.specs.declared.question.Question.TheVariants as question
+use Rattle.dap_msg.specs.declared.question.QuestionKind.{QuestionKind}
+use Rattle.dap_msg.specs.declared.question.QuestionKind.TheVariants as kind
+use Rattle.dap_msg.specs.declared.requests.evaluate.EvaluateArguments.{EvaluateArguments}
+use Rattle.dap_msg.specs.declared.requests.initialize.InitializeArguments.{InitializeArguments}
+use Rattle.dap_msg.specs.declared.requests.launch.LaunchArguments.{LaunchArguments}
+use Rattle.dap_msg.specs.declared.requests.resume.ResumeKind.{ResumeKind}
+use Rattle.dap_msg.specs.declared.requests.resume.ResumeKind.TheVariants as resume
+use Rattle.dap_msg.specs.declared.requests.resume.RetreatKind.{RetreatKind}
+use Rattle.dap_msg.specs.declared.requests.resume.RetreatKind.TheVariants as retreat
+use Rattle.dap_msg.specs.declared.requests.resume.ThreadArguments.{ThreadArguments}
+use Rattle.dap_msg.specs.declared.requests.scopes.ScopesArguments.{ScopesArguments}
+use Rattle.dap_msg.specs.declared.requests.set_breakpoints.SetBreakpointsArguments.{SetBreakpointsArguments}
+use Rattle.dap_msg.specs.declared.requests.set_breakpoints.SourceBreakpoint.{SourceBreakpoint}
+use Rattle.dap_msg.specs.declared.requests.stack_trace.StackTraceArguments.{StackTraceArguments}
+use Rattle.dap_msg.specs.declared.requests.variables.VariablesArguments.{VariablesArguments}
+use Rattle.dap_msg.proofs.Ascii.{printable_is, printable_back}
+use Rattle.dap_msg.proofs.Names.{names_are_read_back}
+use Rattle.dap_msg.proofs.Options.{and_then_is, map_is, filter_is, kept_by, text_is, whole_is}
+use Rattle.dap_msg.proofs.WellFormed.{named_is, named_so, parts_of, value_is}
+
+-- ---- ways of reading a value
+
+-- the values that are read are those that show such a result, and each of these is read
+record Reads (A : Type 0) (read : Data → Option A) (shown : A → Data) (P : A → Type 0) : Type 0 where
+  turned : (d : Data) (x : A) → read d ≡ Some x → (d ≡ shown x) × P x
+  back : (x : A) → P x → read (shown x) ≡ Some x
+  same : (x y : A) → shown x ≡ shown y → x ≡ y
+
+bool_is : (d : Data) (b : Bool) → as_bool d ≡ Some b → d ≡ boolean b
+bool_is (boolean c) b is = let same : c ≡ b = cc in ap boolean same
+bool_is null b is = absurd (cc)
+bool_is (number n) b is = absurd (cc)
+bool_is (string s) b is = absurd (cc)
+bool_is (array ds) b is = absurd (cc)
+bool_is (object ms) b is = absurd (cc)
+
+array_is : (d : Data) (ds : Items) → as_array d ≡ Some ds → d ≡ array ds
+array_is (array es) ds is = let same : es ≡ ds = cc in ap array same
+array_is null ds is = absurd (cc)
+array_is (boolean b) ds is = absurd (cc)
+array_is (number n) ds is = absurd (cc)
+array_is (string s) ds is = absurd (cc)
+array_is (object ms) ds is = absurd (cc)
+
+bools : Reads Bool as_bool boolean (λ b. Unit {0})
+bools = record {
+  turned = λ d b is. (bool_is d b is, tt);
+  back = λ b any. refl;
+  same = λ b c is. cc;
+}
+
+abbrev as_whole : ℕ → Data
+as_whole n = number (unsigned n)
+
+wholes : (limit : ℕ) → Reads ℕ (whole_to limit) as_whole (λ n. n ≤ limit)
+wholes limit = record {
+  turned = λ d n is. let kept =
+      filter_is (λ k. nat_le k limit) (whole d) n is in (whole_is d n kept.0, leb-true n limit kept.1);
+  back = λ n le. kept_by (λ k. nat_le k limit) n (le-leb n limit le);
+  same = λ m n is. cc;
+}
+
+texts : (limit : ℕ) → Reads (List ℕ) (text_to limit) string (λ s. length s ≤ limit)
+texts limit = record {
+  turned = λ d s is. let kept =
+      filter_is (λ t. nat_le (length t) limit) (as_str d) s is in
+      (text_is d s kept.0, leb-true (length s) limit kept.1);
+  back = λ s le. kept_by (λ t. nat_le (length t) limit) s (le-leb (length s) limit le);
+  same = λ s t is. cc;
+}
+
+abbrev IsPath : List ℕ → Type 0
+IsPath s = (1 ≤ length s) × (length s ≤ 255) × All IsPrintable s
+
+path_is : (s : List ℕ) → is_path s ≡ true → IsPath s
+path_is s is =
+    let first = and_parts _ _ is in
+    let size = and_parts _ _ first.0 in
+    (leb-true 1 (length s) size.0, leb-true (length s) 255 size.1, printable_is s first.1)
+
+path_back : (s : List ℕ) → IsPath s → is_path s ≡ true
+path_back s is =
+    and_from _ _ (and_from _ _ (le-leb 1 (length s) is.0) (le-leb (length s) 255 is.1)) (printable_back s is.2)
+
+paths : Reads (List ℕ) path string IsPath
+paths = record {
+  turned = λ d s is. let kept = filter_is is_path (as_str d) s is in (text_is d s kept.0, path_is s kept.1);
+  back = λ s is. kept_by is_path s (path_back s is);
+  same = λ s t is. cc;
+}
+
+not_true : (b : Bool) → not b ≡ true → b ≡ false
+not_true true is = absurd (true≢false (sym is))
+not_true false is = refl
+
+read_false : (b : Bool) → b ≡ false → debugs (boolean b) ≡ Some b
+read_false true is = absurd (true≢false is)
+read_false false is = refl
+
+no_debugs : Reads Bool debugs boolean (λ b. b ≡ false)
+no_debugs = record {
+  turned = λ d b is. let kept = filter_is not (as_bool d) b is in (bool_is d b kept.0, not_true b kept.1);
+  back = read_false;
+  same = λ b c is. cc;
+}
+
+-- ---- members
+
+-- the object whose members the arguments are
+record IsObjectOf (given : Option Data) (d : Data) : Type 0 where
+  well : IsObjectOrAbsent given
+  is : object_or_empty given ≡ Some d
+  same : (key : List ℕ) → get key d ≡ option_and_then (get key) given
+
+object_of : (given : Option Data) (d : Data) → object_or_empty given ≡ Some d → IsObjectOf given d
+object_of None d is =
+    let same : object no_members ≡ d = cc in record { well = tt; is = is; same = λ key. ap (get key) (sym same) }
+object_of (Some (object ms)) d is =
+    let same : object ms ≡ d = cc in record { well = tt; is = is; same = λ key. ap (get key) (sym same) }
+object_of (Some null) d is = absurd (cc)
+object_of (Some (boolean b)) d is = absurd (cc)
+object_of (Some (number n)) d is = absurd (cc)
+object_of (Some (string s)) d is = absurd (cc)
+object_of (Some (array ds)) d is = absurd (cc)
+
+object_given : (given : Option Data) → IsObjectOrAbsent given → (d : Data) × IsObjectOf given d
+object_given None well = (object no_members, record { well = tt; is = refl; same = λ key. refl })
+object_given (Some (object ms)) well = (object ms, record { well = tt; is = refl; same = λ key. refl })
+object_given (Some null) well = absurd well
+object_given (Some (boolean b)) well = absurd well
+object_given (Some (number n)) well = absurd well
+object_given (Some (string s)) well = absurd well
+object_given (Some (array ds)) well = absurd well
+
+-- an object of its own
+itself : (ms : Members) → IsObjectOf (Some (object ms)) (object ms)
+itself ms = record { well = tt; is = refl; same = λ key. refl }
+
+default_is : {A : Type 0} {read : Data → Option A} {shown : A → Data} {P : A → Type 0} → Reads A read shown P
+    → (default : A) → P default → (o : Option Data) (x : A) → or_default default read o ≡ Some x
+    → (unwrap_or o (shown default) ≡ shown x) × P x
+default_is {shown = shown} {P = P} reads default fits None x is =
+    let same : default ≡ x = cc in (ap shown same, subst P same fits)
+default_is reads default fits (Some d) x is = reads.turned d x is
+
+default_back : {A : Type 0} {read : Data → Option A} {shown : A → Data} {P : A → Type 0} → Reads A read shown P
+    → (default : A) (o : Option Data) (x : A) → unwrap_or o (shown default) ≡ shown x → P x
+    → or_default default read o ≡ Some x
+default_back reads default None x is fits = ap Some (reads.same default x is)
+default_back {read = read} reads default (Some d) x is fits = ap read is ∙ reads.back x fits
+
+has : {A : Type 0} {read : Data → Option A} {shown : A → Data} {P : A → Type 0} {given : Option Data} {d : Data}
+    → Reads A read shown P → IsObjectOf given d → (key : List ℕ) (x : A) → required read key d ≡ Some x
+    → Has key (shown x) given × P x
+has {read = read} {d = d} reads o key x is =
+    let found = and_then_is read (get key d) x is in
+    let turned = reads.turned found.0 x found.2 in
+    (sym (o.same key) ∙ found.1 ∙ ap Some turned.0, turned.1)
+
+has_or : {A : Type 0} {read : Data → Option A} {shown : A → Data} {P : A → Type 0} {given : Option Data} {d : Data}
+    → Reads A read shown P → IsObjectOf given d → (key : List ℕ) (default : A) → P default → (x : A)
+    → optional read key default d ≡ Some x → HasOr (shown default) key (shown x) given × P x
+has_or {shown = shown} {d = d} reads o key default fits x is =
+    let found = default_is reads default fits (get key d) x is in
+    (ap (λ m. unwrap_or m (shown default)) (sym (o.same key)) ∙ found.0, found.1)
+
+is_read : {A : Type 0} {read : Data → Option A} {shown : A → Data} {P : A → Type 0} {given : Option Data} {d : Data}
+    → Reads A read shown P → IsObjectOf given d → (key : List ℕ) (x : A) → Has key (shown x) given → P x
+    → required read key d ≡ Some x
+is_read {read = read} reads o key x found fits =
+    ap (option_and_then read) (o.same key ∙ found) ∙ reads.back x fits
+
+is_read_or : {A : Type 0} {read : Data → Option A} {shown : A → Data} {P : A → Type 0} {given : Option Data} {d : Data}
+    → Reads A read shown P → IsObjectOf given d → (key : List ℕ) (default x : A)
+    → HasOr (shown default) key (shown x) given → P x → optional read key default d ≡ Some x
+is_read_or {shown = shown} {d = d} reads o key default x found fits =
+    default_back reads default (get key d) x (ap (λ m. unwrap_or m (shown default)) (o.same key) ∙ found) fits
+
+-- ---- two and more members
+
+two_is : {A B C : Type 0} (make : A → B → C) (o : Option A) (p : Option B) (z : C) → from_two make o p ≡ Some z
+    → (x : A) × (y : B) × (o ≡ Some x) × (p ≡ Some y) × (make x y ≡ z)
+two_is make o p z is =
+    let first = and_then_is (λ x. option_map (make x) p) o z is in
+    let second = map_is (make first.0) p z first.2 in
+    (first.0, second.0, first.1, second.1, second.2)
+
+two_back : {A B C : Type 0} (make : A → B → C) (o : Option A) (p : Option B) (x : A) (y : B) → o ≡ Some x → p ≡ Some y
+    → from_two make o p ≡ Some (make x y)
+two_back make o p x y is so = rw (is, so)
+
+three_is : {A B C D : Type 0} (make : A → B → C → D) (o : Option A) (p : Option B) (q : Option C) (z : D)
+    → from_three make o p q ≡ Some z
+    → (x : A) × (y : B) × (w : C) × (o ≡ Some x) × (p ≡ Some y) × (q ≡ Some w) × (make x y w ≡ z)
+three_is make o p q z is =
+    let first = and_then_is (λ x. from_two (make x) p q) o z is in
+    let others = two_is (make first.0) p q z first.2 in
+    (first.0, others.0, others.1, first.1, others.2, others.3, others.4)
+
+three_back : {A B C D : Type 0} (make : A → B → C → D) (o : Option A) (p : Option B) (q : Option C) (x : A) (y : B)
+    (w : C) → o ≡ Some x → p ≡ Some y → q ≡ Some w → from_three make o p q ≡ Some (make x y w)
+three_back make o p q x y w is so thus = rw (is, so, thus)
+
+four_is : {A B C D E : Type 0} (make : A → B → C → D → E) (o : Option A) (p : Option B) (q : Option C) (r : Option D)
+    (z : E) → from_four make o p q r ≡ Some z
+    → (x : A) × (y : B) × (w : C) × (v : D) × (o ≡ Some x) × (p ≡ Some y) × (q ≡ Some w) × (r ≡ Some v)
+    × (make x y w v ≡ z)
+four_is make o p q r z is =
+    let first = and_then_is (λ x. from_three (make x) p q r) o z is in
+    let others = three_is (make first.0) p q r z first.2 in
+    (first.0, others.0, others.1, others.2, first.1, others.3, others.4, others.5, others.6)
+
+four_back : {A B C D E : Type 0} (make : A → B → C → D → E) (o : Option A) (p : Option B) (q : Option C) (r : Option D)
+    (x : A) (y : B) (w : C) (v : D) → o ≡ Some x → p ≡ Some y → q ≡ Some w → r ≡ Some v
+    → from_four make o p q r ≡ Some (make x y w v)
+four_back make o p q r x y w v is so thus then = rw (is, so, thus, then)
+
+-- ---- the arguments of each command
+
+asks_initialize : (given : Option Data) (d : Data) (x : InitializeArguments) → IsObjectOf given d
+    → initialize_arguments d ≡ Some x → AsksInitialize x given
+asks_initialize given d x o is =
+    let parts = two_is _ (optional as_bool (codes "linesStartAt1") true d)
+    (optional as_bool (codes "columnsStartAt1") true d) x is in
+    subst (λ z. AsksInitialize z given) parts.4 (record {
+      given_well = o.well;
+      lines = (has_or bools o (codes "linesStartAt1") true tt parts.0 parts.2).0;
+      columns = (has_or bools o (codes "columnsStartAt1") true tt parts.1 parts.3).0;
+    })
+
+initialize_read : (given : Option Data) (d : Data) (x : InitializeArguments) → IsObjectOf given d
+    → AsksInitialize x given → initialize_arguments d ≡ Some x
+initialize_read given d x o asks =
+    two_back _ _ _ x.lines_start_at_1 x.columns_start_at_1
+    (is_read_or bools o (codes "linesStartAt1") true x.lines_start_at_1 asks.lines tt)
+    (is_read_or bools o (codes "columnsStartAt1") true x.columns_start_at_1 asks.columns tt)
+
+asks_launch : (given : Option Data) (d : Data) (x : LaunchArguments) → IsObjectOf given d
+    → launch_arguments d ≡ Some x → AsksLaunch x given
+asks_launch given d x o is =
+    let parts = three_is _ (optional debugs (codes "noDebug") false d) (required path (codes "program") d)
+    (optional as_bool (codes "stopOnEntry") false d) x is in
+    let no_debug = has_or no_debugs o (codes "noDebug") false refl parts.0 parts.3 in
+    let program = has paths o (codes "program") parts.1 parts.4 in
+    subst (λ z. AsksLaunch z given) parts.6 (record {
+      given_well = o.well;
+      program = program.0;
+      not_empty = program.1.0;
+      not_long = program.1.1;
+      printable = program.1.2;
+      stops = (has_or bools o (codes "stopOnEntry") false tt parts.2 parts.5).0;
+      debugs = no_debug.0 ∙ ap boolean no_debug.1;
+    })
+
+launch_read : (given : Option Data) (d : Data) (x : LaunchArguments) → IsObjectOf given d → AsksLaunch x given
+    → launch_arguments d ≡ Some x
+launch_read given d x o asks =
+    three_back _ _ _ _ false x.program x.stop_on_entry
+    (is_read_or no_debugs o (codes "noDebug") false false asks.debugs refl)
+    (is_read paths o (codes "program") x.program asks.program (asks.not_empty, asks.not_long, asks.printable))
+    (is_read_or bools o (codes "stopOnEntry") false x.stop_on_entry asks.stops tt)
+
+asks_thread : (given : Option Data) (d : Data) (x : ThreadArguments) → IsObjectOf given d
+    → thread_arguments d ≡ Some x → AsksThread x given
+asks_thread given d x o is =
+    let read = map_is _ (required (whole_to last_whole) (codes "threadId") d) x is in
+    let thread = has (wholes last_whole) o (codes "threadId") read.0 read.1 in
+    subst (λ z. AsksThread z given) read.2 (record { given_well = o.well; thread = thread.0; small = thread.1 })
+
+thread_read : (given : Option Data) (d : Data) (x : ThreadArguments) → IsObjectOf given d → AsksThread x given
+    → thread_arguments d ≡ Some x
+thread_read given d x o asks =
+    ap (option_map _) (is_read (wholes last_whole) o (codes "threadId") x.thread_id asks.thread asks.small)
+
+asks_stack_trace : (given : Option Data) (d : Data) (x : StackTraceArguments) → IsObjectOf given d
+    → stack_trace_arguments d ≡ Some x → AsksStackTrace x given
+asks_stack_trace given d x o is =
+    let parts = three_is _ (required (whole_to last_whole) (codes "threadId") d)
+    (optional (whole_to last_whole) (codes "startFrame") 0 d)
+    (optional (whole_to last_whole) (codes "levels") 0 d) x is in
+    let thread = has (wholes last_whole) o (codes "threadId") parts.0 parts.3 in
+    let start = has_or (wholes last_whole) o (codes "startFrame") 0 (omega arith) parts.1 parts.4 in
+    let levels = has_or (wholes last_whole) o (codes "levels") 0 (omega arith) parts.2 parts.5 in
+    subst (λ z. AsksStackTrace z given) parts.6 (record {
+      given_well = o.well;
+      thread = thread.0;
+      small = thread.1;
+      start = start.0;
+      start_small = start.1;
+      levels = levels.0;
+      levels_small = levels.1;
+    })
+
+stack_trace_read : (given : Option Data) (d : Data) (x : StackTraceArguments) → IsObjectOf given d
+    → AsksStackTrace x given → stack_trace_arguments d ≡ Some x
+stack_trace_read given d x o asks =
+    three_back _ _ _ _ x.thread_id x.start_frame x.levels
+    (is_read (wholes last_whole) o (codes "threadId") x.thread_id asks.thread asks.small)
+    (is_read_or (wholes last_whole) o (codes "startFrame") 0 x.start_frame asks.start asks.start_small)
+    (is_read_or (wholes last_whole) o (codes "levels") 0 x.levels asks.levels asks.levels_small)
+
+asks_scopes : (given : Option Data) (d : Data) (x : ScopesArguments) → IsObjectOf given d
+    → scopes_arguments d ≡ Some x → AsksScopes x given
+asks_scopes given d x o is =
+    let read = map_is _ (required (whole_to last_whole) (codes "frameId") d) x is in
+    let frame = has (wholes last_whole) o (codes "frameId") read.0 read.1 in
+    subst (λ z. AsksScopes z given) read.2 (record { given_well = o.well; frame = frame.0; small = frame.1 })
+
+scopes_read : (given : Option Data) (d : Data) (x : ScopesArguments) → IsObjectOf given d → AsksScopes x given
+    → scopes_arguments d ≡ Some x
+scopes_read given d x o asks =
+    ap (option_map _) (is_read (wholes last_whole) o (codes "frameId") x.frame_id asks.frame asks.small)
+
+asks_variables : (given : Option Data) (d : Data) (x : VariablesArguments) → IsObjectOf given d
+    → variables_arguments d ≡ Some x → AsksVariables x given
+asks_variables given d x o is =
+    let read = map_is _ (required (whole_to last_whole) (codes "variablesReference") d) x is in
+    let reference = has (wholes last_whole) o (codes "variablesReference") read.0 read.1 in
+    subst (λ z. AsksVariables z given) read.2
+    (record { given_well = o.well; reference = reference.0; small = reference.1 })
+
+variables_read : (given : Option Data) (d : Data) (x : VariablesArguments) → IsObjectOf given d
+    → AsksVariables x given → variables_arguments d ≡ Some x
+variables_read given d x o asks =
+    ap (option_map _)
+    (is_read (wholes last_whole) o (codes "variablesReference") x.variables_reference asks.reference asks.small)
+
+asks_evaluate : (given : Option Data) (d : Data) (x : EvaluateArguments) → IsObjectOf given d
+    → evaluate_arguments d ≡ Some x → AsksEvaluate x given
+asks_evaluate given d x o is =
+    let parts = two_is _ (required (text_to expression_limit) (codes "expression") d)
+    (optional (whole_to last_whole) (codes "frameId") 1 d) x is in
+    let expression = has (texts expression_limit) o (codes "expression") parts.0 parts.2 in
+    let frame = has_or (wholes last_whole) o (codes "frameId") 1 (omega arith) parts.1 parts.3 in
+    subst (λ z. AsksEvaluate z given) parts.4 (record {
+      given_well = o.well;
+      expression = expression.0;
+      expression_fits = expression.1;
+      frame = frame.0;
+      small = frame.1;
+    })
+
+evaluate_read : (given : Option Data) (d : Data) (x : EvaluateArguments) → IsObjectOf given d → AsksEvaluate x given
+    → evaluate_arguments d ≡ Some x
+evaluate_read given d x o asks =
+    two_back _ _ _ x.expression x.frame_id
+    (is_read (texts expression_limit) o (codes "expression") x.expression asks.expression asks.expression_fits)
+    (is_read_or (wholes last_whole) o (codes "frameId") 1 x.frame_id asks.frame asks.small)
+
+-- ---- the arguments of `setBreakpoints`
+
+asks_breakpoint_of : (d e : Data) (x : SourceBreakpoint) → IsObjectOf (Some d) e → breakpoint_of_object e ≡ Some x
+    → AsksBreakpoint x d
+asks_breakpoint_of d e x o is =
+    let parts = four_is _ (required (whole_to last_line) (codes "line") e)
+    (optional (text_to text_limit) (codes "condition") [] e)
+    (optional (text_to text_limit) (codes "hitCondition") [] e)
+    (optional (text_to text_limit) (codes "logMessage") [] e) x is in
+    let line = has (wholes last_line) o (codes "line") parts.0 parts.4 in
+    let condition = has_or (texts text_limit) o (codes "condition") [] (omega arith) parts.1 parts.5 in
+    let hit = has_or (texts text_limit) o (codes "hitCondition") [] (omega arith) parts.2 parts.6 in
+    let message = has_or (texts text_limit) o (codes "logMessage") [] (omega arith) parts.3 parts.7 in
+    subst (λ z. AsksBreakpoint z d) parts.8 (record {
+      given_well = o.well;
+      line = line.0;
+      to_last_line = line.1;
+      condition = condition.0;
+      condition_fits = condition.1;
+      hit_condition = hit.0;
+      hit_condition_fits = hit.1;
+      log_message = message.0;
+      log_message_fits = message.1;
+    })
+
+-- a value that is an object is the object of its members
+object_in : (d e : Data) → only_object d ≡ Some e → IsObjectOf (Some d) e
+object_in d e is = object_of (Some d) e is
+
+asks_breakpoint : (x : SourceBreakpoint) (d : Data) → source_breakpoint d ≡ Some x → AsksBreakpoint x d
+asks_breakpoint x d is =
+    let found = and_then_is breakpoint_of_object (only_object d) x is in
+    asks_breakpoint_of d found.0 x (object_in d found.0 found.1) found.2
+
+breakpoint_read_of : (d e : Data) (x : SourceBreakpoint) → IsObjectOf (Some d) e → AsksBreakpoint x d
+    → breakpoint_of_object e ≡ Some x
+breakpoint_read_of d e x o asks =
+    four_back _ _ _ _ _ x.line x.condition x.hit_condition x.log_message
+    (is_read (wholes last_line) o (codes "line") x.line asks.line asks.to_last_line)
+    (is_read_or (texts text_limit) o (codes "condition") [] x.condition asks.condition asks.condition_fits)
+    (is_read_or (texts text_limit) o (codes "hitCondition") [] x.hit_condition asks.hit_condition
+    asks.hit_condition_fits)
+    (is_read_or (texts text_limit) o (codes "logMessage") [] x.log_message asks.log_message asks.log_message_fits)
+
+breakpoint_read : (x : SourceBreakpoint) (d : Data) → AsksBreakpoint x d → source_breakpoint d ≡ Some x
+breakpoint_read x d asks =
+    let o = object_given (Some d) asks.given_well in
+    ap (option_and_then breakpoint_of_object) o.1.is ∙ breakpoint_read_of d o.0 x o.1 asks
+
+each_asks : (ds : Items) (xs : List SourceBreakpoint) → read_each source_breakpoint ds ≡ Some xs
+    → SayEach AsksBreakpoint xs ds
+each_asks no_items xs is = let same : [] ≡ xs = cc in subst (λ ys. SayEach AsksBreakpoint ys no_items) same tt
+each_asks (item d ds) xs is =
+    let first = and_then_is _ (source_breakpoint d) xs is in
+    let rest = map_is (λ ys. first.0 ∷ ys) (read_each source_breakpoint ds) xs first.2 in
+    subst (λ ys. SayEach AsksBreakpoint ys (item d ds)) rest.2
+    (asks_breakpoint first.0 d first.1, each_asks ds rest.0 rest.1)
+
+each_read : (ds : Items) (xs : List SourceBreakpoint) → SayEach AsksBreakpoint xs ds
+    → read_each source_breakpoint ds ≡ Some xs
+each_read no_items [] each = refl
+each_read no_items (x ∷ xs) each = absurd each
+each_read (item d ds) [] each = absurd each
+each_read (item d ds) (x ∷ xs) each = rw (breakpoint_read x d each.0, each_read ds xs each.1)
+
+-- the breakpoints that a member lists
+record Lists (m : Option Data) (xs : List SourceBreakpoint) : Type 0 where
+  items : Items
+  are : unwrap_or m (array no_items) ≡ array items
+  each : SayEach AsksBreakpoint xs items
+  not_many : length xs ≤ 256
+
+listed : (m : Option Data) (xs : List SourceBreakpoint) → or_default [] source_breakpoints m ≡ Some xs → Lists m xs
+listed None xs is =
+    let same : [] ≡ xs = cc in
+    subst (Lists None) same (record { items = no_items; are = refl; each = tt; not_many = omega arith })
+listed (Some d) xs is =
+    let kept = filter_is _ (option_and_then (read_each source_breakpoint) (as_array d)) xs is in
+    let found = and_then_is (read_each source_breakpoint) (as_array d) xs kept.0 in
+    record {
+      items = found.0;
+      are = array_is d found.0 found.1;
+      each = each_asks found.0 xs found.2;
+      not_many = leb-true (length xs) 256 kept.1;
+    }
+
+-- an array of none lists none
+none_listed : (xs : List SourceBreakpoint) (items : Items) → array no_items ≡ array items
+    → SayEach AsksBreakpoint xs items → [] ≡ xs
+none_listed [] items is each = refl
+none_listed (x ∷ xs) no_items is each = absurd each
+none_listed (x ∷ xs) (item d ds) is each = absurd (cc)
+
+listed_back : (m : Option Data) (xs : List SourceBreakpoint) → Lists m xs → or_default [] source_breakpoints m ≡ Some xs
+listed_back None xs lists = ap Some (none_listed xs lists.items lists.are lists.each)
+listed_back (Some d) xs lists =
+    let read : option_and_then (read_each source_breakpoint) (as_array d) ≡ Some xs =
+    rw lists.are (each_read lists.items xs lists.each) in
+    rw read (kept_by (λ found. nat_le (length found) breakpoint_limit) xs (le-leb (length xs) 256 lists.not_many))
+
+-- the path of a source is its member `path`, if it has one
+path_of_member : (m : Option Data) (p : Option (List ℕ)) → or_default None some_text m ≡ Some p
+    → m ≡ option_map string p
+path_of_member None p is = let same : None ≡ p = cc in ap (option_map string) same
+path_of_member (Some d) p is =
+    let read = map_is Some (as_str d) p is in
+    ap Some (text_is d read.0 read.1) ∙ ap (option_map string) read.2
+
+path_back_of : (m : Option Data) (p : Option (List ℕ)) → m ≡ option_map string p
+    → or_default None some_text m ≡ Some p
+path_back_of m None is = rw is
+path_back_of m (Some s) is = rw is
+
+-- the source is an object, with that path
+record IsSource (m : Option Data) (p : Option (List ℕ)) : Type 0 where
+  members : Members
+  is : m ≡ Some (object members)
+  has_path : get (codes "path") (object members) ≡ option_map string p
+
+only_members : (d e : Data) → only_object d ≡ Some e → (ms : Members) × (d ≡ object ms) × (e ≡ object ms)
+only_members (object ms) e is = let same : object ms ≡ e = cc in (ms, refl, sym same)
+only_members null e is = absurd (cc)
+only_members (boolean b) e is = absurd (cc)
+only_members (number n) e is = absurd (cc)
+only_members (string s) e is = absurd (cc)
+only_members (array ds) e is = absurd (cc)
+
+source_is : (m : Option Data) (p : Option (List ℕ)) → option_and_then source_path m ≡ Some p → IsSource m p
+source_is m p is =
+    let found = and_then_is source_path m p is in
+    let inner = and_then_is (optional some_text (codes "path") None) (only_object found.0) p found.2 in
+    let parts = only_members found.0 inner.0 inner.1 in
+    record {
+      members = parts.0;
+      is = found.1 ∙ ap Some parts.1;
+      has_path = path_of_member (get (codes "path") (object parts.0)) p
+          (sym (ap (optional some_text (codes "path") None) parts.2) ∙ inner.2);
+    }
+
+source_back : (m : Option Data) (p : Option (List ℕ)) (ms : Members) → m ≡ Some (object ms)
+    → get (codes "path") (object ms) ≡ option_map string p → option_and_then source_path m ≡ Some p
+source_back m p ms is has_path = rw is (path_back_of (get (codes "path") (object ms)) p has_path)
+
+asks_set_breakpoints : (given : Option Data) (d : Data) (x : SetBreakpointsArguments) → IsObjectOf given d
+    → set_breakpoints_arguments d ≡ Some x → AsksSetBreakpoints x given
+asks_set_breakpoints given d x o is =
+    let parts = two_is _ (required source_path (codes "source") d)
+    (optional source_breakpoints (codes "breakpoints") [] d) x is in
+    let source = source_is (get (codes "source") d) parts.0 parts.2 in
+    let lists = listed (get (codes "breakpoints") d) parts.1 parts.3 in
+    subst (λ z. AsksSetBreakpoints z given) parts.4 (record {
+      given_well = o.well;
+      source = source.members;
+      has_source = sym (o.same (codes "source")) ∙ source.is;
+      path = source.has_path;
+      breakpoints = lists.items;
+      has_breakpoints = ap (λ m. unwrap_or m (array no_items)) (sym (o.same (codes "breakpoints"))) ∙ lists.are;
+      each = lists.each;
+      not_many = lists.not_many;
+    })
+
+set_breakpoints_read : (given : Option Data) (d : Data) (x : SetBreakpointsArguments) → IsObjectOf given d
+    → AsksSetBreakpoints x given → set_breakpoints_arguments d ≡ Some x
+set_breakpoints_read given d x o asks =
+    two_back _ _ _ x.path x.breakpoints
+    (source_back (get (codes "source") d) x.path asks.source (o.same (codes "source") ∙ asks.has_source) asks.path)
+    (listed_back (get (codes "breakpoints") d) x.breakpoints (record {
+      items = asks.breakpoints;
+      are = ap (λ m. unwrap_or m (array no_items)) (o.same (codes "breakpoints")) ∙ asks.has_breakpoints;
+      each = asks.each;
+      not_many = asks.not_many;
+    }))
+
+-- ---- commands
+
+-- what is asked of an object is asked of the arguments
+asked_of : {A : Type 0} {read : Data → Option A} (Asks : A → Option Data → Type 0) (given : Option Data) (x : A)
+    → ((d : Data) → IsObjectOf given d → read d ≡ Some x → Asks x given)
+    → option_and_then read (object_or_empty given) ≡ Some x → Asks x given
+asked_of {read = read} Asks given x each is =
+    let found = and_then_is read (object_or_empty given) x is in
+    each found.0 (object_of given found.0 found.1) found.2
+
+read_of : {A : Type 0} {read : Data → Option A} (given : Option Data) (x : A) → IsObjectOrAbsent given
+    → ((d : Data) → IsObjectOf given d → read d ≡ Some x) → option_and_then read (object_or_empty given) ≡ Some x
+read_of {read = read} given x well each =
+    let o = object_given given well in ap (option_and_then read) o.1.is ∙ each o.0 o.1
+
+-- arguments that are read make the command
+made : {A : Type 0} (make : A → Command) (k : Supported) (o : Option A) (x : A) → o ≡ Some x
+    → unwrap_or (option_map make o) (command.BadArguments k) ≡ make x
+made make k o x is = rw is
+
+-- the command of the name that a supported one has
+by_name : (k : Supported) (name : List ℕ) (given : Option Data) → name ≡ command_text k
+    → command_of name given ≡ fitted_or_bad given k
+by_name k name given is =
+    ap (λ t. command_of t given) is
+    ∙ ap (λ o. option_map_or (fitted_or_bad given) o (command.Unsupported (command_text k))) (names_are_read_back k)
+
+-- a line that names a kind makes `_` stand for each other kind
+resume_named : (kind : ResumeKind) (x : ThreadArguments) (name : List ℕ) → IsCalled (command.Resume kind x) name
+    → name ≡ resume_text kind
+resume_named resume.Continue x name called = called
+resume_named _ x name called = called
+
+resume_called : (kind : ResumeKind) (x : ThreadArguments) (name : List ℕ) → name ≡ resume_text kind
+    → IsCalled (command.Resume kind x) name
+resume_called resume.Continue x name is = is
+resume_called _ x name is = is
+
+retreat_named : (kind : RetreatKind) (x : ThreadArguments) (name : List ℕ) → IsCalled (command.Retreat kind x) name
+    → name ≡ retreat_text kind
+retreat_named retreat.StepBack x name called = called
+retreat_named _ x name called = called
+
+retreat_called : (kind : RetreatKind) (x : ThreadArguments) (name : List ℕ) → name ≡ retreat_text kind
+    → IsCalled (command.Retreat kind x) name
+retreat_called retreat.StepBack x name is = is
+retreat_called _ x name is = is
+
+-- a command that is asked is read
+asked_is_read : (c : Command) (name : List ℕ) (given : Option Data) → IsCalled c name → IsGiven c given
+    → command_of name given ≡ c
+asked_is_read (command.Initialize x) name given called asks =
+    by_name supported.Initialize name given called ∙ made command.Initialize supported.Initialize _ x
+    (read_of given x asks.given_well (λ d o. initialize_read given d x o asks))
+asked_is_read (command.Launch x) name given called asks =
+    by_name supported.Launch name given called ∙ made command.Launch supported.Launch _ x
+    (read_of given x asks.given_well (λ d o. launch_read given d x o asks))
+asked_is_read (command.SetBreakpoints x) name given called asks =
+    by_name supported.SetBreakpoints name given called ∙ made command.SetBreakpoints supported.SetBreakpoints _ x
+    (read_of given x asks.given_well (λ d o. set_breakpoints_read given d x o asks))
+asked_is_read command.ConfigurationDone name given called asks =
+    by_name supported.ConfigurationDone name given called
+asked_is_read command.Threads name given called asks = by_name supported.Threads name given called
+asked_is_read (command.Resume kind x) name given called asks =
+    by_name (supported.Resume kind) name given (resume_named kind x name called)
+    ∙ made (command.Resume kind) (supported.Resume kind) _ x
+    (read_of given x asks.given_well (λ d o. thread_read given d x o asks))
+asked_is_read (command.Retreat kind x) name given called asks =
+    by_name (supported.Retreat kind) name given (retreat_named kind x name called)
+    ∙ made (command.Retreat kind) (supported.Retreat kind) _ x
+    (read_of given x asks.given_well (λ d o. thread_read given d x o asks))
+asked_is_read (command.Pause x) name given called asks =
+    by_name supported.Pause name given called ∙ made command.Pause supported.Pause _ x
+    (read_of given x asks.given_well (λ d o. thread_read given d x o asks))
+asked_is_read (command.Inspect (question.StackTrace x)) name given called asks =
+    by_name (supported.Inspect kind.StackTrace) name given called
+    ∙ made command.Inspect (supported.Inspect kind.StackTrace) _ (question.StackTrace x)
+    (read_of given (question.StackTrace x) asks.given_well
+    (λ d o. ap (option_map question.StackTrace) (stack_trace_read given d x o asks)))
+asked_is_read (command.Inspect (question.Scopes x)) name given called asks =
+    by_name (supported.Inspect kind.Scopes) name given called
+    ∙ made command.Inspect (supported.Inspect kind.Scopes) _ (question.Scopes x)
+    (read_of given (question.Scopes x) asks.given_well
+    (λ d o. ap (option_map question.Scopes) (scopes_read given d x o asks)))
+asked_is_read (command.Inspect (question.Variables x)) name given called asks =
+    by_name (supported.Inspect kind.Variables) name given called
+    ∙ made command.Inspect (supported.Inspect kind.Variables) _ (question.Variables x)
+    (read_of given (question.Variables x) asks.given_well
+    (λ d o. ap (option_map question.Variables) (variables_read given d x o asks)))
+asked_is_read (command.Inspect (question.Evaluate x)) name given called asks =
+    by_name (supported.Inspect kind.Evaluate) name given called
+    ∙ made command.Inspect (supported.Inspect kind.Evaluate) _ (question.Evaluate x)
+    (read_of given (question.Evaluate x) asks.given_well
+    (λ d o. ap (option_map question.Evaluate) (evaluate_read given d x o asks)))
+asked_is_read command.Disconnect name given called asks = by_name supported.Disconnect name given called
+asked_is_read (command.Unsupported text) name given called asks = absurd called
+asked_is_read (command.BadArguments k) name given called asks = absurd called
+
+-- the name of a command is that of a supported one
+called_supported : (c : Command) (name : List ℕ) → IsCalled c name → is_some (supported_command name) ≡ true
+called_supported (command.Unsupported text) name called = absurd called
+called_supported (command.BadArguments k) name called = absurd called
+called_supported (command.Resume resume.Continue x) name called = ap (λ t. is_some (supported_command t)) called
+called_supported (command.Retreat retreat.StepBack x) name called = ap (λ t. is_some (supported_command t)) called
+called_supported (command.Inspect (question.StackTrace x)) name called = ap (λ t. is_some (supported_command t)) called
+called_supported _ name called = ap (λ t. is_some (supported_command t)) called
+
+not_called : (c : Command) (name : List ℕ) → supported_command name ≡ None → IsCalled c name → ⊥
+not_called c name none called =
+    true≢false (sym (called_supported c name called) ∙ ap is_some none)
+
+-- arguments that can't be read are bad: none of the command are given
+bad : (k : Supported) (name : List ℕ) (given : Option Data) → command_of name given ≡ command.BadArguments k
+    → (c : Command) → IsCalled c name → IsGiven c given → ⊥
+bad k name given is c called asks =
+    subst (λ e. IsGiven e given) (sym (asked_is_read c name given called asks) ∙ is) asks
+
+asked_made : {A : Type 0} (make : A → Command) (k : Supported) (o : Option A) (name : List ℕ) (given : Option Data)
+    → ((c : Command) × IsCalled c name)
+    → command_of name given ≡ unwrap_or (option_map make o) (command.BadArguments k)
+    → ((x : A) → o ≡ Some x → IsAsked (make x) name given)
+    → IsAsked (unwrap_or (option_map make o) (command.BadArguments k)) name given
+asked_made make k None name given some is each = (some, bad k name given is)
+asked_made make k (Some x) name given some is each = each x refl
+
+-- the question that is read has the arguments that are read
+question_is : {A : Type 0} (ask : A → Question) (read : Data → Option A) (given : Option Data) (q : Question)
+    → option_and_then (λ d. option_map ask (read d)) (object_or_empty given) ≡ Some q
+    → (x : A) × (d : Data) × IsObjectOf given d × (read d ≡ Some x) × (ask x ≡ q)
+question_is ask read given q is =
+    let found = and_then_is (λ d. option_map ask (read d)) (object_or_empty given) q is in
+    let inner = map_is ask (read found.0) q found.2 in
+    (inner.0, found.0, object_of given found.0 found.1, inner.1, inner.2)
+
+question_asked : (k : QuestionKind) (name : List ℕ) (given : Option Data) → name ≡ question_text k → (q : Question)
+    → option_and_then (question_of k) (object_or_empty given) ≡ Some q → IsAsked (command.Inspect q) name given
+question_asked kind.StackTrace name given called q is =
+    let read = question_is question.StackTrace stack_trace_arguments given q is in
+    subst (λ p. IsAsked (command.Inspect p) name given) read.4
+    (called, asks_stack_trace given read.1 read.0 read.2 read.3)
+question_asked kind.Scopes name given called q is =
+    let read = question_is question.Scopes scopes_arguments given q is in
+    subst (λ p. IsAsked (command.Inspect p) name given) read.4
+    (called, asks_scopes given read.1 read.0 read.2 read.3)
+question_asked kind.Variables name given called q is =
+    let read = question_is question.Variables variables_arguments given q is in
+    subst (λ p. IsAsked (command.Inspect p) name given) read.4
+    (called, asks_variables given read.1 read.0 read.2 read.3)
+question_asked kind.Evaluate name given called q is =
+    let read = question_is question.Evaluate evaluate_arguments given q is in
+    subst (λ p. IsAsked (command.Inspect p) name given) read.4
+    (called, asks_evaluate given read.1 read.0 read.2 read.3)
+
+-- some question is called so
+some_question : (k : QuestionKind) (name : List ℕ) → name ≡ question_text k → (c : Command) × IsCalled c name
+some_question kind.StackTrace name is =
+    (command.Inspect (question.StackTrace (record { thread_id = 0; start_frame = 0; levels = 0 })), is)
+some_question kind.Scopes name is = (command.Inspect (question.Scopes (record { frame_id = 0 })), is)
+some_question kind.Variables name is = (command.Inspect (question.Variables (record { variables_reference = 0 })), is)
+some_question kind.Evaluate name is =
+    (command.Inspect (question.Evaluate (record { expression = []; frame_id = 0 })), is)
+
+abbrev any_thread : ThreadArguments
+any_thread = record { thread_id = 0 }
+
+read_is_asked : (k : Supported) (name : List ℕ) (given : Option Data) → name ≡ command_text k
+    → command_of name given ≡ fitted_or_bad given k → IsAsked (fitted_or_bad given k) name given
+read_is_asked supported.Initialize name given called is =
+    asked_made command.Initialize supported.Initialize _ name given
+    (command.Initialize (record { lines_start_at_1 = true; columns_start_at_1 = true }), called) is
+    (λ x read. (called, asked_of AsksInitialize given x (λ d o. asks_initialize given d x o) read))
+read_is_asked supported.Launch name given called is =
+    asked_made command.Launch supported.Launch _ name given
+    (command.Launch (record { program = []; stop_on_entry = false }), called) is
+    (λ x read. (called, asked_of AsksLaunch given x (λ d o. asks_launch given d x o) read))
+read_is_asked supported.SetBreakpoints name given called is =
+    asked_made command.SetBreakpoints supported.SetBreakpoints _ name given
+    (command.SetBreakpoints (record { path = None; breakpoints = [] }), called) is
+    (λ x read. (called, asked_of AsksSetBreakpoints given x (λ d o. asks_set_breakpoints given d x o) read))
+read_is_asked supported.ConfigurationDone name given called is = (called, tt)
+read_is_asked supported.Threads name given called is = (called, tt)
+read_is_asked (supported.Resume kind) name given called is =
+    asked_made (command.Resume kind) (supported.Resume kind) _ name given
+    (command.Resume kind any_thread, resume_called kind any_thread name called) is
+    (λ x read. (resume_called kind x name called, asked_of AsksThread given x (λ d o. asks_thread given d x o) read))
+read_is_asked (supported.Retreat kind) name given called is =
+    asked_made (command.Retreat kind) (supported.Retreat kind) _ name given
+    (command.Retreat kind any_thread, retreat_called kind any_thread name called) is
+    (λ x read. (retreat_called kind x name called, asked_of AsksThread given x (λ d o. asks_thread given d x o) read))
+read_is_asked supported.Pause name given called is =
+    asked_made command.Pause supported.Pause _ name given (command.Pause any_thread, called) is
+    (λ x read. (called, asked_of AsksThread given x (λ d o. asks_thread given d x o) read))
+read_is_asked (supported.Inspect k) name given called is =
+    asked_made command.Inspect (supported.Inspect k) _ name given (some_question k name called) is
+    (question_asked k name given called)
+read_is_asked supported.Disconnect name given called is = (called, tt)
+
+is_asked : (name : List ℕ) (given : Option Data) (o : Option Supported) → supported_command name ≡ o
+    → IsAsked (option_map_or (fitted_or_bad given) o (command.Unsupported name)) name given
+is_asked name given None none = (refl, λ c. not_called c name none)
+is_asked name given (Some k) is =
+    let called : name ≡ command_text k =
+    sym ((bytes_eq-Decides (command_text k) name).0 (named_so name (question_kind name) k refl is)) in
+    read_is_asked k name given called (by_name k name given called)
+
+pub arguments_are_members : ArgumentsAreMembers
+arguments_are_members first content r is =
+    let found = value_is first is.value r is.request_is in
+    let p = parts_of first found.0 r found.2 in
+    let given = get (codes "arguments") found.0 in (
+      found.0,
+      subst (IsReadAs content) found.1 is.reading,
+      (
+        p.name,
+        (named_is found.0 p.name p.is_named).0,
+        subst (λ c. IsAsked c p.name given) (sym p.asks) (is_asked p.name given (supported_command p.name) refl),
+      ),
+    )
