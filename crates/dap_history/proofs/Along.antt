@@ -11,11 +11,12 @@ use Rattle.dap_history.specs.Reports.{Accepts}
 use Rattle.dap_history.specs.Emission.{IsAfter}
 use Rattle.dap_history.specs.declared.ending.Ending.{Ending}
 use Rattle.dap_history.specs.declared.situation.Situation.{Situation}
-use Rattle.dap_history.specs.declared.situation.Situation.TheVariants.{Fresh, Ready, Configuring, Running, Stopped, Faulted, Ended}
+use Rattle.dap_history.specs.declared.situation.Situation.TheVariants.{Ready}
 use Rattle.dap_history.specs.Last.{or_else}
 use Rattle.dap_history.specs.Readings.{situation, closing, ending_of}
 use Rattle.dap_history.proofs.Readings.{ending_of-snoc}
 use Rattle.dap_history.specs.Launching.{wanted_in}
+use Rattle.dap_msg.specs.declared.request.FirstSeq.{FirstSeq}
 use Rattle.dap_history.specs.Events.{Incoming, Piece, End, ReadFailed, NoMemory, File, Report, AreLawful, Rest, only_bytes, IsTaking, Takes, one_more, closed, open_ended, faulty, waits, MayTake, LeadsByPiece, LeadsByFile, LeadsByReport, Loads, LeadsByEvent, Leads, IsHistoryOf}
 
 -- an item is taken only so: a content that wants no file, a launch in Ready, a report that is accepted; and what an
@@ -62,13 +63,8 @@ WaitsWell past rest = IsTaking past → (launch : Launch) → rest.launch ≡ So
 -- a launch that is wanted is wanted in Ready
 wanted_ready : (s : Situation) (request : Option Request) (launch : Launch) → wanted_in s request ≡ Some launch
     → s ≡ Ready
-wanted_ready Fresh request launch is = absurd cc
 wanted_ready Ready request launch is = refl
-wanted_ready Configuring request launch is = absurd cc
-wanted_ready Running request launch is = absurd cc
-wanted_ready Stopped request launch is = absurd cc
-wanted_ready Faulted request launch is = absurd cc
-wanted_ready Ended request launch is = absurd cc
+wanted_ready _ request launch is = absurd cc
 
 -- no item is taken after one that closes
 pub closes_for_good : (past : History) (item : Item) (new : History) (by : Ending) → closing item ≡ Some by
@@ -83,7 +79,8 @@ module _ (Q : Incoming → Type 0) (P : History → Type 0) (kept : IsKept Q P) 
   abbrev Holds : History → Rest → Type 0
   Holds past rest = P past × WaitsWell past rest
 
-  along_takes : {past : History} {bytes : List ℕ} {new : History} {rest : Rest} → Takes past bytes new rest → P past
+  along_takes : {first : FirstSeq} {past : History} {bytes : List ℕ} {new : History} {rest : Rest}
+      → Takes first past bytes new rest → P past
       → Holds new rest
   along_takes (one_more {past = past} {mid = mid} request taking front unwanted after more) here =
       along_takes more (kept.step past (Content request) mid taking unwanted after here)
@@ -103,15 +100,17 @@ module _ (Q : Incoming → Type 0) (P : History → Type 0) (kept : IsKept Q P) 
         (closes_for_good past item new by closes is.1 taking),
   )
 
-  along_piece : (past : History) (rest : Rest) (launch : Option Launch) (bytes : List ℕ) (new : History) (left : Rest)
-      → rest.launch ≡ launch → LeadsByPiece past launch bytes new left → Holds past rest → Holds new left
-  along_piece past rest None bytes new left same all here = along_takes all here.0
-  along_piece past rest (Some launch) bytes new left same is here =
+  along_piece : (first : FirstSeq) (past : History) (rest : Rest) (launch : Option Launch) (bytes : List ℕ)
+      (new : History) (left : Rest)
+      → rest.launch ≡ launch → LeadsByPiece first past launch bytes new left → Holds past rest → Holds new left
+  along_piece first past rest None bytes new left same all here = along_takes all here.0
+  along_piece first past rest (Some launch) bytes new left same is here =
       subst (λ h. Holds h left) (sym is.0) (here.0, λ taking other waits_. here.1 taking launch same)
 
-  along_loads : (past : History) (launch : Launch) (file : Option (List ℕ)) (bytes : List ℕ) (new : History)
-      (left : Rest) → situation past ≡ Ready → Loads past launch file bytes new left → P past → Holds new left
-  along_loads past launch file bytes new left ready loads here =
+  along_loads : (first : FirstSeq) (past : History) (launch : Launch) (file : Option (List ℕ)) (bytes : List ℕ)
+      (new : History)
+      (left : Rest) → situation past ≡ Ready → Loads first past launch file bytes new left → P past → Holds new left
+  along_loads first past launch file bytes new left ready loads here =
       along_takes loads.after
       (kept.step past (Loaded launch file) loads.mid loads.taking ready loads.loaded here)
 
@@ -123,11 +122,11 @@ module _ (Q : Incoming → Type 0) (P : History → Type 0) (kept : IsKept Q P) 
   along_file past rest (Some launch) (Ok file) new left same (inl is) here =
       subst (λ h. Holds h left) (sym is.1) (subst (λ r. Holds past r) (sym is.2) here)
   along_file past rest (Some launch) (Ok file) new left same (inr loads) here =
-      along_loads past launch (Some file) rest.bytes new left (here.1 loads.taking launch same) loads here.0
+      along_loads rest.first past launch (Some file) rest.bytes new left (here.1 loads.taking launch same) loads here.0
   along_file past rest (Some launch) (Err load_fault.CannotRead) new left same (inl is) here =
       subst (λ h. Holds h left) (sym is.1) (subst (λ r. Holds past r) (sym is.2) here)
   along_file past rest (Some launch) (Err load_fault.CannotRead) new left same (inr loads) here =
-      along_loads past launch None rest.bytes new left (here.1 loads.taking launch same) loads here.0
+      along_loads rest.first past launch None rest.bytes new left (here.1 loads.taking launch same) loads here.0
   along_file past rest (Some launch) (Err load_fault.NoMemory) new left same is here =
       subst (λ r. Holds new r) (sym is.1) (along_may past rest MemoryFailure new _ tt refl is.0 here)
 
@@ -142,7 +141,7 @@ module _ (Q : Incoming → Type 0) (P : History → Type 0) (kept : IsKept Q P) 
   along_event : (past : History) (rest : Rest) (event : Incoming) (new : History) (left : Rest) → Q event
       → LeadsByEvent past rest event new left → Holds past rest → Holds new left
   along_event past rest (Piece piece) new left good leads here =
-      along_piece past rest rest.launch (rest.bytes ++ piece) new left refl leads here
+      along_piece rest.first past rest rest.launch (rest.bytes ++ piece) new left refl leads here
   along_event past rest End new left good leads here =
       subst (λ r. Holds new r) (sym leads.1) (along_may past rest InputEnd new _ good refl leads.0 here)
   along_event past rest ReadFailed new left good leads here =
@@ -165,10 +164,10 @@ module _ (Q : Incoming → Type 0) (P : History → Type 0) (kept : IsKept Q P) 
   pub along : P [] → (events : List Incoming) (past : History) (rest : Rest) → AllEvents Q events
       → IsHistoryOf events past rest → P past
   along first events past rest good history =
-      (along_from [] (only_bytes []) events past rest good history (first, λ taking launch is. absurd cc)).0
+      (along_from [] (only_bytes rest.first []) events past rest good history (first, λ taking launch is. absurd cc)).0
 
   -- a launch waits in Ready alone
   pub along_waits : P [] → (events : List Incoming) (past : History) (rest : Rest) → AllEvents Q events
       → IsHistoryOf events past rest → WaitsWell past rest
   along_waits first events past rest good history =
-      (along_from [] (only_bytes []) events past rest good history (first, λ taking launch is. absurd cc)).1
+      (along_from [] (only_bytes rest.first []) events past rest good history (first, λ taking launch is. absurd cc)).1

@@ -7,7 +7,7 @@ use Rattle.std.proofs.lemmas.List.Elements.{filter_map-append}
 use Rattle.dap_msg.specs.declared.command.CommandName.{CommandName}
 use Rattle.dap_msg.specs.declared.outgoing.Outgoing.TheVariants.{Event}
 use Rattle.dap_msg.specs.declared.outgoing.EventBody.{EventBody}
-use Rattle.dap_history.specs.History.{Item, Content, Loaded, Accepted, Fault, InputEnd, ReadFailure, MemoryFailure, Step, History, with_answer, messages, messages_of}
+use Rattle.dap_history.specs.History.{Item, Content, Loaded, Step, History, with_answer, messages, messages_of}
 use Rattle.dap_history.specs.Replies.{Reply}
 use Rattle.dap_history.specs.Emission.{Answers, Causes}
 use Rattle.dap_history.specs.Laws.{answered, asked, EachIsAnsweredOnce}
@@ -36,14 +36,9 @@ answers_never step is =
 -- an item has one answer if it asks, and else none
 once_here : (past : History) (item : Item) (step : Step) → Causes past item step
     → filter_map answered (messages step) ≡ filter_map asked (item ∷ [])
-once_here past (Content None) step is = answers_never step is.answer_is
 once_here past (Content (Some request)) step is = answers_once _ _ is.0 step is.2
 once_here past (Loaded launch file) step is = answers_once _ _ is.0 step is.2
-once_here past (Accepted r) step is = answers_never step is.answer_is
-once_here past (Fault k) step is = answers_never step is.answer_is
-once_here past InputEnd step is = answers_never step is.answer_is
-once_here past ReadFailure step is = answers_never step is.answer_is
-once_here past MemoryFailure step is = answers_never step is.answer_is
+once_here past _ step is = answers_never step is.answer_is
 
 once_more : (past : History) (item : Item) (step : Step) → step.item ≡ item → Causes past item step → Once past
     → Once (past ++ step ∷ [])

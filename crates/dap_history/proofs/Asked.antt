@@ -1,4 +1,6 @@
 -- Each run has the next number, and is in the mode that was asked for.
+use Rattle.dap_msg.specs.declared.requests.resume.ResumeKind.TheVariants as resume
+use Rattle.dap_msg.specs.declared.requests.resume.RetreatKind.TheVariants as retreat
 use Rattle.std.proofs.Common.{◌≡◌, ℕ, ◌+◌, List, [], ◌∷◌, ◌++◌, length, Bool, true, false, ◌||◌, Option, None, Some, refl, sym, ◌∙◌, ap, subst, append-nil, arith}
 use Rattle.std.specs.Prelude.{option_map, if◌then◌else◌}
 use Rattle.std.specs.Option.{option_map_or}
@@ -17,9 +19,9 @@ use Rattle.dbg_runner.specs.declared.outcome.SliceOutcome.{SliceOutcome}
 use Rattle.dbg_runner.specs.declared.outcome.SliceOutcome.TheVariants as slice
 use Rattle.dbg_runner.specs.Plain.{PlainReport, PlainOrder, Go, Hold, Heading}
 use Rattle.dap_history.specs.declared.situation.Situation.{Situation}
-use Rattle.dap_history.specs.declared.situation.Situation.TheVariants.{Fresh, Ready, Configuring, Running, Stopped, Faulted, Ended}
+use Rattle.dap_history.specs.declared.situation.Situation.TheVariants.{Running}
 use Rattle.dap_history.specs.Last.{last_such}
-use Rattle.dap_history.specs.History.{Launched, Item, Content, Loaded, Accepted, Fault, InputEnd, ReadFailure, MemoryFailure, Step, History, Effect}
+use Rattle.dap_history.specs.History.{Launched, Item, Content, Loaded, Accepted, Step, History, Effect}
 use Rattle.dap_history.specs.Readings.{go, situation, runs, is_held, is_back, launched, last_run, position, waiting_pause}
 use Rattle.dap_history.specs.Replies.{Reply}
 use Rattle.dap_history.specs.Breakpoints.{hold_once, effect_in}
@@ -34,13 +36,13 @@ use Rattle.dap_history.specs.Events.{Incoming}
 use Rattle.dap_history.proofs.Texts.{OneProgram}
 use Rattle.dap_history.proofs.Along.{IsTaken, IsKept, IsLawfulEvent, any_events, lawful_events, along}
 use Rattle.dap_history.proofs.Each.{WasTaken, EachTaken, each_kept, each_first}
-use Rattle.dap_history.proofs.Silent.{NextRuns, no_runs, next_run, due_first}
+use Rattle.dap_history.proofs.Silent.{NextRuns, no_runs, next_run}
+use Rattle.dap_history.proofs.Shapes.{due_first, resume_kind_by, Shape, refuses, is_calm, sets, begins, resumes_by, is_over, retreats, interrupts, quits, shaped}
 use Rattle.dap_history.proofs.Passing.{Ran, loaded_orders}
 use Rattle.dap_history.proofs.Runs.{AreNumbered, numbered-snoc}
 use Rattle.dap_history.proofs.Counted.{all_runs-snoc, next_runs}
 use Rattle.dap_history.proofs.Stopping.{ran_kept, ran_first}
 use Rattle.dap_history.proofs.Starts.{of_launched}
-use Rattle.dap_history.proofs.Shapes.{resume_kind_by, Shape, refuses, is_calm, sets, begins, resumes_by, is_over, retreats, interrupts, quits, shaped}
 use Rattle.dap_history.proofs.Once.{ordered_last}
 
 -- ---- numbers
@@ -80,15 +82,22 @@ runs_count events past rest history front back run orders_are =
 resume_kind_mode : (depth : ℕ) (asked : Command) (resume_kind : ResumeKind) → resume_kind_by asked ≡ Some resume_kind
     → mode_by depth asked ≡ Some (mode_of resume_kind depth)
 resume_kind_mode depth (command.Resume k a) resume_kind is =
-    let same : k ≡ resume_kind = cc in ap (λ p. Some (mode_of p depth)) same
+    let same : k ≡ resume_kind = cc in spelled k ∙ ap (λ p. Some (mode_of p depth)) same
+  where
+    spelled : (k : ResumeKind) → mode_by depth (command.Resume k a) ≡ Some (mode_of k depth)
+    spelled resume.Continue = refl
+    spelled resume.Next = refl
+    spelled resume.StepIn = refl
+    spelled resume.StepOut = refl
 resume_kind_mode depth _ resume_kind is = absurd cc
 
 back_mode : (depth : ℕ) (asked : Command) (m : Mode) → back_by asked ≡ Some m → mode_by depth asked ≡ Some m
-back_mode depth (command.Retreat k a) m is = is
+back_mode depth (command.Retreat retreat.StepBack a) m is = is
+back_mode depth (command.Retreat retreat.ReverseContinue a) m is = is
 back_mode depth _ m is = absurd cc
 
 -- the run is of the launched program, in the mode that the command asks for
-abbrev AsAsked : History → Command → Heading → Type 0
+abbrev pub AsAsked : History → Command → Heading → Type 0
 AsAsked past asked run =
     (l : Launched) × (launched past ≡ Some l) × (mode_by (depth_at l.program (position past)) asked ≡ Some run.mode)
 
@@ -102,12 +111,7 @@ no_go_held past = by_test (is_held past || is_back past)
 pub no_go_in : (s : Situation) (past : History) (bs : List Breakpoint)
     → last_such go (effect_in s past bs).orders ≡ None
 no_go_in Running past bs = no_go_held past
-no_go_in Fresh past bs = refl
-no_go_in Ready past bs = refl
-no_go_in Configuring past bs = refl
-no_go_in Stopped past bs = refl
-no_go_in Faulted past bs = refl
-no_go_in Ended past bs = refl
+no_go_in _ past bs = refl
 
 no_go_by : (past : History) (asked : Command) (run : Heading) (orders os : List PlainOrder) → orders ≡ os
     → last_such go os ≡ None → last_such go orders ≡ Some run → AsAsked past asked run
@@ -118,7 +122,7 @@ begun_mode : (past : History) (l : Launched) (why : Option Reason) (run : Headin
 begun_mode past l None run is = ap (λ o. option_map_or (λ (h : Heading). h.mode) o mode.Continue) (sym is)
 begun_mode past l (Some r) run is = absurd cc
 
-reply_mode : (past : History) (s : Situation) (asked : Command) (reply : Reply) → Shape past s asked reply
+pub reply_mode : (past : History) (s : Situation) (asked : Command) (reply : Reply) → Shape past s asked reply
     → (run : Heading) → last_such go reply.effect.orders ≡ Some run → AsAsked past asked run
 reply_mode past s asked reply (refuses why is) run goes =
     no_go_by past asked run reply.effect.orders _ (ap (λ (r : Reply). r.effect.orders) is) refl goes
@@ -169,13 +173,11 @@ report_mode past r slice.Held accepts run goes = by_pause (waiting_pause past) g
 
 module _ (one : OneProgram) (joins : WrittenJoins) where
   -- the run is of the launched program, in the mode that the item asks for
-  abbrev ModeIs : History → Item → Heading → Type 0
+  abbrev pub ModeIs : History → Item → Heading → Type 0
   ModeIs past item run = (l : Launched) × (launched past ≡ Some l) × (mode_asked past l.program item ≡ Some run.mode)
 
-  item_mode : (past : History) (item : Item) (step : Step) → IsTaken IsLawfulEvent past item → Causes past item step
+  pub item_mode : (past : History) (item : Item) (step : Step) → IsTaken IsLawfulEvent past item → Causes past item step
       → Ran one joins past → (run : Heading) → run_in step ≡ Some run → ModeIs past item run
-  item_mode past (Content None) step taken is ran run goes =
-      let e = sym goes ∙ ap (λ (e : Effect). last_such go e.orders) is.effect_is in absurd cc
   item_mode past (Content (Some request)) step taken is ran run goes =
       reply_mode past (situation past) request.body is.0 (shaped past is.0 (situation past) request.body is.1) run
       (ap (λ (e : Effect). last_such go e.orders) (sym is.2.effect_is) ∙ goes)
@@ -189,13 +191,7 @@ module _ (one : OneProgram) (joins : WrittenJoins) where
         report_mode past r r.outcome taken.0 run
             (ap (λ (e : Effect). last_such go e.orders) (sym is.effect_is) ∙ goes),
       )
-  item_mode past (Fault k) step taken is ran run goes =
-      let e = sym goes ∙ ap (λ (e : Effect). last_such go e.orders) is.effect_is in absurd cc
-  item_mode past InputEnd step taken is ran run goes =
-      let e = sym goes ∙ ap (λ (e : Effect). last_such go e.orders) is.effect_is in absurd cc
-  item_mode past ReadFailure step taken is ran run goes =
-      let e = sym goes ∙ ap (λ (e : Effect). last_such go e.orders) is.effect_is in absurd cc
-  item_mode past MemoryFailure step taken is ran run goes =
+  item_mode past _ step taken is ran run goes =
       let e = sym goes ∙ ap (λ (e : Effect). last_such go e.orders) is.effect_is in absurd cc
 
   pub each_as_asked : EachRunIsAsAsked

@@ -1,17 +1,10 @@
 -- A session that was closed by the end of its input has taken that event, and Quit is its last order.
 use Rattle.std.proofs.Common.{◌≡◌, ◌⊎◌, inl, inr, ℕ, List, [], ◌∷◌, ◌++◌, Bool, true, false, ◌||◌, Option, None, Some, refl, sym, ◌∙◌, ap, subst}
-use Rattle.std.specs.Prelude.{nat_eq, if◌then◌else◌}
-use Rattle.dap_history.proofs.Questions.{no_effect}
-use Rattle.dap_msg.specs.declared.question.Question.{Question}
-use Rattle.dap_msg.specs.declared.requests.resume.ResumeKind.{ResumeKind}
+use Rattle.std.specs.Prelude.{if◌then◌else◌}
 use Rattle.dap_msg.specs.declared.command.Command.{Command}
 use Rattle.dap_msg.specs.declared.command.Command.TheVariants as command
 use Rattle.dap_msg.specs.declared.outgoing.Body.TheVariants as body
-use Rattle.dap_msg.specs.declared.outgoing.Refusal.TheVariants as refusal
-use Rattle.dap_msg.specs.declared.requests.set_breakpoints.SetBreakpointsArguments.{SetBreakpointsArguments}
 use Rattle.dbg_plan.specs.Breakpoints.{Breakpoint}
-use Rattle.dbg_plan.specs.Due.{due, depth_at}
-use Rattle.dbg_plan.specs.declared.mode.Mode.{Mode}
 use Rattle.dbg_plan.specs.declared.mode.Reason.{Reason}
 use Rattle.dbg_runner.specs.declared.outcome.SliceOutcome.{SliceOutcome}
 use Rattle.dbg_runner.specs.declared.outcome.SliceOutcome.TheVariants as slice
@@ -22,21 +15,22 @@ use Rattle.dap_history.specs.declared.ending.Ending.{Ending}
 use Rattle.dap_history.specs.declared.ending.Ending.TheVariants as ending
 use Rattle.dap_history.specs.declared.launch.Launch.{Launch}
 use Rattle.dap_history.specs.declared.situation.Situation.{Situation}
-use Rattle.dap_history.specs.declared.situation.Situation.TheVariants.{Fresh, Ready, Configuring, Running, Stopped, Faulted, Ended}
+use Rattle.dap_history.specs.declared.situation.Situation.TheVariants.{Running}
 use Rattle.dap_history.specs.Last.{or_else}
 use Rattle.dap_history.specs.History.{Launched, Item, Content, Loaded, Accepted, Fault, InputEnd, ReadFailure, MemoryFailure, Effect, Step, History, orders_of}
-use Rattle.dap_history.specs.Readings.{situation, launched, runs, is_back, position, plan, waiting_pause, is_held, closing_command, closing_report, closing, ending_of}
-use Rattle.dap_history.specs.Replies.{Reply, refused, causing, ordering, OfProgram, on_thread}
+use Rattle.dap_history.specs.Readings.{situation, runs, is_back, waiting_pause, is_held, closing_command, closing_report, closing, ending_of}
+use Rattle.dap_history.specs.Replies.{Reply, causing, ordering}
 use Rattle.dap_history.specs.Reports.{report_effect, held}
-use Rattle.dap_history.specs.Launching.{initialize_in, Launches}
-use Rattle.dap_history.specs.Breakpoints.{hold_once, effect_in, SetsOf, Sets, SetsIn, is_at}
-use Rattle.dap_history.specs.Running.{mode_of, body_of, resumes, first_mode, enters, ConfiguresIn, ResumesIn, RetreatsIn, pause_in}
-use Rattle.dap_history.specs.Inspection.{InspectsIn}
-use Rattle.dap_history.specs.Emission.{threads_in, RepliesIn, Causes, IsAfter}
+use Rattle.dap_history.specs.Launching.{Launches}
+use Rattle.dap_history.specs.Breakpoints.{hold_once, effect_in}
+use Rattle.dap_history.specs.Running.{enters}
+use Rattle.dap_history.specs.Emission.{RepliesIn, Causes, IsAfter}
+use Rattle.dap_msg.specs.declared.request.FirstSeq.{FirstSeq}
 use Rattle.dap_history.specs.Interleaving.{Load, IsLoad, Interleaves}
-use Rattle.dap_history.specs.Events.{Incoming, Piece, End, ReadFailed, NoMemory, File, Report, Rest, IsTaking, IsHistoryOf}
+use Rattle.dap_history.specs.Events.{Incoming, End, ReadFailed, File, Rest, IsTaking, IsHistoryOf}
 use Rattle.dap_history.specs.Laws.{IsAmong, QuitIsLast, EndsWithQuit, QuitCloses}
 use Rattle.dap_history.proofs.Readings.{or_else-none, orders_of-snoc, ending_of-snoc}
+use Rattle.dap_history.proofs.Shapes.{due_first, Shape, refuses, is_calm, sets, begins, resumes_by, is_over, retreats, interrupts, quits, shaped}
 use Rattle.dap_history.proofs.Along.{IsTaken, IsKept, AllEvents, any_events, along}
 
 -- a session that took the item goes on only where the item doesn't close
@@ -102,20 +96,12 @@ module _ (own : Incoming) (is_own : (e : Incoming) → (own ≡ e) ⊎ ¬ (own �
             history is)
 
 is_end : (e : Incoming) → (End ≡ e) ⊎ ¬ (End ≡ e)
-is_end (Piece p) = inr (λ same. absurd cc)
 is_end End = inl refl
-is_end ReadFailed = inr (λ same. absurd cc)
-is_end NoMemory = inr (λ same. absurd cc)
-is_end (File f) = inr (λ same. absurd cc)
-is_end (Report r) = inr (λ same. absurd cc)
+is_end _ = inr (λ same. absurd cc)
 
 is_failure : (e : Incoming) → (ReadFailed ≡ e) ⊎ ¬ (ReadFailed ≡ e)
-is_failure (Piece p) = inr (λ same. absurd cc)
-is_failure End = inr (λ same. absurd cc)
 is_failure ReadFailed = inl refl
-is_failure NoMemory = inr (λ same. absurd cc)
-is_failure (File f) = inr (λ same. absurd cc)
-is_failure (Report r) = inr (λ same. absurd cc)
+is_failure _ = inr (λ same. absurd cc)
 
 -- A session that the input's end closed has taken it.
 pub closed_by_end : (events : List Incoming) (past : History) (rest : Rest) → IsHistoryOf events past rest
@@ -174,13 +160,6 @@ IsQuiet reply = NoQuit reply.effect.orders
 quiet_if : (reply other : Reply) → IsQuiet other → reply ≡ other → IsQuiet reply
 quiet_if reply other quiet is = subst IsQuiet (sym is) quiet
 
-thread_quiet : (thread : ℕ) (reply : Reply) → IsQuiet reply → IsQuiet (on_thread thread reply)
-thread_quiet thread reply quiet = by_test (nat_eq thread 1)
-  where
-    by_test : (same : Bool) → IsQuiet (if same then reply else refused refusal.UnknownThread)
-    by_test true = quiet
-    by_test false = tt
-
 hold_quiet : (past : History) → NoQuit (hold_once past)
 hold_quiet past = by_test (is_held past || is_back past)
   where
@@ -188,105 +167,39 @@ hold_quiet past = by_test (is_held past || is_back past)
     by_test true = tt
     by_test false = tt
 
-initialize_quiet : (s : Situation) → IsQuiet (initialize_in s)
-initialize_quiet Fresh = tt
-initialize_quiet _ = tt
-
-threads_quiet : (s : Situation) → IsQuiet (threads_in s)
-threads_quiet Fresh = tt
-threads_quiet _ = tt
-
 effect_quiet : (s : Situation) (past : History) (bs : List Breakpoint) → NoQuit (effect_in s past bs).orders
 effect_quiet Running past bs = hold_quiet past
-effect_quiet Configuring past bs = tt
-effect_quiet Stopped past bs = tt
-effect_quiet Faulted past bs = tt
-effect_quiet Ended past bs = tt
-effect_quiet Fresh past bs = tt
-effect_quiet Ready past bs = tt
-
--- what is so of each launched program is so of the one that there is
-of_program : (l : Option Launched) (says : Launched → Type 0) (reply : Reply)
-    → ((l : Launched) → says l → IsQuiet reply) → OfProgram l says → IsQuiet reply
-of_program None says reply quiet is = absurd is
-of_program (Some l) says reply quiet is = quiet l is
-
-sets_quiet : (past : History) (a : SetBreakpointsArguments) (reply : Reply) → Sets past a reply → IsQuiet reply
-sets_quiet past a reply is =
-    of_program (launched past) (λ l. SetsOf (is_at a.path l.path) past l a.breakpoints reply) reply
-    (λ l says. by_source (is_at a.path l.path) l says) is
-  where
-    by_source : (same : Bool) (l : Launched) → SetsOf same past l a.breakpoints reply → IsQuiet reply
-    by_source true l says = quiet_if reply _ (effect_quiet (situation past) past says.breakpoints) says.reply_is
-    by_source false l says = quiet_if reply _ tt says
-
-sets_in_quiet : (s : Situation) (past : History) (a : SetBreakpointsArguments) (reply : Reply) → SetsIn s past a reply
-    → IsQuiet reply
-sets_in_quiet Fresh past a reply is = quiet_if reply _ tt is
-sets_in_quiet Ready past a reply is = quiet_if reply _ tt is
-sets_in_quiet _ past a reply is = sets_quiet past a reply is
+effect_quiet _ past bs = tt
 
 enters_quiet : (past : History) (l : Launched) (why : Option Reason) → NoQuit (enters past l why).orders
 enters_quiet past l None = tt
 enters_quiet past l (Some r) = tt
-
-configures_in_quiet : (s : Situation) (past : History) (reply : Reply) → ConfiguresIn s past reply → IsQuiet reply
-configures_in_quiet Configuring past reply is =
-    of_program (launched past) _ reply
-    (λ l says. quiet_if reply _ (enters_quiet past l
-    (due l.program (plan past).breakpoints (plan past).counted_from (first_mode l) 0)) says) is
-configures_in_quiet _ past reply is = quiet_if reply _ tt is
-
-resumes_in_quiet : (s : Situation) (past : History) (resume_kind : ResumeKind) (thread : ℕ) (reply : Reply)
-    → ResumesIn s past resume_kind thread reply → IsQuiet reply
-resumes_in_quiet Stopped past resume_kind thread reply is =
-    of_program (launched past) _ reply
-    (λ l says. quiet_if reply _ (thread_quiet thread
-    (causing (body_of resume_kind) (ordering
-    (resumes past l (mode_of resume_kind (depth_at l.program (position past)))))) tt) says) is
-resumes_in_quiet Faulted past resume_kind thread reply is = quiet_if reply _ (thread_quiet thread _ tt) is
-resumes_in_quiet _ past resume_kind thread reply is = quiet_if reply _ tt is
-
-retreats_in_quiet : (s : Situation) (past : History) (m : Mode) (thread : ℕ) (reply : Reply)
-    → RetreatsIn s past m thread reply → IsQuiet reply
-retreats_in_quiet Stopped past m thread reply is =
-    of_program (launched past) _ reply (λ l says. quiet_if reply _
-    (thread_quiet thread (causing body.None (ordering (resumes past l m))) tt) says) is
-retreats_in_quiet Faulted past m thread reply is =
-    of_program (launched past) _ reply (λ l says. quiet_if reply _
-    (thread_quiet thread (causing body.None (ordering (resumes past l m))) tt) says) is
-retreats_in_quiet _ past m thread reply is = quiet_if reply _ tt is
-
-pause_quiet : (s : Situation) (past : History) (thread : ℕ) → IsQuiet (pause_in s past thread)
-pause_quiet Running past thread = thread_quiet thread (causing body.None (ordering (hold_once past))) (hold_quiet past)
-pause_quiet Stopped past thread = thread_quiet thread _ tt
-pause_quiet Faulted past thread = thread_quiet thread _ tt
-pause_quiet _ past thread = tt
-
-inspects_in_quiet : (s : Situation) (past : History) (question : Question) (reply : Reply)
-    → InspectsIn s past question reply → IsQuiet reply
-inspects_in_quiet s past question reply is =
-    subst NoQuit (ap (λ (e : Effect). e.orders) (sym (no_effect s past question reply is))) tt
 
 -- a Quit alone, where the session is closed by no fault; else orders without a Quit
 abbrev QuitsBy : List PlainOrder → Option Ending → Type 0
 QuitsBy orders (Some (ending.Closed by)) = orders ≡ Quit ∷ []
 QuitsBy orders _ = NoQuit orders
 
+-- a reply to another command than `disconnect`
+shape_quiet : (past : History) (s : Situation) (asked : Command) (reply : Reply) → ¬ (asked ≡ command.Disconnect)
+    → Shape past s asked reply → IsQuiet reply
+shape_quiet past s asked reply other (refuses why is) = quiet_if reply _ tt is
+shape_quiet past s asked reply other (is_calm calm is) = subst NoQuit (ap (λ (e : Effect). e.orders) (sym is)) tt
+shape_quiet past s asked reply other (sets a l asks there at_path is) =
+    quiet_if reply _ (effect_quiet (situation past) past is.breakpoints) is.reply_is
+shape_quiet past s asked reply other (begins l asks here there is) =
+    quiet_if reply _ (enters_quiet past l (due_first past l)) is
+shape_quiet past s asked reply other (resumes_by k l by here there is) = quiet_if reply _ tt is
+shape_quiet past s asked reply other (is_over k by here is) = quiet_if reply _ tt is
+shape_quiet past s asked reply other (retreats m l by back stands there is) = quiet_if reply _ tt is
+shape_quiet past s asked reply other (interrupts a asks here is) =
+    quiet_if reply (causing body.None (ordering (hold_once past))) (hold_quiet past) is
+shape_quiet past s asked reply other (quits asks is) = absurd (other asks)
+
 replies_quit : (s : Situation) (past : History) (asked : Command) (reply : Reply) → RepliesIn s past asked reply
     → QuitsBy reply.effect.orders (closing_command asked)
-replies_quit s past (command.Initialize a) reply is = quiet_if reply _ (initialize_quiet s) is
-replies_quit s past (command.Launch a) reply is = quiet_if reply _ tt is
-replies_quit s past (command.SetBreakpoints a) reply is = sets_in_quiet s past a reply is
-replies_quit s past command.ConfigurationDone reply is = configures_in_quiet s past reply is
-replies_quit s past command.Threads reply is = quiet_if reply _ (threads_quiet s) is
-replies_quit s past (command.Resume k a) reply is = resumes_in_quiet s past _ a.thread_id reply is
-replies_quit s past (command.Retreat k a) reply is = retreats_in_quiet s past _ a.thread_id reply is
-replies_quit s past (command.Pause a) reply is = quiet_if reply _ (pause_quiet s past a.thread_id) is
-replies_quit s past (command.Inspect q) reply is = inspects_in_quiet s past q reply is
 replies_quit s past command.Disconnect reply is = ap (λ (r : Reply). r.effect.orders) is
-replies_quit s past (command.Unsupported a) reply is = quiet_if reply _ tt is
-replies_quit s past (command.BadArguments a) reply is = quiet_if reply _ tt is
+replies_quit s past asked reply is = shape_quiet past s asked reply (λ same. absurd cc) (shaped past reply s asked is)
 
 launches_quiet : (launch : Launch) (file : Option (List ℕ)) (reply : Reply) → Launches launch.arguments file reply
     → IsQuiet reply
@@ -312,7 +225,6 @@ report_quits past _ orders quiet = quiet
 -- What an item orders has a Quit just where the item closes the session by no fault.
 item_quits : (past : History) (item : Item) (step : Step) → Causes past item step
     → QuitsBy step.effect.orders (closing item)
-item_quits past (Content None) step is = subst (λ (e : Effect). NoQuit e.orders) (sym is.effect_is) tt
 item_quits past (Content (Some request)) step is =
     subst (λ (e : Effect). QuitsBy e.orders (closing_command request.body)) (sym is.2.effect_is)
     (replies_quit (situation past) past request.body is.0 is.1)
@@ -321,10 +233,9 @@ item_quits past (Loaded launch file) step is =
 item_quits past (Accepted r) step is =
     report_quits past r.outcome step.effect.orders
     (subst (λ (e : Effect). NoQuit e.orders) (sym is.effect_is) (report_quiet past r r.outcome))
-item_quits past (Fault k) step is = subst (λ (e : Effect). NoQuit e.orders) (sym is.effect_is) tt
 item_quits past InputEnd step is = ap (λ (e : Effect). e.orders) is.effect_is
 item_quits past ReadFailure step is = ap (λ (e : Effect). e.orders) is.effect_is
-item_quits past MemoryFailure step is = subst (λ (e : Effect). NoQuit e.orders) (sym is.effect_is) tt
+item_quits past _ step is = subst (λ (e : Effect). NoQuit e.orders) (sym is.effect_is) tt
 
 -- ---- Quit is ordered last
 
@@ -360,16 +271,16 @@ quits_more past item new taking after here =
 
     by_closing : (closes : Option Ending) → closing item ≡ closes → QuitsBy after.step.effect.orders (closing item)
         → Quits new
-    by_closing None is quits =
-        let quiet : NoQuit after.step.effect.orders = subst (QuitsBy after.step.effect.orders) is quits in
+    by_closing None is by_quit =
+        let quiet : NoQuit after.step.effect.orders = subst (QuitsBy after.step.effect.orders) is by_quit in
         if_quiet quiet (subst (λ e. EndsWithQuit e (orders_of new)) (sym (ends ∙ is))
         (λ front back there. no_quit_in (orders_of new) front back (none_ordered quiet) there))
-    by_closing (Some (ending.Fault fault)) is quits =
-        let quiet : NoQuit after.step.effect.orders = subst (QuitsBy after.step.effect.orders) is quits in
+    by_closing (Some (ending.Fault fault)) is by_quit =
+        let quiet : NoQuit after.step.effect.orders = subst (QuitsBy after.step.effect.orders) is by_quit in
         if_quiet quiet (subst (λ e. EndsWithQuit e (orders_of new)) (sym (ends ∙ is))
         (λ front back there. no_quit_in (orders_of new) front back (none_ordered quiet) there))
-    by_closing (Some (ending.Closed by)) is quits =
-        let alone : after.step.effect.orders ≡ Quit ∷ [] = subst (QuitsBy after.step.effect.orders) is quits in
+    by_closing (Some (ending.Closed by)) is by_quit =
+        let alone : after.step.effect.orders ≡ Quit ∷ [] = subst (QuitsBy after.step.effect.orders) is by_quit in
         let parts : orders_of new ≡ orders_of past ++ Quit ∷ [] = orders_are ∙ ap (λ l. orders_of past ++ l) alone in
         record {
           before = λ still. let e = sym still ∙ ends ∙ is in absurd cc;
@@ -403,9 +314,10 @@ abbrev pub IsFile : Incoming → Type 0
 IsFile (File file) = Unit {0}
 IsFile _ = ⊥
 
-only_files_load : (before : List Incoming) (e : Incoming) (load : Load) → ¬ IsFile e → ¬ IsLoad before e load
-only_files_load before (File file) load no_file is = no_file tt
-only_files_load before _ load no_file is = is
+only_files_load : (first : FirstSeq) (before : List Incoming) (e : Incoming) (load : Load) → ¬ IsFile e
+    → ¬ IsLoad first before e load
+only_files_load f before (File file) load no_file is = no_file tt
+only_files_load f before _ load no_file is = is
 
 abbrev first_event : Incoming → List Incoming → Incoming
 first_event other [] = other
@@ -416,31 +328,34 @@ later_events [] = []
 later_events (e ∷ events) = events
 
 -- An event that is no file comes from the inbox.
-pub interleaved_event : (own : Incoming) → ¬ IsFile own → (before events given : List Incoming) (loads : List Load)
-    → Interleaves before events given loads
+pub interleaved_event : (first : FirstSeq) (own : Incoming) → ¬ IsFile own
+    → (before events given : List Incoming) (loads : List Load)
+    → Interleaves first before events given loads
     → (front back : List Incoming) → events ≡ front ++ own ∷ back → (f : List Incoming) × (b : List Incoming)
     × (given ≡ f ++ own ∷ b)
-interleaved_event own no_file before [] given loads from [] back is = absurd cc
-interleaved_event own no_file before [] given loads from (x ∷ front) back is = absurd cc
-interleaved_event own no_file before (e ∷ events) given loads (inl from) [] back is =
-    absurd (only_files_load before e from.0 (λ file. no_file (subst IsFile (ap (first_event own) is) file)) from.3)
-interleaved_event own no_file before (e ∷ events) given loads (inl from) (x ∷ front) back is =
-    interleaved_event own no_file (before ++ e ∷ []) events given from.1 from.4 front back (ap later_events is)
-interleaved_event own no_file before (e ∷ events) given loads (inr from) [] back is =
+interleaved_event f own no_file before [] given loads from [] back is = absurd cc
+interleaved_event f own no_file before [] given loads from (x ∷ front) back is = absurd cc
+interleaved_event f own no_file before (e ∷ events) given loads (inl from) [] back is =
+    absurd (only_files_load f before e from.0 (λ file. no_file (subst IsFile (ap (first_event own) is) file)) from.3)
+interleaved_event f own no_file before (e ∷ events) given loads (inl from) (x ∷ front) back is =
+    interleaved_event f own no_file (before ++ e ∷ []) events given from.1 from.4 front back (ap later_events is)
+interleaved_event f own no_file before (e ∷ events) given loads (inr from) [] back is =
     ([], from.0, from.1 ∙ ap (λ x. x ∷ from.0) (ap (first_event own) is))
-interleaved_event own no_file before (e ∷ events) given loads (inr from) (x ∷ front) back is =
+interleaved_event f own no_file before (e ∷ events) given loads (inr from) (x ∷ front) back is =
     let there =
-    interleaved_event own no_file (before ++ e ∷ []) events from.0 loads from.3 front back (ap later_events is) in
+    interleaved_event f own no_file (before ++ e ∷ []) events from.0 loads from.3 front back (ap later_events is) in
     (e ∷ there.0, there.1, from.1 ∙ ap (λ l. e ∷ l) there.2)
 
-pub interleaved_end : (events given : List Incoming) (loads : List Load) → Interleaves [] events given loads
+pub interleaved_end : (first : FirstSeq) (events given : List Incoming) (loads : List Load)
+    → Interleaves first [] events given loads
     → (front back : List Incoming) → events ≡ front ++ End ∷ back
     → (f : List Incoming) × (b : List Incoming) × (given ≡ f ++ End ∷ b)
-interleaved_end events given loads from front back is =
-    interleaved_event End (λ file. file) [] events given loads from front back is
+interleaved_end f events given loads from front back is =
+    interleaved_event f End (λ file. file) [] events given loads from front back is
 
-pub interleaved_failure : (events given : List Incoming) (loads : List Load) → Interleaves [] events given loads
+pub interleaved_failure : (first : FirstSeq) (events given : List Incoming) (loads : List Load)
+    → Interleaves first [] events given loads
     → (front back : List Incoming) → events ≡ front ++ ReadFailed ∷ back
     → (f : List Incoming) × (b : List Incoming) × (given ≡ f ++ ReadFailed ∷ b)
-interleaved_failure events given loads from front back is =
-    interleaved_event ReadFailed (λ file. file) [] events given loads from front back is
+interleaved_failure f events given loads from front back is =
+    interleaved_event f ReadFailed (λ file. file) [] events given loads from front back is

@@ -7,6 +7,7 @@ use Rattle.std.proofs.lemmas.List.Elements.{filter_map-append}
 use Rattle.dap_frame.specs.Frame.{Frames}
 use Rattle.dap_frame.specs.Laws.{FramesJoin}
 use Rattle.dap_frame.proofs.Feeding.{frames_longer}
+use Rattle.dap_msg.specs.declared.request.FirstSeq.{FirstSeq}
 use Rattle.dap_msg.specs.declared.request.Request.{Request}
 use Rattle.dap_msg.specs.declared.command.Command.{Command}
 use Rattle.dap_msg.specs.declared.command.Command.TheVariants as command
@@ -22,15 +23,16 @@ use Rattle.dap_history.specs.Launching.{wanted_by, wanted_in}
 use Rattle.dap_history.specs.Emission.{IsAfter}
 use Rattle.dap_history.specs.Events.{Incoming, Piece, End, ReadFailed, NoMemory, File, Report, Rest, only_bytes, IsInFront, Takes, one_more, closed, open_ended, faulty, waits, MayTake, LeadsByPiece, LeadsByFile, LeadsByReport, Loads, Leads}
 use Rattle.dap_history.specs.Laws.{stream_of, launch_request, read_as, waiting, contents_read, AreRead, ContentsAreOfTheStream}
+use Rattle.dap_history.proofs.FirstKept.{first_by_event}
 
 -- ---- what is read
 
-read-append : (cs ds : List (List ℕ)) (rs ss : List (Option Request)) → AreRead cs rs → AreRead ds ss
-    → AreRead (cs ++ ds) (rs ++ ss)
-read-append [] ds [] ss a b = b
-read-append [] ds (r ∷ rs) ss a b = absurd a
-read-append (c ∷ cs) ds [] ss a b = absurd a
-read-append (c ∷ cs) ds (r ∷ rs) ss a b = (a.0, read-append cs ds rs ss a.1 b)
+read-append : (f : FirstSeq) (cs ds : List (List ℕ)) (rs ss : List (Option Request)) → AreRead f cs rs → AreRead f ds ss
+    → AreRead f (cs ++ ds) (rs ++ ss)
+read-append f [] ds [] ss a b = b
+read-append f [] ds (r ∷ rs) ss a b = absurd a
+read-append f (c ∷ cs) ds [] ss a b = absurd a
+read-append f (c ∷ cs) ds (r ∷ rs) ss a b = (a.0, read-append f cs ds rs ss a.1 b)
 
 abbrev reads : History → List (Option Request)
 reads past = filter_map read_as (map (λ (step : Step). step.item) past)
@@ -46,37 +48,37 @@ reads_after past item new after =
 -- ---- what bytes give
 
 -- the bytes are the frames of contents that are read as these, up to what is left
-record Gives (bytes left : List ℕ) (requests : List (Option Request)) : Type 0 where
+record Gives (f : FirstSeq) (bytes left : List ℕ) (requests : List (Option Request)) : Type 0 where
   contents : List (List ℕ)
   framed : Frames bytes contents left
-  read : AreRead contents requests
+  read : AreRead f contents requests
 
-gives_nothing : (bytes : List ℕ) → Gives bytes bytes []
-gives_nothing bytes = record { contents = []; framed = refl; read = tt }
+gives_nothing : (f : FirstSeq) (bytes : List ℕ) → Gives f bytes bytes []
+gives_nothing f bytes = record { contents = []; framed = refl; read = tt }
 
-gives_one : (bytes : List ℕ) (request : Option Request) (more : List ℕ) → IsInFront bytes request more
-    → Gives bytes more (request ∷ [])
-gives_one bytes request more front =
+gives_one : (f : FirstSeq) (bytes : List ℕ) (request : Option Request) (more : List ℕ)
+    → IsInFront f bytes request more → Gives f bytes more (request ∷ [])
+gives_one f bytes request more front =
     record { contents = front.content ∷ []; framed = (more, front.framed, refl); read = (front.read, tt) }
 
-gives_more : (bytes left : List ℕ) (requests : List (Option Request)) (more : List ℕ) → Gives bytes left requests
-    → Gives (bytes ++ more) (left ++ more) requests
-gives_more bytes left requests more is =
+gives_more : (f : FirstSeq) (bytes left : List ℕ) (requests : List (Option Request)) (more : List ℕ)
+    → Gives f bytes left requests → Gives f (bytes ++ more) (left ++ more) requests
+gives_more f bytes left requests more is =
     record { contents = is.contents; framed = frames_longer bytes left more is.contents is.framed; read = is.read }
 
-module _ (join : FramesJoin) where
-  gives_both : (bytes mid left : List ℕ) (rs ss : List (Option Request)) → Gives bytes mid rs → Gives mid left ss
-      → Gives bytes left (rs ++ ss)
+module _ (join : FramesJoin) (f : FirstSeq) where
+  gives_both : (bytes mid left : List ℕ) (rs ss : List (Option Request)) → Gives f bytes mid rs
+      → Gives f mid left ss → Gives f bytes left (rs ++ ss)
   gives_both bytes mid left rs ss a b = record {
     contents = a.contents ++ b.contents;
     framed = join bytes mid left a.contents b.contents a.framed b.framed;
-    read = read-append a.contents b.contents rs ss a.read b.read;
+    read = read-append f a.contents b.contents rs ss a.read b.read;
   }
 
   -- what is taken from bytes, up to what is left
   abbrev Gains : History → List ℕ → History → List ℕ → Option Launch → Type 0
   Gains past bytes new left launch =
-      (rs : List (Option Request)) × Gives bytes left rs × (contents_read new launch ≡ reads past ++ rs)
+      (rs : List (Option Request)) × Gives f bytes left rs × (contents_read new launch ≡ reads past ++ rs)
 
   wanted_is : (seq : ℕ) (body : Command) (launch : Launch) → wanted_by seq body ≡ Some launch
       → ◌≡◌ {A = Request} (record { seq = seq; body = body }) (launch_request launch)
@@ -89,23 +91,23 @@ module _ (join : FramesJoin) where
   request_is Ready (Some request) launch is = ap Some (wanted_is request.seq request.body launch is)
   request_is _ request launch is = absurd cc
 
-  takes_gain : {past new : History} {bytes : List ℕ} {rest : Rest} → Takes past bytes new rest
+  takes_gain : {past new : History} {bytes : List ℕ} {rest : Rest} → Takes f past bytes new rest
       → Gains past bytes new rest.bytes rest.launch
   takes_gain {past = past} {new = new} {bytes = bytes} {rest = rest}
       (one_more {mid = mid} {more = more} request taking front unwanted after taken) =
       let next = takes_gain taken in (
         request ∷ next.0,
-        gives_both bytes more rest.bytes (request ∷ []) next.0 (gives_one bytes request more front) next.1,
+        gives_both bytes more rest.bytes (request ∷ []) next.0 (gives_one f bytes request more front) next.1,
         next.2 ∙ ap (λ rs. rs ++ next.0) (reads_after past (Content request) mid after)
             ∙ append_assoc (reads past) (request ∷ []) next.0,
       )
-  takes_gain {bytes = bytes} (closed not) = ([], gives_nothing bytes, refl)
-  takes_gain {bytes = bytes} (open_ended taking is) = ([], gives_nothing bytes, refl)
+  takes_gain {bytes = bytes} (closed not) = ([], gives_nothing f bytes, refl)
+  takes_gain {bytes = bytes} (open_ended taking is) = ([], gives_nothing f bytes, refl)
   takes_gain {past = past} {bytes = bytes} (faulty k new taking fault after) =
-      ([], gives_nothing bytes, ap (λ rs. rs ++ []) (reads_after past (Fault k) new after ∙ append-nil (reads past)))
+      ([], gives_nothing f bytes, ap (λ rs. rs ++ []) (reads_after past (Fault k) new after ∙ append-nil (reads past)))
   takes_gain {past = past} {bytes = bytes} (waits request launch more taking front wanted) = (
     request ∷ [],
-    gives_one bytes request more front,
+    gives_one f bytes request more front,
     ap (λ r. reads past ++ r ∷ [])
         (sym (request_is (situation past) request launch wanted)),
   )
@@ -114,35 +116,35 @@ module _ (join : FramesJoin) where
 
   -- what was taken is what the stream gives
   abbrev Holds : List ℕ → History → Rest → Type 0
-  Holds stream past rest = Gives stream rest.bytes (contents_read past rest.launch)
+  Holds stream past rest = Gives f stream rest.bytes (contents_read past rest.launch)
 
   -- with nothing waiting, what more is taken of the bytes is what the stream gives further
   goes_on : (stream : List ℕ) (past : History) (bytes : List ℕ) (new : History) (rest : Rest)
-      → Gives stream bytes (reads past) → Gains past bytes new rest.bytes rest.launch → Holds stream new rest
+      → Gives f stream bytes (reads past) → Gains past bytes new rest.bytes rest.launch → Holds stream new rest
   goes_on stream past bytes new rest here gains =
-      subst (Gives stream rest.bytes) (sym gains.2)
+      subst (Gives f stream rest.bytes) (sym gains.2)
       (gives_both stream bytes rest.bytes (reads past) gains.0 here gains.1)
 
   piece_holds : (stream piece : List ℕ) (past : History) (before : Rest) (launch : Option Launch) (new : History)
-      (rest : Rest) → before.launch ≡ launch → LeadsByPiece past launch (before.bytes ++ piece) new rest
+      (rest : Rest) → before.launch ≡ launch → LeadsByPiece f past launch (before.bytes ++ piece) new rest
       → Holds stream past before → Holds (stream ++ piece) new rest
   piece_holds stream piece past before None new rest is leads here =
       goes_on (stream ++ piece) past (before.bytes ++ piece) new rest
-      (subst (Gives (stream ++ piece) (before.bytes ++ piece)) (ap (contents_read past) is ∙ append-nil (reads past))
-      (gives_more stream before.bytes (contents_read past before.launch) piece here))
+      (subst (Gives f (stream ++ piece) (before.bytes ++ piece)) (ap (contents_read past) is ∙ append-nil (reads past))
+      (gives_more f stream before.bytes (contents_read past before.launch) piece here))
       (takes_gain leads)
   piece_holds stream piece past before (Some launch) new rest is leads here =
       subst (λ h. Holds (stream ++ piece) h rest) (sym leads.0)
       (subst (λ r. Holds (stream ++ piece) past r) (sym leads.1)
-      (subst (Gives (stream ++ piece) (before.bytes ++ piece)) (ap (contents_read past) is)
-      (gives_more stream before.bytes (contents_read past before.launch) piece here)))
+      (subst (Gives f (stream ++ piece) (before.bytes ++ piece)) (ap (contents_read past) is)
+      (gives_more f stream before.bytes (contents_read past before.launch) piece here)))
 
   loads_hold : (stream : List ℕ) (past : History) (before : Rest) (launch : Launch) (file : Option (List ℕ))
-      (new : History) (rest : Rest) → before.launch ≡ Some launch → Loads past launch file before.bytes new rest
+      (new : History) (rest : Rest) → before.launch ≡ Some launch → Loads f past launch file before.bytes new rest
       → Holds stream past before → Holds stream new rest
   loads_hold stream past before launch file new rest is loads here =
       goes_on stream loads.mid before.bytes new rest
-      (subst (Gives stream before.bytes) (ap (contents_read past) is
+      (subst (Gives f stream before.bytes) (ap (contents_read past) is
       ∙ sym (reads_after past (Loaded launch file) loads.mid loads.loaded)) here)
       (takes_gain loads.after)
 
@@ -151,7 +153,7 @@ module _ (join : FramesJoin) where
       → rest ≡ before → Holds stream past before → Holds stream new rest
   same_holds stream past before new rest same rest_is here =
       subst (λ r. Holds stream new r) (sym rest_is)
-      (subst (λ rs. Gives stream before.bytes (rs ++ waiting before.launch)) (sym same) here)
+      (subst (λ rs. Gives f stream before.bytes (rs ++ waiting before.launch)) (sym same) here)
 
   abbrev NoContent : Item → Type 0
   NoContent item = read_as item ≡ None
@@ -171,11 +173,7 @@ module _ (join : FramesJoin) where
           by_item : (item : Item) → read_as item ≡ None → filter_map read_as (item ∷ []) ≡ []
           by_item (Content request) is = absurd cc
           by_item (Loaded launch file) is = absurd cc
-          by_item (Accepted r) is = refl
-          by_item (Fault k) is = refl
-          by_item InputEnd is = refl
-          by_item ReadFailure is = refl
-          by_item MemoryFailure is = refl
+          by_item _ is = refl
 
   may_same : (past : History) (item : Item) (new : History) → NoContent item → MayTake past item new
       → reads new ≡ reads past
@@ -183,20 +181,22 @@ module _ (join : FramesJoin) where
   may_same past item new is (inr taken) = after_same past item new is taken.1
 
   file_holds : (stream : List ℕ) (past : History) (before : Rest) (launch : Option Launch)
-      (file : Result (List ℕ) LoadFault) (new : History) (rest : Rest) → before.launch ≡ launch
+      (file : Result (List ℕ) LoadFault) (new : History) (rest : Rest) → before.first ≡ f → before.launch ≡ launch
       → LeadsByFile past before launch file new rest
       → Holds stream past before → Holds stream new rest
-  file_holds stream past before None file new rest is leads here =
+  file_holds stream past before None file new rest same is leads here =
       same_holds stream past before new rest (ap reads leads.0) leads.1 here
-  file_holds stream past before (Some launch) (Ok file) new rest is (inl leads) here =
+  file_holds stream past before (Some launch) (Ok file) new rest same is (inl leads) here =
       same_holds stream past before new rest (ap reads leads.1) leads.2 here
-  file_holds stream past before (Some launch) (Ok file) new rest is (inr leads) here =
-      loads_hold stream past before launch (Some file) new rest is leads here
-  file_holds stream past before (Some launch) (Err load_fault.CannotRead) new rest is (inl leads) here =
+  file_holds stream past before (Some launch) (Ok file) new rest same is (inr leads) here =
+      loads_hold stream past before launch (Some file) new rest is
+      (subst (λ g. Loads g past launch (Some file) before.bytes new rest) same leads) here
+  file_holds stream past before (Some launch) (Err load_fault.CannotRead) new rest same is (inl leads) here =
       same_holds stream past before new rest (ap reads leads.1) leads.2 here
-  file_holds stream past before (Some launch) (Err load_fault.CannotRead) new rest is (inr leads) here =
-      loads_hold stream past before launch None new rest is leads here
-  file_holds stream past before (Some launch) (Err load_fault.NoMemory) new rest is leads here =
+  file_holds stream past before (Some launch) (Err load_fault.CannotRead) new rest same is (inr leads) here =
+      loads_hold stream past before launch None new rest is
+      (subst (λ g. Loads g past launch None before.bytes new rest) same leads) here
+  file_holds stream past before (Some launch) (Err load_fault.NoMemory) new rest same is leads here =
       same_holds stream past before new rest (may_same past MemoryFailure new refl leads.0) leads.1 here
 
   report_same : (past : History) (r : PlainReport) (new : History) → LeadsByReport past r new → reads new ≡ reads past
@@ -204,32 +204,40 @@ module _ (join : FramesJoin) where
   report_same past r new (inr is) = after_same past (Accepted r) new refl is.2
 
   events_hold : (stream : List ℕ) (past : History) (before : Rest) (events : List Incoming) (new : History)
-      (rest : Rest) → Leads past before events new rest → Holds stream past before
+      (rest : Rest) → before.first ≡ f → Leads past before events new rest → Holds stream past before
       → Holds (stream ++ stream_of events) new rest
-  events_hold stream past before [] new rest all here =
+  events_hold stream past before [] new rest same all here =
       subst (λ s. Holds s new rest) (sym (append-nil stream))
       (same_holds stream past before new rest (ap reads all.0) all.1 here)
-  events_hold stream past before (Piece piece ∷ events) new rest all here =
+  events_hold stream past before (Piece piece ∷ events) new rest same all here =
       subst (λ s. Holds s new rest) (append_assoc stream piece (stream_of events))
-      (events_hold (stream ++ piece) all.0 all.1 events new rest all.3
-      (piece_holds stream piece past before before.launch all.0 all.1 refl all.2 here))
-  events_hold stream past before (End ∷ events) new rest all here =
-      events_hold stream all.0 all.1 events new rest all.3
+      (events_hold (stream ++ piece) all.0 all.1 events new rest
+      (first_by_event past before (Piece piece) all.0 all.1 all.2 ∙ same) all.3
+      (piece_holds stream piece past before before.launch all.0 all.1 refl
+      (subst (λ g. LeadsByPiece g past before.launch (before.bytes ++ piece) all.0 all.1) same all.2) here))
+  events_hold stream past before (End ∷ events) new rest same all here =
+      events_hold stream all.0 all.1 events new rest
+      (first_by_event past before End all.0 all.1 all.2 ∙ same) all.3
       (same_holds stream past before all.0 all.1 (may_same past InputEnd all.0 refl all.2.0) all.2.1 here)
-  events_hold stream past before (ReadFailed ∷ events) new rest all here =
-      events_hold stream all.0 all.1 events new rest all.3
+  events_hold stream past before (ReadFailed ∷ events) new rest same all here =
+      events_hold stream all.0 all.1 events new rest
+      (first_by_event past before ReadFailed all.0 all.1 all.2 ∙ same) all.3
       (same_holds stream past before all.0 all.1 (may_same past ReadFailure all.0 refl all.2.0) all.2.1 here)
-  events_hold stream past before (NoMemory ∷ events) new rest all here =
-      events_hold stream all.0 all.1 events new rest all.3
+  events_hold stream past before (NoMemory ∷ events) new rest same all here =
+      events_hold stream all.0 all.1 events new rest
+      (first_by_event past before NoMemory all.0 all.1 all.2 ∙ same) all.3
       (same_holds stream past before all.0 all.1 (may_same past MemoryFailure all.0 refl all.2.0) all.2.1 here)
-  events_hold stream past before (File file ∷ events) new rest all here =
-      events_hold stream all.0 all.1 events new rest all.3
-      (file_holds stream past before before.launch file all.0 all.1 refl all.2 here)
-  events_hold stream past before (Report r ∷ events) new rest all here =
-      events_hold stream all.0 all.1 events new rest all.3
+  events_hold stream past before (File file ∷ events) new rest same all here =
+      events_hold stream all.0 all.1 events new rest
+      (first_by_event past before (File file) all.0 all.1 all.2 ∙ same) all.3
+      (file_holds stream past before before.launch file all.0 all.1 same refl all.2 here)
+  events_hold stream past before (Report r ∷ events) new rest same all here =
+      events_hold stream all.0 all.1 events new rest
+      (first_by_event past before (Report r) all.0 all.1 all.2 ∙ same) all.3
       (same_holds stream past before all.0 all.1 (report_same past r all.0 all.2.0) all.2.1 here)
 
-  pub contents_of_stream : ContentsAreOfTheStream
-  contents_of_stream events past rest history =
-      let holds = events_hold [] [] (only_bytes []) events past rest history (gives_nothing []) in
-      (holds.contents, holds.framed, holds.read)
+pub contents_of_stream : FramesJoin → ContentsAreOfTheStream
+contents_of_stream join events past rest history =
+    let holds = events_hold join rest.first [] [] (only_bytes rest.first []) events past rest refl history
+    (gives_nothing rest.first []) in
+    (holds.contents, holds.framed, holds.read)

@@ -7,7 +7,7 @@ use Rattle.std.proofs.lemmas.Bool.Decides.{eqb_tells}
 use Rattle.std.proofs.lemmas.List.Elements.{filter_map-append}
 use Rattle.dbg_runner.specs.Plain.{PlainOrder, PlainReport, Heading}
 use Rattle.dap_history.specs.Last.{or_else, last_such}
-use Rattle.dap_history.specs.History.{Item, Content, Loaded, Accepted, Fault, InputEnd, ReadFailure, MemoryFailure, Step, History, Effect, orders_of}
+use Rattle.dap_history.specs.History.{Item, Content, Loaded, Accepted, Step, History, Effect, orders_of}
 use Rattle.dap_history.specs.Readings.{go, situation, last_run, runs, position, end_of}
 use Rattle.dap_history.specs.Considered.{all_runs, end_in, run_end}
 use Rattle.dap_history.specs.Reports.{Accepts}
@@ -44,10 +44,7 @@ next_runs past (Loaded launch file) step is =
     (subst (NextRuns past) (sym (none_such PlainOrder Heading go is.0.effect.orders
     (loaded_orders launch file is.0 is.1))) no_runs)
 next_runs past (Accepted r) step is = subst (NextRunsOf past) (sym is.effect_is) (report_runs past r r.outcome)
-next_runs past (Fault k) step is = subst (NextRunsOf past) (sym is.effect_is) no_runs
-next_runs past InputEnd step is = subst (NextRunsOf past) (sym is.effect_is) no_runs
-next_runs past ReadFailure step is = subst (NextRunsOf past) (sym is.effect_is) no_runs
-next_runs past MemoryFailure step is = subst (NextRunsOf past) (sym is.effect_is) no_runs
+next_runs past _ step is = subst (NextRunsOf past) (sym is.effect_is) no_runs
 
 -- ---- what is kept
 
@@ -87,31 +84,21 @@ if_same a b o same = by_test (eqb_tells a b)
 -- an item reports of no later run
 other_run : (Q : Incoming → Type 0) (past : History) (item : Item) (n : ℕ) → Counted past → IsTaken Q past item
     → runs past < n → end_in n item ≡ None
-other_run Q past (Content request) n counted taken later = refl
-other_run Q past (Loaded launch file) n counted taken later = refl
 other_run Q past (Accepted r) n counted taken later =
     if_other r.run n (Some r.end) (λ same. let number = accepted_number past r counted taken.0 in omega
     (arith, same, number, later))
-other_run Q past (Fault k) n counted taken later = refl
-other_run Q past InputEnd n counted taken later = refl
-other_run Q past ReadFailure n counted taken later = refl
-other_run Q past MemoryFailure n counted taken later = refl
+other_run Q past _ n counted taken later = refl
 
 -- of the last run an item reports where the program stands then
 own_run : (Q : Incoming → Type 0) (past : History) (item : Item) (run : Heading) → IsTaken Q past item
     → last_run past ≡ Some run → (here : ℕ) → here ≡ position past
     → unwrap_or (end_in run.run item) here ≡ unwrap_or (end_of item) (position past)
-own_run Q past (Content request) run taken is here there = there
-own_run Q past (Loaded launch file) run taken is here there = there
 own_run Q past (Accepted r) run taken is here there =
     let same : taken.0.run ≡ run = let e = sym taken.0.run_is ∙ is in cc in
     ap (λ o. unwrap_or o here)
     (if_same r.run run.run (Some r.end) (ap (λ (h : Heading). h.run) taken.0.expected
     ∙ ap (λ (h : Heading). h.run) same))
-own_run Q past (Fault k) run taken is here there = there
-own_run Q past InputEnd run taken is here there = there
-own_run Q past ReadFailure run taken is here there = there
-own_run Q past MemoryFailure run taken is here there = there
+own_run Q past _ run taken is here there = there
 
 -- ---- a run that a step orders is the next one
 

@@ -5,6 +5,7 @@ use Rattle.dap_frame.specs.declared.fault.FramingFault.{FramingFault}
 use Rattle.dap_frame.specs.declared.fault.FramingFault.TheVariants.{HeaderTooLong, BadField, NoLength, TwoLengths, BadLength, TooLarge, NoMemory as NoRoom}
 use Rattle.dap_frame.specs.Header.{HasFaultyLine, IsTooLong, FaultAt, lines_of, line_of, header_limit}
 use Rattle.dap_frame.proofs.Feeding.{frame_longer}
+use Rattle.dap_msg.specs.declared.request.FirstSeq.{FirstSeq}
 use Rattle.dap_msg.specs.declared.request.Request.{Request}
 use Rattle.dap_history.specs.declared.launch.Launch.{Launch}
 use Rattle.dap_history.specs.History.{History, Fault}
@@ -14,9 +15,10 @@ use Rattle.dap_history.proofs.Along.{closes_for_good}
 
 -- ---- more bytes after those there are
 
-in_front_more : (bytes : List ℕ) (request : Option Request) (left more : List ℕ) → IsInFront bytes request left
-    → IsInFront (bytes ++ more) request (left ++ more)
-in_front_more bytes request left more is =
+in_front_more : (first : FirstSeq) (bytes : List ℕ) (request : Option Request) (left more : List ℕ)
+    → IsInFront first bytes request left
+    → IsInFront first (bytes ++ more) request (left ++ more)
+in_front_more first bytes request left more is =
     record { content = is.content; framed = frame_longer bytes is.content left more is.framed; read = is.read }
 
 line_more : (bytes more : List ℕ) (k : FramingFault) → HasFaultyLine bytes k → HasFaultyLine (bytes ++ more) k
@@ -53,8 +55,9 @@ fault_more bytes more NoRoom is = absurd is
 
 -- ---- a closed session takes nothing
 
-stays_closed : {past new : History} {bytes : List ℕ} {rest : Rest} → ¬ IsTaking past → Takes past bytes new rest
-    → (new ≡ past) × (rest ≡ only_bytes bytes)
+stays_closed : {first : FirstSeq} {past new : History} {bytes : List ℕ} {rest : Rest} → ¬ IsTaking past
+    → Takes first past bytes new rest
+    → (new ≡ past) × (rest ≡ only_bytes first bytes)
 stays_closed not (one_more request taking front unwanted after taken) = absurd (not taking)
 stays_closed not (closed not') = (refl, refl)
 stays_closed not (open_ended taking is) = absurd (not taking)
@@ -63,39 +66,44 @@ stays_closed not (waits request launch more taking front wanted) = absurd (not t
 
 -- ---- two pieces as one
 
-two_takes : {past mid : History} {bytes : List ℕ} {between : Rest} (b : List ℕ) (new : History) (rest : Rest)
-    → Takes past bytes mid between → LeadsByPiece mid between.launch (between.bytes ++ b) new rest
-    → Takes past (bytes ++ b) new rest
-two_takes {bytes = bytes} b new rest (one_more {more = more} request taking front unwanted after taken) second =
-    one_more request taking (in_front_more bytes request more b front) unwanted after
+two_takes : {first : FirstSeq} {past mid : History} {bytes : List ℕ} {between : Rest} (b : List ℕ) (new : History)
+    (rest : Rest)
+    → Takes first past bytes mid between → LeadsByPiece between.first mid between.launch (between.bytes ++ b) new rest
+    → Takes first past (bytes ++ b) new rest
+two_takes {first = first} {bytes = bytes} b new rest
+    (one_more {more = more} request taking front unwanted after taken) second =
+    one_more request taking (in_front_more first bytes request more b front) unwanted after
     (two_takes b new rest taken second)
 two_takes b new rest (closed not) second = second
 two_takes b new rest (open_ended taking is) second = second
-two_takes {past = past} {bytes = bytes} b new rest (faulty k mid taking fault after) second =
+two_takes {first = first} {past = past} {bytes = bytes} b new rest (faulty k mid taking fault after) second =
     let is = stays_closed (closes_for_good past (Fault k) mid _ refl after) second in
-    subst (λ h. Takes past (bytes ++ b) h rest) (sym is.0)
-    (subst (λ r. Takes past (bytes ++ b) mid r) (sym is.1)
+    subst (λ h. Takes first past (bytes ++ b) h rest) (sym is.0)
+    (subst (λ r. Takes first past (bytes ++ b) mid r) (sym is.1)
     (faulty k mid taking (fault_more bytes b k fault) after))
-two_takes {past = past} {bytes = bytes} b new rest (waits request launch more taking front wanted) second =
-    subst (λ h. Takes past (bytes ++ b) h rest) (sym second.0)
-    (subst (λ r. Takes past (bytes ++ b) past r) (sym second.1)
-    (waits request launch (more ++ b) taking (in_front_more bytes request more b front) wanted))
+two_takes {first = first} {past = past} {bytes = bytes} b new rest
+    (waits request launch more taking front wanted) second =
+    subst (λ h. Takes first past (bytes ++ b) h rest) (sym second.0)
+    (subst (λ r. Takes first past (bytes ++ b) past r) (sym second.1)
+    (waits request launch (more ++ b) taking (in_front_more first bytes request more b front) wanted))
 
-two_by_piece : (past : History) (launch : Option Launch) (bytes b : List ℕ) (mid : History) (between : Rest)
-    (new : History) (rest : Rest) → LeadsByPiece past launch bytes mid between
-    → LeadsByPiece mid between.launch (between.bytes ++ b) new rest → LeadsByPiece past launch (bytes ++ b) new rest
-two_by_piece past None bytes b mid between new rest first second = two_takes b new rest first second
-two_by_piece past (Some launch) bytes b mid between new rest first second =
-    let again : (new ≡ mid) × (rest ≡ record { launch = Some launch; bytes = bytes ++ b }) =
-    subst (λ (r : Rest). LeadsByPiece mid r.launch (r.bytes ++ b) new rest) first.1 second in
-    (again.0 ∙ first.0, again.1)
+two_by_piece : (first : FirstSeq) (past : History) (launch : Option Launch) (bytes b : List ℕ) (mid : History)
+    (between : Rest)
+    (new : History) (rest : Rest) → LeadsByPiece first past launch bytes mid between
+    → LeadsByPiece between.first mid between.launch (between.bytes ++ b) new rest
+    → LeadsByPiece first past launch (bytes ++ b) new rest
+two_by_piece first past None bytes b mid between new rest here second = two_takes b new rest here second
+two_by_piece first past (Some launch) bytes b mid between new rest here second =
+    let again : (new ≡ mid) × (rest ≡ record { first = first; launch = Some launch; bytes = bytes ++ b }) =
+    subst (λ (r : Rest). LeadsByPiece r.first mid r.launch (r.bytes ++ b) new rest) here.1 second in
+    (again.0 ∙ here.0, again.1)
 
 two_pieces : (past : History) (before : Rest) (a b : List ℕ) (mid : History) (between : Rest) (new : History)
     (rest : Rest) → LeadsByEvent past before (Piece a) mid between
     → LeadsByEvent mid between (Piece b) new rest → LeadsByEvent past before (Piece (a ++ b)) new rest
 two_pieces past before a b mid between new rest first second =
-    subst (λ bytes. LeadsByPiece past before.launch bytes new rest) (append_assoc before.bytes a b)
-    (two_by_piece past before.launch (before.bytes ++ a) b mid between new rest first second)
+    subst (λ bytes. LeadsByPiece before.first past before.launch bytes new rest) (append_assoc before.bytes a b)
+    (two_by_piece before.first past before.launch (before.bytes ++ a) b mid between new rest first second)
 
 joined : (a b : List ℕ) (before after : List Incoming) (past : History) (start : Rest) (new : History) (rest : Rest)
     → Leads past start (before ++ (Piece a ∷ Piece b ∷ after)) new rest
@@ -106,4 +114,5 @@ joined a b (e ∷ before) after past start new rest all =
     (all.0, all.1, all.2, joined a b before after all.0 all.1 new rest all.3)
 
 pub cuts_change_nothing : CutsChangeNothing
-cuts_change_nothing a b before after past rest history = joined a b before after [] (only_bytes []) past rest history
+cuts_change_nothing a b before after past rest history = joined a b before after []
+    (only_bytes rest.first []) past rest history

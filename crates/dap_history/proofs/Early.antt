@@ -1,7 +1,6 @@
 -- In Fresh and Ready nothing is launched: only the first `initialize` leads to Ready.
 use Rattle.std.proofs.Common.{◌≡◌, ◌⊎◌, inl, inr, ℕ, List, [], ◌∷◌, Option, None, Some, Ok, Err, refl, subst}
 use Rattle.std.specs.Prelude.{map, unwrap_or, Result}
-use Rattle.dap_msg.specs.Questions.{kind_of}
 use Rattle.dap_msg.specs.Commands.{name_of}
 use Rattle.dap_msg.specs.declared.command.Command.{Command}
 use Rattle.dap_msg.specs.declared.command.Command.TheVariants as command
@@ -15,7 +14,7 @@ use Rattle.dap_msg.specs.declared.outgoing.EventBody.{EventBody}
 use Rattle.dap_msg.specs.declared.outgoing.EventBody.TheVariants as event
 use Rattle.dap_msg.specs.declared.outgoing.StopReason.TheVariants as reason
 use Rattle.dap_history.specs.declared.situation.Situation.{Situation}
-use Rattle.dap_history.specs.declared.situation.Situation.TheVariants.{Fresh, Ready, Configuring, Running, Stopped, Faulted, Ended}
+use Rattle.dap_history.specs.declared.situation.Situation.TheVariants.{Fresh, Ready}
 use Rattle.dap_history.specs.Last.{or_else, last_such}
 use Rattle.dbg_runner.specs.Plain.{PlainOrder, Go, Hold, Quit}
 use Rattle.dap_history.specs.History.{Step, History, with_answer}
@@ -32,10 +31,6 @@ IsEarly _ = ⊥
 abbrev pub IsEarlyMark : Option Situation → Type 0
 IsEarlyMark None = ⊥
 IsEarlyMark (Some s) = IsEarly s
-
-early_else : (a b : Option Situation) → IsEarlyMark (or_else a b) → IsEarlyMark a ⊎ IsEarlyMark b
-early_else None b is = inr is
-early_else (Some s) b is = inl is
 
 -- of two marks, neither early
 neither : (a b : Option Situation) → ¬ IsEarlyMark a → ¬ IsEarlyMark b → ¬ IsEarlyMark (or_else a b)
@@ -96,12 +91,7 @@ result_late command not (Err r) is = is
 initialize_late : (s : Situation) → IsEarlyMark
     (answer_mark (name.Supported supported.Initialize) (initialize_in s).result) → s ≡ Fresh
 initialize_late Fresh is = refl
-initialize_late Ready is = absurd is
-initialize_late Configuring is = absurd is
-initialize_late Running is = absurd is
-initialize_late Stopped is = absurd is
-initialize_late Faulted is = absurd is
-initialize_late Ended is = absurd is
+initialize_late _ is = absurd is
 
 -- an answer that leads to Ready is given in Fresh
 pub early_reply : (s : Situation) (past : History) (asked : Command) (reply : Reply) → RepliesIn s past asked reply
@@ -109,28 +99,10 @@ pub early_reply : (s : Situation) (past : History) (asked : Command) (reply : Re
 early_reply s past (command.Initialize a) reply is early =
     initialize_late s (subst (λ (r : Reply). IsEarlyMark (answer_mark (name.Supported supported.Initialize) r.result))
     is early)
-early_reply s past (command.Launch a) reply is early =
-    absurd (result_late (name.Supported supported.Launch) (λ x. x) reply.result early)
-early_reply s past (command.SetBreakpoints a) reply is early =
-    absurd (result_late (name.Supported supported.SetBreakpoints) (λ x. x) reply.result early)
-early_reply s past command.ConfigurationDone reply is early =
-    absurd (result_late (name.Supported supported.ConfigurationDone) (λ x. x) reply.result early)
-early_reply s past command.Threads reply is early =
-    absurd (result_late (name.Supported supported.Threads) (λ x. x) reply.result early)
-early_reply s past (command.Resume k a) reply is early =
-    absurd (result_late (name.Supported (supported.Resume k)) (λ x. x) reply.result early)
-early_reply s past (command.Retreat k a) reply is early =
-    absurd (result_late (name.Supported (supported.Retreat k)) (λ x. x) reply.result early)
-early_reply s past (command.Pause a) reply is early =
-    absurd (result_late (name.Supported supported.Pause) (λ x. x) reply.result early)
-early_reply s past (command.Inspect q) reply is early =
-    absurd (result_late (name.Supported (supported.Inspect (kind_of q))) (λ x. x) reply.result early)
-early_reply s past command.Disconnect reply is early =
-    absurd (result_late (name.Supported supported.Disconnect) (λ x. x) reply.result early)
-early_reply s past (command.Unsupported text) reply is early =
-    absurd (result_late (name.Unsupported text) (λ x. x) reply.result early)
 early_reply s past (command.BadArguments k) reply is early =
     absurd (subst (λ (r : Reply). IsEarlyMark (answer_mark (name.Supported k) r.result)) is early)
+early_reply s past asked reply is early =
+    absurd (result_late (name_of asked) (λ x. x) reply.result early)
 
 pub early_unwrap : (o : Option Situation) (s : Situation) → IsEarly (unwrap_or o s) → IsEarlyMark o
     ⊎ ((o ≡ None) × IsEarly s)

@@ -35,14 +35,14 @@ use Rattle.dbg_plan.specs.declared.mode.Reason.{Reason}
 use Rattle.dbg_plan.specs.declared.evaluation.EvalFault.{EvalFault}
 use Rattle.dbg_plan.specs.declared.evaluation.EvalFault.TheVariants.{Overflow, DivideByZero}
 use Rattle.dbg_plan.specs.declared.resolving.Resolution.{Resolution}
-use Rattle.dbg_plan.specs.declared.resolving.Resolution.TheVariants.{At, NoStep, BadCondition, BadHitCondition, BadLogMessage}
+use Rattle.dbg_plan.specs.declared.resolving.Resolution.TheVariants.{At}
 use Rattle.dbg_runner.specs.Plain.{PlainReport}
 use Rattle.dbg_runner.specs.declared.outcome.SliceOutcome.{SliceOutcome}
 use Rattle.dbg_runner.specs.declared.outcome.SliceOutcome.TheVariants as slice
 use Rattle.dap_history.specs.declared.situation.Situation.{Situation}
-use Rattle.dap_history.specs.declared.situation.Situation.TheVariants.{Fresh, Ready, Configuring, Running, Stopped, Faulted, Ended}
+use Rattle.dap_history.specs.declared.situation.Situation.TheVariants.{Fresh, Ready, Configuring, Running, Stopped, Faulted}
 use Rattle.dap_history.specs.Last.{or_else}
-use Rattle.dap_history.specs.History.{Launched, Item, Content, Loaded, Accepted, Fault, InputEnd, ReadFailure, MemoryFailure, Step, History, Effect, with_answer, messages, messages_of}
+use Rattle.dap_history.specs.History.{Launched, Item, Content, Loaded, Accepted, InputEnd, ReadFailure, Step, History, Effect, with_answer, messages, messages_of}
 use Rattle.dap_history.specs.Readings.{situation, launched, position, waiting_pause}
 use Rattle.dap_history.specs.Replies.{Reply, nothing, ordering, refused, on_thread, OfProgram, stops, ends, told_logs}
 use Rattle.dap_history.specs.Launching.{initialize_in, Launches}
@@ -146,10 +146,7 @@ module _ (main : Block) (near : BlockNear main) where
     where
       one_fits : (r : Resolution) → LineFits (answer_of main less r)
       one_fits (At n) = line_small less _ (program_step_near main n near)
-      one_fits NoStep = tt
-      one_fits BadCondition = tt
-      one_fits BadHitCondition = tt
-      one_fits BadLogMessage = tt
+      one_fits _ = tt
 
   shown_fit : (counting : Counting) (c : Configuration) → FramesNear c → length c ≤ frame_limit
       → All FrameFits (shown_frames main counting c)
@@ -244,38 +241,19 @@ module _ (few : FramesAreFew) where
       → LaunchedNear (launched past) → InspectsIn s past question reply → ReplyFits reply
   inspects_in_fit Stopped past question reply near says = inspects_fit (launched past) past question reply near says
   inspects_in_fit Faulted past question reply near says = inspects_fit (launched past) past question reply near says
-  inspects_in_fit Running past question reply near says = fits_if reply _ (refused_fits _) says
-  inspects_in_fit Fresh past question reply near says = fits_if reply _ (refused_fits _) says
-  inspects_in_fit Ready past question reply near says = fits_if reply _ (refused_fits _) says
-  inspects_in_fit Configuring past question reply near says = fits_if reply _ (refused_fits _) says
-  inspects_in_fit Ended past question reply near says = fits_if reply _ (refused_fits _) says
+  inspects_in_fit _ past question reply near says = fits_if reply _ (refused_fits _) says
 
   initialize_fits : (s : Situation) → ReplyFits (initialize_in s)
   initialize_fits Fresh = record { result = tt; events = tt }
-  initialize_fits Ready = refused_fits _
-  initialize_fits Configuring = refused_fits _
-  initialize_fits Running = refused_fits _
-  initialize_fits Stopped = refused_fits _
-  initialize_fits Faulted = refused_fits _
-  initialize_fits Ended = refused_fits _
+  initialize_fits _ = refused_fits _
 
   threads_fit : (s : Situation) → ReplyFits (threads_in s)
   threads_fit Fresh = refused_fits _
-  threads_fit Ready = record { result = tt; events = tt }
-  threads_fit Configuring = record { result = tt; events = tt }
-  threads_fit Running = record { result = tt; events = tt }
-  threads_fit Stopped = record { result = tt; events = tt }
-  threads_fit Faulted = record { result = tt; events = tt }
-  threads_fit Ended = record { result = tt; events = tt }
+  threads_fit _ = record { result = tt; events = tt }
 
   effect_fits : (s : Situation) (past : History) (bs : List Breakpoint) → EventsFit (effect_in s past bs).events
   effect_fits Configuring past bs = tt
-  effect_fits Stopped past bs = tt
-  effect_fits Faulted past bs = tt
-  effect_fits Running past bs = tt
-  effect_fits Ended past bs = tt
-  effect_fits Fresh past bs = tt
-  effect_fits Ready past bs = tt
+  effect_fits _ past bs = tt
 
   sets_of_fit : (same : Bool) (past : History) (l : Launched) (lines : List SourceBreakpoint) (reply : Reply)
       → BlockNear l.program → SetsOf same past l lines reply → ReplyFits reply
@@ -297,11 +275,7 @@ module _ (few : FramesAreFew) where
       → LaunchedNear (launched past) → SetsIn s past a reply → ReplyFits reply
   sets_in_fit Fresh past a reply near says = fits_if reply _ (refused_fits _) says
   sets_in_fit Ready past a reply near says = fits_if reply _ (refused_fits _) says
-  sets_in_fit Configuring past a reply near says = sets_fit (launched past) past a reply near says
-  sets_in_fit Running past a reply near says = sets_fit (launched past) past a reply near says
-  sets_in_fit Stopped past a reply near says = sets_fit (launched past) past a reply near says
-  sets_in_fit Faulted past a reply near says = sets_fit (launched past) past a reply near says
-  sets_in_fit Ended past a reply near says = sets_fit (launched past) past a reply near says
+  sets_in_fit _ past a reply near says = sets_fit (launched past) past a reply near says
 
   enters_fit : (past : History) (l : Launched) (why : Option Reason) → EventsFit (enters past l why).events
   enters_fit past l None = logs_fit _ _
@@ -315,12 +289,7 @@ module _ (few : FramesAreFew) where
 
   configures_in_fit : (s : Situation) (past : History) (reply : Reply) → ConfiguresIn s past reply → ReplyFits reply
   configures_in_fit Configuring past reply says = configures_fit (launched past) past reply _ says
-  configures_in_fit Fresh past reply says = fits_if reply _ (refused_fits _) says
-  configures_in_fit Ready past reply says = fits_if reply _ (refused_fits _) says
-  configures_in_fit Running past reply says = fits_if reply _ (refused_fits _) says
-  configures_in_fit Stopped past reply says = fits_if reply _ (refused_fits _) says
-  configures_in_fit Faulted past reply says = fits_if reply _ (refused_fits _) says
-  configures_in_fit Ended past reply says = fits_if reply _ (refused_fits _) says
+  configures_in_fit _ past reply says = fits_if reply _ (refused_fits _) says
 
   resume_kind_fits : (resume_kind : ResumeKind) → BodyFits (body_of resume_kind)
   resume_kind_fits resume.Continue = tt
@@ -338,16 +307,12 @@ module _ (few : FramesAreFew) where
 
   resumes_in_fit : (s : Situation) (past : History) (resume_kind : ResumeKind) (thread : ℕ) (reply : Reply)
       → ResumesIn s past resume_kind thread reply → ReplyFits reply
-  resumes_in_fit Running past resume_kind thread reply says = fits_if reply _ (refused_fits _) says
   resumes_in_fit Stopped past resume_kind thread reply says =
       resumes_fit (launched past) reply resume_kind thread _ (λ l. tt) says
   resumes_in_fit Faulted past resume_kind thread reply says =
       fits_if reply _ (thread_fits thread _
       (record { result = resume_kind_fits resume_kind; events = (near_small 1 (lit≤ tt), (tt, tt)) })) says
-  resumes_in_fit Fresh past resume_kind thread reply says = fits_if reply _ (refused_fits _) says
-  resumes_in_fit Ready past resume_kind thread reply says = fits_if reply _ (refused_fits _) says
-  resumes_in_fit Configuring past resume_kind thread reply says = fits_if reply _ (refused_fits _) says
-  resumes_in_fit Ended past resume_kind thread reply says = fits_if reply _ (refused_fits _) says
+  resumes_in_fit _ past resume_kind thread reply says = fits_if reply _ (refused_fits _) says
 
   retreats_fit : (o : Option Launched) (past : History) (m : Mode) (thread : ℕ) (reply : Reply)
       → OfProgram o (λ l. reply ≡ on_thread thread
@@ -360,25 +325,17 @@ module _ (few : FramesAreFew) where
       → RetreatsIn s past m thread reply → ReplyFits reply
   retreats_in_fit Stopped past m thread reply says = retreats_fit (launched past) past m thread reply says
   retreats_in_fit Faulted past m thread reply says = retreats_fit (launched past) past m thread reply says
-  retreats_in_fit Running past m thread reply says = fits_if reply _ (refused_fits _) says
-  retreats_in_fit Fresh past m thread reply says = fits_if reply _ (refused_fits _) says
-  retreats_in_fit Ready past m thread reply says = fits_if reply _ (refused_fits _) says
-  retreats_in_fit Configuring past m thread reply says = fits_if reply _ (refused_fits _) says
-  retreats_in_fit Ended past m thread reply says = fits_if reply _ (refused_fits _) says
+  retreats_in_fit _ past m thread reply says = fits_if reply _ (refused_fits _) says
 
   pause_fits : (s : Situation) (past : History) (thread : ℕ) → ReplyFits (pause_in s past thread)
   pause_fits Running past thread = thread_fits thread _ (record { result = tt; events = tt })
   pause_fits Stopped past thread = thread_fits thread _ (record { result = tt; events = tt })
   pause_fits Faulted past thread = thread_fits thread _ (record { result = tt; events = tt })
-  pause_fits Fresh past thread = refused_fits _
-  pause_fits Ready past thread = refused_fits _
-  pause_fits Configuring past thread = refused_fits _
-  pause_fits Ended past thread = refused_fits _
+  pause_fits _ past thread = refused_fits _
 
   command_fits : (s : Situation) (past : History) (asked : Command) (reply : Reply) → LaunchedNear (launched past)
       → RepliesIn s past asked reply → ReplyFits reply
   command_fits s past (command.Initialize a) reply near says = fits_if reply _ (initialize_fits s) says
-  command_fits s past (command.Launch a) reply near says = fits_if reply _ (refused_fits _) says
   command_fits s past (command.SetBreakpoints a) reply near says = sets_in_fit s past a reply near says
   command_fits s past command.ConfigurationDone reply near says = configures_in_fit s past reply says
   command_fits s past command.Threads reply near says = fits_if reply _ (threads_fit s) says
@@ -387,8 +344,7 @@ module _ (few : FramesAreFew) where
   command_fits s past (command.Pause a) reply near says = fits_if reply _ (pause_fits s past a.thread_id) says
   command_fits s past (command.Inspect q) reply near says = inspects_in_fit s past q reply near says
   command_fits s past command.Disconnect reply near says = fits_if reply _ (record { result = tt; events = tt }) says
-  command_fits s past (command.Unsupported a) reply near says = fits_if reply _ (refused_fits _) says
-  command_fits s past (command.BadArguments a) reply near says = fits_if reply _ (refused_fits _) says
+  command_fits s past _ reply near says = fits_if reply _ (refused_fits _) says
 
   launch_fits : (arguments : LaunchArguments) (file : Option (List ℕ)) (reply : Reply) → Launches arguments file reply
       → ReplyFits reply
@@ -435,7 +391,6 @@ module _ (few : FramesAreFew) where
 
   step_fits : (past : History) (item : Item) (step : Step) → LaunchedNear (launched past) → ItemFits item
       → Causes past item step → MessagesFit (messages step)
-  step_fits past (Content None) step near small causes = effect_step step nothing causes tt
   step_fits past (Content (Some request)) step near small causes =
       answer_step step request.seq _ causes.0 causes.2 small
       (command_fits (situation past) past request.body causes.0 near causes.1)
@@ -443,10 +398,9 @@ module _ (few : FramesAreFew) where
       answer_step step launch.seq _ causes.0 causes.2 small (launch_fits launch.arguments file causes.0 causes.1)
   step_fits past (Accepted r) step near small causes =
       effect_step step (report_effect past r r.outcome) causes (report_fits past r r.outcome)
-  step_fits past (Fault k) step near small causes = effect_step step nothing causes tt
   step_fits past InputEnd step near small causes = effect_step step (ordering _) causes tt
   step_fits past ReadFailure step near small causes = effect_step step (ordering _) causes tt
-  step_fits past MemoryFailure step near small causes = effect_step step nothing causes tt
+  step_fits past _ step near small causes = effect_step step nothing causes tt
 
   -- ---- what is launched
 
@@ -466,7 +420,6 @@ module _ (few : FramesAreFew) where
 
   step_launches_near : (past : History) (item : Item) (step : Step) → Causes past item step
       → LaunchedNear step.effect.launched
-  step_launches_near past (Content None) step causes = none_near _ (ap (λ (e : Effect). e.launched) causes.effect_is)
   step_launches_near past (Content (Some request)) step causes =
       none_near _ (ap (λ (e : Effect). e.launched) causes.2.effect_is
       ∙ (all_silent (situation past) past request.body causes.0 causes.1).no_launch)
@@ -475,10 +428,7 @@ module _ (few : FramesAreFew) where
       (launch_near launch.arguments file causes.0 causes.1)
   step_launches_near past (Accepted r) step causes =
       none_near _ (ap (λ (e : Effect). e.launched) causes.effect_is ∙ report_launches past r r.outcome)
-  step_launches_near past (Fault k) step causes = none_near _ (ap (λ (e : Effect). e.launched) causes.effect_is)
-  step_launches_near past InputEnd step causes = none_near _ (ap (λ (e : Effect). e.launched) causes.effect_is)
-  step_launches_near past ReadFailure step causes = none_near _ (ap (λ (e : Effect). e.launched) causes.effect_is)
-  step_launches_near past MemoryFailure step causes = none_near _ (ap (λ (e : Effect). e.launched) causes.effect_is)
+  step_launches_near past _ step causes = none_near _ (ap (λ (e : Effect). e.launched) causes.effect_is)
 
   -- ---- histories
 

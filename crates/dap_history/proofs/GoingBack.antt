@@ -54,12 +54,7 @@ granted_by past (Content (Some request)) step m seq name b is asks answers =
     subst (λ (e : Effect). IsSome (last_such go e.orders)) (sym is.2.effect_is)
     (granted_back (situation past) past request.body is.0 m b is.1 asks (let e = sym is.2.answer_is ∙ answers in cc))
 granted_by past (Content None) step m seq name b is asks answers = absurd cc
-granted_by past (Loaded launch file) step m seq name b is asks answers = absurd cc
-granted_by past (Accepted r) step m seq name b is asks answers = absurd cc
-granted_by past (Fault k) step m seq name b is asks answers = absurd cc
-granted_by past InputEnd step m seq name b is asks answers = absurd cc
-granted_by past ReadFailure step m seq name b is asks answers = absurd cc
-granted_by past MemoryFailure step m seq name b is asks answers = absurd cc
+granted_by past _ step m seq name b is asks answers = absurd cc
 
 pub each_goes_back : EachGoesBackAsAsked
 each_goes_back events past rest lawful history before step after past_is = (
@@ -155,9 +150,7 @@ module _ (one : OneProgram) (joins : WrittenJoins) where
       ap (λ b. (unwrap_or (if b then Some (from_next r.end (unwrap_or (waiting_plan past) (plan past).breakpoints)) else
       put_in_at r.end (waiting_plan past)) (plan past)).counted_from) back
   come past r main slice.NoMemory back by mark = absurd mark
-  come past r main slice.Held back by mark = elim by [ ]
-  come past r main slice.Done back by mark = elim by [ ]
-  come past r main (slice.Fault fault) back by mark = elim by [ ]
+  come past r main _ back by mark = elim by [ ]
 
   module _ (past : History) (step : Step) (ran : Ran one joins past) (stood : BackStood past)
       (back : is_back past ≡ true) where

@@ -27,9 +27,9 @@ use Rattle.dap_history.specs.Events.{Incoming, Rest, IsHistoryOf}
 use Rattle.dap_history.proofs.Along.{any_events, along}
 use Rattle.dap_history.proofs.Each.{EachTaken, each_kept, each_first}
 use Rattle.dap_history.proofs.Told.{stop_of_logs}
-use Rattle.dap_history.proofs.Silent.{first_at, due_first}
+use Rattle.dap_history.proofs.Silent.{first_at}
+use Rattle.dap_history.proofs.Shapes.{due_first, resume_kind_by, IsCalm, Shape, refuses, is_calm, sets, begins, resumes_by, is_over, retreats, interrupts, quits, shaped}
 use Rattle.dap_history.proofs.GoingBack.{Anything, anything_kept}
-use Rattle.dap_history.proofs.Shapes.{resume_kind_by, IsCalm, Shape, refuses, is_calm, sets, begins, resumes_by, is_over, retreats, interrupts, quits, shaped}
 use Rattle.dap_history.proofs.Once.{quiet_in}
 use Rattle.dap_history.proofs.Telling.{logs_output}
 use Rattle.dap_history.proofs.Holding.{result_of}
@@ -79,8 +79,8 @@ module _ (past : History) (s : Situation) (asked : Command) (reply : Reply) wher
 resuming_excused : (s : Situation) (asked : Command) (resume_kind : ResumeKind) (events : List EventBody)
     → resume_kind_by asked ≡ Some resume_kind → s ≡ Faulted → events ≡ event.Exited 1 ∷ event.Terminated ∷ []
     → IsExcused s asked events
-resuming_excused s command.ConfigurationDone resume_kind events by here is = absurd cc
-resuming_excused s _ resume_kind events by here is = (here, is)
+resuming_excused s (command.Resume k a) resume_kind events by here is = (here, is)
+resuming_excused s _ resume_kind events by here is = absurd cc
 
 -- a command that asks for a run has an effect where it is granted
 calm_asks_none : (past : History) (s : Situation) (asked : Command) → IsCalm past s asked → ¬ IsSome (mode_by 0 asked)

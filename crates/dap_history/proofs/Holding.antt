@@ -22,9 +22,9 @@ use Rattle.dbg_runner.specs.Plain.{PlainReport, PlainOrder, Go, Hold, Quit, Head
 use Rattle.dap_history.specs.declared.ending.Ending.{Ending}
 use Rattle.dap_history.specs.declared.launch.Launch.{Launch}
 use Rattle.dap_history.specs.declared.situation.Situation.{Situation}
-use Rattle.dap_history.specs.declared.situation.Situation.TheVariants.{Fresh, Ready, Configuring, Running, Stopped, Faulted, Ended}
+use Rattle.dap_history.specs.declared.situation.Situation.TheVariants.{Running}
 use Rattle.dap_history.specs.Last.{or_else, last_such}
-use Rattle.dap_history.specs.History.{Launched, Item, Content, Loaded, Accepted, Fault, InputEnd, ReadFailure, MemoryFailure, Step, History, Effect, orders_of}
+use Rattle.dap_history.specs.History.{Launched, Item, Content, Loaded, Accepted, InputEnd, ReadFailure, Step, History, Effect, orders_of}
 use Rattle.dap_history.specs.Readings.{go, situation, step_mark, runs, is_held, is_back, hold_mark, last_run, waiting_pause, closing, ending_of}
 use Rattle.dap_history.specs.Replies.{Reply}
 use Rattle.dap_history.specs.Launching.{Launches}
@@ -38,10 +38,10 @@ use Rattle.dap_history.specs.Events.{Incoming, IsTaking}
 use Rattle.dap_history.proofs.Readings.{situation-snoc, orders_of-snoc, last_run-snoc, runs-snoc, is_held-snoc, ending_of-snoc}
 use Rattle.dap_history.proofs.Along.{IsKept, any_events, along}
 use Rattle.dap_history.proofs.Each.{WasTaken, EachTaken, each_kept, each_first}
-use Rattle.dap_history.proofs.Silent.{due_first}
+use Rattle.dap_history.proofs.Paths.{at_path, at_path_so}
+use Rattle.dap_history.proofs.Shapes.{due_first, resume_kind_by, IsCalm, Shape, refuses, is_calm, sets, begins, resumes_by, is_over, retreats, interrupts, quits, shaped}
 use Rattle.dap_history.proofs.Standing.{MarkIs, mark_unwrap, answers_only}
 use Rattle.dap_history.proofs.Passing.{IsRunning, runs_not}
-use Rattle.dap_history.proofs.Shapes.{resume_kind_by, IsCalm, Shape, refuses, is_calm, sets, begins, resumes_by, is_over, retreats, interrupts, quits, shaped}
 use Rattle.dap_history.proofs.Once.{none_within, rest_of}
 
 -- ---- what a step orders
@@ -94,12 +94,7 @@ module _ (past : History) (request : Request) (reply : Reply) (step : Step)
     sets_by : (s : Situation) (bs : List Breakpoint) (b : Body) → situation past ≡ s → reply.result ≡ Ok b
         → IsToWait past request.body → reply.effect.orders ≡ (effect_in s past bs).orders → OrdersBy past step
     sets_by Running bs b here is to_wait orders = holds_by b is to_wait here orders
-    sets_by Fresh bs b here is to_wait orders = orders_none (orders_are ∙ orders)
-    sets_by Ready bs b here is to_wait orders = orders_none (orders_are ∙ orders)
-    sets_by Configuring bs b here is to_wait orders = orders_none (orders_are ∙ orders)
-    sets_by Stopped bs b here is to_wait orders = orders_none (orders_are ∙ orders)
-    sets_by Faulted bs b here is to_wait orders = orders_none (orders_are ∙ orders)
-    sets_by Ended bs b here is to_wait orders = orders_none (orders_are ∙ orders)
+    sets_by _ bs b here is to_wait orders = orders_none (orders_are ∙ orders)
 
     begins_by : (l : Launched) (why : Option Reason) → reply.effect.orders ≡ (enters past l why).orders
         → OrdersBy past step
@@ -111,7 +106,8 @@ module _ (past : History) (request : Request) (reply : Reply) (step : Step)
     reply_orders (is_calm calm is) = orders_none (orders_are ∙ ap (λ (e : Effect). e.orders) is)
     reply_orders (sets a l by there same resolves) =
         sets_by (situation past) resolves.breakpoints _ refl (ap (λ (r : Reply). r.result) resolves.reply_is)
-        (subst (IsToWait past) (sym by) (l, there, same)) (ap (λ (r : Reply). r.effect.orders) resolves.reply_is)
+        (subst (IsToWait past) (sym by) (l, there, at_path a.path l.path same)) (ap (λ
+        (r : Reply). r.effect.orders) resolves.reply_is)
     reply_orders (begins l by here there is) = begins_by l (due_first past l) (ap (λ (r : Reply). r.effect.orders) is)
     reply_orders (resumes_by resume_kind l by here there is) =
         orders_go _ refl (orders_are ∙ ap (λ (r : Reply). r.effect.orders) is)
@@ -146,19 +142,17 @@ report_orders past r slice.Held step is = by_pause (waiting_pause past) is
 
 item_orders : (past : History) (item : Item) (step : Step) → step.item ≡ item → Causes past item step
     → OrdersBy past step
-item_orders past (Content None) step item_is is = orders_none (ap (λ (e : Effect). e.orders) is.effect_is)
 item_orders past (Content (Some request)) step item_is is =
     reply_orders past request is.0 step item_is is.2 (shaped past is.0 (situation past) request.body is.1)
 item_orders past (Loaded launch file) step item_is is =
     orders_none (ap (λ (e : Effect). e.orders) is.2.effect_is ∙ loaded_orders_none launch file is.0 is.1)
 item_orders past (Accepted r) step item_is is =
     report_orders past r r.outcome step (ap (λ (e : Effect). e.orders) is.effect_is)
-item_orders past (Fault k) step item_is is = orders_none (ap (λ (e : Effect). e.orders) is.effect_is)
 item_orders past InputEnd step item_is is =
     orders_quit _ (ap closing item_is) (ap (λ (e : Effect). e.orders) is.effect_is)
 item_orders past ReadFailure step item_is is =
     orders_quit _ (ap closing item_is) (ap (λ (e : Effect). e.orders) is.effect_is)
-item_orders past MemoryFailure step item_is is = orders_none (ap (λ (e : Effect). e.orders) is.effect_is)
+item_orders past _ step item_is is = orders_none (ap (λ (e : Effect). e.orders) is.effect_is)
 
 -- ---- how the orders end
 
@@ -293,7 +287,7 @@ goes_on past run is = ap (λ o. option_map_or (λ (h : Heading). goes_back h.mod
 module _ (past : History) (step : Step) (front back : List PlainOrder) (n : ℕ) where
   abbrev IsHeldOnce : Type 0
   IsHeldOnce =
-      GrantsWait past step × ((earlier : List PlainOrder) × (run : Heading)
+      (situation past ≡ Running) × GrantsWait past step × ((earlier : List PlainOrder) × (run : Heading)
       × (orders_of past ++ front ≡ earlier ++ Go run ∷ []) × (n ≡ run.run) × (goes_back run.mode ≡ false))
 
   held_once : IsTaking past → OrdersBy past step → Ends past → step.effect.orders ≡ front ++ Hold n ∷ back → IsHeldOnce
@@ -302,8 +296,11 @@ module _ (past : History) (step : Step) (front back : List PlainOrder) (n : ℕ)
       let e = (alone (Go run) (Hold n) front back (sym is ∙ holds)).0 in absurd cc
   held_once taking (orders_quit by closes is) here holds =
       let e = (alone Quit (Hold n) front back (sym is ∙ holds)).0 in absurd cc
-  held_once taking (orders_hold wait running not_held forward is) here holds =
-      (wait, (was.earlier, run.0, by_end was.ends, sym count ∙ sym was.number_is, goes_on past run.0 run.1 ∙ forward))
+  held_once taking (orders_hold wait running not_held forward is) here holds = (
+    running,
+    wait,
+    (was.earlier, run.0, by_end was.ends, sym count ∙ sym was.number_is, goes_on past run.0 run.1 ∙ forward),
+  )
     where
       run : (run : Heading) × (last_run past ≡ Some run)
       run = here.running (subst IsRunning (sym running) tt)
@@ -352,7 +349,8 @@ not_calm : (past : History) (asked : Command) → IsCalm past Running asked → 
 not_calm past (command.Pause a) calm to_wait = calm
 not_calm past (command.SetBreakpoints a) calm to_wait =
     let same : calm.0 ≡ to_wait.0 = let e = sym calm.1 ∙ to_wait.1 in cc in
-    let e = sym calm.2 ∙ ap (λ (l : Launched). is_at a.path l.path) same ∙ to_wait.2 in absurd cc
+    let e = sym calm.2 ∙ ap (λ (l : Launched). is_at a.path l.path) same
+    ∙ at_path_so a.path to_wait.0.path to_wait.2 in absurd cc
 not_calm past _ calm to_wait = to_wait
 
 module _ (past : History) (asked : Command) (reply : Reply) (b : Body) (granted : reply.result ≡ Ok b)

@@ -33,7 +33,7 @@ use Rattle.dbg_runner.specs.Plain.{PlainReport, Quit, goes_back}
 use Rattle.dbg_runner.specs.Lawful.{RunsAt, EndsBy, takes_all, is_due, is_over as is_ended, faults, is_held, lacks_memory, GoesBackBy, is_spent, has_come, has_no_memory, Went}
 use Rattle.dap_history.specs.declared.launch.Launch.{Launch}
 use Rattle.dap_history.specs.declared.situation.Situation.{Situation}
-use Rattle.dap_history.specs.declared.situation.Situation.TheVariants.{Fresh, Ready, Configuring, Running, Stopped, Faulted, Ended}
+use Rattle.dap_history.specs.declared.situation.Situation.TheVariants.{Fresh, Ready, Configuring, Stopped, Faulted}
 use Rattle.dap_history.specs.Last.{or_else}
 use Rattle.dap_history.specs.History.{Launched, Item, Content, Loaded, Accepted, Fault, InputEnd, ReadFailure, MemoryFailure, Step, History, Effect}
 use Rattle.dap_history.specs.Readings.{situation, step_mark, launched, end_of, position}
@@ -49,12 +49,12 @@ use Rattle.dap_history.proofs.Readings.{situation-snoc, position-snoc, launched-
 use Rattle.dap_history.proofs.Texts.{OneProgram}
 use Rattle.dap_history.proofs.Along.{IsTaken, IsKept, IsLawfulEvent, lawful_events, along}
 use Rattle.dap_history.proofs.Early.{IsEarly}
-use Rattle.dap_history.proofs.Silent.{resuming, due_first, all_silent}
+use Rattle.dap_history.proofs.Silent.{all_silent}
+use Rattle.dap_history.proofs.Shapes.{resuming, due_first, IsCalm, Shape, refuses, is_calm, sets, begins, resumes_by, is_over, retreats, interrupts, quits, shaped}
 use Rattle.dap_history.proofs.Outputs.{report_launches}
 use Rattle.dap_history.proofs.Progress.{report_program}
 use Rattle.dap_history.proofs.Passing.{Ran}
 use Rattle.dap_history.proofs.Stopping.{ran_more, ran_first}
-use Rattle.dap_history.proofs.Shapes.{IsCalm, Shape, refuses, is_calm, sets, begins, resumes_by, is_over, retreats, interrupts, quits, shaped}
 use Rattle.dap_history.proofs.Lines.{step_of, answering, launching, same_step}
 
 -- ---- where a report ends the program runs
@@ -200,11 +200,7 @@ item_early past MemoryFailure step item_is taken is none early =
 early_or_late : (s : Situation) → IsEarly s ⊎ ¬ IsEarly s
 early_or_late Fresh = inl tt
 early_or_late Ready = inl tt
-early_or_late Configuring = inr (λ x. x)
-early_or_late Running = inr (λ x. x)
-early_or_late Stopped = inr (λ x. x)
-early_or_late Faulted = inr (λ x. x)
-early_or_late Ended = inr (λ x. x)
+early_or_late _ = inr (λ x. x)
 
 -- a program is launched
 abbrev IsLaunched : History → Type 0
@@ -246,8 +242,6 @@ module _ (one : OneProgram) (joins : WrittenJoins) (no_gaps : RunsHaveNoGaps) wh
   alive_item : (past : History) (item : Item) (step : Step) → IsTaken IsLawfulEvent past item → Causes past item step
       → Leading past → (l : Launched) → or_else step.effect.launched (launched past) ≡ Some l
       → IsSome (at l.program (unwrap_or (end_of item) (position past)))
-  alive_item past (Content None) step taken is here l there =
-      here.alive l (ap (λ o. or_else o (launched past)) (sym (ap (λ (e : Effect). e.launched) is.effect_is)) ∙ there)
   alive_item past (Content (Some request)) step taken is here l there =
       here.alive l (ap (λ o. or_else o (launched past))
       (sym (ap (λ (e : Effect). e.launched) is.2.effect_is
@@ -262,13 +256,7 @@ module _ (one : OneProgram) (joins : WrittenJoins) (no_gaps : RunsHaveNoGaps) wh
       subst (λ (p : Block). IsSome (at p r.end))
       (report_program one joins past r taken.1 l taken.0 (here.ran.so_far.progress (Some l) before))
       (went_alive taken.1.program r no_gaps (goes_back r.mode) taken.1.lawful.went)
-  alive_item past (Fault k) step taken is here l there =
-      here.alive l (ap (λ o. or_else o (launched past)) (sym (ap (λ (e : Effect). e.launched) is.effect_is)) ∙ there)
-  alive_item past InputEnd step taken is here l there =
-      here.alive l (ap (λ o. or_else o (launched past)) (sym (ap (λ (e : Effect). e.launched) is.effect_is)) ∙ there)
-  alive_item past ReadFailure step taken is here l there =
-      here.alive l (ap (λ o. or_else o (launched past)) (sym (ap (λ (e : Effect). e.launched) is.effect_is)) ∙ there)
-  alive_item past MemoryFailure step taken is here l there =
+  alive_item past _ step taken is here l there =
       here.alive l (ap (λ o. or_else o (launched past)) (sym (ap (λ (e : Effect). e.launched) is.effect_is)) ∙ there)
 
   leading_more : (past : History) (step : Step) → IsTaken IsLawfulEvent past step.item → Causes past step.item step
@@ -315,11 +303,7 @@ module _ (one : OneProgram) (joins : WrittenJoins) (no_gaps : RunsHaveNoGaps) wh
         with_program (λ l reply. reply ≡ causing body.None (enters past l (due_first past l)))
         (is_late Configuring is (λ x. x)) (λ l there. (_, refl))
     configures Fresh is = (_, refl)
-    configures Ready is = (_, refl)
-    configures Running is = (_, refl)
-    configures Stopped is = (_, refl)
-    configures Faulted is = (_, refl)
-    configures Ended is = (_, refl)
+    configures _ is = (_, refl)
 
     goes_on : (s : Situation) → situation past ≡ s → (resume_kind : ResumeKind) (thread : ℕ)
         → Answered (ResumesIn s past resume_kind thread)
@@ -327,11 +311,7 @@ module _ (one : OneProgram) (joins : WrittenJoins) (no_gaps : RunsHaveNoGaps) wh
         with_program (λ l reply. reply ≡ resuming past resume_kind thread l) (is_late Stopped is (λ x. x))
         (λ l there. (_, refl))
     goes_on Fresh is resume_kind thread = (_, refl)
-    goes_on Ready is resume_kind thread = (_, refl)
-    goes_on Configuring is resume_kind thread = (_, refl)
-    goes_on Running is resume_kind thread = (_, refl)
-    goes_on Faulted is resume_kind thread = (_, refl)
-    goes_on Ended is resume_kind thread = (_, refl)
+    goes_on _ is resume_kind thread = (_, refl)
 
     goes_back_by : (s : Situation) → situation past ≡ s → (m : Mode) (thread : ℕ)
         → Answered (RetreatsIn s past m thread)
@@ -342,10 +322,7 @@ module _ (one : OneProgram) (joins : WrittenJoins) (no_gaps : RunsHaveNoGaps) wh
         with_program (λ l reply. reply ≡ on_thread thread (causing body.None (ordering (resumes past l m))))
         (is_late Faulted is (λ x. x)) (λ l there. (_, refl))
     goes_back_by Fresh is m thread = (_, refl)
-    goes_back_by Ready is m thread = (_, refl)
-    goes_back_by Configuring is m thread = (_, refl)
-    goes_back_by Running is m thread = (_, refl)
-    goes_back_by Ended is m thread = (_, refl)
+    goes_back_by _ is m thread = (_, refl)
 
     -- a question that every configuration answers
     module _ (asked : Question) (answers : (l : Launched) (c : Configuration)
@@ -364,11 +341,7 @@ module _ (one : OneProgram) (joins : WrittenJoins) (no_gaps : RunsHaveNoGaps) wh
       inspects : (s : Situation) → situation past ≡ s → Answered (InspectsIn s past asked)
       inspects Stopped is = at_program (is_late Stopped is (λ x. x))
       inspects Faulted is = at_program (is_late Faulted is (λ x. x))
-      inspects Running is = (_, refl)
-      inspects Fresh is = (_, refl)
-      inspects Ready is = (_, refl)
-      inspects Configuring is = (_, refl)
-      inspects Ended is = (_, refl)
+      inspects _ is = (_, refl)
 
     replies : (asked : Command) → IsPlain asked → Answered (RepliesIn (situation past) past asked)
     replies (command.Initialize a) plain = (_, refl)

@@ -2,6 +2,9 @@
 pub mod Readings
 -- What holds at first and is kept by each item that is taken holds along a history; for `history_laws` and `run_laws`.
 pub mod Along
+-- The first number that the client may use stays as it is; for the clauses `contents` and `read_back` of
+-- `history_laws`, and for the crates above.
+pub mod FirstKept
 -- Each request is answered once; for the clause `answered` of `history_laws`.
 pub mod Answered
 -- The message numbered n is the nth; for the clauses `numbered` and `read_back` of `history_laws`.
@@ -68,12 +71,6 @@ pub mod OneReply
 pub mod Contents
 -- How the stream was cut into pieces changes nothing; for the clause `cuts` of `history_laws`.
 pub mod Cuts
--- A worked example that nothing uses: what each item causes in a session that is paused, in one whose breakpoints
--- change while the program runs, and in one that goes back.
-pub mod Rows
--- A worked example that nothing uses: what a client is shown of a text with nested procedures, at a stop in its
--- innermost one.
-pub mod ShownQ
 -- Each run is of the launched text, and starts where the program stands; for the clause `runs` of `history_laws`.
 pub mod Starts
 -- A session that its input's end or failure closed took that event, and `Quit` is the last order; for the clauses
@@ -112,3 +109,27 @@ pub mod Unread
 -- Each step leads where the table of transitions says, so the situation is where the steps lead from Fresh; for the
 -- clauses `moves` and `situation` of `history_laws`.
 pub mod Transitions
+-- Each request is judged as the table says, a refusal changes nothing, and other items tell nothing; for the clauses
+-- `judged`, `refused` and `others` of `command_laws`.
+pub mod Judged
+-- A launch launches the program of its file, and no other step launches one; for the clause `launched` of
+-- `command_laws`.
+pub mod Loading
+-- How a history with one more step splits at one of its steps; for the clauses `paused` and `as_asked` of
+-- `command_laws`.
+pub mod Since
+-- A pause that waits stops the program where its run is held; for the clause `paused` of `command_laws`.
+pub mod Pauses
+-- The program stops at position 0 where it has to; for the clause `first` of `command_laws`.
+pub mod FirstStop
+-- Each stop of a run is as the command asks by which the program goes; for the clause `as_asked` of `command_laws`.
+pub mod AsAsked
+-- Each event that is an item is taken, nothing is taken that isn't, and which items end a session; for the clauses
+-- `taken` and `ends` of `command_laws`.
+pub mod Takings
+-- A source is at a path just where its path is that one; for `run_laws` and `command_laws`.
+pub mod Paths
+-- Each line of a granted `setBreakpoints` is answered from the program; for the clause `lines` of `command_laws`.
+pub mod LineAnswers
+-- What the four questions show is what the program is where it stands; for the clause `shown` of `command_laws`.
+pub mod Showing

@@ -41,24 +41,45 @@ use Rattle.dap_history.specs.Considered.{starts_by}
 use Rattle.dap_history.specs.Emission.{Causes}
 use Rattle.dap_history.specs.GoingBack.{back_by}
 use Rattle.dap_history.specs.Stops.{run_in, Orders, IsStanding}
-use Rattle.dap_history.specs.Lines.{lines_at, lines_by, lines_set, AreOfLines, anew_mark, are_anew, next_counted, counts_from, HasDebuggee, PlanIsOfLines, EachRunHasItsLines, EachRunCountsFrom}
+use Rattle.dap_history.specs.Lines.{lines_at, lines_by, lines_set, AreOfLines as AreSpelled, anew_mark, are_anew, next_counted, counts_from, HasDebuggee, PlanIsOfLines, EachRunHasItsLines, EachRunCountsFrom}
 use Rattle.dap_history.specs.Events.{Incoming, Rest, AreLawful, IsHistoryOf}
+use Rattle.dap_history.specs.LineAnswers.{GiveBreakpoints}
+use Rattle.dap_msg.specs.declared.outgoing.BreakpointAnswer.{BreakpointAnswer}
+use Rattle.dbg_plan.specs.declared.resolving.Resolution.{Resolution}
 use Rattle.dap_history.proofs.Readings.{reading-snoc, last_such-snoc, situation-snoc, settings-snoc, launched-snoc, position-snoc, plan-snoc, last_run-snoc, waiting_plan-snoc}
 use Rattle.dap_history.proofs.Texts.{OneProgram}
 use Rattle.dap_history.proofs.Along.{IsTaken, IsKept, IsLawfulEvent, lawful_events, along}
 use Rattle.dap_history.proofs.Each.{WasTaken, EachTaken, each_kept, each_first}
 use Rattle.dap_history.proofs.Early.{IsEarly}
 use Rattle.dap_history.proofs.Told.{mark_of_logs, stop_marks}
-use Rattle.dap_history.proofs.Silent.{all_silent, first_at, due_first}
+use Rattle.dap_history.proofs.Silent.{all_silent, first_at}
+use Rattle.dap_history.proofs.Shapes.{due_first, resume_kind_by, IsCalm, Shape, refuses, is_calm, sets, begins, resumes_by, is_over, retreats, interrupts, quits, shaped}
 use Rattle.dap_history.proofs.Outputs.{outputs_mark, report_launches, outputs_unmarked}
 use Rattle.dap_history.proofs.Passing.{Ran, loaded_orders}
 use Rattle.dap_history.proofs.Stopping.{ran_more, ran_first}
 use Rattle.dap_history.proofs.Ordering.{is_back_is}
-use Rattle.dap_history.proofs.Shapes.{resume_kind_by, IsCalm, Shape, refuses, is_calm, sets, begins, resumes_by, is_over, retreats, interrupts, quits, shaped}
 use Rattle.dap_history.proofs.Once.{ordered_last}
 use Rattle.dap_history.proofs.Asked.{no_go_in, no_go_held}
+use Rattle.dap_history.proofs.LineAnswers.{offset_is, give_lines, counts_so, counted_now, counted_before}
 
 -- ---- what is read of a history in which this program is launched
+
+-- the breakpoints of lines, as they are resolved; there are none where no lines were set
+abbrev AreOfLines : Launched → ℕ → Option (List SourceBreakpoint) → List Breakpoint → Type 0
+AreOfLines l less None breakpoints = breakpoints ≡ []
+AreOfLines l less (Some lines) breakpoints =
+    (answers : List Resolution) × IsResolved l.program less lines answers breakpoints
+
+-- as the laws spell it
+spelled : (l : Launched) (counting : InitializeArguments) (lines : Option (List SourceBreakpoint))
+    (bs : List Breakpoint) → AreOfLines l (offset counting.lines_start_at_1) lines bs → AreSpelled l counting lines bs
+spelled l counting None bs is = is
+spelled l counting (Some lines) bs is =
+    subst (λ n. (answers : List BreakpointAnswer) × GiveBreakpoints l.program n lines answers bs)
+    (offset_is counting.lines_start_at_1) (
+      map (answer_of l.program (offset counting.lines_start_at_1)) is.0,
+      give_lines l.program (offset counting.lines_start_at_1) lines is.1.asked is.0 bs is.1.as_asked is.1.resolved,
+    )
 
 record View : Type 0 where
   settings : InitializeArguments
@@ -253,9 +274,7 @@ module _ (l : Launched) (v : View) where
     sets_planned past Faulted stands here =
         subst (λ t. Planned l Faulted (put_then (position past + 1) t)) (sym same) (are, ap (λ n. n + 1) stands)
     sets_planned past Running stands here = sets_running (runs past) (is_held past || is_back past) here
-    sets_planned past Fresh stands here = tt
-    sets_planned past Ready stands here = tt
-    sets_planned past Ended stands here = tt
+    sets_planned past _ stands here = tt
 
   -- the program is started
   begins_planned : (past : History) (seq : ℕ) (l' : Launched) (why : Option Reason) → plan past ≡ v.now
@@ -714,10 +733,7 @@ module _ (one : OneProgram) (joins : WrittenJoins) where
                 same,
           )
   held_so past r accepts l there planned slice.More run goes = absurd cc
-  held_so past r accepts l there planned (slice.Due why) run goes = absurd cc
-  held_so past r accepts l there planned slice.Done run goes = absurd cc
-  held_so past r accepts l there planned (slice.Fault fault) run goes = absurd cc
-  held_so past r accepts l there planned slice.NoMemory run goes = absurd cc
+  held_so past r accepts l there planned _ run goes = absurd cc
 
   report_so : (past : History) (r : PlainReport) → Accepts past r → Kept past → (o : Option Launched)
       → launched past ≡ o → (run : Heading) → last_such go (report_effect past r r.outcome).orders ≡ Some run
@@ -730,8 +746,6 @@ module _ (one : OneProgram) (joins : WrittenJoins) where
 
   item_so : (past : History) (item : Item) (step : Step) → IsTaken IsLawfulEvent past item → Causes past item step
       → Kept past → (run : Heading) → run_in step ≡ Some run → RunsSo past step.answer run
-  item_so past (Content None) step taken is here run goes =
-      none_so past step.answer run step.effect.orders _ (ap (λ (e : Effect). e.orders) is.effect_is) refl goes
   item_so past (Content (Some request)) step taken is here run goes =
       subst (λ a. RunsSo past a run) (sym is.2.answer_is)
       (reply_so past here request.seq request.body is.0 (shaped past is.0 (situation past) request.body is.1) run
@@ -743,13 +757,7 @@ module _ (one : OneProgram) (joins : WrittenJoins) where
       subst (λ a. RunsSo past a run) (sym is.answer_is)
       (report_so past r taken.0 here (launched past) refl run
       (ap (λ (e : Effect). last_such go e.orders) (sym is.effect_is) ∙ goes))
-  item_so past (Fault k) step taken is here run goes =
-      none_so past step.answer run step.effect.orders _ (ap (λ (e : Effect). e.orders) is.effect_is) refl goes
-  item_so past InputEnd step taken is here run goes =
-      none_so past step.answer run step.effect.orders _ (ap (λ (e : Effect). e.orders) is.effect_is) refl goes
-  item_so past ReadFailure step taken is here run goes =
-      none_so past step.answer run step.effect.orders _ (ap (λ (e : Effect). e.orders) is.effect_is) refl goes
-  item_so past MemoryFailure step taken is here run goes =
+  item_so past _ step taken is here run goes =
       none_so past step.answer run step.effect.orders _ (ap (λ (e : Effect). e.orders) is.effect_is) refl goes
 
   module _ (events : List Incoming) (past : History) (rest : Rest) (lawful : AreLawful events)
@@ -766,9 +774,24 @@ module _ (one : OneProgram) (joins : WrittenJoins) where
     so = item_so before step.item step was.taken was.causes was.held run
         (ordered_last before step run was.causes orders)
 
+  -- nothing is launched in Fresh
+  not_fresh : (past : History) → Kept past → (l : Launched) → launched past ≡ Some l → ¬ (situation past ≡ Fresh)
+  not_fresh past here l there fresh =
+      let none = here.ran.so_far.early (subst IsEarly (sym fresh) tt) in let e = sym there ∙ none in cc
+
   pub has_its_lines : EachRunHasItsLines
   has_its_lines events past rest lawful history before step after run past_is orders =
-      let there = so events past rest lawful history before step after run past_is orders in (there.0, there.1, there.2)
+      let there = so events past rest lawful history before step after run past_is orders in (
+        there.0,
+        settings before,
+        there.1,
+        counts_so before (not_fresh before here there.0 there.1)
+            (counted_before events past rest history before step after past_is),
+        spelled there.0 (settings before) (lines_set there.0.path before) run.plan there.2,
+      )
+    where
+      here : Kept before
+      here = (was events past rest lawful history before step after run past_is orders).held
 
   pub counts_as_set : EachRunCountsFrom
   counts_as_set events past rest lawful history before step after run past_is orders =
@@ -784,7 +807,31 @@ module _ (one : OneProgram) (joins : WrittenJoins) where
   in_force l v _ has planned = absurd has
 
   pub plan_of_lines : PlanIsOfLines
-  plan_of_lines events past rest lawful history has l there =
-      in_force l (view l past) (situation past) has
-      ((along IsLawfulEvent Kept kept_kept kept_first events past rest (lawful_events events lawful) history).planned l
-      there)
+  plan_of_lines events past rest lawful history has l there = (
+    settings past,
+    counts_so past (not_fresh past here l there) (counted_now events past rest history),
+    spelled l (settings past) (lines_set l.path past) (plan past).breakpoints force.0,
+    force.1,
+  )
+    where
+      here : Kept past
+      here = along IsLawfulEvent Kept kept_kept kept_first events past rest (lawful_events events lawful) history
+
+      force : AreOfLines l (line_offset past) (lines_set l.path past) (plan past).breakpoints
+          × (situation past ≡ Configuring → (plan past).counted_from ≡ 0)
+      force = in_force l (view l past) (situation past) has (here.planned l there)
+
+  -- before the program is started the plan in force counts from position 0
+  pub first_counts : (events : List Incoming) (past : History) (rest : Rest) → AreLawful events
+      → IsHistoryOf events past rest → (before : History) (step : Step) (after : History)
+      → past ≡ before ++ step ∷ after → (l : Launched) → launched before ≡ Some l → situation before ≡ Configuring
+      → (plan before).counted_from ≡ 0
+  first_counts events past rest lawful history before step after past_is l there configuring =
+      (in_force l (view l before) (situation before) (subst HasDebuggee (sym configuring) tt)
+      (kept_before.planned l there)).1 configuring
+    where
+      kept_before : Kept before
+      kept_before =
+          ((along IsLawfulEvent (EachTaken IsLawfulEvent Kept) (each_kept IsLawfulEvent Kept kept_kept)
+          (each_first IsLawfulEvent Kept kept_first) events past rest (lawful_events events lawful) history).each before
+          step after past_is).held

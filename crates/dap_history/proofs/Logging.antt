@@ -130,13 +130,8 @@ abbrev Reports : Item → Type 0
 Reports item = ((r : PlainReport) × (item ≡ Accepted r)) ⊎ (((n : ℕ) → end_in n item ≡ None) × (item_texts item ≡ []))
 
 reports_or_not : (item : Item) → Reports item
-reports_or_not (Content request) = inr ((λ n. refl), refl)
-reports_or_not (Loaded launch file) = inr ((λ n. refl), refl)
 reports_or_not (Accepted r) = inl (r, refl)
-reports_or_not (Fault k) = inr ((λ n. refl), refl)
-reports_or_not InputEnd = inr ((λ n. refl), refl)
-reports_or_not ReadFailure = inr ((λ n. refl), refl)
-reports_or_not MemoryFailure = inr ((λ n. refl), refl)
+reports_or_not _ = inr ((λ n. refl), refl)
 
 logs-snoc : (past : History) (step : Step) → logs (messages_of (past ++ step ∷ [])) ≡ logs (messages_of past)
     ++ logs (messages step)

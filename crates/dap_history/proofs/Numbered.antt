@@ -6,10 +6,11 @@ use Rattle.dap_frame.specs.Frame.{frame_of}
 use Rattle.dap_msg.specs.declared.outgoing.Outgoing.{Outgoing}
 use Rattle.dap_msg.specs.Outgoing.{text_of}
 use Rattle.dap_msg.specs.Laws.{RequestsEcho, MessagesAreReadBack}
-use Rattle.dap_msg.specs.Request.{IsRequestOf}
+use Rattle.dap_msg.specs.Request.{IsRequestFrom}
+use Rattle.dap_msg.specs.declared.request.FirstSeq.{FirstSeq}
 use Rattle.dap_msg.specs.declared.request.Request.{Request}
 use Rattle.pl0_meaning.specs.Laws.{FramesAreFew}
-use Rattle.dap_history.specs.History.{Item, Content, Loaded, Accepted, Fault, InputEnd, ReadFailure, MemoryFailure, Step, History, messages_of}
+use Rattle.dap_history.specs.History.{Item, Content, Loaded, Accepted, Step, History, messages_of}
 use Rattle.dap_history.specs.Output.{frames_from}
 use Rattle.dap_history.specs.Laws.{launch_request, read_as, waiting, AreRead, ContentsAreOfTheStream, SeqCountFromOne, FramesAreReadBack}
 use Rattle.dap_history.proofs.Fitting.{ItemFits, ItemsFit, message_fits, history_fits}
@@ -27,45 +28,43 @@ numbers_count messages n = numbered 1 messages n
 
 -- ---- the numbers of requests, and so of their answers, are of 64 bits
 
-seq_small : RequestsEcho → (content : List ℕ) (request : Request) → IsRequestOf content (Some request)
-    → request.seq < 2 ^ 64
-seq_small echo content request is =
-    let told = echo content request is in
+seq_small : RequestsEcho → (first : FirstSeq) (content : List ℕ) (request : Request)
+    → IsRequestFrom first content (Some request) → request.seq < 2 ^ 64
+seq_small echo first content request is =
+    let told = echo first content request is in
     let same : told.2.seq ≡ request.seq = let e = sym told.2.numbered ∙ told.3 in cc in
     omega (arith, told.2.to_last)
 
 abbrev items : History → List Item
 items past = map (λ (step : Step). step.item) past
 
-item_small : RequestsEcho → (item : Item) (others : List Item) (waits : List (Option Request))
-    (contents : List (List ℕ)) → AreRead contents (filter_map read_as (item ∷ others) ++ waits)
-    → ItemFits item × ((left : List (List ℕ)) × AreRead left (filter_map read_as others ++ waits))
-item_small echo (Content None) others waits [] are = absurd are
-item_small echo (Content None) others waits (c ∷ cs) are = (tt, (cs, are.1))
-item_small echo (Content (Some request)) others waits [] are = absurd are
-item_small echo (Content (Some request)) others waits (c ∷ cs) are = (seq_small echo c request are.0, (cs, are.1))
-item_small echo (Loaded launch file) others waits [] are = absurd are
-item_small echo (Loaded launch file) others waits (c ∷ cs) are =
-    (seq_small echo c (launch_request launch) are.0, (cs, are.1))
-item_small echo (Accepted r) others waits contents are = (tt, (contents, are))
-item_small echo (Fault k) others waits contents are = (tt, (contents, are))
-item_small echo InputEnd others waits contents are = (tt, (contents, are))
-item_small echo ReadFailure others waits contents are = (tt, (contents, are))
-item_small echo MemoryFailure others waits contents are = (tt, (contents, are))
+item_small : RequestsEcho → (f : FirstSeq) (item : Item) (others : List Item) (waits : List (Option Request))
+    (contents : List (List ℕ)) → AreRead f contents (filter_map read_as (item ∷ others) ++ waits)
+    → ItemFits item × ((left : List (List ℕ)) × AreRead f left (filter_map read_as others ++ waits))
+item_small echo f (Content None) others waits [] are = absurd are
+item_small echo f (Content None) others waits (c ∷ cs) are = (tt, (cs, are.1))
+item_small echo f (Content (Some request)) others waits [] are = absurd are
+item_small echo f (Content (Some request)) others waits (c ∷ cs) are = (seq_small echo f c request are.0, (cs, are.1))
+item_small echo f (Loaded launch file) others waits [] are = absurd are
+item_small echo f (Loaded launch file) others waits (c ∷ cs) are =
+    (seq_small echo f c (launch_request launch) are.0, (cs, are.1))
+item_small echo f (Accepted r) others waits contents are = (tt, (contents, are))
+item_small echo f _ others waits contents are = (tt, (contents, are))
 
-items_small : RequestsEcho → (past : History) (waits : List (Option Request)) (contents : List (List ℕ))
-    → AreRead contents (filter_map read_as (items past) ++ waits) → ItemsFit past
-items_small echo [] waits contents are = tt
-items_small echo (step ∷ past) waits contents are =
-    let first = item_small echo step.item (items past) waits contents are in
-    (first.0, items_small echo past waits first.1.0 first.1.1)
+items_small : RequestsEcho → (f : FirstSeq) (past : History) (waits : List (Option Request)) (contents : List (List ℕ))
+    → AreRead f contents (filter_map read_as (items past) ++ waits) → ItemsFit past
+items_small echo f [] waits contents are = tt
+items_small echo f (step ∷ past) waits contents are =
+    let first = item_small echo f step.item (items past) waits contents are in
+    (first.0, items_small echo f past waits first.1.0 first.1.1)
 
 pub frames_read_back : ContentsAreOfTheStream → RequestsEcho → MessagesAreReadBack → FramesAreFew → FramesAreReadBack
 frames_read_back contents echo back few events past rest history n message is small =
     let stream = contents events past rest history in
     let fits =
     message_fits (messages_of past) n message
-    (history_fits few events past rest history (items_small echo past (waiting rest.launch) stream.0 stream.2)) is
+    (history_fits few events past rest history (items_small echo rest.first past
+    (waiting rest.launch) stream.0 stream.2)) is
     in (
       text_of message (n + 1),
       numbers_count (messages_of past) n ∙ ap (option_map (λ m. frame_of (text_of m (n + 1)))) is,

@@ -16,9 +16,9 @@ use Rattle.dbg_runner.specs.declared.outcome.SliceOutcome.TheVariants as slice
 use Rattle.dbg_runner.specs.Plain.{PlainReport, Heading}
 use Rattle.dap_history.specs.declared.launch.Launch.{Launch}
 use Rattle.dap_history.specs.declared.situation.Situation.{Situation}
-use Rattle.dap_history.specs.declared.situation.Situation.TheVariants.{Fresh, Ready, Configuring, Running, Stopped, Faulted, Ended}
+use Rattle.dap_history.specs.declared.situation.Situation.TheVariants.{Fresh}
 use Rattle.dap_history.specs.Last.{or_else, last_such}
-use Rattle.dap_history.specs.History.{Launched, Item, Content, Loaded, Accepted, Fault, InputEnd, ReadFailure, MemoryFailure, Step, History, Effect}
+use Rattle.dap_history.specs.History.{Launched, Item, Content, Loaded, Accepted, Step, History, Effect}
 use Rattle.dap_history.specs.Readings.{go, situation, plan, waiting_pause}
 use Rattle.dap_history.specs.Replies.{Reply, stops, ends, stop_of, exception_of, told_logs}
 use Rattle.dap_history.specs.Launching.{Launches}
@@ -28,10 +28,10 @@ use Rattle.dap_history.specs.Reports.{outputs, held, report_effect}
 use Rattle.dap_history.specs.Emission.{Causes}
 use Rattle.dap_history.specs.Stops.{stop_of_event, stop_in, run_in, Orders}
 use Rattle.dap_history.proofs.Readings.{or_else-none}
-use Rattle.dap_history.proofs.Silent.{NextRuns, no_runs, next_run, first_at, due_first}
+use Rattle.dap_history.proofs.Silent.{NextRuns, no_runs, next_run, first_at}
+use Rattle.dap_history.proofs.Shapes.{due_first, Shape, refuses, is_calm, sets, begins, resumes_by, is_over, retreats, interrupts, quits, shaped}
 use Rattle.dap_history.proofs.Outputs.{told_numbers, outputs_apart}
 use Rattle.dap_history.proofs.Counted.{next_runs}
-use Rattle.dap_history.proofs.Shapes.{Shape, refuses, is_calm, sets, begins, resumes_by, is_over, retreats, interrupts, quits, shaped}
 
 -- ---- one of a kind
 
@@ -135,12 +135,7 @@ enters_stop_once past l (Some r) =
 
 pub quiet_in : (s : Situation) (past : History) (bs : List Breakpoint) → (effect_in s past bs).events ≡ []
 quiet_in Fresh past bs = refl
-quiet_in Ready past bs = refl
-quiet_in Configuring past bs = refl
-quiet_in Running past bs = refl
-quiet_in Stopped past bs = refl
-quiet_in Faulted past bs = refl
-quiet_in Ended past bs = refl
+quiet_in _ past bs = refl
 
 if_events : (effect : Effect) (es : List EventBody) → effect.events ≡ es → AtMostOne (stops_in es) → StopsOnce effect
 if_events effect es is once = subst (λ l. AtMostOne (stops_in l)) (sym is) once
@@ -181,10 +176,7 @@ step_stops_once past (Content (Some request)) step is =
 step_stops_once past (Loaded launch file) step is =
     subst StopsOnce (sym is.2.effect_is) (launch_stops_once launch file is.0 is.1)
 step_stops_once past (Accepted r) step is = subst StopsOnce (sym is.effect_is) (report_stops_once past r r.outcome)
-step_stops_once past (Fault k) step is = subst StopsOnce (sym is.effect_is) tt
-step_stops_once past InputEnd step is = subst StopsOnce (sym is.effect_is) tt
-step_stops_once past ReadFailure step is = subst StopsOnce (sym is.effect_is) tt
-step_stops_once past MemoryFailure step is = subst StopsOnce (sym is.effect_is) tt
+step_stops_once past _ step is = subst StopsOnce (sym is.effect_is) tt
 
 -- each stop that a step reports is the last
 pub stopped_last : (past : History) (step : Step) (reason : StopReason) (front back : List EventBody)

@@ -35,8 +35,8 @@ use Rattle.dbg_plan.specs.Resolutions.{step_from, ReadsRule, ReadsConditionAt, R
 use Rattle.dbg_plan.specs.Values.{answered as evaluated}
 use Rattle.dbg_plan.specs.Breakpoints.{Breakpoint, TextCondition}
 use Rattle.dap_history.specs.declared.situation.Situation.{Situation}
-use Rattle.dap_history.specs.declared.situation.Situation.TheVariants.{Fresh, Ready, Configuring, Running, Stopped, Faulted, Ended}
-use Rattle.dap_history.specs.History.{Launched, Item, Content, Loaded, Accepted, Fault, InputEnd, ReadFailure, MemoryFailure, Step, History, Effect}
+use Rattle.dap_history.specs.declared.situation.Situation.TheVariants.{Fresh, Ready, Configuring, Running, Stopped, Faulted}
+use Rattle.dap_history.specs.History.{Launched, Item, Content, Loaded, Accepted, Step, History, Effect}
 use Rattle.dap_history.specs.Readings.{situation, launched, position}
 use Rattle.dap_history.specs.Replies.{Reply, refused, ordering, causing, OfProgram, on_thread}
 use Rattle.dap_history.specs.Launching.{Launches, launches, syntax}
@@ -47,7 +47,7 @@ use Rattle.dap_history.specs.Inspection.{Asked as Of, asked_of, result_reply, Ev
 use Rattle.dap_history.specs.Emission.{RepliesIn, Answers, HasEffect, Causes, IsAfter}
 use Rattle.dap_history.proofs.Texts.{one_program}
 use Rattle.dap_history.proofs.MessageParts.{one_parts}
-use Rattle.dap_history.proofs.Silent.{due_first, resuming}
+use Rattle.dap_history.proofs.Shapes.{due_first, resuming}
 
 -- a text reads in one way, or has one first fault; so does an editor's
 pub record IsTextOnce : Type 0 where
@@ -335,11 +335,7 @@ module _ (once : IsTextOnce) where
       → SetsIn s past asked t → r ≡ t
   one_sets_in Fresh past asked r t a b = a ∙ sym b
   one_sets_in Ready past asked r t a b = a ∙ sym b
-  one_sets_in Configuring past asked r t a b = one_sets past asked r t a b
-  one_sets_in Running past asked r t a b = one_sets past asked r t a b
-  one_sets_in Stopped past asked r t a b = one_sets past asked r t a b
-  one_sets_in Faulted past asked r t a b = one_sets past asked r t a b
-  one_sets_in Ended past asked r t a b = one_sets past asked r t a b
+  one_sets_in _ past asked r t a b = one_sets past asked r t a b
 
   -- ---- runs
 
@@ -354,22 +350,14 @@ module _ (once : IsTextOnce) where
   one_configures_in Configuring past r t a b =
       one_as (launched past) (λ l. causing body.None (enters past l (due_first past l))) r t a b
   one_configures_in Fresh past r t a b = a ∙ sym b
-  one_configures_in Ready past r t a b = a ∙ sym b
-  one_configures_in Running past r t a b = a ∙ sym b
-  one_configures_in Stopped past r t a b = a ∙ sym b
-  one_configures_in Faulted past r t a b = a ∙ sym b
-  one_configures_in Ended past r t a b = a ∙ sym b
+  one_configures_in _ past r t a b = a ∙ sym b
 
   one_resumes_in : (s : Situation) (past : History) (resume_kind : ResumeKind) (thread : ℕ) (r t : Reply)
       → ResumesIn s past resume_kind thread r → ResumesIn s past resume_kind thread t → r ≡ t
   one_resumes_in Stopped past resume_kind thread r t a b =
       one_as (launched past) (resuming past resume_kind thread) r t a b
   one_resumes_in Running past resume_kind thread r t a b = a ∙ sym b
-  one_resumes_in Faulted past resume_kind thread r t a b = a ∙ sym b
-  one_resumes_in Fresh past resume_kind thread r t a b = a ∙ sym b
-  one_resumes_in Ready past resume_kind thread r t a b = a ∙ sym b
-  one_resumes_in Configuring past resume_kind thread r t a b = a ∙ sym b
-  one_resumes_in Ended past resume_kind thread r t a b = a ∙ sym b
+  one_resumes_in _ past resume_kind thread r t a b = a ∙ sym b
 
   one_retreats_in : (s : Situation) (past : History) (m : Mode) (thread : ℕ) (r t : Reply)
       → RetreatsIn s past m thread r → RetreatsIn s past m thread t → r ≡ t
@@ -378,10 +366,7 @@ module _ (once : IsTextOnce) where
   one_retreats_in Faulted past m thread r t a b =
       one_as (launched past) (λ l. on_thread thread (causing body.None (ordering (resumes past l m)))) r t a b
   one_retreats_in Running past m thread r t a b = a ∙ sym b
-  one_retreats_in Fresh past m thread r t a b = a ∙ sym b
-  one_retreats_in Ready past m thread r t a b = a ∙ sym b
-  one_retreats_in Configuring past m thread r t a b = a ∙ sym b
-  one_retreats_in Ended past m thread r t a b = a ∙ sym b
+  one_retreats_in _ past m thread r t a b = a ∙ sym b
 
   -- ---- questions
 
@@ -427,30 +412,20 @@ module _ (once : IsTextOnce) where
 
   one_inspects_in : (s : Situation) (past : History) (question : Question) (r t : Reply) → InspectsIn s past question r
       → InspectsIn s past question t → r ≡ t
-  one_inspects_in Running past question r t a b = a ∙ sym b
   one_inspects_in Stopped past question r t a b = one_inspects past question r t a b
   one_inspects_in Faulted past question r t a b = one_inspects past question r t a b
-  one_inspects_in Fresh past question r t a b = a ∙ sym b
-  one_inspects_in Ready past question r t a b = a ∙ sym b
-  one_inspects_in Configuring past question r t a b = a ∙ sym b
-  one_inspects_in Ended past question r t a b = a ∙ sym b
+  one_inspects_in _ past question r t a b = a ∙ sym b
 
   -- ---- commands and launches
 
   one_reply : (s : Situation) (past : History) (asked : Command) (r t : Reply) → RepliesIn s past asked r
       → RepliesIn s past asked t → r ≡ t
-  one_reply s past (command.Initialize a) r t x y = x ∙ sym y
-  one_reply s past (command.Launch a) r t x y = x ∙ sym y
   one_reply s past (command.SetBreakpoints a) r t x y = one_sets_in s past a r t x y
   one_reply s past command.ConfigurationDone r t x y = one_configures_in s past r t x y
-  one_reply s past command.Threads r t x y = x ∙ sym y
   one_reply s past (command.Resume k a) r t x y = one_resumes_in s past _ a.thread_id r t x y
   one_reply s past (command.Retreat k a) r t x y = one_retreats_in s past _ a.thread_id r t x y
-  one_reply s past (command.Pause a) r t x y = x ∙ sym y
   one_reply s past (command.Inspect q) r t x y = one_inspects_in s past q r t x y
-  one_reply s past command.Disconnect r t x y = x ∙ sym y
-  one_reply s past (command.Unsupported a) r t x y = x ∙ sym y
-  one_reply s past (command.BadArguments a) r t x y = x ∙ sym y
+  one_reply s past _ r t x y = x ∙ sym y
 
   one_launch : (arguments : LaunchArguments) (file : Option (List ℕ)) (r s : Reply) → Launches arguments file r
       → Launches arguments file s → r ≡ s
@@ -489,10 +464,7 @@ module _ (once : IsTextOnce) where
   one_cause past (Loaded launch file) s t a b =
       same_answer _ _ a.0 b.0 s t (one_launch launch.arguments file a.0 b.0 a.1 b.1) a.2 b.2
   one_cause past (Accepted r) s t a b = same_effect _ s t a b
-  one_cause past (Fault k) s t a b = same_effect _ s t a b
-  one_cause past InputEnd s t a b = same_effect _ s t a b
-  one_cause past ReadFailure s t a b = same_effect _ s t a b
-  one_cause past MemoryFailure s t a b = same_effect _ s t a b
+  one_cause past _ s t a b = same_effect _ s t a b
 
   pub one_after : (past : History) (item : Item) (a b : History) → IsAfter past item a → IsAfter past item b → a ≡ b
   one_after past item a b x y =

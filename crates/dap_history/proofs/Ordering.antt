@@ -11,7 +11,7 @@ use Rattle.dbg_runner.specs.Lawful.{GoesBackBy, Went}
 use Rattle.dap_history.specs.declared.launch.Launch.{Launch}
 use Rattle.dap_history.specs.Plans.{Plan}
 use Rattle.dap_history.specs.Last.{last_such}
-use Rattle.dap_history.specs.History.{Item, Content, Loaded, Accepted, Fault, InputEnd, ReadFailure, MemoryFailure, Step, History, Effect}
+use Rattle.dap_history.specs.History.{Item, Content, Loaded, Accepted, Step, History, Effect}
 use Rattle.dap_history.specs.Readings.{go, situation, position, plan, is_back, waiting_pause}
 use Rattle.dap_history.specs.Replies.{Reply}
 use Rattle.dap_history.specs.Launching.{Launches}
@@ -88,7 +88,6 @@ report_ordered past r slice.Held accepts not = by_pause (waiting_pause past)
 
 pub item_ordered : (past : History) (item : Item) (step : Step) → IsTaken IsLawfulEvent past item
     → Causes past item step → OrderedBy past (back_in item) step.effect
-item_ordered past (Content None) step taken is = subst (OrderedBy past None) (sym is.effect_is) ordered_none
 item_ordered past (Content (Some request)) step taken is =
     subst (OrderedBy past (back_by request.body)) (sym is.2.effect_is)
     (by_reply past (back_by request.body) is.0.effect.put_in (last_such go is.0.effect.orders)
@@ -100,10 +99,7 @@ item_ordered past (Accepted r) step taken is =
     subst (OrderedBy past None) (sym is.effect_is)
     (report_ordered past r r.outcome taken.0
     (λ back is_held. never_held taken.1.program r back taken.1.lawful.went is_held))
-item_ordered past (Fault k) step taken is = subst (OrderedBy past None) (sym is.effect_is) ordered_none
-item_ordered past InputEnd step taken is = subst (OrderedBy past None) (sym is.effect_is) ordered_none
-item_ordered past ReadFailure step taken is = subst (OrderedBy past None) (sym is.effect_is) ordered_none
-item_ordered past MemoryFailure step taken is = subst (OrderedBy past None) (sym is.effect_is) ordered_none
+item_ordered past _ step taken is = subst (OrderedBy past None) (sym is.effect_is) ordered_none
 
 -- ---- the run that is ordered
 
@@ -156,7 +152,6 @@ loaded_holds launch (Some text) reply (inr is) = ap (λ (r : Reply). last_such h
 -- no run that goes back is ordered to hold
 pub item_holds : (past : History) (item : Item) (step : Step) → Causes past item step → is_back past ≡ true
     → last_such held_by step.effect.orders ≡ None
-item_holds past (Content None) step is back = ap (λ (e : Effect). last_such held_by e.orders) is.effect_is
 item_holds past (Content (Some request)) step is back =
     ap (λ (e : Effect). last_such held_by e.orders) is.2.effect_is
     ∙ (all_orders (situation past) past request.body is.0 refl is.1).hold back
@@ -164,7 +159,4 @@ item_holds past (Loaded launch file) step is back =
     ap (λ (e : Effect). last_such held_by e.orders) is.2.effect_is ∙ loaded_holds launch file is.0 is.1
 item_holds past (Accepted r) step is back =
     ap (λ (e : Effect). last_such held_by e.orders) is.effect_is ∙ report_holds past r r.outcome
-item_holds past (Fault k) step is back = ap (λ (e : Effect). last_such held_by e.orders) is.effect_is
-item_holds past InputEnd step is back = ap (λ (e : Effect). last_such held_by e.orders) is.effect_is
-item_holds past ReadFailure step is back = ap (λ (e : Effect). last_such held_by e.orders) is.effect_is
-item_holds past MemoryFailure step is back = ap (λ (e : Effect). last_such held_by e.orders) is.effect_is
+item_holds past _ step is back = ap (λ (e : Effect). last_such held_by e.orders) is.effect_is

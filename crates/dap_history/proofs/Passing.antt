@@ -2,7 +2,6 @@
 use Rattle.std.proofs.Common.{◌≡◌, ◌⊎◌, inl, inr, ⊎_elim, ℕ, ◌<◌, ◌≤◌, List, [], ◌∷◌, true, Option, None, Some, Ok, Err, refl, sym, ◌∙◌, ap, subst, arith}
 use Rattle.std.specs.Prelude.{map, unwrap_or, Result}
 use Rattle.std.proofs.lemmas.Bool.{cases_lt}
-use Rattle.dap_msg.specs.Questions.{kind_of}
 use Rattle.dap_msg.specs.Commands.{name_of}
 use Rattle.dap_msg.specs.declared.command.Command.{Command}
 use Rattle.dap_msg.specs.declared.command.Command.TheVariants as command
@@ -27,7 +26,7 @@ use Rattle.dbg_runner.specs.declared.outcome.SliceOutcome.TheVariants as slice
 use Rattle.dap_history.specs.declared.situation.Situation.{Situation}
 use Rattle.dap_history.specs.declared.situation.Situation.TheVariants.{Configuring, Running, Stopped, Faulted, Ended}
 use Rattle.dap_history.specs.Last.{or_else, last_such}
-use Rattle.dap_history.specs.History.{Launched, Item, Content, Loaded, Accepted, Fault, InputEnd, ReadFailure, MemoryFailure, Step, History, Effect, with_answer, messages}
+use Rattle.dap_history.specs.History.{Launched, Item, Content, Loaded, Accepted, Step, History, Effect, with_answer, messages}
 use Rattle.dap_history.specs.Readings.{go, situation, position, launched, last_run, end_of, command_mark, answer_mark, event_mark, message_mark, order_mark, step_mark}
 use Rattle.dap_history.specs.declared.launch.Launch.{Launch}
 use Rattle.dap_history.specs.Launching.{Launches}
@@ -133,26 +132,7 @@ reply_not s past (command.Launch a) reply is mark =
     subst (λ (r : Reply). MarkIs IsConfiguring (answer_mark (name.Supported supported.Launch) r.result)) is mark
 reply_not s past (command.BadArguments k) reply is mark =
     subst (λ (r : Reply). MarkIs IsConfiguring (answer_mark (name.Supported k) r.result)) is mark
-reply_not s past (command.Initialize a) reply is mark =
-    result_not (name.Supported supported.Initialize) (λ x. x) reply.result mark
-reply_not s past (command.SetBreakpoints a) reply is mark =
-    result_not (name.Supported supported.SetBreakpoints) (λ x. x) reply.result mark
-reply_not s past command.ConfigurationDone reply is mark =
-    result_not (name.Supported supported.ConfigurationDone) (λ x. x) reply.result mark
-reply_not s past command.Threads reply is mark =
-    result_not (name.Supported supported.Threads) (λ x. x) reply.result mark
-reply_not s past (command.Resume k a) reply is mark =
-    result_not (name.Supported (supported.Resume k)) (λ x. x) reply.result mark
-reply_not s past (command.Retreat k a) reply is mark =
-    result_not (name.Supported (supported.Retreat k)) (λ x. x) reply.result mark
-reply_not s past (command.Pause a) reply is mark =
-    result_not (name.Supported supported.Pause) (λ x. x) reply.result mark
-reply_not s past (command.Inspect q) reply is mark =
-    result_not (name.Supported (supported.Inspect (kind_of q))) (λ x. x) reply.result mark
-reply_not s past command.Disconnect reply is mark =
-    result_not (name.Supported supported.Disconnect) (λ x. x) reply.result mark
-reply_not s past (command.Unsupported text) reply is mark =
-    result_not (name.Unsupported text) (λ x. x) reply.result mark
+reply_not s past asked reply is mark = result_not (name_of asked) (λ x. x) reply.result mark
 
 abbrev pub IsLoaded : Item → Type 0
 IsLoaded (Loaded launch file) = Unit {0}
@@ -161,27 +141,12 @@ IsLoaded _ = ⊥
 -- a step leads to Configuring only where a launch was loaded
 pub loaded_there : (past : History) (item : Item) (step : Step) → Causes past item step
     → MarkIs IsConfiguring (step_mark step) → IsLoaded item
-loaded_there past (Content None) step is mark =
-    absurd (subst (λ a. MarkIs IsConfiguring (last_such message_mark (with_answer a []))) is.answer_is
-    (configured_by step mark))
 loaded_there past (Content (Some request)) step is mark =
     absurd (reply_not (situation past) past request.body is.0 is.1
     (subst (λ a. MarkIs IsConfiguring (last_such message_mark (with_answer a []))) is.2.answer_is
     (configured_by step mark)))
 loaded_there past (Loaded launch file) step is mark = tt
-loaded_there past (Accepted r) step is mark =
-    absurd (subst (λ a. MarkIs IsConfiguring (last_such message_mark (with_answer a []))) is.answer_is
-    (configured_by step mark))
-loaded_there past (Fault k) step is mark =
-    absurd (subst (λ a. MarkIs IsConfiguring (last_such message_mark (with_answer a []))) is.answer_is
-    (configured_by step mark))
-loaded_there past InputEnd step is mark =
-    absurd (subst (λ a. MarkIs IsConfiguring (last_such message_mark (with_answer a []))) is.answer_is
-    (configured_by step mark))
-loaded_there past ReadFailure step is mark =
-    absurd (subst (λ a. MarkIs IsConfiguring (last_such message_mark (with_answer a []))) is.answer_is
-    (configured_by step mark))
-loaded_there past MemoryFailure step is mark =
+loaded_there past _ step is mark =
     absurd (subst (λ a. MarkIs IsConfiguring (last_such message_mark (with_answer a []))) is.answer_is
     (configured_by step mark))
 
@@ -266,7 +231,6 @@ loaded_begins here o is = subst (BeginsAt here) (sym is) none_begins
 
 pub item_begins : (past : History) (item : Item) (step : Step) → Causes past item step
     → BeginsHere (unwrap_or (end_of item) (position past)) step.effect
-item_begins past (Content None) step is = subst (BeginsHere (position past)) (sym is.effect_is) none_begins
 item_begins past (Content (Some request)) step is =
     subst (BeginsHere (position past)) (sym is.2.effect_is)
     (begins_by past (last_such go is.0.effect.orders)
@@ -277,24 +241,17 @@ item_begins past (Loaded launch file) step is =
 item_begins past (Accepted r) step is =
     subst (BeginsHere r.end) (sym is.effect_is)
     (begins_on r.text r.end (last_such go (report_effect past r r.outcome).orders) (report_goes past r r.outcome))
-item_begins past (Fault k) step is = subst (BeginsHere (position past)) (sym is.effect_is) none_begins
-item_begins past InputEnd step is = subst (BeginsHere (position past)) (sym is.effect_is) none_begins
-item_begins past ReadFailure step is = subst (BeginsHere (position past)) (sym is.effect_is) none_begins
-item_begins past MemoryFailure step is = subst (BeginsHere (position past)) (sym is.effect_is) none_begins
+item_begins past _ step is = subst (BeginsHere (position past)) (sym is.effect_is) none_begins
 
 -- nothing is launched while a program runs
 pub launches_not : (Q : Incoming → Type 0) (past : History) (item : Item) (step : Step) → IsTaken Q past item
     → Causes past item step → IsRunning (situation past) → step.effect.launched ≡ None
-launches_not Q past (Content None) step taken is running = ap (λ (e : Effect). e.launched) is.effect_is
 launches_not Q past (Content (Some request)) step taken is running =
     ap (λ (e : Effect). e.launched) is.2.effect_is ∙ (all_silent (situation past) past request.body is.0 is.1).no_launch
 launches_not Q past (Loaded launch file) step taken is running = absurd (subst IsRunning taken running)
 launches_not Q past (Accepted r) step taken is running =
     ap (λ (e : Effect). e.launched) is.effect_is ∙ report_launches past r r.outcome
-launches_not Q past (Fault k) step taken is running = ap (λ (e : Effect). e.launched) is.effect_is
-launches_not Q past InputEnd step taken is running = ap (λ (e : Effect). e.launched) is.effect_is
-launches_not Q past ReadFailure step taken is running = ap (λ (e : Effect). e.launched) is.effect_is
-launches_not Q past MemoryFailure step taken is running = ap (λ (e : Effect). e.launched) is.effect_is
+launches_not Q past _ step taken is running = ap (λ (e : Effect). e.launched) is.effect_is
 
 -- ---- the marks of a report
 

@@ -285,11 +285,7 @@ todo_near-append (s ∷ ss) ts a b = (a.0, todo_near-append ss ts a.1 b)
 opened_near : (s : Statement) → StatementNear s → TodoNear (opened s)
 opened_near Empty near = tt
 opened_near (Then s t) near = todo_near-append (opened s) (opened t) (opened_near s near.0) (opened_near t near.1)
-opened_near (Assign x e) near = (near, tt)
-opened_near (Call p x) near = (near, tt)
-opened_near (Write p e) near = (near, tt)
-opened_near (If p c s) near = (near, tt)
-opened_near (While p c s) near = (near, tt)
+opened_near _ near = (near, tt)
 
 abbrev pub FramesNear : Configuration → Type 0
 FramesNear [] = Unit {0}

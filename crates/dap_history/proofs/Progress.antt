@@ -14,7 +14,7 @@ use Rattle.dbg_runner.specs.Plain.{PlainReport, Heading, Quit, goes_back}
 use Rattle.dbg_runner.specs.Lawful.{IsLawful}
 use Rattle.dap_history.specs.declared.launch.Launch.{Launch}
 use Rattle.dap_history.specs.declared.situation.Situation.{Situation}
-use Rattle.dap_history.specs.declared.situation.Situation.TheVariants.{Fresh, Ready, Configuring, Running, Stopped, Faulted, Ended}
+use Rattle.dap_history.specs.declared.situation.Situation.TheVariants.{Fresh, Ready, Configuring}
 use Rattle.dap_history.specs.Last.{or_else, last_such}
 use Rattle.dap_history.specs.History.{Launched, Item, Content, Loaded, Accepted, Fault, InputEnd, ReadFailure, MemoryFailure, Step, History, Effect, with_answer, messages, messages_of}
 use Rattle.dap_history.specs.Readings.{go, launched, last_run, position, reached, numbers, output, end_of, situation, answer_mark, message_mark, order_mark, step_mark}
@@ -46,14 +46,9 @@ pub record Progress (past : History) : Type 0 where
 
 -- whether a mark is early can be decided
 pub decided : (o : Option Situation) → ¬ (¬ IsEarlyMark o) → IsEarlyMark o
-decided None not = absurd (not (λ x. x))
 decided (Some Fresh) not = tt
 decided (Some Ready) not = tt
-decided (Some Configuring) not = absurd (not (λ x. x))
-decided (Some Running) not = absurd (not (λ x. x))
-decided (Some Stopped) not = absurd (not (λ x. x))
-decided (Some Faulted) not = absurd (not (λ x. x))
-decided (Some Ended) not = absurd (not (λ x. x))
+decided _ not = absurd (not (λ x. x))
 
 -- ---- a step that reports no number and launches nothing
 

@@ -9,7 +9,7 @@ use Rattle.pl0_meaning.specs.Runs.{at}
 use Rattle.dbg_plan.specs.declared.evaluation.EvalFault.{EvalFault}
 use Rattle.dbg_plan.specs.declared.evaluation.EvalFault.TheVariants.{Overflow, DivideByZero}
 use Rattle.dap_history.specs.declared.situation.Situation.{Situation}
-use Rattle.dap_history.specs.declared.situation.Situation.TheVariants.{Fresh, Ready, Configuring, Running, Stopped, Faulted, Ended}
+use Rattle.dap_history.specs.declared.situation.Situation.TheVariants.{Stopped, Faulted}
 use Rattle.dap_history.specs.History.{Launched, History}
 use Rattle.dap_history.specs.Readings.{launched, position}
 use Rattle.dap_history.specs.Replies.{Reply, nothing, refused, OfProgram}
@@ -66,10 +66,6 @@ inspects_nothing (Some l) past question reply is = by_place (at l.program (posit
 
 pub no_effect : (s : Situation) (past : History) (question : Question) (reply : Reply)
     → InspectsIn s past question reply → reply.effect ≡ nothing
-no_effect Fresh past question reply is = effect_is reply _ is refl
-no_effect Ready past question reply is = effect_is reply _ is refl
-no_effect Configuring past question reply is = effect_is reply _ is refl
-no_effect Running past question reply is = effect_is reply _ is refl
 no_effect Stopped past question reply is = inspects_nothing (launched past) past question reply is
 no_effect Faulted past question reply is = inspects_nothing (launched past) past question reply is
-no_effect Ended past question reply is = effect_is reply _ is refl
+no_effect _ past question reply is = effect_is reply _ is refl

@@ -81,12 +81,3 @@ none_between f a zero none = refl
 none_between f a (suc n) none =
     ap (λ l. l ++ flat_map f (range_with_len (a + 1) n)) (none a (omega arith) (omega arith))
     ∙ none_between f (a + 1) n (λ m above below. none m (omega (arith, above)) (omega (arith, below)))
-
--- two functions that give the same for the elements of a list
-pub flat_map_same : {A B : Type 0} (f g : A → List B) (xs : List A) (P : A → Type 0) → ((x : A) → P x → f x ≡ g x)
-    → (AllOf : List A → Type 0) → ((x : A) (rest : List A) → AllOf (x ∷ rest) → P x × AllOf rest) → AllOf xs
-    → flat_map f xs ≡ flat_map g xs
-flat_map_same f g [] P same AllOf apart all = refl
-flat_map_same f g (x ∷ xs) P same AllOf apart all =
-    let parts = apart x xs all in
-    ap (λ l. l ++ flat_map f xs) (same x parts.0) ∙ ap (λ l. g x ++ l) (flat_map_same f g xs P same AllOf apart parts.1)

@@ -7,24 +7,54 @@ use Rattle.dap_msg.specs.declared.outgoing.Body.TheVariants as body
 use Rattle.dap_msg.specs.declared.outgoing.Refusal.{Refusal}
 use Rattle.dap_msg.specs.declared.outgoing.Refusal.TheVariants as refusal
 use Rattle.dap_msg.specs.declared.requests.resume.ResumeKind.{ResumeKind}
+use Rattle.dap_msg.specs.declared.requests.resume.RetreatKind.{RetreatKind}
+use Rattle.dap_msg.specs.declared.requests.resume.RetreatKind.TheVariants as retreat
 use Rattle.dap_msg.specs.declared.requests.resume.ThreadArguments.{ThreadArguments}
 use Rattle.dap_msg.specs.declared.requests.set_breakpoints.SetBreakpointsArguments.{SetBreakpointsArguments}
-use Rattle.dbg_plan.specs.Due.{depth_at}
+use Rattle.dbg_plan.specs.Due.{due, depth_at}
 use Rattle.dbg_plan.specs.declared.mode.Mode.{Mode}
+use Rattle.dbg_plan.specs.declared.mode.Reason.{Reason}
 use Rattle.dbg_runner.specs.Plain.{Quit, goes_back}
 use Rattle.dap_history.specs.declared.situation.Situation.{Situation}
-use Rattle.dap_history.specs.declared.situation.Situation.TheVariants.{Fresh, Ready, Configuring, Running, Stopped, Faulted, Ended}
+use Rattle.dap_history.specs.declared.situation.Situation.TheVariants.{Fresh, Ready, Configuring, Running, Stopped, Faulted}
 use Rattle.dap_history.specs.History.{Launched, History}
-use Rattle.dap_history.specs.Readings.{launched, position}
+use Rattle.dap_history.specs.Readings.{launched, plan, position}
 use Rattle.dap_history.specs.Replies.{Reply, nothing, reporting, ordering, answered, refused, causing, OfProgram, ends, on_thread}
+use Rattle.dap_history.specs.Launching.{initialize_in}
 use Rattle.dap_history.specs.Breakpoints.{hold_once, Resolves, SetsOf, SetsIn, is_at}
-use Rattle.dap_history.specs.Running.{mode_of, body_of, resumes, enters, ConfiguresIn, ResumesIn, RetreatsIn, pause_in}
-use Rattle.dap_history.specs.Emission.{RepliesIn}
+use Rattle.dap_history.specs.Running.{mode_of, body_of, retreat_mode, resumes, first_mode, enters, ConfiguresIn, ResumesIn, RetreatsIn, pause_in}
+use Rattle.dap_history.specs.Emission.{threads_in, RepliesIn}
 use Rattle.dap_history.specs.GoingBack.{back_by}
 use Rattle.dap_history.specs.Stops.{IsStanding}
 use Rattle.dap_history.proofs.Questions.{effect_is, no_effect}
-use Rattle.dap_history.proofs.Silent.{resuming, due_first}
-use Rattle.dap_history.proofs.Ordered.{initialize_nothing, threads_nothing, backward}
+
+-- why position 0 is due, if it is
+abbrev pub due_first : History → Launched → Option Reason
+due_first past l = due l.program (plan past).breakpoints (plan past).counted_from (first_mode l) 0
+
+-- the reply to a resume where the program stands
+abbrev pub resuming : History → ResumeKind → ℕ → Launched → Reply
+resuming past resume_kind thread l =
+    on_thread thread (causing (body_of resume_kind)
+    (ordering (resumes past l (mode_of resume_kind (depth_at l.program (position past))))))
+
+initialize_nothing : (s : Situation) → (initialize_in s).effect ≡ nothing
+initialize_nothing Fresh = refl
+initialize_nothing _ = refl
+
+threads_nothing : (s : Situation) → (threads_in s).effect ≡ nothing
+threads_nothing Fresh = refl
+threads_nothing _ = refl
+
+-- the mode that a law spells is that of the table
+pub back_by_is : (kind : RetreatKind) (a : ThreadArguments)
+    → back_by (command.Retreat kind a) ≡ Some (retreat_mode kind)
+back_by_is retreat.StepBack a = refl
+back_by_is retreat.ReverseContinue a = refl
+
+pub backward : (kind : RetreatKind) → goes_back (retreat_mode kind) ≡ true
+backward retreat.StepBack = refl
+backward retreat.ReverseContinue = refl
 
 -- how a command asks the program to go on, if it does
 abbrev pub resume_kind_by : Command → Option ResumeKind
@@ -95,22 +125,13 @@ module _ (past : History) (reply : Reply) where
       → Shape past s (command.SetBreakpoints a) reply
   sets_in_shape Fresh a is = refuses _ is
   sets_in_shape Ready a is = refuses _ is
-  sets_in_shape Configuring a is = sets_launched Configuring a is
-  sets_in_shape Running a is = sets_launched Running a is
-  sets_in_shape Stopped a is = sets_launched Stopped a is
-  sets_in_shape Faulted a is = sets_launched Faulted a is
-  sets_in_shape Ended a is = sets_launched Ended a is
+  sets_in_shape s a is = sets_launched s a is
 
   configures_shape : (s : Situation) → ConfiguresIn s past reply → Shape past s command.ConfigurationDone reply
   configures_shape Configuring is =
       of_program past (launched past) refl (λ l. reply ≡ causing body.None (enters past l (due_first past l)))
       (Shape past Configuring command.ConfigurationDone reply) (λ l there says. begins l refl refl there says) is
-  configures_shape Fresh is = refuses _ is
-  configures_shape Ready is = refuses _ is
-  configures_shape Running is = refuses _ is
-  configures_shape Stopped is = refuses _ is
-  configures_shape Faulted is = refuses _ is
-  configures_shape Ended is = refuses _ is
+  configures_shape _ is = refuses _ is
 
   resumes_shape : (s : Situation) (asked : Command) (resume_kind : ResumeKind) (thread : ℕ)
       → resume_kind_by asked ≡ Some resume_kind → ResumesIn s past resume_kind thread reply → Shape past s asked reply
@@ -137,11 +158,7 @@ module _ (past : History) (reply : Reply) where
           → Shape past Faulted asked reply
       by_case (inl over) = is_over resume_kind by refl over
       by_case (inr other) = refuses _ other
-  resumes_shape Fresh asked resume_kind thread by is = refuses _ is
-  resumes_shape Ready asked resume_kind thread by is = refuses _ is
-  resumes_shape Configuring asked resume_kind thread by is = refuses _ is
-  resumes_shape Running asked resume_kind thread by is = refuses _ is
-  resumes_shape Ended asked resume_kind thread by is = refuses _ is
+  resumes_shape _ asked resume_kind thread by is = refuses _ is
 
   module _ (asked : Command) (m : Mode) (by : back_by asked ≡ Some m) (back : goes_back m ≡ true) where
     retreats_launched : (s : Situation) → IsStanding s → (thread : ℕ)
@@ -165,11 +182,7 @@ module _ (past : History) (reply : Reply) where
     retreats_shape : (s : Situation) (thread : ℕ) → RetreatsIn s past m thread reply → Shape past s asked reply
     retreats_shape Stopped thread is = retreats_launched Stopped tt thread is
     retreats_shape Faulted thread is = retreats_launched Faulted tt thread is
-    retreats_shape Fresh thread is = refuses _ is
-    retreats_shape Ready thread is = refuses _ is
-    retreats_shape Configuring thread is = refuses _ is
-    retreats_shape Running thread is = refuses _ is
-    retreats_shape Ended thread is = refuses _ is
+    retreats_shape _ thread is = refuses _ is
 
   stands_calm : (s : Situation) → IsStanding s → (a : ThreadArguments) (same : Bool)
       → reply ≡ (if same then answered body.None else refused refusal.UnknownThread)
@@ -188,21 +201,17 @@ module _ (past : History) (reply : Reply) where
       by_case (inr other) = refuses _ other
   pause_shape Stopped a is = stands_calm Stopped tt a (nat_eq a.thread_id 1) is
   pause_shape Faulted a is = stands_calm Faulted tt a (nat_eq a.thread_id 1) is
-  pause_shape Fresh a is = refuses _ is
-  pause_shape Ready a is = refuses _ is
-  pause_shape Configuring a is = refuses _ is
-  pause_shape Ended a is = refuses _ is
+  pause_shape _ a is = refuses _ is
 
   pub shaped : (s : Situation) (asked : Command) → RepliesIn s past asked reply → Shape past s asked reply
   shaped s (command.Initialize a) is = is_calm tt (effect_is reply _ is (initialize_nothing s))
-  shaped s (command.Launch a) is = refuses _ is
   shaped s (command.SetBreakpoints a) is = sets_in_shape s a is
   shaped s command.ConfigurationDone is = configures_shape s is
   shaped s command.Threads is = is_calm tt (effect_is reply _ is (threads_nothing s))
   shaped s (command.Resume k a) is = resumes_shape s (command.Resume k a) k a.thread_id refl is
-  shaped s (command.Retreat k a) is = retreats_shape (command.Retreat k a) _ refl (backward k) s a.thread_id is
+  shaped s (command.Retreat k a) is = retreats_shape (command.Retreat k a) _ (back_by_is k a)
+      (backward k) s a.thread_id is
   shaped s (command.Pause a) is = pause_shape s a is
   shaped s (command.Inspect q) is = is_calm tt (no_effect s past q reply is)
   shaped s command.Disconnect is = quits refl is
-  shaped s (command.Unsupported a) is = refuses _ is
-  shaped s (command.BadArguments a) is = refuses _ is
+  shaped s _ is = refuses _ is

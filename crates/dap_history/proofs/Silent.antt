@@ -1,43 +1,35 @@
 -- No reply reports a number or launches a program but that of a launch, and each Go of a reply is of the launched text.
-use Rattle.std.proofs.Common.{◌≡◌, ℕ, ◌+◌, List, [], ◌∷◌, ◌++◌, Bool, true, false, ◌||◌, Option, None, Some, Ok, Err, refl, sym, ◌∙◌, ap, subst, append-nil}
-use Rattle.std.specs.Prelude.{map, nat_eq, if◌then◌else◌, Result}
+use Rattle.std.proofs.Common.{◌≡◌, ◌+◌, List, [], ◌∷◌, ◌++◌, Bool, true, false, ◌||◌, Option, None, Some, Ok, Err, refl, sym, ◌∙◌, ap, subst, append-nil}
+use Rattle.std.specs.Prelude.{map, if◌then◌else◌, Result}
 use Rattle.std.specs.List.{filter_map}
-use Rattle.dap_history.proofs.Questions.{no_effect}
-use Rattle.dap_msg.specs.declared.question.Question.{Question}
 use Rattle.dap_msg.specs.declared.requests.resume.ResumeKind.{ResumeKind}
 use Rattle.dap_msg.specs.declared.command.Command.{Command}
 use Rattle.dap_msg.specs.declared.command.Command.TheVariants as command
-use Rattle.dap_msg.specs.declared.outgoing.Body.TheVariants as body
 use Rattle.dap_msg.specs.Commands.{name_of}
 use Rattle.dap_msg.specs.declared.command.CommandName.{CommandName}
-use Rattle.dap_msg.specs.declared.command.CommandName.TheVariants as name
-use Rattle.dap_msg.specs.declared.command.Supported.TheVariants as supported
 use Rattle.dap_msg.specs.declared.outgoing.Outgoing.TheVariants.{Answer, Event}
 use Rattle.dap_msg.specs.declared.outgoing.Body.{Body}
 use Rattle.dap_msg.specs.declared.outgoing.EventBody.{EventBody}
 use Rattle.dap_msg.specs.declared.outgoing.Refusal.{Refusal}
-use Rattle.dap_msg.specs.declared.outgoing.Refusal.TheVariants as refusal
-use Rattle.dap_msg.specs.declared.requests.set_breakpoints.SetBreakpointsArguments.{SetBreakpointsArguments}
 use Rattle.dbg_plan.specs.Breakpoints.{Breakpoint}
-use Rattle.dbg_plan.specs.Due.{due, depth_at}
-use Rattle.dbg_runner.specs.Plain.{Heading, Hold}
+use Rattle.dbg_runner.specs.Plain.{Heading, Hold, Quit}
 use Rattle.dbg_plan.specs.Logs.{Log, logs as position_logs}
 use Rattle.dbg_plan.specs.declared.mode.Mode.{Mode}
 use Rattle.dbg_plan.specs.declared.mode.Reason.{Reason}
 use Rattle.dap_history.specs.declared.situation.Situation.{Situation}
-use Rattle.dap_history.specs.declared.situation.Situation.TheVariants.{Fresh, Ready, Configuring, Running, Stopped, Faulted, Ended}
+use Rattle.dap_history.specs.declared.situation.Situation.TheVariants.{Fresh, Ready, Configuring, Running, Ended}
 use Rattle.dap_history.specs.Last.{last_such}
 use Rattle.dap_history.specs.History.{Launched, History, Effect}
 use Rattle.dap_history.specs.Considered.{is_start, starts_by}
 use Rattle.dap_history.specs.Readings.{go, launched, runs, is_back, is_held, plan, situation, position, output}
-use Rattle.dap_history.specs.Replies.{Reply, nothing, refused, causing, ordering, OfProgram, on_thread, stop_of, stops as stop_events}
-use Rattle.dap_history.specs.Launching.{initialize_in}
-use Rattle.dap_history.specs.Breakpoints.{effect_in, SetsOf, Sets, SetsIn, is_at}
-use Rattle.dap_history.specs.Running.{mode_of, body_of, resumes, first_mode, first_logs, enters, ConfiguresIn, ResumesIn, RetreatsIn, pause_in}
-use Rattle.dap_history.specs.Inspection.{InspectsIn}
-use Rattle.dap_history.specs.Emission.{threads_in, RepliesIn}
+use Rattle.dap_history.specs.Replies.{Reply, nothing, reporting, ordering, ends, stop_of, stops as stop_events}
+use Rattle.dap_history.specs.Breakpoints.{effect_in}
+use Rattle.dap_history.specs.Running.{resumes, first_logs, enters}
+use Rattle.dap_history.specs.Emission.{RepliesIn}
 use Rattle.dap_history.specs.Stops.{stop_of_event}
 use Rattle.dap_msg.specs.declared.outgoing.StopReason.{StopReason}
+use Rattle.dap_history.proofs.Shapes.{resume_kind_by, due_first, IsCalm, Shape, refuses, is_calm, sets, begins, resumes_by, is_over, retreats, interrupts, quits, shaped}
+use Rattle.dap_history.specs.GoingBack.{back_by}
 use Rattle.dap_history.proofs.Told.{numbers_in, texts_in, numbers_of_logs, stop_of_logs}
 
 -- the runs ordered are of the launched text
@@ -49,10 +41,6 @@ pub data GoesBy (past : History) : Option Heading → Type 0 where
 -- what position 0 logs
 abbrev pub first_at : History → Launched → List Log
 first_at past l = position_logs l.program (plan past).breakpoints (plan past).counted_from 0
-
--- why it is due, if it is
-abbrev pub due_first : History → Launched → Option Reason
-due_first past l = due l.program (plan past).breakpoints (plan past).counted_from (first_mode l) 0
 
 -- a reply stops the program at position 0 alone, in Configuring, where it is due
 pub data StopsBy (s : Situation) (past : History) : Option StopReason → Type 0 where
@@ -79,10 +67,6 @@ pub record IsSilent (starts : Bool) (s : Situation) (past : History) (effect : E
   pub stops : StopsBy s past (last_such stop_of_event effect.events)
   pub logs : LogsBy s past effect.events starts
 
-silent_if : {s : Situation} (past : History) (reply other : Reply) → IsSilent false s past other.effect → reply ≡ other
-    → IsSilent false s past reply.effect
-silent_if {s = s} past reply other silent is = subst (λ (r : Reply). IsSilent false s past r.effect) (sym is) silent
-
 nothing_silent : {s : Situation} (past : History) → IsSilent false s past nothing
 nothing_silent past =
     record {
@@ -95,42 +79,10 @@ nothing_silent past =
           refl;
     }
 
-thread_silent : {s : Situation} (past : History) (reply : Reply) (same : Bool) → IsSilent false s past reply.effect
-    → IsSilent false s past (if same then reply else refused refusal.UnknownThread).effect
-thread_silent past reply true silent = silent
-thread_silent past reply false silent = nothing_silent past
-
-hold_goes : (past : History) (held : Bool) → GoesBy past (last_such go (if held then [] else Hold (runs past) ∷ []))
-hold_goes past true = no_go
-hold_goes past false = no_go
-
-hold_runs : (past : History) (held : Bool) → NextRuns past (filter_map go (if held then [] else Hold (runs past) ∷ []))
-hold_runs past true = no_runs
-hold_runs past false = no_runs
-
--- ---- by command
-
-initialize_silent : (s : Situation) (past : History) → IsSilent false s past (initialize_in s).effect
-initialize_silent Fresh past = nothing_silent past
-initialize_silent Ready past = nothing_silent past
-initialize_silent Configuring past = nothing_silent past
-initialize_silent Running past = nothing_silent past
-initialize_silent Stopped past = nothing_silent past
-initialize_silent Faulted past = nothing_silent past
-initialize_silent Ended past = nothing_silent past
-
-threads_silent : (s : Situation) (past : History) → IsSilent false s past (threads_in s).effect
-threads_silent Fresh past = nothing_silent past
-threads_silent Ready past = nothing_silent past
-threads_silent Configuring past = nothing_silent past
-threads_silent Running past = nothing_silent past
-threads_silent Stopped past = nothing_silent past
-threads_silent Faulted past = nothing_silent past
-threads_silent Ended past = nothing_silent past
-
-effect_silent : {t : Situation} (s : Situation) (past : History) (bs : List Breakpoint)
-    → IsSilent false t past (effect_in s past bs)
-effect_silent Configuring past bs =
+hold_silent : {s : Situation} (past : History) (held : Bool)
+    → IsSilent false s past (ordering (if held then [] else Hold (runs past) ∷ []))
+hold_silent past true = nothing_silent past
+hold_silent past false =
     record {
       no_numbers = refl;
       no_launch = refl;
@@ -140,57 +92,21 @@ effect_silent Configuring past bs =
       logs = no_logs
           refl;
     }
-effect_silent Stopped past bs =
+
+resumes_silent : {s : Situation} (past : History) (l : Launched) (m : Mode) → launched past ≡ Some l
+    → IsSilent false s past (ordering (resumes past l m))
+resumes_silent past l m there =
     record {
       no_numbers = refl;
       no_launch = refl;
-      goes = no_go;
-      runs_are = no_runs;
-      stops = no_stop;
-      logs = no_logs
-          refl;
-    }
-effect_silent Faulted past bs =
-    record {
-      no_numbers = refl;
-      no_launch = refl;
-      goes = no_go;
-      runs_are = no_runs;
-      stops = no_stop;
-      logs = no_logs
-          refl;
-    }
-effect_silent Running past bs =
-    record {
-      no_numbers = refl;
-      no_launch = refl;
-      goes = hold_goes past (is_held past || is_back past);
-      runs_are =
-          hold_runs past (is_held past || is_back past);
+      goes = of_text _ l there refl refl;
+      runs_are = next_run _ refl;
       stops = no_stop;
       logs = no_logs refl;
     }
-effect_silent Ended past bs =
-    record {
-      no_numbers = refl;
-      no_launch = refl;
-      goes = no_go;
-      runs_are = no_runs;
-      stops = no_stop;
-      logs = no_logs
-          refl;
-    }
-effect_silent Fresh past bs =
-    record {
-      no_numbers = refl;
-      no_launch = refl;
-      goes = no_go;
-      runs_are = no_runs;
-      stops = no_stop;
-      logs = no_logs
-          refl;
-    }
-effect_silent Ready past bs =
+
+over_silent : {s : Situation} (past : History) → IsSilent false s past (reporting (ends 1))
+over_silent past =
     record {
       no_numbers = refl;
       no_launch = refl;
@@ -201,29 +117,43 @@ effect_silent Ready past bs =
           refl;
     }
 
-sets_of_silent : {s : Situation} (same : Bool) (past : History) (l : Launched) (a : SetBreakpointsArguments)
-    (reply : Reply) → SetsOf same past l a.breakpoints reply → IsSilent false s past reply.effect
-sets_of_silent true past l a reply is =
-    silent_if past reply _ (effect_silent (situation past) past is.breakpoints) is.reply_is
-sets_of_silent false past l a reply is = silent_if past reply _ (nothing_silent past) is
+quit_silent : {s : Situation} (past : History) → IsSilent false s past (ordering (Quit ∷ []))
+quit_silent past =
+    record {
+      no_numbers = refl;
+      no_launch = refl;
+      goes = no_go;
+      runs_are = no_runs;
+      stops = no_stop;
+      logs = no_logs
+          refl;
+    }
 
-sets_silent : {s : Situation} (l : Option Launched) (past : History) (a : SetBreakpointsArguments) (reply : Reply)
-    → launched past ≡ l → Sets past a reply → IsSilent false s past reply.effect
-sets_silent None past a reply is sets =
-    absurd (subst (λ o. OfProgram o (λ l. SetsOf (is_at a.path l.path) past l a.breakpoints reply)) is sets)
-sets_silent (Some l) past a reply is sets =
-    sets_of_silent (is_at a.path l.path) past l a reply
-    (subst (λ o. OfProgram o (λ l. SetsOf (is_at a.path l.path) past l a.breakpoints reply)) is sets)
-
-sets_in_silent : (s : Situation) (past : History) (a : SetBreakpointsArguments) (reply : Reply) → SetsIn s past a reply
-    → IsSilent false s past reply.effect
-sets_in_silent Fresh past a reply is = silent_if past reply _ (nothing_silent past) is
-sets_in_silent Ready past a reply is = silent_if past reply _ (nothing_silent past) is
-sets_in_silent Configuring past a reply is = sets_silent (launched past) past a reply refl is
-sets_in_silent Running past a reply is = sets_silent (launched past) past a reply refl is
-sets_in_silent Stopped past a reply is = sets_silent (launched past) past a reply refl is
-sets_in_silent Faulted past a reply is = sets_silent (launched past) past a reply refl is
-sets_in_silent Ended past a reply is = sets_silent (launched past) past a reply refl is
+-- breakpoints that are put in or wait report nothing, and a Hold is no run
+effect_silent : {t : Situation} (s : Situation) (past : History) (bs : List Breakpoint)
+    → IsSilent false t past (effect_in s past bs)
+effect_silent {t = t} Running past bs =
+    let held = hold_silent {s = t} past (is_held past || is_back past) in record {
+      no_numbers = refl;
+      no_launch = refl;
+      goes = held.goes;
+      runs_are = held.runs_are;
+      stops = no_stop;
+      logs = no_logs refl;
+    }
+effect_silent Ended past bs = nothing_silent past
+effect_silent Fresh past bs = nothing_silent past
+effect_silent Ready past bs = nothing_silent past
+effect_silent _ past bs =
+    record {
+      no_numbers = refl;
+      no_launch = refl;
+      goes = no_go;
+      runs_are = no_runs;
+      stops = no_stop;
+      logs = no_logs
+          refl;
+    }
 
 enters_silent : (past : History) (l : Launched) (why : Option Reason) → launched past ≡ Some l → due_first past l ≡ why
     → IsSilent true Configuring past (enters past l why)
@@ -249,164 +179,64 @@ enters_silent past l (Some r) is due_is =
       logs = logs_first l (stop_events (stop_of r)) refl is refl refl;
     }
 
+-- whether a command starts the program
+abbrev pub starting_command : Command → Bool
+starting_command asked = is_start (name_of asked)
+
+calm_not : (past : History) (s : Situation) (asked : Command) → IsCalm past s asked → starting_command asked ≡ false
+calm_not past s (command.Pause a) calm = refl
+calm_not past s (command.SetBreakpoints a) calm = refl
+calm_not past s (command.Initialize a) calm = refl
+calm_not past s command.Threads calm = refl
+calm_not past s (command.Inspect q) calm = refl
+calm_not past s _ calm = absurd calm
+
+resume_not : (asked : Command) (k : ResumeKind) → resume_kind_by asked ≡ Some k → starting_command asked ≡ false
+resume_not (command.Resume kind a) k by = refl
+resume_not _ k by = absurd cc
+
+retreat_not : (asked : Command) (m : Mode) → back_by asked ≡ Some m → starting_command asked ≡ false
+retreat_not (command.Retreat kind a) m by = refl
+retreat_not _ m by = absurd cc
+
 -- of a reply to `configurationDone` or to another command
 abbrev SilentReply : CommandName → Situation → History → Reply → Type 0
 SilentReply command s past reply = IsSilent (starts_by (Some (Answer 0 command reply.result))) s past reply.effect
 
-unstarting : (command : CommandName) (result : Result Body Refusal) → is_start command ≡ false
-    → starts_by (Some (Answer 0 command result)) ≡ false
-unstarting command (Ok b) is = is
-unstarting command (Err why) is = refl
+module _ (s : Situation) (past : History) (asked : Command) (reply : Reply) where
+  -- a reply to another command, by its effect
+  as_other : (effect : Effect) → starting_command asked ≡ false → IsSilent false s past effect → reply.effect ≡ effect
+      → SilentReply (name_of asked) s past reply
+  as_other effect other silent is =
+      subst (λ b. IsSilent b s past reply.effect) (sym (starts_not reply.result))
+      (subst (IsSilent false s past) (sym is) silent)
+    where
+      starts_not : (result : Result Body Refusal) → starts_by (Some (Answer 0 (name_of asked) result)) ≡ false
+      starts_not (Ok b) = other
+      starts_not (Err why) = refl
 
-as_other : {s : Situation} (command : CommandName) (past : History) (reply : Reply) → is_start command ≡ false
-    → IsSilent false s past reply.effect → SilentReply command s past reply
-as_other {s = s} command past reply other silent =
-    subst (λ b. IsSilent b s past reply.effect) (sym (unstarting command reply.result other)) silent
-
--- a refusal starts nothing
-as_refusal : {s : Situation} (command : CommandName) (past : History) (reply : Reply) (why : Refusal)
-    → reply ≡ refused why → SilentReply command s past reply
-as_refusal {s = s} command past reply why is = subst (SilentReply command s past) (sym is) (nothing_silent past)
-
-abbrev configuration_done : CommandName
-configuration_done = name.Supported supported.ConfigurationDone
-
-configures_silent : (l : Option Launched) (past : History) (reply : Reply) → launched past ≡ l
-    → OfProgram l (λ l. reply ≡ causing body.None (enters past l (due_first past l)))
-    → SilentReply configuration_done Configuring past reply
-configures_silent None past reply is says = absurd says
-configures_silent (Some l) past reply is says =
-    subst (SilentReply configuration_done Configuring past) (sym says) (enters_silent past l _ is refl)
-
-configures_in_silent : (s : Situation) (past : History) (reply : Reply) → ConfiguresIn s past reply
-    → SilentReply configuration_done s past reply
-configures_in_silent Fresh past reply is = as_refusal configuration_done past reply _ is
-configures_in_silent Ready past reply is = as_refusal configuration_done past reply _ is
-configures_in_silent Configuring past reply is = configures_silent (launched past) past reply refl is
-configures_in_silent Running past reply is = as_refusal configuration_done past reply _ is
-configures_in_silent Stopped past reply is = as_refusal configuration_done past reply _ is
-configures_in_silent Faulted past reply is = as_refusal configuration_done past reply _ is
-configures_in_silent Ended past reply is = as_refusal configuration_done past reply _ is
-
-abbrev pub resuming : History → ResumeKind → ℕ → Launched → Reply
-resuming past resume_kind thread l =
-    on_thread thread (causing (body_of resume_kind)
-    (ordering (resumes past l (mode_of resume_kind (depth_at l.program (position past))))))
-
-resumes_silent : {s : Situation} (l : Option Launched) (past : History) (resume_kind : ResumeKind) (thread : ℕ)
-    (reply : Reply) → launched past ≡ l → OfProgram l (λ l. reply ≡ resuming past resume_kind thread l)
-    → IsSilent false s past reply.effect
-resumes_silent None past resume_kind thread reply is says = absurd says
-resumes_silent (Some l) past resume_kind thread reply is says =
-    silent_if past reply _ (thread_silent past _ (nat_eq thread 1)
-    (record {
-      no_numbers = refl;
-      no_launch = refl;
-      goes = of_text _ l is refl refl;
-      runs_are = next_run _ refl;
-      stops = no_stop;
-      logs = no_logs refl;
-    })) says
-
-resumes_in_silent : (s : Situation) (past : History) (resume_kind : ResumeKind) (thread : ℕ) (reply : Reply)
-    → ResumesIn s past resume_kind thread reply → IsSilent false s past reply.effect
-resumes_in_silent Fresh past resume_kind thread reply is = silent_if past reply _ (nothing_silent past) is
-resumes_in_silent Ready past resume_kind thread reply is = silent_if past reply _ (nothing_silent past) is
-resumes_in_silent Configuring past resume_kind thread reply is = silent_if past reply _ (nothing_silent past) is
-resumes_in_silent Running past resume_kind thread reply is = silent_if past reply _ (nothing_silent past) is
-resumes_in_silent Stopped past resume_kind thread reply is =
-    resumes_silent (launched past) past resume_kind thread reply refl is
-resumes_in_silent Faulted past resume_kind thread reply is =
-    silent_if past reply _ (thread_silent past _ (nat_eq thread 1)
-    (record {
-      no_numbers = refl;
-      no_launch = refl;
-      goes = no_go;
-      runs_are = no_runs;
-      stops = no_stop;
-      logs = no_logs
-          refl;
-    })) is
-resumes_in_silent Ended past resume_kind thread reply is = silent_if past reply _ (nothing_silent past) is
-
-retreats_silent : {s : Situation} (l : Option Launched) (past : History) (m : Mode) (thread : ℕ) (reply : Reply)
-    → launched past ≡ l
-    → OfProgram l (λ l. reply ≡ on_thread thread (causing body.None (ordering (resumes past l m))))
-    → IsSilent false s past reply.effect
-retreats_silent None past m thread reply is says = absurd says
-retreats_silent (Some l) past m thread reply is says =
-    silent_if past reply _ (thread_silent past _ (nat_eq thread 1)
-    (record {
-      no_numbers = refl;
-      no_launch = refl;
-      goes = of_text _ l is refl refl;
-      runs_are = next_run _ refl;
-      stops = no_stop;
-      logs = no_logs refl;
-    })) says
-
-retreats_in_silent : (s : Situation) (past : History) (m : Mode) (thread : ℕ) (reply : Reply)
-    → RetreatsIn s past m thread reply → IsSilent false s past reply.effect
-retreats_in_silent Stopped past m thread reply is = retreats_silent (launched past) past m thread reply refl is
-retreats_in_silent Faulted past m thread reply is = retreats_silent (launched past) past m thread reply refl is
-retreats_in_silent Fresh past m thread reply is = silent_if past reply _ (nothing_silent past) is
-retreats_in_silent Ready past m thread reply is = silent_if past reply _ (nothing_silent past) is
-retreats_in_silent Configuring past m thread reply is = silent_if past reply _ (nothing_silent past) is
-retreats_in_silent Running past m thread reply is = silent_if past reply _ (nothing_silent past) is
-retreats_in_silent Ended past m thread reply is = silent_if past reply _ (nothing_silent past) is
-
-pause_silent : (s : Situation) (past : History) (thread : ℕ) → IsSilent false s past (pause_in s past thread).effect
-pause_silent Fresh past thread = nothing_silent past
-pause_silent Ready past thread = nothing_silent past
-pause_silent Configuring past thread = nothing_silent past
-pause_silent Running past thread =
-    thread_silent past _ (nat_eq thread 1)
-    (record {
-      no_numbers = refl;
-      no_launch = refl;
-      goes = hold_goes past (is_held past || is_back past);
-      runs_are =
-          hold_runs past (is_held past || is_back past);
-      stops = no_stop;
-      logs = no_logs refl;
-    })
-pause_silent Stopped past thread = thread_silent past _ (nat_eq thread 1) (nothing_silent past)
-pause_silent Faulted past thread = thread_silent past _ (nat_eq thread 1) (nothing_silent past)
-pause_silent Ended past thread = nothing_silent past
-
-inspects_in_silent : (s : Situation) (past : History) (question : Question) (reply : Reply)
-    → InspectsIn s past question reply → IsSilent false s past reply.effect
-inspects_in_silent s past question reply is =
-    subst (IsSilent false s past) (sym (no_effect s past question reply is)) (nothing_silent past)
+  by_shape : Shape past s asked reply → SilentReply (name_of asked) s past reply
+  by_shape (refuses why is) = subst (SilentReply (name_of asked) s past) (sym is) (nothing_silent past)
+  by_shape (is_calm calm is) = as_other _ (calm_not past s asked calm) (nothing_silent past) is
+  by_shape (sets a l asks there at_path resolves) =
+      as_other _ (ap starting_command asks) (effect_silent (situation past) past resolves.breakpoints)
+      (ap (λ (r : Reply). r.effect) resolves.reply_is)
+  by_shape (begins l asks here there is) =
+      subst (λ (c : Command). SilentReply (name_of c) s past reply) (sym asks)
+      (subst (λ s. SilentReply (name_of command.ConfigurationDone) s past reply) (sym here)
+      (subst (SilentReply (name_of command.ConfigurationDone) Configuring past) (sym is)
+      (enters_silent past l _ there refl)))
+  by_shape (resumes_by k l by here there is) =
+      as_other _ (resume_not asked k by) (resumes_silent past l _ there) (ap (λ (r : Reply). r.effect) is)
+  by_shape (is_over k by here is) =
+      as_other _ (resume_not asked k by) (over_silent past) (ap (λ (r : Reply). r.effect) is)
+  by_shape (retreats m l by back stands there is) =
+      as_other _ (retreat_not asked m by) (resumes_silent past l m there) (ap (λ (r : Reply). r.effect) is)
+  by_shape (interrupts a asks here is) =
+      as_other _ (ap starting_command asks) (hold_silent past (is_held past || is_back past)) (ap (λ
+      (r : Reply). r.effect) is)
+  by_shape (quits asks is) = as_other _ (ap starting_command asks) (quit_silent past) (ap (λ (r : Reply). r.effect) is)
 
 pub all_silent : (s : Situation) (past : History) (asked : Command) (reply : Reply) → RepliesIn s past asked reply
     → SilentReply (name_of asked) s past reply
-all_silent s past (command.Initialize a) reply is =
-    as_other (name_of (command.Initialize a)) past reply refl (silent_if past reply _ (initialize_silent s past) is)
-all_silent s past (command.Launch a) reply is = as_refusal (name_of (command.Launch a)) past reply _ is
-all_silent s past (command.SetBreakpoints a) reply is =
-    as_other (name_of (command.SetBreakpoints a)) past reply refl (sets_in_silent s past a reply is)
-all_silent s past command.ConfigurationDone reply is = configures_in_silent s past reply is
-all_silent s past command.Threads reply is =
-    as_other (name_of command.Threads) past reply refl (silent_if past reply _ (threads_silent s past) is)
-all_silent s past (command.Resume k a) reply is =
-    as_other (name_of (command.Resume k a)) past reply refl (resumes_in_silent s past _ a.thread_id reply is)
-all_silent s past (command.Retreat k a) reply is =
-    as_other (name_of (command.Retreat k a)) past reply refl (retreats_in_silent s past _ a.thread_id reply is)
-all_silent s past (command.Pause a) reply is =
-    as_other (name_of (command.Pause a)) past reply refl (silent_if past reply _ (pause_silent s past a.thread_id) is)
-all_silent s past (command.Inspect q) reply is =
-    as_other (name_of (command.Inspect q)) past reply refl (inspects_in_silent s past q reply is)
-all_silent s past command.Disconnect reply is =
-    as_other (name_of command.Disconnect) past reply refl
-    (silent_if past reply _ (record {
-      no_numbers = refl;
-      no_launch = refl;
-      goes = no_go;
-      runs_are = no_runs;
-      stops =
-          no_stop;
-      logs = no_logs refl;
-    }) is)
-all_silent s past (command.Unsupported a) reply is = as_refusal (name_of (command.Unsupported a)) past reply _ is
-all_silent s past (command.BadArguments a) reply is = as_refusal (name_of (command.BadArguments a)) past reply _ is
+all_silent s past asked reply is = by_shape s past asked reply (shaped past reply s asked is)

@@ -19,9 +19,9 @@ use Rattle.dap_msg.specs.declared.outgoing.StopReason.{StopReason}
 use Rattle.pl0_meaning.specs.Runs.{at}
 use Rattle.dbg_runner.specs.Plain.{PlainOrder, Go, Hold, Quit}
 use Rattle.dap_history.specs.declared.situation.Situation.{Situation}
-use Rattle.dap_history.specs.declared.situation.Situation.TheVariants.{Fresh, Ready, Configuring, Running, Stopped, Faulted, Ended}
+use Rattle.dap_history.specs.declared.situation.Situation.TheVariants.{Stopped, Faulted}
 use Rattle.dap_history.specs.Last.{or_else, last_such}
-use Rattle.dap_history.specs.History.{Launched, Item, Content, Loaded, Accepted, Fault, InputEnd, ReadFailure, MemoryFailure, Step, History, with_answer, messages}
+use Rattle.dap_history.specs.History.{Launched, Item, Content, Loaded, Accepted, Step, History, with_answer, messages}
 use Rattle.dap_history.specs.Readings.{situation, position, launched, end_of, command_mark, answer_mark, event_mark, message_mark, order_mark, step_mark}
 use Rattle.dap_history.specs.Replies.{Reply, OfProgram, refused}
 use Rattle.dap_history.specs.Inspection.{RepliesAt, asked_of, Inspects, InspectsIn}
@@ -56,14 +56,9 @@ IsAnswer (Some (Answer seq command result)) = Unit {0}
 IsAnswer (Some (Event e)) = ⊥
 
 pub answers_only : (past : History) (item : Item) (step : Step) → Causes past item step → IsAnswer step.answer
-answers_only past (Content None) step is = subst IsAnswer (sym is.answer_is) tt
 answers_only past (Content (Some request)) step is = subst IsAnswer (sym is.2.answer_is) tt
 answers_only past (Loaded launch file) step is = subst IsAnswer (sym is.2.answer_is) tt
-answers_only past (Accepted r) step is = subst IsAnswer (sym is.answer_is) tt
-answers_only past (Fault k) step is = subst IsAnswer (sym is.answer_is) tt
-answers_only past InputEnd step is = subst IsAnswer (sym is.answer_is) tt
-answers_only past ReadFailure step is = subst IsAnswer (sym is.answer_is) tt
-answers_only past MemoryFailure step is = subst IsAnswer (sym is.answer_is) tt
+answers_only past _ step is = subst IsAnswer (sym is.answer_is) tt
 
 -- ---- a step that leads to where the program stands reports a stop
 
@@ -152,13 +147,8 @@ Stood past = IsStanding (situation past) → (m : ℕ) × StoppedLastAt past m �
 -- no report is accepted where the program stands
 moves_nothing : (Q : Incoming → Type 0) (past : History) (item : Item) → IsTaken Q past item
     → IsStanding (situation past) → end_of item ≡ None
-moves_nothing Q past (Content request) taken is = refl
-moves_nothing Q past (Loaded launch file) taken is = refl
 moves_nothing Q past (Accepted r) taken is = absurd (subst IsStanding taken.0.running is)
-moves_nothing Q past (Fault k) taken is = refl
-moves_nothing Q past InputEnd taken is = refl
-moves_nothing Q past ReadFailure taken is = refl
-moves_nothing Q past MemoryFailure taken is = refl
+moves_nothing Q past _ taken is = refl
 
 stops_here : (past : History) (step : Step) (r : StopReason) → stop_in step ≡ Some r → Stood (past ++ step ∷ [])
 stops_here past step r is standing = (
@@ -241,11 +231,7 @@ standing_of : (s : Situation) (past : History) (q : Question) (reply : Reply) (b
     → reply.result ≡ Ok b → IsStanding s
 standing_of Stopped past q reply b is body = tt
 standing_of Faulted past q reply b is body = tt
-standing_of Fresh past q reply b is body = absurd (no_body reply _ b is body)
-standing_of Ready past q reply b is body = absurd (no_body reply _ b is body)
-standing_of Configuring past q reply b is body = absurd (no_body reply _ b is body)
-standing_of Running past q reply b is body = absurd (no_body reply _ b is body)
-standing_of Ended past q reply b is body = absurd (no_body reply _ b is body)
+standing_of _ past q reply b is body = absurd (no_body reply _ b is body)
 
 -- the program that is inspected, shown where it stopped last
 shown : (before : History) (request : Request) (question : Question) (step : Step) (reply : Reply) (l : Option Launched)

@@ -1,7 +1,6 @@
 -- The program is started once, in Configuring.
 use Rattle.std.proofs.Common.{◌≡◌, ◌⊎◌, inl, inr, ℕ, [], ◌∷◌, ◌++◌, Bool, true, false, Option, None, Some, Result, Ok, Err, refl, sym, ◌∙◌, ap, subst}
 use Rattle.std.specs.Prelude.{map, if◌then◌else◌, option_map}
-use Rattle.dap_msg.specs.Questions.{kind_of}
 use Rattle.dap_msg.specs.Commands.{name_of}
 use Rattle.dap_msg.specs.declared.command.Command.{Command}
 use Rattle.dap_msg.specs.declared.command.Command.TheVariants as command
@@ -14,9 +13,9 @@ use Rattle.dap_msg.specs.declared.outgoing.Refusal.{Refusal}
 use Rattle.dap_msg.specs.declared.outgoing.Outgoing.TheVariants.{Answer, Event}
 use Rattle.dbg_plan.specs.declared.mode.Reason.{Reason}
 use Rattle.dap_history.specs.declared.situation.Situation.{Situation}
-use Rattle.dap_history.specs.declared.situation.Situation.TheVariants.{Fresh, Ready, Configuring, Running, Stopped, Faulted, Ended}
+use Rattle.dap_history.specs.declared.situation.Situation.TheVariants.{Fresh, Ready, Configuring, Running, Stopped}
 use Rattle.dap_history.specs.Last.{or_else, last_such}
-use Rattle.dap_history.specs.History.{Launched, Item, Content, Loaded, Accepted, Fault, InputEnd, ReadFailure, MemoryFailure, Step, History, with_answer}
+use Rattle.dap_history.specs.History.{Launched, Item, Content, Loaded, Accepted, Step, History, with_answer}
 use Rattle.dbg_plan.specs.Logs.{logs as position_logs}
 use Rattle.dap_history.specs.Readings.{situation, launched, plan, answer_mark, message_mark, order_mark, step_mark}
 use Rattle.dap_history.specs.Replies.{Reply, OfProgram, stops, stop_of}
@@ -28,7 +27,7 @@ use Rattle.dap_history.proofs.Readings.{situation-snoc}
 use Rattle.dap_history.proofs.Along.{IsTaken}
 use Rattle.dap_history.proofs.Early.{IsEarlyMark, unanswered_late, answered_late, result_late, early_reply}
 use Rattle.dap_history.proofs.Told.{mark_of_logs, stop_marks}
-use Rattle.dap_history.proofs.Silent.{due_first}
+use Rattle.dap_history.proofs.Shapes.{due_first}
 use Rattle.dap_history.proofs.Standing.{MarkIs, mark_unwrap}
 use Rattle.dap_history.proofs.Passing.{IsConfiguring, IsLoaded, loaded_there, mark_of_effect}
 use Rattle.dap_history.proofs.Progress.{decided}
@@ -62,14 +61,10 @@ IsYoung Configuring = Unit {0}
 IsYoung _ = ⊥
 
 young_mark : (o : Option Situation) → MarkIs IsYoung o → IsEarlyMark o ⊎ MarkIs IsConfiguring o
-young_mark None is = absurd is
 young_mark (Some Fresh) is = inl tt
 young_mark (Some Ready) is = inl tt
 young_mark (Some Configuring) is = inr tt
-young_mark (Some Running) is = absurd is
-young_mark (Some Stopped) is = absurd is
-young_mark (Some Faulted) is = absurd is
-young_mark (Some Ended) is = absurd is
+young_mark _ is = absurd is
 
 early_there : (past : History) (item : Item) (step : Step) → Causes past item step → IsEarlyMark (step_mark step)
     → IsYoung (situation past)
@@ -81,10 +76,7 @@ early_there past (Content (Some request)) step is mark =
 early_there past (Loaded launch file) step is mark =
     absurd (answered_late _ _ is.0 step is.2 (result_late (name.Supported supported.Launch) (λ x. x) is.0.result) mark)
 early_there past (Accepted r) step is mark = absurd (unanswered_late step is.answer_is mark)
-early_there past (Fault k) step is mark = absurd (unanswered_late step is.answer_is mark)
-early_there past InputEnd step is mark = absurd (unanswered_late step is.answer_is mark)
-early_there past ReadFailure step is mark = absurd (unanswered_late step is.answer_is mark)
-early_there past MemoryFailure step is mark = absurd (unanswered_late step is.answer_is mark)
+early_there past _ step is mark = absurd (unanswered_late step is.answer_is mark)
 
 loaded_ready : (Q : Incoming → Type 0) (past : History) (item : Item) → IsLoaded item → IsTaken Q past item
     → IsYoung (situation past)
@@ -147,17 +139,7 @@ enters_so (Some l) past reply is says = (refl, (l, is, ap (λ (r : Reply). r.eff
 configures_so : (s : Situation) (past : History) (reply : Reply) → ConfiguresIn s past reply
     → starts_by (Some (Answer 0 (name.Supported supported.ConfigurationDone) reply.result)) ≡ true → Starts s past reply
 configures_so Configuring past reply is starts = enters_so (launched past) past reply refl is
-configures_so Fresh past reply is starts =
-    refused_not (name.Supported supported.ConfigurationDone) reply _ (ap (λ (r : Reply). r.result) is) starts
-configures_so Ready past reply is starts =
-    refused_not (name.Supported supported.ConfigurationDone) reply _ (ap (λ (r : Reply). r.result) is) starts
-configures_so Running past reply is starts =
-    refused_not (name.Supported supported.ConfigurationDone) reply _ (ap (λ (r : Reply). r.result) is) starts
-configures_so Stopped past reply is starts =
-    refused_not (name.Supported supported.ConfigurationDone) reply _ (ap (λ (r : Reply). r.result) is) starts
-configures_so Faulted past reply is starts =
-    refused_not (name.Supported supported.ConfigurationDone) reply _ (ap (λ (r : Reply). r.result) is) starts
-configures_so Ended past reply is starts =
+configures_so _ past reply is starts =
     refused_not (name.Supported supported.ConfigurationDone) reply _ (ap (λ (r : Reply). r.result) is) starts
 
 starts_so : (s : Situation) (past : History) (asked : Command) (reply : Reply) → RepliesIn s past asked reply
@@ -165,22 +147,7 @@ starts_so : (s : Situation) (past : History) (asked : Command) (reply : Reply) �
 starts_so s past command.ConfigurationDone reply is starts = configures_so s past reply is starts
 starts_so s past (command.BadArguments k) reply is starts =
     refused_not (name.Supported k) reply _ (ap (λ (r : Reply). r.result) is) starts
-starts_so s past (command.Unsupported text) reply is starts = never (name.Unsupported text) reply.result refl starts
-starts_so s past (command.Initialize a) reply is starts =
-    never (name.Supported supported.Initialize) reply.result refl starts
-starts_so s past (command.Launch a) reply is starts = never (name.Supported supported.Launch) reply.result refl starts
-starts_so s past (command.SetBreakpoints a) reply is starts =
-    never (name.Supported supported.SetBreakpoints) reply.result refl starts
-starts_so s past command.Threads reply is starts = never (name.Supported supported.Threads) reply.result refl starts
-starts_so s past (command.Resume k a) reply is starts =
-    never (name.Supported (supported.Resume k)) reply.result refl starts
-starts_so s past (command.Retreat k a) reply is starts =
-    never (name.Supported (supported.Retreat k)) reply.result refl starts
-starts_so s past (command.Pause a) reply is starts = never (name.Supported supported.Pause) reply.result refl starts
-starts_so s past (command.Inspect q) reply is starts =
-    never (name.Supported (supported.Inspect (kind_of q))) reply.result refl starts
-starts_so s past command.Disconnect reply is starts =
-    never (name.Supported supported.Disconnect) reply.result refl starts
+starts_so s past asked reply is starts = never (name_of asked) reply.result refl starts
 
 -- an answer leads nowhere where what follows it does
 mark_through : (orders events answer : Option Situation) (s : Situation) → or_else orders events ≡ Some s
@@ -237,10 +204,7 @@ whether_starts past (Loaded launch file) step is =
     subst (λ a. StartsBy past step (starts_by a)) (sym is.2.answer_is)
     (subst (StartsBy past step) (sym (loaded_not is.0.result)) starts_not)
 whether_starts past (Accepted r) step is = unanswered past step is.answer_is
-whether_starts past (Fault k) step is = unanswered past step is.answer_is
-whether_starts past InputEnd step is = unanswered past step is.answer_is
-whether_starts past ReadFailure step is = unanswered past step is.answer_is
-whether_starts past MemoryFailure step is = unanswered past step is.answer_is
+whether_starts past _ step is = unanswered past step is.answer_is
 
 -- ---- along a history
 

@@ -5,7 +5,7 @@ use Rattle.pl0_meaning.specs.Laws.{WrittenJoins}
 use Rattle.dbg_runner.specs.Plain.{PlainReport, Heading}
 use Rattle.dap_history.specs.Plans.{Plan}
 use Rattle.dap_history.specs.Last.{last_such}
-use Rattle.dap_history.specs.History.{Launched, Item, Content, Loaded, Accepted, Fault, InputEnd, ReadFailure, MemoryFailure, Step, History, Effect}
+use Rattle.dap_history.specs.History.{Launched, Item, Content, Loaded, Accepted, Step, History, Effect}
 use Rattle.dap_history.specs.Readings.{go, situation, position, plan, launched, end_of}
 use Rattle.dap_history.specs.Reports.{Accepts, report_effect}
 use Rattle.dap_history.specs.Emission.{Causes}
@@ -56,8 +56,6 @@ module _ (one : OneProgram) (joins : WrittenJoins) where
 
   pub of_launched : (past : History) (item : Item) (step : Step) → IsTaken IsLawfulEvent past item
       → Causes past item step → Ran one joins past → (run : Heading) → run_in step ≡ Some run → OfLaunched past run
-  of_launched past (Content None) step taken is ran run run_is =
-      let e = sym (run_of_effect step _ is.effect_is) ∙ run_is in absurd cc
   of_launched past (Content (Some request)) step taken is ran run run_is =
       by_reply past (last_such go is.0.effect.orders) (all_silent (situation past) past request.body is.0 is.1).goes run
       (sym (run_of_effect step _ is.2.effect_is) ∙ run_is)
@@ -69,13 +67,7 @@ module _ (one : OneProgram) (joins : WrittenJoins) where
       (as_report r.text r.end (last_such go (report_effect past r r.outcome).orders) (report_goes past r r.outcome) run
       (sym (run_of_effect step _ is.effect_is) ∙ run_is))
       (launched past) refl
-  of_launched past (Fault k) step taken is ran run run_is =
-      let e = sym (run_of_effect step _ is.effect_is) ∙ run_is in absurd cc
-  of_launched past InputEnd step taken is ran run run_is =
-      let e = sym (run_of_effect step _ is.effect_is) ∙ run_is in absurd cc
-  of_launched past ReadFailure step taken is ran run run_is =
-      let e = sym (run_of_effect step _ is.effect_is) ∙ run_is in absurd cc
-  of_launched past MemoryFailure step taken is ran run run_is =
+  of_launched past _ step taken is ran run run_is =
       let e = sym (run_of_effect step _ is.effect_is) ∙ run_is in absurd cc
 
   pub each_run_starts : EachRunStartsThere

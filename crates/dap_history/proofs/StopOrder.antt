@@ -15,7 +15,7 @@ use Rattle.dbg_plan.specs.Breakpoints.{Breakpoint}
 use Rattle.dbg_plan.specs.Logs.{Log}
 use Rattle.dbg_runner.specs.Plain.{PlainReport}
 use Rattle.dap_history.specs.declared.launch.Launch.{Launch}
-use Rattle.dap_history.specs.History.{Item, Content, Loaded, Accepted, Fault, InputEnd, ReadFailure, MemoryFailure, Step, History, Effect, with_answer, messages, messages_of}
+use Rattle.dap_history.specs.History.{Item, Content, Loaded, Accepted, Step, History, Effect, with_answer, messages, messages_of}
 use Rattle.dap_history.specs.Readings.{situation, output}
 use Rattle.dap_history.specs.Replies.{Reply, told_logs}
 use Rattle.dap_history.specs.Launching.{Launches}
@@ -92,7 +92,6 @@ module _ (B : Type 0) (P : Outgoing → Type 0) (f : Outgoing → Option B) wher
 
     pub step_quiet : (past : History) (item : Item) (step : Step) → IsTaken IsLawfulEvent past item
         → Causes past item step → Quiet Outgoing B P f (messages step)
-    step_quiet past (Content None) step taken is = unanswered_quiet step _ is tt
     step_quiet past (Content (Some request)) step taken is =
         let silent = all_silent (situation past) past request.body is.0 is.1 in
         answered_quiet no_answer _ _ _ step is.0.effect is.2.answer_is is.2.effect_is
@@ -104,10 +103,7 @@ module _ (B : Type 0) (P : Outgoing → Type 0) (f : Outgoing → Option B) wher
         unanswered_quiet step _ is
         (subst QuietEvents (sym (report_events past r r.outcome (nothing_told taken.1.program r taken.1.lawful)))
         (of_report past r))
-    step_quiet past (Fault k) step taken is = unanswered_quiet step _ is tt
-    step_quiet past InputEnd step taken is = unanswered_quiet step _ is tt
-    step_quiet past ReadFailure step taken is = unanswered_quiet step _ is tt
-    step_quiet past MemoryFailure step taken is = unanswered_quiet step _ is tt
+    step_quiet past _ step taken is = unanswered_quiet step _ is tt
 
 -- ---- no number after a stop or a log, no log after a stop
 

@@ -16,7 +16,7 @@ use Rattle.dbg_runner.specs.declared.outcome.SliceOutcome.TheVariants as slice
 use Rattle.dap_history.specs.declared.launch.Launch.{Launch}
 use Rattle.dap_history.specs.declared.situation.Situation.TheVariants.{Ready}
 use Rattle.dap_history.specs.Last.{or_else, last_such}
-use Rattle.dap_history.specs.History.{Launched, Item, Content, Loaded, Accepted, Fault, InputEnd, ReadFailure, MemoryFailure, Step, History, Effect}
+use Rattle.dap_history.specs.History.{Launched, Item, Content, Loaded, Accepted, Step, History, Effect}
 use Rattle.dap_history.specs.Readings.{go, situation, position, launched, last_run, waiting_pause, end_of, order_mark, step_mark}
 use Rattle.dap_history.specs.Replies.{Reply, stops, ends, stop_of, exception_of}
 use Rattle.dap_history.specs.Launching.{Launches}
@@ -27,6 +27,7 @@ use Rattle.dap_history.specs.Stops.{stop_of_event, stop_in, NoneDueUpTo, NoneDue
 use Rattle.dap_history.proofs.Readings.{situation-snoc, position-snoc, launched-snoc, last_run-snoc}
 use Rattle.dap_history.proofs.Along.{IsTaken, IsKept, IsLawfulEvent, lawful_events, along}
 use Rattle.dap_history.proofs.Each.{WasTaken, EachTaken, each_kept, each_first}
+use Rattle.dap_history.proofs.Told.{reason_told, fault_told}
 use Rattle.dap_history.proofs.Silent.{StopsBy, no_stop, at_first, all_silent}
 use Rattle.dap_history.proofs.Outputs.{outputs_stop, outputs_stop_not}
 use Rattle.dap_history.proofs.Standing.{MarkIs, mark_unwrap, answers_only}
@@ -103,15 +104,7 @@ module _ (one : OneProgram) (joins : WrittenJoins) where
           still one joins past r taken.0 taken.1 ran l is (stays_end taken.1.program past r went nowhere)
   goes_on past (Content request) step item_is taken causes ran running none l is run run_is n n_is =
       subst (λ m. (run.start ≤ m) × NoneDueUpTo l run m) (sym n_is) (ran.running running l is run run_is)
-  goes_on past (Loaded launch file) step item_is taken causes ran running none l is run run_is n n_is =
-      subst (λ m. (run.start ≤ m) × NoneDueUpTo l run m) (sym n_is) (ran.running running l is run run_is)
-  goes_on past (Fault k) step item_is taken causes ran running none l is run run_is n n_is =
-      subst (λ m. (run.start ≤ m) × NoneDueUpTo l run m) (sym n_is) (ran.running running l is run run_is)
-  goes_on past InputEnd step item_is taken causes ran running none l is run run_is n n_is =
-      subst (λ m. (run.start ≤ m) × NoneDueUpTo l run m) (sym n_is) (ran.running running l is run run_is)
-  goes_on past ReadFailure step item_is taken causes ran running none l is run run_is n n_is =
-      subst (λ m. (run.start ≤ m) × NoneDueUpTo l run m) (sym n_is) (ran.running running l is run run_is)
-  goes_on past MemoryFailure step item_is taken causes ran running none l is run run_is n n_is =
+  goes_on past _ step item_is taken causes ran running none l is run run_is n n_is =
       subst (λ m. (run.start ≤ m) × NoneDueUpTo l run m) (sym n_is) (ran.running running l is run run_is)
 
   running_more : (past : History) (step : Step) → IsTaken IsLawfulEvent past step.item → Causes past step.item step
@@ -175,11 +168,7 @@ module _ (one : OneProgram) (joins : WrittenJoins) where
           stays_end taken.1.program past r went (sym (mark_of (report_effect past r r.outcome) step causes) ∙ none)
           ∙ ap (λ (h : Heading). h.start) taken.0.expected ∙ was
   stays_on past (Content request) step taken causes ran none run run_is back was = was
-  stays_on past (Loaded launch file) step taken causes ran none run run_is back was = was
-  stays_on past (Fault k) step taken causes ran none run run_is back was = was
-  stays_on past InputEnd step taken causes ran none run run_is back was = was
-  stays_on past ReadFailure step taken causes ran none run run_is back was = was
-  stays_on past MemoryFailure step taken causes ran none run run_is back was = was
+  stays_on past _ step taken causes ran none run run_is back was = was
 
   back_more : (past : History) (step : Step) → IsTaken IsLawfulEvent past step.item → Causes past step.item step
       → Ran one joins past → IsRunning (situation (past ++ step ∷ []))
@@ -286,7 +275,7 @@ module _ (one : OneProgram) (joins : WrittenJoins) where
         (report_program one joins past r lawful l accepts (ran.so_far.progress (Some l) is))) ∙ fails in
         subst (λ s. IsRunsStop l run s r.end) same (
           fault,
-          refl,
+          fault_told fault,
           fails_there,
           begun_before one joins past r accepts lawful ran l is went,
           none_up_to one joins past
@@ -312,7 +301,7 @@ module _ (one : OneProgram) (joins : WrittenJoins) where
         ∙ ap (λ (p : Block). goal_of p r.plan r.mode r.start)
         (sym (report_program one joins past r lawful l accepts (ran.so_far.progress (Some l) is)))
         ∙ comes in
-        (record { position = r.end; reason = why }, goal, refl, refl)
+        (record { position = r.end; reason = why }, goal, refl, reason_told why)
 
     stops_back : goes_back r.mode ≡ true → (e : SliceOutcome) → GoesBackBy lawful.program r e → (s : StopReason)
         → last_such stop_of_event (report_effect past r e).events ≡ Some s → IsRetreatsStop l run s r.end
@@ -353,8 +342,19 @@ module _ (one : OneProgram) (joins : WrittenJoins) where
   reply_stops past None no_stop ran s is = absurd cc
   reply_stops past (Some other) (at_first l r configuring launch due_is) ran s is =
       let same : stop_of r ≡ s = cc in
-      let before = ran.configuring (subst IsConfiguring (sym configuring) tt) in
-      (l, launch, subst (λ o. IsRightStop l past o s (position past)) (sym before.0) (before.1, (r, sym same, due_is)))
+      let before = ran.configuring (subst IsConfiguring (sym configuring) tt) in (
+        l,
+        launch,
+        subst (λ o. IsRightStop l past o s (position past)) (sym before.0) (
+          before.1,
+          (
+            r,
+            sym same
+                ∙ reason_told r,
+            due_is,
+          ),
+        ),
+      )
 
   launch_stops_not : (launch : Launch) (file : Option (List ℕ)) (reply : Reply) → Launches launch.arguments file reply
       → last_such stop_of_event reply.effect.events ≡ None
@@ -371,8 +371,6 @@ module _ (one : OneProgram) (joins : WrittenJoins) where
   step_stops : (past : History) (item : Item) (step : Step) → IsTaken IsLawfulEvent past item → Causes past item step
       → Ran one joins past → (s : StopReason) → stop_in step ≡ Some s
       → RightStop past s (unwrap_or (end_of item) (position past))
-  step_stops past (Content None) step taken is ran s stop_is =
-      let e = sym (stop_of_effect step _ is.effect_is) ∙ stop_is in absurd cc
   step_stops past (Content (Some request)) step taken is ran s stop_is =
       reply_stops past (last_such stop_of_event is.0.effect.events)
       (all_silent (situation past) past request.body is.0 is.1).stops ran s
@@ -383,13 +381,7 @@ module _ (one : OneProgram) (joins : WrittenJoins) where
   step_stops past (Accepted r) step taken is ran s stop_is =
       report_stops past r taken.0 taken.1 ran s (sym (stop_of_effect step _ is.effect_is) ∙ stop_is) (launched past)
       refl
-  step_stops past (Fault k) step taken is ran s stop_is =
-      let e = sym (stop_of_effect step _ is.effect_is) ∙ stop_is in absurd cc
-  step_stops past InputEnd step taken is ran s stop_is =
-      let e = sym (stop_of_effect step _ is.effect_is) ∙ stop_is in absurd cc
-  step_stops past ReadFailure step taken is ran s stop_is =
-      let e = sym (stop_of_effect step _ is.effect_is) ∙ stop_is in absurd cc
-  step_stops past MemoryFailure step taken is ran s stop_is =
+  step_stops past _ step taken is ran s stop_is =
       let e = sym (stop_of_effect step _ is.effect_is) ∙ stop_is in absurd cc
 
   pub each_stop_right : EachStopIsRight

@@ -1,9 +1,11 @@
 -- What a report tells after its numbers and logs.
-use Rattle.std.proofs.Common.{◌≡◌, List, [], ◌∷◌, ◌++◌, Bool, true, false, refl, sym, subst, append-nil}
+use Rattle.std.proofs.Common.{◌≡◌, List, [], ◌∷◌, ◌++◌, Bool, true, false, refl, sym, ap, subst, append-nil}
 use Rattle.std.specs.Prelude.{map, ℤ, All}
 use Rattle.std.proofs.lemmas.List.Elements.{All-nil, All-cons, All-append}
 use Rattle.dap_msg.specs.declared.outgoing.EventBody.{EventBody}
 use Rattle.dap_msg.specs.declared.outgoing.EventBody.TheVariants as event
+use Rattle.dap_msg.specs.declared.outgoing.StopReason.{StopReason}
+use Rattle.dap_msg.specs.declared.outgoing.StopReason.TheVariants as stop
 use Rattle.dbg_plan.specs.Breakpoints.{Breakpoint}
 use Rattle.dbg_plan.specs.Logs.{Log}
 use Rattle.dbg_runner.specs.declared.outcome.SliceOutcome.{SliceOutcome}
@@ -17,6 +19,7 @@ use Rattle.dap_history.specs.Emission.{Causes}
 use Rattle.dap_history.specs.Stops.{IsOutput, tells_held, tells, EachReportIsTold}
 use Rattle.dap_history.proofs.Along.{any_events, along}
 use Rattle.dap_history.proofs.Each.{WasTaken, EachTaken, each_kept, each_first}
+use Rattle.dap_history.proofs.Told.{reason_told, fault_told}
 use Rattle.dap_history.proofs.Outputs.{told_numbers}
 use Rattle.dap_history.proofs.GoingBack.{Anything, anything_kept}
 
@@ -40,14 +43,22 @@ EndsIn events last = (front : List EventBody) × All IsOutput front × (events �
 report_tells : (past : History) (r : PlainReport) (e : SliceOutcome)
     → EndsIn (report_effect past r e).events (tells past e)
 report_tells past r slice.More = (outputs past r, outputs_output past r, sym (append-nil (outputs past r)))
-report_tells past r (slice.Due reason) = (outputs past r, outputs_output past r, refl)
+report_tells past r (slice.Due why) = (
+  outputs past r,
+  outputs_output past r,
+  ap (λ (s : StopReason). outputs past r ++ event.Stopped s ∷ []) (reason_told why),
+)
 report_tells past r slice.Held = by_pause (waiting_pause past)
   where
     by_pause : (pauses : Bool) → EndsIn (held past r pauses).events (tells_held pauses)
     by_pause true = (outputs past r, outputs_output past r, refl)
     by_pause false = (outputs past r, outputs_output past r, sym (append-nil (outputs past r)))
 report_tells past r slice.Done = (outputs past r, outputs_output past r, refl)
-report_tells past r (slice.Fault fault) = (outputs past r, outputs_output past r, refl)
+report_tells past r (slice.Fault fault) = (
+  outputs past r,
+  outputs_output past r,
+  ap (λ x. outputs past r ++ event.Stopped (stop.Exception x) ∷ []) (fault_told fault),
+)
 report_tells past r slice.NoMemory = ([], All-nil IsOutput, refl)
 
 pub each_report_told : EachReportIsTold

@@ -12,9 +12,11 @@ use Rattle.dbg_plan.specs.declared.mode.Reason.TheVariants as reason
 use Rattle.dap_history.specs.declared.situation.Situation.TheVariants.{Stopped}
 use Rattle.dap_history.specs.Last.{last_such}
 use Rattle.dap_history.specs.Readings.{message_mark, output}
-use Rattle.dap_history.specs.Replies.{stop_of, text_of_log, told_logs}
+use Rattle.pl0_meaning.specs.declared.RunFault.{RunFault}
+use Rattle.pl0_meaning.specs.declared.RunFault.TheVariants as run_fault
+use Rattle.dap_history.specs.Replies.{stop_of, exception_of, text_of_log, told_logs}
 use Rattle.dap_history.specs.Laws.{log_of}
-use Rattle.dap_history.specs.Stops.{stop_of_event}
+use Rattle.dap_history.specs.Stops.{told_reason, told_fault, stop_of_event}
 use Rattle.dap_history.proofs.Readings.{or_else-none}
 
 -- the numbers, and the texts of the logs, that events report
@@ -73,3 +75,16 @@ pub stop_marks : (r : Reason) → message_mark (Event (event.Stopped (stop_of r)
 stop_marks reason.Breakpoint = refl
 stop_marks reason.Entry = refl
 stop_marks reason.Step = refl
+
+-- what the laws spell is what is told
+
+pub reason_told : (r : Reason) → stop_of r ≡ told_reason r
+reason_told reason.Breakpoint = refl
+reason_told reason.Entry = refl
+reason_told reason.Step = refl
+
+pub fault_told : (f : RunFault) → exception_of f ≡ told_fault f
+fault_told run_fault.Overflow = refl
+fault_told run_fault.DivideByZero = refl
+fault_told run_fault.Depth = refl
+fault_told run_fault.StepLimit = refl

@@ -25,7 +25,7 @@ use Rattle.dbg_runner.specs.declared.outcome.SliceOutcome.TheVariants as slice
 use Rattle.dbg_runner.specs.Plain.{Heading, PlainReport, Quit}
 use Rattle.dap_history.specs.declared.launch.Launch.{Launch}
 use Rattle.dap_history.specs.declared.situation.Situation.{Situation}
-use Rattle.dap_history.specs.declared.situation.Situation.TheVariants.{Fresh, Ready, Configuring, Running, Stopped, Faulted, Ended}
+use Rattle.dap_history.specs.declared.situation.Situation.TheVariants.{Fresh, Ready, Configuring, Running, Stopped, Faulted}
 use Rattle.dap_history.specs.Last.{or_else, last_such}
 use Rattle.dap_history.specs.History.{Launched, Item, Content, Loaded, Accepted, Fault, InputEnd, ReadFailure, MemoryFailure, Step, History, Effect, with_answer}
 use Rattle.dap_history.specs.Readings.{order_mark, message_mark, situation, position, plan, waiting_pause}
@@ -43,12 +43,12 @@ use Rattle.dap_history.proofs.Readings.{situation-snoc}
 use Rattle.dap_history.proofs.Along.{IsTaken, IsKept, any_events, along}
 use Rattle.dap_history.proofs.Each.{WasTaken, EachTaken, each_kept, each_first}
 use Rattle.dap_history.proofs.Told.{stop_of_logs, mark_of_logs, stop_marks}
-use Rattle.dap_history.proofs.Silent.{first_at, due_first}
+use Rattle.dap_history.proofs.Silent.{first_at}
+use Rattle.dap_history.proofs.Shapes.{due_first, resume_kind_by, IsCalm, Shape, refuses, is_calm, sets, begins, resumes_by, is_over, retreats, interrupts, quits, shaped}
 use Rattle.dap_history.proofs.Outputs.{outputs_stop, outputs_mark, outputs_stop_not, outputs_unmarked}
 use Rattle.dap_history.proofs.Passing.{mark_of_effect}
 use Rattle.dap_history.proofs.GoingBack.{marks_are}
 use Rattle.dap_history.proofs.Asked.{no_go_held}
-use Rattle.dap_history.proofs.Shapes.{resume_kind_by, IsCalm, Shape, refuses, is_calm, sets, begins, resumes_by, is_over, retreats, interrupts, quits, shaped}
 
 -- what an item is answered with and causes leads from the situation where the table says
 abbrev Fits : Situation → Item → Option Outgoing → Effect → Type 0
@@ -79,12 +79,7 @@ module _ (seq : ℕ) (past : History) where
 
   initialize_leads : (s : Situation) (a : InitializeArguments) → ReplyLeads s (command.Initialize a) (initialize_in s)
   initialize_leads Fresh a = refl
-  initialize_leads Ready a = refl
-  initialize_leads Configuring a = refl
-  initialize_leads Running a = refl
-  initialize_leads Stopped a = refl
-  initialize_leads Faulted a = refl
-  initialize_leads Ended a = refl
+  initialize_leads _ a = refl
 
   calm_leads : (s : Situation) (asked : Command) (result : Result Body Refusal) → IsOther asked → IsCalm past s asked
       → Leads s asked result nothing
@@ -103,13 +98,8 @@ module _ (seq : ℕ) (past : History) where
 
   sets_lead : (s t : Situation) (a : SetBreakpointsArguments) (bs : List Breakpoint)
       → Granted s (command.SetBreakpoints a) (effect_in t past bs)
-  sets_lead s Fresh a bs = refl
-  sets_lead s Ready a bs = refl
-  sets_lead s Configuring a bs = refl
   sets_lead s Running a bs = ap (λ m. unwrap_or (or_else m None) s) (hold_unmarked past)
-  sets_lead s Stopped a bs = refl
-  sets_lead s Faulted a bs = refl
-  sets_lead s Ended a bs = refl
+  sets_lead s _ a bs = refl
 
   enters_leads : (l : Launched) (why : Option Reason)
       → Granted Configuring command.ConfigurationDone (enters past l why)
@@ -262,10 +252,10 @@ after_steps-snoc s (first ∷ steps) step = after_steps-snoc (after_step s first
 abbrev IsLed : History → Type 0
 IsLed past = situation past ≡ after_steps Fresh past
 
-abbrev Any : Incoming → Type 0
+abbrev pub Any : Incoming → Type 0
 Any e = Unit {0}
 
-step_leads : (past : History) (step : Step) → IsTaken Any past step.item → Causes past step.item step
+pub step_leads : (past : History) (step : Step) → IsTaken Any past step.item → Causes past step.item step
     → situation (past ++ step ∷ []) ≡ after_step (situation past) step
 step_leads past step taken causes = situation-snoc past step ∙ item_fits Any past step.item step taken causes
 

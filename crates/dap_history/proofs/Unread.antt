@@ -5,6 +5,7 @@ use Rattle.dap_frame.specs.declared.fault.FramingFault.TheVariants as framing
 use Rattle.dap_frame.specs.Header.{line_end, line_of, lines_of, HasFaultyLine, FaultAt}
 use Rattle.dap_frame.specs.Frame.{IsFrameInFront, IsOpen}
 use Rattle.dbg_runner.specs.Plain.{PlainReport}
+use Rattle.dap_msg.specs.declared.request.FirstSeq.{FirstSeq}
 use Rattle.dap_history.specs.declared.ending.Ending.{Ending}
 use Rattle.dap_history.specs.declared.launch.Launch.{Launch}
 use Rattle.dap_history.specs.declared.fault.LoadFault.{LoadFault}
@@ -56,7 +57,8 @@ unread_same : (past : History) (rest : Rest) (new : History) (left : Rest) → n
 unread_same past rest new left same there here =
     subst (λ h. Unread h left) (sym same) (subst (λ r. Unread past r) (sym there) here)
 
-unread_takes : {past : History} {bytes : List ℕ} {new : History} {rest : Rest} → Takes past bytes new rest
+unread_takes : {first : FirstSeq} {past : History} {bytes : List ℕ} {new : History} {rest : Rest}
+    → Takes first past bytes new rest
     → Unread new rest
 unread_takes (one_more request taking_ front unwanted after taken) taking none = unread_takes taken taking none
 unread_takes (closed not) taking none = absurd (not taking)
@@ -71,10 +73,11 @@ unread_may past rest left item new by closes (inl is, same) here = unread_same p
 unread_may past rest left item new by closes (inr is, same) here =
     λ taking none. absurd (closes_for_good past item new by closes is.1 taking)
 
-unread_piece : (past : History) (launch : Option Launch) (bytes : List ℕ) (new : History) (left : Rest)
-    → LeadsByPiece past launch bytes new left → Unread new left
-unread_piece past None bytes new left all = unread_takes all
-unread_piece past (Some launch) bytes new left is =
+unread_piece : (first : FirstSeq) (past : History) (launch : Option Launch) (bytes : List ℕ) (new : History)
+    (left : Rest)
+    → LeadsByPiece first past launch bytes new left → Unread new left
+unread_piece first past None bytes new left all = unread_takes all
+unread_piece first past (Some launch) bytes new left is =
     λ taking none. let e = sym (ap (λ (r : Rest). r.launch) is.1) ∙ none in absurd cc
 
 unread_file : (past : History) (rest : Rest) (launch : Option Launch) (file : Result (List ℕ) LoadFault) (new : History)
@@ -100,7 +103,7 @@ unread_report past rest r new left (inr is) same here =
 unread_event : (past : History) (rest : Rest) (event : Incoming) (new : History) (left : Rest)
     → LeadsByEvent past rest event new left → Unread past rest → Unread new left
 unread_event past rest (Piece piece) new left leads here =
-    unread_piece past rest.launch (rest.bytes ++ piece) new left leads
+    unread_piece rest.first past rest.launch (rest.bytes ++ piece) new left leads
 unread_event past rest End new left leads here = unread_may past rest left InputEnd new _ refl leads here
 unread_event past rest ReadFailed new left leads here = unread_may past rest left ReadFailure new _ refl leads here
 unread_event past rest NoMemory new left leads here = unread_may past rest left MemoryFailure new _ refl leads here
@@ -115,7 +118,7 @@ unread_from past rest (e ∷ events) new left all here =
 
 pub rest_is_open : RestIsOpen
 rest_is_open events past rest history taking = (
-  unread_from [] (only_bytes []) events past rest history (λ taking none. open_first) taking,
+  unread_from [] (only_bytes rest.first []) events past rest history (λ taking none. open_first) taking,
   along_waits (λ e. Unit {0}) (Anything (λ e. Unit {0})) (anything_kept (λ e. Unit {0})) tt events past rest
       (any_events events) history taking,
 )

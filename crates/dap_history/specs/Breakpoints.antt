@@ -25,7 +25,7 @@ use Rattle.dap_history.specs.Replies.{Reply, nothing, answered, refused, causing
 
 -- ---- lines and columns, as the client counts them
 
--- how much a number of the client's is less than the same one counted from 1
+-- 0 if the client counts from 1, and 1 if it counts from 0
 abbrev pub offset : Bool → ℕ
 offset true = 0
 offset false = 1

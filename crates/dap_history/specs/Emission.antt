@@ -26,8 +26,8 @@ abbrev pub threads_in : Situation → Reply
 threads_in Fresh = refused refusal.WrongPhase
 threads_in _ = answered body.Threads
 
--- The reply to a command. A `launch` in the situation Ready isn't replied to here: it is answered once its file has
--- come.
+-- The reply to a command. No `launch` comes here in the situation Ready: it waits for its file, and `Launches` has its
+-- reply.
 abbrev pub RepliesIn : Situation → History → Command → Reply → Type 0
 RepliesIn s past (command.Initialize asked) reply = reply ≡ initialize_in s
 RepliesIn s past (command.Launch asked) reply = reply ≡ refused refusal.WrongPhase

@@ -3,8 +3,9 @@ use Rattle.std.specs.Prelude.{◌≡◌, ◌⊎◌, ◌++◌, ◌∷◌, [], ℕ
 use Rattle.dap_frame.specs.declared.fault.FramingFault.{FramingFault}
 use Rattle.dap_frame.specs.Frame.{IsFrameInFront, IsOpen}
 use Rattle.dap_frame.specs.Header.{FaultAt}
+use Rattle.dap_msg.specs.declared.request.FirstSeq.{FirstSeq}
 use Rattle.dap_msg.specs.declared.request.Request.{Request}
-use Rattle.dap_msg.specs.Request.{IsRequestOf}
+use Rattle.dap_msg.specs.Request.{IsRequestFrom}
 use Rattle.dbg_runner.specs.Plain.{PlainReport}
 use Rattle.dbg_runner.specs.Lawful.{IsLawful}
 use Rattle.dap_history.specs.declared.fault.LoadFault.{LoadFault}
@@ -31,69 +32,76 @@ AreLawful [] = Unit {0}
 AreLawful (Report r ∷ events) = IsLawful r × AreLawful events
 AreLawful (e ∷ events) = AreLawful events
 
--- What came and isn't taken yet: a launch that waits for its file, and bytes.
+-- The first number that the client may use, and what came and isn't taken yet: a launch that waits for its file, and
+-- bytes.
 pub record Rest : Type 0 where
+  pub first : FirstSeq
   pub launch : Option Launch
   pub bytes : List ℕ
 
 -- bytes, and no launch that waits
-abbrev pub only_bytes : List ℕ → Rest
-only_bytes bytes = record { launch = None; bytes = bytes }
+abbrev pub only_bytes : FirstSeq → List ℕ → Rest
+only_bytes first bytes = record { first = first; launch = None; bytes = bytes }
 
 -- the session still takes items
 abbrev pub IsTaking : History → Type 0
 IsTaking past = ending_of past ≡ None
 
 -- the content at the front of the bytes, with the request that it is, or none, and the bytes after it
-pub record IsInFront (bytes : List ℕ) (request : Option Request) (more : List ℕ) : Type 0 where
+pub record IsInFront (first : FirstSeq) (bytes : List ℕ) (request : Option Request) (more : List ℕ) : Type 0 where
   pub content : List ℕ
   pub framed : IsFrameInFront bytes content more
-  pub read : IsRequestOf content request
+  pub read : IsRequestFrom first content request
 
 -- From the history `past`, contents at the front of the bytes are taken one after another until no further one is. The
 -- history is `new` then, and `rest` isn't taken yet.
-pub data Takes : History → List ℕ → History → Rest → Type 0 where
+pub data Takes : FirstSeq → History → List ℕ → History → Rest → Type 0 where
   -- a content that wants no file is taken, and then those after it
-  one_more : {past mid new : History} {bytes more : List ℕ} {rest : Rest} (request : Option Request) →
-      IsTaking past → IsInFront bytes request more → wanted_in (situation past) request ≡ None →
-      IsAfter past (Content request) mid → Takes mid more new rest → Takes past bytes new rest
+  one_more : {first : FirstSeq} {past mid new : History} {bytes more : List ℕ} {rest : Rest}
+      (request : Option Request) →
+      IsTaking past → IsInFront first bytes request more → wanted_in (situation past) request ≡ None →
+      IsAfter past (Content request) mid → Takes first mid more new rest → Takes first past bytes new rest
   -- the session is closed
-  closed : {past : History} {bytes : List ℕ} → ¬ IsTaking past → Takes past bytes past (only_bytes bytes)
+  closed : {first : FirstSeq} {past : History} {bytes : List ℕ} → ¬ IsTaking past
+      → Takes first past bytes past (only_bytes first bytes)
   -- nothing complete stands in front
-  open_ended : {past : History} {bytes : List ℕ} → IsTaking past → IsOpen bytes →
-      Takes past bytes past (only_bytes bytes)
+  open_ended : {first : FirstSeq} {past : History} {bytes : List ℕ} → IsTaking past → IsOpen bytes →
+      Takes first past bytes past (only_bytes first bytes)
   -- a framing fault does
-  faulty : {past : History} {bytes : List ℕ} (k : FramingFault) (new : History) → IsTaking past → FaultAt bytes k →
-      IsAfter past (Fault k) new → Takes past bytes new (only_bytes bytes)
+  faulty : {first : FirstSeq} {past : History} {bytes : List ℕ} (k : FramingFault) (new : History) → IsTaking past
+      → FaultAt bytes k →
+      IsAfter past (Fault k) new → Takes first past bytes new (only_bytes first bytes)
   -- a launch does, which waits for its file
-  waits : {past : History} {bytes : List ℕ} (request : Option Request) (launch : Launch) (more : List ℕ) →
-      IsTaking past → IsInFront bytes request more → wanted_in (situation past) request ≡ Some launch →
-      Takes past bytes past (record { launch = Some launch; bytes = more })
+  waits : {first : FirstSeq} {past : History} {bytes : List ℕ} (request : Option Request) (launch : Launch)
+      (more : List ℕ) →
+      IsTaking past → IsInFront first bytes request more → wanted_in (situation past) request ≡ Some launch →
+      Takes first past bytes past (record { first = first; launch = Some launch; bytes = more })
 
 -- an item is taken unless the session is closed
 abbrev pub MayTake : History → Item → History → Type 0
 MayTake past item new = ((¬ IsTaking past) × (new ≡ past)) ⊎ (IsTaking past × IsAfter past item new)
 
 -- A piece of the stream. While a launch waits for its file, the bytes wait too.
-abbrev pub LeadsByPiece : History → Option Launch → List ℕ → History → Rest → Type 0
-LeadsByPiece past None bytes new left = Takes past bytes new left
-LeadsByPiece past (Some launch) bytes new left = (new ≡ past) × (left ≡ record { launch = Some launch; bytes = bytes })
+abbrev pub LeadsByPiece : FirstSeq → History → Option Launch → List ℕ → History → Rest → Type 0
+LeadsByPiece first past None bytes new left = Takes first past bytes new left
+LeadsByPiece first past (Some launch) bytes new left =
+    (new ≡ past) × (left ≡ record { first = first; launch = Some launch; bytes = bytes })
 
 -- the file of a launch; then the contents after it
-pub record Loads (past : History) (launch : Launch) (file : Option (List ℕ)) (bytes : List ℕ) (new : History)
-    (left : Rest) : Type 0 where
+pub record Loads (first : FirstSeq) (past : History) (launch : Launch) (file : Option (List ℕ)) (bytes : List ℕ)
+    (new : History) (left : Rest) : Type 0 where
   pub taking : IsTaking past
   pub mid : History
   pub loaded : IsAfter past (Loaded launch file) mid
-  pub after : Takes mid bytes new left
+  pub after : Takes first mid bytes new left
 
 -- A file. One that no launch waits for is ignored, and so is any after the session is closed.
 abbrev pub LeadsByFile : History → Rest → Option Launch → Result (List ℕ) LoadFault → History → Rest → Type 0
 LeadsByFile past rest None file new left = (new ≡ past) × (left ≡ rest)
 LeadsByFile past rest (Some launch) (Ok file) new left =
-    ((¬ IsTaking past) × (new ≡ past) × (left ≡ rest)) ⊎ Loads past launch (Some file) rest.bytes new left
+    ((¬ IsTaking past) × (new ≡ past) × (left ≡ rest)) ⊎ Loads rest.first past launch (Some file) rest.bytes new left
 LeadsByFile past rest (Some launch) (Err load_fault.CannotRead) new left =
-    ((¬ IsTaking past) × (new ≡ past) × (left ≡ rest)) ⊎ Loads past launch None rest.bytes new left
+    ((¬ IsTaking past) × (new ≡ past) × (left ≡ rest)) ⊎ Loads rest.first past launch None rest.bytes new left
 LeadsByFile past rest (Some launch) (Err load_fault.NoMemory) new left = MayTake past MemoryFailure new × (left ≡ rest)
 
 -- A report. One that isn't accepted is ignored.
@@ -104,7 +112,7 @@ LeadsByReport past r new =
 
 -- one event, by what it is
 abbrev pub LeadsByEvent : History → Rest → Incoming → History → Rest → Type 0
-LeadsByEvent past rest (Piece piece) new left = LeadsByPiece past rest.launch (rest.bytes ++ piece) new left
+LeadsByEvent past rest (Piece piece) new left = LeadsByPiece rest.first past rest.launch (rest.bytes ++ piece) new left
 LeadsByEvent past rest End new left = MayTake past InputEnd new × (left ≡ rest)
 LeadsByEvent past rest ReadFailed new left = MayTake past ReadFailure new × (left ≡ rest)
 LeadsByEvent past rest NoMemory new left = MayTake past MemoryFailure new × (left ≡ rest)
@@ -117,6 +125,7 @@ Leads past rest [] new left = (new ≡ past) × (left ≡ rest)
 Leads past rest (e ∷ events) new left =
     (mid : History) × (between : Rest) × LeadsByEvent past rest e mid between × Leads mid between events new left
 
--- the history that a list of events gives, and what came and isn't taken yet
+-- The history that a list of events gives, by the first number that the client may use, and what came and isn't taken
+-- yet.
 abbrev pub IsHistoryOf : List Incoming → History → Rest → Type 0
-IsHistoryOf events past rest = Leads [] (only_bytes []) events past rest
+IsHistoryOf events past rest = Leads [] (only_bytes rest.first []) events past rest

@@ -1,4 +1,6 @@
 -- States the laws of going back: which command asked for a run that goes back, and how the run is ordered.
+use Rattle.dap_msg.specs.declared.requests.resume.RetreatKind.TheVariants as retreat
+use Rattle.dbg_plan.specs.declared.mode.Mode.TheVariants as mode
 use Rattle.std.specs.Prelude.{◌≡◌, ◌++◌, ◌∷◌, ℕ, ◌+◌, true, if◌then◌else◌, List, Option, None, Some, IsSome, Ok}
 use Rattle.dap_msg.specs.declared.command.Command.{Command}
 use Rattle.dap_msg.specs.declared.command.Command.TheVariants as command
@@ -10,13 +12,13 @@ use Rattle.dbg_runner.specs.Plain.{Heading, PlainOrder, Hold, goes_back}
 use Rattle.dap_history.specs.Last.{last_such}
 use Rattle.dap_history.specs.History.{Item, Content, Step, History}
 use Rattle.dap_history.specs.Readings.{is_back}
-use Rattle.dap_history.specs.Running.{retreat_mode}
 use Rattle.dap_history.specs.Events.{Incoming, Rest, AreLawful, IsHistoryOf}
 use Rattle.dap_history.specs.Stops.{run_in, Orders}
 
 -- the mode in which a command goes back, if it does
 abbrev pub back_by : Command → Option Mode
-back_by (command.Retreat kind asked) = Some (retreat_mode kind)
+back_by (command.Retreat retreat.StepBack asked) = Some mode.StepBack
+back_by (command.Retreat retreat.ReverseContinue asked) = Some mode.Reverse
 back_by _ = None
 
 -- the mode in which an item asks to go back, if it does

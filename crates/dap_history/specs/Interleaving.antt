@@ -1,5 +1,6 @@
 -- Defines which lists of events arise from what an inbox and a loader return.
 use Rattle.std.specs.Prelude.{◌≡◌, ◌⊎◌, ◌++◌, ◌∷◌, [], ℕ, List, Some, None, Result, Err}
+use Rattle.dap_msg.specs.declared.request.FirstSeq.{FirstSeq}
 use Rattle.dap_history.specs.declared.launch.Launch.{Launch}
 use Rattle.dap_history.specs.declared.fault.LoadFault.{LoadFault}
 use Rattle.dap_history.specs.declared.fault.LoadFault.TheVariants.{NoMemory}
@@ -12,9 +13,10 @@ pub record Load : Type 0 where
   pub answer : Result (List ℕ) LoadFault
 
 -- after these events a launch waits for the file at this path
-pub record Awaits (events : List Incoming) (path : List ℕ) : Type 0 where
+pub record Awaits (first : FirstSeq) (events : List Incoming) (path : List ℕ) : Type 0 where
   pub past : History
   pub rest : Rest
+  pub first_is : rest.first ≡ first
   pub history : IsHistoryOf events past rest
   pub taking : IsTaking past
   pub launch : Launch
@@ -22,36 +24,38 @@ pub record Awaits (events : List Incoming) (path : List ℕ) : Type 0 where
   pub path_is : path ≡ launch.arguments.program
 
 -- after these events no launch waits for a file
-pub record AwaitsNone (events : List Incoming) : Type 0 where
+pub record AwaitsNone (first : FirstSeq) (events : List Incoming) : Type 0 where
   pub past : History
   pub rest : Rest
+  pub first_is : rest.first ≡ first
   pub history : IsHistoryOf events past rest
   pub waits : (¬ IsTaking past) ⊎ (rest.launch ≡ None)
 
 -- the event is the file that the loader gave for the launch that waits after these events
-abbrev pub IsLoad : List Incoming → Incoming → Load → Type 0
-IsLoad before (File file) load = (load.answer ≡ file) × Awaits before load.path
-IsLoad before _ load = ⊥
+abbrev pub IsLoad : FirstSeq → List Incoming → Incoming → Load → Type 0
+IsLoad first before (File file) load = (load.answer ≡ file) × Awaits first before load.path
+IsLoad first before _ load = ⊥
 
 -- After the events so far, each further one is the next answer of the loader where a launch waits for its file, and
 -- otherwise the next event of the inbox.
-abbrev pub Interleaves : List Incoming → List Incoming → List Incoming → List Load → Type 0
-Interleaves before [] given loads = (given ≡ []) × (loads ≡ [])
-Interleaves before (e ∷ events) given loads =
-    ((load : Load) × (more : List Load) × (loads ≡ load ∷ more) × IsLoad before e load
-    × Interleaves (before ++ e ∷ []) events given more)
-    ⊎ ((more : List Incoming) × (given ≡ e ∷ more) × AwaitsNone before
-    × Interleaves (before ++ e ∷ []) events more loads)
+abbrev pub Interleaves : FirstSeq → List Incoming → List Incoming → List Incoming → List Load → Type 0
+Interleaves first before [] given loads = (given ≡ []) × (loads ≡ [])
+Interleaves first before (e ∷ events) given loads =
+    ((load : Load) × (more : List Load) × (loads ≡ load ∷ more) × IsLoad first before e load
+    × Interleaves first (before ++ e ∷ []) events given more)
+    ⊎ ((more : List Incoming) × (given ≡ e ∷ more) × AwaitsNone first before
+    × Interleaves first (before ++ e ∷ []) events more loads)
 
 -- The last event is the loader's answer that it is out of memory, which the loader doesn't store. A launch waited for
 -- that answer.
-pub record LastLoadFails (events given : List Incoming) (loads : List Load) : Type 0 where
+pub record LastLoadFails (first : FirstSeq) (events given : List Incoming) (loads : List Load) : Type 0 where
   pub before : List Incoming
   pub path : List ℕ
   pub events_are : events ≡ before ++ File (Err NoMemory) ∷ []
-  pub awaited : Awaits before path
-  pub interleaves : Interleaves [] before given loads
+  pub awaited : Awaits first before path
+  pub interleaves : Interleaves first [] before given loads
 
 -- the events interleave, or all of them but such a last answer do
-abbrev pub InterleavesUpTo : List Incoming → List Incoming → List Load → Type 0
-InterleavesUpTo events given loads = Interleaves [] events given loads ⊎ LastLoadFails events given loads
+abbrev pub InterleavesUpTo : FirstSeq → List Incoming → List Incoming → List Load → Type 0
+InterleavesUpTo first events given loads = Interleaves first [] events given loads
+    ⊎ LastLoadFails first events given loads

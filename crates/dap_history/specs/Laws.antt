@@ -3,7 +3,8 @@ use Rattle.std.specs.Prelude.{◌≡◌, ◌++◌, ◌∷◌, [], ℕ, ◌+◌, 
 use Rattle.std.specs.List.{filter_map}
 use Rattle.dap_frame.specs.Frame.{Frames, IsOpen, frame_of}
 use Rattle.dap_msg.specs.declared.request.Request.{Request}
-use Rattle.dap_msg.specs.Request.{IsRequestOf}
+use Rattle.dap_msg.specs.Request.{IsRequestFrom}
+use Rattle.dap_msg.specs.declared.request.FirstSeq.{FirstSeq}
 use Rattle.dap_history.specs.declared.launch.Launch.{Launch}
 use Rattle.dap_msg.specs.Commands.{name_of}
 use Rattle.dap_msg.specs.declared.command.Command.{Command}
@@ -34,11 +35,11 @@ use Rattle.dap_history.specs.Output.{frames_from}
 
 -- ---- One history
 
--- A list of events has at most one history, and leaves one rest.
+-- A list of events has at most one history, and leaves one rest, by the first number that the client may use.
 abbrev pub HistoryIsOne : Type 0
 HistoryIsOne =
     (events : List Incoming) (past other : History) (rest left : Rest) → IsHistoryOf events past rest
-    → IsHistoryOf events other left
+    → IsHistoryOf events other left → rest.first ≡ left.first
     → (past ≡ other) × (rest ≡ left)
 
 -- An item leads from a history to at most one other: what it is answered with and what it causes is determined.
@@ -92,17 +93,18 @@ abbrev pub contents_read : History → Option Launch → List (Option Request)
 contents_read past launch = filter_map read_as (map (λ (step : Step). step.item) past) ++ waiting launch
 
 -- each content is read as this
-abbrev pub AreRead : List (List ℕ) → List (Option Request) → Type 0
-AreRead [] [] = Unit {0}
-AreRead (content ∷ contents) (request ∷ requests) = IsRequestOf content request × AreRead contents requests
-AreRead _ _ = ⊥
+abbrev pub AreRead : FirstSeq → List (List ℕ) → List (Option Request) → Type 0
+AreRead first [] [] = Unit {0}
+AreRead first (content ∷ contents) (request ∷ requests) =
+    IsRequestFrom first content request × AreRead first contents requests
+AreRead first _ _ = ⊥
 
 -- However the stream was cut into pieces, the contents taken are, in order, those of its frames.
 abbrev pub ContentsAreOfTheStream : Type 0
 ContentsAreOfTheStream =
     (events : List Incoming) (past : History) (rest : Rest) → IsHistoryOf events past rest
     → (contents : List (List ℕ)) × Frames (stream_of events) contents rest.bytes
-    × AreRead contents (contents_read past rest.launch)
+    × AreRead rest.first contents (contents_read past rest.launch)
 
 -- Two pieces give what they give as one: how the stream was cut changes no message and no order.
 abbrev pub CutsChangeNothing : Type 0

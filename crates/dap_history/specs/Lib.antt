@@ -1,5 +1,7 @@
 -- The definitions that the laws and the contracts of a session cite, in reading order: they are what a reader must
--- believe. the last element of a kind in a list
+-- believe.
+
+-- the last element of a kind in a list
 pub mod Last
 -- a plan in force
 pub mod Plans
@@ -45,3 +47,21 @@ pub mod Runs
 pub mod Lines
 -- how each reading changes with one more step
 pub mod ReadingLaws
+-- which request is refused, and what one that is granted is answered with
+pub mod Verdicts
+-- the laws of launching
+pub mod Loading
+-- the laws of what moves the program: the start, pauses, and what each command asks for
+pub mod Moves
+-- which events are taken, as which items, and which item ends a session
+pub mod Taken
+-- how a session was initialized, and so how its client counts
+pub mod Initialized
+-- what the lines of `setBreakpoints` are answered with
+pub mod LineAnswers
+-- what the questions show of the program where it stands
+pub mod Shown
+-- Worked examples, which no contract cites: what a client is shown of a text with nested procedures, and what each item
+-- of some sessions causes.
+pub mod ShownQ
+pub mod WorkedSessions

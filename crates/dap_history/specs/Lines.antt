@@ -6,16 +6,19 @@ use Rattle.dap_msg.specs.declared.command.Command.{Command}
 use Rattle.dap_msg.specs.declared.command.Command.TheVariants as command
 use Rattle.dap_msg.specs.declared.outgoing.Outgoing.{Outgoing}
 use Rattle.dap_msg.specs.declared.outgoing.Outgoing.TheVariants.{Answer}
+use Rattle.dap_msg.specs.declared.requests.initialize.InitializeArguments.{InitializeArguments}
+use Rattle.dap_msg.specs.declared.outgoing.BreakpointAnswer.{BreakpointAnswer}
 use Rattle.dap_msg.specs.declared.requests.set_breakpoints.SourceBreakpoint.{SourceBreakpoint}
 use Rattle.dbg_plan.specs.Breakpoints.{Breakpoint}
-use Rattle.dbg_plan.specs.declared.resolving.Resolution.{Resolution}
 use Rattle.dbg_runner.specs.Plain.{Heading}
 use Rattle.dap_history.specs.declared.situation.Situation.{Situation}
 use Rattle.dap_history.specs.declared.situation.Situation.TheVariants.{Configuring, Stopped, Faulted}
 use Rattle.dap_history.specs.Last.{last_such}
 use Rattle.dap_history.specs.History.{Launched, Item, Content, Step, History}
 use Rattle.dap_history.specs.Readings.{situation, launched, last_run, is_back, plan}
-use Rattle.dap_history.specs.Breakpoints.{line_offset, IsResolved, is_at}
+use Rattle.dap_history.specs.Initialized.{IsInitializedBy, less_by}
+use Rattle.dap_history.specs.LineAnswers.{GiveBreakpoints}
+use Rattle.std.specs.Str.{bytes_eq}
 use Rattle.dap_history.specs.Considered.{starts_by}
 use Rattle.dap_history.specs.Events.{Incoming, Rest, AreLawful, IsHistoryOf}
 use Rattle.dap_history.specs.Stops.{run_in, Orders}
@@ -24,7 +27,8 @@ use Rattle.dap_history.specs.Stops.{run_in, Orders}
 
 -- the lines that a command sets at this path, if it sets any
 abbrev pub lines_at : List ℕ → Command → Option (List SourceBreakpoint)
-lines_at path (command.SetBreakpoints asked) = if is_at asked.path path then Some asked.breakpoints else None
+lines_at path (command.SetBreakpoints asked) =
+    if option_map_or (λ p. bytes_eq p path) asked.path false then Some asked.breakpoints else None
 lines_at path _ = None
 
 -- the lines that an item sets at this path, if it is granted and sets any
@@ -36,11 +40,12 @@ lines_by path _ _ = None
 abbrev pub lines_set : List ℕ → History → Option (List SourceBreakpoint)
 lines_set path past = last_such (λ step. lines_by path step.item step.answer) past
 
--- the breakpoints of lines; there are none where no lines were set
-abbrev pub AreOfLines : Launched → ℕ → Option (List SourceBreakpoint) → List Breakpoint → Type 0
-AreOfLines l less None breakpoints = breakpoints ≡ []
-AreOfLines l less (Some lines) breakpoints =
-    (answers : List Resolution) × IsResolved l.program less lines answers breakpoints
+-- the breakpoints of lines, as the client counts them; there are none where no lines were set
+abbrev pub AreOfLines : Launched → InitializeArguments → Option (List SourceBreakpoint) → List Breakpoint → Type 0
+AreOfLines l counting None breakpoints = breakpoints ≡ []
+AreOfLines l counting (Some lines) breakpoints =
+    (answers : List BreakpointAnswer)
+    × GiveBreakpoints l.program (less_by counting.lines_start_at_1) lines answers breakpoints
 
 -- the session has the debuggee: the program isn't started yet, or stands
 abbrev pub HasDebuggee : Situation → Type 0
@@ -55,7 +60,8 @@ abbrev pub PlanIsOfLines : Type 0
 PlanIsOfLines =
     (events : List Incoming) (past : History) (rest : Rest) → AreLawful events → IsHistoryOf events past rest
     → HasDebuggee (situation past) → (l : Launched) → launched past ≡ Some l
-    → AreOfLines l (line_offset past) (lines_set l.path past) (plan past).breakpoints
+    → (counting : InitializeArguments) × IsInitializedBy past counting
+    × AreOfLines l counting (lines_set l.path past) (plan past).breakpoints
     × (situation past ≡ Configuring → (plan past).counted_from ≡ 0)
 
 -- Each run is under the breakpoints of the lines that were set last at the launched path.
@@ -64,7 +70,8 @@ EachRunHasItsLines =
     (events : List Incoming) (past : History) (rest : Rest) → AreLawful events → IsHistoryOf events past rest
     → (before : History) (step : Step) (after : History) (run : Heading) → past ≡ before ++ step ∷ after
     → Orders step run
-    → (l : Launched) × (launched before ≡ Some l) × AreOfLines l (line_offset before) (lines_set l.path before) run.plan
+    → (l : Launched) × (counting : InitializeArguments) × (launched before ≡ Some l) × IsInitializedBy before counting
+    × AreOfLines l counting (lines_set l.path before) run.plan
 
 -- ---- counting
 

@@ -1,5 +1,7 @@
 -- States the laws of runs: each has the next number, is in the mode that was asked for, and is held at most once.
-use Rattle.std.specs.Prelude.{◌≡◌, ◌++◌, ◌∷◌, [], ◌⊎◌, ℕ, ◌+◌, true, false, List, length, Option, None, Some, IsSome, option_map, Ok}
+use Rattle.dap_msg.specs.declared.requests.resume.RetreatKind.TheVariants as retreat
+use Rattle.dap_msg.specs.declared.requests.resume.ResumeKind.TheVariants as resume
+use Rattle.std.specs.Prelude.{◌≡◌, ◌++◌, ◌∷◌, [], ◌⊎◌, ℕ, ◌+◌, false, List, length, Option, None, Some, IsSome, option_map, Ok}
 use Rattle.std.specs.List.{filter_map}
 use Rattle.dap_msg.specs.declared.command.Command.{Command}
 use Rattle.dap_msg.specs.declared.command.Command.TheVariants as command
@@ -20,9 +22,7 @@ use Rattle.dap_history.specs.declared.situation.Situation.{Situation}
 use Rattle.dap_history.specs.declared.situation.Situation.TheVariants.{Running, Faulted}
 use Rattle.dap_history.specs.Last.{last_such}
 use Rattle.dap_history.specs.History.{Launched, Item, Content, Accepted, Step, History, orders_of}
-use Rattle.dap_history.specs.Running.{mode_of, retreat_mode}
 use Rattle.dap_history.specs.Readings.{go, situation, launched, last_run, position, waiting_pause}
-use Rattle.dap_history.specs.Breakpoints.{is_at}
 use Rattle.dap_history.specs.Events.{Incoming, Rest, AreLawful, IsHistoryOf}
 use Rattle.dap_history.specs.Stops.{stop_of_event, run_in, Orders}
 
@@ -46,8 +46,12 @@ pub record Grants (step : Step) (request : Request) : Type 0 where
 -- the mode of the run that a command asks for where this many frames are live, if it asks for a run
 abbrev pub mode_by : ℕ → Command → Option Mode
 mode_by depth command.ConfigurationDone = Some mode.Continue
-mode_by depth (command.Resume kind asked) = Some (mode_of kind depth)
-mode_by depth (command.Retreat kind asked) = Some (retreat_mode kind)
+mode_by depth (command.Resume resume.Continue asked) = Some mode.Continue
+mode_by depth (command.Resume resume.Next asked) = Some (mode.Over depth)
+mode_by depth (command.Resume resume.StepIn asked) = Some mode.In
+mode_by depth (command.Resume resume.StepOut asked) = Some (mode.Out depth)
+mode_by depth (command.Retreat retreat.StepBack asked) = Some mode.StepBack
+mode_by depth (command.Retreat retreat.ReverseContinue asked) = Some mode.Reverse
 mode_by depth _ = None
 
 -- the mode in which a held run goes on
@@ -69,11 +73,12 @@ EachRunIsAsAsked =
     → Orders step run
     → (l : Launched) × (launched before ≡ Some l) × (mode_asked before l.program step.item ≡ Some run.mode)
 
--- A granted command that asks for a run orders none where position 0 is due, or where the program stands before a
--- fault.
+-- A granted command that asks for a run orders none where the program stops at position 0; or where it stands before a
+-- fault, if the command resumes it.
 abbrev pub IsExcused : Situation → Command → List EventBody → Type 0
 IsExcused s command.ConfigurationDone events = IsSome (last_such stop_of_event events)
-IsExcused s _ events = (s ≡ Faulted) × (events ≡ event.Exited 1 ∷ event.Terminated ∷ [])
+IsExcused s (command.Resume kind asked) events = (s ≡ Faulted) × (events ≡ event.Exited 1 ∷ event.Terminated ∷ [])
+IsExcused s _ events = ⊥
 
 -- Where a command that asks for a run is granted, one is ordered, unless the program stops at position 0 or ends.
 abbrev pub GrantedRunsAreOrdered : Type 0
@@ -96,7 +101,7 @@ HeldRunsGoOn =
 abbrev pub IsToWait : History → Command → Type 0
 IsToWait past (command.Pause asked) = Unit {0}
 IsToWait past (command.SetBreakpoints asked) =
-    (l : Launched) × (launched past ≡ Some l) × (is_at asked.path l.path ≡ true)
+    (l : Launched) × (launched past ≡ Some l) × (asked.path ≡ Some l.path)
 IsToWait past _ = ⊥
 
 -- after these steps such a command is granted
@@ -105,14 +110,14 @@ pub record GrantsWait (past : History) (step : Step) : Type 0 where
   pub granted : Grants step request
   pub to_wait : IsToWait past request.body
 
--- A Hold is ordered only where a pause or breakpoints that wait are granted, and directly after the Go of the run that
--- it names, so at most once for a run. The run doesn't go back.
+-- A Hold is ordered only while the program runs, where a pause or breakpoints that wait are granted, and directly after
+-- the Go of the run that it names, so at most once for a run. The run doesn't go back.
 abbrev pub HoldOnce : Type 0
 HoldOnce =
     (events : List Incoming) (past : History) (rest : Rest) → IsHistoryOf events past rest
     → (before : History) (step : Step) (after : History) → past ≡ before ++ step ∷ after
     → (front back : List PlainOrder) (n : ℕ) → step.effect.orders ≡ front ++ Hold n ∷ back
-    → GrantsWait before step × ((earlier : List PlainOrder) × (run : Heading)
+    → (situation before ≡ Running) × GrantsWait before step × ((earlier : List PlainOrder) × (run : Heading)
     × (orders_of before ++ front ≡ earlier ++ Go run ∷ []) × (n ≡ run.run) × (goes_back run.mode ≡ false))
 
 -- After a pause or breakpoints were granted in a run that doesn't go back, the last order is that run's Hold.

@@ -1,5 +1,5 @@
 -- States the laws of stops: each is where it has to be, and what a client asks there is answered from there.
-use Rattle.std.specs.Prelude.{◌≡◌, ◌++◌, ◌∷◌, [], ◌⊎◌, ℕ, ◌<◌, ◌≤◌, Bool, true, false, List, Option, None, Some, Ok, All}
+use Rattle.std.specs.Prelude.{if◌then◌else◌, ◌≡◌, ◌++◌, ◌∷◌, [], ◌⊎◌, ℕ, ◌<◌, ◌≤◌, Bool, true, false, List, Option, None, Some, Ok, All}
 use Rattle.dap_msg.specs.Commands.{name_of}
 use Rattle.dap_msg.specs.declared.request.Request.{Request}
 use Rattle.dap_msg.specs.declared.command.Command.{Command}
@@ -11,9 +11,13 @@ use Rattle.dap_msg.specs.declared.outgoing.EventBody.{EventBody}
 use Rattle.dap_msg.specs.declared.outgoing.EventBody.TheVariants as event
 use Rattle.dap_msg.specs.declared.outgoing.StopReason.{StopReason}
 use Rattle.dap_msg.specs.declared.outgoing.StopReason.TheVariants as stop
+use Rattle.dap_msg.specs.declared.outgoing.Exception.{Exception}
+use Rattle.dap_msg.specs.declared.outgoing.Exception.TheVariants as exception
 use Rattle.pl0_meaning.specs.declared.RunFault.{RunFault}
+use Rattle.pl0_meaning.specs.declared.RunFault.TheVariants as run_fault
 use Rattle.pl0_meaning.specs.Runs.{at, outcome, Faults}
 use Rattle.dbg_plan.specs.declared.mode.Reason.{Reason}
+use Rattle.dbg_plan.specs.declared.mode.Reason.TheVariants as reason
 use Rattle.dbg_plan.specs.Due.{due}
 use Rattle.dbg_plan.specs.Retreat.{Stop, goal_of}
 use Rattle.dbg_runner.specs.declared.outcome.SliceOutcome.{SliceOutcome}
@@ -24,10 +28,23 @@ use Rattle.dap_history.specs.declared.situation.Situation.TheVariants.{Stopped, 
 use Rattle.dap_history.specs.Last.{last_such}
 use Rattle.dap_history.specs.History.{Launched, Content, Accepted, Step, History}
 use Rattle.dap_history.specs.Readings.{go, situation, launched, last_run, position, plan, waiting_pause}
-use Rattle.dap_history.specs.Replies.{Reply, stop_of, exception_of}
-use Rattle.dap_history.specs.Running.{first_mode}
+use Rattle.dap_history.specs.Replies.{Reply}
+use Rattle.dbg_plan.specs.declared.mode.Mode.TheVariants as mode
 use Rattle.dap_history.specs.Inspection.{RepliesAt, asked_of}
 use Rattle.dap_history.specs.Events.{Incoming, Rest, AreLawful, IsHistoryOf}
+
+-- why a position is due, as the client is told
+abbrev pub told_reason : Reason → StopReason
+told_reason reason.Breakpoint = stop.Breakpoint
+told_reason reason.Step = stop.Step
+told_reason reason.Entry = stop.Entry
+
+-- the fault of a step, as the client is told
+abbrev pub told_fault : RunFault → Exception
+told_fault run_fault.Overflow = exception.Overflow
+told_fault run_fault.DivideByZero = exception.DivideByZero
+told_fault run_fault.Depth = exception.Depth
+told_fault run_fault.StepLimit = exception.StepLimit
 
 -- the reason of a stop that an event reports, if it reports one
 abbrev pub stop_of_event : EventBody → Option StopReason
@@ -65,16 +82,16 @@ NoneDueUpTo l run m = (k : ℕ) → run.start < k → k ≤ m → due_in l run k
 abbrev pub IsRunsStop : Launched → Heading → StopReason → ℕ → Type 0
 IsRunsStop l run stop.Pause m = (run.start ≤ m) × NoneDueUpTo l run m
 IsRunsStop l run (stop.Exception x) m =
-    (fault : RunFault) × (x ≡ exception_of fault) × (outcome l.program m ≡ Faults fault) × (run.start ≤ m)
+    (fault : RunFault) × (x ≡ told_fault fault) × (outcome l.program m ≡ Faults fault) × (run.start ≤ m)
     × NoneDueUpTo l run m
 IsRunsStop l run reason m =
-    (r : Reason) × (reason ≡ stop_of r) × (due_in l run m ≡ Some r) × (run.start < m) × NoneDueBefore l run m
+    (r : Reason) × (reason ≡ told_reason r) × (due_in l run m ≡ Some r) × (run.start < m) × NoneDueBefore l run m
 
 -- A run that goes back stopped at m for this reason: it is the position to which its mode leads.
 abbrev pub IsRetreatsStop : Launched → Heading → StopReason → ℕ → Type 0
 IsRetreatsStop l run reason m =
     (goal : Stop) × (goal_of l.program run.plan run.mode run.start ≡ Some goal) × (m ≡ goal.position)
-    × (reason ≡ stop_of goal.reason)
+    × (reason ≡ told_reason goal.reason)
 
 -- one of the two, by whether the run goes back
 abbrev pub IsStopOf : Bool → Launched → Heading → StopReason → ℕ → Type 0
@@ -85,8 +102,9 @@ IsStopOf true l run reason m = IsRetreatsStop l run reason m
 abbrev pub IsRightStop : Launched → History → Option Heading → StopReason → ℕ → Type 0
 IsRightStop l before (Some run) reason m = IsStopOf (goes_back run.mode) l run reason m
 IsRightStop l before None reason m =
-    (m ≡ 0) × ((r : Reason) × (reason ≡ stop_of r) × (due l.program (plan before).breakpoints (plan before).counted_from
-    (first_mode l) 0 ≡ Some r))
+    (m ≡ 0) × ((r : Reason) × (reason ≡ told_reason r)
+    × (due l.program (plan before).breakpoints (plan before).counted_from
+    (if l.stop_on_entry then mode.Entry else mode.Continue) 0 ≡ Some r))
 
 abbrev pub EachStopIsRight : Type 0
 EachStopIsRight =
@@ -110,10 +128,10 @@ tells_held false = []
 -- what a report tells after its numbers and logs: the stop, where it stops its run; or the program's end
 abbrev pub tells : History → SliceOutcome → List EventBody
 tells past slice.More = []
-tells past (slice.Due reason) = event.Stopped (stop_of reason) ∷ []
+tells past (slice.Due reason) = event.Stopped (told_reason reason) ∷ []
 tells past slice.Held = tells_held (waiting_pause past)
 tells past slice.Done = event.Exited 0 ∷ event.Terminated ∷ []
-tells past (slice.Fault fault) = event.Stopped (stop.Exception (exception_of fault)) ∷ []
+tells past (slice.Fault fault) = event.Stopped (stop.Exception (told_fault fault)) ∷ []
 tells past slice.NoMemory = []
 
 -- A report that is accepted tells numbers and logs, and then its stop or the program's end.

@@ -6,11 +6,17 @@ ghost use Rattle.dap_history.specs.GoingBack.{EachGoesBackAsAsked, CountsBeginAn
 ghost use Rattle.dap_history.specs.Lines.{PlanIsOfLines, EachRunHasItsLines, EachRunCountsFrom};
 ghost use Rattle.dap_history.specs.Runs.{RunsCountFromOne, EachRunIsAsAsked, GrantedRunsAreOrdered, HeldRunsGoOn, HoldOnce, WaitsAreHeld};
 ghost use Rattle.dap_history.specs.Transitions.{EachStepLeads, SituationIsAfterSteps};
+ghost use Rattle.dap_history.specs.Verdicts.{EachIsJudged, RefusalsChangeNothing, OthersTellNothing, AnswersComeFirst};
+ghost use Rattle.dap_history.specs.Loading.{EachLaunchIsOfItsFile};
+ghost use Rattle.dap_history.specs.Moves.{PositionZeroIsConsidered, PausesStop, EachStopIsAsAsked};
+ghost use Rattle.dap_history.specs.Taken.{EventsAreTaken, EachItemEndsOrNot};
+ghost use Rattle.dap_history.specs.LineAnswers.{LinesAreAnswered};
+ghost use Rattle.dap_history.specs.Shown.{AnswersShowTheProgram};
 ghost use Rattle.dap_history.specs.Stops.{EachRunStartsThere, EachStopIsRight, EachReportIsTold, EachReplyIsTold, QuestionsAreAnsweredThere};
 
 use dap_frame::frame_laws;
 use dap_msg::message_laws;
-use dbg_plan::log_laws;
+use dbg_plan::{going_back_laws, log_laws};
 use pl0_meaning::{configuration_laws, meaning_laws};
 use pl0_syntax::{editor_laws, text_laws};
 
@@ -69,6 +75,28 @@ pub fn run_laws()
 {
     text_laws();
     meaning_laws();
+}
+
+/// What each command is answered with and brings about, whatever events come. It does nothing: its contract is the laws.
+pub fn command_laws()
+    ensures judged { EachIsJudged }
+    ensures refused { RefusalsChangeNothing }
+    ensures others { OthersTellNothing }
+    ensures answers_first { AnswersComeFirst }
+    ensures launched { EachLaunchIsOfItsFile }
+    ensures first { PositionZeroIsConsidered }
+    ensures paused { PausesStop }
+    ensures as_asked { EachStopIsAsAsked }
+    ensures taken { EventsAreTaken }
+    ensures ends { EachItemEndsOrNot }
+    ensures lines { LinesAreAnswered }
+    ensures shown { AnswersShowTheProgram }
+{
+    text_laws();
+    meaning_laws();
+    configuration_laws();
+    going_back_laws();
+    history_laws();
 }
 
 /// How each reading of a history changes with one more step. It does nothing: its contract is the law.

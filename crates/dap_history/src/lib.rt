@@ -1,11 +1,12 @@
-//! The history of a session: which items its events give, what each item is answered with and causes, and the laws of all
-//! that a session sends.
+//! The history of a session: which items its events give, what each item is answered with and causes, and the laws of
+//! all that a session sends.
 //!
-//! The contracts are those of [`history_laws`] and [`run_laws`]. The definitions are in `specs`, in the order of
-//! `specs/Lib.antt`: what an item causes (`History`), the readings of the items so far (`Readings`), a file for each
-//! topic of commands (`Launching` to `Inspection`), reports (`Reports`), which items a list of events gives (`Events`),
-//! and the laws (`Laws` to `Lines`). They speak only of plain data, so two lists of events with the same data have the
-//! same history. The only code here is the types that both a session and its definitions speak of.
+//! The contracts are those of [`history_laws`], [`run_laws`] and [`command_laws`]. The definitions are in `specs`, in the
+//! order of `specs/Lib.antt`: what a step is (`History`), the readings of the items so far (`Readings`), a file for each
+//! topic of commands (`Launching` to `Inspection`), reports (`Reports`), what each item causes (`Emission`), which items
+//! a list of events gives (`Events`), and the laws (`Laws` to `Shown`). They speak only of plain data, so two lists
+//! of events with the same data have the same history. The only code here is the types that both a session and its
+//! definitions speak of.
 #![tactic(auto)]
 
 mod ending;
@@ -17,5 +18,5 @@ mod situation;
 pub use ending::{Closed, Ending};
 pub use fault::{LoadFault, SessionFault};
 pub use launch::Launch;
-pub use laws::{history_laws, reading_laws, run_laws};
+pub use laws::{command_laws, history_laws, reading_laws, run_laws};
 pub use situation::Situation;

@@ -1,5 +1,5 @@
-use Rattle.std.proofs.Common.{[]}
-use Rattle.dap_history.specs.Events.{only_bytes}
+use Rattle.std.proofs.Common.{[], subst, sym}
+use Rattle.dap_history.specs.Events.{only_bytes, Leads}
 use Rattle.dap_history.proofs.Contents.{contents_of_stream}
 use Rattle.dap_history.proofs.Cuts.{cuts_change_nothing}
 use Rattle.dap_history.proofs.Starts.{each_run_starts}
@@ -31,14 +31,15 @@ returns-clause-one_effect c = one_after (record {
 })
 
 pub returns-clause-one : goal.returns-clause-one
-returns-clause-one c = λ events past other rest left history there.
+returns-clause-one c = λ events past other rest left history there same.
     one_history (record {
       one_frame = c.frame_laws.ensures.frames;
       one_fault = c.frame_laws.ensures.faults;
       not_both = c.frame_laws.ensures.both;
       one_request = c.message_laws.ensures.reading;
       one_after = returns-clause-one_effect c;
-    }) [] (only_bytes []) events past other rest left history there
+    }) [] (only_bytes rest.first []) events past other rest left history
+    (subst (λ f. Leads [] (only_bytes f []) events other left) (sym same) there)
 
 pub returns-clause-answered : goal.returns-clause-answered
 returns-clause-answered c = each_answered

@@ -1,7 +1,8 @@
--- A session that is paused, and one whose breakpoints change, while the program runs: what each item causes, computed
--- from the definitions, for any program whose first slice is followed by a Held report; and one that goes back.
-use Rattle.std.proofs.Common.{◌≡◌, ℕ, pos, List, [], ◌∷◌, ◌++◌, None, Some, Ok, refl, ap}
-use Rattle.std.specs.Prelude.{false}
+-- Worked sessions, computed from the definitions: each line that ends in `refl` was checked by computing both of its
+-- sides. For any program that doesn't stop at position 0: a session that is paused, one whose breakpoints change while
+-- the program runs, and one that goes back. Then one that steps through a text; and what is refused.
+use mathlib.Core.Path.{ap, subst}
+use Rattle.std.specs.Prelude.{◌≡◌, ℕ, zero, suc, pos, true, false, List, [], ◌∷◌, ◌++◌, map, None, Some, Ok, Err, refl}
 use Rattle.dap_msg.specs.declared.command.Command.{Command}
 use Rattle.dap_msg.specs.declared.command.Command.TheVariants as command
 use Rattle.dap_msg.specs.Commands.{name_of}
@@ -13,23 +14,33 @@ use Rattle.dap_msg.specs.declared.outgoing.Outgoing.TheVariants.{Answer}
 use Rattle.dap_msg.specs.declared.outgoing.Body.TheVariants as body
 use Rattle.dap_msg.specs.declared.outgoing.EventBody.TheVariants as event
 use Rattle.dap_msg.specs.declared.outgoing.StopReason.TheVariants as stop
+use Rattle.dap_msg.specs.declared.outgoing.Refusal.TheVariants as refusal
+use Rattle.dap_msg.specs.declared.question.Question.TheVariants as question
 use Rattle.dap_msg.specs.declared.requests.launch.LaunchArguments.{LaunchArguments}
 use Rattle.pl0_tree.specs.Tree.{Block}
+use Rattle.pl0_tree.specs.declared.tree.Place.{Place}
+use Rattle.pl0_tree.specs.declared.fault.FaultKind.TheVariants.{Expected, Twice, Unknown, TooEarly, WrongKind}
 use Rattle.dbg_plan.specs.Breakpoints.{Breakpoint}
+use Rattle.dbg_plan.specs.Due.{due}
 use Rattle.dbg_plan.specs.declared.mode.Mode.TheVariants as mode
 use Rattle.dbg_plan.specs.declared.mode.Reason.TheVariants as reason
-use Rattle.dbg_runner.specs.Plain.{PlainReport, Go, Hold}
+use Rattle.dbg_runner.specs.Plain.{PlainReport, Go, Hold, Quit}
 use Rattle.dbg_runner.specs.declared.outcome.SliceOutcome.{SliceOutcome}
 use Rattle.dbg_runner.specs.declared.outcome.SliceOutcome.TheVariants as slice
-use Rattle.dap_history.specs.declared.situation.Situation.TheVariants.{Fresh, Configuring, Running, Stopped, Faulted, Ended}
-use Rattle.dap_history.specs.History.{Content, Loaded, Accepted, Step, History, Effect}
+use Rattle.dap_history.specs.declared.situation.Situation.TheVariants.{Fresh, Ready, Configuring, Running, Stopped, Faulted, Ended}
+use Rattle.dap_history.specs.History.{Content, Loaded, Accepted, InputEnd, Step, History, Effect}
 use Rattle.dap_history.specs.Readings.{from_one, situation, runs, position, reached, numbers_told, plan, waiting_plan, waiting_pause, is_held}
-use Rattle.dap_history.specs.Replies.{Reply, nothing, answered}
-use Rattle.dap_history.specs.Launching.{launches}
+use Rattle.dap_history.specs.Replies.{Reply, nothing, ordering, answered, refused}
+use Rattle.dap_history.specs.Launching.{Launches, launches, syntax}
 use Rattle.dap_history.specs.Breakpoints.{effect_in}
 use Rattle.dap_history.specs.Reports.{Accepts, report_effect}
-use Rattle.dap_history.specs.Emission.{RepliesIn}
+use Rattle.dap_history.specs.Emission.{RepliesIn, Causes}
 use Rattle.dap_history.specs.Transitions.{after_step, after_steps}
+use Rattle.dap_history.specs.ShownQ.{main as text_q}
+
+abbrev IsZero : ℕ → Type 0
+IsZero zero = Unit {0}
+IsZero (suc n) = ⊥
 
 abbrev taken : ℕ → Command → Reply → Step
 taken seq asked reply =
@@ -308,3 +319,107 @@ module _ (text : List ℕ) (program : Block) (path : List ℕ) (bs : List Breakp
   ends_there : (reply : Reply) → RepliesIn Faulted again continues reply
       → after_step Faulted (taken 6 continues reply) ≡ Ended
   ends_there reply is = ap (λ (r : Reply). after_step Faulted (taken 6 continues r)) is
+
+  -- ---- while the program runs
+
+  -- a question is refused
+  refused_running : (reply : Reply) → RepliesIn (situation running) running
+      (command.Inspect (question.StackTrace (record { thread_id = 1; start_frame = 0; levels = 0 }))) reply
+      → reply ≡ refused refusal.NotStopped
+  refused_running reply is = is
+
+  -- a report that comes twice is not accepted again: the next one is expected where the first ended
+  not_twice : ¬ Accepts further (report 0 256 slice.More)
+  not_twice accepts = subst IsZero (ap (λ h. h.start) accepts.expected) tt
+
+  -- the end of the input tells nothing, and orders Quit
+  ends_running : (step : Step) → Causes running InputEnd step
+      → (step.answer ≡ None) × (step.effect ≡ ordering (Quit ∷ []))
+  ends_running step is = (is.answer_is, is.effect_is)
+
+-- ---- a session that steps through the text of `ShownQ`, with `stopOnEntry`
+
+module _ (text path : List ℕ) where
+  abbrev on_entry : History
+  on_entry =
+      taken 1 (command.Initialize from_one) (answered body.Capabilities)
+      ∷ record {
+        item =
+            Loaded (record { seq = 2; arguments = record { program = path; stop_on_entry = true } }) (Some text);
+        answer = Some
+            (Answer 2 (name.Supported supported.Launch) (Ok body.None));
+        effect = launches (record { program = path; stop_on_entry = true }) text text_q;
+      }
+      ∷ []
+
+  abbrev entering : Reply
+  entering = record { result = Ok body.None; effect = record nothing { events = event.Stopped stop.Entry ∷ [] } }
+
+  -- the program stops at position 0, and no run is ordered
+  enters : (reply : Reply) → RepliesIn (situation on_entry) on_entry command.ConfigurationDone reply
+      → reply ≡ entering
+  enters reply is = is
+
+  abbrev entered : History
+  entered = on_entry ++ taken 3 command.ConfigurationDone entering ∷ []
+
+  -- `next` orders run 1, in which one frame may be live
+  steps : (reply : Reply) → RepliesIn (situation entered) entered
+      (command.Resume resume.Next (record { thread_id = 1 })) reply
+      → reply ≡ record {
+        result = Ok body.None;
+        effect = record nothing {
+          orders = Go (record { run = 1; text = text; plan = []; counted_from = 0; mode = mode.Over 1; start = 0 })
+              ∷ [];
+        };
+      }
+  steps reply is = is
+
+-- it stops at position 1, where one frame is live
+steps_once : due text_q [] 0 (mode.Over 1) 1 ≡ Some reason.Step
+steps_once = refl
+
+-- at line 7, whose step is 2
+abbrev at_seven : Breakpoint
+at_seven = record { step = 2; condition = None; rule = None; message = None }
+
+-- the second `next` stops at position 2, at the breakpoint; without it only at 19, after the call
+steps_to_line_7 : due text_q (at_seven ∷ []) 0 (mode.Over 1) 2 ≡ Some reason.Breakpoint
+steps_to_line_7 = refl
+
+steps_over : map (due text_q [] 0 (mode.Over 1)) (2 ∷ 3 ∷ 6 ∷ 10 ∷ 14 ∷ 18 ∷ 19 ∷ []) ≡
+    None ∷ None ∷ None ∷ None ∷ None ∷ None ∷ Some reason.Step ∷ []
+steps_over = refl
+
+-- from position 10, where four frames are live, `stepOut` stops at 12
+steps_out : map (due text_q [] 0 (mode.Out 4)) (11 ∷ 12 ∷ []) ≡ None ∷ Some reason.Step ∷ []
+steps_out = refl
+
+-- in the main program it stops nowhere
+steps_out_of_main : map (due text_q [] 0 (mode.Out 1)) (2 ∷ 10 ∷ 18 ∷ 19 ∷ []) ≡ None ∷ None ∷ None ∷ None ∷ []
+steps_out_of_main = refl
+
+-- ---- launches that are refused
+
+abbrev place : ℕ → ℕ → Place
+place line column = record { line = line; column = column }
+
+-- A text with such a first fault is refused so. Tests have a text for each: `x := 1.`, `var x; x := 1`,
+-- `procedure p; call q; procedure q; ; call p.`, `var x; call x.` and `const a = 1, a = 2; .`.
+syntax_refusals : map (λ (kind, p). syntax kind p) ((Unknown, place 1 1) ∷ (Expected, place 1 14)
+    ∷ (TooEarly, place 1 19) ∷ (WrongKind, place 1 13) ∷ (Twice, place 1 14) ∷ []) ≡
+    refusal.Syntax 10 1 1 ∷ refusal.Syntax 6 1 14 ∷ refusal.Syntax 11 1 19 ∷ refusal.Syntax 12 1 13
+    ∷ refusal.Syntax 9 1 14 ∷ []
+syntax_refusals = refl
+
+-- where there is no file, the launch is refused, and the situation stays Ready, so a further launch may follow
+no_file : (these : LaunchArguments) (reply : Reply) → Launches these None reply
+    → reply ≡ refused refusal.CannotRead
+no_file these reply is = is
+
+stays_ready : (these : LaunchArguments) → after_step Ready (record {
+  item = Loaded (record { seq = 2; arguments = these }) None;
+  answer = Some (Answer 2 (name.Supported supported.Launch) (Err refusal.CannotRead));
+  effect = nothing;
+}) ≡ Ready
+stays_ready these = refl

@@ -1,7 +1,6 @@
 -- What a client is shown of a text with nested procedures, at a stop in its innermost one, computed from the
 -- definitions.
-use Rattle.std.proofs.Common.{◌≡◌, ℕ, List, [], ◌∷◌, Option, Some, None, pos, refl, map}
-use Rattle.std.specs.Prelude.{codes, option_map}
+use Rattle.std.specs.Prelude.{◌≡◌, ℕ, List, [], ◌∷◌, Option, Some, None, pos, refl, map, codes, option_map}
 use Rattle.pl0_tree.specs.declared.tree.Place.{Place}
 use Rattle.pl0_tree.specs.declared.tree.Operator.TheVariants.{Add, Subtract}
 use Rattle.pl0_tree.specs.declared.tree.Relation.TheVariants.{Greater}
@@ -58,7 +57,7 @@ outer = ABlock [] (k 3 5 ∷ []) (AProcedure (q 4 11) inner NoMore)
 
 -- var n; procedure p; var k; procedure q; k := k + n; begin k := n; n := n - 1; if n > 0 then call p; call q; ! k end;
 -- begin n := 2; call p end.
-abbrev main : Block
+abbrev pub main : Block
 main = ABlock [] (n 1 5 ∷ []) (AProcedure (p 2 11) outer NoMore)
     (Then (Assign (n 13 7) (Number (pos 2))) (Then (Call (place 13 15) (p 13 20)) Empty)) (place 13 25)
 

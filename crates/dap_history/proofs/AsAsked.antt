@@ -1,0 +1,366 @@
+-- Each stop of a run is as the command asks by which the program goes.
+use Rattle.std.proofs.Common.{◌≡◌, ℕ, ◌+◌, ◌<◌, [], ◌∷◌, ◌++◌, Bool, true, false, ◌&&◌, Option, None, Some, Result, Ok, Err, refl, sym, ◌∙◌, ap, subst}
+use Rattle.std.specs.Prelude.{if◌then◌else◌, option_map, is_some, IsSome, nat_le, nat_lt}
+use Rattle.dap_msg.specs.Commands.{name_of}
+use Rattle.dap_msg.specs.declared.request.Request.{Request}
+use Rattle.dap_msg.specs.declared.command.Command.{Command}
+use Rattle.dap_msg.specs.declared.command.Command.TheVariants as command
+use Rattle.dap_msg.specs.declared.requests.resume.ResumeKind.TheVariants as resume
+use Rattle.dap_msg.specs.declared.requests.resume.RetreatKind.{RetreatKind}
+use Rattle.dap_msg.specs.declared.requests.resume.RetreatKind.TheVariants as retreat
+use Rattle.dap_msg.specs.declared.requests.resume.ThreadArguments.{ThreadArguments}
+use Rattle.dap_msg.specs.declared.outgoing.Outgoing.TheVariants.{Answer}
+use Rattle.dap_msg.specs.declared.outgoing.Body.{Body}
+use Rattle.dap_msg.specs.declared.outgoing.Refusal.{Refusal}
+use Rattle.dap_msg.specs.declared.outgoing.StopReason.{StopReason}
+use Rattle.dap_msg.specs.declared.outgoing.StopReason.TheVariants as stop
+use Rattle.pl0_meaning.specs.Laws.{WrittenJoins}
+use Rattle.dbg_plan.specs.Due.{reason_of, depth_at}
+use Rattle.dbg_plan.specs.Retreat.{Stop, stop_at, last_due, stepped_back, reversed, goal_of, NoneIsDue, LeadsBack, LastDueIsLast}
+use Rattle.dbg_plan.specs.declared.mode.Mode.{Mode}
+use Rattle.dbg_plan.specs.declared.mode.Mode.TheVariants as mode
+use Rattle.dbg_plan.specs.declared.mode.Reason.{Reason}
+use Rattle.dbg_plan.specs.declared.mode.Reason.TheVariants as reason
+use Rattle.dbg_runner.specs.Plain.{Heading, goes_back}
+use Rattle.dbg_runner.specs.declared.outcome.SliceOutcome.{SliceOutcome}
+use Rattle.dbg_runner.specs.declared.outcome.SliceOutcome.TheVariants as slice
+use Rattle.dap_history.specs.Last.{or_else, last_such}
+use Rattle.dap_history.specs.History.{Launched, Item, Content, Loaded, Accepted, Step, History, Effect}
+use Rattle.dap_history.specs.Readings.{go, situation, launched, last_run, position}
+use Rattle.dap_history.specs.Emission.{Causes}
+use Rattle.dap_history.specs.Stops.{told_reason, due_in, NoneDueBefore, IsRunsStop, IsRetreatsStop, IsStopOf, IsRightStop, run_in}
+use Rattle.dap_history.specs.Runs.{Grants, mode_by, held_mode, mode_asked}
+use Rattle.dap_history.specs.Moves.{is_request, sets_going, GoesBy, is_done, is_met, reason_at, NowhereBefore, StopsForward, NoneMet, StopsBack, StopsAsAsked, EachStopIsAsAsked}
+use Rattle.dap_history.proofs.Readings.{launched-snoc, last_run-snoc}
+use Rattle.dap_history.proofs.Texts.{OneProgram}
+use Rattle.dap_history.proofs.Along.{IsTaken, IsKept, IsLawfulEvent, lawful_events, along}
+use Rattle.dap_history.proofs.Each.{WasTaken, EachTaken, each_kept, each_first}
+use Rattle.dap_history.proofs.Early.{IsEarly}
+use Rattle.dap_history.proofs.Silent.{all_silent}
+use Rattle.dap_history.proofs.Outputs.{report_launches}
+use Rattle.dap_history.proofs.Passing.{Ran, loaded_orders}
+use Rattle.dap_history.proofs.Stopping.{ran_more, ran_first, each_stop_right}
+use Rattle.dap_history.proofs.Asked.{item_mode}
+use Rattle.dap_history.proofs.Judged.{refused_step}
+use Rattle.dap_history.proofs.Since.{longer, none_since, one_more_since}
+
+-- ---- the command by which the program goes
+
+-- the last run is in the mode that the command asks for by which the program goes
+record WentBy (past : History) (l : Launched) (run : Heading) : Type 0 where
+  asked : Command
+  from : ℕ
+  goes : GoesBy past asked from
+  mode_is : mode_by (depth_at l.program from) asked ≡ Some run.mode
+
+abbrev IsGoing : History → Type 0
+IsGoing past = (l : Launched) (run : Heading) → launched past ≡ Some l → last_run past ≡ Some run → WentBy past l run
+
+goes_on : (past : History) (step : Step) (asked : Command) (from : ℕ) → sets_going step ≡ false → GoesBy past asked from
+    → GoesBy (past ++ step ∷ []) asked from
+goes_on past step asked from stays by = record {
+  early = by.early;
+  step = by.step;
+  later = by.later ++ step ∷ [];
+  past_is = longer past by.early by.step by.later step by.past_is;
+  request = by.request;
+  granted = by.granted;
+  asked_is = by.asked_is;
+  from_is = by.from_is;
+  goes = by.goes;
+  last = one_more_since (λ (s : Step). sets_going s ≡ false) by.later step by.last stays;
+}
+
+-- a request that orders a run is granted
+granted_by : (past : History) (step : Step) (request : Request) (run : Heading) → step.item ≡ Content (Some request)
+    → Causes past (Content (Some request)) step → run_in step ≡ Some run → Grants step request
+granted_by past step request run item_is is goes = by_result is.0.result refl
+  where
+    by_result : (r : Result Body Refusal) → is.0.result ≡ r → Grants step request
+    by_result (Ok b) same = record {
+      item_is = item_is;
+      body = b;
+      answer_is = is.2.answer_is ∙ ap (λ x. Some (Answer request.seq (name_of request.body) x)) same;
+    }
+    by_result (Err why) same =
+        let none = refused_step past (Content (Some request)) step request.seq (name_of request.body) why is
+        (is.2.answer_is ∙ ap (λ x. Some (Answer request.seq (name_of request.body) x)) same) in
+        let e = sym (ap (last_such go) none.orders_are) ∙ goes in absurd cc
+
+module _ (one : OneProgram) (joins : WrittenJoins) where
+  module _ (past : History) (step : Step) (taken : IsTaken IsLawfulEvent past step.item)
+      (causes : Causes past step.item step) (ran : Ran one joins past) (going : IsGoing past) where
+    -- a step launches a program only where none ran
+    launched_before : (l : Launched) (run : Heading) (item : Item) → step.item ≡ item → Causes past item step
+        → IsTaken IsLawfulEvent past item → launched (past ++ step ∷ []) ≡ Some l
+        → last_run (past ++ step ∷ []) ≡ Some run → launched past ≡ Some l
+    launched_before l run item item_is is taken_ there run_is =
+        ap (λ o. or_else o (launched past)) (sym (launches_none item is taken_ run_is))
+        ∙ sym (launched-snoc past step) ∙ there
+      where
+        launches_none : (item : Item) → Causes past item step → IsTaken IsLawfulEvent past item
+            → last_run (past ++ step ∷ []) ≡ Some run → step.effect.launched ≡ None
+        launches_none (Content (Some request)) is taken_ run_is =
+            ap (λ (e : Effect). e.launched) is.2.effect_is
+            ∙ (all_silent (situation past) past request.body is.0 is.1).no_launch
+        launches_none (Loaded launch file) is ready run_is =
+            let none = last_run-snoc past step
+            ∙ ap (λ o. or_else o (last_run past)) (ap (λ (e : Effect). last_such go e.orders) is.2.effect_is
+            ∙ loaded_orders launch file is.0 is.1)
+            ∙ (ran.so_far.progress None (ran.so_far.early (subst IsEarly (sym ready) tt))).1 in
+            let e = sym none ∙ run_is in absurd cc
+        launches_none (Accepted r) is taken_ run_is =
+            ap (λ (e : Effect). e.launched) is.effect_is ∙ report_launches past r r.outcome
+        launches_none _ is taken_ run_is = ap (λ (e : Effect). e.launched) is.effect_is
+
+    -- where a run is ordered, the program goes by the request, or as before
+    newly : (l : Launched) (run : Heading) (item : Item) → step.item ≡ item → Causes past item step
+        → launched past ≡ Some l → run_in step ≡ Some run
+        → mode_asked past l.program item ≡ Some run.mode → WentBy (past ++ step ∷ []) l run
+    newly l run (Content (Some request)) item_is is there goes mode_is = record {
+      asked = request.body;
+      from = position past;
+      goes = record {
+        early = past;
+        step = step;
+        later = [];
+        past_is = refl;
+        request = request;
+        granted = granted_by past step request run item_is is goes;
+        asked_is = refl;
+        from_is = refl;
+        goes = ap (λ o. is_some o && is_request step.item) goes ∙ ap is_request item_is;
+        last = none_since (λ (s : Step). sets_going s ≡ false);
+      };
+      mode_is = mode_is;
+    }
+    newly l run (Accepted r) item_is is there goes mode_is = by_last (last_run past) refl r.outcome mode_is
+      where
+        by_last : (o : Option Heading) → last_run past ≡ o → (e : SliceOutcome) → held_mode e o ≡ Some run.mode
+            → WentBy (past ++ step ∷ []) l run
+        by_last (Some old) old_is slice.Held mode_is =
+            let was = going l old there old_is in record {
+              asked = was.asked;
+              from = was.from;
+              goes = goes_on past step was.asked was.from
+                  (ap (λ o. is_some o && is_request step.item) goes ∙ ap is_request item_is) was.goes;
+              mode_is = was.mode_is ∙ mode_is;
+            }
+        by_last None old_is slice.Held mode_is = absurd cc
+        by_last o old_is _ mode_is = absurd cc
+    newly l run _ item_is is there goes mode_is = absurd cc
+
+    going_more : IsGoing (past ++ step ∷ [])
+    going_more l run there run_is = by_run (run_in step) refl
+      where
+        before : launched past ≡ Some l
+        before = launched_before l run step.item refl causes taken there run_is
+
+        by_run : (o : Option Heading) → run_in step ≡ o → WentBy (past ++ step ∷ []) l run
+        by_run None none =
+            let old_is = ap (λ o. or_else o (last_run past)) (sym none) ∙ sym (last_run-snoc past step) ∙ run_is in
+            let was = going l run before old_is in record {
+              asked = was.asked;
+              from = was.from;
+              goes = goes_on past step was.asked was.from (ap (λ o. is_some o && is_request step.item) none) was.goes;
+              mode_is = was.mode_is;
+            }
+        by_run (Some new) goes =
+            let same : new ≡ run =
+            let e = sym (ap (λ o. or_else o (last_run past)) goes) ∙ sym (last_run-snoc past step) ∙ run_is in cc in
+            let asks = item_mode one joins past step.item step taken causes ran new goes in
+            let same_l : asks.0 ≡ l = let e = sym asks.1 ∙ before in cc in
+            newly l run step.item refl causes before (goes ∙ ap Some same)
+            (ap (λ (p : Launched). mode_asked past p.program step.item) (sym same_l) ∙ asks.2
+            ∙ ap (λ (h : Heading). Some h.mode) same)
+
+  abbrev Kept : History → Type 0
+  Kept past = Ran one joins past × IsGoing past
+
+  kept_kept : IsKept IsLawfulEvent Kept
+  kept_kept = record {
+    step = λ past item new taking taken after here.
+        let taken_now = subst (IsTaken IsLawfulEvent past) (sym after.item_is) taken in
+        let causes_now = subst (λ i. Causes past i after.step) (sym after.item_is) after.causes in
+        subst Kept (sym after.new_is) (
+          ran_more one joins past after.step taken_now causes_now here.0,
+          going_more past after.step taken_now causes_now here.0 here.1,
+        );
+  }
+
+  kept_first : Kept []
+  kept_first = (ran_first one joins, λ l run there run_is. absurd cc)
+
+-- ---- a run forward
+
+-- the reason that the mode gives, by whether the command is done
+abbrev done_reason : Bool → Option Reason
+done_reason true = Some reason.Step
+done_reason false = None
+
+-- a command that lets the program run forward
+abbrev GoesForward : Command → Type 0
+GoesForward (command.Retreat kind a) = ⊥
+GoesForward _ = Unit {0}
+
+mode_done : (asked : Command) (m : Mode) (d n : ℕ) → GoesForward asked → mode_by d asked ≡ Some m
+    → (reason_of m n ≡ done_reason (is_done asked d n)) × (goes_back m ≡ false)
+mode_done command.ConfigurationDone m d n forward is =
+    let same : mode.Continue ≡ m = cc in
+    subst (λ m. (reason_of m n ≡ None) × (goes_back m ≡ false)) same (refl, refl)
+mode_done (command.Resume resume.Continue a) m d n forward is =
+    let same : mode.Continue ≡ m = cc in
+    subst (λ m. (reason_of m n ≡ None) × (goes_back m ≡ false)) same (refl, refl)
+mode_done (command.Resume resume.StepIn a) m d n forward is =
+    let same : mode.In ≡ m = cc in
+    subst (λ m. (reason_of m n ≡ Some reason.Step) × (goes_back m ≡ false)) same (refl, refl)
+mode_done (command.Resume resume.Next a) m d n forward is =
+    let same : mode.Over d ≡ m = cc in
+    subst (λ m. (reason_of m n ≡ done_reason (nat_le n d)) × (goes_back m ≡ false)) same (by_test (nat_le n d), refl)
+  where
+    by_test : (b : Bool) → (if b then Some reason.Step else None) ≡ done_reason b
+    by_test true = refl
+    by_test false = refl
+mode_done (command.Resume resume.StepOut a) m d n forward is =
+    let same : mode.Out d ≡ m = cc in
+    subst (λ m. (reason_of m n ≡ done_reason (nat_lt n d)) × (goes_back m ≡ false)) same (by_test (nat_lt n d), refl)
+  where
+    by_test : (b : Bool) → (if b then Some reason.Step else None) ≡ done_reason b
+    by_test true = refl
+    by_test false = refl
+mode_done (command.Retreat kind a) m d n forward is = absurd forward
+mode_done _ m d n forward is = absurd cc
+
+-- what the two tests say, as the client is told
+told_by : (met done : Bool)
+    → option_map told_reason (if met then Some reason.Breakpoint else done_reason done)
+    ≡ (if met then Some stop.Breakpoint else (if done then Some stop.Step else None))
+told_by true done = refl
+told_by false true = refl
+told_by false false = refl
+
+module _ (l : Launched) (run : Heading) (asked : Command) (from : ℕ) (forward : GoesForward asked)
+    (mode_is : mode_by (depth_at l.program from) asked ≡ Some run.mode) where
+  reason_is : (m : ℕ) → option_map told_reason (due_in l run m) ≡ reason_at l run asked from m
+  reason_is m =
+      let met = is_met l run run.counted_from m in
+      let depth = depth_at l.program m in
+      ap (λ o. option_map told_reason (if met then Some reason.Breakpoint else o))
+      (mode_done asked run.mode (depth_at l.program from) depth forward mode_is).0
+      ∙ told_by met (is_done asked (depth_at l.program from) depth)
+
+  nowhere : (k : ℕ) → due_in l run k ≡ None → reason_at l run asked from k ≡ None
+  nowhere k none = sym (reason_is k) ∙ ap (option_map told_reason) none
+
+  first_so : (r : Reason) (s : StopReason) (m : ℕ) → s ≡ told_reason r → (due_in l run m ≡ Some r) × (run.start < m)
+      × NoneDueBefore l run m
+      → (reason_at l run asked from m ≡ Some s) × (run.start < m) × NowhereBefore l run asked from m
+  first_so r s m told is = (
+    sym (reason_is m) ∙ ap (option_map told_reason) is.0 ∙ ap Some (sym told),
+    is.1,
+    λ k above below. nowhere k (is.2 k above below),
+  )
+
+  runs_so : (s : StopReason) (m : ℕ) → IsRunsStop l run s m → StopsForward l run asked from s m
+  runs_so stop.Pause m is = (is.0, λ k above up_to. nowhere k (is.1 k above up_to))
+  runs_so (stop.Exception x) m is =
+      (is.0, is.1, is.2, is.3, λ k above up_to. nowhere k (is.4 k above up_to))
+  runs_so stop.Breakpoint m is = first_so is.0 stop.Breakpoint m is.1 (is.2, is.3, is.4)
+  runs_so stop.Step m is = first_so is.0 stop.Step m is.1 (is.2, is.3, is.4)
+  runs_so stop.Entry m is = first_so is.0 stop.Entry m is.1 (is.2, is.3, is.4)
+
+  forward_so : (s : StopReason) (m : ℕ) → IsStopOf (goes_back run.mode) l run s m → StopsForward l run asked from s m
+  forward_so s m is =
+      runs_so s m (subst (λ b. IsStopOf b l run s m)
+      (mode_done asked run.mode (depth_at l.program from) 0 forward mode_is).1 is)
+
+-- ---- a run back
+
+-- nothing is due in the mode Continue just where no breakpoint stops the program
+met_not : (met : Bool) → (if met then Some reason.Breakpoint else None) ≡ None → met ≡ false
+met_not true is = absurd cc
+met_not false is = refl
+
+met_so : (met : Bool) → IsSome (if met then Some reason.Breakpoint else None) → met ≡ true
+met_so true is = refl
+met_so false is = absurd cc
+
+module _ (last : LastDueIsLast) (l : Launched) (run : Heading) where
+  none_met : (m : ℕ) → NoneIsDue l.program run.plan m run.start → NoneMet l run m
+  none_met m none k from below = met_not (is_met l run 0 k) (none k from below)
+
+  -- the stop that is told is that position and reason
+  steps_so : (s : StopReason) (m : ℕ) → IsRetreatsStop l run s m → run.mode ≡ mode.StepBack
+      → StopsBack l run retreat.StepBack s m
+  steps_so s m is mode_is =
+      let goal : stepped_back run.start ≡ is.0 =
+      let e = sym (ap (λ n. goal_of l.program run.plan n run.start) mode_is) ∙ is.1 in cc in
+      subst (λ s. StopsBack l run retreat.StepBack s m)
+      (sym (is.3 ∙ ap (λ (g : Stop). told_reason g.reason) (sym goal)))
+      (is.2 ∙ ap (λ (g : Stop). g.position) (sym goal))
+
+  reverses_so : (s : StopReason) (m : ℕ) → IsRetreatsStop l run s m → run.mode ≡ mode.Reverse
+      → StopsBack l run retreat.ReverseContinue s m
+  reverses_so s m is mode_is =
+      let goal : reversed l.program run.plan run.start ≡ is.0 =
+      let e = sym (ap (λ n. goal_of l.program run.plan n run.start) mode_is) ∙ is.1 in cc in
+      by_last (last_due l.program run.plan run.start) goal (last l.program run.plan run.start)
+    where
+      by_last : (o : Option ℕ) → stop_at o ≡ is.0 → LeadsBack l.program run.plan run.start o
+          → StopsBack l run retreat.ReverseContinue s m
+      by_last None goal none =
+          subst (λ s. StopsBack l run retreat.ReverseContinue s m)
+          (sym (is.3 ∙ ap (λ (g : Stop). told_reason g.reason) (sym goal)))
+          (is.2 ∙ ap (λ (g : Stop). g.position) (sym goal), none_met 0 none)
+      by_last (Some k) goal there =
+          let here : m ≡ k = is.2 ∙ ap (λ (g : Stop). g.position) (sym goal) in
+          subst (λ s. StopsBack l run retreat.ReverseContinue s m)
+          (sym (is.3 ∙ ap (λ (g : Stop). told_reason g.reason) (sym goal)))
+          (subst (λ n. StopsBack l run retreat.ReverseContinue stop.Breakpoint n) (sym here)
+          (there.0, met_so (is_met l run 0 k) there.1, none_met (k + 1) there.2))
+
+  back_so : (kind : RetreatKind) (a : ThreadArguments) (d : ℕ) (s : StopReason) (m : ℕ)
+      → mode_by d (command.Retreat kind a) ≡ Some run.mode → IsStopOf (goes_back run.mode) l run s m
+      → StopsBack l run kind s m
+  back_so retreat.StepBack a d s m mode_is is =
+      let same : run.mode ≡ mode.StepBack = cc in
+      steps_so s m (subst (λ n. IsStopOf (goes_back n) l run s m) same is) same
+  back_so retreat.ReverseContinue a d s m mode_is is =
+      let same : run.mode ≡ mode.Reverse = cc in
+      reverses_so s m (subst (λ n. IsStopOf (goes_back n) l run s m) same is) same
+
+  -- ---- either
+
+  as_asked : (asked : Command) (from : ℕ) (s : StopReason) (m : ℕ)
+      → mode_by (depth_at l.program from) asked ≡ Some run.mode → IsStopOf (goes_back run.mode) l run s m
+      → StopsAsAsked l run asked from s m
+  as_asked (command.Retreat kind a) from s m mode_is is =
+      back_so kind a (depth_at l.program from) s m mode_is is
+  as_asked command.ConfigurationDone from s m mode_is is =
+      forward_so l run command.ConfigurationDone from tt mode_is s m is
+  as_asked (command.Resume kind a) from s m mode_is is =
+      forward_so l run (command.Resume kind a) from tt mode_is s m is
+  as_asked _ from s m mode_is is = absurd cc
+
+pub stops_as_asked : OneProgram → WrittenJoins → LastDueIsLast → EachStopIsAsAsked
+stops_as_asked one joins last events past rest lawful history before s m stops_at run run_is = (
+  right.0,
+  by.asked,
+  by.from,
+  right.1,
+  by.goes,
+  as_asked last right.0 run by.asked by.from s m by.mode_is
+      (subst (λ o. IsRightStop right.0 before o s m) run_is right.2),
+)
+  where
+    right : (l : Launched) × (launched before ≡ Some l) × IsRightStop l before (last_run before) s m
+    right = each_stop_right one joins events past rest lawful history before s m stops_at
+
+    was : WasTaken IsLawfulEvent (Kept one joins) before stops_at.step
+    was = (along IsLawfulEvent (EachTaken IsLawfulEvent (Kept one joins))
+        (each_kept IsLawfulEvent (Kept one joins) (kept_kept one joins))
+        (each_first IsLawfulEvent (Kept one joins) (kept_first one joins)) events past rest
+        (lawful_events events lawful) history).each before stops_at.step stops_at.after stops_at.past_is
+
+    by : WentBy before right.0 run
+    by = was.held.1 right.0 run right.1 run_is

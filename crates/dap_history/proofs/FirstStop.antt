@@ -1,0 +1,118 @@
+-- A granted `configurationDone` stops the program at position 0 where it has to, and otherwise lets it run.
+use Rattle.std.proofs.Common.{◌≡◌, ℕ, [], Bool, true, false, Option, None, Some, Ok, refl, sym, ◌∙◌, ap, subst, append-nil}
+use Rattle.std.specs.Prelude.{if◌then◌else◌, option_map, is_some, is_none, unwrap_or}
+use Rattle.std.specs.List.{list_any}
+use Rattle.dap_msg.specs.declared.outgoing.Body.{Body}
+use Rattle.dap_msg.specs.declared.outgoing.Body.TheVariants as body
+use Rattle.dap_msg.specs.declared.outgoing.StopReason.TheVariants as stop
+use Rattle.pl0_meaning.specs.Laws.{WrittenJoins}
+use Rattle.dbg_plan.specs.Due.{stops as met, reason_of, due, depth_at}
+use Rattle.dbg_plan.specs.declared.mode.Mode.TheVariants as mode
+use Rattle.dbg_plan.specs.declared.mode.Reason.{Reason}
+use Rattle.dbg_plan.specs.declared.mode.Reason.TheVariants as reason
+use Rattle.dap_history.specs.declared.situation.Situation.{Situation}
+use Rattle.dap_history.specs.declared.situation.Situation.TheVariants.{Configuring}
+use Rattle.dap_history.specs.Last.{last_such}
+use Rattle.dap_history.specs.History.{Launched, Content, History, Effect}
+use Rattle.dap_history.specs.Readings.{go, situation, launched, plan}
+use Rattle.dap_history.specs.Replies.{Reply, OfProgram, causing, stops, stop_of}
+use Rattle.dap_history.specs.Running.{first_mode, first_logs, enters, ConfiguresIn}
+use Rattle.dap_history.specs.Emission.{RepliesIn, Causes}
+use Rattle.dap_history.specs.Stops.{stop_of_event, stop_in, run_in}
+use Rattle.dap_history.specs.Moves.{first_stop, PositionZeroIsConsidered}
+use Rattle.dap_history.proofs.Texts.{OneProgram}
+use Rattle.dap_history.proofs.Told.{stop_of_logs}
+use Rattle.dap_history.proofs.Silent.{first_at}
+use Rattle.dap_history.proofs.Shapes.{due_first}
+use Rattle.dap_history.proofs.Holding.{result_of}
+use Rattle.dap_history.proofs.Judged.{was_taken}
+use Rattle.dap_history.proofs.Lines.{first_counts}
+
+-- the program that is launched, of which this is said
+program_of : (o : Option Launched) (says : Launched → Type 0) → OfProgram o says
+    → (l : Launched) × (o ≡ Some l) × says l
+program_of None says is = absurd is
+program_of (Some l) says is = (l, refl, is)
+
+-- where `configurationDone` is granted, the program enters
+record Enters (past : History) (s : Situation) (effect : Effect) : Type 0 where
+  l : Launched
+  there : launched past ≡ Some l
+  configuring : s ≡ Configuring
+  effect_is : effect ≡ enters past l (due_first past l)
+
+granted_enters : (past : History) (s : Situation) (reply : Reply) (b : Body) → reply.result ≡ Ok b
+    → ConfiguresIn s past reply → Enters past s reply.effect
+granted_enters past Configuring reply b granted is =
+    let by = program_of (launched past) (λ l. reply ≡ causing body.None (enters past l (due_first past l))) is in
+    record { l = by.0; there = by.1; configuring = refl; effect_is = ap (λ (r : Reply). r.effect) by.2 }
+granted_enters past _ reply b granted is =
+    let e = sym (ap (λ (r : Reply). r.result) is) ∙ granted in absurd cc
+
+-- why the program stops at position 0, by whether a breakpoint stops it there and by `stopOnEntry`
+first_reason : (met_there entry : Bool) (depth : ℕ)
+    → option_map stop_of (if met_there then Some reason.Breakpoint
+    else reason_of (if entry then mode.Entry else mode.Continue) depth)
+    ≡ (if met_there then Some stop.Breakpoint else (if entry then Some stop.Entry else None))
+first_reason true entry depth = refl
+first_reason false true depth = refl
+first_reason false false depth = refl
+
+first_due : (past : History) (l : Launched) → (plan past).counted_from ≡ 0
+    → option_map stop_of (due_first past l) ≡ first_stop l (plan past).breakpoints
+first_due past l counts =
+    ap (λ t. option_map stop_of (due l.program (plan past).breakpoints t (first_mode l) 0)) counts
+    ∙ first_reason (list_any (met l.program 0 0) (plan past).breakpoints) l.stop_on_entry (depth_at l.program 0)
+
+-- the stop, and whether a run is ordered
+enters_stops : (past : History) (l : Launched) (why : Option Reason)
+    → (last_such stop_of_event (enters past l why).events ≡ option_map stop_of why)
+    × (is_some (last_such go (enters past l why).orders) ≡ is_none (option_map stop_of why))
+enters_stops past l None = (
+  ap (last_such stop_of_event) (sym (append-nil (first_logs past l)))
+      ∙ stop_of_logs (plan past).breakpoints (first_at past l) [],
+  refl,
+)
+enters_stops past l (Some r) = (stop_of_logs (plan past).breakpoints (first_at past l) (stops (stop_of r)), refl)
+
+module _ (one : OneProgram) (joins : WrittenJoins) where
+  pub zero_considered : PositionZeroIsConsidered
+  zero_considered events past rest lawful history before step after request past_is grants asked_is =
+      (there.l, there.there, stop_is, runs_is)
+    where
+      is : Causes before (Content (Some request)) step
+      is = subst (λ i. Causes before i step) grants.item_is
+          (was_taken events past rest history before step after past_is).causes
+
+      configures : ConfiguresIn (situation before) before is.0
+      configures = subst (λ c. RepliesIn (situation before) before c is.0) asked_is is.1
+
+      granted : is.0.result ≡ Ok grants.body
+      granted = ap (λ a. unwrap_or (result_of a) (Ok grants.body)) (sym is.2.answer_is ∙ grants.answer_is)
+
+      there : Enters before (situation before) is.0.effect
+      there = granted_enters before (situation before) is.0 grants.body granted configures
+
+      effect_is : step.effect ≡ enters before there.l (due_first before there.l)
+      effect_is = is.2.effect_is ∙ there.effect_is
+
+      counts : (plan before).counted_from ≡ 0
+      counts = first_counts one joins events past rest lawful history before step after past_is there.l there.there
+          there.configuring
+
+      due_is : option_map stop_of (due_first before there.l) ≡ first_stop there.l (plan before).breakpoints
+      due_is = first_due before there.l counts
+
+      enters_so : (last_such stop_of_event (enters before there.l (due_first before there.l)).events
+          ≡ option_map stop_of (due_first before there.l))
+          × (is_some (last_such go (enters before there.l (due_first before there.l)).orders)
+          ≡ is_none (option_map stop_of (due_first before there.l)))
+      enters_so = enters_stops before there.l (due_first before there.l)
+
+      stop_is : stop_in step ≡ first_stop there.l (plan before).breakpoints
+      stop_is = ap (λ (e : Effect). last_such stop_of_event e.events) effect_is ∙ enters_so.0 ∙ due_is
+
+      runs_is : is_some (run_in step) ≡ is_none (stop_in step)
+      runs_is =
+          ap (λ (e : Effect). is_some (last_such go e.orders)) effect_is ∙ enters_so.1 ∙ ap is_none due_is
+          ∙ ap is_none (sym stop_is)

@@ -1,0 +1,365 @@
+-- Each line of a granted `setBreakpoints` is answered from the program, in the client's own counting.
+use Rattle.std.proofs.Common.{◌≡◌, ◌⊎◌, inl, inr, ℕ, ◌+◌, ◌-◌, ◌<◌, ◌≤◌, List, [], ◌∷◌, ◌++◌, map, length, get_or, Bool, true, false, Option, None, Some, Result, Ok, Err, refl, sym, ◌∙◌, ap, subst, arith}
+use Rattle.std.specs.Prelude.{slice_get, unwrap_or, string_bytes}
+use Rattle.std.specs.Option.{option_map_or}
+use Rattle.std.specs.List.{position, position_or_len}
+use Rattle.std.proofs.lemmas.Grind.{common_steps}
+use Rattle.std.proofs.lemmas.Option.{slice_get_cases}
+use Rattle.dap_msg.specs.Commands.{name_of}
+use Rattle.dap_msg.specs.declared.command.Command.{Command}
+use Rattle.dap_msg.specs.declared.command.Command.TheVariants as command
+use Rattle.dap_msg.specs.declared.requests.initialize.InitializeArguments.{InitializeArguments}
+use Rattle.dap_msg.specs.declared.requests.set_breakpoints.SetBreakpointsArguments.{SetBreakpointsArguments}
+use Rattle.dap_msg.specs.declared.requests.set_breakpoints.SourceBreakpoint.{SourceBreakpoint}
+use Rattle.dap_msg.specs.declared.outgoing.Outgoing.TheVariants.{Answer}
+use Rattle.dap_msg.specs.declared.outgoing.Body.{Body}
+use Rattle.dap_msg.specs.declared.outgoing.Body.TheVariants as body
+use Rattle.dap_msg.specs.declared.outgoing.Refusal.{Refusal}
+use Rattle.dap_msg.specs.declared.outgoing.BreakpointAnswer.{BreakpointAnswer}
+use Rattle.dap_msg.specs.declared.outgoing.BreakpointAnswer.TheVariants as answer
+use Rattle.dap_msg.specs.declared.outgoing.BreakpointRefusal.TheVariants as why
+use Rattle.pl0_tree.specs.Tree.{Block}
+use Rattle.pl0_tree.specs.Steps.{StepAt, steps}
+use Rattle.dbg_plan.specs.Breakpoints.{Breakpoint}
+use Rattle.dbg_plan.specs.Resolutions.{step_from, HasConditionAt, HasRule, HasMessageAt, IsResolvedTo, AreResolved, ReadsConditionAt, ReadsRule, ReadsMessageAt}
+use Rattle.dbg_plan.specs.declared.resolving.SourceBreakpoint.{SourceBreakpoint as AskedLine}
+use Rattle.dbg_plan.specs.declared.resolving.Resolution.{Resolution}
+use Rattle.dbg_plan.specs.declared.resolving.Resolution.TheVariants.{At, NoStep, BadCondition, BadHitCondition, BadLogMessage}
+use Rattle.dap_history.specs.declared.situation.Situation.{Situation}
+use Rattle.dap_history.specs.declared.situation.Situation.TheVariants.{Fresh, Ready}
+use Rattle.dap_history.specs.History.{Launched, Item, Content, Loaded, Accepted, Step, History}
+use Rattle.dap_history.specs.Readings.{situation, settings_by, settings, launched}
+use Rattle.dap_history.specs.Replies.{Reply, OfProgram}
+use Rattle.dap_history.specs.Breakpoints.{offset, line_offset, IsAskedAs, AreAskedAs, step_line, answer_of, is_at, SetsOf, SetsIn}
+use Rattle.dap_history.specs.Emission.{RepliesIn, Causes}
+use Rattle.dap_history.specs.Events.{Incoming, Rest, IsHistoryOf}
+use Rattle.dap_history.specs.Stops.{stop_in}
+use Rattle.dap_history.specs.Transitions.{command_leads, item_leads, after_step}
+use Rattle.dap_history.specs.LineAnswers.{AnswersLine, AnswersLines, GivesBreakpoint, GiveBreakpoints, LinesAreAnswered}
+use Rattle.dap_history.specs.Initialized.{IsInitializedBy, less_by}
+use Rattle.dap_history.proofs.Readings.{settings-snoc}
+use Rattle.dap_history.proofs.Along.{IsTaken, IsKept, any_events, along}
+use Rattle.dap_history.proofs.Each.{WasTaken, EachTaken, each_kept, each_first}
+use Rattle.dap_history.proofs.Transitions.{step_leads}
+use Rattle.dap_history.proofs.Holding.{result_of}
+use Rattle.dap_history.proofs.Paths.{at_path, at_path_so}
+use Rattle.dap_history.proofs.Since.{longer}
+
+abbrev pub Any : Incoming → Type 0
+Any e = Unit {0}
+
+-- ---- how the client counts
+
+-- the client hasn't initialized the session, or counts as it said then
+abbrev pub IsCounted : History → Type 0
+IsCounted past = (situation past ≡ Fresh) ⊎ IsInitializedBy past (settings past)
+
+pub offset_is : (b : Bool) → offset b ≡ less_by b
+offset_is true = refl
+offset_is false = refl
+
+module _ (past : History) (step : Step) (taken : IsTaken Any past step.item) (causes : Causes past step.item step) where
+  settings_after : (o : Option InitializeArguments) → settings_by step.item step.answer ≡ o
+      → settings (past ++ step ∷ []) ≡ unwrap_or o (settings past)
+  settings_after o is = settings-snoc past step ∙ ap (λ x. unwrap_or x (settings past)) is
+
+  counts_on : IsInitializedBy past (settings past) → IsInitializedBy (past ++ step ∷ []) (settings past)
+  counts_on was = record {
+    early = was.early;
+    step = was.step;
+    later = was.later ++ step ∷ [];
+    past_is = longer past was.early was.step was.later step was.past_is;
+    request = was.request;
+    granted = was.granted;
+    asked_is = was.asked_is;
+  }
+
+  -- a granted `initialize` says how
+  begins_to_count : (item : Item) → step.item ≡ item → Causes past item step → (a : InitializeArguments)
+      → settings_by item step.answer ≡ Some a
+      → IsInitializedBy (past ++ step ∷ []) a
+  begins_to_count (Content (Some request)) item_is is a says = by_result is.0.result refl
+      (sym (ap (settings_by (Content (Some request))) is.2.answer_is) ∙ says)
+    where
+      by_body : (c : Command) (b : Body) → request.body ≡ c → is.0.result ≡ Ok b
+          → settings_by (Content (Some (record { seq = request.seq; body = c })))
+          (Some (Answer request.seq (name_of request.body) (Ok b))) ≡ Some a
+          → IsInitializedBy (past ++ step ∷ []) a
+      by_body (command.Initialize asked) b body_is granted says =
+          let same : asked ≡ a = cc in record {
+            early = past;
+            step = step;
+            later = [];
+            past_is = refl;
+            request = request;
+            granted =
+                record {
+                  item_is = item_is;
+                  body = b;
+                  answer_is = is.2.answer_is
+                      ∙ ap (λ r. Some (Answer request.seq (name_of request.body) r)) granted;
+                };
+            asked_is = body_is ∙ ap command.Initialize same;
+          }
+      by_body _ b body_is granted says = absurd cc
+
+      by_result : (r : Result Body Refusal) → is.0.result ≡ r
+          → settings_by (Content (Some request)) (Some (Answer request.seq (name_of request.body) is.0.result)) ≡ Some a
+          → IsInitializedBy (past ++ step ∷ []) a
+      by_result (Ok b) granted says =
+          by_body request.body b refl granted
+          (ap (λ r. settings_by (Content (Some request)) (Some (Answer request.seq (name_of request.body) r)))
+          (sym granted) ∙ says)
+      by_result (Err why_) refused says =
+          let e = ap (λ r. settings_by (Content (Some request)) (Some (Answer request.seq (name_of request.body) r)))
+          (sym refused) ∙ says in absurd cc
+  begins_to_count _ item_is is a says = absurd cc
+
+  -- nothing else leads on from Fresh
+  stays_fresh : (item : Item) → step.item ≡ item → IsTaken Any past item → Causes past item step
+      → settings_by item step.answer ≡ None → situation past ≡ Fresh
+      → item_leads item step.answer (stop_in step) Fresh ≡ Fresh
+  stays_fresh (Content (Some request)) item_is taken_ is none fresh =
+      subst (λ a. item_leads (Content (Some request)) a (stop_in step) Fresh ≡ Fresh) (sym is.2.answer_is)
+      (by_result is.0.result (sym (ap (settings_by (Content (Some request))) is.2.answer_is) ∙ none))
+    where
+      by_body : (c : Command) (b : Body)
+          → settings_by (Content (Some (record { seq = request.seq; body = c })))
+          (Some (Answer request.seq (name_of request.body) (Ok b))) ≡ None
+          → command_leads c Fresh (stop_in step) ≡ Fresh
+      by_body (command.Initialize asked) b none = absurd cc
+      by_body _ b none = refl
+
+      by_result : (r : Result Body Refusal)
+          → settings_by (Content (Some request)) (Some (Answer request.seq (name_of request.body) r)) ≡ None
+          → item_leads (Content (Some request)) (Some (Answer request.seq (name_of request.body) r)) (stop_in step)
+          Fresh ≡ Fresh
+      by_result (Ok b) none = by_body request.body b none
+      by_result (Err why_) none = refl
+  stays_fresh (Loaded launch file) item_is ready is none fresh = let e = sym ready ∙ fresh in absurd cc
+  stays_fresh (Accepted r) item_is accepted is none fresh = let e = sym accepted.0.running ∙ fresh in absurd cc
+  stays_fresh _ item_is taken_ is none fresh = refl
+
+  counted_more : IsCounted past → IsCounted (past ++ step ∷ [])
+  counted_more here = by_says (settings_by step.item step.answer) refl here
+    where
+      by_says : (o : Option InitializeArguments) → settings_by step.item step.answer ≡ o → IsCounted past
+          → IsCounted (past ++ step ∷ [])
+      by_says (Some a) says here =
+          inr (subst (IsInitializedBy (past ++ step ∷ [])) (sym (settings_after (Some a) says))
+          (begins_to_count step.item refl causes a says))
+      by_says None none (inr was) =
+          inr (subst (IsInitializedBy (past ++ step ∷ [])) (sym (settings_after None none)) (counts_on was))
+      by_says None none (inl fresh) =
+          inl (step_leads past step taken causes ∙ ap (λ s. after_step s step) fresh
+          ∙ stays_fresh step.item refl taken causes none fresh)
+
+pub counted_kept : IsKept Any IsCounted
+counted_kept = record {
+  step = λ past item new taking taken after here. subst IsCounted (sym after.new_is)
+      (counted_more past after.step (subst (IsTaken Any past) (sym after.item_is) taken)
+      (subst (λ i. Causes past i after.step) (sym after.item_is) after.causes) here);
+}
+
+-- ---- the answers
+
+inside : {X : Type 0} (p : X → Bool) (xs : List X) (i : ℕ) → position p xs ≡ Some i → i < length xs
+inside p xs i e = let at : position_or_len p xs ≡ i = grind (arith, common_steps) in grind (arith, common_steps)
+
+module _ (main : Block) (less : ℕ) where
+  -- the step that a line gets is there
+  step_there : (line i : ℕ) → step_from main line ≡ Some i → (s : StepAt) × (slice_get (steps main) i ≡ Some s)
+  step_there line i is = by_cases (slice_get_cases (steps main) i).1
+    where
+      by_cases : ((x : StepAt) × (i < length (steps main)) × (slice_get (steps main) i ≡ Some x)
+          × (get_or (steps main) i x ≡ x))
+          ⊎ ((length (steps main) ≤ i) × (slice_get (steps main) i ≡ None))
+          → (s : StepAt) × (slice_get (steps main) i ≡ Some s)
+      by_cases (inl there) = (there.0, there.2)
+      by_cases (inr past_) =
+          let within = inside _ (steps main) i is in
+          let beyond = past_.0 in absurd (omega (arith, within, beyond))
+
+  line_at : (i : ℕ) (s : StepAt) → slice_get (steps main) i ≡ Some s → step_line main i ≡ s.place.line
+  line_at i s is = ap (λ o. option_map_or (λ (x : StepAt). x.place.line) o 0) is
+
+  module _ (b : SourceBreakpoint) (asked : AskedLine) (as_asked : IsAskedAs less b asked) where
+    at_line : (o : Option ℕ) → step_from main asked.line ≡ o → step_from main (b.line + less) ≡ o
+    at_line o is = ap (step_from main) (sym as_asked.line) ∙ is
+
+    condition_so : (n : ℕ) → HasConditionAt main n (string_bytes asked.condition) → HasConditionAt main n b.condition
+    condition_so n is = subst (HasConditionAt main n) as_asked.condition is
+
+    condition_not : (n : ℕ) → ¬ HasConditionAt main n (string_bytes asked.condition)
+        → ¬ HasConditionAt main n b.condition
+    condition_not n not is = not (subst (HasConditionAt main n) (sym as_asked.condition) is)
+
+    answers_line : (r : Resolution) (mine : List Breakpoint) → IsResolvedTo main asked r mine
+        → AnswersLine main less b (answer_of main less r)
+    answers_line (At n) mine is =
+        let there = step_there asked.line n is.0 in (
+          n,
+          there.0,
+          at_line (Some n) is.0,
+          there.1,
+          ap (λ k. k - less) (line_at n there.0 there.1),
+          condition_so n (record { condition = is.1.0.condition; reads = is.1.2.condition }),
+          subst HasRule as_asked.hit (record { rule = is.1.0.rule; reads = is.1.2.rule }),
+          subst (HasMessageAt main n) as_asked.message
+              (record { message = is.1.0.message; reads = is.1.2.message }),
+        )
+    answers_line NoStep mine is = at_line None is.0
+    answers_line BadCondition mine is = (is.1.0, at_line (Some is.1.0) is.1.1, condition_not is.1.0 is.1.2)
+    answers_line BadHitCondition mine is = (
+      is.2.0,
+      at_line (Some is.2.0) is.2.1,
+      condition_so is.2.0 is.2.2,
+      λ rule. is.1 (subst HasRule (sym as_asked.hit) rule),
+    )
+    answers_line BadLogMessage mine is = (
+      is.2.0,
+      at_line (Some is.2.0) is.2.1,
+      condition_so is.2.0 is.2.2,
+      subst HasRule as_asked.hit is.1,
+      λ message. is.2.3 (subst (HasMessageAt main is.2.0) (sym as_asked.message) message),
+    )
+
+    gives_line : (r : Resolution) (mine : List Breakpoint) → IsResolvedTo main asked r mine
+        → GivesBreakpoint main less b (answer_of main less r) mine
+    gives_line (At n) mine is = (
+      n,
+      is.1.0,
+      at_line (Some n) is.0,
+      is.1.1,
+      record {
+        step_is = is.1.2.step;
+        condition_is = subst (λ t. ReadsConditionAt main n t is.1.0.condition) as_asked.condition is.1.2.condition;
+        rule_is = subst (λ t. ReadsRule t is.1.0.rule) as_asked.hit is.1.2.rule;
+        message_is = subst (λ t. ReadsMessageAt main n t is.1.0.message) as_asked.message is.1.2.message;
+      },
+    )
+    gives_line NoStep mine is = is.1
+    gives_line BadCondition mine is = is.0
+    gives_line BadHitCondition mine is = is.0
+    gives_line BadLogMessage mine is = is.0
+
+  -- the breakpoints of lines
+  pub give_lines : (lines : List SourceBreakpoint) (asked : List AskedLine) (answers : List Resolution)
+      (bs : List Breakpoint) → AreAskedAs less lines asked → AreResolved main asked answers bs
+      → GiveBreakpoints main less lines (map (answer_of main less) answers) bs
+  give_lines [] [] [] bs as_asked are = are
+  give_lines (b ∷ lines) (a ∷ asked) (r ∷ answers) bs as_asked are = (
+    are.0,
+    are.1,
+    are.2,
+    answers_line b a as_asked.0 r are.0 are.3,
+    gives_line b a as_asked.0 r are.0 are.3,
+    give_lines lines asked answers are.1 as_asked.1 are.4,
+  )
+  give_lines [] [] (r ∷ answers) bs as_asked are = absurd are
+  give_lines [] (a ∷ asked) answers bs as_asked are = absurd as_asked
+  give_lines (b ∷ lines) [] answers bs as_asked are = absurd as_asked
+  give_lines (b ∷ lines) (a ∷ asked) [] bs as_asked are = absurd are
+
+  answers_lines : (lines : List SourceBreakpoint) (asked : List AskedLine) (answers : List Resolution)
+      (bs : List Breakpoint) → AreAskedAs less lines asked → AreResolved main asked answers bs
+      → AnswersLines main less lines (map (answer_of main less) answers)
+  answers_lines [] [] [] bs as_asked are = tt
+  answers_lines (b ∷ lines) (a ∷ asked) (r ∷ answers) bs as_asked are = (
+    answers_line b a as_asked.0 r are.0 are.3,
+    answers_lines lines asked answers are.1 as_asked.1 are.4,
+  )
+  answers_lines [] [] (r ∷ answers) bs as_asked are = absurd are
+  answers_lines [] (a ∷ asked) answers bs as_asked are = absurd as_asked
+  answers_lines (b ∷ lines) [] answers bs as_asked are = absurd as_asked
+  answers_lines (b ∷ lines) (a ∷ asked) [] bs as_asked are = absurd are
+
+-- what a granted `setBreakpoints` is answered with
+record AnswersSet (past : History) (asked : SetBreakpointsArguments) (reply : Reply) : Type 0 where
+  l : Launched
+  answers : List BreakpointAnswer
+  there : launched past ≡ Some l
+  result_is : reply.result ≡ Ok (body.Breakpoints answers)
+  ours : asked.path ≡ Some l.path → AnswersLines l.program (line_offset past) asked.breakpoints answers
+  others : (¬ (asked.path ≡ Some l.path)) → answers ≡ map (λ b. answer.Unverified why.OtherSource) asked.breakpoints
+
+module _ (past : History) (asked : SetBreakpointsArguments) (reply : Reply) where
+  sets_of : (l : Launched) → launched past ≡ Some l → (same : Bool) → is_at asked.path l.path ≡ same
+      → SetsOf same past l asked.breakpoints reply → AnswersSet past asked reply
+  sets_of l there true at_ is = record {
+    l = l;
+    answers = map (answer_of l.program (line_offset past)) is.answers;
+    there = there;
+    result_is = ap (λ (r : Reply). r.result) is.reply_is;
+    ours = λ path_is. answers_lines l.program (line_offset past) asked.breakpoints is.resolved.asked is.answers
+        is.breakpoints is.resolved.as_asked is.resolved.resolved;
+    others = λ not. absurd (not (at_path asked.path l.path at_));
+  }
+  sets_of l there false at_ is = record {
+    l = l;
+    answers = map (λ b. answer.Unverified why.OtherSource) asked.breakpoints;
+    there = there;
+    result_is = ap (λ (r : Reply). r.result) is;
+    ours = λ path_is. absurd (let e = sym (at_path_so asked.path l.path path_is) ∙ at_ in cc);
+    others = λ not. refl;
+  }
+
+  program_of : (o : Option Launched) → launched past ≡ o
+      → OfProgram o (λ l. SetsOf (is_at asked.path l.path) past l asked.breakpoints reply) → AnswersSet past asked reply
+  program_of None none is = absurd is
+  program_of (Some l) there is = sets_of l there (is_at asked.path l.path) refl is
+
+  sets_answered : (s : Situation) (b : Body) → reply.result ≡ Ok b → SetsIn s past asked reply
+      → (¬ (s ≡ Fresh)) × AnswersSet past asked reply
+  sets_answered Fresh b granted is = let e = sym (ap (λ (r : Reply). r.result) is) ∙ granted in absurd cc
+  sets_answered Ready b granted is = let e = sym (ap (λ (r : Reply). r.result) is) ∙ granted in absurd cc
+  sets_answered _ b granted is = (λ fresh. absurd cc, program_of (launched past) refl is)
+
+-- ---- the law
+
+module _ (events : List Incoming) (past : History) (rest : Rest) (history : IsHistoryOf events past rest) where
+  each_counted : EachTaken Any IsCounted past
+  each_counted =
+      along Any (EachTaken Any IsCounted) (each_kept Any IsCounted counted_kept) (each_first Any IsCounted (inl refl))
+      events past rest (any_events events) history
+
+  pub counted_now : IsCounted past
+  counted_now = each_counted.now
+
+  pub counted_before : (before : History) (step : Step) (after : History) → past ≡ before ++ step ∷ after
+      → IsCounted before
+  counted_before before step after past_is = (each_counted.each before step after past_is).held
+
+pub counts_so : (past : History) → ¬ (situation past ≡ Fresh) → IsCounted past → IsInitializedBy past (settings past)
+counts_so past not (inl fresh) = absurd (not fresh)
+counts_so past not (inr is) = is
+
+pub lines_answered : LinesAreAnswered
+lines_answered events past rest history before step after request asked past_is granted asked_is = (
+  there.1.l,
+  settings before,
+  there.1.answers,
+  there.1.there,
+  counts_so before there.0 was.held,
+  (let e = sym result_is ∙ there.1.result_is in cc),
+  λ path_is. subst (λ n. AnswersLines there.1.l.program n asked.breakpoints there.1.answers)
+      (offset_is (settings before).lines_start_at_1) (there.1.ours path_is),
+  there.1.others,
+)
+  where
+    was : WasTaken Any IsCounted before step
+    was = (along Any (EachTaken Any IsCounted) (each_kept Any IsCounted counted_kept)
+        (each_first Any IsCounted (inl refl)) events past rest (any_events events) history).each before step after
+        past_is
+
+    is : Causes before (Content (Some request)) step
+    is = subst (λ i. Causes before i step) granted.item_is was.causes
+
+    sets : SetsIn (situation before) before asked is.0
+    sets = subst (λ c. RepliesIn (situation before) before c is.0) asked_is is.1
+
+    result_is : is.0.result ≡ Ok granted.body
+    result_is = ap (λ a. unwrap_or (result_of a) (Ok granted.body)) (sym is.2.answer_is ∙ granted.answer_is)
+
+    there : (¬ (situation before ≡ Fresh)) × AnswersSet before asked is.0
+    there = sets_answered before asked is.0 (situation before) granted.body result_is sets

@@ -1,0 +1,361 @@
+-- A pause that waits stops the program where its run is held, and nothing else stops it with that reason.
+use Rattle.std.proofs.Common.{◌≡◌, ◌⊎◌, inl, inr, ℕ, List, [], ◌∷◌, ◌++◌, Bool, true, false, Option, None, Some, Result, Ok, Err, refl, sym, ◌∙◌, ap, subst}
+use Rattle.std.specs.Prelude.{unwrap_or, option_map, IsSome, All}
+use Rattle.dap_msg.specs.Commands.{name_of}
+use Rattle.dap_msg.specs.declared.request.Request.{Request}
+use Rattle.dap_msg.specs.declared.command.Command.{Command}
+use Rattle.dap_msg.specs.declared.command.Command.TheVariants as command
+use Rattle.dap_msg.specs.declared.command.Supported.{Supported}
+use Rattle.dap_msg.specs.declared.command.Supported.TheVariants as supported
+use Rattle.dap_msg.specs.declared.command.CommandName.TheVariants as name
+use Rattle.dap_msg.specs.declared.requests.resume.ThreadArguments.{ThreadArguments}
+use Rattle.dap_msg.specs.declared.outgoing.Outgoing.{Outgoing}
+use Rattle.dap_msg.specs.declared.outgoing.Outgoing.TheVariants.{Answer, Event}
+use Rattle.dap_msg.specs.declared.outgoing.Body.{Body}
+use Rattle.dap_msg.specs.declared.outgoing.Refusal.{Refusal}
+use Rattle.dap_msg.specs.declared.outgoing.StopReason.{StopReason}
+use Rattle.dap_msg.specs.declared.outgoing.StopReason.TheVariants as stop
+use Rattle.dbg_plan.specs.declared.mode.Reason.{Reason}
+use Rattle.dbg_plan.specs.declared.mode.Reason.TheVariants as reason
+use Rattle.dbg_runner.specs.declared.outcome.SliceOutcome.{SliceOutcome}
+use Rattle.dbg_runner.specs.declared.outcome.SliceOutcome.TheVariants as slice
+use Rattle.dbg_runner.specs.Plain.{PlainReport, Heading}
+use Rattle.dap_history.specs.declared.launch.Launch.{Launch}
+use Rattle.dap_history.specs.declared.situation.Situation.{Situation}
+use Rattle.dap_history.specs.Last.{or_else, last_such}
+use Rattle.dap_history.specs.History.{Item, Content, Loaded, Accepted, Step, History, Effect}
+use Rattle.dap_history.specs.Readings.{go, situation, is_pause, waiting_pause}
+use Rattle.dap_history.specs.Replies.{Reply, stop_of, exception_of, stops, ends}
+use Rattle.dap_history.specs.Launching.{Launches}
+use Rattle.dap_history.specs.Reports.{held, report_effect}
+use Rattle.dap_history.specs.Emission.{RepliesIn, Causes}
+use Rattle.dap_history.specs.Events.{Incoming}
+use Rattle.dap_history.specs.Stops.{stop_of_event, stop_in, run_in}
+use Rattle.dap_history.specs.Runs.{Grants}
+use Rattle.dap_history.specs.Moves.{PauseWaits, PausesStop}
+use Rattle.dap_history.proofs.Readings.{waiting_pause-snoc}
+use Rattle.dap_history.proofs.Along.{IsKept, any_events, along}
+use Rattle.dap_history.proofs.Each.{none_first, WasTaken, EachTaken, each_kept, each_first}
+use Rattle.dap_history.proofs.Silent.{StopsBy, no_stop, at_first, all_silent}
+use Rattle.dap_history.proofs.Outputs.{outputs_stop, outputs_stop_not}
+use Rattle.dap_history.proofs.Shapes.{shaped}
+use Rattle.dap_history.proofs.Asked.{reply_mode}
+use Rattle.dap_history.proofs.Since.{SplitsAt, splits_last, longer, none_since, one_more_since, one_less_since}
+
+-- ---- a granted pause
+
+-- a refusal grants none, whatever the command
+refusal_not : (seq : ℕ) (k : Supported) (why : Refusal)
+    → is_pause (Some (Answer seq (name.Supported k) (Err why))) ≡ None
+refusal_not seq supported.Pause why = refl
+refusal_not seq _ why = refl
+
+-- the command is a `pause` that is granted
+abbrev GrantsPause : Command → Reply → Type 0
+GrantsPause asked reply = (a : ThreadArguments) × (asked ≡ command.Pause a) × (b : Body) × (reply.result ≡ Ok b)
+
+paused_by : (s : Situation) (past : History) (seq : ℕ) (asked : Command) (reply : Reply) → RepliesIn s past asked reply
+    → is_pause (Some (Answer seq (name_of asked) reply.result)) ≡ Some true → GrantsPause asked reply
+paused_by s past seq (command.Pause a) reply is pauses = by_result reply.result refl pauses
+  where
+    by_result : (r : Result Body Refusal) → reply.result ≡ r
+        → is_pause (Some (Answer seq (name.Supported supported.Pause) r)) ≡ Some true
+        → GrantsPause (command.Pause a) reply
+    by_result (Ok b) same pauses = (a, refl, b, same)
+    by_result (Err why) same pauses = absurd cc
+paused_by s past seq (command.BadArguments k) reply is pauses =
+    let e = sym (ap (λ (r : Reply). is_pause (Some (Answer seq (name.Supported k) r.result))) is
+    ∙ refusal_not seq k _) ∙ pauses in absurd cc
+paused_by s past seq _ reply is pauses = absurd cc
+
+-- the step grants a pause
+record PausedBy (step : Step) : Type 0 where
+  request : Request
+  asked : ThreadArguments
+  granted : Grants step request
+  pause_is : request.body ≡ command.Pause asked
+
+step_pauses : (past : History) (item : Item) (step : Step) → step.item ≡ item → Causes past item step
+    → is_pause step.answer ≡ Some true → PausedBy step
+step_pauses past (Content (Some request)) step item_is is pauses =
+    let by = paused_by (situation past) past request.seq request.body is.0 is.1
+    (sym (ap is_pause is.2.answer_is) ∙ pauses) in record {
+      request = request;
+      asked = by.0;
+      granted =
+          record {
+            item_is = item_is;
+            body = by.2;
+            answer_is = is.2.answer_is ∙ ap (λ r. Some (Answer request.seq (name_of request.body) r)) by.3;
+          };
+      pause_is = by.1;
+    }
+step_pauses past (Loaded launch file) step item_is is pauses =
+    let e = sym (ap is_pause is.2.answer_is) ∙ pauses in absurd cc
+step_pauses past _ step item_is is pauses = let e = sym (ap is_pause is.answer_is) ∙ pauses in absurd cc
+
+pauses_step : (step : Step) (request : Request) (a : ThreadArguments) → Grants step request
+    → request.body ≡ command.Pause a → is_pause step.answer ≡ Some true
+pauses_step step request a granted is =
+    ap is_pause granted.answer_is
+    ∙ ap (λ c. is_pause (Some (Answer request.seq (name_of c) (Ok granted.body)))) is
+
+-- a pause orders no run
+pause_goes_not : (past : History) (step : Step) (request : Request) (a : ThreadArguments) → Causes past step.item step
+    → Grants step request → request.body ≡ command.Pause a → run_in step ≡ None
+pause_goes_not past step request a causes granted is = by_run (run_in step) refl
+  where
+    here : Causes past (Content (Some request)) step
+    here = subst (λ i. Causes past i step) granted.item_is causes
+
+    paused : RepliesIn (situation past) past (command.Pause a) here.0
+    paused = subst (λ c. RepliesIn (situation past) past c here.0) is here.1
+
+    by_run : (o : Option Heading) → run_in step ≡ o → run_in step ≡ None
+    by_run None none = none
+    by_run (Some run) goes =
+        let asks = reply_mode past (situation past) (command.Pause a) here.0
+        (shaped past here.0 (situation past) (command.Pause a) paused) run
+        (ap (λ (e : Effect). last_such go e.orders) (sym here.2.effect_is) ∙ goes) in
+        let e = asks.2 in absurd cc
+
+-- ---- a pause that waits is read so
+
+abbrev IsRead : History → Type 0
+IsRead past =
+    ((waiting_pause past ≡ true) × PauseWaits past) ⊎ ((waiting_pause past ≡ false) × (¬ PauseWaits past))
+
+only_true : (a : Option Outgoing) (b : Bool) → is_pause a ≡ Some b → b ≡ true
+only_true None b is = absurd cc
+only_true (Some (Event e)) b is = absurd cc
+only_true (Some (Answer seq (name.Unsupported text) r)) b is = absurd cc
+only_true (Some (Answer seq (name.Supported supported.Pause) (Ok body))) b is = cc
+only_true (Some (Answer seq (name.Supported supported.Pause) (Err why))) b is = absurd cc
+only_true (Some (Answer seq (name.Supported _) r)) b is = absurd cc
+
+module _ (past : History) (step : Step) (causes : Causes past step.item step) where
+  -- whether a pause waits after the step
+  waits_after : (o : Option Heading) (p : Option Bool) → run_in step ≡ o → is_pause step.answer ≡ p
+      → waiting_pause (past ++ step ∷ []) ≡ unwrap_or (or_else (option_map (λ (run : Heading). false) o) p)
+      (waiting_pause past)
+  waits_after o p run_is pause_is =
+      waiting_pause-snoc past step
+      ∙ ap (λ x. unwrap_or (or_else (option_map (λ (run : Heading). false) x) (is_pause step.answer))
+      (waiting_pause past)) run_is
+      ∙ ap (λ x. unwrap_or (or_else (option_map (λ (run : Heading). false) o) x) (waiting_pause past)) pause_is
+
+  -- the step that granted the pause is this one, or the pause waited before
+  since : (w : PauseWaits (past ++ step ∷ [])) → (Grants step w.request) ⊎ (PauseWaits past × (run_in step ≡ None))
+  since w = by_split (splits_last past step w.early w.step w.later w.past_is)
+    where
+      by_split : SplitsAt past step w.early w.step w.later
+          → (Grants step w.request) ⊎ (PauseWaits past × (run_in step ≡ None))
+      by_split (inl e) = inl (subst (λ s. Grants s w.request) (sym e.1) w.granted)
+      by_split (inr e) =
+          let none = one_less_since (λ (s : Step). run_in s ≡ None) e.0 step
+          (subst (All (λ (s : Step). run_in s ≡ None)) e.2 w.none_since) in
+          inr (
+            record {
+              early = w.early;
+              step = w.step;
+              later = e.0;
+              past_is = e.1;
+              request = w.request;
+              asked = w.asked;
+              granted = w.granted;
+              pause_is = w.pause_is;
+              none_since = none.0;
+            },
+            none.1,
+          )
+
+  waits_on : run_in step ≡ None → PauseWaits past → PauseWaits (past ++ step ∷ [])
+  waits_on none w = record {
+    early = w.early;
+    step = w.step;
+    later = w.later ++ step ∷ [];
+    past_is = longer past w.early w.step w.later step w.past_is;
+    request = w.request;
+    asked = w.asked;
+    granted = w.granted;
+    pause_is = w.pause_is;
+    none_since = one_more_since (λ (s : Step). run_in s ≡ None) w.later step w.none_since none;
+  }
+
+  begins_to_wait : PausedBy step → PauseWaits (past ++ step ∷ [])
+  begins_to_wait by = record {
+    early = past;
+    step = step;
+    later = [];
+    past_is = refl;
+    request = by.request;
+    asked = by.asked;
+    granted = by.granted;
+    pause_is = by.pause_is;
+    none_since = none_since (λ (s : Step). run_in s ≡ None);
+  }
+
+  read_more : IsRead past → IsRead (past ++ step ∷ [])
+  read_more here = by_run (run_in step) refl
+    where
+      ends : (run : Heading) → run_in step ≡ Some run → ¬ PauseWaits (past ++ step ∷ [])
+      ends run goes w = by_since (since w)
+        where
+          by_since : ¬ ((Grants step w.request) ⊎ (PauseWaits past × (run_in step ≡ None)))
+          by_since (inl granted) =
+              let e = sym goes ∙ pause_goes_not past step w.request w.asked causes granted w.pause_is in cc
+          by_since (inr was) = let e = sym goes ∙ was.1 in cc
+
+      stays : run_in step ≡ None → is_pause step.answer ≡ None → IsRead past → IsRead (past ++ step ∷ [])
+      stays none unpaused (inl is) = inl (waits_after None None none unpaused ∙ is.0, waits_on none is.1)
+      stays none unpaused (inr is) = inr (waits_after None None none unpaused ∙ is.0, λ w. by_since w (since w))
+        where
+          by_since : (w : PauseWaits (past ++ step ∷ []))
+              → ¬ ((Grants step w.request) ⊎ (PauseWaits past × (run_in step ≡ None)))
+          by_since w (inl granted) = let e = sym (pauses_step step w.request w.asked granted w.pause_is)
+              ∙ unpaused in cc
+          by_since w (inr was) = is.1 was.0
+
+      by_pause : run_in step ≡ None → (p : Option Bool) → is_pause step.answer ≡ p → IsRead (past ++ step ∷ [])
+      by_pause none None unpaused = stays none unpaused here
+      by_pause none (Some b) pauses =
+          let pauses_now : is_pause step.answer ≡ Some true = pauses ∙ ap Some (only_true step.answer b pauses) in
+          inl (
+            waits_after None (Some true) none pauses_now,
+            begins_to_wait (step_pauses past step.item step refl causes pauses_now),
+          )
+
+      by_run : (o : Option Heading) → run_in step ≡ o → IsRead (past ++ step ∷ [])
+      by_run (Some run) goes = inr (waits_after (Some run) (is_pause step.answer) goes refl, ends run goes)
+      by_run None none = by_pause none (is_pause step.answer) refl
+
+abbrev Any : Incoming → Type 0
+Any e = Unit {0}
+
+read_kept : IsKept Any IsRead
+read_kept = record {
+  step = λ past item new taking taken after here. subst IsRead (sym after.new_is)
+      (read_more past after.step (subst (λ i. Causes past i after.step) (sym after.item_is) after.causes) here);
+}
+
+read_first : IsRead []
+read_first = inr (refl, λ w. absurd (none_first w.early w.step w.later w.past_is))
+
+-- ---- what stops with that reason
+
+reply_not : (s : Situation) (past : History) (o : Option StopReason) → StopsBy s past o → ¬ (o ≡ Some stop.Pause)
+reply_not s past None no_stop is = absurd cc
+reply_not s past (Some other) (at_first l r configuring launch due_is) is = reason_not r
+    (let e : stop_of r ≡ stop.Pause = cc in e)
+  where
+    reason_not : (r : Reason) → ¬ (stop_of r ≡ stop.Pause)
+    reason_not reason.Breakpoint is = absurd cc
+    reason_not reason.Entry is = absurd cc
+    reason_not reason.Step is = absurd cc
+
+launch_not : (launch : Launch) (file : Option (List ℕ)) (reply : Reply) → Launches launch.arguments file reply
+    → ¬ (last_such stop_of_event reply.effect.events ≡ Some stop.Pause)
+launch_not launch None reply is stops_ =
+    let e = sym (ap (λ (r : Reply). last_such stop_of_event r.effect.events) is) ∙ stops_ in absurd cc
+launch_not launch (Some text) reply (inl is) stops_ =
+    let e = sym (ap (λ (r : Reply). last_such stop_of_event r.effect.events) is.reply_is) ∙ stops_ in absurd cc
+launch_not launch (Some text) reply (inr is) stops_ =
+    let e = sym (ap (λ (r : Reply). last_such stop_of_event r.effect.events) is.reply_is) ∙ stops_ in absurd cc
+
+module _ (past : History) (r : PlainReport) where
+  reason_not_pause : (why : Reason) → ¬ (Some (stop_of why) ≡ Some stop.Pause)
+  reason_not_pause reason.Breakpoint is = absurd cc
+  reason_not_pause reason.Entry is = absurd cc
+  reason_not_pause reason.Step is = absurd cc
+
+  report_pauses : (e : SliceOutcome) → last_such stop_of_event (report_effect past r e).events ≡ Some stop.Pause
+      → (e ≡ slice.Held) × (waiting_pause past ≡ true)
+  report_pauses slice.More is = let e = sym (outputs_stop_not past r) ∙ is in absurd cc
+  report_pauses (slice.Due why) is =
+      absurd (reason_not_pause why (sym (outputs_stop past r (stops (stop_of why))) ∙ is))
+  report_pauses slice.Held is = by_pause (waiting_pause past) refl is
+    where
+      by_pause : (pauses : Bool) → waiting_pause past ≡ pauses
+          → last_such stop_of_event (held past r pauses).events ≡ Some stop.Pause
+          → (slice.Held ≡ slice.Held) × (waiting_pause past ≡ true)
+      by_pause true same is = (refl, same)
+      by_pause false same is = let e = sym (outputs_stop_not past r) ∙ is in absurd cc
+  report_pauses slice.Done is = let e = sym (outputs_stop past r (ends 0)) ∙ is in absurd cc
+  report_pauses (slice.Fault fault) is =
+      let e = sym (outputs_stop past r (stops (stop.Exception (exception_of fault)))) ∙ is in absurd cc
+  report_pauses slice.NoMemory is = absurd cc
+
+  held_stops : (pauses : Bool) → pauses ≡ true → last_such stop_of_event (held past r pauses).events ≡ Some stop.Pause
+  held_stops true is = outputs_stop past r (stops stop.Pause)
+  held_stops false is = absurd cc
+
+  held_goes : (pauses : Bool) → pauses ≡ false → (last_such stop_of_event (held past r pauses).events ≡ None)
+      × IsSome (last_such go (held past r pauses).orders)
+  held_goes true is = absurd cc
+  held_goes false is = (outputs_stop_not past r, refl)
+
+-- a step that stops with that reason is the report of a held run
+stops_so : (past : History) (item : Item) (step : Step) → Causes past item step → stop_in step ≡ Some stop.Pause
+    → (r : PlainReport) × (item ≡ Accepted r) × (r.outcome ≡ slice.Held) × (waiting_pause past ≡ true)
+stops_so past (Content (Some request)) step is stops_ =
+    absurd (reply_not (situation past) past (last_such stop_of_event is.0.effect.events)
+    (all_silent (situation past) past request.body is.0 is.1).stops
+    (ap (λ (e : Effect). last_such stop_of_event e.events) (sym is.2.effect_is) ∙ stops_))
+stops_so past (Loaded launch file) step is stops_ =
+    absurd (launch_not launch file is.0 is.1
+    (ap (λ (e : Effect). last_such stop_of_event e.events) (sym is.2.effect_is) ∙ stops_))
+stops_so past (Accepted r) step is stops_ =
+    let by = report_pauses past r r.outcome
+    (ap (λ (e : Effect). last_such stop_of_event e.events) (sym is.effect_is) ∙ stops_) in (r, refl, by.0, by.1)
+stops_so past _ step is stops_ =
+    let e = ap (λ (e : Effect). last_such stop_of_event e.events) (sym is.effect_is) ∙ stops_ in absurd cc
+
+-- ---- the law
+
+-- what is so of the effect of a held run's report is so of the step
+held_step : (past : History) (step : Step) (r : PlainReport) → Causes past step.item step → step.item ≡ Accepted r
+    → r.outcome ≡ slice.Held → step.effect ≡ held past r (waiting_pause past)
+held_step past step r causes item_is outcome_is = is.effect_is ∙ ap (report_effect past r) outcome_is
+  where
+    is : Causes past (Accepted r) step
+    is = subst (λ i. Causes past i step) item_is causes
+
+waits_then : (past : History) → IsRead past → PauseWaits past → waiting_pause past ≡ true
+waits_then past (inl is) w = is.0
+waits_then past (inr is) w = absurd (is.1 w)
+
+waits_not : (past : History) → IsRead past → ¬ PauseWaits past → waiting_pause past ≡ false
+waits_not past (inl is) w = absurd (w is.1)
+waits_not past (inr is) w = is.0
+
+waits_so : (past : History) → IsRead past → waiting_pause past ≡ true → PauseWaits past
+waits_so past (inl is) true_ = is.1
+waits_so past (inr is) true_ = let e = sym true_ ∙ is.0 in absurd cc
+
+pub pauses_stop : PausesStop
+pauses_stop events past rest history before step after past_is = (
+  λ r item_is outcome_is. (
+    λ waits. ap (λ (e : Effect). last_such stop_of_event e.events)
+        (held_step before step r was.causes item_is outcome_is)
+        ∙ held_stops before r (waiting_pause before) (waits_then before was.held waits),
+    λ not. on_effect r item_is outcome_is
+        (held_goes before r (waiting_pause before) (waits_not before was.held not)),
+  ),
+  λ stops_. let by = stops_so before step.item step was.causes stops_ in
+      (by.0, by.1, by.2, waits_so before was.held by.3),
+)
+  where
+    each : EachTaken Any IsRead past
+    each = along Any (EachTaken Any IsRead) (each_kept Any IsRead read_kept) (each_first Any IsRead read_first) events
+        past rest (any_events events) history
+
+    was : WasTaken Any IsRead before step
+    was = each.each before step after past_is
+
+    on_effect : (r : PlainReport) → step.item ≡ Accepted r → r.outcome ≡ slice.Held
+        → (last_such stop_of_event (held before r (waiting_pause before)).events ≡ None)
+        × IsSome (last_such go (held before r (waiting_pause before)).orders)
+        → (stop_in step ≡ None) × IsSome (run_in step)
+    on_effect r item_is outcome_is is =
+        subst (λ (e : Effect). (last_such stop_of_event e.events ≡ None) × IsSome (last_such go e.orders))
+        (sym (held_step before step r was.causes item_is outcome_is)) is

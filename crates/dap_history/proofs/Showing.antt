@@ -1,0 +1,331 @@
+-- What the four questions show is what the program is where it stands.
+use Rattle.std.proofs.Common.{◌≡◌, inl, inr, ℕ, zero, suc, ◌+◌, ◌-◌, ◌<◌, List, [], ◌∷◌, length, Bool, true, false, Option, None, Some, Result, Ok, Err, refl, sym, ◌∙◌, ap, subst, eqb-true, arith}
+use Rattle.std.specs.Prelude.{nat_eq, if◌then◌else◌, ℤ, option_map, drop, codes}
+use Rattle.std.specs.Option.{option_map_or}
+use Rattle.dap_msg.specs.declared.command.Command.TheVariants as command
+use Rattle.dap_msg.specs.declared.requests.initialize.InitializeArguments.{InitializeArguments}
+use Rattle.dap_msg.specs.declared.question.Question.{Question}
+use Rattle.dap_msg.specs.declared.question.Question.TheVariants as question
+use Rattle.dap_msg.specs.declared.outgoing.Body.{Body}
+use Rattle.dap_msg.specs.declared.outgoing.Body.TheVariants as body
+use Rattle.dap_msg.specs.declared.outgoing.Scope.{Scope}
+use Rattle.dap_msg.specs.declared.outgoing.Refusal.{Refusal}
+use Rattle.dap_msg.specs.declared.outgoing.Refusal.TheVariants as refusal
+use Rattle.pl0_tree.specs.Tree.{Name, Block, variables as declared}
+use Rattle.pl0_tree.specs.Scope.{Path}
+use Rattle.pl0_tree.specs.Steps.{StepAt}
+use Rattle.pl0_meaning.specs.declared.RunFault.{RunFault}
+use Rattle.pl0_meaning.specs.Values.{Frame, Configuration, frame_at, value}
+use Rattle.pl0_meaning.specs.Runs.{at}
+use Rattle.pl0_meaning.specs.Frames.{IsLinkedTo, AreLinked}
+use Rattle.pl0_meaning.specs.Laws.{FramesAreLinked, FramesFit}
+use Rattle.dbg_plan.specs.declared.evaluation.EvalFault.{EvalFault}
+use Rattle.dbg_plan.specs.declared.evaluation.EvalFault.TheVariants.{Overflow, DivideByZero}
+use Rattle.dbg_plan.specs.Values.{answered as evaluated}
+use Rattle.dap_history.specs.declared.situation.Situation.{Situation}
+use Rattle.dap_history.specs.declared.situation.Situation.TheVariants.{Fresh, Stopped, Faulted}
+use Rattle.dap_history.specs.History.{Launched}
+use Rattle.dap_history.specs.Readings.{situation, settings, launched}
+use Rattle.dap_history.specs.Replies.{Reply, refused}
+use Rattle.dap_history.specs.Frames.{Counting, frame_name, line_of, column_of, shown_frame, shown_frames, at_most, scopes_from, named, names_of, frame_by_id}
+use Rattle.dap_history.specs.Inspection.{Asked, asked_of, scopes, variables, result_reply, EvaluatesIn, RepliesFrom, RepliesAt}
+use Rattle.dap_history.specs.Stops.{IsStanding, StoppedLastAt, AnswersFrom}
+use Rattle.dap_history.specs.Verdicts.{refused_thread, refused_by}
+use Rattle.dap_history.specs.Initialized.{less_by}
+use Rattle.dap_history.specs.Shown.{HasId, HasNone, IsNamed, ShowsFrame, ShowsFrames, page, ShowsScopes, ShowsVariables, ShowsLocals, GivesValue, ShowsValue, OfFrame, Shows, AnswersShowTheProgram}
+use Rattle.dap_history.proofs.Along.{any_events, along}
+use Rattle.dap_history.proofs.Each.{WasTaken, EachTaken, each_kept, each_first}
+use Rattle.dap_history.proofs.Standing.{questions_answered}
+use Rattle.dap_history.proofs.LineAnswers.{Any, IsCounted, counted_kept, offset_is, counts_so}
+
+result_is : (reply other : Reply) → reply ≡ other → reply.result ≡ other.result
+result_is reply other is = ap (λ (r : Reply). r.result) is
+
+-- ---- frames
+
+named_so : (main : Block) (q : Path) → IsNamed main q (frame_name main q)
+named_so main [] = refl
+named_so main (k ∷ q) = λ x is. ap (λ o. option_map_or (λ (y : Name). y.word) o (codes "main")) is
+
+-- how a client counts, by what it said
+abbrev counting_of : InitializeArguments → Counting
+counting_of asked =
+    record { lines = less_by asked.lines_start_at_1; columns = less_by asked.columns_start_at_1 }
+
+module _ (main : Block) (asked : InitializeArguments) where
+  frame_so : (f : Frame) (id : ℕ) → ShowsFrame main asked f id (shown_frame main (counting_of asked) f id)
+  frame_so f id = record {
+    id_is = refl;
+    name_is = named_so main f.block;
+    line_is = λ s is. ap (λ o. line_of (counting_of asked) (option_map (λ (x : StepAt). x.place) o)) is;
+    column_is = λ s is. ap (λ o. column_of (counting_of asked) (option_map (λ (x : StepAt). x.place) o)) is;
+  }
+
+  frames_so : (c : Configuration) → ShowsFrames main asked c (shown_frames main (counting_of asked) c)
+  frames_so [] = tt
+  frames_so (f ∷ below) = (frame_so f (length below + 1), frames_so below)
+
+page_is : {A : Type 0} (start levels : ℕ) (xs : List A) → at_most levels (drop start xs) ≡ page start levels xs
+page_is start zero xs = refl
+page_is start (suc n) xs = refl
+
+-- ---- the frame with an id
+
+id_so : (c : Configuration) (id : ℕ) (f : Frame) → frame_by_id c id ≡ Some f → HasId c id f
+id_so c zero f is = absurd cc
+id_so c (suc i) f is = is
+
+none_so : (c : Configuration) (id : ℕ) → frame_by_id c id ≡ None → HasNone c id
+none_so c zero none f has = has
+none_so c (suc i) none f has = let e = sym none ∙ has in absurd cc
+
+of_frame : (c : Configuration) (id : ℕ) (why : Refusal) (result : Result Body Refusal) (says : Frame → Type 0)
+    (o : Option Frame) → frame_by_id c id ≡ o → (o ≡ None → result ≡ Err why)
+    → ((f : Frame) → o ≡ Some f → HasId c id f → says f) → OfFrame c id why result says
+of_frame c id why result says None is refused_ shown = inr (none_so c id is, refused_ refl)
+of_frame c id why result says (Some f) is refused_ shown =
+    let has = id_so c id f is in inl (f, has, shown f refl has)
+
+-- ---- scopes
+
+test_so : (a b : ℕ) → nat_eq a b ≡ true → a ≡ b
+test_so a b is = eqb-true a b is
+
+-- the number of a frame is less than how many there are
+within_by : (g : Frame) (below : Configuration) (i : ℕ) (f : Frame)
+    → (frame_at below i ≡ Some f → i < length below) → (b : Bool) → nat_eq (length below) i ≡ b
+    → (if b then Some g else frame_at below i) ≡ Some f → i < length (g ∷ below)
+within_by g below i f lower true same is = let e = test_so (length below) i same in omega (arith, e)
+within_by g below i f lower false other is = let h = lower is in omega (arith, h)
+
+frame_within : (c : Configuration) (i : ℕ) (f : Frame) → frame_at c i ≡ Some f → i < length c
+frame_within [] i f is = absurd cc
+frame_within (g ∷ below) i f is =
+    within_by g below i f (frame_within below i f) (nat_eq (length below) i) refl is
+
+-- a lower frame is a frame of the whole
+frame_above : (g : Frame) (below : Configuration) (i : ℕ) (f : Frame) → frame_at below i ≡ Some f
+    → frame_at (g ∷ below) i ≡ Some f
+frame_above g below i f is = by_test (nat_eq (length below) i) refl
+  where
+    by_test : (b : Bool) → nat_eq (length below) i ≡ b → (if b then Some g else frame_at below i) ≡ Some f
+    by_test true same =
+        let e = test_so (length below) i same in
+        let h = frame_within below i f is in absurd (omega (arith, e, h))
+    by_test false other = is
+
+-- a frame's scope in front of those of the frame that its link names
+linked_scopes : (main : Block) (whole : Configuration) (f g : Frame) (id : ℕ) (word : List ℕ) (more : List Scope)
+    → IsNamed main f.block word → HasId whole (f.link + 1) g → ShowsScopes main whole g (f.link + 1) more
+    → ShowsScopes main whole f id (record { name = word; reference = id } ∷ more)
+linked_scopes main whole f g id word [] named_ has shown = absurd shown
+linked_scopes main whole f g id word (t ∷ more) named_ has shown = (named_, refl, (g, has, shown))
+
+has_next : (c : Configuration) (i : ℕ) (f : Frame) → frame_at c i ≡ Some f → HasId c (i + 1) f
+has_next c i f is = let e : suc i ≡ i + 1 = omega arith in subst (λ n. HasId c n f) e is
+
+module _ (main : Block) (whole : Configuration) where
+  -- the scopes of frame i, where those of the frames below are so
+  module _ (g : Frame) (below : Configuration)
+      (lower : (j : ℕ) (h : Frame) → frame_at below j ≡ Some h → frame_at whole j ≡ Some h)
+      (deeper : (j : ℕ) (h : Frame) → frame_at below j ≡ Some h
+      → ShowsScopes main whole h (j + 1) (scopes_from main below j)) (i : ℕ) where
+    abbrev own : List Scope
+    own = record { name = frame_name main g.block; reference = i + 1 } ∷ scopes_from main below g.link
+
+    by_block : (q : Path) → g.block ≡ q → IsLinkedTo q g.link below → ShowsScopes main whole g (i + 1) own
+    by_block [] block_is links =
+        subst (λ b. ShowsScopes main whole g (i + 1)
+        (record { name = frame_name main g.block; reference = i + 1 } ∷ scopes_from main b g.link)) (sym links)
+        (named_so main g.block, refl, block_is)
+    by_block (k ∷ q) block_is links =
+        linked_scopes main whole g links.0 (i + 1) (frame_name main g.block) (scopes_from main below g.link)
+        (named_so main g.block) (has_next whole g.link links.0 (lower g.link links.0 links.1))
+        (deeper g.link links.0 links.1)
+
+    by_test : IsLinkedTo g.block g.link below → (f : Frame) (b : Bool)
+        → (if b then Some g else frame_at below i) ≡ Some f
+        → ShowsScopes main whole f (i + 1) (if b then own else scopes_from main below i)
+    by_test links f true is =
+        let same : g ≡ f = cc in
+        subst (λ h. ShowsScopes main whole h (i + 1) own) same (by_block g.block refl links)
+    by_test links f false is = deeper i f is
+
+  scopes_so : (c : Configuration) → AreLinked main c
+      → ((j : ℕ) (g : Frame) → frame_at c j ≡ Some g → frame_at whole j ≡ Some g)
+      → (i : ℕ) (f : Frame) → frame_at c i ≡ Some f → ShowsScopes main whole f (i + 1) (scopes_from main c i)
+  scopes_so [] linked within i f is = absurd cc
+  scopes_so (g ∷ below) linked within i f is =
+      by_test g below (λ j h there. within j h (frame_above g below j h there))
+      (scopes_so below linked.2 (λ j h there. within j h (frame_above g below j h there))) i linked.1 f
+      (nat_eq (length below) i) is
+
+-- ---- variables
+
+numbers_so : (xs : List Name) (numbers : List ℤ) → length numbers ≡ length xs
+    → ShowsVariables xs numbers (named xs numbers)
+numbers_so [] [] same = tt
+numbers_so (x ∷ xs) (v ∷ numbers) same = (refl, refl, numbers_so xs numbers (omega (arith, same)))
+numbers_so [] (v ∷ numbers) same = absurd (omega (arith, same))
+numbers_so (x ∷ xs) [] same = absurd (omega (arith, same))
+
+-- ---- `evaluate`
+
+value_so : (r : Result ℤ EvalFault) (v : Result ℤ RunFault) (reply : Reply) → v ≡ evaluated r → reply ≡ result_reply r
+    → GivesValue v reply.result
+value_so (Ok n) v reply same is = subst (λ x. GivesValue x reply.result) (sym same) (result_is reply _ is)
+value_so (Err Overflow) v reply same is = subst (λ x. GivesValue x reply.result) (sym same) (result_is reply _ is)
+value_so (Err DivideByZero) v reply same is = subst (λ x. GivesValue x reply.result) (sym same) (result_is reply _ is)
+
+evaluates_so : (main : Block) (c : Configuration) (id : ℕ) (f : Frame) (text : List ℕ) (reply : Reply)
+    → EvaluatesIn main c id (Some f) text reply → ShowsValue main c id f text reply.result
+evaluates_so main c id f text reply (inl is) =
+    inl (
+      is.expression,
+      is.reads,
+      value_so is.result (value main c
+          (id - 1) is.expression) reply is.result_is is.reply_is,
+    )
+evaluates_so main c id f text reply (inr is) = inr (is.none, result_is reply _ is.reply_is)
+
+-- ---- questions
+
+-- what the thread allows
+on_one : (thread : ℕ) (reply other : Reply) → refused_thread (Some thread) ≡ None
+    → reply ≡ (if nat_eq thread 1 then other else refused refusal.UnknownThread) → reply ≡ other
+on_one thread reply other allowed is = by_test (nat_eq thread 1) allowed is
+  where
+    by_test : (b : Bool) → (if b then None else Some refusal.UnknownThread) ≡ None
+        → reply ≡ (if b then other else refused refusal.UnknownThread) → reply ≡ other
+    by_test true allowed is = is
+    by_test false allowed is = absurd cc
+
+module _ (linked : FramesAreLinked) (fit : FramesFit) (l : Launched) (n : ℕ) (c : Configuration)
+    (there : at l.program n ≡ Some c) (counting : InitializeArguments) where
+  abbrev of : Asked
+  of = record { program = l.program; path = l.path; counting = counting_of counting }
+
+  locals_so : (id : ℕ) (f : Frame) (reply : Reply) → HasId c id f → reply ≡ variables of (Some f)
+      → ShowsLocals l.program f reply.result
+  locals_so zero f reply has is = absurd has
+  locals_so (suc i) f reply has is =
+      let fits = fit l.program n i c f there has in record {
+        block = fits.block;
+        block_is = fits.found;
+        all = named (declared fits.block) f.numbers;
+        shown = numbers_so (declared fits.block) f.numbers fits.count;
+        result_is = result_is reply _ is
+            ∙ ap (λ b. Ok (body.Variables (named (names_of b) f.numbers))) fits.found;
+      }
+
+  chain_so : (id : ℕ) (f : Frame) → HasId c id f → ShowsScopes l.program c f id (scopes_from l.program c (id - 1))
+  chain_so zero f has = absurd has
+  chain_so (suc i) f has =
+      let here : ShowsScopes l.program c f (i + 1) (scopes_from l.program c i) =
+      scopes_so l.program c c (linked l.program n c there) (λ j g is. is) i f has in
+      let a : i + 1 ≡ suc i = omega arith in
+      let b : i ≡ suc i - 1 = omega arith in
+      subst (λ j. ShowsScopes l.program c f (suc i) (scopes_from l.program c j)) b
+      (subst (λ k. ShowsScopes l.program c f k (scopes_from l.program c i)) a here)
+
+  shows_so : (q : Question) (reply : Reply) → refused_by Stopped (command.Inspect q) ≡ None → RepliesFrom of c q reply
+      → Shows l counting c q reply.result
+  shows_so (question.StackTrace a) reply allowed is = record {
+    all = shown_frames l.program (counting_of counting) c;
+    shown = frames_so l.program counting c;
+    result_is = result_is reply _ (on_one a.thread_id reply _ allowed is)
+        ∙ ap (λ frames. Ok (body.StackTrace l.path frames (length c)))
+        (page_is a.start_frame a.levels (shown_frames l.program (counting_of counting) c));
+  }
+  shows_so (question.Scopes a) reply allowed is =
+      of_frame c a.frame_id refusal.UnknownFrame reply.result _ (frame_by_id c a.frame_id) refl
+      (λ none. result_is reply _ (is ∙ ap (scopes of a.frame_id c) none))
+      (λ f some has. (
+        scopes_from l.program c (a.frame_id - 1),
+        chain_so a.frame_id f has,
+        result_is reply _ (is ∙ ap (scopes of a.frame_id c) some),
+      ))
+  shows_so (question.Variables a) reply allowed is =
+      of_frame c a.variables_reference refusal.UnknownReference reply.result _ (frame_by_id c a.variables_reference)
+      refl (λ none. result_is reply _ (is ∙ ap (variables of) none))
+      (λ f some has. locals_so a.variables_reference f reply has (is ∙ ap (variables of) some))
+  shows_so (question.Evaluate a) reply allowed is =
+      of_frame c a.frame_id refusal.UnknownFrame reply.result _ (frame_by_id c a.frame_id) refl
+      (λ none. result_is reply _ (subst (λ o. EvaluatesIn l.program c a.frame_id o a.expression reply) none is))
+      (λ f some has. evaluates_so l.program c a.frame_id f a.expression reply
+      (subst (λ o. EvaluatesIn l.program c a.frame_id o a.expression reply) some is))
+
+-- ---- the law
+
+-- a question that isn't refused is asked where the program stands, and only its thread might refuse it
+allowed_standing : (s : Situation) (q : Question) → refused_by s (command.Inspect q) ≡ None
+    → IsStanding s × (refused_by Stopped (command.Inspect q) ≡ None)
+allowed_standing Stopped q allowed = (tt, allowed)
+allowed_standing Faulted q allowed = (tt, allowed)
+allowed_standing _ q allowed = absurd cc
+
+not_fresh : (s : Situation) → IsStanding s → ¬ (s ≡ Fresh)
+not_fresh Stopped stands is = absurd cc
+not_fresh Faulted stands is = absurd cc
+not_fresh _ stands is = stands
+
+-- the configuration of which a reply is
+record HasShown (l : Launched) (m : ℕ) (counting : InitializeArguments) (q : Question) (reply : Reply) : Type 0 where
+  c : Configuration
+  there : at l.program m ≡ Some c
+  shows : Shows l counting c q reply.result
+
+abbrev counted : ℕ → ℕ → Counting
+counted lines columns = record { lines = lines; columns = columns }
+
+abbrev asking : Launched → Counting → Asked
+asking l counting = record { program = l.program; path = l.path; counting = counting }
+
+pub answers_show : FramesAreLinked → FramesFit → AnswersShowTheProgram
+answers_show linked fit events past rest history before request q step asks allowed = (
+  from.0,
+  from.1,
+  has.c,
+  settings before,
+  from.4.reply.result,
+  from.2,
+  from.3,
+  has.there,
+  counts_so before (not_fresh (situation before) standing.0) was.held,
+  from.4.answer_is,
+  has.shows,
+)
+  where
+    was : WasTaken Any IsCounted before step
+    was = (along Any (EachTaken Any IsCounted) (each_kept Any IsCounted counted_kept)
+        (each_first Any IsCounted (inl refl)) events past rest (any_events events) history).each before step asks.after
+        asks.past_is
+
+    standing : IsStanding (situation before) × (refused_by Stopped (command.Inspect q) ≡ None)
+    standing = allowed_standing (situation before) q
+        (ap (refused_by (situation before)) (sym asks.question_is) ∙ allowed)
+
+    from : (l : Launched) × (m : ℕ) × (launched before ≡ Some l) × StoppedLastAt before m
+        × AnswersFrom l before m request q step
+    from = (questions_answered events past rest history before request q step asks).0 standing.0
+
+    counting_is : (asked_of before from.0).counting ≡ counting_of (settings before)
+    counting_is =
+        ap (λ (k : ℕ). counted k (asked_of before from.0).counting.columns)
+        (offset_is (settings before).lines_start_at_1)
+        ∙ ap (λ (k : ℕ). counted (less_by (settings before).lines_start_at_1) k)
+        (offset_is (settings before).columns_start_at_1)
+
+    by_place : (o : Option Configuration) → at from.0.program from.1 ≡ o
+        → RepliesAt (asked_of before from.0) o q from.4.reply
+        → HasShown from.0 from.1 (settings before) q from.4.reply
+    by_place None none replies = absurd replies
+    by_place (Some c) there replies = record {
+      c = c;
+      there = there;
+      shows = shows_so linked fit from.0 from.1 c there (settings before) q from.4.reply standing.1
+          (subst (λ (k : Counting). RepliesFrom (asking from.0 k) c q from.4.reply) counting_is replies);
+    }
+
+    has : HasShown from.0 from.1 (settings before) q from.4.reply
+    has = by_place (at from.0.program from.1) refl from.4.shown

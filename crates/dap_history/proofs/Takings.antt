@@ -1,0 +1,284 @@
+-- Each event that is an item is taken, and nothing is taken that isn't.
+use Rattle.std.proofs.Common.{◌≡◌, inl, inr, ℕ, List, [], ◌∷◌, ◌++◌, Option, None, Some, Result, Ok, Err, refl, sym, ◌∙◌, ap, subst, append_assoc, append-nil}
+use Rattle.dap_msg.specs.declared.request.FirstSeq.{FirstSeq}
+use Rattle.dap_msg.specs.declared.command.Command.{Command}
+use Rattle.dap_msg.specs.declared.command.Command.TheVariants as command
+use Rattle.dbg_runner.specs.Plain.{PlainReport}
+use Rattle.dbg_runner.specs.declared.outcome.SliceOutcome.{SliceOutcome}
+use Rattle.dbg_runner.specs.declared.outcome.SliceOutcome.TheVariants as slice
+use Rattle.dap_history.specs.declared.launch.Launch.{Launch}
+use Rattle.dap_history.specs.declared.fault.LoadFault.{LoadFault}
+use Rattle.dap_history.specs.declared.fault.LoadFault.TheVariants as load_fault
+use Rattle.dap_history.specs.History.{Item, Content, Loaded, Accepted, InputEnd, ReadFailure, MemoryFailure, Step, History}
+use Rattle.dap_history.specs.Last.{or_else}
+use Rattle.dap_history.specs.Readings.{closing_command, closing_report, closing}
+use Rattle.dap_history.specs.Reports.{Accepts}
+use Rattle.dap_history.specs.Emission.{IsAfter}
+use Rattle.dap_history.specs.Events.{Incoming, Piece, End, ReadFailed, NoMemory, File, Report, Rest, only_bytes, IsTaking, Takes, one_more, closed, open_ended, faulty, waits, MayTake, LeadsByPiece, Loads, LeadsByFile, LeadsByReport, LeadsByEvent, Leads}
+use Rattle.dap_history.specs.Laws.{HistoryIsOne}
+use Rattle.dap_history.specs.Taken.{file_item, GoesOnWith, IsOfBytes, AreOfBytes, Adds, EventsAreTaken, closes_by, fails_by, ends_by, EachItemEndsOrNot}
+use Rattle.dap_history.proofs.Readings.{or_else-none, ending_of-snoc}
+use Rattle.dap_history.proofs.Each.{WasTaken}
+use Rattle.dap_history.proofs.GoingBack.{Anything}
+use Rattle.dap_history.proofs.Judged.{Any, was_taken}
+use Rattle.dap_history.proofs.FirstKept.{first_by_event}
+
+-- ---- the last event
+
+leads_last : (past : History) (rest : Rest) (events : List Incoming) (e : Incoming) (new : History) (left : Rest)
+    → Leads past rest (events ++ e ∷ []) new left
+    → (mid : History) × (between : Rest) × Leads past rest events mid between × LeadsByEvent mid between e new left
+leads_last past rest [] e new left all = (
+  past,
+  rest,
+  (refl, refl),
+  subst (λ h. LeadsByEvent past rest e h left) (sym all.3.0)
+      (subst (λ r. LeadsByEvent past rest e all.0 r) (sym all.3.1) all.2),
+)
+leads_last past rest (x ∷ events) e new left all =
+    let more = leads_last all.0 all.1 events e new left all.3 in
+    (more.0, more.1, (all.0, all.1, all.2, more.2), more.3)
+
+-- ---- bytes
+
+-- contents and a framing fault are all that bytes give
+abbrev AddsBytes : History → History → Type 0
+AddsBytes past new = (steps : History) × (new ≡ past ++ steps) × AreOfBytes steps
+
+adds_none : (past : History) → AddsBytes past past
+adds_none past = ([], sym (append-nil past), tt)
+
+takes_bytes : {first : FirstSeq} {past new : History} {bytes : List ℕ} {rest : Rest} → Takes first past bytes new rest
+    → AddsBytes past new
+takes_bytes {past = past} (one_more request taking front unwanted after more) =
+    let later = takes_bytes more in (
+      after.step ∷ later.0,
+      later.1 ∙ ap (λ h. h ++ later.0) after.new_is ∙ append_assoc past (after.step ∷ []) later.0,
+      (subst IsOfBytes (sym after.item_is) tt, later.2),
+    )
+takes_bytes {past = past} (closed not) = adds_none past
+takes_bytes {past = past} (open_ended taking is) = adds_none past
+takes_bytes (faulty k new taking is after) =
+    (after.step ∷ [], after.new_is, (subst IsOfBytes (sym after.item_is) tt, tt))
+takes_bytes {past = past} (waits request launch more taking front wanted) = adds_none past
+
+takes_not : {first : FirstSeq} {past new : History} {bytes : List ℕ} {rest : Rest} → ¬ IsTaking past
+    → Takes first past bytes new rest → new ≡ past
+takes_not not (one_more request taking front unwanted after more) = absurd (not taking)
+takes_not not (closed not') = refl
+takes_not not (open_ended taking is) = absurd (not taking)
+takes_not not (faulty k new taking is after) = absurd (not taking)
+takes_not not (waits request launch more taking front wanted) = absurd (not taking)
+
+-- ---- by event
+
+accepts_so : (past : History) (r : PlainReport) → GoesOnWith past r → Accepts past r
+accepts_so past r is =
+    record { running = is.running; run = is.run; run_is = is.run_is; expected = is.heading_is }
+
+goes_so : (past : History) (r : PlainReport) → Accepts past r → GoesOnWith past r
+goes_so past r is =
+    record { running = is.running; run = is.run; run_is = is.run_is; heading_is = is.expected }
+
+module _ (past new : History) (rest : Rest) where
+  abbrev AddsBy : Incoming → Type 0
+  AddsBy e = (steps : History) × (new ≡ past ++ steps) × Adds past rest e steps
+
+  -- the one item of an event that no bytes follow
+  adds_one : (e : Incoming) (item : Item) → IsAfter past item new
+      → ((step : Step) → step.item ≡ item → Adds past rest e (step ∷ [])) → AddsBy e
+  adds_one e item after adds = (after.step ∷ [], after.new_is, adds after.step after.item_is)
+
+  by_may : (e : Incoming) (item : Item) → IsTaking past → MayTake past item new
+      → ((step : Step) → step.item ≡ item → Adds past rest e (step ∷ [])) → AddsBy e
+  by_may e item taking (inl closed_) adds = absurd (closed_.0 taking)
+  by_may e item taking (inr is) adds = adds_one e item is.1 adds
+
+  by_piece : (first : FirstSeq) (launch : Option Launch) (bytes piece : List ℕ) (left : Rest)
+      → LeadsByPiece first past launch bytes new left → AddsBy (Piece piece)
+  by_piece first None bytes piece left leads = takes_bytes leads
+  by_piece first (Some launch) bytes piece left is = ([], is.0 ∙ sym (append-nil past), tt)
+
+  by_loads : (file : Result (List ℕ) LoadFault) (launch : Launch) (bytes : Option (List ℕ)) (left : Rest)
+      → rest.launch ≡ Some launch → Loaded launch bytes ≡ file_item launch file
+      → Loads rest.first past launch bytes rest.bytes new left → AddsBy (File file)
+  by_loads file launch bytes left waits_ same loads =
+      let later = takes_bytes loads.after in (
+        loads.loaded.step ∷ later.0,
+        later.1 ∙ ap (λ h. h ++ later.0) loads.loaded.new_is ∙ append_assoc past (loads.loaded.step ∷ []) later.0,
+        inl (
+          file_item launch file,
+          (launch, waits_, refl),
+          record {
+            step = loads.loaded.step;
+            more = later.0;
+            steps_are = refl;
+            item_is = loads.loaded.item_is ∙ same;
+            follow = later.2;
+          },
+        ),
+      )
+
+  by_file : (launch : Option Launch) (file : Result (List ℕ) LoadFault) (left : Rest) → IsTaking past
+      → rest.launch ≡ launch → LeadsByFile past rest launch file new left → AddsBy (File file)
+  by_file None file left taking same is =
+      ([], is.0 ∙ sym (append-nil past), inr (λ item its. let e = sym same ∙ its.1 in absurd cc, refl))
+  by_file (Some launch) (Ok file) left taking same (inl is) = absurd (is.0 taking)
+  by_file (Some launch) (Ok file) left taking same (inr loads) =
+      by_loads (Ok file) launch (Some file) left same refl loads
+  by_file (Some launch) (Err load_fault.CannotRead) left taking same (inl is) = absurd (is.0 taking)
+  by_file (Some launch) (Err load_fault.CannotRead) left taking same (inr loads) =
+      by_loads (Err load_fault.CannotRead) launch None left same refl loads
+  by_file (Some launch) (Err load_fault.NoMemory) left taking same is =
+      by_may (File (Err load_fault.NoMemory)) MemoryFailure taking is.0
+      (λ step item_is. inl (
+        MemoryFailure,
+        (launch, same, refl),
+        record {
+          step = step;
+          more = [];
+          steps_are = refl;
+          item_is = item_is;
+          follow = tt;
+        },
+      ))
+
+  by_report : (r : PlainReport) → IsTaking past → LeadsByReport past r new → AddsBy (Report r)
+  by_report r taking (inl is) =
+      ([], is.1 ∙ sym (append-nil past), inr (λ item its. is.0 (taking, accepts_so past r its.0), refl))
+  by_report r taking (inr is) =
+      adds_one (Report r) (Accepted r) is.2
+      (λ step item_is. inl (
+        Accepted r,
+        (goes_so past r is.1, refl),
+        record {
+          step = step;
+          more = [];
+          steps_are = refl;
+          item_is = item_is;
+          follow = refl;
+        },
+      ))
+
+  by_event : (e : Incoming) (left : Rest) → IsTaking past → LeadsByEvent past rest e new left → AddsBy e
+  by_event (Piece piece) left taking leads = by_piece rest.first rest.launch _ piece left leads
+  by_event End left taking leads =
+      by_may End InputEnd taking leads.0
+      (λ step item_is. inl (
+        InputEnd,
+        refl,
+        record {
+          step = step;
+          more = [];
+          steps_are = refl;
+          item_is = item_is;
+          follow = refl;
+        },
+      ))
+  by_event ReadFailed left taking leads =
+      by_may ReadFailed ReadFailure taking leads.0
+      (λ step item_is. inl (
+        ReadFailure,
+        refl,
+        record {
+          step = step;
+          more = [];
+          steps_are = refl;
+          item_is = item_is;
+          follow = refl;
+        },
+      ))
+  by_event NoMemory left taking leads =
+      by_may NoMemory MemoryFailure taking leads.0
+      (λ step item_is. inl (
+        MemoryFailure,
+        refl,
+        record {
+          step = step;
+          more = [];
+          steps_are = refl;
+          item_is = item_is;
+          follow = refl;
+        },
+      ))
+  by_event (File file) left taking leads = by_file rest.launch file left taking refl leads
+  by_event (Report r) left taking leads = by_report r taking leads.0
+
+  -- a closed session takes nothing
+  may_not : (item : Item) → ¬ IsTaking past → MayTake past item new → new ≡ past
+  may_not item not (inl is) = is.1
+  may_not item not (inr is) = absurd (not is.0)
+
+  piece_not : (first : FirstSeq) (launch : Option Launch) (bytes : List ℕ) (left : Rest) → ¬ IsTaking past
+      → LeadsByPiece first past launch bytes new left → new ≡ past
+  piece_not first None bytes left not leads = takes_not not leads
+  piece_not first (Some launch) bytes left not is = is.0
+
+  file_not : (launch : Option Launch) (file : Result (List ℕ) LoadFault) (left : Rest) → ¬ IsTaking past
+      → LeadsByFile past rest launch file new left → new ≡ past
+  file_not None file left not is = is.0
+  file_not (Some launch) (Ok file) left not (inl is) = is.1
+  file_not (Some launch) (Ok file) left not (inr loads) = absurd (not loads.taking)
+  file_not (Some launch) (Err load_fault.CannotRead) left not (inl is) = is.1
+  file_not (Some launch) (Err load_fault.CannotRead) left not (inr loads) = absurd (not loads.taking)
+  file_not (Some launch) (Err load_fault.NoMemory) left not is = may_not MemoryFailure not is.0
+
+  report_not : (r : PlainReport) → ¬ IsTaking past → LeadsByReport past r new → new ≡ past
+  report_not r not (inl is) = is.1
+  report_not r not (inr is) = absurd (not is.0)
+
+  event_not : (e : Incoming) (left : Rest) → ¬ IsTaking past → LeadsByEvent past rest e new left → new ≡ past
+  event_not (Piece piece) left not leads = piece_not rest.first rest.launch _ left not leads
+  event_not End left not leads = may_not InputEnd not leads.0
+  event_not ReadFailed left not leads = may_not ReadFailure not leads.0
+  event_not NoMemory left not leads = may_not MemoryFailure not leads.0
+  event_not (File file) left not leads = file_not rest.launch file left not leads
+  event_not (Report r) left not leads = report_not r not leads.0
+
+-- ---- the law
+
+pub events_taken : HistoryIsOne → EventsAreTaken
+events_taken one events e past new rest left history more same = (
+  λ taking. by_event past new rest e left taking leads,
+  λ not. event_not past new rest e left not leads,
+)
+  where
+    last : (mid : History) × (between : Rest) × Leads [] (only_bytes left.first []) events mid between
+        × LeadsByEvent mid between e new left
+    last = leads_last [] (only_bytes left.first []) events e new left more
+
+    first_is : left.first ≡ last.1.first
+    first_is = first_by_event last.0 last.1 e new left last.3
+
+    is_one : (past ≡ last.0) × (rest ≡ last.1)
+    is_one = one events past last.0 rest last.1 history
+        (subst (λ f. Leads [] (only_bytes f []) events last.0 last.1) first_is last.2) (same ∙ first_is)
+
+    leads : LeadsByEvent past rest e new left
+    leads = subst (λ h. LeadsByEvent h rest e new left) (sym is_one.0)
+        (subst (λ r. LeadsByEvent last.0 r e new left) (sym is_one.1) last.3)
+
+-- ---- the end of a session
+
+command_ends : (c : Command) → closing_command c ≡ closes_by c
+command_ends command.Disconnect = refl
+command_ends _ = refl
+
+report_ends : (e : SliceOutcome) → closing_report e ≡ fails_by e
+report_ends slice.NoMemory = refl
+report_ends _ = refl
+
+item_ends : (item : Item) → closing item ≡ ends_by item
+item_ends (Content (Some request)) = command_ends request.body
+item_ends (Accepted r) = report_ends r.outcome
+item_ends _ = refl
+
+pub items_end : EachItemEndsOrNot
+items_end events past rest history before step after past_is = (
+  was.taking,
+  ending_of-snoc before step ∙ ap (λ o. or_else (closing step.item) o) was.taking ∙ or_else-none (closing step.item)
+      ∙ item_ends step.item,
+)
+  where
+    was : WasTaken Any (Anything Any) before step
+    was = was_taken events past rest history before step after past_is
