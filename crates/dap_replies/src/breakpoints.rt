@@ -209,7 +209,7 @@ fn resolved(
     Ok((answers, Arc::new(alloc, plan)?))
 }
 
-/// Returns how much a client's line number is less than the same one counted from 1.
+/// Returns 0 if the client counts lines from 1, and 1 if it counts from 0.
 fn line_offset(settings: InitializeArguments) -> u32
     ensures is { result ≡ offset settings.lines_start_at_1 }
     ensures small { result ≤ 1 }
@@ -217,7 +217,7 @@ fn line_offset(settings: InitializeArguments) -> u32
     if settings.lines_start_at_1 { 0 } else { 1 }
 }
 
-/// The same for each breakpoint.
+/// Converts each breakpoint, as `asked_line` does.
 fn asked_lines(
     alloc: Global,
     lines: &[SourceBreakpoint],
@@ -248,7 +248,7 @@ fn asked_line(alloc: Global, line: &SourceBreakpoint, less: u32) -> Result<Asked
     })
 }
 
-/// The same for each line.
+/// Returns the answer to each line, by how it was resolved.
 fn line_answers(
     alloc: Global,
     unit: &Unit,

@@ -2,6 +2,7 @@
 use Rattle.std.proofs.Common.{◌≡◌, ◌⊎◌, inl, inr, ℕ, suc, ◌+◌, ◌≤◌, ◌<◌, ◌^◌, List, [], ◌∷◌, ◌++◌, length, Option, None, Some, Result, Ok, Err, refl, sym, ◌∙◌, ap, subst, append_assoc, append-nil, length-append, arith, lit≤}
 use Rattle.std.proofs.lemmas.Grind.{flat_map-append}
 use Rattle.dap_msg.specs.declared.outgoing.Outgoing.{Outgoing}
+use Rattle.dap_msg.specs.declared.request.FirstSeq.{FirstSeq}
 use Rattle.dbg_runner.specs.Plain.{PlainOrder, PlainReport}
 use Rattle.dap_history.specs.declared.ending.Closed.{Closed}
 use Rattle.dap_history.specs.declared.ending.Ending.{Ending}
@@ -20,6 +21,7 @@ use Rattle.dap_history.specs.Laws.{HistoryIsOne}
 use Rattle.dap_history.specs.Interleaving.{Load}
 use Rattle.dap_history.specs.Output.{frames_from}
 use Rattle.dap_history.specs.Reports.{Accepts}
+use Rattle.dap_history.proofs.FirstKept.{first_kept}
 use Rattle.dap_history.proofs.OneHistory.{IsReadOnce, goes_on}
 use Rattle.dap_session.specs.Ports.{Ports}
 use Rattle.dap_session.specs.Sending.{Sends, Begins, PushesSome, PutsSome, BreaksOff, TriesQuit}
@@ -69,7 +71,8 @@ orders_begin past new is =
 
 -- ---- an event that was taken in part
 
-takes_begin : {past new : History} {bytes : List ℕ} {rest : Rest} → Takes past bytes new rest → Begins past new
+takes_begin : {f : FirstSeq} {past new : History} {bytes : List ℕ} {rest : Rest} → Takes f past bytes new rest
+    → Begins past new
 takes_begin {past = past} {new = new} (one_more {mid = mid} request taking front unwanted after taken) =
     begins_both past mid new (begins_longer past (Content request) mid after) (takes_begin taken)
 takes_begin {past = past} (closed not) = begins_same past past refl
@@ -79,13 +82,14 @@ takes_begin {past = past} (waits request launch more taking front wanted) = begi
 
 module _ (once : IsReadOnce) where
   -- what was taken is a prefix of all that can be
-  some_begin : {past mid new : History} {bytes left : List ℕ} {rest : Rest} → TakesSome past bytes mid left
-      → Takes past bytes new rest → Begins mid new
+  some_begin : {f : FirstSeq} {past mid new : History} {bytes left : List ℕ} {rest : Rest}
+      → TakesSome f past bytes mid left
+      → Takes f past bytes new rest → Begins mid new
   some_begin no_content all = takes_begin all
-  some_begin {new = new} {rest = rest}
+  some_begin {f = f} {new = new} {rest = rest}
       (one_content {past = past} {mid = mid} {more = more} request taking front unwanted after taken) all =
       let next = goes_on once all request more taking front unwanted in
-      some_begin taken (subst (λ h. Takes h more new rest)
+      some_begin taken (subst (λ h. Takes f h more new rest)
       (sym (once.one_after past (Content request) mid next.0 after next.1)) next.2)
 
   may_begin : (past : History) (item : Item) (new : History) → MayTake past item new → Begins past new
@@ -100,19 +104,21 @@ module _ (once : IsReadOnce) where
   item_begins past item next new taking (inr after) (inr is) =
       begins_same next new (once.one_after past item next new after is.1)
 
-  piece_begins : (past : History) (launch : Option Launch) (bytes : List ℕ) (next new : History) (left : Rest)
-      → TowardByPiece past launch bytes next → LeadsByPiece past launch bytes new left → Begins next new
-  piece_begins past None bytes next new left toward leads = some_begin toward.1 leads
-  piece_begins past (Some launch) bytes next new left toward leads = begins_same next new (toward ∙ sym leads.0)
+  piece_begins : (f : FirstSeq) (past : History) (launch : Option Launch) (bytes : List ℕ) (next new : History)
+      (left : Rest)
+      → TowardByPiece f past launch bytes next → LeadsByPiece f past launch bytes new left → Begins next new
+  piece_begins f past None bytes next new left toward leads = some_begin toward.1 leads
+  piece_begins f past (Some launch) bytes next new left toward leads = begins_same next new (toward ∙ sym leads.0)
 
   -- a launch was made with its file, and some contents after it were taken
-  loaded_begins : (past : History) (launch : Launch) (file : Option (List ℕ)) (bytes : List ℕ)
+  loaded_begins : (f : FirstSeq) (past : History) (launch : Launch) (file : Option (List ℕ)) (bytes : List ℕ)
       (mid other next new : History) (left : List ℕ) (rest : Rest)
-      → IsAfter past (Loaded launch file) mid → TakesSome mid bytes next left → IsAfter past (Loaded launch file) other
-      → Takes other bytes new rest → Begins next new
-  loaded_begins past launch file bytes mid other next new left rest after taken there all =
+      → IsAfter past (Loaded launch file) mid → TakesSome f mid bytes next left
+      → IsAfter past (Loaded launch file) other
+      → Takes f other bytes new rest → Begins next new
+  loaded_begins f past launch file bytes mid other next new left rest after taken there all =
       some_begin taken
-      (subst (λ h. Takes h bytes new rest) (once.one_after past (Loaded launch file) other mid there after) all)
+      (subst (λ h. Takes f h bytes new rest) (once.one_after past (Loaded launch file) other mid there after) all)
 
   same_launch : (past : History) (rest : Rest) (launch : Launch) (answer : Result (List ℕ) LoadFault)
       (file : Option (List ℕ)) (next : History) → rest.launch ≡ Some launch
@@ -137,7 +143,7 @@ module _ (once : IsReadOnce) where
       (takes_begin loads.after))
   file_begins past rest (Some launch) (Ok file) next new left taking is (inr toward) (inr loads) =
       let same : toward.file ≡ Some file = let e = toward.file_is in cc in
-      loaded_begins past launch (Some file) rest.bytes toward.mid loads.mid next new toward.left left
+      loaded_begins rest.first past launch (Some file) rest.bytes toward.mid loads.mid next new toward.left left
       (same_launch past rest launch (Ok file) (Some file) next is toward same) toward.taken loads.loaded loads.after
   file_begins past rest (Some launch) (Err load_fault.CannotRead) next new left taking is toward (inl not) =
       absurd (not.0 taking)
@@ -147,7 +153,7 @@ module _ (once : IsReadOnce) where
       (takes_begin loads.after))
   file_begins past rest (Some launch) (Err load_fault.CannotRead) next new left taking is (inr toward) (inr loads) =
       let same : toward.file ≡ None = let e = toward.file_is in cc in
-      loaded_begins past launch None rest.bytes toward.mid loads.mid next new toward.left left
+      loaded_begins rest.first past launch None rest.bytes toward.mid loads.mid next new toward.left left
       (same_launch past rest launch (Err load_fault.CannotRead) None next is toward same) toward.taken loads.loaded
       loads.after
   file_begins past rest (Some launch) (Err load_fault.NoMemory) next new left taking is (inl same) leads =
@@ -167,7 +173,7 @@ module _ (once : IsReadOnce) where
   event_begins : (past : History) (rest : Rest) (event : Incoming) (next new : History) (left : Rest) → IsTaking past
       → Toward past rest event next → LeadsByEvent past rest event new left → Begins next new
   event_begins past rest (Piece piece) next new left taking toward leads =
-      piece_begins past rest.launch _ next new left toward leads
+      piece_begins rest.first past rest.launch _ next new left toward leads
   event_begins past rest End next new left taking toward leads =
       item_begins past InputEnd next new taking toward leads.0
   event_begins past rest ReadFailed next new left taking toward leads =
@@ -330,9 +336,9 @@ mid_next fault past rest event old later fails = by fails.next_is
     by (inl same) = begins_same fails.mid fails.next (sym same)
     by (inr is) = begins_longer fails.mid is.1.0 fails.next is.1.1
 
-stops_part : (events : List Incoming) (fault : SessionFault) (old later : Ports)
-    (stops : StopsShort events fault old later) → SendsPart stops.fails.next old stops.stopped
-stops_part events fault old later stops =
+stops_part : (f : FirstSeq) (events : List Incoming) (fault : SessionFault) (old later : Ports)
+    (stops : StopsShort f events fault old later) → SendsPart stops.fails.next old stops.stopped
+stops_part f events fault old later stops =
     let fails = stops.fails in
     broken_part fault fails.mid fails.next old fails.between stops.stopped
     (mid_next fault stops.past stops.rest stops.last stops.mid stops.stopped fails)
@@ -341,9 +347,9 @@ stops_part events fault old later stops =
 -- ---- the history that a session reached
 
 -- how it was reached, and what was sent of it
-record Sent (events : List Incoming) (old stopped : Ports) : Type 0 where
+record Sent (f : FirstSeq) (events : List Incoming) (old stopped : Ports) : Type 0 where
   reached : History
-  is_reached : IsReached events reached
+  is_reached : IsReached f events reached
   part : SendsPart reached old stopped
 
 -- the frames that were put in all are those of a prefix
@@ -356,69 +362,78 @@ pub record PutsFew (reached : History) (old later : Ports) : Type 0 where
 module _ (laws : ReadingsGoOn) (once : IsReadOnce) (one : HistoryIsOne) where
   -- a history of all events goes on with the last one from where the session stood
   last_leads : (events : List Incoming) (last : Incoming) (past : History) (rest : Rest) (new : History) (left : Rest)
-      → IsHistoryOf events past rest → IsHistoryOf (events ++ last ∷ []) new left → LeadsByEvent past rest last new left
-  last_leads events last past rest new left here whole =
-      let apart = leads_apart [] (only_bytes []) events last new left whole in
-      let same = one events apart.0 past apart.1 rest apart.2 here in
+      → left.first ≡ rest.first → IsHistoryOf events past rest → IsHistoryOf (events ++ last ∷ []) new left
+      → LeadsByEvent past rest last new left
+  last_leads events last past rest new left first here whole =
+      let apart = leads_apart [] (only_bytes left.first []) events last new left whole in
+      let kept = first_kept [] (only_bytes left.first []) events apart.0 apart.1 apart.2 in
+      let there = subst (λ g. Leads [] (only_bytes g []) events apart.0 apart.1) (sym kept) apart.2 in
+      let same = one events apart.0 past apart.1 rest there here (kept ∙ first) in
       subst (λ r. LeadsByEvent past r last new left) same.1
       (subst (λ h. LeadsByEvent h apart.1 last new left) same.0 apart.3)
 
   -- a session reached a history on the way to that of all events
-  reached_toward : (events : List Incoming) (reached : History) → AreLawful events → IsOnTheWay events reached
-      → IsReached events reached
-  reached_toward events reached lawful way =
+  reached_toward : (f : FirstSeq) (events : List Incoming) (reached : History) → AreLawful events
+      → IsOnTheWay f events reached
+      → IsReached f events reached
+  reached_toward f events reached lawful way =
       let parts = lawful_apart way.before (way.last ∷ []) (subst AreLawful way.events_are lawful) in
       let there =
       retaken_toward laws way.past way.rest way.last reached parts.1 way.taking way.toward
       (retaken laws way.before way.past way.rest parts.0 way.history) in
       record {
         way = inr way;
-        begins = λ new left whole.
+        begins = λ new left first whole.
             let leads =
-            last_leads way.before way.last way.past way.rest new left way.history
+            last_leads way.before way.last way.past way.rest new left (first ∙ sym way.first_is) way.history
             (subst (λ es. IsHistoryOf es new left) way.events_are whole) in
             event_begins once way.past way.rest way.last reached new left way.taking way.toward leads;
         taken = there.1.events;
         rest = there.1.rest;
+        first_is = there.1.first_is ∙ way.first_is;
         lawful = there.1.lawful;
         history = there.1.history;
       }
 
   -- or that of all events
-  reached_all : (events : List Incoming) (past : History) (rest : Rest) → AreLawful events
-      → IsHistoryOf events past rest → IsReached events past
-  reached_all events past rest lawful history = record {
-    way = inl (rest, history);
-    begins = λ new left whole. begins_same past new (one events past new rest left history whole).0;
+  reached_all : (f : FirstSeq) (events : List Incoming) (past : History) (rest : Rest) → rest.first ≡ f
+      → AreLawful events
+      → IsHistoryOf events past rest → IsReached f events past
+  reached_all f events past rest first lawful history = record {
+    way = inl (rest, first, history);
+    begins = λ new left same whole. begins_same past new (one events past new rest left history whole
+        (first ∙ sym same)).0;
     taken = events;
     rest = rest;
+    first_is = first;
     lawful = lawful;
     history = history;
   }
 
-  stops_sent : (events : List Incoming) (fault : SessionFault) (old later : Ports) → AreLawful events
-      → (stops : StopsShort events fault old later) → Sent events old stops.stopped
-  stops_sent events fault old later lawful stops = record {
+  stops_sent : (f : FirstSeq) (events : List Incoming) (fault : SessionFault) (old later : Ports) → AreLawful events
+      → (stops : StopsShort f events fault old later) → Sent f events old stops.stopped
+  stops_sent f events fault old later lawful stops = record {
     reached = stops.fails.next;
-    is_reached = reached_toward events stops.fails.next lawful (record {
+    is_reached = reached_toward f events stops.fails.next lawful (record {
       before = stops.before;
       last = stops.last;
       events_are = stops.events_are;
       past = stops.past;
       rest = stops.rest;
+      first_is = stops.first_is;
       history = stops.history;
       taking = stops.taking;
       toward = next_toward fault stops.past stops.rest stops.last stops.mid stops.stopped stops.fails;
     });
-    part = stops_part events fault old later stops;
+    part = stops_part f events fault old later stops;
   }
 
   -- all was sent
-  serves_sent : (events : List Incoming) (ending : Ending) (old later : Ports) → AreLawful events
-      → Serves events ending old later → Sent events old later
-  serves_sent events ending old later lawful serves = record {
+  serves_sent : (f : FirstSeq) (events : List Incoming) (ending : Ending) (old later : Ports) → AreLawful events
+      → Serves f events ending old later → Sent f events old later
+  serves_sent f events ending old later lawful serves = record {
     reached = serves.past;
-    is_reached = reached_all events serves.past serves.rest lawful serves.history;
+    is_reached = reached_all f events serves.past serves.rest serves.first_is lawful serves.history;
     part = record {
       frames = frames_from 1 (messages_of serves.past);
       orders = orders_of serves.past;
@@ -430,19 +445,20 @@ module _ (laws : ReadingsGoOn) (once : IsReadOnce) (one : HistoryIsOne) where
     };
   }
 
-  fault_sent : (fault : SessionFault) (events given : List Incoming) (loads : List Load) (old later : Ports)
-      → AreLawful events → Drives events given loads old later (Err fault)
-      → (stopped : Ports) × Sent events old stopped × TriesQuit stopped later
-  fault_sent fault events given loads old later lawful (ends_at_fault from until) =
-      (until.mid, serves_sent events _ old until.mid lawful until.serves, until.quit)
-  fault_sent fault events given loads old later lawful (runs_out_of_memory from short) =
-      (short.stopped, stops_sent events NoMemory old later lawful short, short.quit)
-  fault_sent fault events given loads old later lawful (gives_up cannot from short) =
-      (short.stopped, stops_sent events fault old later lawful short, short.quit)
+  fault_sent : (f : FirstSeq) (fault : SessionFault) (events given : List Incoming) (loads : List Load)
+      (old later : Ports)
+      → AreLawful events → Drives f events given loads old later (Err fault)
+      → (stopped : Ports) × Sent f events old stopped × TriesQuit stopped later
+  fault_sent f fault events given loads old later lawful (ends_at_fault from until) =
+      (until.mid, serves_sent f events _ old until.mid lawful until.serves, until.quit)
+  fault_sent f fault events given loads old later lawful (runs_out_of_memory from short) =
+      (short.stopped, stops_sent f events NoMemory old later lawful short, short.quit)
+  fault_sent f fault events given loads old later lawful (gives_up cannot from short) =
+      (short.stopped, stops_sent f events fault old later lawful short, short.quit)
 
   pub faults_leave_prefixes : FaultsLeavePrefixes
-  faults_leave_prefixes fault given_before given_after loaded_before loaded_after old later driven =
-      let left = fault_sent fault driven.events driven.given driven.loads old later driven.lawful driven.drives in
+  faults_leave_prefixes f fault given_before given_after loaded_before loaded_after old later driven =
+      let left = fault_sent f fault driven.events driven.given driven.loads old later driven.lawful driven.drives in
       let part = left.1.part in (
         left.1.reached,
         left.1.is_reached,
@@ -459,9 +475,9 @@ module _ (laws : ReadingsGoOn) (once : IsReadOnce) (one : HistoryIsOne) where
       )
 
   -- what is put in the end is what was put then
-  puts_few : (events : List Incoming) (old stopped later : Ports) → later.frames ≡ stopped.frames
-      → Sent events old stopped → (reached : History) × IsReached events reached × PutsFew reached old later
-  puts_few events old stopped later same sent = (
+  puts_few : (f : FirstSeq) (events : List Incoming) (old stopped later : Ports) → later.frames ≡ stopped.frames
+      → Sent f events old stopped → (reached : History) × IsReached f events reached × PutsFew reached old later
+  puts_few f events old stopped later same sent = (
     sent.reached,
     sent.is_reached,
     record {
@@ -473,12 +489,13 @@ module _ (laws : ReadingsGoOn) (once : IsReadOnce) (one : HistoryIsOne) where
     },
   )
 
-  pub drives_few : (result : Result Closed SessionFault) (events given : List Incoming) (loads : List Load)
-      (old later : Ports) → AreLawful events → Drives events given loads old later result
-      → (reached : History) × IsReached events reached × PutsFew reached old later
-  drives_few (Ok by) events given loads old later lawful (closes from serves) =
-      puts_few events old later later refl (serves_sent events (ending.Closed by) old later lawful serves)
-  drives_few (Err fault) events given loads old later lawful drives =
+  pub drives_few : (f : FirstSeq) (result : Result Closed SessionFault) (events given : List Incoming)
+      (loads : List Load)
+      (old later : Ports) → AreLawful events → Drives f events given loads old later result
+      → (reached : History) × IsReached f events reached × PutsFew reached old later
+  drives_few f (Ok by) events given loads old later lawful (closes from serves) =
+      puts_few f events old later later refl (serves_sent f events (ending.Closed by) old later lawful serves)
+  drives_few f (Err fault) events given loads old later lawful drives =
       let left =
-      fault_sent fault events given loads old later lawful drives in puts_few events old left.0 later
+      fault_sent f fault events given loads old later lawful drives in puts_few f events old left.0 later
       left.2.frames_are left.1

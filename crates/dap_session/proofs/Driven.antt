@@ -1,6 +1,7 @@
 -- A session that is driven.
 use Rattle.std.proofs.Common.{◌≡◌, ◌⊎◌, inl, inr, ℕ, List, [], ◌∷◌, ◌++◌, Option, None, Some, option_map, Result, Ok, Err, refl, sym, ◌∙◌, ap, subst, append_assoc, append-nil, lit≤}
 use Rattle.std.specs.Prelude.{string_bytes}
+use Rattle.dap_msg.specs.declared.request.FirstSeq.{FirstSeq}
 use Rattle.dap_history.specs.declared.ending.Closed.{Closed}
 use Rattle.dap_history.specs.declared.ending.Ending.{Ending}
 use Rattle.dap_history.specs.declared.ending.Ending.TheVariants as ending
@@ -31,29 +32,29 @@ use Rattle.dap_session.proofs.Joining.{sends_both, refuses_both, sends_nothing}
 
 -- ---- interleavings, one after another
 
-interleaves_both : (before xs ys : List Incoming) (given more : List Incoming) (loads rest : List Load)
-    → Interleaves before xs given loads → Interleaves (before ++ xs) ys more rest
-    → Interleaves before (xs ++ ys) (given ++ more) (loads ++ rest)
-interleaves_both before [] ys given more loads rest first next =
-    subst (λ l. Interleaves before ys (given ++ more) (l ++ rest)) (sym first.1)
-    (subst (λ g. Interleaves before ys (g ++ more) rest) (sym first.0)
-    (subst (λ b. Interleaves b ys more rest) (append-nil before) next))
-interleaves_both before (e ∷ xs) ys given more loads rest (inl first) next =
+interleaves_both : (f : FirstSeq) (before xs ys : List Incoming) (given more : List Incoming) (loads rest : List Load)
+    → Interleaves f before xs given loads → Interleaves f (before ++ xs) ys more rest
+    → Interleaves f before (xs ++ ys) (given ++ more) (loads ++ rest)
+interleaves_both f before [] ys given more loads rest first next =
+    subst (λ l. Interleaves f before ys (given ++ more) (l ++ rest)) (sym first.1)
+    (subst (λ g. Interleaves f before ys (g ++ more) rest) (sym first.0)
+    (subst (λ b. Interleaves f b ys more rest) (append-nil before) next))
+interleaves_both f before (e ∷ xs) ys given more loads rest (inl first) next =
     inl (
       first.0,
       first.1 ++ rest,
       ap (λ l. l ++ rest) first.2,
       first.3,
-      interleaves_both (before ++ e ∷ []) xs ys given more first.1 rest first.4
-          (subst (λ b. Interleaves b ys more rest) (sym (append_assoc before (e ∷ []) xs)) next),
+      interleaves_both f (before ++ e ∷ []) xs ys given more first.1 rest first.4
+          (subst (λ b. Interleaves f b ys more rest) (sym (append_assoc before (e ∷ []) xs)) next),
     )
-interleaves_both before (e ∷ xs) ys given more loads rest (inr first) next =
+interleaves_both f before (e ∷ xs) ys given more loads rest (inr first) next =
     inr (
       first.0 ++ more,
       ap (λ g. g ++ more) first.1,
       first.2,
-      interleaves_both (before ++ e ∷ []) xs ys first.0 more loads rest first.3
-          (subst (λ b. Interleaves b ys more rest) (sym (append_assoc before (e ∷ []) xs)) next),
+      interleaves_both f (before ++ e ∷ []) xs ys first.0 more loads rest first.3
+          (subst (λ b. Interleaves f b ys more rest) (sym (append_assoc before (e ∷ []) xs)) next),
     )
 
 pub lawful_both : (xs ys : List Incoming) → AreLawful xs → AreLawful ys → AreLawful (xs ++ ys)
@@ -81,7 +82,8 @@ abbrev pub path_of : Phase → Option (List ℕ)
 path_of phase = option_map (λ launch. launch.arguments.program) (launch_of phase)
 
 -- These events were taken, and all that they give was sent.
-pub record Way (session : State) (wanted : Option (List ℕ)) (begin now : Sources) (old later : Ports) : Type 0 where
+pub record Way (f : FirstSeq) (session : State) (wanted : Option (List ℕ)) (begin now : Sources)
+    (old later : Ports) : Type 0 where
   pub events : List Incoming
   pub past : History
   pub given : List Incoming
@@ -89,17 +91,22 @@ pub record Way (session : State) (wanted : Option (List ℕ)) (begin now : Sourc
   pub given_are : now.given ≡ begin.given ++ given
   pub loads_are : now.loaded ≡ begin.loaded ++ loads
   pub lawful : AreLawful events
-  pub interleaves : Interleaves [] events given loads
-  pub stands : StandsFor session events past
+  pub interleaves : Interleaves f [] events given loads
+  pub stands : StandsFor f session events past
   pub sent : Sends [] past old later
   pub sure : RefusesNothing old later
   pub open_ended : session.ending ≡ None
   pub wanted_is : wanted ≡ path_of session.phase
 
-pub way_begins : (session : State) (begin : Sources) (old : Ports) → StandsFor session [] [] → session.ending ≡ None
+-- a session that has taken no event keeps the first number that it was made with
+pub first_is : (session : State) (f : FirstSeq) → StandsFor f session [] [] → session.stream.first ≡ f
+first_is session f stands = ap (λ s. s.first) (stands.goes_on refl).stream_is ∙ stands.first_is
+
+pub way_begins : (f : FirstSeq) (session : State) (begin : Sources) (old : Ports) → StandsFor f session [] []
+    → session.ending ≡ None
     → None ≡ path_of session.phase
-    → Way session None begin begin old old
-way_begins session begin old stands open_ none = record {
+    → Way f session None begin begin old old
+way_begins f session begin old stands open_ none = record {
   events = [];
   past = [];
   given = [];
@@ -115,31 +122,41 @@ way_begins session begin old stands open_ none = record {
   wanted_is = none;
 }
 
+-- the way begins with a session that has taken no event
+pub way_made : (session : State) (f : FirstSeq) (begin : Sources) (old : Ports) → StandsFor f session [] []
+    → Way session.stream.first session None begin begin old old
+way_made session f begin old stands =
+    way_begins session.stream.first session begin old
+    (subst (λ g. StandsFor g session [] []) (sym (first_is session f stands)) stands) stands.ending_is
+    (sym (ap (option_map (λ launch. launch.arguments.program))
+    ((stands.goes_on refl).launch_is ∙ ap (λ (r : Rest). r.launch) stands.history.1)))
+
 -- ---- the next event
 
 -- what the next event adds to what was given and loaded
-record Adds (events : List Incoming) (event : Incoming) (now next : Sources) : Type 0 where
+record Adds (f : FirstSeq) (events : List Incoming) (event : Incoming) (now next : Sources) : Type 0 where
   given : List Incoming
   loads : List Load
   given_are : next.given ≡ now.given ++ given
   loads_are : next.loaded ≡ now.loaded ++ loads
-  one : Interleaves events (event ∷ []) given loads
+  one : Interleaves f events (event ∷ []) given loads
 
 -- or it says that there was no memory for the file that is wanted
-record AddsNothing (events : List Incoming) (event : Incoming) (now next : Sources) : Type 0 where
+record AddsNothing (f : FirstSeq) (events : List Incoming) (event : Incoming) (now next : Sources) : Type 0 where
   path : List ℕ
   event_is : event ≡ File (Err NoMemory)
   given_are : next.given ≡ now.given
   loads_are : next.loaded ≡ now.loaded
-  awaited : Awaits events path
+  awaited : Awaits f events path
 
-awaits : (session : State) (events : List Incoming) (past : History) (launch : Launch) (path : List ℕ)
-    → StandsFor session events past → session.ending ≡ None
-    → launch_of session.phase ≡ Some launch → path ≡ launch.arguments.program → Awaits events path
-awaits session events past launch path stands open_ is same =
+awaits : (f : FirstSeq) (session : State) (events : List Incoming) (past : History) (launch : Launch) (path : List ℕ)
+    → StandsFor f session events past → session.ending ≡ None
+    → launch_of session.phase ≡ Some launch → path ≡ launch.arguments.program → Awaits f events path
+awaits f session events past launch path stands open_ is same =
     let taking : IsTaking past = sym stands.ending_is ∙ open_ in record {
       past = past;
       rest = stands.rest;
+      first_is = stands.first_is;
       history = stands.history;
       taking = taking;
       launch = launch;
@@ -147,22 +164,25 @@ awaits session events past launch path stands open_ is same =
       path_is = same;
     }
 
-awaits_none : (session : State) (events : List Incoming) (past : History) → StandsFor session events past
+awaits_none : (f : FirstSeq) (session : State) (events : List Incoming) (past : History)
+    → StandsFor f session events past
     → session.ending ≡ None
-    → launch_of session.phase ≡ None → AwaitsNone events
-awaits_none session events past stands open_ is =
+    → launch_of session.phase ≡ None → AwaitsNone f events
+awaits_none f session events past stands open_ is =
     let taking : IsTaking past = sym stands.ending_is ∙ open_ in record {
       past = past;
       rest = stands.rest;
+      first_is = stands.first_is;
       history = stands.history;
       waits = inr (sym (stands.goes_on taking).launch_is ∙ is);
     }
 
-adds_file : (events : List Incoming) (path : List ℕ) (answer : Result (List ℕ) LoadFault) (now next : Sources)
-    → Awaits events path
+adds_file : (f : FirstSeq) (events : List Incoming) (path : List ℕ) (answer : Result (List ℕ) LoadFault)
+    (now next : Sources)
+    → Awaits f events path
     → next.given ≡ now.given → next.loaded ≡ now.loaded ++ stored path answer
-    → Adds events (File answer) now next ⊎ AddsNothing events (File answer) now next
-adds_file events path (Ok file) now next awaited given loaded =
+    → Adds f events (File answer) now next ⊎ AddsNothing f events (File answer) now next
+adds_file f events path (Ok file) now next awaited given loaded =
     inl (record {
       given = [];
       loads = load_of path (Ok file) ∷ [];
@@ -172,7 +192,7 @@ adds_file events path (Ok file) now next awaited given loaded =
       one = inl
           (load_of path (Ok file), [], refl, (refl, awaited), (refl, refl));
     })
-adds_file events path (Err CannotRead) now next awaited given loaded =
+adds_file f events path (Err CannotRead) now next awaited given loaded =
     inl (record {
       given = [];
       loads = load_of path (Err CannotRead) ∷ [];
@@ -182,7 +202,7 @@ adds_file events path (Err CannotRead) now next awaited given loaded =
       one = inl
           (load_of path (Err CannotRead), [], refl, (refl, awaited), (refl, refl));
     })
-adds_file events path (Err NoMemory) now next awaited given loaded =
+adds_file f events path (Err NoMemory) now next awaited given loaded =
     inr (record {
       path = path;
       event_is = refl;
@@ -192,13 +212,13 @@ adds_file events path (Err NoMemory) now next awaited given loaded =
       awaited = awaited;
     })
 
-adds_event : (session : State) (events : List Incoming) (past : History) (wanted : Option (List ℕ))
+adds_event : (f : FirstSeq) (session : State) (events : List Incoming) (past : History) (wanted : Option (List ℕ))
     (launch : Option Launch) (event : Incoming) (now next : Sources)
-    → StandsFor session events past → session.ending ≡ None → launch_of session.phase ≡ launch
+    → StandsFor f session events past → session.ending ≡ None → launch_of session.phase ≡ launch
     → wanted ≡ option_map (λ l. l.arguments.program) launch
     → ComesFrom wanted event now next
-    → Adds events event now next ⊎ AddsNothing events event now next
-adds_event session events past None None event now next stands open_ is same from =
+    → Adds f events event now next ⊎ AddsNothing f events event now next
+adds_event f session events past None None event now next stands open_ is same from =
     inl (record {
       given = event ∷ [];
       loads = [];
@@ -206,17 +226,17 @@ adds_event session events past None None event now next stands open_ is same fro
       loads_are = from.1
           ∙ sym (append-nil now.loaded);
       one = inr
-          ([], refl, awaits_none session events past stands open_ is, (refl, refl));
+          ([], refl, awaits_none f session events past stands open_ is, (refl, refl));
     })
-adds_event session events past None (Some launch) event now next stands open_ is same from = absurd cc
-adds_event session events past (Some path) None event now next stands open_ is same from = absurd cc
-adds_event session events past (Some path) (Some launch) (File answer) now next stands open_ is same from =
-    adds_file events path answer now next (awaits session events past launch path stands open_ is cc) from.0 from.1
-adds_event session events past (Some path) (Some launch) (Piece p) now next stands open_ is same from = absurd from
-adds_event session events past (Some path) (Some launch) End now next stands open_ is same from = absurd from
-adds_event session events past (Some path) (Some launch) ReadFailed now next stands open_ is same from = absurd from
-adds_event session events past (Some path) (Some launch) NoMemoryCame now next stands open_ is same from = absurd from
-adds_event session events past (Some path) (Some launch) (Report r) now next stands open_ is same from = absurd from
+adds_event f session events past None (Some launch) event now next stands open_ is same from = absurd cc
+adds_event f session events past (Some path) None event now next stands open_ is same from = absurd cc
+adds_event f session events past (Some path) (Some launch) (File answer) now next stands open_ is same from =
+    adds_file f events path answer now next (awaits f session events past launch path stands open_ is cc) from.0 from.1
+adds_event f session events past (Some path) (Some launch) (Piece p) now next stands open_ is same from = absurd from
+adds_event f session events past (Some path) (Some launch) End now next stands open_ is same from = absurd from
+adds_event f session events past (Some path) (Some launch) ReadFailed now next stands open_ is same from = absurd from
+adds_event f session events past (Some path) (Some launch) NoMemoryCame now next stands open_ is same from = absurd from
+adds_event f session events past (Some path) (Some launch) (Report r) now next stands open_ is same from = absurd from
 
 -- ---- an event is taken
 
@@ -239,27 +259,28 @@ goes_on want session (Some (ending.Closed by)) is wants not = absurd (not wants)
 goes_on want session (Some (ending.Fault fault)) is wants not = absurd wants
 
 -- what the history says of an event that needs no memory, the session says too
-needs_none : (session : State) (events : List Incoming) (past : History) (stands : StandsFor session events past)
+needs_none : (f : FirstSeq) (session : State) (events : List Incoming) (past : History)
+    (stands : StandsFor f session events past)
     → session.ending ≡ None → (event : Incoming)
     → NeedsNoMemory stands.rest.launch (Accepts past) event → NeedsNoMemory (launch_of session.phase)
     (Expects session.phase) event
-needs_none session events past stands open_ End needs = tt
-needs_none session events past stands open_ ReadFailed needs = tt
-needs_none session events past stands open_ (File answer) needs =
+needs_none f session events past stands open_ End needs = tt
+needs_none f session events past stands open_ ReadFailed needs = tt
+needs_none f session events past stands open_ (File answer) needs =
     (stands.goes_on (sym stands.ending_is ∙ open_)).launch_is ∙ needs
-needs_none session events past stands open_ (Report r) needs =
+needs_none f session events past stands open_ (Report r) needs =
     let on = stands.goes_on (sym stands.ending_is ∙ open_) in
     (on.launch_is ∙ needs.0, λ expects. needs.1 (accepts_expected session.phase past r on.knows.phase_is expects))
-needs_none session events past stands open_ (Piece piece) needs = absurd needs
-needs_none session events past stands open_ NoMemoryCame needs = absurd needs
+needs_none f session events past stands open_ (Piece piece) needs = absurd needs
+needs_none f session events past stands open_ NoMemoryCame needs = absurd needs
 
 -- where the session ran out of memory, the event needs some
-needs_some : (session after : State) (fault : SessionFault) (event : Incoming) (mid later : Ports)
-    (events : List Incoming) (past : History) (stands : StandsFor session events past) → session.ending ≡ None
+needs_some : (f : FirstSeq) (session after : State) (fault : SessionFault) (event : Incoming) (mid later : Ports)
+    (events : List Incoming) (past : History) (stands : StandsFor f session events past) → session.ending ≡ None
     → TakesEvent session event (Err fault) after mid later
     → fault ≡ faults.NoMemory → ¬ NeedsNoMemory stands.rest.launch (Accepts past) event
-needs_some session after fault event mid later events past stands open_ step lost needs =
-    step.enough (needs_none session events past stands open_ event needs) (ap Err lost)
+needs_some f session after fault event mid later events past stands open_ step lost needs =
+    step.enough (needs_none f session events past stands open_ event needs) (ap Err lost)
 
 -- the event that comes says that there is no memory only where a launch waits
 lacking : (session : State) (wanted : Option (List ℕ)) (launch : Option Launch) (event : Incoming) (now next : Sources)
@@ -275,17 +296,17 @@ lacking session (Some path) (Some launch) event now next same from is given =
     subst (λ e. LacksMemory e (Some launch)) (sym is) tt
 
 -- the way goes on where the event went well
-pub way_goes_on : (session after : State) (wanted : Option (List ℕ)) (want : Want) (event : Incoming)
+pub way_goes_on : (f : FirstSeq) (session after : State) (wanted : Option (List ℕ)) (want : Want) (event : Incoming)
     (begin now next : Sources) (old mid later : Ports)
-    → Way session wanted begin now old mid → ComesFrom wanted event now next → AreLawful (event ∷ [])
+    → Way f session wanted begin now old mid → ComesFrom wanted event now next → AreLawful (event ∷ [])
     → TakesEvent session event (Ok want) after mid later
     → (want ≡ want_is.Closed → ⊥)
-    → Way after (wanted_by want) begin next old later
-way_goes_on session after wanted want event begin now next old mid later way from law step not =
-    elim (adds_event session way.events way.past wanted (launch_of session.phase) event now next way.stands
+    → Way f after (wanted_by want) begin next old later
+way_goes_on f session after wanted want event begin now next old mid later way from law step not =
+    elim (adds_event f session way.events way.past wanted (launch_of session.phase) event now next way.stands
     way.open_ended refl way.wanted_is from) [
       | inl adds ↦
-          let well = step.comes way.events way.past way.stands in
+          let well = step.comes f way.events way.past way.stands in
           let on = goes_on want after after.ending refl well.wants not in record {
             events = way.events ++ event ∷ [];
             past = well.new;
@@ -299,7 +320,7 @@ way_goes_on session after wanted want event begin now next old mid later way fro
                 ∙ append_assoc begin.loaded way.loads adds.loads;
             lawful = lawful_both way.events (event ∷ []) way.lawful law;
             interleaves =
-                interleaves_both [] way.events (event ∷ []) way.given adds.given way.loads adds.loads way.interleaves
+                interleaves_both f [] way.events (event ∷ []) way.given adds.given way.loads adds.loads way.interleaves
                 adds.one;
             stands = well.stands;
             sent = sends_both [] way.past well.new old mid later way.sent well.sends;
@@ -315,12 +336,14 @@ way_goes_on session after wanted want event begin now next old mid later way fro
 
 -- ---- the end
 
-serves : (events : List Incoming) (past : History) (rest : Rest) (by : Ending) (old later : Ports)
-    → IsHistoryOf events past rest → ending_of past ≡ Some by → Sends [] past old later → RefusesNothing old later
-    → Serves events by old later
-serves events past rest by old later history is sent sure = record {
+serves : (f : FirstSeq) (events : List Incoming) (past : History) (rest : Rest) (by : Ending) (old later : Ports)
+    → rest.first ≡ f → IsHistoryOf events past rest → ending_of past ≡ Some by → Sends [] past old later
+    → RefusesNothing old later
+    → Serves f events by old later
+serves f events past rest by old later first history is sent sure = record {
   past = past;
   rest = rest;
+  first_is = first;
   history = history;
   ending_is = is;
   frames_are = sent.frames_are ∙ ap (λ ms. old.frames ++ frames_from 1 ms) (sym sent.adds.messages_are);
@@ -329,18 +352,20 @@ serves events past rest by old later history is sent sure = record {
   refuses_nothing = sure;
 }
 
-stops_short : (events : List Incoming) (past : History) (rest : Rest) (event : Incoming) (old mid later last : Ports)
+stops_short : (f : FirstSeq) (events : List Incoming) (past : History) (rest : Rest) (event : Incoming)
+    (old mid later last : Ports)
     (fault : SessionFault)
-    → IsHistoryOf events past rest → IsTaking
+    → rest.first ≡ f → IsHistoryOf events past rest → IsTaking
     past → (fault ≡ faults.NoMemory → ¬ NeedsNoMemory rest.launch (Accepts past) event) → Sends [] past old mid
     → RefusesNothing old mid → FailsAt fault past rest event mid later → TriesQuit later last
-    → StopsShort (events ++ event ∷ []) fault old last
-stops_short events past rest event old mid later last fault history taking needs sent sure fails quit = record {
+    → StopsShort f (events ++ event ∷ []) fault old last
+stops_short f events past rest event old mid later last fault first history taking needs sent sure fails quit = record {
   before = events;
   last = event;
   events_are = refl;
   past = past;
   rest = rest;
+  first_is = first;
   history = history;
   taking = taking;
   needs = needs;
@@ -353,55 +378,66 @@ stops_short events past rest event old mid later last fault history taking needs
 }
 
 -- the result is as the way and its last event lead to
-ends : (events : List Incoming) (past : History) (rest : Rest) (event : Incoming) (after : State)
+ends : (f : FirstSeq) (events : List Incoming) (past : History) (rest : Rest) (event : Incoming) (after : State)
     (old mid later last : Ports) (given : List Incoming) (loads : List Load) (fault : SessionFault)
-    → IsHistoryOf events past rest → IsTaking
+    → rest.first ≡ f → IsHistoryOf events past rest → IsTaking
     past → (fault ≡ faults.NoMemory → ¬ NeedsNoMemory rest.launch (Accepts past) event) → Sends [] past old mid
     → RefusesNothing old mid → TriesQuit later last
-    → Comes (Err fault) events past rest event after mid later → Interleaves [] (events ++ event ∷ []) given loads
-    → Drives (events ++ event ∷ []) given loads old last (Err fault)
-ends events past rest event after old mid later last given loads (faults.Frame k) history taking needs sent sure quit
+    → Comes f (Err fault) events past rest event after mid later → Interleaves f [] (events ++ event ∷ []) given loads
+    → Drives f (events ++ event ∷ []) given loads old last (Err fault)
+ends f events past rest event after old mid later last given loads (faults.Frame k) first history taking needs sent sure
+    quit
     comes from =
     ends_at_fault from (record {
       mid = later;
-      serves = serves (events ++ event ∷ []) comes.new comes.rest (ending.Fault (faults.Frame k)) old later
-          comes.history comes.ending_is (sends_both [] past comes.new old mid later sent comes.sends)
+      serves = serves f (events ++ event ∷ []) comes.new comes.rest (ending.Fault (faults.Frame k)) old later
+          comes.first_is comes.history comes.ending_is (sends_both [] past comes.new old mid later sent comes.sends)
           (refuses_both old mid later sure comes.refuses_nothing);
       quit = quit;
     })
-ends events past rest event after old mid later last given loads faults.NoMemory history taking needs sent sure quit
+ends f events past rest event after old mid later last given loads faults.NoMemory first history taking needs sent sure
+    quit
     comes from =
-    runs_out_of_memory (inl from) (stops_short events past rest event old mid later last faults.NoMemory history taking
+    runs_out_of_memory (inl from) (stops_short f events past rest event old mid later last faults.NoMemory
+    first history taking
     needs sent sure comes quit)
-ends events past rest event after old mid later last given loads faults.SeqExhausted history taking needs sent sure quit
+ends f events past rest event after old mid later last given loads faults.SeqExhausted first history taking needs sent
+    sure quit
     comes from =
-    gives_up no_seq_is_left from (stops_short events past rest event old mid later last faults.SeqExhausted history
+    gives_up no_seq_is_left from (stops_short f events past rest event old mid later last faults.SeqExhausted
+    first history
     taking needs sent sure comes quit)
-ends events past rest event after old mid later last given loads faults.OrdersFull history taking needs sent sure quit
+ends f events past rest event after old mid later last given loads faults.OrdersFull first history taking needs sent
+    sure quit
     comes from =
-    gives_up orders_are_full from (stops_short events past rest event old mid later last faults.OrdersFull history
+    gives_up orders_are_full from (stops_short f events past rest event old mid later last faults.OrdersFull
+    first history
     taking needs sent sure comes quit)
-ends events past rest event after old mid later last given loads faults.RunnerGone history taking needs sent sure quit
+ends f events past rest event after old mid later last given loads faults.RunnerGone first history taking needs sent
+    sure quit
     comes from =
-    gives_up runner_is_gone from (stops_short events past rest event old mid later last faults.RunnerGone history taking
+    gives_up runner_is_gone from (stops_short f events past rest event old mid later last faults.RunnerGone
+    first history taking
     needs sent sure comes quit)
-ends events past rest event after old mid later last given loads faults.WriterGone history taking needs sent sure quit
+ends f events past rest event after old mid later last given loads faults.WriterGone first history taking needs sent
+    sure quit
     comes from =
-    gives_up writer_is_gone from (stops_short events past rest event old mid later last faults.WriterGone history taking
+    gives_up writer_is_gone from (stops_short f events past rest event old mid later last faults.WriterGone
+    first history taking
     needs sent sure comes quit)
 
 -- the session was closed
-pub way_closes : (session after : State) (wanted : Option (List ℕ)) (want : Want) (event : Incoming)
+pub way_closes : (f : FirstSeq) (session after : State) (wanted : Option (List ℕ)) (want : Want) (event : Incoming)
     (begin now next : Sources) (old mid later : Ports) (by : Closed)
-    → Way session wanted begin now old mid → ComesFrom wanted event now next → AreLawful (event ∷ [])
+    → Way f session wanted begin now old mid → ComesFrom wanted event now next → AreLawful (event ∷ [])
     → TakesEvent session event (Ok want) after mid later
     → after.ending ≡ Some (ending.Closed by)
-    → Driven (Ok by) begin.given next.given begin.loaded next.loaded old later
-way_closes session after wanted want event begin now next old mid later by way from law step is =
-    elim (adds_event session way.events way.past wanted (launch_of session.phase) event now next way.stands
+    → Driven f (Ok by) begin.given next.given begin.loaded next.loaded old later
+way_closes f session after wanted want event begin now next old mid later by way from law step is =
+    elim (adds_event f session way.events way.past wanted (launch_of session.phase) event now next way.stands
     way.open_ended refl way.wanted_is from) [
       | inl adds ↦
-          let well = step.comes way.events way.past way.stands in record {
+          let well = step.comes f way.events way.past way.stands in record {
             events = way.events ++ event ∷ [];
             given = way.given ++ adds.given;
             loads = way.loads ++ adds.loads;
@@ -413,10 +449,10 @@ way_closes session after wanted want event begin now next old mid later by way f
                 ∙ append_assoc begin.loaded way.loads adds.loads;
             lawful = lawful_both way.events (event ∷ []) way.lawful law;
             drives = closes
-                (interleaves_both [] way.events (event ∷ []) way.given adds.given way.loads adds.loads way.interleaves
+                (interleaves_both f [] way.events (event ∷ []) way.given adds.given way.loads adds.loads way.interleaves
                 adds.one)
-                (serves (way.events ++ event ∷ []) well.new well.stands.rest (ending.Closed by) old later
-                well.stands.history (sym well.stands.ending_is ∙ is)
+                (serves f (way.events ++ event ∷ []) well.new well.stands.rest (ending.Closed by) old later
+                well.stands.first_is well.stands.history (sym well.stands.ending_is ∙ is)
                 (sends_both [] way.past well.new old mid later way.sent well.sends)
                 (refuses_both old mid later way.sure well.refuses_nothing));
           }
@@ -427,15 +463,16 @@ way_closes session after wanted want event begin now next old mid later by way f
     ]
 
 -- it gave up
-pub way_fails : (session after : State) (wanted : Option (List ℕ)) (fault : SessionFault) (event : Incoming)
+pub way_fails : (f : FirstSeq) (session after : State) (wanted : Option (List ℕ)) (fault : SessionFault)
+    (event : Incoming)
     (begin now next : Sources) (old mid later last : Ports)
-    → Way session wanted begin now old mid → ComesFrom wanted event now next → AreLawful (event ∷ [])
+    → Way f session wanted begin now old mid → ComesFrom wanted event now next → AreLawful (event ∷ [])
     → TakesEvent session event (Err fault) after mid later
     → TriesQuit later last
-    → Driven (Err fault) begin.given next.given begin.loaded next.loaded old last
-way_fails session after wanted fault event begin now next old mid later last way from law step quit =
-    let needs = needs_some session after fault event mid later way.events way.past way.stands way.open_ended step in
-    elim (adds_event session way.events way.past wanted (launch_of session.phase) event now next way.stands
+    → Driven f (Err fault) begin.given next.given begin.loaded next.loaded old last
+way_fails f session after wanted fault event begin now next old mid later last way from law step quit =
+    let needs = needs_some f session after fault event mid later way.events way.past way.stands way.open_ended step in
+    elim (adds_event f session way.events way.past wanted (launch_of session.phase) event now next way.stands
     way.open_ended refl way.wanted_is from) [
       | inl adds ↦ record {
         events = way.events ++ event ∷ [];
@@ -446,11 +483,12 @@ way_fails session after wanted fault event begin now next old mid later last way
         loads_are =
             adds.loads_are ∙ ap (λ l. l ++ adds.loads) way.loads_are ∙ append_assoc begin.loaded way.loads adds.loads;
         lawful = lawful_both way.events (event ∷ []) way.lawful law;
-        drives = ends way.events way.past way.stands.rest event after old mid later last (way.given ++ adds.given)
-            (way.loads ++ adds.loads) fault way.stands.history (sym way.stands.ending_is ∙ way.open_ended) needs
+        drives = ends f way.events way.past way.stands.rest event after old mid later last (way.given ++ adds.given)
+            (way.loads ++ adds.loads) fault way.stands.first_is way.stands.history
+            (sym way.stands.ending_is ∙ way.open_ended) needs
             way.sent way.sure quit
-            (step.comes way.events way.past way.stands)
-            (interleaves_both [] way.events (event ∷ []) way.given adds.given way.loads adds.loads way.interleaves
+            (step.comes f way.events way.past way.stands)
+            (interleaves_both f [] way.events (event ∷ []) way.given adds.given way.loads adds.loads way.interleaves
             adds.one);
       }
       | inr none ↦
@@ -464,7 +502,7 @@ way_fails session after wanted fault event begin now next old mid later last way
             given_are = none.given_are ∙ way.given_are;
             loads_are = none.loads_are ∙ way.loads_are;
             lawful = lawful_both way.events (event ∷ []) way.lawful law;
-            drives = subst (λ f. Drives (way.events ++ event ∷ []) way.given way.loads old last (Err f)) (sym same)
+            drives = subst (λ e. Drives f (way.events ++ event ∷ []) way.given way.loads old last (Err e)) (sym same)
                 (runs_out_of_memory
                 (inr (record {
                   before = way.events;
@@ -474,10 +512,11 @@ way_fails session after wanted fault event begin now next old mid later last way
                   awaited = none.awaited;
                   interleaves = way.interleaves;
                 }))
-                (stops_short way.events way.past way.stands.rest event old mid later last faults.NoMemory
-                way.stands.history (sym way.stands.ending_is ∙ way.open_ended) (λ _. needs same) way.sent way.sure
-                (subst (λ f. Comes (Err f) way.events way.past way.stands.rest event after mid later) same
-                (step.comes way.events way.past way.stands)) quit));
+                (stops_short f way.events way.past way.stands.rest event old mid later last faults.NoMemory
+                way.stands.first_is way.stands.history (sym way.stands.ending_is ∙ way.open_ended) (λ _. needs same)
+                way.sent way.sure
+                (subst (λ e. Comes f (Err e) way.events way.past way.stands.rest event after mid later) same
+                (step.comes f way.events way.past way.stands)) quit));
           }
     ]
 

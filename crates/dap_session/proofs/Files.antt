@@ -33,23 +33,24 @@ pub record IsGiven (rest : Rest) (launch : Launch) (answer : Result (List ℕ) L
 
 leads_by_answer : (past : History) (rest : Rest) (launch : Launch) (answer : Result (List ℕ) LoadFault)
     (file : Option (List ℕ)) (new : History) (left : Rest) → file_of answer ≡ Some file
-    → Loads past launch file rest.bytes new left → LeadsByFile past rest (Some launch) answer new left
+    → Loads rest.first past launch file rest.bytes new left → LeadsByFile past rest (Some launch) answer new left
 leads_by_answer past rest launch (Ok bytes) file new left is loads =
-    let e : Some bytes ≡ file = cc in inr (subst (λ f. Loads past launch f rest.bytes new left) (sym e) loads)
+    let e : Some bytes ≡ file = cc in inr (subst (λ f. Loads rest.first past launch f rest.bytes new left) (sym e)
+    loads)
 leads_by_answer past rest launch (Err load_fault.CannotRead) file new left is loads =
-    let e : None ≡ file = cc in inr (subst (λ f. Loads past launch f rest.bytes new left) (sym e) loads)
+    let e : None ≡ file = cc in inr (subst (λ f. Loads rest.first past launch f rest.bytes new left) (sym e) loads)
 leads_by_answer past rest launch (Err load_fault.NoMemory) file new left is loads = absurd cc
 
 leads_by_load : (past : History) (rest : Rest) (launch : Launch) (answer : Result (List ℕ) LoadFault)
     (file : Option (List ℕ)) → IsGiven rest launch answer file → (new : History) (left : Rest)
-    → Loads past launch file rest.bytes new left → LeadsByEvent past rest (File answer) new left
+    → Loads rest.first past launch file rest.bytes new left → LeadsByEvent past rest (File answer) new left
 leads_by_load past rest launch answer file is new left loads =
     subst (λ l. LeadsByFile past rest l answer new left) (sym is.waits)
     (leads_by_answer past rest launch answer file new left is.file_is loads)
 
 toward_by_load : (past : History) (rest : Rest) (launch : Launch) (answer : Result (List ℕ) LoadFault)
     (file : Option (List ℕ)) → IsGiven rest launch answer file → (mid : History) → IsAfter past (Loaded launch file) mid
-    → (new : History) → TowardByPiece mid None rest.bytes new → Toward past rest (File answer) new
+    → (new : History) → TowardByPiece rest.first mid None rest.bytes new → Toward past rest (File answer) new
 toward_by_load past rest launch answer file is mid after new taken =
     inr (record {
       launch = launch;
@@ -65,17 +66,20 @@ toward_by_load past rest launch answer file is mid after new taken =
 -- the contents after it are taken as well
 pub file_taken : (result : Result (Unit {0}) SessionFault) (past : History) (rest : Rest) (launch : Launch)
     (answer : Result (List ℕ) LoadFault) (file : Option (List ℕ)) (loaded last : State) (old between later : Ports)
-    → IsTaking past → IsGiven rest launch answer file → loaded.stream ≡ record { rest = rest.bytes; fault = None }
+    → IsTaking past → IsGiven rest launch answer file
+    → loaded.stream ≡ record { first = rest.first; rest = rest.bytes; fault = None }
     → TakesItem past (Loaded launch file) loaded old between
     → ((h : History) → loaded.stream.fault ≡ None → launch_of loaded.phase ≡ None → IsAt loaded h
-    → HandlesContents result h loaded.stream.rest last between later)
+    → HandlesContents loaded.stream.first result h loaded.stream.rest last between later)
     → Handles result past rest (File answer) last old later
 file_taken result past rest launch answer file loaded last old between later taking is stream_is item taken =
     let mid = item.new in
     let contents =
-    subst (λ b. HandlesContents result mid b last between later) (ap (λ s. s.rest) stream_is)
-    (taken mid (ap (λ s. s.fault) stream_is) item.free item.is_at) in
-    goes_after result (Takes mid rest.bytes) (LeadsByEvent past rest (File answer)) (TowardByPiece mid None rest.bytes)
+    subst (λ b. HandlesContents rest.first result mid b last between later) (ap (λ s. s.rest) stream_is)
+    (subst (λ g. HandlesContents g result mid loaded.stream.rest last between later) (ap (λ s. s.first) stream_is)
+    (taken mid (ap (λ s. s.fault) stream_is) item.free item.is_at)) in
+    goes_after result (Takes rest.first mid rest.bytes) (LeadsByEvent past rest (File answer))
+    (TowardByPiece rest.first mid None rest.bytes)
     (Toward past rest (File answer)) past mid last old between later
     item.sends item.refuses_nothing
     (λ new left all. leads_by_load past rest launch answer file is new left

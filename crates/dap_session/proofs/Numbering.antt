@@ -39,9 +39,9 @@ module _ (count : SeqCountFromOne) (back : FramesAreReadBack) where
       (there.0, read.0, there.1, same_Some frame (frame_of read.0) (sym is ∙ read.1), read.2)
 
   pub frames_are_numbered : ReadingsGoOn → IsReadOnce → HistoryIsOne → FramesAreNumbered
-  frames_are_numbered laws once one result given_before given_after loaded_before loaded_after old later driven =
+  frames_are_numbered laws once one f result given_before given_after loaded_before loaded_after old later driven =
       let sent =
-      drives_few laws once one result driven.events driven.given driven.loads old later driven.lawful driven.drives
+      drives_few laws once one f result driven.events driven.given driven.loads old later driven.lawful driven.drives
       in
       let reached = sent.1 in
       let puts = sent.2 in (

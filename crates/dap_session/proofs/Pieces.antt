@@ -1,6 +1,7 @@
 -- A piece of the input.
 use Rattle.std.proofs.Common.{◌≡◌, inl, ℕ, List, ◌++◌, Option, None, Some, Result, Ok, Err, refl, sym, ◌∙◌, ap, subst}
 use Rattle.std.specs.Prelude.{is_some, true}
+use Rattle.dap_msg.specs.declared.request.FirstSeq.{FirstSeq}
 use Rattle.dap_history.specs.declared.fault.SessionFault.{SessionFault}
 use Rattle.dap_history.specs.declared.fault.SessionFault.TheVariants.{NoMemory}
 use Rattle.dap_history.specs.declared.launch.Launch.{Launch}
@@ -13,26 +14,36 @@ use Rattle.dap_session.specs.Taking.{no_content, TowardByPiece, Toward}
 use Rattle.dap_session.specs.Handling.{IsAt, Goes, Handles, HandlesContents}
 use Rattle.dap_session.proofs.Going.{stops_at_once, arrives_at_once}
 
-toward_here : (past : History) (launch : Option Launch) (bytes : List ℕ) → TowardByPiece past launch bytes past
-toward_here past None bytes = (bytes, no_content)
-toward_here past (Some launch) bytes = refl
+toward_here : (f : FirstSeq) (past : History) (launch : Option Launch) (bytes : List ℕ)
+    → TowardByPiece f past launch bytes past
+toward_here f past None bytes = (bytes, no_content)
+toward_here f past (Some launch) bytes = refl
 
 -- there was no memory for the piece
 pub piece_lost : (session : State) (past : History) (rest : Rest) (piece : List ℕ) (old : Ports)
     → Handles (Err NoMemory) past rest (Piece piece) session old old
 piece_lost session past rest piece old =
-    inl (stops_at_once (Toward past rest (Piece piece)) past old (toward_here past rest.launch (rest.bytes ++ piece)))
+    inl (stops_at_once (Toward past rest (Piece piece)) past old
+    (toward_here rest.first past rest.launch (rest.bytes ++ piece)))
 
 -- the session with a decoder that has the piece
 pub record IsFed (session fed : State) (piece : List ℕ) : Type 0 where
   pub phase_is : fed.phase ≡ session.phase
   pub ending_is : fed.ending ≡ session.ending
   pub seq_is : fed.next_seq ≡ session.next_seq
-  pub stream_is : fed.stream ≡ record { rest = session.stream.rest ++ piece; fault = None }
+  pub stream_is : fed.stream ≡ record {
+    first = session.stream.first;
+    rest = session.stream.rest ++ piece;
+    fault = None;
+  }
 
 bytes_are : (session fed : State) (piece : List ℕ) (past : History) (rest : Rest) → IsFed session fed piece
     → GoesOn session past rest → fed.stream.rest ≡ rest.bytes ++ piece
 bytes_are session fed piece past rest is on = ap (λ s. s.rest) is.stream_is ∙ ap (λ s. s.rest ++ piece) on.stream_is
+
+first_of : (session fed : State) (piece : List ℕ) (past : History) (rest : Rest) → IsFed session fed piece
+    → GoesOn session past rest → fed.stream.first ≡ rest.first
+first_of session fed piece past rest is on = ap (λ s. s.first) is.stream_is ∙ ap (λ s. s.first) on.stream_is
 
 at_fed : (session fed : State) (piece : List ℕ) (past : History) (rest : Rest) → IsFed session fed piece
     → session.ending ≡ None → IsTaking past → GoesOn session past rest → IsAt fed past
@@ -49,23 +60,28 @@ at_fed session fed piece past rest is open_ taking on =
 pub piece_taken : (result : Result (Unit {0}) SessionFault) (session fed last : State) (piece : List ℕ) (past : History)
     (rest : Rest) (old later : Ports) → session.ending ≡ None → IsFed session fed piece → launch_of fed.phase ≡ None
     → ((h : History) → fed.stream.fault ≡ None → launch_of fed.phase ≡ None → IsAt fed h
-    → HandlesContents result h fed.stream.rest last old later)
+    → HandlesContents fed.stream.first result h fed.stream.rest last old later)
     → IsTaking past → GoesOn session past rest → Handles result past rest (Piece piece) last old later
 piece_taken result session fed last piece past rest old later open_ is free taken taking on =
     let bytes = rest.bytes ++ piece in
     let no_launch : None ≡ rest.launch = sym free ∙ ap launch_of is.phase_is ∙ on.launch_is in
     let goes =
     taken past (ap (λ s. s.fault) is.stream_is) free (at_fed session fed piece past rest is open_ taking on) in
-    subst (λ launch. Goes result (LeadsByPiece past launch bytes) (TowardByPiece past launch bytes) past last old later)
+    subst (λ launch. Goes result (LeadsByPiece rest.first past launch bytes)
+    (TowardByPiece rest.first past launch bytes) past last old later)
     no_launch
-    (subst (λ b. Goes result (LeadsByPiece past None b) (TowardByPiece past None b) past last old later)
-    (bytes_are session fed piece past rest is on) goes)
+    (subst (λ b. Goes result (LeadsByPiece rest.first past None b) (TowardByPiece rest.first past None b) past last old
+    later)
+    (bytes_are session fed piece past rest is on)
+    (subst (λ g. HandlesContents g result past fed.stream.rest last old later)
+    (first_of session fed piece past rest is on)
+    goes))
 
 -- it waits with a launch
-waits_with : (launch : Option Launch) (past : History) (bytes : List ℕ) → is_some launch ≡ true
-    → LeadsByPiece past launch bytes past (record { launch = launch; bytes = bytes })
-waits_with None past bytes some = absurd cc
-waits_with (Some launch) past bytes some = (refl, refl)
+waits_with : (f : FirstSeq) (launch : Option Launch) (past : History) (bytes : List ℕ) → is_some launch ≡ true
+    → LeadsByPiece f past launch bytes past (record { first = f; launch = launch; bytes = bytes })
+waits_with f None past bytes some = absurd cc
+waits_with f (Some launch) past bytes some = (refl, refl)
 
 pub piece_waits : (session fed : State) (piece : List ℕ) (past : History) (rest : Rest) (old : Ports)
     → session.ending ≡ None → IsFed session fed piece → is_some (launch_of fed.phase) ≡ true
@@ -74,10 +90,12 @@ piece_waits session fed piece past rest old open_ is some taking on =
     let bytes = rest.bytes ++ piece in
     let at = at_fed session fed piece past rest is open_ taking on in
     let same : launch_of fed.phase ≡ rest.launch = ap launch_of is.phase_is ∙ on.launch_is in
-    arrives_at_once (LeadsByPiece past rest.launch bytes) past (record { launch = rest.launch; bytes = bytes }) fed old
-    (waits_with rest.launch past bytes (ap is_some (sym same) ∙ some)) (is.ending_is ∙ open_) taking
+    arrives_at_once (LeadsByPiece rest.first past rest.launch bytes) past
+    (record { first = rest.first; launch = rest.launch; bytes = bytes }) fed old
+    (waits_with rest.first rest.launch past bytes (ap is_some (sym same) ∙ some)) (is.ending_is ∙ open_) taking
     (record {
       knows = at.knows taking;
       launch_is = same;
-      stream_is = is.stream_is ∙ ap (λ s. record { rest = s.rest ++ piece; fault = None }) on.stream_is;
+      stream_is = is.stream_is ∙ ap (λ s. record { first = s.first; rest = s.rest ++ piece; fault = None })
+          on.stream_is;
     })

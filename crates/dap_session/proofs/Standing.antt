@@ -3,6 +3,7 @@ use Rattle.std.proofs.Common.{◌≡◌, ◌≢◌, ◌⊎◌, inl, inr, ℕ, Li
 use Rattle.std.specs.Prelude.{IfOk, IfErr, String, string_bytes}
 use Rattle.std.specs.declared.alloc.Global.{Global}
 use Rattle.dap_msg.specs.declared.requests.initialize.InitializeArguments.{InitializeArguments}
+use Rattle.dap_msg.specs.declared.request.FirstSeq.{FirstSeq}
 use Rattle.dap_history.specs.declared.fault.LoadFault.{LoadFault}
 use Rattle.dap_history.specs.declared.fault.LoadFault.TheVariants as load_fault
 use Rattle.dap_history.specs.declared.fault.SessionFault.{SessionFault}
@@ -14,7 +15,7 @@ use Rattle.dap_history.specs.Readings.{closing, ending_of}
 use Rattle.dap_history.specs.ReadingLaws.{ReadingsGoOn}
 use Rattle.dap_history.specs.Emission.{IsAfter}
 use Rattle.dap_history.specs.Events as event
-use Rattle.dap_history.specs.Events.{Incoming, Rest, only_bytes, IsTaking, Takes, one_more, closed, open_ended, faulty, waits, Loads, LeadsByPiece, LeadsByFile, LeadsByEvent, Leads}
+use Rattle.dap_history.specs.Events.{Incoming, Rest, only_bytes, IsHistoryOf, IsTaking, Takes, one_more, closed, open_ended, faulty, waits, Loads, LeadsByPiece, LeadsByFile, LeadsByEvent, Leads}
 use Rattle.dap_phase.specs.declared.phase.Phase.TheVariants as phase
 use Rattle.dap_phase.specs.Phases.{launch_of}
 use Rattle.dap_session.specs.declared.want.Want.{Want}
@@ -23,6 +24,7 @@ use Rattle.dap_session.specs.Ports.{Ports}
 use Rattle.dap_session.specs.State.{State, StandsFor, WantsHere, Wants}
 use Rattle.dap_session.specs.Taking.{TakesSome, no_content, one_content, TowardByPiece, LoadsToward, file_of, Toward, FailsAt, Comes, TakesEvent}
 use Rattle.dap_session.specs.Handling.{Arrives, StopsOnTheWay, Handles, NeededNoMemory, HandlesEvent}
+use Rattle.dap_history.proofs.FirstKept.{first_by_event}
 use Rattle.dap_session.proofs.Items.{ending_after}
 
 -- one event after others
@@ -39,6 +41,14 @@ leads_one_more past rest [] mid between event new left all leads = (
 leads_one_more past rest (e ∷ events) mid between event new left all leads =
     (all.0, all.1, all.2, leads_one_more all.0 all.1 events mid between event new left all.3 leads)
 
+pub history_one_more : (events : List Incoming) (mid : History) (between : Rest) (event : Incoming) (new : History)
+    (left : Rest) → IsHistoryOf events mid between → LeadsByEvent mid between event new left
+    → IsHistoryOf (events ++ event ∷ []) new left
+history_one_more events mid between event new left history leads =
+    subst (λ f. Leads [] (only_bytes f []) (events ++ event ∷ []) new left)
+    (sym (first_by_event mid between event new left leads))
+    (leads_one_more [] (only_bytes between.first []) events mid between event new left history leads)
+
 -- ---- where a session goes on after an event, only items that it takes were taken
 
 -- after an item that ends a session it takes nothing
@@ -50,8 +60,9 @@ ended laws past item ending new taking closes after still =
     ∙ ap ending_of (sym after.new_is) ∙ still in
     absurd cc
 
-toward_by_contents : ReadingsGoOn → {past new : History} {bytes : List ℕ} {rest : Rest} → Takes past bytes new rest
-    → IsTaking new → (more : List ℕ) × TakesSome past bytes new more
+toward_by_contents : ReadingsGoOn → {f : FirstSeq} {past new : History} {bytes : List ℕ} {rest : Rest}
+    → Takes f past bytes new rest
+    → IsTaking new → (more : List ℕ) × TakesSome f past bytes new more
 toward_by_contents laws (one_more request taking front unwanted after taken) still =
     let next = toward_by_contents laws taken still in
     (next.0, one_content request taking front unwanted after next.1)
@@ -61,14 +72,15 @@ toward_by_contents laws {past = past} (faulty k new taking is after) still =
     absurd (ended laws past (Fault k) _ new taking refl after still)
 toward_by_contents laws {bytes = bytes} (waits request launch more taking front wanted) still = (bytes, no_content)
 
-toward_by_piece : ReadingsGoOn → (past : History) (launch : Option Launch) (bytes : List ℕ) (new : History)
-    (left : Rest) → LeadsByPiece past launch bytes new left → IsTaking new → TowardByPiece past launch bytes new
-toward_by_piece laws past None bytes new left leads still = toward_by_contents laws leads still
-toward_by_piece laws past (Some launch) bytes new left leads still = leads.0
+toward_by_piece : ReadingsGoOn → (f : FirstSeq) (past : History) (launch : Option Launch) (bytes : List ℕ)
+    (new : History)
+    (left : Rest) → LeadsByPiece f past launch bytes new left → IsTaking new → TowardByPiece f past launch bytes new
+toward_by_piece laws f past None bytes new left leads still = toward_by_contents laws leads still
+toward_by_piece laws f past (Some launch) bytes new left leads still = leads.0
 
 toward_by_loads : ReadingsGoOn → (past : History) (rest : Rest) (launch : Launch) (answer : Result (List ℕ) LoadFault)
     (file : Option (List ℕ)) (new : History) (left : Rest) → rest.launch ≡ Some launch → file_of answer ≡ Some file
-    → Loads past launch file rest.bytes new left → IsTaking new → LoadsToward past rest answer new
+    → Loads rest.first past launch file rest.bytes new left → IsTaking new → LoadsToward past rest answer new
 toward_by_loads laws past rest launch answer file new left is file_is loads still =
     let taken = toward_by_contents laws loads.after still in
     record {
@@ -104,7 +116,7 @@ toward_by_file laws past rest (Some launch) (Err load_fault.NoMemory) new left i
 leads_toward : ReadingsGoOn → (past : History) (rest : Rest) (e : Incoming) (new : History) (left : Rest)
     → IsTaking past → LeadsByEvent past rest e new left → IsTaking new → Toward past rest e new
 leads_toward laws past rest (event.Piece piece) new left taking leads still =
-    toward_by_piece laws past rest.launch (rest.bytes ++ piece) new left leads still
+    toward_by_piece laws rest.first past rest.launch (rest.bytes ++ piece) new left leads still
 leads_toward laws past rest event.End new left taking leads still =
     elim leads.0 [ inl not ↦ inl not.1 | inr after ↦ inr after.1 ]
 leads_toward laws past rest event.ReadFailed new left taking leads still =
@@ -137,51 +149,55 @@ fails_at fault past rest e old later stops =
     }
 
 -- a fault that is none of framing
-comes_of_stop : (fault : SessionFault) (events : List Incoming) (past : History) (rest : Rest) (e : Incoming)
+comes_of_stop : (f : FirstSeq) (fault : SessionFault) (events : List Incoming) (past : History) (rest : Rest)
+    (e : Incoming)
     (session : State) (old later : Ports) → StopsOnTheWay (Toward past rest e) past fault old later
-    → Comes (Err fault) events past rest e session old later
-comes_of_stop (Frame k) events past rest e session old later stops = absurd stops.breaks
-comes_of_stop NoMemory events past rest e session old later stops = fails_at NoMemory past rest e old later stops
-comes_of_stop SeqExhausted events past rest e session old later stops =
+    → Comes f (Err fault) events past rest e session old later
+comes_of_stop f (Frame k) events past rest e session old later stops = absurd stops.breaks
+comes_of_stop f NoMemory events past rest e session old later stops = fails_at NoMemory past rest e old later stops
+comes_of_stop f SeqExhausted events past rest e session old later stops =
     fails_at SeqExhausted past rest e old later stops
-comes_of_stop OrdersFull events past rest e session old later stops = fails_at OrdersFull past rest e old later stops
-comes_of_stop RunnerGone events past rest e session old later stops = fails_at RunnerGone past rest e old later stops
-comes_of_stop WriterGone events past rest e session old later stops = fails_at WriterGone past rest e old later stops
+comes_of_stop f OrdersFull events past rest e session old later stops = fails_at OrdersFull past rest e old later stops
+comes_of_stop f RunnerGone events past rest e session old later stops = fails_at RunnerGone past rest e old later stops
+comes_of_stop f WriterGone events past rest e session old later stops = fails_at WriterGone past rest e old later stops
 
 -- the session gave up
-comes_of_fault : (fault : SessionFault) (events : List Incoming) (past : History) (e : Incoming)
-    (start session last : State) (old later : Ports) (stands : StandsFor start events past)
+comes_of_fault : (f : FirstSeq) (fault : SessionFault) (events : List Incoming) (past : History) (e : Incoming)
+    (start session last : State) (old later : Ports) (stands : StandsFor f start events past)
     → Handles (Err fault) past stands.rest e session old later
-    → Comes (Err fault) events past stands.rest e last old later
-comes_of_fault fault events past e start session last old later stands (inl stops) =
-    comes_of_stop fault events past stands.rest e last old later stops
-comes_of_fault fault events past e start session last old later stands (inr ends) =
+    → Comes f (Err fault) events past stands.rest e last old later
+comes_of_fault f fault events past e start session last old later stands (inl stops) =
+    comes_of_stop f fault events past stands.rest e last old later stops
+comes_of_fault f fault events past e start session last old later stands (inr ends) =
     rw ends.1 (record {
       new = ends.2.new;
       rest = ends.2.rest;
+      first_is = first_by_event past stands.rest e ends.2.new ends.2.rest ends.2.way ∙ stands.first_is;
       history =
-          leads_one_more [] (only_bytes []) events past stands.rest e ends.2.new ends.2.rest stands.history ends.2.way;
+          history_one_more events past stands.rest e ends.2.new ends.2.rest stands.history ends.2.way;
       ending_is = ends.2.ending_is;
       sends = ends.2.sends;
       refuses_nothing = ends.2.refuses_nothing;
     })
 
 -- The session came through the event. It asks for something next, or there was no memory to ask.
-comes_of_want : ReadingsGoOn → (result : Result Want SessionFault) (events : List Incoming) (past : History)
-    (e : Incoming) (start session last : State) (old later : Ports) (stands : StandsFor start events past)
+comes_of_want : ReadingsGoOn → (f : FirstSeq) (result : Result Want SessionFault) (events : List Incoming)
+    (past : History)
+    (e : Incoming) (start session last : State) (old later : Ports) (stands : StandsFor f start events past)
     → IsTaking past
     → Arrives (LeadsByEvent past stands.rest e) past session old later
     → IfOk result (λ want. Wants want session session.ending)
     → IfErr result (λ fault. (fault ≡ NoMemory) × (session.ending ≡ None))
     → ((want : Want) → result ≡ Ok want → last ≡ session)
-    → Comes result events past stands.rest e last old later
-comes_of_want laws (Ok want) events past e start session last old later stands taking came wants lost same =
+    → Comes f result events past stands.rest e last old later
+comes_of_want laws f (Ok want) events past e start session last old later stands taking came wants lost same =
     rw (same want refl) (record {
       new = came.new;
       stands = record {
         rest = came.rest;
+        first_is = first_by_event past stands.rest e came.new came.rest came.way ∙ stands.first_is;
         history =
-            leads_one_more [] (only_bytes []) events past stands.rest e came.new came.rest stands.history came.way;
+            history_one_more events past stands.rest e came.new came.rest stands.history came.way;
         ending_is = came.ending_is;
         goes_on = came.goes_on;
       };
@@ -189,7 +205,7 @@ comes_of_want laws (Ok want) events past e start session last old later stands t
       refuses_nothing = came.refuses_nothing;
       wants = wants;
     })
-comes_of_want laws (Err fault) events past e start session last old later stands taking came wants lost same =
+comes_of_want laws f (Err fault) events past e start session last old later stands taking came wants lost same =
     rw lost.0 (record {
       mid = came.new;
       toward = leads_toward laws past stands.rest e came.new came.rest taking came.way (sym came.ending_is ∙ lost.1);
@@ -223,9 +239,10 @@ want_needs_none (Err fault) session free lost waits_ = λ e. absurd (waits_ (fre
 
 -- the same, of the history of the events that it stands for
 handled_from : (start session : State) (e : Incoming) (taken : Result (Unit {0}) SessionFault) (old later : Ports)
-    → start.ending ≡ None → HandlesEvent start e taken session old later → (events : List Incoming) (past : History)
-    (stands : StandsFor start events past) → Handles taken past stands.rest e session old later
-handled_from start session e taken old later open_ handled events past stands =
+    → start.ending ≡ None → HandlesEvent start e taken session old later
+    → (f : FirstSeq) (events : List Incoming) (past : History)
+    (stands : StandsFor f start events past) → Handles taken past stands.rest e session old later
+handled_from start session e taken old later open_ handled f events past stands =
     let taking : IsTaking past = sym stands.ending_is ∙ open_ in
     handled.comes past stands.rest taking (stands.goes_on taking)
 
@@ -239,9 +256,9 @@ pub takes_of_fault : (start session last : State) (e : Incoming) (taken : Result
     (fault : SessionFault) (old later : Ports) → start.ending ≡ None → HandlesEvent start e taken session old later
     → taken ≡ Err fault → TakesEvent start e (Err fault) last old later
 takes_of_fault start session last e taken fault old later open_ handled is = record {
-  comes = λ events past stands. comes_of_fault fault events past e start session last old later stands
+  comes = λ f events past stands. comes_of_fault f fault events past e start session last old later stands
       (subst (λ t. Handles t past stands.rest e session old later) is
-      (handled_from start session e taken old later open_ handled events past stands));
+      (handled_from start session e taken old later open_ handled f events past stands));
   no_memory = λ lacks.
       let lost = sym is ∙ handled.no_memory lacks in
       let same : fault ≡ NoMemory = cc in ap Err same;
@@ -258,10 +275,10 @@ pub takes_of_want : ReadingsGoOn → (start session last : State) (e : Incoming)
     → ((want : Want) → result ≡ Ok want → last ≡ session)
     → TakesEvent start e result last old later
 takes_of_want laws start session last e taken result old later open_ handled is wants lost waits_ same = record {
-  comes = λ events past stands. comes_of_want laws result events past e start session last old later stands
+  comes = λ f events past stands. comes_of_want laws f result events past e start session last old later stands
       (sym stands.ending_is ∙ open_)
       (subst (λ t. Handles t past stands.rest e session old later) is
-      (handled_from start session e taken old later open_ handled events past stands))
+      (handled_from start session e taken old later open_ handled f events past stands))
       wants lost same;
   no_memory = λ lacks. absurd (let never = sym is ∙ handled.no_memory lacks in cc);
   enough = λ needs. want_needs_none result session (subst (λ t. NeededNoMemory t session) is (handled.enough needs))

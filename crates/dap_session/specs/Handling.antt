@@ -2,6 +2,7 @@
 use Rattle.std.specs.Prelude.{◌≡◌, ◌≢◌, ◌⊎◌, ◌++◌, ◌∷◌, [], ℕ, List, Vec, Option, None, Some, Result, Ok, Err}
 use Rattle.std.specs.declared.alloc.Global.{Global}
 use Rattle.dap_frame.specs.declared.fault.FramingFault.{FramingFault}
+use Rattle.dap_msg.specs.declared.request.FirstSeq.{FirstSeq}
 use Rattle.dap_msg.specs.declared.request.Request.{Request}
 use Rattle.dbg_runner.specs.Plain.{Quit}
 use Rattle.dap_history.specs.declared.fault.SessionFault.{SessionFault}
@@ -126,9 +127,10 @@ Goes (Err fault) leads toward past session old later =
     ⊎ ((k : FramingFault) × (fault ≡ Frame k) × ArrivesAtFault leads past k old later)
 
 -- the same for the contents at the front of these bytes
-abbrev pub HandlesContents : Result (Unit {0}) SessionFault → History → List ℕ → State → Ports → Ports → Type 0
-HandlesContents result past bytes session old later =
-    Goes result (Takes past bytes) (TowardByPiece past None bytes) past session old later
+abbrev pub HandlesContents : FirstSeq → Result (Unit {0}) SessionFault → History → List ℕ → State → Ports → Ports
+    → Type 0
+HandlesContents first result past bytes session old later =
+    Goes result (Takes first past bytes) (TowardByPiece first past None bytes) past session old later
 
 -- the same for an event
 abbrev pub Handles : Result (Unit {0}) SessionFault → History → Rest → Incoming → State → Ports → Ports → Type 0

@@ -3,6 +3,7 @@ use Rattle.std.specs.Prelude.{◌≡◌, ◌⊎◌, ◌+◌, ◌<◌, ◌^◌, �
 use Rattle.dap_frame.specs.Frame.{frame_of}
 use Rattle.dap_msg.specs.declared.outgoing.Outgoing.{Outgoing}
 use Rattle.dap_msg.specs.Laws.{ReadsAsMessage}
+use Rattle.dap_msg.specs.declared.request.FirstSeq.{FirstSeq}
 use Rattle.dbg_runner.specs.Plain.{PlainOrder}
 use Rattle.dap_history.specs.declared.ending.Closed.{Closed}
 use Rattle.dap_history.specs.declared.fault.SessionFault.{SessionFault}
@@ -16,12 +17,13 @@ use Rattle.dap_session.specs.Taking.{Toward}
 use Rattle.dap_session.specs.Serving.{Driven}
 
 -- All events but the last were taken, and some items of the last, perhaps none.
-pub record IsOnTheWay (events : List Incoming) (reached : History) : Type 0 where
+pub record IsOnTheWay (first : FirstSeq) (events : List Incoming) (reached : History) : Type 0 where
   pub before : List Incoming
   pub last : Incoming
   pub events_are : events ≡ before ++ last ∷ []
   pub past : History
   pub rest : Rest
+  pub first_is : rest.first ≡ first
   pub history : IsHistoryOf before past rest
   pub taking : IsTaking past
   pub toward : Toward past rest last reached
@@ -29,11 +31,12 @@ pub record IsOnTheWay (events : List Incoming) (reached : History) : Type 0 wher
 -- A session reached this history with the events: it took all of them, or gave up at the last one. The history is a
 -- prefix of any history of all the events. It is itself the history of some lawful events, so the laws of histories
 -- hold of it.
-pub record IsReached (events : List Incoming) (reached : History) : Type 0 where
-  pub way : ((rest : Rest) × IsHistoryOf events reached rest) ⊎ IsOnTheWay events reached
-  pub begins : (past : History) (rest : Rest) → IsHistoryOf events past rest → Begins reached past
+pub record IsReached (first : FirstSeq) (events : List Incoming) (reached : History) : Type 0 where
+  pub way : ((rest : Rest) × (rest.first ≡ first) × IsHistoryOf events reached rest) ⊎ IsOnTheWay first events reached
+  pub begins : (past : History) (rest : Rest) → rest.first ≡ first → IsHistoryOf events past rest → Begins reached past
   pub taken : List Incoming
   pub rest : Rest
+  pub first_is : rest.first ≡ first
   pub lawful : AreLawful taken
   pub history : IsHistoryOf taken reached rest
 
@@ -51,10 +54,10 @@ pub record SendsPrefix (reached : History) (old later : Ports) : Type 0 where
 -- Quit was pushed or refused.
 abbrev pub FaultsLeavePrefixes : Type 0
 FaultsLeavePrefixes =
-    (fault : SessionFault) (given_before given_after : List Incoming) (loaded_before loaded_after : List Load)
-    (old later : Ports)
-    → (driven : Driven (Err fault) given_before given_after loaded_before loaded_after old later)
-    → (reached : History) × IsReached driven.events reached × (stopped : Ports) × SendsPrefix reached old stopped
+    (first : FirstSeq) (fault : SessionFault) (given_before given_after : List Incoming)
+    (loaded_before loaded_after : List Load) (old later : Ports)
+    → (driven : Driven first (Err fault) given_before given_after loaded_before loaded_after old later)
+    → (reached : History) × IsReached first driven.events reached × (stopped : Ports) × SendsPrefix reached old stopped
     × TriesQuit stopped later
 
 -- The frames that were put are fewer than 2^53. The content of the nth is read as the nth message of the history, and
@@ -70,7 +73,7 @@ pub record PutsNumbered (reached : History) (old later : Ports) : Type 0 where
 -- However a session ends, the frames that it put are numbered from 1, as the messages of the history that it reached.
 abbrev pub FramesAreNumbered : Type 0
 FramesAreNumbered =
-    (result : Result Closed SessionFault) (given_before given_after : List Incoming)
+    (first : FirstSeq) (result : Result Closed SessionFault) (given_before given_after : List Incoming)
     (loaded_before loaded_after : List Load) (old later : Ports)
-    → (driven : Driven result given_before given_after loaded_before loaded_after old later)
-    → (reached : History) × IsReached driven.events reached × PutsNumbered reached old later
+    → (driven : Driven first result given_before given_after loaded_before loaded_after old later)
+    → (reached : History) × IsReached first driven.events reached × PutsNumbered reached old later

@@ -1,6 +1,7 @@
 -- Defines what a whole session sends.
 use Rattle.std.specs.Prelude.{◌≡◌, ◌≤◌, ◌^◌, ◌++◌, ◌∷◌, [], List, Some, Result, Ok, Err}
 use Rattle.dap_frame.specs.declared.fault.FramingFault.{FramingFault}
+use Rattle.dap_msg.specs.declared.request.FirstSeq.{FirstSeq}
 use Rattle.dap_history.specs.declared.fault.SessionFault.{SessionFault}
 use Rattle.dap_history.specs.declared.fault.SessionFault.TheVariants.{Frame, NoMemory, SeqExhausted, OrdersFull, RunnerGone, WriterGone}
 use Rattle.dap_history.specs.declared.ending.Closed.{Closed}
@@ -18,9 +19,10 @@ use Rattle.dap_session.specs.Taking.{NeedsNoMemory, FailsAt}
 
 -- The events were taken until the session had this ending, and everything that they cause was sent: the frames of the
 -- messages, numbered 1, 2, 3 and so on, none of them 2^53 or more, and the orders.
-pub record Serves (events : List Incoming) (ending : Ending) (old later : Ports) : Type 0 where
+pub record Serves (first : FirstSeq) (events : List Incoming) (ending : Ending) (old later : Ports) : Type 0 where
   pub past : History
   pub rest : Rest
+  pub first_is : rest.first ≡ first
   pub history : IsHistoryOf events past rest
   pub ending_is : ending_of past ≡ Some ending
   pub frames_are : later.frames ≡ old.frames ++ frames_from 1 (messages_of past)
@@ -30,20 +32,24 @@ pub record Serves (events : List Incoming) (ending : Ending) (old later : Ports)
 
 -- A framing fault ended the session. Everything that the events cause was sent, and then one Quit was pushed or
 -- refused.
-pub record ServesUntilFault (events : List Incoming) (fault : FramingFault) (old later : Ports) : Type 0 where
-  pub mid : Ports
-  pub serves : Serves events (ending.Fault (Frame fault)) old mid
-  pub quit : TriesQuit mid later
+pub record ServesUntilFault (first : FirstSeq) (events : List Incoming) (fault : FramingFault)
+    (old later : Ports) : Type 0
+  where
+    pub mid : Ports
+    pub serves : Serves first events (ending.Fault (Frame fault)) old mid
+    pub quit : TriesQuit mid later
 
 -- The session gave up at the last event, and hadn't ended before it. What the others cause was sent, then a prefix of
 -- what the last one causes, and then one Quit was pushed or refused. `NoMemory` occurs only at an event that needs
 -- memory.
-pub record StopsShort (events : List Incoming) (fault : SessionFault) (old later : Ports) : Type 0 where
+pub record StopsShort (first : FirstSeq) (events : List Incoming) (fault : SessionFault)
+    (old later : Ports) : Type 0 where
   pub before : List Incoming
   pub last : Incoming
   pub events_are : events ≡ before ++ last ∷ []
   pub past : History
   pub rest : Rest
+  pub first_is : rest.first ≡ first
   pub history : IsHistoryOf before past rest
   pub taking : IsTaking past
   pub needs : fault ≡ NoMemory → ¬ NeedsNoMemory rest.launch (Accepts past) last
@@ -63,24 +69,26 @@ pub data CannotSend : SessionFault → Type 0 where
   writer_is_gone : CannotSend WriterGone
 
 -- What the events that an inbox and a loader returned lead to, and the result.
-pub data Drives (events given : List Incoming) (loads : List Load) (old later : Ports) : Result Closed SessionFault
+pub data Drives (first : FirstSeq) (events given : List Incoming) (loads : List Load)
+    (old later : Ports) : Result Closed SessionFault
     → Type 0 where
   -- the session was closed
-  closes : {by : Closed} → Interleaves [] events given loads → Serves events (ending.Closed by) old later
-      → Drives events given loads old later (Ok by)
+  closes : {by : Closed} → Interleaves first [] events given loads → Serves first events (ending.Closed by) old later
+      → Drives first events given loads old later (Ok by)
   -- a framing fault ended it
-  ends_at_fault : {fault : FramingFault} → Interleaves [] events given loads → ServesUntilFault events fault old later
-      → Drives events given loads old later (Err (Frame fault))
+  ends_at_fault : {fault : FramingFault} → Interleaves first [] events given loads
+      → ServesUntilFault first events fault old later
+      → Drives first events given loads old later (Err (Frame fault))
   -- it ran out of memory; the loader's last answer may be missing then
-  runs_out_of_memory : InterleavesUpTo events given loads → StopsShort events NoMemory old later
-      → Drives events given loads old later (Err NoMemory)
+  runs_out_of_memory : InterleavesUpTo first events given loads → StopsShort first events NoMemory old later
+      → Drives first events given loads old later (Err NoMemory)
   -- it couldn't send what the last event gives
-  gives_up : {fault : SessionFault} → CannotSend fault → Interleaves [] events given loads
-      → StopsShort events fault old later
-      → Drives events given loads old later (Err fault)
+  gives_up : {fault : SessionFault} → CannotSend fault → Interleaves first [] events given loads
+      → StopsShort first events fault old later
+      → Drives first events given loads old later (Err fault)
 
 -- an inbox and a loader returned these events and answers, and this is what they led to
-pub record Driven (result : Result Closed SessionFault) (given_before given_after : List Incoming)
+pub record Driven (first : FirstSeq) (result : Result Closed SessionFault) (given_before given_after : List Incoming)
     (loaded_before loaded_after : List Load) (old later : Ports) : Type 0 where
   pub events : List Incoming
   pub given : List Incoming
@@ -88,4 +96,4 @@ pub record Driven (result : Result Closed SessionFault) (given_before given_afte
   pub given_are : given_after ≡ given_before ++ given
   pub loads_are : loaded_after ≡ loaded_before ++ loads
   pub lawful : AreLawful events
-  pub drives : Drives events given loads old later result
+  pub drives : Drives first events given loads old later result

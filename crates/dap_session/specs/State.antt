@@ -1,7 +1,8 @@
 -- Defines what a session keeps, and which lists of events it stands for.
 use Rattle.std.specs.Prelude.{◌≡◌, ℕ, List, String, string_bytes, Option, None, Some, Result, Ok, Err}
 use Rattle.std.specs.declared.alloc.Global.{Global}
-use Rattle.dap_frame.specs.Stream.{Stream}
+use Rattle.dap_frame.specs.declared.fault.FramingFault.{FramingFault}
+use Rattle.dap_msg.specs.declared.request.FirstSeq.{FirstSeq}
 use Rattle.dap_history.specs.declared.launch.Launch.{Launch}
 use Rattle.dap_history.specs.declared.ending.Ending.{Ending}
 use Rattle.dap_history.specs.declared.ending.Ending.TheVariants as ending
@@ -14,9 +15,16 @@ use Rattle.dap_phase.specs.Phases.{IsPhase, launch_of}
 use Rattle.dap_session.specs.declared.want.Want.{Want}
 use Rattle.dap_session.specs.declared.want.Want.TheVariants as want_is
 
+-- what a session reads: the first number that the client may use, the bytes that aren't taken yet, and the framing
+-- fault at which it gave up
+pub record Inflow : Type 0 where
+  pub first : FirstSeq
+  pub rest : List ℕ
+  pub fault : Option FramingFault
+
 -- the fields of a session, as contracts see them
 pub record State : Type 0 where
-  pub stream : Stream
+  pub stream : Inflow
   pub phase : Phase
   pub ending : Option Ending
   pub next_seq : ℕ
@@ -30,11 +38,12 @@ pub record Knows (session : State) (past : History) : Type 0 where
 pub record GoesOn (session : State) (past : History) (rest : Rest) : Type 0 where
   pub knows : Knows session past
   pub launch_is : launch_of session.phase ≡ rest.launch
-  pub stream_is : session.stream ≡ record { rest = rest.bytes; fault = None }
+  pub stream_is : session.stream ≡ record { first = rest.first; rest = rest.bytes; fault = None }
 
 -- The session stands for the events, whose history is `past`.
-pub record StandsFor (session : State) (events : List Incoming) (past : History) : Type 0 where
+pub record StandsFor (first : FirstSeq) (session : State) (events : List Incoming) (past : History) : Type 0 where
   pub rest : Rest
+  pub first_is : rest.first ≡ first
   pub history : IsHistoryOf events past rest
   pub ending_is : session.ending ≡ ending_of past
   pub goes_on : IsTaking past → GoesOn session past rest

@@ -1,6 +1,7 @@
 -- Defines what one event that a session takes leads to.
 use Rattle.std.specs.Prelude.{◌≡◌, ◌≢◌, ◌⊎◌, ◌++◌, ◌∷◌, [], ℕ, List, Option, Some, None, Result, Ok, Err}
 use Rattle.dap_frame.specs.declared.fault.FramingFault.{FramingFault}
+use Rattle.dap_msg.specs.declared.request.FirstSeq.{FirstSeq}
 use Rattle.dap_msg.specs.declared.request.Request.{Request}
 use Rattle.dbg_runner.specs.Plain.{PlainReport, heading_of}
 use Rattle.dap_history.specs.declared.fault.SessionFault.{SessionFault}
@@ -29,16 +30,17 @@ use Rattle.dap_session.specs.State.{State, StandsFor, Wants}
 
 -- From the history `past`, some contents at the front of the bytes that want no file were taken one after another; the
 -- history is `new` then, and the bytes `left` remain.
-pub data TakesSome : History → List ℕ → History → List ℕ → Type 0 where
-  no_content : {past : History} {bytes : List ℕ} → TakesSome past bytes past bytes
-  one_content : {past mid new : History} {bytes more left : List ℕ} (request : Option Request) →
-      IsTaking past → IsInFront bytes request more → wanted_in (situation past) request ≡ None →
-      IsAfter past (Content request) mid → TakesSome mid more new left → TakesSome past bytes new left
+pub data TakesSome : FirstSeq → History → List ℕ → History → List ℕ → Type 0 where
+  no_content : {first : FirstSeq} {past : History} {bytes : List ℕ} → TakesSome first past bytes past bytes
+  one_content : {first : FirstSeq} {past mid new : History} {bytes more left : List ℕ} (request : Option Request) →
+      IsTaking past → IsInFront first bytes request more → wanted_in (situation past) request ≡ None →
+      IsAfter past (Content request) mid → TakesSome first mid more new left →
+      TakesSome first past bytes new left
 
 -- from `past`, some contents at the front of the bytes were taken, or none while a launch waits
-abbrev pub TowardByPiece : History → Option Launch → List ℕ → History → Type 0
-TowardByPiece past None bytes new = (left : List ℕ) × TakesSome past bytes new left
-TowardByPiece past (Some launch) bytes new = new ≡ past
+abbrev pub TowardByPiece : FirstSeq → History → Option Launch → List ℕ → History → Type 0
+TowardByPiece first past None bytes new = (left : List ℕ) × TakesSome first past bytes new left
+TowardByPiece first past (Some launch) bytes new = new ≡ past
 
 -- what a launch is made with: the file's bytes, or none where it can't be read; nothing where there was no memory
 abbrev pub file_of : Result (List ℕ) LoadFault → Option (Option (List ℕ))
@@ -56,11 +58,11 @@ pub record LoadsToward (past : History) (rest : Rest) (answer : Result (List ℕ
     pub mid : History
     pub loaded : IsAfter past (Loaded launch file) mid
     pub left : List ℕ
-    pub taken : TakesSome mid rest.bytes new left
+    pub taken : TakesSome rest.first mid rest.bytes new left
 
 -- From the history `past`, items of the event were taken in order, perhaps not all of them, which led to `new`.
 abbrev pub Toward : History → Rest → Incoming → History → Type 0
-Toward past rest (Piece piece) new = TowardByPiece past rest.launch (rest.bytes ++ piece) new
+Toward past rest (Piece piece) new = TowardByPiece rest.first past rest.launch (rest.bytes ++ piece) new
 Toward past rest End new = (new ≡ past) ⊎ IsAfter past InputEnd new
 Toward past rest ReadFailed new = (new ≡ past) ⊎ IsAfter past ReadFailure new
 Toward past rest NoMemoryCame new = new ≡ past
@@ -105,35 +107,39 @@ pub record FailsAt (fault : SessionFault) (past : History) (rest : Rest) (event 
     pub breaks : BreaksOff fault mid next between later
 
 -- A framing fault ended the session at the event, and everything that the event causes was sent.
-pub record EndsAt (fault : FramingFault) (events : List Incoming) (past : History) (event : Incoming)
-    (old later : Ports) : Type 0 where
+pub record EndsAt (first : FirstSeq) (fault : FramingFault) (events : List Incoming) (past : History)
+    (event : Incoming) (old later : Ports) : Type 0 where
   pub new : History
   pub rest : Rest
+  pub first_is : rest.first ≡ first
   pub history : IsHistoryOf (events ++ event ∷ []) new rest
   pub ending_is : ending_of new ≡ Some (Fault (Frame fault))
   pub sends : Sends past new old later
   pub refuses_nothing : RefusesNothing old later
 
 -- The session stands for the events and this one, and what this one causes was sent.
-pub record GoesWell (events : List Incoming) (past : History) (event : Incoming) (want : Want) (session : State)
-    (old later : Ports) : Type 0 where
+pub record GoesWell (first : FirstSeq) (events : List Incoming) (past : History) (event : Incoming) (want : Want)
+    (session : State) (old later : Ports) : Type 0 where
   pub new : History
-  pub stands : StandsFor session (events ++ event ∷ []) new
+  pub stands : StandsFor first session (events ++ event ∷ []) new
   pub sends : Sends past new old later
   pub refuses_nothing : RefusesNothing old later
   pub wants : Wants want session session.ending
 
 -- What an event leads to, by the result.
-abbrev pub Comes : Result Want SessionFault → List Incoming → History → Rest → Incoming → State → Ports → Ports → Type 0
-Comes (Ok want) events past rest event session old later = GoesWell events past event want session old later
-Comes (Err (Frame fault)) events past rest event session old later = EndsAt fault events past event old later
-Comes (Err fault) events past rest event session old later = FailsAt fault past rest event old later
+abbrev pub Comes : FirstSeq → Result Want SessionFault → List Incoming → History → Rest → Incoming → State → Ports
+    → Ports → Type 0
+Comes first (Ok want) events past rest event session old later = GoesWell first events past event want session old later
+Comes first (Err (Frame fault)) events past rest event session old later =
+    EndsAt first fault events past event old later
+Comes first (Err fault) events past rest event session old later = FailsAt fault past rest event old later
 
 -- The session, which goes on, takes the event with this result. Whatever events it stands for, the result is what one
 -- more leads to. Where memory was lacking for the event it is `NoMemory`; an event that needs none never leads to that.
 pub record TakesEvent (session : State) (event : Incoming) (result : Result Want SessionFault) (after : State)
     (old later : Ports) : Type 0 where
-  pub comes : (events : List Incoming) (past : History) (stands : StandsFor session events past)
-      → Comes result events past stands.rest event after old later
+  pub comes : (first : FirstSeq) (events : List Incoming) (past : History)
+      (stands : StandsFor first session events past)
+      → Comes first result events past stands.rest event after old later
   pub no_memory : LacksMemory event (launch_of session.phase) → result ≡ Err NoMemory
   pub enough : NeedsNoMemory (launch_of session.phase) (Expects session.phase) event → result ≢ Err NoMemory

@@ -12,6 +12,7 @@ use crate::ports::{Event, Inbox, Loader, OrderFault, Orders, Out};
 use crate::session::Session;
 use crate::want::Want;
 use dap_history::{Closed, SessionFault};
+use dap_msg::FirstSeq;
 use dbg_runner::Order;
 use std::alloc::Global;
 use std::sync::Wait;
@@ -22,7 +23,7 @@ use std::sync::Wait;
 /// # Errors
 ///
 /// At a framing fault, all was sent that the contents before it cause. At any other fault, what was sent is a prefix of
-/// what the events cause. Either way one order to quit is pushed then. `NoMemory` is returned only at an event that needs
+/// what the events cause. Either way one order to quit is tried then. `NoMemory` is returned only at an event that needs
 /// memory.
 pub fn drive<I: Inbox, L: Loader, O: Out, D: Orders>(
     rt: &impl Wait,
@@ -32,16 +33,41 @@ pub fn drive<I: Inbox, L: Loader, O: Out, D: Orders>(
     out: &mut O,
     orders: &mut D,
 ) -> Result<Closed, SessionFault>
-    ensures driven { Driven result (I.given inbox.old) (I.given inbox.new) (L.loaded loader.old) (L.loaded loader.new)
-        (ports (O.seen out.old) (D.seen orders.old))
+    ensures driven { Driven FirstSeq.One result (I.given inbox.old) (I.given inbox.new)
+        (L.loaded loader.old) (L.loaded loader.new) (ports (O.seen out.old) (D.seen orders.old))
         (ports (O.seen out.new) (D.seen orders.new)) }
     ensures inbox { I.origin inbox.new ≡ I.origin inbox.old }
     ensures out { O.origin out.new ≡ O.origin out.old }
     ensures orders { D.origin orders.new ≡ D.origin orders.old }
 {
-    let mut session = Session::new(alloc);
+    drive_from(rt, alloc, FirstSeq::One, inbox, loader, out, orders)
+}
+
+/// Does the same as [`drive`], by the first number that the client may use.
+///
+/// # Errors
+///
+/// As [`drive`].
+pub fn drive_from<I: Inbox, L: Loader, O: Out, D: Orders>(
+    rt: &impl Wait,
+    alloc: Global,
+    first: FirstSeq,
+    inbox: &mut I,
+    loader: &mut L,
+    out: &mut O,
+    orders: &mut D,
+) -> Result<Closed, SessionFault>
+    ensures driven { Driven first result (I.given inbox.old) (I.given inbox.new)
+        (L.loaded loader.old) (L.loaded loader.new) (ports (O.seen out.old) (D.seen orders.old))
+        (ports (O.seen out.new) (D.seen orders.new)) }
+    ensures inbox { I.origin inbox.new ≡ I.origin inbox.old }
+    ensures out { O.origin out.new ≡ O.origin out.old }
+    ensures orders { D.origin orders.new ≡ D.origin orders.old }
+{
+    let mut session = Session::new_from(alloc, first);
     let mut wanted = None;
     for _ in rt.forever() {
+        out.flush();
         let event = next_event(&wanted, inbox, loader);
         match session.take(event, out, orders) {
             Ok(Want::Event) => wanted = None,

@@ -16,8 +16,9 @@ mod session;
 mod want;
 
 pub use dap_history::{Closed, Ending, LoadFault, SessionFault};
+pub use dap_msg::FirstSeq;
 pub use dbg_runner::{Order, Report};
-pub use driving::drive;
+pub use driving::{drive, drive_from};
 pub use laws::session_laws;
 pub use ports::{Event, Inbox, Loader, OrderFault, Orders, Out};
 pub use session::Session;

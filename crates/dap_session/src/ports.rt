@@ -54,6 +54,11 @@ pub trait Out {
         ensures err_refused { OnErr result ((seen self.new).refused ≡ (seen self.old).refused ++ frame.items ∷ []) }
         ensures back { IfErr result (λ back. back.items ≡ frame.items) }
         ensures origin { origin self.new ≡ origin self.old };
+
+    /// Passes on what was put and is kept, before the caller waits for something else.
+    fn flush(&mut self)
+        ensures seen { seen self.new ≡ seen self.old }
+        ensures origin { origin self.new ≡ origin self.old };
 }
 
 /// Where orders go.

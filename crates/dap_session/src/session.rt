@@ -13,6 +13,7 @@ use crate::ports::{Event, Orders, Out};
 use crate::want::Want;
 use dap_frame::Decoder;
 use dap_history::{Closed, Ending, SessionFault, reading_laws};
+use dap_msg::FirstSeq;
 use dap_phase::Phase;
 use std::alloc::{AllocError, Global};
 use std::marker::Model;
@@ -21,10 +22,13 @@ use std::marker::Model;
 #[derive(Drop)]
 pub struct Session {
     alloc: Global,
+    first: FirstSeq,
     decoder: Decoder,
     phase: Phase,
     ending: Option<Ending>,
     next_seq: u64,
+    // Room for the content of a message while its frame is made. What it holds doesn't matter.
+    content: Vec<u8>,
 }
 
 impl Model for Session {
@@ -37,7 +41,7 @@ impl Model for Session {
 
     ghost coded = { Prim.hlevel (codes, compiled.the_row.coded, breakpoint_code) };
 
-    ghost view = { λ session. record { stream = session.decoder; phase = session.phase; ending = session.ending; next_seq = session.next_seq } };
+    ghost view = { λ session. record { stream = record { first = session.first; rest = session.decoder.rest; fault = session.decoder.fault }; phase = session.phase; ending = session.ending; next_seq = session.next_seq } };
 }
 
 impl Session {
@@ -52,16 +56,25 @@ impl Session {
     ghost use Rattle.dap_session.specs.Taking.{TakesEvent};
     ghost use Rattle.dap_session.specs.Handling.{IsWell, HandlesEvent};
 
-    /// Returns a session that has taken no event. It takes no memory.
+    /// Returns a session that has taken no event, for a client whose numbers begin with 1. It takes no memory.
     pub fn new(alloc: Global) -> Session
-        ensures { StandsFor result [] [] }
+        ensures { StandsFor FirstSeq.One result [] [] }
+    {
+        Session::new_from(alloc, FirstSeq::One)
+    }
+
+    /// Returns a session that has taken no event, by the first number that the client may use. It takes no memory.
+    pub fn new_from(alloc: Global, first: FirstSeq) -> Session
+        ensures { StandsFor first result [] [] }
     {
         Session {
             alloc,
+            first,
             decoder: Decoder::new(alloc),
             phase: Phase::Fresh,
             ending: None,
             next_seq: 1,
+            content: Vec::new(alloc),
         }
     }
 

@@ -119,6 +119,8 @@ impl Out for Frames<'_> {
             }
         }
     }
+
+    fn flush(&mut self) {}
 }
 
 /// Where orders go, with room for some: to the runner. Where memory runs out, an order is refused as `Gone`.

@@ -10,14 +10,14 @@ use super::Session;
 use crate::ports::{Orders, Out};
 use dap_frame::{Decoder, FramingFault};
 use dap_history::{SessionFault, reading_laws};
-use dap_msg::{message_laws, read};
+use dap_msg::{message_laws, read_from};
 use dap_phase::Phase;
 use dap_replies::phase_laws;
 
 impl Session {
     ghost use Rattle.std.specs.Prelude.{◌≡◌, Option, None, OnOk, is_some};
     ghost use Rattle.dap_msg.specs.declared.request.Request.{Request};
-    ghost use Rattle.dap_msg.specs.Request.{IsRequestOf};
+    ghost use Rattle.dap_msg.specs.Request.{IsRequestFrom};
     ghost use Rattle.dap_history.specs.History.{History};
     ghost use Rattle.dap_history.specs.Events.{Rest, IsTaking, Piece};
     ghost use Rattle.dap_phase.specs.Phases.{launch_of};
@@ -65,7 +65,7 @@ impl Session {
     ) -> Result<(), SessionFault>
         requires taking { self.old.ending ≡ None }
         ensures comes { (past : History) → self.old.stream.fault ≡ None → launch_of self.old.phase ≡ None → IsAt self.old past →
-            HandlesContents result past self.old.stream.rest self.new
+            HandlesContents self.old.stream.first result past self.old.stream.rest self.new
             (ports (O.seen out.old) (D.seen orders.old))
             (ports (O.seen out.new) (D.seen orders.new)) }
         ensures well { OnOk result (IsWell self.new.ending) }
@@ -92,7 +92,7 @@ impl Session {
         requires taking { self.old.ending ≡ None }
         requires free { launch_of self.old.phase ≡ None }
         ensures comes { (past : History) → IsAt self.old past →
-            (request : Option Request) × IsRequestOf content.now request
+            (request : Option Request) × IsRequestFrom self.old.stream.first content.now request
             × HandlesContent result past request self.new
             (ports (O.seen out.old) (D.seen orders.old))
             (ports (O.seen out.new) (D.seen orders.new)) }
@@ -102,7 +102,7 @@ impl Session {
         ensures orders { D.origin orders.new ≡ D.origin orders.old }
     {
         message_laws();
-        match read(self.alloc, content) {
+        match read_from(self.alloc, self.first, content) {
             Ok(Some(request)) => self.take_request(request, out, orders),
             Ok(None) => {
                 reading_laws();

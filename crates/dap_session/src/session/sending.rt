@@ -29,8 +29,6 @@ const SEQ_END: u64 = 1 << 53;
 /// The frames of the messages built so far.
 #[derive(Drop)]
 struct Frames {
-    /// The content of the message that is being built.
-    content: Vec<u8>,
     /// The frames, in order.
     frames: Vec<Vec<u8>>,
     /// The seq of the next message.
@@ -69,11 +67,13 @@ impl Session {
             order,
             phase,
         } = effect;
-        let Frames {
-            frames,
-            next_seq,
-            ..
-        } = Frames::of(self.alloc, self.next_seq, answer, events)?;
+        let Frames { frames, next_seq } = Frames::of(
+            self.alloc,
+            &mut self.content,
+            self.next_seq,
+            answer,
+            events,
+        )?;
         push(order, orders)?;
         put(frames, out)?;
         self.next_seq = next_seq;
@@ -92,6 +92,7 @@ impl Frames {
     /// Builds the frames of an answer, if there is one, and of events, numbered from `seq` on.
     fn of(
         alloc: Global,
+        content: &mut Vec<u8>,
         seq: u64,
         answer: Option<Outgoing>,
         events: Items<EventBody>,
@@ -102,43 +103,50 @@ impl Frames {
         ensures err { IfErr result (λ fault. IsNotBuilt fault seq (with_answer answer (map Event events))) }
     {
         let mut all = Frames {
-            content: Vec::new(alloc),
             frames: Vec::new(alloc),
             next_seq: seq,
         };
-        all.add_answer(answer)?;
-        all.add_events(events.into_vec())?;
+        all.add_answer(content, answer)?;
+        all.add_events(content, events.into_vec())?;
         Ok(all)
     }
 
     /// Adds the frame of an answer, if there is one.
-    fn add_answer(&mut self, answer: Option<Outgoing>) -> Result<(), SessionFault>
+    fn add_answer(
+        &mut self,
+        content: &mut Vec<u8>,
+        answer: Option<Outgoing>,
+    ) -> Result<(), SessionFault>
         ensures ok { OnOk result (AddsFrames (option_to_list answer) self.old self.new) }
         ensures err { IfErr result (λ fault. IsNotBuilt fault self.old.next_seq (option_to_list answer)) }
     {
         match answer {
-            Some(answer) => self.add(&answer),
+            Some(answer) => self.add(content, &answer),
             None => Ok(()),
         }
     }
 
     /// Adds the frames of events.
-    fn add_events(&mut self, events: Vec<EventBody>) -> Result<(), SessionFault>
+    fn add_events(
+        &mut self,
+        content: &mut Vec<u8>,
+        events: Vec<EventBody>,
+    ) -> Result<(), SessionFault>
         ensures ok { OnOk result (AddsFrames (map Event events.items) self.old self.new) }
         ensures err { IfErr result (λ fault. IsNotBuilt fault self.old.next_seq (map Event events.items)) }
     {
         for event in events {
-            self.add(&Outgoing::Event(event))?;
+            self.add(content, &Outgoing::Event(event))?;
         }
         Ok(())
     }
 
     /// Adds the frame of a message.
-    fn add(&mut self, message: &Outgoing) -> Result<(), SessionFault>
+    fn add(&mut self, content: &mut Vec<u8>, message: &Outgoing) -> Result<(), SessionFault>
         ensures ok { OnOk result (AddsFrames (message.now ∷ []) self.old self.new) }
         ensures err { IfErr result (λ fault. IsNotBuilt fault self.old.next_seq (message.now ∷ [])) }
     {
-        let frame = frame(message, self.next_seq, &mut self.content)?;
+        let frame = frame(message, self.next_seq, content)?;
         if self.frames.push(frame).is_err() {
             return Err(SessionFault::NoMemory);
         }
