@@ -1,4 +1,2 @@
--- How a list of bytes grows, or is used up, over two calls together; for `say` and `write_all`.
-pub mod Known
 -- What was written so far is a prefix of the bytes, and all of them at the end; for `say` and `write_all`.
 pub mod Transferring

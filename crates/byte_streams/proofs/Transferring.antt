@@ -7,7 +7,7 @@ use Rattle.std.proofs.Math.Seq.{take-suc}
 use Rattle.std.proofs.lemmas.List.{take-append-drop, map-append}
 use Rattle.std.proofs.lemmas.List.Folds.{concat-append}
 use Rattle.byte_streams.specs.Streams.{AppendsPart}
-use Rattle.byte_streams.proofs.Known.{appends_none, appends_both, appends_keep}
+use Rattle.std.proofs.KnownBytes.{Appends-nil as appends_none, Appends-trans as appends_both, Appends-kept as appends_keep}
 
 -- the front of these bytes was written, and this rest is left
 pub record Partly (whole rest : List ℕ) (old later : Option (List ℕ)) : Type 0 where

@@ -1,5 +1,34 @@
 //! Bytes in and bytes out: where they come from, where they go, and how to write all of them.
 //!
+//! ```
+//! use byte_streams::{IoFault, Reading, Sink, Source, Writing, write_all};
+//! use std::process::ExitCode;
+//! use std::sync::Wait;
+//!
+//! fn main(rt: HostRuntime) -> ExitCode {
+//!     let mut input = Reading::new(&rt, rt.stdin());
+//!     let mut output = Writing::new(&rt, rt.stdout());
+//!     ExitCode::from(if copies(&rt, &mut input, &mut output) { 0 } else { 1 })
+//! }
+//!
+//! /// Writes all that is read, up to the end of the input. Returns whether no read or write failed.
+//! fn copies<I: Source, O: Sink>(rt: &impl Wait, input: &mut I, output: &mut O) -> bool {
+//!     let mut room = [0; 4096];
+//!     for _ in rt.forever() {
+//!         let count = match input.read(&mut room) {
+//!             Ok(0) => return true,
+//!             Ok(count) => count,
+//!             Err(IoFault::Interrupted) => continue,
+//!             Err(_) => return false,
+//!         };
+//!         if !write_all(rt, output, room.split_at(count).0) {
+//!             return false;
+//!         }
+//!     }
+//!     unreachable!()
+//! }
+//! ```
+//!
 //! The one contract is that no loss goes unnoticed: a [`Source`] returns the first of the bytes that were left to read, a
 //! [`Sink`] appends the bytes that it takes to those written before, and each read or write that fails is counted.
 //! [`Reading`] and [`Writing`] are a source and a sink over std's `Read` and `Write`. [`write_all`] and [`say`] write all

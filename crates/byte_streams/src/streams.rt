@@ -1,16 +1,21 @@
 //! Sources and sinks of bytes, and one of each over std's `Read` and `Write`.
-ghost use Rattle.std.specs.Prelude.{◌≡◌, ◌≢◌, ◌+◌};
+ghost use Rattle.std.specs.Prelude.{◌≡◌, ◌≢◌, ◌⊎◌, ◌+◌};
 
 use crate::counting::next_count;
 use std::io::{self, ErrorKind, Read, Write};
 use std::sync::Wait;
+use std::thread;
+use std::time::{Clock, Duration};
+
+/// How long a stream that would block is left alone before it is tried again, in milliseconds.
+const RETRY_PAUSE: u64 = 1;
 
 /// Why a read or a write did nothing.
 #[derive(Clone, Copy)]
 pub enum IoFault {
     /// It failed. The source or the sink counts this.
     Failed,
-    /// It was interrupted before anything happened, and may be tried again.
+    /// It was interrupted, or would have had to wait, before anything happened. It may be tried again.
     Interrupted,
 }
 
@@ -66,7 +71,8 @@ pub trait Sink {
         ensures interrupted { result ≡ Err Interrupted → failures self.new ≡ failures self.old };
 }
 
-/// A source over std's `Read`. It blocks forever where one more failure can't be counted in 64 bits.
+/// A source over std's `Read`. Where that doesn't block and has nothing to read, a read takes a pause and then says that it
+/// was interrupted. It blocks forever where one more failure can't be counted in 64 bits.
 #[derive(Drop)]
 pub struct Reading<'a, R: Wait, I: Read + Drop> {
     rt: &'a R,
@@ -88,7 +94,7 @@ impl<'a, R: Wait, I: Read + Drop> Reading<'a, R, I> {
     }
 }
 
-impl<R: Wait, I: Read + Drop> Source for Reading<'_, R, I> {
+impl<R: Wait + Clock, I: Read + Drop> Source for Reading<'_, R, I> {
     ghost left = { λ s. I.remaining s.inner };
 
     ghost failures = { λ s. s.failures };
@@ -97,7 +103,7 @@ impl<R: Wait, I: Read + Drop> Source for Reading<'_, R, I> {
         match self.inner.read(room) {
             Ok(count) => Ok(count),
             Err(error) => {
-                let fault = io_fault(&error);
+                let fault = io_fault(self.rt, &error);
                 self.failures = counted(self.rt, fault, self.failures);
                 Err(fault)
             }
@@ -105,8 +111,9 @@ impl<R: Wait, I: Read + Drop> Source for Reading<'_, R, I> {
     }
 }
 
-/// A sink over std's `Write`. It doesn't flush: standard output has no buffer of its own here. It blocks forever where one
-/// more failure can't be counted in 64 bits.
+/// A sink over std's `Write`. It doesn't flush: standard output has no buffer of its own here. Where that doesn't block and
+/// has no room, a write takes a pause and then says that it was interrupted. It blocks forever where one more failure can't
+/// be counted in 64 bits.
 #[derive(Drop)]
 pub struct Writing<'a, R: Wait, O: Write + Drop> {
     rt: &'a R,
@@ -128,7 +135,7 @@ impl<'a, R: Wait, O: Write + Drop> Writing<'a, R, O> {
     }
 }
 
-impl<R: Wait, O: Write + Drop> Sink for Writing<'_, R, O> {
+impl<R: Wait + Clock, O: Write + Drop> Sink for Writing<'_, R, O> {
     ghost written = { λ s. O.contents s.inner };
 
     ghost failures = { λ s. s.failures };
@@ -141,7 +148,7 @@ impl<R: Wait, O: Write + Drop> Sink for Writing<'_, R, O> {
             }
             Ok(count) => Ok(count),
             Err(error) => {
-                let fault = io_fault(&error);
+                let fault = io_fault(self.rt, &error);
                 self.failures = counted(self.rt, fault, self.failures);
                 Err(fault)
             }
@@ -153,13 +160,20 @@ ghost use Rattle.std.specs.IoError.{error_kind};
 ghost use Rattle.std.specs.declared.io.ErrorKind.TheVariants as kind;
 ghost use Rattle.byte_streams.specs.declared.streams.IoFault.TheVariants.{Failed, Interrupted};
 
-/// Returns `Interrupted` for an error of that kind, and `Failed` for all others.
-fn io_fault(error: &io::Error) -> IoFault
-    ensures interrupted { result ≡ Interrupted → error_kind error.now ≡ kind.Interrupted }
-    ensures failed { result ≡ Failed → error_kind error.now ≢ kind.Interrupted }
+/// Returns `Interrupted` for an error of that kind, and, after a pause, for one that says that the call would block. Returns
+/// `Failed` for all others.
+fn io_fault(clock: &impl Clock, error: &io::Error) -> IoFault
+    ensures interrupted { result ≡ Interrupted
+        → (error_kind error.now ≡ kind.Interrupted) ⊎ (error_kind error.now ≡ kind.WouldBlock) }
+    ensures failed { result ≡ Failed
+        → (error_kind error.now ≢ kind.Interrupted) × (error_kind error.now ≢ kind.WouldBlock) }
 {
     match error.kind() {
         ErrorKind::Interrupted => IoFault::Interrupted,
+        ErrorKind::WouldBlock => {
+            thread::sleep(clock, Duration::from_millis(RETRY_PAUSE));
+            IoFault::Interrupted
+        }
         _ => IoFault::Failed,
     }
 }

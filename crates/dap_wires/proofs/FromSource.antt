@@ -3,7 +3,8 @@ use Rattle.std.proofs.Common.{◌≡◌, ◌<◌, ◌≤◌, ℕ, List, [], ◌+
 use Rattle.std.specs.Io.KnownBytes.{Keeps, Consumes, IsAtEnd}
 use Rattle.std.proofs.lemmas.List.{length-take, take_all}
 use Rattle.dap_wires.specs.Transfer.{BeginsWith}
-use Rattle.byte_streams.proofs.Known.{consumes_after, consumes_both, keeps_consumes}
+use Rattle.std.proofs.KnownBytes.{Consumes-trans as consumes_both}
+use Rattle.dap_wires.proofs.KnownBytes.{consumes_after, keeps_consumes}
 
 -- a read that gave nothing, with room for some
 pub read_nothing : (old mid later : Option (List ℕ)) (n : ℕ) (room : List ℕ) → Keeps old mid

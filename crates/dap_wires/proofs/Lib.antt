@@ -16,3 +16,7 @@ pub mod WrittenSoFar
 -- The ends of the queues may go to another thread, as events and orders may; for whoever starts threads with these ends
 -- (`serve` of `adapter`).
 pub mod Crossing
+-- Frames that are written together, and those that are kept; for the functions of `bundling` and `frames`.
+mod Bundles
+-- Bytes that are left to read, where they are known; for `FromSource` and `read_event`.
+mod KnownBytes

@@ -17,7 +17,7 @@ use Rattle.dap_wires.specs.declared.writer_message.WriterMessage.TheVariants as 
 use Rattle.dap_wires.specs.declared.end_log.EndLog.{EndLog}
 use Rattle.dap_wires.specs.Delivery.{of_first, of_second, put}
 use Rattle.dap_wires.specs.Inbox.{came}
-use Rattle.dap_wires.specs.WriterMessages.{frames_in, has_end, AreEnded}
+use Rattle.dap_wires.specs.WriterMessages.{bundled, kept_in, frames_in, has_end, AreEnded}
 use Rattle.dap_wires.specs.Senders.{is_by_runner, events_in, from_client, reports_among, is_quiet, are_quiet}
 use Rattle.dap_wires.proofs.Delivered.{all_first}
 
@@ -218,20 +218,21 @@ quiet_kept (x ∷ old) r all one =
 
 pub frames_append : (xs ys : List WriterMessage) → frames_in (xs ++ ys) ≡ frames_in xs ++ frames_in ys
 frames_append [] ys = refl
-frames_append (message.Frame frame ∷ xs) ys = ap (λ l. frame.items ∷ l) (frames_append xs ys)
+frames_append (message.Frames b ∷ xs) ys =
+    ap (λ l. bundled b ++ l) (frames_append xs ys) ∙ sym (append_assoc (bundled b) (frames_in xs) (frames_in ys))
 frames_append (message.End ∷ xs) ys = frames_append xs ys
 
 -- frames were put, and one more
 pub frame_keeps_open : (xs : List WriterMessage) (frame : _) → has_end xs ≡ false
-    → has_end (xs ++ message.Frame frame ∷ []) ≡ false
+    → has_end (xs ++ message.Frames frame ∷ []) ≡ false
 frame_keeps_open [] frame none = refl
-frame_keeps_open (message.Frame first ∷ xs) frame none = frame_keeps_open xs frame none
+frame_keeps_open (message.Frames first ∷ xs) frame none = frame_keeps_open xs frame none
 frame_keeps_open (message.End ∷ xs) frame none = none
 
 -- frames were put, and then the end
 pub end_ends : (xs : List WriterMessage) → has_end xs ≡ false → AreEnded (xs ++ message.End ∷ [])
 end_ends [] none = tt
-end_ends (message.Frame first ∷ xs) none = end_ends xs none
+end_ends (message.Frames first ∷ xs) none = end_ends xs none
 end_ends (message.End ∷ xs) none = absurd (true≢false none)
 
 -- the end is no frame
@@ -239,9 +240,12 @@ pub frames_end : (xs : List WriterMessage) → frames_in (xs ++ message.End ∷ 
 frames_end xs = frames_append xs (message.End ∷ []) ∙ append-nil (frames_in xs)
 
 -- what was taken is a prefix of what was put
-pub messages_begin : (put taken inside : List WriterMessage) → put ≡ of_first (λ _. false) (taken ++ inside)
-    → Begins taken put
-messages_begin put taken inside is = (inside, sym (is ∙ all_first (taken ++ inside)))
+pub messages_begin : (put kept taken inside : List WriterMessage) → put ≡ of_first (λ _. false) (taken ++ inside)
+    → Begins taken (put ++ kept)
+messages_begin put kept taken inside is = (
+  inside ++ kept,
+  sym (append_assoc taken inside kept) ∙ ap (λ l. l ++ kept) (sym (is ∙ all_first (taken ++ inside))),
+)
 
 -- Nothing was refused.
 pub none_mapped : {A B : Type 0} (f : A → B) (xs : List A) → xs ≡ [] → map f xs ≡ []

@@ -6,10 +6,11 @@ use Rattle.std.specs.Io.KnownBytes.{Appends}
 use Rattle.std.proofs.lemmas.List.Folds.{concat-append}
 use Rattle.dap_wires.specs.declared.writer_message.WriterMessage.{WriterMessage}
 use Rattle.dap_wires.specs.declared.writer_message.WriterMessage.TheVariants as message
-use Rattle.dap_wires.specs.WriterMessages.{frames_in, has_end, AreEnded}
+use Rattle.dap_wires.specs.declared.bundle.Bundle.{Bundle}
+use Rattle.dap_wires.specs.WriterMessages.{bundled, frames_in, has_end, AreEnded}
 use Rattle.byte_streams.specs.Streams.{Output, AppendsPart, WritesAll, FailsIn}
 use Rattle.dap_wires.proofs.Growing.{one_more}
-use Rattle.byte_streams.proofs.Known.{appends_none, appends_both}
+use Rattle.std.proofs.KnownBytes.{Appends-nil as appends_none, Appends-trans as appends_both}
 use Rattle.dap_wires.proofs.Sending.{frames_append, frame_keeps_open, end_ends, frames_end}
 
 -- frames were taken, and written whole
@@ -43,36 +44,38 @@ written_waits taken_old taken_mid taken_new old later w same =
           w.failures;
     }
 
-bytes_append : (taken : List WriterMessage) (frame : _) → concat (frames_in taken)
-    ++ frame.items ≡ concat (frames_in (taken ++ message.Frame frame ∷ []))
+bytes_append : (taken : List WriterMessage) (frame : Bundle) → concat (frames_in taken)
+    ++ frame.bytes.items ≡ concat (frames_in (taken ++ message.Frames frame ∷ []))
 bytes_append taken frame =
-    sym (ap concat (frames_append taken (message.Frame frame ∷ [])) ∙ concat-append (frames_in taken) (frame.items ∷ [])
-    ∙ ap (λ l. concat (frames_in taken) ++ l) (append-nil frame.items))
+    sym (ap concat (frames_append taken (message.Frames frame ∷ []))
+    ∙ concat-append (frames_in taken) (bundled frame ++ [])
+    ∙ ap (λ l. concat (frames_in taken) ++ l) (ap concat (append-nil (bundled frame)) ∙ frame.joined))
 
 -- one more frame was taken, and written whole
-pub written_goes_on : (taken_old taken_mid taken_new : List WriterMessage) (old mid later : Output) (frame : _)
-    → WrittenSoFar taken_old taken_mid old mid → taken_new ≡ taken_mid ++ message.Frame frame ∷ []
-    → Appends mid.written later.written frame.items → later.failures ≡ mid.failures
+pub written_goes_on : (taken_old taken_mid taken_new : List WriterMessage) (old mid later : Output) (frame : Bundle)
+    → WrittenSoFar taken_old taken_mid old mid → taken_new ≡ taken_mid ++ message.Frames frame ∷ []
+    → Appends mid.written later.written frame.bytes.items → later.failures ≡ mid.failures
     → WrittenSoFar taken_old taken_new old later
 written_goes_on taken_old taken_mid taken_new old mid later frame w took wrote count = record {
-  taken = w.taken ++ message.Frame frame ∷ [];
-  taken_is = one_more taken_old taken_mid taken_new w.taken (message.Frame frame) w.taken_is took;
+  taken = w.taken ++ message.Frames frame ∷ [];
+  taken_is = one_more taken_old taken_mid taken_new w.taken (message.Frames frame) w.taken_is took;
   no_end = frame_keeps_open w.taken frame w.no_end;
   written =
       subst (Appends old.written later.written) (bytes_append w.taken frame)
-      (appends_both old.written mid.written later.written (concat (frames_in w.taken)) frame.items w.written wrote);
+      (appends_both old.written mid.written later.written (concat (frames_in w.taken)) frame.bytes.items w.written
+      wrote);
   failures = count ∙ w.failures;
 }
 
 -- a frame was taken, and a prefix of it was written
-pub written_breaks : (taken_old taken_mid taken_new : List WriterMessage) (old mid later : Output) (frame : _)
-    → WrittenSoFar taken_old taken_mid old mid → taken_new ≡ taken_mid ++ message.Frame frame ∷ []
-    → AppendsPart mid.written later.written frame.items → mid.failures < later.failures
+pub written_breaks : (taken_old taken_mid taken_new : List WriterMessage) (old mid later : Output) (frame : Bundle)
+    → WrittenSoFar taken_old taken_mid old mid → taken_new ≡ taken_mid ++ message.Frames frame ∷ []
+    → AppendsPart mid.written later.written frame.bytes.items → mid.failures < later.failures
     → (taken : List WriterMessage) × (taken_new ≡ taken_old ++ taken)
     × ((has_end taken ≡ false) × FailsIn (concat (frames_in taken)) old later)
 written_breaks taken_old taken_mid taken_new old mid later frame w took wrote count = (
-  w.taken ++ message.Frame frame ∷ [],
-  one_more taken_old taken_mid taken_new w.taken (message.Frame frame) w.taken_is took,
+  w.taken ++ message.Frames frame ∷ [],
+  one_more taken_old taken_mid taken_new w.taken (message.Frames frame) w.taken_is took,
   (
     frame_keeps_open w.taken frame w.no_end,
     (

@@ -22,6 +22,10 @@ module _ {R : Type 0} where
   abbrev pub client_events : ClientSender R → List Incoming
   client_events e = came (sender_log e.end).put_first
 
+  -- the events that were handed back to the reader
+  abbrev pub returned_events : ClientSender R → List Incoming
+  returned_events e = map incoming_of e.handed_back.entries
+
   -- the reports that the runner put into the queue
   abbrev pub put_reports : ReportSender R → List PlainReport
   put_reports e = reports_among (came (sender_log e.end).put_second)

@@ -1,19 +1,26 @@
 -- Defines what went through an outbox, as plain data.
-use Rattle.std.specs.Prelude.{List, map}
+use Rattle.std.specs.Prelude.{ℕ, List, map, [], ◌∷◌, ◌++◌}
 use Rattle.dap_wires.specs.declared.ends.ReceiveLog.{ReceiveLog}
 use Rattle.dap_wires.specs.declared.writer_message.WriterMessage.{WriterMessage}
 use Rattle.dap_wires.specs.declared.frame_ends.FrameSender.{FrameSender}
 use Rattle.dap_wires.specs.declared.frame_ends.EndedSender.{EndedSender}
 use Rattle.dap_wires.specs.declared.frame_ends.FrameReceiver.{FrameReceiver}
 use Rattle.dap_wires.specs.Ends.{QueueId, sender_log, sender_queue, receiver_log, receiver_queue, receive_log}
-use Rattle.dap_wires.specs.WriterMessages.{frames_in}
+use Rattle.dap_wires.specs.WriterMessages.{frames_in, kept_in}
 use Rattle.dap_session.specs.Ports.{Written}
 
+-- one more frame was put
+abbrev pub with_frame : Written → List ℕ → Written
+with_frame seen frame = record seen { frames = seen.frames ++ frame ∷ [] }
+
 module _ {R : Type 0} where
-  -- the frames that the session put, and those that were refused
+  -- the frames that the session put, in the queue or kept, and those that were refused
   abbrev pub put_frames : FrameSender R → Written
   put_frames e =
-      record { frames = frames_in (sender_log e.end).put_first; refused = map (λ frame. frame.items) e.refused.entries }
+      record {
+        frames = frames_in ((sender_log e.end).put_first ++ kept_in e.kept);
+        refused = map (λ frame. frame.items) e.refused.entries;
+      }
 
   -- which queue an end belongs to, and which the end that nobody uses
   abbrev pub frame_queue : FrameSender R → QueueId WriterMessage
@@ -24,7 +31,7 @@ module _ {R : Type 0} where
 
   -- all that was put until the session ended, with `End` where that was put
   abbrev pub messages_put : EndedSender R → List WriterMessage
-  messages_put e = (sender_log e.end).put_first
+  messages_put e = (sender_log e.end).put_first ++ kept_in e.kept
 
   -- which queue the ends belong to when no more is put
   abbrev pub ended_queue : EndedSender R → QueueId WriterMessage

@@ -15,18 +15,19 @@ last_of NoMemory = NoMemoryCame ∷ []
 last_of HandedBack = []
 
 -- what was read and not sent: the event that was handed back, or nothing
-abbrev pub Loses : ReadEnd → Supply → Supply → Type 0
-Loses HandedBack mid later = (event : Incoming) × IsRead event mid later
-Loses _ mid later = later ≡ mid
+abbrev pub Loses : ReadEnd → List Incoming → Supply → Supply → Type 0
+Loses HandedBack lost mid later = (event : Incoming) × (lost ≡ event ∷ []) × IsRead event mid later
+Loses _ lost mid later = (lost ≡ []) × (later ≡ mid)
 
--- Pieces were sent, and then what ended the input, or nothing where the last event was returned. All that was read was
--- sent, but for that one.
+-- Pieces were sent, and then what ended the input, or nothing where the last event was handed back. All that was read
+-- was sent, but for that one.
 pub record IsReadUntil (end : ReadEnd) (sent : List Incoming) (old later : Supply) : Type 0 where
   pub pieces : List (List ℕ)
   pub sent_are : sent ≡ map Piece pieces ++ last_of end
   pub mid : Supply
   pub read : AreRead sent old mid
-  pub loses : Loses end mid later
+  pub lost : List Incoming
+  pub loses : Loses end lost mid later
 
 -- how reading ends with this event, if it does
 abbrev pub end_by : Incoming → Option ReadEnd

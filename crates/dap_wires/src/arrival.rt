@@ -32,6 +32,11 @@ pub(crate) fn is_quiet(report: &Report) -> bool
     goes_on(report.summary().outcome) && report.numbers().is_empty() && report.logs().is_empty()
 }
 
+/// How many outputs a report has: numbers and logs, for each of which a client gets a message.
+pub(crate) fn outputs_of(report: &Report) -> usize {
+    report.numbers().len().saturating_add(report.logs().len())
+}
+
 /// Whether a run goes on after a slice with this outcome.
 fn goes_on(outcome: SliceOutcome) -> bool
     ensures { result ≡ goes_on outcome }

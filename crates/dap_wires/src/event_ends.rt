@@ -11,6 +11,7 @@ ghost use Rattle.dap_wires.specs.Senders.{events_in, are_quiet};
 
 use crate::arrival::Arrival;
 use crate::ends::{ReceiveEnd, ReceiveLog, SendEnd};
+use crate::window::{WindowEntry, WindowExit};
 use dap_session::Event;
 use dbg_runner::{GhostList, Report};
 use std::alloc::Global;
@@ -21,6 +22,8 @@ use std::sync::Wait;
 #[derive(Drop)]
 pub struct ClientSender<R: Wait + Drop> {
     pub(crate) end: SendEnd<Arrival, R>,
+    // What was returned as an error.
+    pub(crate) handed_back: GhostList<Event>,
     ghost puts: { (sender_log end).first ≡ true },
     ghost room: { sender_room end ≡ 64 },
 }
@@ -30,6 +33,8 @@ pub struct ClientSender<R: Wait + Drop> {
 pub struct ReportSender<R: Wait + Drop> {
     pub(crate) alloc: Global,
     pub(crate) end: SendEnd<Arrival, R>,
+    // Where the outputs of each report are counted.
+    pub(crate) window: WindowEntry,
     // What was sent and isn't in the queue yet: at most 16 reports, all of them quiet.
     pub(crate) kept: VecDeque<Report>,
     // What was returned as an error.
@@ -45,6 +50,7 @@ pub struct ReportSender<R: Wait + Drop> {
 pub struct EventReceiver<R: Wait + Drop> {
     pub(crate) rt: R,
     pub(crate) end: ReceiveEnd<Arrival, R>,
+    pub(crate) window: WindowExit,
     // What was taken from the queue and isn't returned to the session yet.
     pub(crate) rest: VecDeque<Report>,
     // What was returned to the session.

@@ -4,12 +4,13 @@ ghost use Rattle.std.specs.Prelude.{◌≡◌, ◌++◌, ◌∷◌, [], true, fa
 ghost use Rattle.dap_session.specs.Incoming.{incoming_of};
 ghost use Rattle.dap_session.specs.Sending.{Begins};
 ghost use Rattle.dbg_runner.specs.Reported.{plain_report};
-ghost use Rattle.dap_wires.specs.Inbox.{client_events, put_reports, sent_reports, refused_reports, taken_events, client_queue, report_queue, event_queue, left_queue, received};
+ghost use Rattle.dap_wires.specs.Inbox.{client_events, returned_events, put_reports, sent_reports, refused_reports, taken_events, client_queue, report_queue, event_queue, left_queue, received};
 ghost use Rattle.dap_wires.specs.Senders.{is_report, from_client, reports_among};
 
-use crate::arrival::{Arrival, is_quiet};
+use crate::arrival::{Arrival, is_quiet, outputs_of};
 use crate::channels::{channel, reconcile};
 use crate::event_ends::{ClientSender, EventReceiver, InboxLog, ReportSender};
+use crate::window::output_window;
 use dap_session::{Event, Inbox};
 use dbg_runner::{GhostList, Report, Reports};
 use std::alloc::{AllocError, Global};
@@ -33,23 +34,29 @@ pub fn inbox<R: Wait + Copy + Drop>(
     rt: R,
     alloc: Global,
 ) -> Result<(ClientSender<R>, ReportSender<R>, EventReceiver<R>), AllocError>
-    ensures client { IfOk result (λ r. client_events r.0 ≡ []) }
+    ensures client { IfOk result (λ r. (client_events r.0 ≡ []) × (returned_events r.0 ≡ [])) }
     ensures reports { IfOk result (λ r. (sent_reports r.1 ≡ []) × (refused_reports r.1 ≡ [])) }
     ensures events { IfOk result (λ r. taken_events r.2 ≡ []) }
     ensures one { IfOk result (λ r. (report_queue r.1 ≡ client_queue r.0) × (event_queue r.2 ≡ client_queue r.0)) }
 {
     let (client, reports, events) = channel(rt, alloc, INBOX_CAPACITY)?;
+    let (entry, exit) = output_window(alloc)?;
     Ok((
-        ClientSender { end: client },
+        ClientSender {
+            end: client,
+            handed_back: GhostList::new(),
+        },
         ReportSender {
             alloc,
             end: reports,
+            window: entry,
             kept: VecDeque::new(alloc),
             handed_back: GhostList::new(),
         },
         EventReceiver {
             rt,
             end: events,
+            window: exit,
             rest: VecDeque::new(alloc),
             given: GhostList::new(),
         },
@@ -78,14 +85,19 @@ impl<R: Wait + Drop> ClientSender<R> {
     /// The event, where the session has left the inbox.
     pub fn send(&mut self, event: Event) -> Result<(), Event>
         requires { is_report event ≡ false }
-        ensures sent { OnOk result (client_events self.new ≡ client_events self.old ++ incoming_of event ∷ []) }
-        ensures refused { OnErr result (client_events self.new ≡ client_events self.old) }
+        ensures sent { OnOk result ((client_events self.new ≡ client_events self.old ++ incoming_of event ∷ [])
+            × (returned_events self.new ≡ returned_events self.old)) }
+        ensures refused { OnErr result ((client_events self.new ≡ client_events self.old)
+            × (returned_events self.new ≡ returned_events self.old ++ incoming_of event ∷ [])) }
         ensures back { IfErr result (λ back. back ≡ event) }
         ensures queue { client_queue self.new ≡ client_queue self.old }
     {
         match self.end.send(Arrival::Event(event)) {
             Ok(()) => Ok(()),
-            Err(Arrival::Event(back)) => Err(back),
+            Err(Arrival::Event(back)) => {
+                self.handed_back = self.handed_back.and(&back);
+                Err(back)
+            }
             Err(Arrival::Quiet(_)) => unreachable!(),
         }
     }
@@ -118,7 +130,8 @@ impl<R: Wait + Drop> Reports for ReportSender<R> {
 }
 
 impl<R: Wait + Drop> ReportSender<R> {
-    /// Puts a report into the queue after those that were kept.
+    /// Puts a report into the queue after those that were kept. Blocks while the inbox is full, or the window has no room
+    /// for its outputs.
     ///
     /// # Errors
     ///
@@ -135,6 +148,7 @@ impl<R: Wait + Drop> ReportSender<R> {
         if !self.put_kept() {
             return Err(self.hand_back(report));
         }
+        self.window.enter(&self.end.rt, outputs_of(&report));
         match self.end.send(Arrival::Event(Event::Report(report))) {
             Ok(()) => Ok(()),
             Err(Arrival::Event(Event::Report(back))) => Err(self.hand_back(back)),
@@ -210,9 +224,11 @@ impl<R: Wait + Drop> Inbox for EventReceiver<R> {
         let EventReceiver {
             rt,
             end,
+            window,
             rest,
             given,
         } = self;
+        window.let_out();
         for _ in rt.forever() {
             if let Some(report) = rest.pop_front() {
                 let event = Event::Report(report);
@@ -222,6 +238,9 @@ impl<R: Wait + Drop> Inbox for EventReceiver<R> {
             match end.receive() {
                 None => {}
                 Some(Arrival::Event(event)) => {
+                    if let Event::Report(report) = &event {
+                        window.take(outputs_of(report));
+                    }
                     *given = given.and(&event);
                     return event;
                 }

@@ -4,6 +4,7 @@ ghost use Rattle.std.specs.Prelude.{◌≡◌, true, false, []};
 ghost use Rattle.dap_wires.specs.Ends.{sender_log, receiver_log, sender_room, receiver_room};
 ghost use Rattle.dap_wires.specs.WriterMessages.{has_end};
 
+use crate::bundle::Bundle;
 use crate::ends::{ReceiveEnd, SendEnd};
 use crate::writer_message::WriterMessage;
 use dbg_runner::GhostList;
@@ -13,6 +14,8 @@ use std::sync::Wait;
 #[derive(Drop)]
 pub struct FrameSender<R: Wait + Drop> {
     pub(crate) end: SendEnd<WriterMessage, R>,
+    // The frames that were put and aren't in the queue.
+    pub(crate) kept: Option<Bundle>,
     // The second sender's end, which nobody uses.
     pub(crate) unused: SendEnd<WriterMessage, R>,
     // What was returned as an error.
@@ -30,6 +33,8 @@ pub struct FrameSender<R: Wait + Drop> {
 #[derive(Drop)]
 pub struct EndedSender<R: Wait + Drop> {
     pub(crate) end: SendEnd<WriterMessage, R>,
+    // The frames that were put and never came into the queue.
+    pub(crate) kept: Option<Bundle>,
     pub(crate) unused: SendEnd<WriterMessage, R>,
     ghost puts: { (sender_log end).first ≡ true },
     ghost unused_puts: { (sender_log unused).second ≡ true },

@@ -1,11 +1,12 @@
 //! The outbox of a session: a queue of the frames that go to a writer.
 
-ghost use Rattle.std.specs.Prelude.{◌≡◌, ◌≢◌, ◌⊎◌, ◌++◌, ◌∷◌, [], true, false, ℕ, IfOk, IfSome, IfNone};
+ghost use Rattle.std.specs.Prelude.{◌≡◌, ◌≢◌, ◌⊎◌, ◌++◌, ◌∷◌, [], true, false, ℕ, None, IfOk, IfSome, IfNone, IsTrue, IsFalse};
 ghost use Rattle.dap_session.specs.Sending.{Begins};
 ghost use Rattle.dap_wires.specs.Ends.{receive_log, receive_log_queue};
-ghost use Rattle.dap_wires.specs.Outbox.{put_frames, frame_queue, unused_queue, messages_put, ended_queue, ended_unused_queue, messages_taken, writer_queue, messages_received};
+ghost use Rattle.dap_wires.specs.Outbox.{put_frames, frame_queue, unused_queue, messages_put, ended_queue, ended_unused_queue, messages_taken, writer_queue, messages_received, with_frame};
 ghost use Rattle.dap_wires.specs.WriterMessages.{frames_in, has_end, AreEnded};
 
+use crate::bundle::Bundle;
 use crate::channels::{channel, reconcile};
 use crate::ends::ReceiveLog;
 use crate::frame_ends::{EndedSender, FrameReceiver, FrameSender};
@@ -13,6 +14,7 @@ use crate::writer_message::WriterMessage;
 use dap_session::Out;
 use dbg_runner::GhostList;
 use std::alloc::{AllocError, Global};
+use std::mem;
 use std::sync::Wait;
 
 /// How many messages the queue of an outbox has room for.
@@ -35,6 +37,7 @@ pub fn outbox<R: Wait + Copy + Drop>(
     Ok((
         FrameSender {
             end: frames,
+            kept: None,
             unused,
             refused: GhostList::new(),
             is_gone: false,
@@ -56,7 +59,19 @@ pub fn reconcile_outbox<R: Wait + Drop>(frames: EndedSender<R>, log: ReceiveLog<
 impl<R: Wait + Drop> FrameSender<R> {
     /// Puts `WriterMessage::End` after all frames, unless a frame was refused. So where `End` was put, every frame was put
     /// before it.
-    pub fn finish(self) -> EndedSender<R>
+    pub fn finish(mut self) -> EndedSender<R>
+        ensures put { (has_end (messages_put result) ≡ false) ⊎ AreEnded (messages_put result) }
+        ensures refused { (put_frames self).refused ≢ [] → has_end (messages_put result) ≡ false }
+        ensures frames { frames_in (messages_put result) ≡ (put_frames self).frames }
+        ensures queue { (ended_queue result ≡ frame_queue self) × (ended_unused_queue result ≡ unused_queue self) }
+    {
+        self.send_kept();
+        self.end()
+    }
+
+    /// Puts `WriterMessage::End` after all frames, unless a frame was refused. None is kept, unless one was refused.
+    fn end(self) -> EndedSender<R>
+        requires { self.is_gone ≡ false → self.kept ≡ None }
         ensures put { (has_end (messages_put result) ≡ false) ⊎ AreEnded (messages_put result) }
         ensures refused { (put_frames self).refused ≢ [] → has_end (messages_put result) ≡ false }
         ensures frames { frames_in (messages_put result) ≡ (put_frames self).frames }
@@ -64,15 +79,49 @@ impl<R: Wait + Drop> FrameSender<R> {
     {
         let FrameSender {
             mut end,
+            kept,
             unused,
             is_gone,
             ..
         } = self;
         if is_gone {
-            return EndedSender { end, unused };
+            return EndedSender { end, kept, unused };
         }
         let _ = end.send(WriterMessage::End);
-        EndedSender { end, unused }
+        EndedSender { end, kept, unused }
+    }
+
+    /// Puts the frames that are kept into the queue. Where the writer has left it, they stay, and is_gone says so.
+    fn send_kept(&mut self)
+        ensures seen { put_frames self.new ≡ put_frames self.old }
+        ensures none { self.new.is_gone ≡ false → self.new.kept ≡ None }
+        ensures queue { (frame_queue self.new ≡ frame_queue self.old)
+            × (unused_queue self.new ≡ unused_queue self.old) }
+    {
+        let Some(bundle) = mem::replace(&mut self.kept, None) else {
+            return;
+        };
+        match self.end.send(WriterMessage::Frames(bundle)) {
+            Ok(()) => {}
+            Err(WriterMessage::Frames(back)) => {
+                self.kept = Some(back);
+                self.is_gone = true;
+            }
+            Err(WriterMessage::End) => unreachable!(),
+        }
+    }
+
+    /// Adds a frame to those that are kept, if some are, there is room, and the writer is there. Returns whether it did.
+    fn add(&mut self, frame: &Vec<u8>) -> bool
+        ensures added { IsTrue result → put_frames self.new ≡ with_frame (put_frames self.old) frame.now.items }
+        ensures full { IsFalse result → put_frames self.new ≡ put_frames self.old }
+        ensures queue { (frame_queue self.new ≡ frame_queue self.old)
+            × (unused_queue self.new ≡ unused_queue self.old) }
+    {
+        match &mut self.kept {
+            Some(bundle) if !self.is_gone => bundle.add(frame),
+            _ => false,
+        }
     }
 }
 
@@ -88,15 +137,20 @@ impl<R: Wait + Drop> Out for FrameSender<R> {
     ghost origin = { λ e. (frame_queue e, unused_queue e) };
 
     fn put(&mut self, frame: Vec<u8>) -> Result<(), Vec<u8>> {
-        match self.end.send(WriterMessage::Frame(frame)) {
-            Ok(()) => Ok(()),
-            Err(WriterMessage::Frame(back)) => {
-                self.refused = self.refused.and(&back);
-                self.is_gone = true;
-                Err(back)
-            }
-            Err(WriterMessage::End) => unreachable!(),
+        if self.add(&frame) {
+            return Ok(());
         }
+        self.send_kept();
+        if self.is_gone {
+            self.refused = self.refused.and(&frame);
+            return Err(frame);
+        }
+        self.kept = Some(Bundle::of(frame));
+        Ok(())
+    }
+
+    fn flush(&mut self) {
+        self.send_kept();
     }
 }
 

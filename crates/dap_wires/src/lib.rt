@@ -6,13 +6,16 @@
 //! implement the ports of [`dap_session`] and [`dbg_runner`]. [`reconcile_inbox`], [`reconcile_outbox`] and
 //! [`reconcile_orders`] bring the logs of all ends together when all threads were joined, and prove that what was received
 //! is a prefix of what was sent. Quiet reports, for which a client gets no message, cross an inbox several at once, and the
-//! session receives them one by one. [`read_loop`] and [`write_loop`] stand between a queue and a source or a sink of
+//! session receives them one by one. Of numbers and logs at most 512 are on their way, unless one report has more: so a
+//! client that pauses a run, or disconnects, gets no more before the stop or the answer. [`read_loop`] and [`write_loop`] stand between a queue and a source or a sink of
 //! [`byte_streams`]: the one sends what it read, and the other writes what it took. Each queue and each loop can be used
 //! without the others.
 #![tactic(auto)]
 
 mod arrival;
 mod beginning;
+mod bundle;
+mod bundling;
 mod channels;
 mod end_log;
 mod ends;
@@ -25,11 +28,13 @@ mod order_queue;
 mod reading;
 mod rule;
 mod transfer;
+mod window;
 mod writer_message;
 mod writing;
 
 pub use arrival::Arrival;
 pub use beginning::read_beginning;
+pub use bundle::Bundle;
 pub use end_log::EndLog;
 pub use ends::ReceiveLog;
 pub use event_ends::{ClientSender, EventReceiver, InboxLog, ReportSender};

@@ -3,7 +3,7 @@
 ghost use Rattle.std.specs.Prelude.{◌≡◌, ◌++◌, List};
 ghost use Rattle.dap_history.specs.Events.{Incoming};
 ghost use Rattle.dap_session.specs.Incoming.{incoming_of};
-ghost use Rattle.dap_wires.specs.Inbox.{client_events, client_queue};
+ghost use Rattle.dap_wires.specs.Inbox.{client_events, client_queue, returned_events};
 ghost use Rattle.dap_wires.specs.Reading.{IsReadUntil, end_by};
 ghost use Rattle.byte_streams.specs.Streams.{supply};
 
@@ -36,7 +36,8 @@ pub fn read_loop<I: Source, R: Wait + Drop>(
     inbox: &mut ClientSender<R>,
 ) -> ReadEnd
     ensures read { (sent : List Incoming) × (client_events inbox.new ≡ client_events inbox.old ++ sent)
-        × IsReadUntil result sent (supply (I.left input.old) (I.failures input.old)) (supply (I.left input.new) (I.failures input.new)) }
+        × ((read : IsReadUntil result sent (supply (I.left input.old) (I.failures input.old)) (supply (I.left input.new) (I.failures input.new)))
+        × (returned_events inbox.new ≡ returned_events inbox.old ++ read.lost)) }
     ensures queue { client_queue inbox.new ≡ client_queue inbox.old }
 {
     let mut room = [0; PIECE_LIMIT];

@@ -1,12 +1,13 @@
 //! The messages in the queue of an outbox.
 
+use crate::bundle::Bundle;
 use crate::rule::Sent;
 
 /// A message to a writer.
 #[derive(Drop)]
 pub enum WriterMessage {
-    /// The next frame.
-    Frame(Vec<u8>),
+    /// The next frames.
+    Frames(Bundle),
     /// No frame comes after this.
     End,
 }

@@ -33,8 +33,8 @@ pub fn write_loop<O: Sink, R: Wait + Drop>(
         match outbox.receive() {
             None => {}
             Some(WriterMessage::End) => return Ok(()),
-            Some(WriterMessage::Frame(frame)) => {
-                if !write_all(rt, output, frame.as_slice()) {
+            Some(WriterMessage::Frames(bundle)) => {
+                if !write_all(rt, output, bundle.bytes.as_slice()) {
                     return Err(WriteFailed);
                 }
             }

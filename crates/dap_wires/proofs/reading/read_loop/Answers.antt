@@ -1,7 +1,8 @@
 use Rattle.std.proofs.Common.{sym, ◌∙◌}
-use Rattle.dap_wires.specs.Inbox.{client_events}
+use Rattle.dap_wires.specs.Inbox.{client_events, returned_events}
 use Rattle.byte_streams.specs.Streams.{supply}
-use Rattle.dap_wires.proofs.ReadSoFar.{read_goes_on, read_ends, when_ok}
+use Rattle.dap_session.specs.Incoming.{incoming_of}
+use Rattle.dap_wires.proofs.ReadSoFar.{read_goes_on, read_ends, read_lost, when_ok, when_err}
 use Rattle.dap_wires.proofs.reading.read_loop.Goals as goal
 
 pub returns-in-Some-end-clause-read : goal.returns-in-Some-end-clause-read
@@ -11,15 +12,18 @@ returns-in-Some-end-clause-read g c =
     (client_events c.args.inbox.now)
     (client_events c.loop.inbox)
     (client_events c.send.new.self)
+    (returned_events c.args.inbox.now)
+    (returned_events c.send.new.self)
     (supply (g.I.Source.left c.args.input.now) (g.I.Source.failures c.args.input.now))
     (supply (g.I.Source.left c.loop.input) (g.I.Source.failures c.loop.input))
     (supply (g.I.Source.left c.read_event-event.new.input) (g.I.Source.failures c.read_event-event.new.input))
     c.read_event-event.result
     c.in-Some-end.end
     c.loop.invariant.0
+    (sent.1 ∙ c.loop.invariant.1)
     (sym c.in-Some-end.ensures)
     c.read_event-event.ensures.read
-    sent
+    sent.0
 
 pub loop-preserved : goal.loop-preserved
 loop-preserved g c =
@@ -37,6 +41,27 @@ loop-preserved g c =
           event.own
           (sym c.in_default.ensures)
           event.read
-          sent,
-      c.send.ensures.queue ∙ c.loop.invariant.1,
+          sent.0,
+      sent.1 ∙ c.loop.invariant.1,
+      c.send.ensures.queue ∙ c.loop.invariant.2,
     )
+
+pub returns-then-is_err-clause-read : goal.returns-then-is_err-clause-read
+returns-then-is_err-clause-read g c =
+    let back = when_err c.send.result (sym c.if-is_err.ensures.value) c.send.ensures.refused in
+    read_lost
+    (client_events c.args.inbox.now)
+    (client_events c.loop.inbox)
+    (client_events c.send.new.self)
+    (returned_events c.args.inbox.now)
+    (returned_events c.loop.inbox)
+    (returned_events c.send.new.self)
+    (supply (g.I.Source.left c.args.input.now) (g.I.Source.failures c.args.input.now))
+    (supply (g.I.Source.left c.loop.input) (g.I.Source.failures c.loop.input))
+    (supply (g.I.Source.left c.read_event-event.new.input) (g.I.Source.failures c.read_event-event.new.input))
+    (incoming_of c.read_event-event.result)
+    c.loop.invariant.0
+    c.loop.invariant.1
+    back.1
+    c.read_event-event.ensures.read
+    back.0

@@ -1,5 +1,6 @@
 use Rattle.std.proofs.Common.{◌≡◌, ◌<◌, length, vec_len, vec_capacity, Err, ◌∙◌, ap, refl, arith}
-use Rattle.byte_streams.proofs.Known.{keeps_self, keeps_both, keeps_consumes}
+use Rattle.std.proofs.KnownBytes.{Keeps-refl as keeps_self, Keeps-trans as keeps_both}
+use Rattle.dap_wires.proofs.KnownBytes.{keeps_consumes}
 use Rattle.dap_wires.proofs.FromSource.{read_nothing, read_gives, read_alone, piece_short, piece_some}
 use Rattle.dap_wires.proofs.transfer.read_event.Goals as goal
 

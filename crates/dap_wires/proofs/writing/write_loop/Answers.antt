@@ -18,7 +18,7 @@ returns-in-Some-End-clause-written g c =
 
 pub returns-then-not-write_all-clause-written : goal.returns-then-not-write_all-clause-written
 returns-then-not-write_all-clause-written g c =
-    let took = rw c.in-Some-Frame.field-0-is at c.in-Some-Frame.ensures.some in
+    let took = rw c.in-Some-Frames.field-0-is at c.in-Some-Frames.ensures.some in
     let part = rw c.as_slice.ensures.value at c.if-not-write_all.ensures.written in
     written_breaks
     (messages_taken c.args.outbox.now)
@@ -27,7 +27,7 @@ returns-then-not-write_all-clause-written g c =
     (output (g.O.Sink.written c.args.output.now) (g.O.Sink.failures c.args.output.now))
     (output (g.O.Sink.written c.loop.output) (g.O.Sink.failures c.loop.output))
     (output (g.O.Sink.written c.write_all.new.output) (g.O.Sink.failures c.write_all.new.output))
-    c.in-Some-Frame.frame
+    c.in-Some-Frames.bundle
     c.loop.invariant.0
     took
     part
@@ -35,7 +35,7 @@ returns-then-not-write_all-clause-written g c =
 
 pub loop-preserved : goal.loop-preserved
 loop-preserved g c =
-    let took = rw c.in-Some-Frame.field-0-is at c.in-Some-Frame.ensures.some in
+    let took = rw c.in-Some-Frames.field-0-is at c.in-Some-Frames.ensures.some in
     let wrote = rw c.as_slice.ensures.value at c.if-not-write_all.ensures.written in (
       written_goes_on
           (messages_taken c.args.outbox.now)
@@ -44,10 +44,10 @@ loop-preserved g c =
           (output (g.O.Sink.written c.args.output.now) (g.O.Sink.failures c.args.output.now))
           (output (g.O.Sink.written c.loop.output) (g.O.Sink.failures c.loop.output))
           (output (g.O.Sink.written c.write_all.new.output) (g.O.Sink.failures c.write_all.new.output))
-          c.in-Some-Frame.frame
+          c.in-Some-Frames.bundle
           c.loop.invariant.0
           took
           wrote
           c.if-not-write_all.ensures.count,
-      c.in-Some-Frame.ensures.queue ∙ c.loop.invariant.1,
+      c.in-Some-Frames.ensures.queue ∙ c.loop.invariant.1,
     )
