@@ -4,6 +4,7 @@ use Rattle.std.specs.Prelude.{map, drop}
 use Rattle.std.specs.Result.{is_err}
 use Rattle.std.specs.List.{concat, flat_map}
 use Rattle.std.proofs.lemmas.List.Folds.{concat-append}
+use Rattle.dap_msg.specs.declared.request.FirstSeq.{FirstSeq}
 use Rattle.dap_history.specs.declared.fault.SessionFault.{SessionFault}
 use Rattle.dap_history.specs.declared.fault.SessionFault.TheVariants.{OrdersFull, RunnerGone, WriterGone}
 use Rattle.dap_history.specs.declared.ending.Closed.{Closed}
@@ -28,7 +29,7 @@ use Rattle.dap_wires.specs.declared.reading.ReadEnd.{ReadEnd}
 use Rattle.dap_wires.specs.declared.reading.ReadEnd.TheVariants as ends
 use Rattle.dap_wires.specs.declared.writing.WriteFailed.{WriteFailed}
 use Rattle.dap_wires.specs.Orders.{FourWereInside}
-use Rattle.dap_wires.specs.WriterMessages.{frames_in, has_end, AreEnded}
+use Rattle.dap_wires.specs.WriterMessages.{bundled, frames_in, has_end, AreEnded}
 use Rattle.dap_wires.specs.Reading.{IsReadUntil, last_of}
 use Rattle.dap_wires.specs.Senders.{from_client, reports_among}
 use Rattle.byte_streams.specs.Streams.{Supply, Output, WritesAll}
@@ -54,15 +55,15 @@ module _ {A : Type 0} where
 
 ended_has : (taken more : List WriterMessage) → AreEnded taken → has_end (taken ++ more) ≡ true
 ended_has [] more ended = absurd ended
-ended_has (message.Frame frame ∷ taken) more ended = ended_has taken more ended
+ended_has (message.Frames frame ∷ taken) more ended = ended_has taken more ended
 ended_has (message.End ∷ taken) more ended = refl
 
 -- nothing was put after the end
 ended_whole : (taken more : List WriterMessage) → AreEnded taken → AreEnded (taken ++ more)
     → frames_in taken ≡ frames_in (taken ++ more)
 ended_whole [] more ended whole = absurd ended
-ended_whole (message.Frame frame ∷ taken) more ended whole =
-    ap (λ l. frame.items ∷ l) (ended_whole taken more ended whole)
+ended_whole (message.Frames frame ∷ taken) more ended whole =
+    ap (λ l. bundled frame ++ l) (ended_whole taken more ended whole)
 ended_whole (message.End ∷ []) [] ended whole = refl
 ended_whole (message.End ∷ []) (p ∷ more) ended whole = absurd whole
 ended_whole (message.End ∷ p ∷ taken) more ended whole = absurd ended
@@ -116,18 +117,18 @@ keeps_refusals old later (inr refused) = by_count refused.1
     by_count (inr gone) = let more = gone.0 in let same = gone.1 in (omega (arith, same), omega (arith, more))
 
 -- Where the session answers that the queue of orders was full, it found it so.
-found_full : (events given : List Incoming) (loads : List Load) (sent : Ports)
-    → Drives events given loads nothing_sent sent (Err OrdersFull) → sent.orders_full ≢ 0
-found_full events given loads sent (gives_up cannot from short) = λ none.
+found_full : (f : FirstSeq) (events given : List Incoming) (loads : List Load) (sent : Ports)
+    → Drives f events given loads nothing_sent sent (Err OrdersFull) → sent.orders_full ≢ 0
+found_full f events given loads sent (gives_up cannot from short) = λ none.
     let found = short.fails.breaks.1 in
     let kept =
     (keeps_refusals (ordered_at short.stopped) (ordered_at sent) short.quit.quit).0 in omega
     (arith, found, kept, none)
 
 -- Where it answers that the runner is gone, the port had said so.
-pub found_runner_gone : (events given : List Incoming) (loads : List Load) (sent : Ports)
-    → Drives events given loads nothing_sent sent (Err RunnerGone) → sent.runner_gone ≢ 0
-found_runner_gone events given loads sent (gives_up cannot from short) = λ none.
+pub found_runner_gone : (f : FirstSeq) (events given : List Incoming) (loads : List Load) (sent : Ports)
+    → Drives f events given loads nothing_sent sent (Err RunnerGone) → sent.runner_gone ≢ 0
+found_runner_gone f events given loads sent (gives_up cannot from short) = λ none.
     let found = short.fails.breaks.1 in
     let kept =
     (keeps_refusals (ordered_at short.stopped) (ordered_at sent) short.quit.quit).1 in omega
@@ -138,9 +139,9 @@ not_empty [] x none = absurd (search (none, rules))
 not_empty (y ∷ xs) x none = absurd (search (none, rules))
 
 -- Where it answers that the writer is gone, a frame was refused.
-found_gone : (events given : List Incoming) (loads : List Load) (sent : Ports)
-    → Drives events given loads nothing_sent sent (Err WriterGone) → sent.refused ≢ []
-found_gone events given loads sent (gives_up cannot from short) = λ none.
+found_gone : (f : FirstSeq) (events given : List Incoming) (loads : List Load) (sent : Ports)
+    → Drives f events given loads nothing_sent sent (Err WriterGone) → sent.refused ≢ []
+found_gone f events given loads sent (gives_up cannot from short) = λ none.
     let broke = short.fails.breaks in
     not_empty short.fails.between.refused broke.frame (sym broke.refused_are ∙ (sym short.quit.refused_are ∙ none))
 
@@ -251,63 +252,65 @@ ends_by (act ∷ acts) leads = ends_by_some Idle act acts leads
 
 -- ---- all together
 
-takes_client : (result : Result Closed SessionFault) (events given client : List Incoming) (loads : List Load)
+takes_client : (f : FirstSeq) (result : Result Closed SessionFault) (events given client : List Incoming)
+    (loads : List Load)
     (sent : Ports) (end : ReadEnd) (old later : Supply)
-    → Drives events given loads nothing_sent sent result → IsReadUntil end client old later
+    → Drives f events given loads nothing_sent sent result → IsReadUntil end client old later
     → Begins (from_client given) client
     → TakenOfSent result (from_client given) client
-takes_client (Ok closed.Disconnected) events given client loads sent end old later drives read begins = begins
-takes_client (Ok closed.InputEnded) events given client loads sent end old later (closes from serves) read begins =
+takes_client f (Ok closed.Disconnected) events given client loads sent end old later drives read begins = begins
+takes_client f (Ok closed.InputEnded) events given client loads sent end old later (closes from serves) read begins =
     let by = closed_by_end events serves.past serves.rest serves.history serves.ending_is in
-    let own = interleaved_end events given loads from by.0 by.1 by.2 in
+    let own = interleaved_end f events given loads from by.0 by.1 by.2 in
     all_taken end (from_client given) client (from_client own.0) (from_client own.1) End old later read begins (λ p. p)
     (ap from_client own.2 ∙ client_append own.0 (End ∷ own.1))
-takes_client (Ok closed.ReadFailed) events given client loads sent end old later (closes from serves) read begins =
+takes_client f (Ok closed.ReadFailed) events given client loads sent end old later (closes from serves) read begins =
     let by = closed_by_failure events serves.past serves.rest serves.history serves.ending_is in
-    let own = interleaved_failure events given loads from by.0 by.1 by.2 in
+    let own = interleaved_failure f events given loads from by.0 by.1 by.2 in
     all_taken end (from_client given) client (from_client own.0) (from_client own.1) ReadFailed old later read begins
     (λ p. p) (ap from_client own.2 ∙ client_append own.0 (ReadFailed ∷ own.1))
-takes_client (Err fault) events given client loads sent end old later drives read begins = begins
+takes_client f (Err fault) events given client loads sent end old later drives read begins = begins
 
-all_orders : (events : List Incoming) (by : Ending) (sent : Ports) (acts : List Act)
-    → Serves events by nothing_sent sent → Begins (flat_map order_in acts) sent.orders
+all_orders : (f : FirstSeq) (events : List Incoming) (by : Ending) (sent : Ports) (acts : List Act)
+    → Serves f events by nothing_sent sent → Begins (flat_map order_in acts) sent.orders
     → EndsBy acts → (flat_map order_in acts ≡ sent.orders) ⊎ (Begins (flat_map order_in acts) sent.orders
     × (flat_map handed_back_in acts ≢ []))
-all_orders events by sent acts serves begins (inl quits) =
+all_orders f events by sent acts serves begins (inl quits) =
     let whole : orders_of serves.past ≡ quits.0 ++ Quit ∷ begins.0 =
     sym serves.orders_are ∙ (sym begins.1 ∙ (ap (λ l. l ++ begins.0) quits.1
     ∙ append_assoc quits.0 (Quit ∷ []) begins.0)) in
     let nothing : begins.0 ≡ [] = quit_is_last events serves.past serves.rest serves.history quits.0 begins.0 whole in
     inl (sym (append-nil (flat_map order_in acts)) ∙ (ap (λ l. flat_map order_in acts ++ l) (sym nothing) ∙ begins.1))
-all_orders events by sent acts serves begins (inr refused) = inr (begins, refused)
+all_orders f events by sent acts serves begins (inr refused) = inr (begins, refused)
 
-takes_orders : (result : Result Closed SessionFault) (events given : List Incoming) (loads : List Load) (sent : Ports)
+takes_orders : (f : FirstSeq) (result : Result Closed SessionFault) (events given : List Incoming) (loads : List Load)
+    (sent : Ports)
     (acts : List Act)
-    → Drives events given loads nothing_sent sent result → Leads Idle acts Ended
+    → Drives f events given loads nothing_sent sent result → Leads Idle acts Ended
     → Begins (flat_map order_in acts) sent.orders
     → TakenOfPushed result acts sent.orders
-takes_orders (Ok by) events given loads sent acts (closes from serves) leads begins =
-    all_orders events (ending.Closed by) sent acts serves begins (ends_by acts leads)
-takes_orders (Err fault) events given loads sent acts drives leads begins = begins
+takes_orders f (Ok by) events given loads sent acts (closes from serves) leads begins =
+    all_orders f events (ending.Closed by) sent acts serves begins (ends_by acts leads)
+takes_orders f (Err fault) events given loads sent acts drives leads begins = begins
 
 -- Nothing was taken, put or pushed when all began.
-pub gathers : (wrote : Result (Unit {0}) WriteFailed) (result : Result Closed SessionFault)
+pub gathers : (f : FirstSeq) (wrote : Result (Unit {0}) WriteFailed) (result : Result Closed SessionFault)
     (before after : World)
     (given : List Incoming) (put : List WriterMessage) (pushed : Ordered) (end : ReadEnd) (client : List Incoming)
     (acts : List Act) (reports : List PlainReport) (orders : List PlainOrder) (taken : List WriterMessage)
-    → Drove result [] given before.loads after.loads nothing_sent put pushed
+    → Drove f result [] given before.loads after.loads nothing_sent put pushed
     → IsReadUntil end client (input_of before.streams) (input_of after.streams) → Begins (from_client given) client
     → Leads Idle acts Ended → orders ≡ flat_map order_in acts → reports ≡ flat_map sent_in acts
     → Begins orders pushed.orders → (pushed.fulls ≢ 0 → FourWereInside pushed.orders)
     → Begins (reports_among given) reports
     → after.passed ≡ before.passed ++ flat_map passed_in acts
     → IsWrittenUntil wrote taken (output_of before.streams) (output_of after.streams) → Begins taken put
-    → IsDriven wrote result before after
-gathers wrote result before after given put pushed end client acts reports orders taken
+    → IsDriven f wrote result before after
+gathers f wrote result before after given put pushed end client acts reports orders taken
     drove read client_taken leads orders_are reports_are orders_taken four reports_taken gate_passed written put_taken =
     let d = drove.driven in
-    let drives : Drives d.events given d.loads nothing_sent drove.later result =
-    subst (λ g. Drives d.events g d.loads nothing_sent drove.later result) (sym d.given_are) d.drives in
+    let drives : Drives f d.events given d.loads nothing_sent drove.later result =
+    subst (λ g. Drives f d.events g d.loads nothing_sent drove.later result) (sym d.given_are) d.drives in
     let begins : Begins (flat_map order_in acts) drove.later.orders =
     subst (λ o. Begins o drove.later.orders) orders_are (subst (λ o. Begins orders o) drove.orders_are orders_taken)
     in
@@ -322,8 +325,8 @@ gathers wrote result before after given put pushed end client acts reports order
         loads_are = d.loads_are;
         never_gone = drove.never_gone;
         full = λ is. subst FourWereInside drove.orders_are
-            (four (λ none. found_full d.events given d.loads drove.later
-            (subst (λ r. Drives d.events given d.loads nothing_sent drove.later r) is drives)
+            (four (λ none. found_full f d.events given d.loads drove.later
+            (subst (λ r. Drives f d.events given d.loads nothing_sent drove.later r) is drives)
             (sym drove.fulls_are ∙ none)));
       };
       reader = record {
@@ -331,13 +334,13 @@ gathers wrote result before after given put pushed end client acts reports order
         client = client;
         read = read;
         client_taken =
-            takes_client result d.events given client d.loads drove.later end (input_of before.streams)
+            takes_client f result d.events given client d.loads drove.later end (input_of before.streams)
             (input_of after.streams) drives read client_taken;
       };
       runner = record {
         acts = acts;
         worked = leads;
-        orders_taken = takes_orders result d.events given d.loads drove.later acts drives leads begins;
+        orders_taken = takes_orders f result d.events given d.loads drove.later acts drives leads begins;
         reports_taken = subst (λ r. Begins (reports_among given) r) reports_are reports_taken;
         gate_passed = gate_passed;
       };
@@ -346,7 +349,7 @@ gathers wrote result before after given put pushed end client acts reports order
             writes_frames wrote taken put drove.later.frames (output_of before.streams) (output_of after.streams)
             put_taken drove.frames_are drove.ended written;
         writer_gone = λ is. write_fails wrote taken put (output_of before.streams) (output_of after.streams) put_taken
-            (drove.refused (found_gone d.events given d.loads drove.later
-            (subst (λ r. Drives d.events given d.loads nothing_sent drove.later r) is drives))) written;
+            (drove.refused (found_gone f d.events given d.loads drove.later
+            (subst (λ r. Drives f d.events given d.loads nothing_sent drove.later r) is drives))) written;
       };
     }

@@ -2,10 +2,12 @@
 use Rattle.std.proofs.Common.{◌≡◌, inl, inr, ℕ, true, false, Bool, true≢false, List, [], ◌∷◌, ◌++◌, Option, None, Some, Ok, refl, sym, ap, ◌∙◌, subst, append_assoc, append-nil}
 use Rattle.std.specs.Prelude.{map}
 use Rattle.std.specs.Io.KnownBytes.{Consumes, IsAtEnd}
+use Rattle.std.proofs.KnownBytes.{Consumes-nil as consumes_none, Consumes-trans as consumes_both}
 use Rattle.dap_msg.specs.declared.command.Command.{Command}
 use Rattle.dap_msg.specs.declared.command.Command.TheVariants as command
 use Rattle.dbg_runner.specs.declared.outcome.SliceOutcome.{SliceOutcome}
 use Rattle.dbg_runner.specs.declared.outcome.SliceOutcome.TheVariants as slice
+use Rattle.dap_msg.specs.declared.request.FirstSeq.{FirstSeq}
 use Rattle.dap_history.specs.declared.ending.Closed.TheVariants as closed
 use Rattle.dap_history.specs.declared.ending.Ending.TheVariants as ending
 use Rattle.dap_history.specs.Last.{or_else, last_such}
@@ -30,17 +32,6 @@ use Rattle.adapter.specs.Serving.{nothing_sent, input_of, SessionSends}
 use Rattle.adapter.proofs.Gathered.{last_one, last_sent}
 
 -- ---- bytes left
-
-consumes_none : (left : Option (List ℕ)) → Consumes left left []
-consumes_none None = tt
-consumes_none (Some xs) = refl
-
-consumes_both : (a b c : Option (List ℕ)) (xs ys : List ℕ) → Consumes a b xs → Consumes b c ys → Consumes a c (xs ++ ys)
-consumes_both None b c xs ys first second = tt
-consumes_both (Some l) None c xs ys first second = absurd first
-consumes_both (Some l) (Some m) None xs ys first second = absurd second
-consumes_both (Some l) (Some m) (Some n) xs ys first second =
-    first ∙ ap (λ k. xs ++ k) second ∙ sym (append_assoc xs ys n)
 
 consumed_at : (old later : Supply) → later ≡ old → Consumes old.left later.left []
 consumed_at old later same = subst (λ (s : Supply). Consumes old.left s.left []) (sym same) (consumes_none old.left)
@@ -97,12 +88,16 @@ read_to_end [] old later read = subst (λ (s : Supply). IsAtEnd s.left) (sym rea
 read_to_end (e ∷ events) old later read = read_to_end events read.0 later read.2
 
 -- the last event, which was returned, was read too
-lost_stream : (end : ReadEnd) (mid later : Supply) → Loses end mid later → (lost : List ℕ)
-    × Consumes mid.left later.left lost
-lost_stream ends.Ended mid later same = ([], consumed_at mid later same)
-lost_stream ends.Failed mid later same = ([], consumed_at mid later same)
-lost_stream ends.NoMemory mid later same = ([], consumed_at mid later same)
-lost_stream ends.HandedBack mid later loses = (stream_of (loses.0 ∷ []), reads_stream loses.0 mid later loses.1)
+lost_stream : (end : ReadEnd) (lost : List Incoming) (mid later : Supply) → Loses end lost mid later
+    → Consumes mid.left later.left (stream_of lost)
+lost_stream ends.HandedBack lost mid later loses =
+    subst (λ l. Consumes mid.left later.left (stream_of l)) (sym loses.1) (reads_stream loses.0 mid later loses.2)
+lost_stream ends.Ended lost mid later loses =
+    subst (λ l. Consumes mid.left later.left (stream_of l)) (sym loses.0) (consumed_at mid later loses.1)
+lost_stream ends.Failed lost mid later loses =
+    subst (λ l. Consumes mid.left later.left (stream_of l)) (sym loses.0) (consumed_at mid later loses.1)
+lost_stream ends.NoMemory lost mid later loses =
+    subst (λ l. Consumes mid.left later.left (stream_of l)) (sym loses.0) (consumed_at mid later loses.1)
 
 -- ---- the reader came to the end
 
@@ -140,22 +135,25 @@ abbrev later_events : List Incoming → List Incoming
 later_events [] = []
 later_events (e ∷ events) = events
 
-no_end_loads : (before : List Incoming) (e : Incoming) (load : Load) → IsLoad before e load → ¬ (e ≡ End)
-no_end_loads before (File file) load is same = absurd cc
-no_end_loads before _ load is same = absurd is
+no_end_loads : (f : FirstSeq) (before : List Incoming) (e : Incoming) (load : Load) → IsLoad f before e load
+    → ¬ (e ≡ End)
+no_end_loads f before (File file) load is same = absurd cc
+no_end_loads f before _ load is same = absurd is
 
-load_stream : (before : List Incoming) (e : Incoming) (load : Load) (events : List Incoming) → IsLoad before e load
+load_stream : (f : FirstSeq) (before : List Incoming) (e : Incoming) (load : Load) (events : List Incoming)
+    → IsLoad f before e load
     → stream_of (e ∷ events) ≡ stream_of events
-load_stream before (File file) load events is = refl
-load_stream before _ load events is = absurd is
+load_stream f before (File file) load events is = refl
+load_stream f before _ load events is = absurd is
 
-inbox_stream : (before events given : List Incoming) (loads : List Load) → Interleaves before events given loads
+inbox_stream : (f : FirstSeq) (before events given : List Incoming) (loads : List Load)
+    → Interleaves f before events given loads
     → stream_of given ≡ stream_of events
-inbox_stream before [] given loads from = ap stream_of from.0
-inbox_stream before (e ∷ events) given loads (inl from) =
-    inbox_stream (before ++ e ∷ []) events given from.1 from.4 ∙ sym (load_stream before e from.0 events from.3)
-inbox_stream before (e ∷ events) given loads (inr from) =
-    ap stream_of from.1 ∙ stream_more e from.0 events (inbox_stream (before ++ e ∷ []) events from.0 loads from.3)
+inbox_stream f before [] given loads from = ap stream_of from.0
+inbox_stream f before (e ∷ events) given loads (inl from) =
+    inbox_stream f (before ++ e ∷ []) events given from.1 from.4 ∙ sym (load_stream f before e from.0 events from.3)
+inbox_stream f before (e ∷ events) given loads (inr from) =
+    ap stream_of from.1 ∙ stream_more e from.0 events (inbox_stream f (before ++ e ∷ []) events from.0 loads from.3)
 
 -- an end among the events is among those that the inbox gave, with the same pieces before it and after it
 record IsSplit (front back given : List Incoming) : Type 0 where
@@ -165,17 +163,18 @@ record IsSplit (front back given : List Incoming) : Type 0 where
   pub before : stream_of first ≡ stream_of front
   pub after : stream_of last ≡ stream_of back
 
-split : (so_far events given : List Incoming) (loads : List Load) → Interleaves so_far events given loads
+split : (f : FirstSeq) (so_far events given : List Incoming) (loads : List Load)
+    → Interleaves f so_far events given loads
     → (front back : List Incoming) → events ≡ front ++ End ∷ back → IsSplit front back given
-split so_far [] given loads from [] back is = absurd cc
-split so_far [] given loads from (x ∷ front) back is = absurd cc
-split so_far (e ∷ events) given loads (inl from) [] back is =
-    absurd (no_end_loads so_far e from.0 from.3 (ap (first_event End) is))
-split so_far (e ∷ events) given loads (inl from) (x ∷ front) back is =
-    let there = split (so_far ++ e ∷ []) events given from.1 from.4 front back (ap later_events is) in
+split f so_far [] given loads from [] back is = absurd cc
+split f so_far [] given loads from (x ∷ front) back is = absurd cc
+split f so_far (e ∷ events) given loads (inl from) [] back is =
+    absurd (no_end_loads f so_far e from.0 from.3 (ap (first_event End) is))
+split f so_far (e ∷ events) given loads (inl from) (x ∷ front) back is =
+    let there = split f (so_far ++ e ∷ []) events given from.1 from.4 front back (ap later_events is) in
     let kept : stream_of (x ∷ front) ≡ stream_of front =
     subst (λ y. stream_of (y ∷ front) ≡ stream_of front) (ap (first_event End) is)
-    (load_stream so_far e from.0 front from.3) in
+    (load_stream f so_far e from.0 front from.3) in
     record {
       first =
           there.first;
@@ -185,15 +184,15 @@ split so_far (e ∷ events) given loads (inl from) (x ∷ front) back is =
           ∙ sym kept;
       after = there.after;
     }
-split so_far (e ∷ events) given loads (inr from) [] back is = record {
+split f so_far (e ∷ events) given loads (inr from) [] back is = record {
   first = [];
   last = from.0;
   given_are = from.1 ∙ ap (λ x. x ∷ from.0) (ap (first_event End) is);
   before = refl;
-  after = inbox_stream (so_far ++ e ∷ []) events from.0 loads from.3 ∙ ap stream_of (ap later_events is);
+  after = inbox_stream f (so_far ++ e ∷ []) events from.0 loads from.3 ∙ ap stream_of (ap later_events is);
 }
-split so_far (e ∷ events) given loads (inr from) (x ∷ front) back is =
-    let there = split (so_far ++ e ∷ []) events from.0 loads from.3 front back (ap later_events is) in
+split f so_far (e ∷ events) given loads (inr from) (x ∷ front) back is =
+    let there = split f (so_far ++ e ∷ []) events from.0 loads from.3 front back (ap later_events is) in
     record {
       first = e ∷ there.first;
       last = there.last;
@@ -204,8 +203,8 @@ split so_far (e ∷ events) given loads (inr from) (x ∷ front) back is =
 
 -- ---- closed by the input's end
 
-module _ (events given client : List Incoming) (loads : List Load) (end : ReadEnd) (old later : Supply)
-    (from : Interleaves [] events given loads) (read : IsReadUntil end client old later)
+module _ (f : FirstSeq) (events given client : List Incoming) (loads : List Load) (end : ReadEnd) (old later : Supply)
+    (from : Interleaves f [] events given loads) (read : IsReadUntil end client old later)
     (taken : from_client given ≡ client) where
   whole_input : (front back : List Incoming) → events ≡ front ++ End ∷ back → TakesWholeInput events old later
   whole_input front back is = record {
@@ -221,7 +220,7 @@ module _ (events given client : List Incoming) (loads : List Load) (end : ReadEn
   }
     where
       parts : IsSplit front back given
-      parts = split [] events given loads from front back is
+      parts = split f [] events given loads from front back is
 
       client_is : client ≡ from_client parts.first ++ End ∷ from_client parts.last
       client_is = sym taken ∙ ap from_client parts.given_are ∙ client_append parts.first (End ∷ parts.last)
@@ -244,7 +243,7 @@ module _ (events given client : List Incoming) (loads : List Load) (end : ReadEn
           ∙ has_this_end (from_client parts.first) (from_client parts.last))
 
       same : later ≡ read.mid
-      same = subst (λ e. Loses e read.mid later) ended read.loses
+      same = (subst (λ e. Loses e read.lost read.mid later) ended read.loses).1
 
       all : stream_of client ≡ stream_of front
       all = ap stream_of last_is ∙ stream_append (from_client parts.first) (End ∷ [])
@@ -252,16 +251,16 @@ module _ (events given client : List Incoming) (loads : List Load) (end : ReadEn
           ∙ client_stream parts.first ∙ parts.before
 
 pub input_taken_whole : InputIsTakenWhole
-input_taken_whole wrote before after driven = by_drives session.drives
+input_taken_whole f wrote before after driven = by_drives session.drives
   where
-    session : SessionSends (Ok closed.InputEnded) driven.given driven.sent before.loads after.loads
+    session : SessionSends f (Ok closed.InputEnded) driven.given driven.sent before.loads after.loads
     session = driven.session
 
-    by_drives : Drives session.events driven.given session.loaded nothing_sent driven.sent (Ok closed.InputEnded)
+    by_drives : Drives f session.events driven.given session.loaded nothing_sent driven.sent (Ok closed.InputEnded)
         → TakesWholeInput session.events (input_of before.streams) (input_of after.streams)
     by_drives (closes from serves) =
         let by = closed_by_end session.events serves.past serves.rest serves.history serves.ending_is in
-        whole_input session.events driven.given driven.reader.client session.loaded driven.reader.end
+        whole_input f session.events driven.given driven.reader.client session.loaded driven.reader.end
         (input_of before.streams) (input_of after.streams)
         from driven.reader.read driven.reader.client_taken by.0 by.1 by.2
 
@@ -320,25 +319,27 @@ not_none : {A : Type 0} (xs : List A) (x : A) → ¬ (xs ++ x ∷ [] ≡ [])
 not_none [] x is = absurd cc
 not_none (y ∷ xs) x is = absurd cc
 
-module _ (last : DisconnectIsLast) (events given client : List Incoming) (loads : List Load) (end : ReadEnd)
+module _ (last : DisconnectIsLast) (f : FirstSeq) (events given client : List Incoming) (loads : List Load)
+    (end : ReadEnd)
     (old later : Supply)
-    (from : Interleaves [] events given loads) (read : IsReadUntil end client old later)
+    (from : Interleaves f [] events given loads) (read : IsReadUntil end client old later)
     (taken : Begins (from_client given) client) where
-  first_disconnect : (past : History) (rest : Rest) → IsHistoryOf events past rest
-      → ending_of past ≡ Some (ending.Closed closed.Disconnected) → TakesFirstDisconnect events old later
-  first_disconnect past rest history is = record {
-    read = stream_of client ++ lost.0;
+  first_disconnect : (past : History) (rest : Rest) → rest.first ≡ f → IsHistoryOf events past rest
+      → ending_of past ≡ Some (ending.Closed closed.Disconnected) → TakesFirstDisconnect f events old later
+  first_disconnect past rest same_first history is = record {
+    read = stream_of client ++ stream_of read.lost;
     consumed =
-        consumes_both old.left read.mid.left later.left (stream_of client) lost.0
-        (read_stream client old read.mid read.read) lost.1;
+        consumes_both old.left read.mid.left later.left (stream_of client) (stream_of read.lost)
+        (read_stream client old read.mid read.read) lost;
     begins = (
-      stream_of taken.0 ++ lost.0,
-      sym (append_assoc (stream_of events) (stream_of taken.0) lost.0)
-          ∙ ap (λ l. l ++ lost.0) client_is,
+      stream_of taken.0 ++ stream_of read.lost,
+      sym (append_assoc (stream_of events) (stream_of taken.0) (stream_of read.lost))
+          ∙ ap (λ l. l ++ stream_of read.lost) client_is,
     );
     before = closer.front;
     step = closer.found;
     rest = rest;
+    first_is = same_first;
     history = subst (λ h. IsHistoryOf events h rest) past_is history;
     asks = asks;
     first = λ front other back before_is others.
@@ -347,12 +348,12 @@ module _ (last : DisconnectIsLast) (events given client : List Incoming) (loads 
         others.1).0;
   }
     where
-      lost : (lost : List ℕ) × Consumes read.mid.left later.left lost
-      lost = lost_stream end read.mid later read.loses
+      lost : Consumes read.mid.left later.left (stream_of read.lost)
+      lost = lost_stream end read.lost read.mid later read.loses
 
       client_is : stream_of events ++ stream_of taken.0 ≡ stream_of client
       client_is =
-          ap (λ l. l ++ stream_of taken.0) (sym (inbox_stream [] events given loads from) ∙ sym (client_stream given))
+          ap (λ l. l ++ stream_of taken.0) (sym (inbox_stream f [] events given loads from) ∙ sym (client_stream given))
           ∙ sym (stream_append (from_client given) taken.0) ∙ ap stream_of taken.1
 
       closer : IsFound (λ (step : Step). closing step.item) past (ending.Closed closed.Disconnected)
@@ -367,14 +368,14 @@ module _ (last : DisconnectIsLast) (events given client : List Incoming) (loads 
           (last events past rest history closer.front closer.found closer.back asks.0 closer.are asks.1).0
 
 pub first_disconnect_closes : DisconnectIsLast → FirstDisconnectCloses
-first_disconnect_closes last wrote before after driven = by_drives session.drives
+first_disconnect_closes last f wrote before after driven = by_drives session.drives
   where
-    session : SessionSends (Ok closed.Disconnected) driven.given driven.sent before.loads after.loads
+    session : SessionSends f (Ok closed.Disconnected) driven.given driven.sent before.loads after.loads
     session = driven.session
 
-    by_drives : Drives session.events driven.given session.loaded nothing_sent driven.sent (Ok closed.Disconnected)
-        → TakesFirstDisconnect session.events (input_of before.streams) (input_of after.streams)
+    by_drives : Drives f session.events driven.given session.loaded nothing_sent driven.sent (Ok closed.Disconnected)
+        → TakesFirstDisconnect f session.events (input_of before.streams) (input_of after.streams)
     by_drives (closes from serves) =
-        first_disconnect last session.events driven.given driven.reader.client session.loaded driven.reader.end
+        first_disconnect last f session.events driven.given driven.reader.client session.loaded driven.reader.end
         (input_of before.streams) (input_of after.streams) from driven.reader.read driven.reader.client_taken
-        serves.past serves.rest serves.history serves.ending_is
+        serves.past serves.rest serves.first_is serves.history serves.ending_is

@@ -12,6 +12,7 @@ use Rattle.dbg_runner.specs.Laws.{reports_of_run, RunsAreReported, HasLast, IsCu
 use Rattle.dbg_runner.specs.Plain.{Heading, PlainOrder, PlainReport, Go, Hold, Quit}
 use Rattle.dbg_runner.specs.Queues.{order_in, sent_in}
 use Rattle.dbg_runner.specs.Runner.{Act, Idle, Ended, Leads}
+use Rattle.dap_msg.specs.declared.request.FirstSeq.{FirstSeq}
 use Rattle.dap_history.specs.declared.ending.Closed.{Closed}
 use Rattle.dap_history.specs.declared.launch.Launch.{Launch}
 use Rattle.dap_history.specs.declared.situation.Situation.{Situation}
@@ -341,18 +342,20 @@ others_given n (NoMemoryCame ∷ given) none = (tt, others_given n given none)
 others_given n (File file ∷ given) none = (tt, others_given n given none)
 others_given n (Report r ∷ given) none = (none.0, others_given n given none.1)
 
-load_other : (n : ℕ) (before : List Incoming) (e : Incoming) (load : Load) → IsLoad before e load → IsOther n e
-load_other n before (File file) load is = tt
-load_other n before _ load is = absurd is
+load_other : (f : FirstSeq) (n : ℕ) (before : List Incoming) (e : Incoming) (load : Load) → IsLoad f before e load
+    → IsOther n e
+load_other f n before (File file) load is = tt
+load_other f n before _ load is = absurd is
 
-others_come : (n : ℕ) (before events given : List Incoming) (loads : List Load) → Interleaves before events given loads
+others_come : (f : FirstSeq) (n : ℕ) (before events given : List Incoming) (loads : List Load)
+    → Interleaves f before events given loads
     → AllEvents (IsOther n) given → AllEvents (IsOther n) events
-others_come n before [] given loads from others = tt
-others_come n before (e ∷ events) given loads (inl from) others =
-    (load_other n before e from.0 from.3, others_come n (before ++ e ∷ []) events given from.1 from.4 others)
-others_come n before (e ∷ events) given loads (inr from) others =
+others_come f n before [] given loads from others = tt
+others_come f n before (e ∷ events) given loads (inl from) others =
+    (load_other f n before e from.0 from.3, others_come f n (before ++ e ∷ []) events given from.1 from.4 others)
+others_come f n before (e ∷ events) given loads (inr from) others =
     let these : AllEvents (IsOther n) (e ∷ from.0) = subst (AllEvents (IsOther n)) from.1 others in
-    (these.0, others_come n (before ++ e ∷ []) events from.0 loads from.3 these.1)
+    (these.0, others_come f n (before ++ e ∷ []) events from.0 loads from.3 these.1)
 
 -- ---- the runner beside the session
 
@@ -366,8 +369,9 @@ takes_first : (by : Closed) (acts : List Act) (pushed : List PlainOrder) → Tak
 takes_first by acts pushed (inl all) = ([], append-nil (flat_map order_in acts) ∙ all)
 takes_first by acts pushed (inr some) = some.0
 
-module _ (events given : List Incoming) (loads : List Load) (past : History) (rest : Rest) (acts : List Act)
-    (from : Interleaves [] events given loads) (history : IsHistoryOf events past rest)
+module _ (f : FirstSeq) (events given : List Incoming) (loads : List Load) (past : History) (rest : Rest)
+    (acts : List Act)
+    (from : Interleaves f [] events given loads) (history : IsHistoryOf events past rest)
     (orders : Begins (flat_map order_in acts) (orders_of past))
     (reports : Begins (reports_among given) (flat_map sent_in acts)) where
   ended : RunsEnd past
@@ -394,16 +398,16 @@ module _ (events given : List Incoming) (loads : List Load) (past : History) (re
   not_endless : (n : ℕ) → ¬ IsEndless n acts
   not_endless n endless =
       along (IsOther n) (λ p. ¬ HasEnded n p) (not_ended_kept n) (λ none. none) events past rest
-      (others_come n [] events given loads from (others_given n given
+      (others_come f n [] events given loads from (others_given n given
       (no_end_front n (reports_among given) reports.0 (subst (NoEnd n) (sym reports.1) endless.none))))
       history
       (ended.each n endless.first (let below = endless.not_last in omega (arith, below, taken_runs)))
 
 pub runs_end_once : RunsHaveOneLast → RunsAreReported → RunsEndOnce
-runs_end_once one_last reported by wrote before after driven front act back h acts_are takes =
+runs_end_once one_last reported f by wrote before after driven front act back h acts_are takes =
     ((reported front act back h Ended worked takes).2, by_end (one_last front act back h worked takes))
   where
-    session : SessionSends (Ok by) driven.given driven.sent before.loads after.loads
+    session : SessionSends f (Ok by) driven.given driven.sent before.loads after.loads
     session = driven.session
 
     acts : List Act
@@ -412,13 +416,13 @@ runs_end_once one_last reported by wrote before after driven front act back h ac
     worked : Leads Idle (front ++ act ∷ back) Ended
     worked = subst (λ l. Leads Idle l Ended) acts_are driven.runner.worked
 
-    by_drives : Drives session.events driven.given session.loaded nothing_sent driven.sent (Ok by) → ¬ IsCutByGo back
+    by_drives : Drives f session.events driven.given session.loaded nothing_sent driven.sent (Ok by) → ¬ IsCutByGo back
     by_drives (closes from serves) cut =
-        not_endless session.events driven.given session.loaded serves.past serves.rest acts from serves.history
+        not_endless f session.events driven.given session.loaded serves.past serves.rest acts from serves.history
         orders driven.runner.reports_taken h.run
         (subst (IsEndless h.run) (sym acts_are)
         (cut_run front act h Ended back takes cut worked (subst (NumberedFrom 0) acts_are
-        (numbered session.events driven.given session.loaded serves.past serves.rest acts from serves.history
+        (numbered f session.events driven.given session.loaded serves.past serves.rest acts from serves.history
         orders driven.runner.reports_taken))))
       where
         orders : Begins (flat_map order_in acts) (orders_of serves.past)

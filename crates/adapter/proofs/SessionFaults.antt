@@ -1,5 +1,5 @@
--- Which faults of a session are answered, and where.
-use Rattle.std.proofs.Common.{◌≡◌, true, false, true≢false, Result, Ok, Err, refl, sym, ap, ◌∙◌, subst}
+-- What closed a session, and which faults of it are answered, by what is returned.
+use Rattle.std.proofs.Common.{◌≡◌, true, false, true≢false, Option, Some, Result, Ok, Err, refl, sym, ap, ◌∙◌, subst}
 use Rattle.std.specs.Result.{is_err}
 use Rattle.dap_history.specs.declared.fault.SessionFault.{SessionFault}
 use Rattle.dap_history.specs.declared.fault.SessionFault.TheVariants.{OrdersFull, RunnerGone, WriterGone}
@@ -8,9 +8,27 @@ use Rattle.dap_history.specs.declared.ending.Closed.TheVariants as closed
 use Rattle.dap_session.specs.Serving.{Drives}
 use Rattle.dap_wires.specs.declared.writing.WriteFailed.{WriteFailed}
 use Rattle.adapter.specs.declared.serving.ServeFault.TheVariants.{Session}
-use Rattle.adapter.specs.Laws.{NobodyIsGone, FullIsFour}
+use Rattle.adapter.specs.Laws.{closed_of, OutcomeIsOfSession, NobodyIsGone, FullIsFour}
 use Rattle.adapter.specs.Serving.{nothing_sent, outcome_of, IsDriven, drove, had_no_memory, had_no_thread}
 use Rattle.adapter.proofs.Gathered.{found_runner_gone}
+
+-- what is returned tells what closed the session
+closes_by : (wrote : Result (Unit {0}) WriteFailed) (result : Result Closed SessionFault) (by : Closed)
+    → closed_of (outcome_of wrote result) ≡ Some by → (wrote ≡ Ok tt) × (result ≡ Ok by)
+closes_by (Err failed) result by is = absurd cc
+closes_by (Ok done) (Ok closed.Disconnected) by is = (refl, let same : closed.Disconnected ≡ by = cc in ap Ok same)
+closes_by (Ok done) (Ok closed.InputEnded) by is = (refl, let same : closed.InputEnded ≡ by = cc in ap Ok same)
+closes_by (Ok done) (Ok closed.ReadFailed) by is = (refl, let same : closed.ReadFailed ≡ by = cc in ap Ok same)
+closes_by (Ok done) (Err f) by is = absurd cc
+
+pub outcome_is_of_session : OutcomeIsOfSession
+outcome_is_of_session f outcome by before after (drove wrote result is driven) closes =
+    let c = closes_by wrote result by (ap closed_of (sym is) ∙ closes) in
+    subst (λ w. IsDriven f w (Ok by) before after) c.0 (subst (λ r. IsDriven f wrote r before after) c.1 driven)
+outcome_is_of_session f outcome by before after (had_no_memory is same) closes =
+    let e = ap closed_of (sym is) ∙ closes in absurd cc
+outcome_is_of_session f outcome by before after (had_no_thread is) closes =
+    let e = ap closed_of (sym is) ∙ closes in absurd cc
 
 -- the session's fault is answered only where it ended so, and nothing failed to be written
 answers : (wrote : Result (Unit {0}) WriteFailed) (result : Result Closed SessionFault) (fault : SessionFault)
@@ -23,27 +41,27 @@ answers (Ok done) (Ok closed.ReadFailed) fault is = absurd cc
 answers (Ok done) (Err f) fault is = (refl, let same : f ≡ fault = cc in ap Err same)
 
 pub nobody_is_gone : NobodyIsGone
-nobody_is_gone outcome before after (drove wrote result is driven) = (
+nobody_is_gone f outcome before after (drove wrote result is driven) = (
   λ gone.
       let a = answers wrote result WriterGone (sym is ∙ gone) in
       true≢false (sym (driven.writer.writer_gone a.1) ∙ a.0),
   λ gone.
       let a = answers wrote result RunnerGone (sym is ∙ gone) in
       let session = driven.session in
-      found_runner_gone session.events driven.given session.loaded driven.sent
-      (subst (λ r. Drives session.events driven.given session.loaded nothing_sent driven.sent r) a.1 session.drives)
+      found_runner_gone f session.events driven.given session.loaded driven.sent
+      (subst (λ r. Drives f session.events driven.given session.loaded nothing_sent driven.sent r) a.1 session.drives)
       session.never_gone,
 )
-nobody_is_gone outcome before after (had_no_memory is same) =
+nobody_is_gone f outcome before after (had_no_memory is same) =
     (λ gone. let e = sym is ∙ gone in absurd cc, λ gone. let e = sym is ∙ gone in absurd cc)
-nobody_is_gone outcome before after (had_no_thread is) =
+nobody_is_gone f outcome before after (had_no_thread is) =
     (λ gone. let e = sym is ∙ gone in absurd cc, λ gone. let e = sym is ∙ gone in absurd cc)
 
 pub full_is_four : FullIsFour
-full_is_four before after (drove wrote result is driven) =
+full_is_four f before after (drove wrote result is driven) =
     let a = answers wrote result OrdersFull (sym is) in
-    let four : IsDriven wrote (Err OrdersFull) before after =
-    subst (λ r. IsDriven wrote r before after) a.1 driven in
+    let four : IsDriven f wrote (Err OrdersFull) before after =
+    subst (λ r. IsDriven f wrote r before after) a.1 driven in
     record { wrote = wrote; driven = four; four = four.session.full refl }
-full_is_four before after (had_no_memory is same) = absurd cc
-full_is_four before after (had_no_thread is) = absurd cc
+full_is_four f before after (had_no_memory is same) = absurd cc
+full_is_four f before after (had_no_thread is) = absurd cc

@@ -1,10 +1,11 @@
 -- States laws of a whole run, which follow from `Serving`, in the form in which a reader looks for them.
-use Rattle.std.specs.Prelude.{◌≡◌, ◌≢◌, ◌⊎◌, ◌++◌, ◌∷◌, [], ℕ, List, Some, Result, Ok, Err}
+use Rattle.std.specs.Prelude.{◌≡◌, ◌≢◌, ◌⊎◌, ◌++◌, ◌∷◌, [], ℕ, List, Option, None, Some, Result, Ok, Err}
 use Rattle.std.specs.Io.KnownBytes.{Consumes, IsAtEnd}
 use Rattle.dap_msg.specs.declared.command.Command.TheVariants as command
 use Rattle.dbg_runner.specs.Laws.{taken_by, reports_of_run, AllButLastGoOn, HasLast, KeepsOn}
 use Rattle.dbg_runner.specs.Plain.{Heading, PlainReport, Go, Quit}
 use Rattle.dbg_runner.specs.Runner.{Act, Looked, HandedBack}
+use Rattle.dap_msg.specs.declared.request.FirstSeq.{FirstSeq}
 use Rattle.dap_history.specs.declared.ending.Closed.{Closed}
 use Rattle.dap_history.specs.declared.ending.Closed.TheVariants as closed
 use Rattle.dap_history.specs.declared.fault.SessionFault.TheVariants.{OrdersFull, RunnerGone, WriterGone}
@@ -16,9 +17,26 @@ use Rattle.dap_wires.specs.declared.writing.WriteFailed.{WriteFailed}
 use Rattle.dap_wires.specs.Orders.{FourWereInside}
 use Rattle.byte_streams.specs.Streams.{Supply}
 use Rattle.adapter.specs.declared.serving.Served.{Served}
+use Rattle.adapter.specs.declared.serving.Served.TheVariants as served
 use Rattle.adapter.specs.declared.serving.ServeFault.{ServeFault}
-use Rattle.adapter.specs.declared.serving.ServeFault.TheVariants.{Session}
+use Rattle.adapter.specs.declared.serving.ServeFault.TheVariants.{ReadFailed, Session}
 use Rattle.adapter.specs.Serving.{World, input_of, IsDriven, IsServed}
+
+-- ---- What closed the session
+
+-- what closed the session, where `serve` returned this and something did
+abbrev pub closed_of : Result Served ServeFault → Option Closed
+closed_of (Ok served.Disconnected) = Some closed.Disconnected
+closed_of (Ok served.InputEnded) = Some closed.InputEnded
+closed_of (Err ReadFailed) = Some closed.ReadFailed
+closed_of (Err fault) = None
+
+-- Where `serve` returns that something closed the session, that did, and all that was put was written. So what the laws
+-- below say of a session that something closed holds by what `serve` returns.
+abbrev pub OutcomeIsOfSession : Type 0
+OutcomeIsOfSession =
+    (first : FirstSeq) (outcome : Result Served ServeFault) (by : Closed) (before after : World)
+    → IsServed first outcome before after → closed_of outcome ≡ Some by → IsDriven first (Ok tt) (Ok by) before after
 
 -- ---- The input
 
@@ -34,8 +52,8 @@ pub record TakesWholeInput (events : List Incoming) (old later : Supply) : Type 
 -- A session that the input's end closed has taken the whole input.
 abbrev pub InputIsTakenWhole : Type 0
 InputIsTakenWhole =
-    (wrote : Result (Unit {0}) WriteFailed) (before after : World)
-    → (driven : IsDriven wrote (Ok closed.InputEnded) before after)
+    (first : FirstSeq) (wrote : Result (Unit {0}) WriteFailed) (before after : World)
+    → (driven : IsDriven first wrote (Ok closed.InputEnded) before after)
     → TakesWholeInput driven.session.events (input_of before.streams) (input_of after.streams)
 
 -- a request to disconnect
@@ -44,13 +62,14 @@ AsksToDisconnect item = (seq : ℕ) × (item ≡ Content (Some (record { seq = s
 
 -- The pieces, joined, are a prefix of what was read of the input, and hold the first `disconnect`: it is the last item
 -- taken.
-pub record TakesFirstDisconnect (events : List Incoming) (old later : Supply) : Type 0 where
+pub record TakesFirstDisconnect (client_first : FirstSeq) (events : List Incoming) (old later : Supply) : Type 0 where
   pub read : List ℕ
   pub consumed : Consumes old.left later.left read
   pub begins : Begins (stream_of events) read
   pub before : History
   pub step : Step
   pub rest : Rest
+  pub first_is : rest.first ≡ client_first
   pub history : IsHistoryOf events (before ++ step ∷ []) rest
   pub asks : AsksToDisconnect step.item
   pub first : (front : History) (other : Step) (back : History) → before ≡ front ++ other ∷ back
@@ -59,9 +78,9 @@ pub record TakesFirstDisconnect (events : List Incoming) (old later : Supply) : 
 -- A session that a `disconnect` closed has taken the input up to the first one.
 abbrev pub FirstDisconnectCloses : Type 0
 FirstDisconnectCloses =
-    (wrote : Result (Unit {0}) WriteFailed) (before after : World)
-    → (driven : IsDriven wrote (Ok closed.Disconnected) before after)
-    → TakesFirstDisconnect driven.session.events (input_of before.streams) (input_of after.streams)
+    (first : FirstSeq) (wrote : Result (Unit {0}) WriteFailed) (before after : World)
+    → (driven : IsDriven first wrote (Ok closed.Disconnected) before after)
+    → TakesFirstDisconnect first driven.session.events (input_of before.streams) (input_of after.streams)
 
 -- ---- Runs
 
@@ -75,8 +94,8 @@ pub data IsCutShort : List Act → Type 0 where
 -- last, unless it was cut short. No run cuts another.
 abbrev pub RunsEndOnce : Type 0
 RunsEndOnce =
-    (by : Closed) (wrote : Result (Unit {0}) WriteFailed) (before after : World)
-    → (driven : IsDriven wrote (Ok by) before after)
+    (first : FirstSeq) (by : Closed) (wrote : Result (Unit {0}) WriteFailed) (before after : World)
+    → (driven : IsDriven first wrote (Ok by) before after)
     → (front : List Act) (act : Act) (back : List Act) (h : Heading) → driven.runner.acts ≡ front ++ act ∷ back
     → taken_by act ≡ Some (Go h)
     → AllButLastGoOn (reports_of_run back) × (HasLast (reports_of_run back) ⊎ IsCutShort back)
@@ -86,16 +105,18 @@ RunsEndOnce =
 -- `serve` never returns the fault that nobody takes frames or orders any more.
 abbrev pub NobodyIsGone : Type 0
 NobodyIsGone =
-    (outcome : Result Served ServeFault) (before after : World) → IsServed outcome before after
+    (first : FirstSeq) (outcome : Result Served ServeFault) (before after : World) → IsServed first outcome before after
     → (outcome ≢ Err (Session WriterGone)) × (outcome ≢ Err (Session RunnerGone))
 
 -- The session gave up since the queue of orders was full, and four of the orders that it pushed had been inside
 -- together.
-pub record FindsFour (before after : World) : Type 0 where
+pub record FindsFour (first : FirstSeq) (before after : World) : Type 0 where
   pub wrote : Result (Unit {0}) WriteFailed
-  pub driven : IsDriven wrote (Err OrdersFull) before after
+  pub driven : IsDriven first wrote (Err OrdersFull) before after
   pub four : FourWereInside driven.sent.orders
 
 -- `serve` returns the fault that the queue of orders was full only where four orders were inside together.
 abbrev pub FullIsFour : Type 0
-FullIsFour = (before after : World) → IsServed (Err (Session OrdersFull)) before after → FindsFour before after
+FullIsFour =
+    (first : FirstSeq) (before after : World) → IsServed first (Err (Session OrdersFull)) before after
+    → FindsFour first before after

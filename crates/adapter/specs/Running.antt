@@ -2,6 +2,7 @@
 use Rattle.std.specs.Prelude.{◌≡◌, ◌⊎◌, ℕ, List, [], ◌∷◌, ◌++◌, Some, None, Result, Err}
 use Rattle.clap.specs.Words.{Text}
 use Rattle.clap.specs.declared.error.kind.ErrorKind.TheVariants.{DisplayHelp}
+use Rattle.dap_msg.specs.declared.request.FirstSeq.{FirstSeq}
 use Rattle.dap_history.specs.Interleaving.{Load}
 use Rattle.adapter.specs.declared.arguments.ArgumentsFault.TheVariants as fault
 use Rattle.adapter.specs.declared.arguments.TheConstants.{HELP, USAGE}
@@ -17,11 +18,13 @@ use Rattle.adapter.specs.Listing.{line_feed}
 use Rattle.adapter.specs.Serving.{Streams, world, output_of, IsServed}
 use Rattle.byte_streams.specs.Streams.{Output, WritesAll, FailsIn, Says}
 
--- A client was served, through a gate that nothing had passed, and the reason says how that went.
-pub record EndsServing (reason : ExitReason) (loads later_loads : List Load) (old later : Streams) : Type 0 where
+-- A client that counts from `first` was served, through a gate that nothing had passed, and the reason says how that
+-- went.
+pub record EndsServing (first : FirstSeq) (reason : ExitReason) (loads later_loads : List Load) (old later : Streams)
+    : Type 0 where
   pub outcome : Result Served ServeFault
   pub passed : List (ℕ × ℕ)
-  pub served : IsServed outcome (world loads [] old) (world later_loads passed later)
+  pub served : IsServed first outcome (world loads [] old) (world later_loads passed later)
   pub reason_is : reason ≡ reason_of_serve outcome
 
 -- nothing was read
@@ -47,9 +50,9 @@ EndsIdle arguments reason =
     ((reason ≡ NotUnderstood) × IsParsed arguments (Err fault.NotUnderstood)) ⊎ (reason ≡ NoMemory)
 
 -- The arguments ask for one of these, and it was done.
-abbrev pub Performs : List Text → ExitReason → List Load → List Load → Streams → Streams → Type 0
-Performs arguments reason loads later_loads old later =
-    (Reads arguments None × EndsServing reason loads later_loads old later)
+abbrev pub Performs : FirstSeq → List Text → ExitReason → List Load → List Load → Streams → Streams → Type 0
+Performs first arguments reason loads later_loads old later =
+    (Reads arguments None × EndsServing first reason loads later_loads old later)
     ⊎ (((path : Text) × Reads arguments (Some path) × EndsChecking path reason loads later_loads old later)
     ⊎ (((refusals arguments ≡ DisplayHelp ∷ []) × EndsHelping reason (output_of old) (output_of later)
     × KeepsInput old later × (later_loads ≡ loads))
@@ -66,9 +69,9 @@ Reports NotUnderstood before after = (text : List ℕ) × IsUsage text × Says t
 Reports reason before after = Says (last_line reason ++ line_feed) before after
 
 -- The program did what the arguments ask for, ended as that went, and said so on standard error.
-pub record Executes (arguments : List Text) (reason : ExitReason) (loads later_loads : List Load) (old later : Streams)
-    (errors later_errors : Output) : Type 0 where
-  pub performs : Performs arguments reason loads later_loads old later
+pub record Executes (first : FirstSeq) (arguments : List Text) (reason : ExitReason) (loads later_loads : List Load)
+    (old later : Streams) (errors later_errors : Output) : Type 0 where
+  pub performs : Performs first arguments reason loads later_loads old later
   pub reports : Reports reason errors later_errors
 
 -- The system has no arguments, or some that are not text, or there was no memory for them.
@@ -78,7 +81,8 @@ pub record GetsNoArguments (reason : ExitReason) (old later : Streams) (errors l
   pub reports : Reports reason errors later_errors
 
 -- The program ran on the arguments that the system has, with a loader that was asked for no file before.
-abbrev pub Runs : ExitReason → Streams → Streams → Output → Output → Type 0
-Runs reason old later errors later_errors =
-    ((arguments : List Text) × (loads : List Load) × Executes arguments reason [] loads old later errors later_errors)
+abbrev pub Runs : FirstSeq → ExitReason → Streams → Streams → Output → Output → Type 0
+Runs first reason old later errors later_errors =
+    ((arguments : List Text) × (loads : List Load)
+    × Executes first arguments reason [] loads old later errors later_errors)
     ⊎ GetsNoArguments reason old later errors later_errors

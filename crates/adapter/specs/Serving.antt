@@ -2,6 +2,7 @@
 use Rattle.std.specs.Prelude.{◌≡◌, ◌≢◌, ◌⊎◌, ◌++◌, [], true, ℕ, List, Option, Result, Ok, Err}
 use Rattle.std.specs.Result.{is_err}
 use Rattle.std.specs.List.{concat, flat_map}
+use Rattle.dap_msg.specs.declared.request.FirstSeq.{FirstSeq}
 use Rattle.dap_history.specs.declared.fault.SessionFault.{SessionFault}
 use Rattle.dap_history.specs.declared.fault.SessionFault.TheVariants.{NoMemory, OrdersFull, WriterGone}
 use Rattle.dap_history.specs.declared.ending.Closed.{Closed}
@@ -82,12 +83,12 @@ TakenOfPushed (Err fault) acts pushed = Begins (flat_map order_in acts) pushed
 -- The session took what the inbox gave, and the files that the loader returned for its launches: these are the events.
 -- It sent what they lead to, by the way in which it ended, and the loader was asked for nothing else. It was never
 -- answered that the runner is gone, and found the queue of orders full only where four were inside together.
-pub record SessionSends (result : Result Closed SessionFault) (given : List Incoming) (sent : Ports)
+pub record SessionSends (first : FirstSeq) (result : Result Closed SessionFault) (given : List Incoming) (sent : Ports)
     (loads later_loads : List Load) : Type 0 where
   pub events : List Incoming
   pub loaded : List Load
   pub lawful : AreLawful events
-  pub drives : Drives events given loaded nothing_sent sent result
+  pub drives : Drives first events given loaded nothing_sent sent result
   pub loads_are : later_loads ≡ loads ++ loaded
   pub never_gone : sent.runner_gone ≡ 0
   pub full : result ≡ Err OrdersFull → FourWereInside sent.orders
@@ -119,11 +120,11 @@ pub record WriterWrites (wrote : Result (Unit {0}) WriteFailed) (result : Result
 
 -- Each of the four came to its end. They share what the inbox gave to the session, which came from the reader and the
 -- runner, and what the session sent: frames to the writer, and orders to the runner.
-pub record IsDriven (wrote : Result (Unit {0}) WriteFailed) (result : Result Closed SessionFault)
+pub record IsDriven (first : FirstSeq) (wrote : Result (Unit {0}) WriteFailed) (result : Result Closed SessionFault)
     (before after : World) : Type 0 where
   pub given : List Incoming
   pub sent : Ports
-  pub session : SessionSends result given sent before.loads after.loads
+  pub session : SessionSends first result given sent before.loads after.loads
   pub reader : ReaderSends result given (input_of before.streams) (input_of after.streams)
   pub runner : RunnerActs result given sent.orders before.passed after.passed
   pub writer : WriterWrites wrote result sent.frames (output_of before.streams) (output_of after.streams)
@@ -138,8 +139,9 @@ outcome_of (Ok done) (Err f) = Err (fault.Session f)
 
 -- Serving ended with this outcome. Where there was no memory for the queues, nothing was done. Where a thread can't be
 -- started, nothing more is known.
-pub data IsServed (outcome : Result Served ServeFault) (before after : World) : Type 0 where
+pub data IsServed (first : FirstSeq) (outcome : Result Served ServeFault) (before after : World) : Type 0 where
   drove : (wrote : Result (Unit {0}) WriteFailed) (result : Result Closed SessionFault)
-      → outcome ≡ outcome_of wrote result → IsDriven wrote result before after → IsServed outcome before after
-  had_no_memory : outcome ≡ Err (fault.Session NoMemory) → after ≡ before → IsServed outcome before after
-  had_no_thread : outcome ≡ Err fault.NoThread → IsServed outcome before after
+      → outcome ≡ outcome_of wrote result → IsDriven first wrote result before after
+      → IsServed first outcome before after
+  had_no_memory : outcome ≡ Err (fault.Session NoMemory) → after ≡ before → IsServed first outcome before after
+  had_no_thread : outcome ≡ Err fault.NoThread → IsServed first outcome before after

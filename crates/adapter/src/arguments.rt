@@ -28,8 +28,9 @@ pub enum ArgumentsFault {
     NoMemory,
 }
 
-/// What `--help` prints.
-pub const HELP: &str = "A debug adapter for PL/0, which speaks the Debug Adapter Protocol.
+/// What `--help` prints. The version stands in its first line.
+pub const HELP: &str =
+    "pl0dap 1.0.0: a debug adapter for PL/0, which speaks the Debug Adapter Protocol.
 
 Usage: pl0dap [--check FILE]
 
@@ -95,12 +96,17 @@ pub(crate) fn objection(alloc: Global, arguments: &[&str]) -> Result<String, All
     let Err(error) = command.try_get_matches_from(arguments) else {
         return Ok(String::new(alloc));
     };
-    // What `clap` says ends in a usage of its own.
     let text = error.to_string(alloc)?;
-    match text.as_str().split_once("\nUsage: ") {
-        Some((message, _usage)) => String::from_str(alloc, message),
-        None => Ok(text),
-    }
+    let text = text.as_str();
+    // What `clap` says ends in a usage of its own, or in a line that points to the help.
+    let message = match text
+        .split_once("\nUsage: ")
+        .or(text.split_once("\nFor more information"))
+    {
+        Some((message, _ending)) => message,
+        None => text,
+    };
+    String::from_str(alloc, message)
 }
 
 /// The command line of the program: the option `--check FILE`, with the help that `clap` adds.

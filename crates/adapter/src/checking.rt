@@ -1,6 +1,6 @@
 //! Checking a program text: its listing, or its first fault.
 
-ghost use Rattle.std.specs.Prelude.{string_bytes, IfOk, IfErr};
+ghost use Rattle.std.specs.Prelude.{◌≡◌, string_bytes, Err, IfOk, IfErr};
 ghost use Rattle.pl0_tree.specs.Faults.{IsFirstFault, FaultIs};
 ghost use Rattle.adapter.specs.Checking.{IsChecked, IsListingOf};
 ghost use Rattle.byte_streams.specs.Streams.{output as output_at};
@@ -27,6 +27,27 @@ pub enum CheckFault {
     NoMemory,
 }
 
+/// What came of a check.
+#[derive(Drop)]
+pub(crate) struct Checked {
+    /// Whether the listing was written.
+    pub outcome: Result<(), CheckFault>,
+    /// The text of the file; empty where it can't be read.
+    pub text: Vec<u8>,
+}
+
+impl Checked {
+    /// Nothing was read, for this reason.
+    fn unread(alloc: Global, fault: CheckFault) -> Checked
+        ensures { result.outcome ≡ Err fault }
+    {
+        Checked {
+            outcome: Err(fault),
+            text: Vec::new(alloc),
+        }
+    }
+}
+
 /// Writes the listing of the program text in a file, once. The loader is asked once, for this path.
 ///
 /// # Errors
@@ -43,21 +64,43 @@ pub fn check<R: Wait, L: Loader, O: Sink>(
         (output_at (O.written output.old) (O.failures output.old))
         (output_at (O.written output.new) (O.failures output.new)) }
 {
+    check_keeping(rt, alloc, path, loader, output).outcome
+}
+
+/// Does what [`check`] does, and returns the text of the file besides.
+pub(crate) fn check_keeping<R: Wait, L: Loader, O: Sink>(
+    rt: &R,
+    alloc: Global,
+    path: &str,
+    loader: &mut L,
+    output: &mut O,
+) -> Checked
+    ensures { IsChecked path.now result.outcome (L.loaded loader.old) (L.loaded loader.new)
+        (output_at (O.written output.old) (O.failures output.old))
+        (output_at (O.written output.new) (O.failures output.new)) }
+{
     let text = match loader.load(path) {
         Ok(text) => text,
-        Err(LoadFault::CannotRead) => return Err(CheckFault::CannotRead),
-        Err(LoadFault::NoMemory) => return Err(CheckFault::NoMemory),
+        Err(LoadFault::CannotRead) => return Checked::unread(alloc, CheckFault::CannotRead),
+        Err(LoadFault::NoMemory) => return Checked::unread(alloc, CheckFault::NoMemory),
     };
     let listing = match list(alloc, text.as_slice()) {
         Ok(listing) => listing,
-        Err(SyntaxFault::InText { kind, place }) => return Err(CheckFault::Syntax { kind, place }),
-        Err(SyntaxFault::NoMemory) => return Err(CheckFault::NoMemory),
+        Err(SyntaxFault::InText { kind, place }) => {
+            let outcome = Err(CheckFault::Syntax { kind, place });
+            return Checked { outcome, text };
+        }
+        Err(SyntaxFault::NoMemory) => {
+            let outcome = Err(CheckFault::NoMemory);
+            return Checked { outcome, text };
+        }
     };
-    if write_all(rt, output, listing.as_bytes()) {
+    let outcome = if write_all(rt, output, listing.as_bytes()) {
         Ok(())
     } else {
         Err(CheckFault::WriteFailed)
-    }
+    };
+    Checked { outcome, text }
 }
 
 /// Returns the listing of a program text.

@@ -11,12 +11,15 @@ use std::fs;
 use std::io::{self, ErrorKind, Read};
 use std::rt::Files;
 use std::sync::Wait;
+use std::time::Clock;
 
 /// Loads files of the system, and keeps each path that it was asked for with the answer.
 #[derive(Drop)]
-pub struct FileLoader<'a, R: Files + Wait> {
+pub struct FileLoader<'a, R: Files + Wait + Clock> {
     rt: &'a R,
     alloc: Global,
+    // Whether what isn't a regular file is refused.
+    only_regular: bool,
     given: Vec<Given>,
 }
 
@@ -27,20 +30,34 @@ struct Given {
     answer: Result<Vec<u8>, LoadFault>,
 }
 
-impl<'a, R: Files + Wait> FileLoader<'a, R> {
-    /// A loader that was asked for no file yet.
+impl<'a, R: Files + Wait + Clock> FileLoader<'a, R> {
+    /// A loader that was asked for no file yet. It also reads a named pipe or a terminal, and blocks until that ends.
     pub fn new(rt: &'a R, alloc: Global) -> FileLoader<'a, R>
         ensures { loads result.given.items ≡ [] }
     {
         FileLoader {
             rt,
             alloc,
+            only_regular: false,
+            given: Vec::new(alloc),
+        }
+    }
+
+    /// A loader that was asked for no file yet. It refuses what isn't a regular file, such as a directory, a named pipe or a
+    /// terminal, with `CannotRead`, and never waits for it.
+    pub fn of_regular_files(rt: &'a R, alloc: Global) -> FileLoader<'a, R>
+        ensures { loads result.given.items ≡ [] }
+    {
+        FileLoader {
+            rt,
+            alloc,
+            only_regular: true,
             given: Vec::new(alloc),
         }
     }
 }
 
-impl<R: Files + Wait> Loader for FileLoader<'_, R> {
+impl<R: Files + Wait + Clock> Loader for FileLoader<'_, R> {
     ghost use Rattle.adapter.specs.Loading.{loads};
 
     ghost loaded = { λ loader. loads loader.given.items };
@@ -49,7 +66,12 @@ impl<R: Files + Wait> Loader for FileLoader<'_, R> {
         let Ok(asked) = String::from_str(self.alloc, path) else {
             return Err(LoadFault::NoMemory);
         };
-        match read_file(self.rt, self.alloc, fs::open(self.rt, path)) {
+        let opened = if self.only_regular {
+            open_regular(self.rt, path)
+        } else {
+            fs::open(self.rt, path)
+        };
+        match read_file(self.rt, self.alloc, opened) {
             Ok(bytes) => {
                 let Ok(copy) = Vec::from_slice(self.alloc, bytes.as_slice()) else {
                     return Err(LoadFault::NoMemory);
@@ -74,6 +96,19 @@ impl<R: Files + Wait> Loader for FileLoader<'_, R> {
     }
 }
 
+/// Opens a regular file. It looks at the kind of the file first, since opening a named pipe waits for whoever writes to it.
+///
+/// # Errors
+///
+/// `InvalidInput` where the path leads to what isn't a regular file, and else as `fs::open`.
+fn open_regular<R: Files>(rt: &R, path: &str) -> io::Result<R::File> {
+    if fs::metadata(rt, path)?.is_file() {
+        fs::open(rt, path)
+    } else {
+        Err(ErrorKind::InvalidInput.into())
+    }
+}
+
 ghost use Rattle.std.specs.Prelude.{◌≤◌, length, IfOk};
 ghost use Rattle.adapter.specs.Loading.{IsOfFile};
 
@@ -82,7 +117,7 @@ ghost use Rattle.adapter.specs.Loading.{IsOfFile};
 /// # Errors
 ///
 /// `CannotRead` where the file can't be opened or read, and `NoMemory` where memory ran out.
-fn read_file<R: Wait, I: Read + Drop>(
+fn read_file<R: Wait + Clock, I: Read + Drop>(
     rt: &R,
     alloc: Global,
     opened: io::Result<I>,

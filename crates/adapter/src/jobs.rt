@@ -20,7 +20,7 @@ ghost use Rattle.adapter.specs.Jobs.{Drove};
 use crate::gates::{Gated, OpenGate};
 use crate::tasks::{LastTask, Task};
 use byte_streams::{Sink, Source};
-use dap_session::{Closed, Loader, Order, Orders, SessionFault, drive};
+use dap_session::{Closed, FirstSeq, Loader, Order, Orders, SessionFault, drive_from};
 use dap_wires::{
     ClientSender, EndedSender, EventReceiver, FrameReceiver, FrameSender, InboxLog, OrderReceiver,
     OrderSender, ReadEnd, ReceiveLog, ReportSender, WriteFailed, WriterMessage, read_loop,
@@ -195,6 +195,7 @@ impl<'a, G: Gate, R: Wait + Drop> Task for RunnerTask<'a, G, R> {
 pub struct SessionTask<'a, L, R: Wait + Drop> {
     rt: R,
     alloc: Global,
+    first: FirstSeq,
     loader: &'a mut L,
     inbox: EventReceiver<R>,
     outbox: FrameSender<R>,
@@ -206,11 +207,13 @@ impl<'a, L, R: Wait + Drop> SessionTask<'a, L, R> {
     pub fn new(
         rt: R,
         alloc: Global,
+        first: FirstSeq,
         loader: &'a mut L,
         inbox: EventReceiver<R>,
         outbox: FrameSender<R>,
         orders: OrderSender<R>,
     ) -> SessionTask<'a, L, R>
+        ensures first { result.first ≡ first }
         ensures same_loader { result.loader.ghost_name ≡ loader.entry.ghost_name }
         ensures loader { result.loader.now ≡ loader.old }
         ensures inbox { result.inbox ≡ inbox }
@@ -220,6 +223,7 @@ impl<'a, L, R: Wait + Drop> SessionTask<'a, L, R> {
         SessionTask {
             rt,
             alloc,
+            first,
             loader,
             inbox,
             outbox,
@@ -245,19 +249,21 @@ impl<'a, L: Loader, R: Wait + Drop> Task for SessionTask<'a, L, R> {
         × (left_queue r.1.inbox ≡ event_queue t.inbox)
         × (ended_queue r.1.outbox ≡ frame_queue t.outbox) × (ended_unused_queue r.1.outbox ≡ unused_queue t.outbox)
         × (push_queue r.1.orders ≡ push_queue t.orders)
-        × Drove r.2 (taken_events t.inbox) (received r.1.inbox) (L.loaded t.loader.now) (L.loaded r.0.now)
+        × Drove t.first r.2 (taken_events t.inbox) (received r.1.inbox) (L.loaded t.loader.now) (L.loaded r.0.now)
         (ports (put_frames t.outbox) (pushed_orders t.orders)) (messages_put r.1.outbox) (pushed_orders r.1.orders) };
 
     fn run(self) -> (&'a mut L, SessionEnds<R>, Result<Closed, SessionFault>) {
         let SessionTask {
             rt,
             alloc,
+            first,
             loader,
             mut inbox,
             mut outbox,
             mut orders,
         } = self;
-        let closed = drive(&rt, alloc, &mut inbox, loader, &mut outbox, &mut orders);
+        let events = &mut inbox;
+        let closed = drive_from(&rt, alloc, first, events, loader, &mut outbox, &mut orders);
         let ends = SessionEnds {
             inbox: inbox.leave(),
             outbox: outbox.finish(),

@@ -1,6 +1,6 @@
 //! The laws of serving.
 
-ghost use Rattle.adapter.specs.Laws.{InputIsTakenWhole, FirstDisconnectCloses, RunsEndOnce, NobodyIsGone, FullIsFour};
+ghost use Rattle.adapter.specs.Laws.{OutcomeIsOfSession, InputIsTakenWhole, FirstDisconnectCloses, RunsEndOnce, NobodyIsGone, FullIsFour};
 
 use dap_history::history_laws;
 use dbg_runner::runner_laws;
@@ -8,6 +8,7 @@ use dbg_runner::runner_laws;
 /// Says what holds of every call of [`serve`](crate::serve), however its threads take turns. It does nothing: its contract
 /// is the laws.
 pub fn serving_laws()
+    ensures outcome { OutcomeIsOfSession }
     ensures input { InputIsTakenWhole }
     ensures disconnect { FirstDisconnectCloses }
     ensures runs { RunsEndOnce }

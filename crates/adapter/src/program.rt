@@ -1,64 +1,100 @@
 //! The program from its arguments to its end.
 
-ghost use Rattle.std.specs.Prelude.{◌≡◌, ◌≢◌, ◌⊎◌, ◌++◌, ℕ, List, map, decimal};
+ghost use Rattle.std.specs.Prelude.{◌≡◌, ◌≢◌, ◌⊎◌, Result, map};
 ghost use Rattle.std.specs.IoError.{error_kind};
+ghost use Rattle.std.specs.Process.{exit_status};
 ghost use Rattle.std.specs.declared.io.ErrorKind.TheVariants as kind;
-ghost use Rattle.adapter.specs.declared.exit_reason.ExitReason.TheVariants.{NoMemory, NotUnderstood, Syntax};
-ghost use Rattle.adapter.specs.ExitReasons.{last_line};
-ghost use Rattle.adapter.specs.Listing.{line_feed};
-ghost use Rattle.adapter.specs.Running.{Performs, Reports, Executes, Runs, EndsHelping, IsUsage};
-ghost use Rattle.adapter.specs.Serving.{streams};
-ghost use Rattle.byte_streams.specs.Streams.{Says, output as output_at};
+ghost use Rattle.adapter.specs.declared.exit_reason.ExitReason.{ExitReason};
+ghost use Rattle.adapter.specs.declared.exit_reason.ExitReason.TheVariants.{NoMemory, NotUnderstood};
+ghost use Rattle.adapter.specs.declared.checking.CheckFault.{CheckFault};
+ghost use Rattle.adapter.specs.Arguments.{IsParsed};
+ghost use Rattle.adapter.specs.Checking.{IsChecked};
+ghost use Rattle.adapter.specs.ExitReasons.{reason_of_check, status_of};
+ghost use Rattle.adapter.specs.Running.{EndsServing, Reports, Executes, Runs, EndsHelping};
+ghost use Rattle.adapter.specs.Serving.{Streams, streams};
+ghost use Rattle.byte_streams.specs.Streams.{Output, output as output_at};
 
-use crate::arguments::{ArgumentsFault, HELP, Invocation, USAGE, objection, parse_arguments};
-use crate::checking::check;
+use crate::arguments::{ArgumentsFault, HELP, Invocation, parse_arguments};
+use crate::checking::{CheckFault, check_keeping};
 use crate::exit_reason::{ExitReason, end_of_arguments, end_of_check, end_of_serve};
 use crate::files::FileLoader;
 use crate::gates::OpenGate;
-use crate::serving::serve;
-use byte_streams::{Sink, Source, say, write_all};
-use dap_session::Loader;
-use itoa::Buffer;
-use log::sink::Console;
-use log::{Level, Logged, error};
-use pl0_tree::Place;
+use crate::reporting::{EndReporter, note_mistake, report};
+use crate::serving::{end_loan, serve_from};
+use byte_streams::{Reading, Sink, Source, Writing, write_all};
+use dap_session::{FirstSeq, Loader};
 use std::alloc::{AllocError, Global};
-use std::io::ErrorKind;
+use std::io::{ErrorKind, Read, Write};
+use std::process::ExitCode;
 use std::rt::{Env, Files};
 use std::sync::Wait;
 use std::thread::Threads;
+use std::time::Clock;
 use std::{env, io};
 
-/// Does what the arguments of this process ask for, as [`execute`] does, with the files of the system. A `main` has only to
-/// exit with the status of the reason that is returned.
-pub fn run<R, I, O, E>(rt: &R, input: &mut I, output: &mut O, errors: &mut E) -> ExitReason
+/// Does what the arguments of this process ask for, as [`run`] does, over std's streams, and returns the exit code. It is all
+/// that a `main` does.
+pub fn run_process<R, I, O, E>(rt: &R, first: FirstSeq, input: I, output: O, errors: E) -> ExitCode
 where
-    R: Threads + Wait + Env + Files + Eprint + AllocGlobal + Copy + Drop + Send,
+    R: Threads + Wait + Clock + Env + Files + Eprint + AllocGlobal + Copy + Drop + Send + Sync,
+    I: Read + Send + Drop,
+    O: Write + Send + Drop,
+    E: Write + Drop,
+    ensures { (reason : ExitReason) × (exit_status result ≡ status_of reason)
+        × ((later : Streams) × (later_errors : Output) × Runs first reason
+        (streams (I.remaining input) 0 (O.contents output) 0) later (output_at (E.contents errors) 0) later_errors) }
+{
+    let mut input = Reading::new(rt, input);
+    let mut output = Writing::new(rt, output);
+    let mut errors = Writing::new(rt, errors);
+    ExitCode::from(run(rt, first, &mut input, &mut output, &mut errors).status())
+}
+
+/// Does what the arguments of this process ask for, as [`execute`] does, with the files of the system: `launch` gets regular
+/// files alone, and `--check` also what may block, such as a named pipe.
+pub fn run<R, I, O, E>(
+    rt: &R,
+    first: FirstSeq,
+    input: &mut I,
+    output: &mut O,
+    errors: &mut E,
+) -> ExitReason
+where
+    R: Threads + Wait + Clock + Env + Files + Eprint + AllocGlobal + Copy + Drop + Send,
     I: Source + Send,
     O: Sink + Send,
     E: Sink,
     // It does so for some arguments and some files, since no contract can say which ones the system has.
-    ensures { Runs result
+    ensures { Runs first result
         (streams (I.left input.old) (I.failures input.old) (O.written output.old) (O.failures output.old))
         (streams (I.left input.new) (I.failures input.new) (O.written output.new) (O.failures output.new))
         (output_at (E.written errors.old) (E.failures errors.old))
         (output_at (E.written errors.new) (E.failures errors.new)) }
 {
-    let mut files = FileLoader::new(rt, rt.alloc());
     let given = match given_arguments(rt) {
         Ok(given) => given,
-        Err(error) => return refuse_arguments(rt, end_of_reading(&error), errors),
+        Err(error) => return end_with(rt, &[], end_of_reading(&error), errors),
     };
     let Ok(arguments) = texts(rt.alloc(), given.as_slice()) else {
-        return refuse_arguments(rt, ExitReason::NoMemory, errors);
+        return end_with(rt, &[], ExitReason::NoMemory, errors);
     };
-    execute(rt, arguments.as_slice(), &mut files, input, output, errors)
+    let arguments = arguments.as_slice();
+    let asked = parse_arguments(rt.alloc(), arguments);
+    let mut files = match asked {
+        Ok(Invocation::Check(_)) => FileLoader::new(rt, rt.alloc()),
+        Ok(Invocation::Serve) | Err(_) => FileLoader::of_regular_files(rt, rt.alloc()),
+    };
+    let loader = &mut files;
+    carry_out(rt, first, arguments, asked, loader, input, output, errors)
 }
 
-/// Does what the arguments ask for, the program's name first, and returns how that ended. It writes to `errors` nothing at
-/// status 0, the usage at status 4, and else the last line. Where `errors` fails, nothing else changes.
+/// Does what the arguments ask for, the program's name first, and returns how that ended. A client that is served may count
+/// its requests from `first`. `errors` gets nothing at status 0, the usage at status 4, and else the last line, which is
+/// written as soon as the reason is known: where a client was served, before the last read of its input returns. Where
+/// `errors` fails, nothing else changes.
 pub fn execute<R, L, I, O, E>(
     rt: &R,
+    first: FirstSeq,
     arguments: &[&str],
     loader: &mut L,
     input: &mut I,
@@ -71,15 +107,47 @@ where
     I: Source + Send,
     O: Sink + Send,
     E: Sink,
-    ensures { Executes (map (λ argument. argument.now) arguments.entry.now) result (L.loaded loader.old) (L.loaded loader.new)
+    ensures { Executes first (map (λ argument. argument.now) arguments.entry.now) result (L.loaded loader.old) (L.loaded loader.new)
         (streams (I.left input.old) (I.failures input.old) (O.written output.old) (O.failures output.old))
         (streams (I.left input.new) (I.failures input.new) (O.written output.new) (O.failures output.new))
         (output_at (E.written errors.old) (E.failures errors.old))
         (output_at (E.written errors.new) (E.failures errors.new)) }
 {
-    let reason = perform(rt, arguments, loader, input, output);
-    report(rt, arguments, reason, errors);
-    reason
+    let asked = parse_arguments(rt.alloc(), arguments);
+    carry_out(rt, first, arguments, asked, loader, input, output, errors)
+}
+
+/// Does what the arguments were found to ask for, as [`execute`] does.
+fn carry_out<R, L, I, O, E>(
+    rt: &R,
+    first: FirstSeq,
+    arguments: &[&str],
+    asked: Result<Invocation, ArgumentsFault>,
+    loader: &mut L,
+    input: &mut I,
+    output: &mut O,
+    errors: &mut E,
+) -> ExitReason
+where
+    R: Threads + Wait + Eprint + AllocGlobal + Copy + Drop + Send,
+    L: Loader,
+    I: Source + Send,
+    O: Sink + Send,
+    E: Sink,
+    requires { IsParsed (map (λ argument. argument.now) arguments.now) asked }
+    ensures { Executes first (map (λ argument. argument.now) arguments.entry.now) result (L.loaded loader.old) (L.loaded loader.new)
+        (streams (I.left input.old) (I.failures input.old) (O.written output.old) (O.failures output.old))
+        (streams (I.left input.new) (I.failures input.new) (O.written output.new) (O.failures output.new))
+        (output_at (E.written errors.old) (E.failures errors.old))
+        (output_at (E.written errors.new) (E.failures errors.new)) }
+{
+    let reason = match asked {
+        Ok(Invocation::Serve) => return serve_client(rt, first, loader, input, output, errors),
+        Ok(Invocation::Check(file)) => check_file(rt, file, loader, output),
+        Err(ArgumentsFault::Help) => show_help(rt, output),
+        Err(fault) => end_of_arguments(fault),
+    };
+    end_with(rt, arguments, reason, errors)
 }
 
 /// Returns the arguments of this process, the program's name first.
@@ -111,9 +179,10 @@ fn end_of_reading(error: &io::Error) -> ExitReason
     }
 }
 
-/// Reports on `errors` that there are no arguments, and returns the reason.
-fn refuse_arguments<R: Wait + Eprint + AllocGlobal, E: Sink>(
+/// Reports the reason on `errors`, and returns it.
+fn end_with<R: Wait + Eprint + AllocGlobal, E: Sink>(
     rt: &R,
+    arguments: &[&str],
     reason: ExitReason,
     errors: &mut E,
 ) -> ExitReason
@@ -122,38 +191,56 @@ fn refuse_arguments<R: Wait + Eprint + AllocGlobal, E: Sink>(
         (output_at (E.written errors.old) (E.failures errors.old))
         (output_at (E.written errors.new) (E.failures errors.new)) }
 {
-    report(rt, &[], reason, errors);
+    report(rt, arguments, reason, errors);
     reason
 }
 
-/// Does what the arguments ask for, and returns how that ended.
-fn perform<R, L, I, O>(
+/// Serves a client that may count its requests from `first`, reports how that ended, and returns it.
+fn serve_client<R, L, I, O, E>(
     rt: &R,
-    arguments: &[&str],
+    first: FirstSeq,
     loader: &mut L,
     input: &mut I,
     output: &mut O,
+    errors: &mut E,
 ) -> ExitReason
 where
-    R: Threads + Wait + AllocGlobal + Copy + Drop + Send,
+    R: Threads + Wait + Eprint + AllocGlobal + Copy + Drop + Send,
     L: Loader,
     I: Source + Send,
     O: Sink + Send,
-    ensures { Performs (map (λ argument. argument.now) arguments.entry.now) result (L.loaded loader.old) (L.loaded loader.new)
+    E: Sink,
+    ensures served { EndsServing first result (L.loaded loader.old) (L.loaded loader.new)
         (streams (I.left input.old) (I.failures input.old) (O.written output.old) (O.failures output.old))
         (streams (I.left input.new) (I.failures input.new) (O.written output.new) (O.failures output.new)) }
+    ensures reports { Reports result
+        (output_at (E.written errors.old) (E.failures errors.old))
+        (output_at (E.written errors.new) (E.failures errors.new)) }
 {
-    match parse_arguments(rt.alloc(), arguments) {
-        Ok(Invocation::Serve) => {
-            let served = serve(rt, rt.alloc(), input, output, loader, &mut OpenGate::new());
-            end_of_serve(&served)
-        }
-        Ok(Invocation::Check(file)) => {
-            end_of_check(&check(rt, rt.alloc(), file, loader, output))
-        }
-        Err(ArgumentsFault::Help) => show_help(rt, output),
-        Err(fault) => end_of_arguments(fault),
+    let alloc = rt.alloc();
+    let gate = &mut OpenGate::new();
+    let mut reporter = EndReporter::new(rt, errors);
+    let served = serve_from(rt, alloc, first, input, output, loader, gate, &mut reporter);
+    end_loan(reporter.into_errors());
+    end_of_serve(&served)
+}
+
+/// Checks the program text in a file, notes its mistake, if it has one, and returns how that ended.
+fn check_file<R, L, O>(rt: &R, file: &str, loader: &mut L, output: &mut O) -> ExitReason
+where
+    R: Wait + Eprint + AllocGlobal,
+    L: Loader,
+    O: Sink,
+    ensures { (outcome : Result (Unit {0}) CheckFault) × (result ≡ reason_of_check outcome)
+        × IsChecked file.now outcome (L.loaded loader.old) (L.loaded loader.new)
+        (output_at (O.written output.old) (O.failures output.old))
+        (output_at (O.written output.new) (O.failures output.new)) }
+{
+    let checked = check_keeping(rt, rt.alloc(), file, loader, output);
+    if let Err(CheckFault::Syntax { kind, place }) = checked.outcome {
+        note_mistake(rt, file, checked.text.as_slice(), kind, place);
     }
+    end_of_check(&checked.outcome)
 }
 
 /// Writes the help to `output`.
@@ -166,81 +253,5 @@ fn show_help<O: Sink>(rt: &impl Wait, output: &mut O) -> ExitReason
         end_of_arguments(ArgumentsFault::Help)
     } else {
         ExitReason::WriteFailed
-    }
-}
-
-/// Logs the reason, and writes to `errors` what is said of it there.
-fn report<R: Wait + Eprint + AllocGlobal, E: Sink>(
-    rt: &R,
-    arguments: &[&str],
-    reason: ExitReason,
-    errors: &mut E,
-)
-    ensures { Reports reason
-        (output_at (E.written errors.old) (E.failures errors.old))
-        (output_at (E.written errors.new) (E.failures errors.new)) }
-{
-    log_end(rt, reason);
-    match reason {
-        ExitReason::Success => {}
-        ExitReason::ReadFailed => say(rt, errors, &["pl0dap: read failed\n"]),
-        ExitReason::WriteFailed => say(rt, errors, &["pl0dap: write failed\n"]),
-        ExitReason::Framing(number) => say_number(rt, errors, "pl0dap: frame ", number),
-        ExitReason::Refused(number) => say_number(rt, errors, "pl0dap: refused ", number),
-        ExitReason::CannotRead => say(rt, errors, &["pl0dap: cannot read\n"]),
-        ExitReason::Syntax { number, place } => say_syntax(rt, errors, number, place),
-        ExitReason::NoMemory => say(rt, errors, &["pl0dap: no memory\n"]),
-        ExitReason::NotUnderstood => say_usage(rt, errors, arguments),
-    }
-}
-
-/// Writes the reason to the log at status 1 to 3. On standard error it stands before the last line.
-fn log_end<R: Eprint>(rt: &R, reason: ExitReason) {
-    if 0 < reason.status() && reason.status() < 4 {
-        let notes = Logged::new(rt, Level::Error, Console(rt));
-        error!(notes; "ended by {reason:?}");
-    }
-}
-
-/// Writes `text`, the number in decimal, and a line feed.
-fn say_number<E: Sink>(rt: &impl Wait, errors: &mut E, text: &str, number: u8)
-    ensures { Says (text.now ++ (decimal number ++ line_feed))
-        (output_at (E.written errors.old) (E.failures errors.old))
-        (output_at (E.written errors.new) (E.failures errors.new)) }
-{
-    let mut digits = Buffer::new();
-    say(rt, errors, &[text, digits.format(number), "\n"]);
-}
-
-/// Writes the last line for a fault of a program text.
-fn say_syntax<E: Sink>(rt: &impl Wait, errors: &mut E, number: u8, place: Place)
-    ensures { Says (last_line (Syntax number place) ++ line_feed)
-        (output_at (E.written errors.old) (E.failures errors.old))
-        (output_at (E.written errors.new) (E.failures errors.new)) }
-{
-    let mut digits = Buffer::new();
-    let mut line = Buffer::new();
-    let mut column = Buffer::new();
-    let texts = [
-        "pl0dap: syntax ",
-        digits.format(number),
-        " ",
-        line.format(place.line),
-        " ",
-        column.format(place.column),
-        "\n",
-    ];
-    say(rt, errors, &texts);
-}
-
-/// Writes what was wrong with the arguments, where there is memory for it, and then the usage.
-fn say_usage<R: Wait + AllocGlobal, E: Sink>(rt: &R, errors: &mut E, arguments: &[&str])
-    ensures { (text : List ℕ) × IsUsage text × Says text
-        (output_at (E.written errors.old) (E.failures errors.old))
-        (output_at (E.written errors.new) (E.failures errors.new)) }
-{
-    match objection(rt.alloc(), arguments) {
-        Ok(message) => say(rt, errors, &[message.as_str(), USAGE]),
-        Err(AllocError) => say(rt, errors, &[USAGE]),
     }
 }

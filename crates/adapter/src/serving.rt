@@ -12,14 +12,15 @@ ghost use Rattle.adapter.specs.Serving.{streams, world, outcome_of, IsServed};
 
 use crate::jobs::{ReaderTask, RunnerTask, SessionEnds, SessionTask, WriterTask};
 use crate::tasks::run_beside;
+use crate::telling::{Deaf, EndListener, Telling, tell};
 use byte_streams::{Sink, Source};
-use dap_session::{Closed, Loader, SessionFault};
+use dap_session::{Closed, FirstSeq, Loader, SessionFault};
 use dap_wires::{
     ClientSender, OrderReceiver, ReceiveLog, ReportSender, WriteFailed, WriterMessage, inbox,
     orders, outbox, reconcile_inbox, reconcile_orders, reconcile_outbox,
 };
 use dbg_runner::Gate;
-use std::alloc::{AllocError, Global};
+use std::alloc::Global;
 use std::sync::Wait;
 use std::thread::Threads;
 
@@ -45,16 +46,8 @@ pub enum ServeFault {
     NoThread,
 }
 
-impl From<AllocError> for ServeFault {
-    ghost use Rattle.dap_history.specs.declared.fault.SessionFault.TheVariants.{NoMemory};
-    ghost use Rattle.adapter.specs.declared.serving.ServeFault.TheVariants.{Session};
-
-    ghost from_gives = { λ _ fault. fault ≡ Session NoMemory };
-
-    fn from(_error: AllocError) -> ServeFault {
-        ServeFault::Session(SessionFault::NoMemory)
-    }
-}
+/// How serving ends where there is no memory for its queues.
+const NO_MEMORY: Result<Served, ServeFault> = Err(ServeFault::Session(SessionFault::NoMemory));
 
 /// Serves an input and an output: a reader, a runner and a writer work in threads of their own, the session in this one,
 /// and all are joined. The loader is asked for the program of each launch, and each slice of a run passes the gate.
@@ -81,32 +74,94 @@ where
     O: Sink + Send,
     L: Loader,
     G: Gate + Send,
-    ensures { IsServed result
+    ensures { IsServed FirstSeq.One result
         (world (L.loaded loader.old) (G.passed gate.old)
         (streams (I.left input.old) (I.failures input.old) (O.written output.old) (O.failures output.old)))
         (world (L.loaded loader.new) (G.passed gate.new)
         (streams (I.left input.new) (I.failures input.new) (O.written output.new) (O.failures output.new))) }
 {
-    let (client, reports, events) = inbox(*rt, alloc)?;
-    let (frames, messages) = outbox(*rt, alloc)?;
-    let (pushed, taken) = orders(*rt, alloc)?;
+    serve_from(
+        rt,
+        alloc,
+        FirstSeq::One,
+        input,
+        output,
+        loader,
+        gate,
+        &mut Deaf,
+    )
+}
+
+/// Serves as [`serve`] does, by the first number that the client may use, and tells the listener how it ended. The
+/// listener is told before the reader is joined, which may wait for a read.
+///
+/// # Errors
+///
+/// As [`serve`].
+pub fn serve_from<R, I, O, L, G, E>(
+    rt: &R,
+    alloc: Global,
+    first: FirstSeq,
+    input: &mut I,
+    output: &mut O,
+    loader: &mut L,
+    gate: &mut G,
+    listener: &mut E,
+) -> Result<Served, ServeFault>
+where
+    R: Threads + Wait + Copy + Drop + Send,
+    I: Source + Send,
+    O: Sink + Send,
+    L: Loader,
+    G: Gate + Send,
+    E: EndListener,
+    ensures served { IsServed first result
+        (world (L.loaded loader.old) (G.passed gate.old)
+        (streams (I.left input.old) (I.failures input.old) (O.written output.old) (O.failures output.old)))
+        (world (L.loaded loader.new) (G.passed gate.new)
+        (streams (I.left input.new) (I.failures input.new) (O.written output.new) (O.failures output.new))) }
+    ensures told { E.tells listener.old listener.new result }
+{
+    let Ok((client, reports, events)) = inbox(*rt, alloc) else {
+        return tell(listener, NO_MEMORY);
+    };
+    let Ok((frames, messages)) = outbox(*rt, alloc) else {
+        return tell(listener, NO_MEMORY);
+    };
+    let Ok((pushed, taken)) = orders(*rt, alloc) else {
+        return tell(listener, NO_MEMORY);
+    };
     let writer = WriterTask::new(*rt, output, messages);
     let runner = RunnerTask::new(*rt, alloc, taken, reports, gate);
     let reader = ReaderTask::new(*rt, alloc, input, client);
-    let session = SessionTask::new(*rt, alloc, loader, events, frames, pushed);
+    let session = SessionTask::new(*rt, alloc, first, loader, events, frames, pushed);
     // The reader is started last, since nothing can wake it from a read.
-    let done = run_beside(rt, writer, runner, reader, session);
-    let Some(((output, written, wrote), (taken, reports, gate), (input, client, _), driven)) = done
-    else {
-        return Err(ServeFault::NoThread);
-    };
-    let (loader, ends, closed) = driven;
-    end_loan(output);
-    end_loan(gate);
-    end_loan(input);
-    end_loan(loader);
-    reconcile(client, reports, written, taken, ends);
-    outcome(wrote, closed)
+    let done = run_beside(rt, writer, runner, reader, session, Telling::new(listener));
+    match done {
+        Ok(
+            (
+                (output, written, wrote),
+                (taken, reports, gate),
+                (input, client, _),
+                (loader, ends, closed),
+                listener,
+            ),
+        ) => {
+            end_loan(output);
+            end_loan(gate);
+            end_loan(input);
+            end_loan(loader);
+            end_loan(listener);
+            reconcile(client, reports, written, taken, ends);
+            outcome(&wrote, &closed)
+        }
+        Err(telling) => {
+            let listener = telling.into_listener();
+            let outcome = tell(listener, Err(ServeFault::NoThread));
+            end_loan(listener);
+            outcome
+        }
+    }
 }
 
 /// Brings the logs of all ends of each queue together, when all threads were joined, and proves that what was received is a
@@ -139,11 +194,11 @@ fn reconcile<R: Wait + Drop>(
 }
 
 /// Returns how serving ended, by how the writer and the session ended.
-fn outcome(
-    wrote: Result<(), WriteFailed>,
-    closed: Result<Closed, SessionFault>,
+pub(crate) fn outcome(
+    wrote: &Result<(), WriteFailed>,
+    closed: &Result<Closed, SessionFault>,
 ) -> Result<Served, ServeFault>
-    ensures { result ≡ outcome_of wrote closed }
+    ensures { result ≡ outcome_of wrote.now closed.now }
 {
     if wrote.is_err() {
         return Err(ServeFault::WriteFailed);
@@ -152,12 +207,12 @@ fn outcome(
         Ok(Closed::Disconnected) => Ok(Served::Disconnected),
         Ok(Closed::InputEnded) => Ok(Served::InputEnded),
         Ok(Closed::ReadFailed) => Err(ServeFault::ReadFailed),
-        Err(fault) => Err(ServeFault::Session(fault)),
+        Err(fault) => Err(ServeFault::Session(*fault)),
     }
 }
 
 /// Ends the loan of a reference that a task returned. It does nothing: its contract ties what the reference has now to the
 /// parameter that was lent.
-fn end_loan<T>(x: &mut T)
+pub(crate) fn end_loan<T>(x: &mut T)
     ensures { x.new ≡ x.old }
 {}

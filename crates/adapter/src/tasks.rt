@@ -1,7 +1,7 @@
 //! Tasks for the threads of a scope, where a thread may not be startable. Contracts speak of what a task has and returns
 //! through a type parameter, so that it may own a `&mut` and return it.
 
-ghost use Rattle.std.specs.Prelude.{◌≡◌, IfSome};
+ghost use Rattle.std.specs.Prelude.{◌≡◌, IfOk, IfErr, IfSome};
 
 use std::snapshot::Snapshot;
 use std::sync::Wait;
@@ -32,6 +32,19 @@ pub trait LastTask: Task {
         requires { Self.can_run self };
 }
 
+/// Sees what the first task and the last one returned, as soon as both have ended: the others may go on.
+pub trait Witness<A, D>: Drop {
+    /// What it returns.
+    type Output: Drop;
+
+    /// What holds of the witness, of what it saw, and of what it returned.
+    ghost sees: { Self → A → D → Self.Output → Type 0 };
+
+    /// Sees what the two returned.
+    fn see(self, first: &A, last: &D) -> Self::Output
+        ensures { sees self first.now last.now result };
+}
+
 /// The promise that a task was run.
 #[derive(Drop)]
 pub struct Ran<T: Task>(Snapshot<T>);
@@ -40,43 +53,56 @@ impl<T: Task> Promise<T::Output> for Ran<T> {
     ghost kept_by = { λ p r. T.gives p.0.value r };
 }
 
-/// Does three tasks in threads of their own and the last one in this thread, and joins all. Where a thread can't be
-/// started, the last task is given up, the threads that were started are joined, and `None` is returned.
+/// Does three tasks in threads of their own and the last one in this thread, and joins all. The witness sees what the first
+/// and the last returned before the others are joined.
+///
+/// # Errors
+///
+/// Where a thread can't be started, the last task is given up, the threads that were started are joined, and the witness
+/// is returned.
 pub fn run_beside<
     R: Threads + Wait,
     S: Task<Output = A> + Send,
     T: Task<Output = B> + Send,
     U: Task<Output = C> + Send,
     V: LastTask<Output = D>,
+    W: Witness<A, D, Output = X>,
     A: Send + Drop,
     B: Send + Drop,
     C: Send + Drop,
     D: Drop,
->(rt: &R, first: S, second: T, third: U, last: V) -> Option<(A, B, C, D)>
+    X: Drop,
+>(rt: &R, first: S, second: T, third: U, last: V, witness: W) -> Result<(A, B, C, D, X), W>
     requires { S.can_run first × T.can_run second × U.can_run third × V.can_run last }
-    ensures { IfSome result (λ r. S.gives first r.0 × T.gives second r.1 × U.gives third r.2 × V.gives last r.3) }
+    ensures ok { IfOk result (λ r. S.gives first r.0 × T.gives second r.1 × U.gives third r.2 × V.gives last r.3
+        × W.sees witness r.0 r.3 r.4) }
+    ensures err { IfErr result (λ w. w ≡ witness) }
 {
     thread::scope(
         thread::scope_env(),
         rt,
-        |scope| -> Option<(A, B, C, D)>
+        |scope| -> Result<(A, B, C, D, X), W>
             requires { S.can_run first × T.can_run second × U.can_run third × V.can_run last }
-            ensures { IfSome result (λ r. S.gives first r.0 × T.gives second r.1 × U.gives third r.2 × V.gives last r.3) }
+            ensures ok { IfOk result (λ r. S.gives first r.0 × T.gives second r.1 × U.gives third r.2 × V.gives last r.3
+                × W.sees witness r.0 r.3 r.4) }
+            ensures err { IfErr result (λ w. w ≡ witness) }
         {
             let Some(one) = start(scope, first) else {
                 last.give_up();
-                return None;
+                return Err(witness);
             };
             let Some(two) = start(scope, second) else {
                 last.give_up();
-                return None;
+                return Err(witness);
             };
             let Some(three) = start(scope, third) else {
                 last.give_up();
-                return None;
+                return Err(witness);
             };
             let d = last.run();
-            Some((one.join(rt), two.join(rt), three.join(rt), d))
+            let a = one.join(rt);
+            let x = witness.see(&a, &d);
+            Ok((a, two.join(rt), three.join(rt), d, x))
         },
     )
 }

@@ -9,7 +9,7 @@ use std::process::Abort;
 use std::sync::Wait;
 use test_kit::{Events, Files, Room, Shared, run_session};
 
-/// Events, asked for no more than them.
+/// Events. Asking for more than there are ends the test.
 #[derive(Drop)]
 struct Script<'a, R: Abort> {
     rt: &'a R,

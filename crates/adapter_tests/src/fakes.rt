@@ -8,7 +8,7 @@ ghost use Rattle.std.specs.Prelude.{◌≡◌, ◌+◌};
 
 pub use progress::{Hold, Progress};
 use std::process::Abort;
-pub use streams::{Cut, Input, Output, SliceGate, Streams};
+pub use streams::{Cut, Input, Listener, Output, SliceGate, Streams};
 
 /// One more; a count that would pass 2^64 - 1 ends the test.
 fn next_count(rt: &impl Abort, count: u64) -> u64

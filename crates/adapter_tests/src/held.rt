@@ -1,15 +1,18 @@
-//! Sessions whose streams and gate wait for each other, each in vain unless all threads go on at once.
+//! Sessions whose streams and gate wait for each other: a test fails unless all threads run at once.
 
-use crate::fakes::{Cut, Hold, Streams};
+use crate::fakes::{Cut, Hold, Input, Listener, Output, Progress, SliceGate, Streams};
 use crate::programs::{BROKEN, CUT_OFF, Debugging, NOTHING, PAUSED, PROCEDURES};
+use crate::rows::STARTED;
 use crate::serving::{Outcome, run};
-use crate::transcript::Exchange;
+use crate::transcript::{Exchange, SENT, frames, input};
+use adapter::{FirstSeq, serve_from};
 use std::alloc::Global;
 use std::process::Abort;
 use std::sync::Wait;
 use std::thread::Threads;
+use test_kit::Files;
 
-/// A session ends as it should, with the frames of its transcript.
+/// Asserts that a session ends as it should, with the frames of its transcript.
 fn assert_answered(rt: &impl Abort, session: &Debugging, exchange: &Exchange, run: &Outcome) {
     let name = session.name;
     assert_eq!(rt; run.end, Ok(session.end), "{name}");
@@ -19,7 +22,7 @@ fn assert_answered(rt: &impl Abort, session: &Debugging, exchange: &Exchange, ru
     );
 }
 
-/// Serves a session as its transcript says: how many slices passed the gate.
+/// Serves a session as its transcript says, and returns how many slices passed the gate.
 fn assert_served<R: Threads + Wait + Abort + Copy + Drop + Send + Sync>(
     rt: &R,
     alloc: Global,
@@ -59,7 +62,7 @@ fn sets_breakpoints_while_the_program_runs(rt: HostRuntime) {
     assert_eq!(rt; slices, 2);
 }
 
-/// The input ends when the second slice began, of a program without end.
+/// The input ends when the second slice of a program without end has begun.
 #[test]
 fn quits_a_run_where_the_input_ends(rt: HostRuntime) {
     let alloc = rt.alloc();
@@ -114,4 +117,91 @@ fn writes_before_it_reads_again(rt: HostRuntime) {
     let sent = exchange.sent.as_slice();
     let run = run(&rt, alloc, "", sent, streams);
     assert_answered(&rt, &NOTHING, &exchange, &run);
+}
+
+/// The most outputs that may come before the answer to a pause that was read, and again before the stop.
+const MOST_OUTPUTS: usize = 1024;
+
+/// How many outputs a text has.
+fn outputs(text: &str) -> usize {
+    text.matches("\"event\":\"output\"").count()
+}
+
+/// What is written in a session whose program prints at nearly each step and never ends. Nothing is written before a pause
+/// was read, and that is read when the runner waits; the input ends after the stop.
+fn paused_while_printing<R: Threads + Wait + Abort + Copy + Drop + Send + Sync>(
+    rt: &R,
+    alloc: Global,
+) -> Vec<u8> {
+    let numbers = "! 1; ".repeat(alloc, 300).expect(rt, "memory");
+    let program = format!(in alloc; "while 1 = 1 do begin {numbers} end.").expect(rt, "memory");
+    let mut sent = input(alloc, STARTED, "").expect(rt, "memory");
+    let before_pause = sent.len();
+    let pause =
+        "> {\"seq\":4,\"type\":\"request\",\"command\":\"pause\",\"arguments\":{\"threadId\":1}}";
+    let pause = frames(alloc, pause, SENT).expect(rt, "memory");
+    sent.extend_from_slice(pause.as_slice())
+        .expect(rt, "memory");
+    let cuts = [
+        Cut {
+            at: before_pause,
+            hold: Hold::Settled,
+        },
+        Cut {
+            at: sent.len(),
+            hold: Hold::Stopped,
+        },
+    ];
+    let streams = Streams {
+        cuts: cuts.as_slice(),
+        write_hold: Hold::Read(3),
+        ..Streams::WELL
+    };
+    run(rt, alloc, program.as_str(), sent.as_slice(), streams).output
+}
+
+/// However much a program prints, a pause takes effect after a bounded number of messages.
+#[test]
+fn pauses_a_program_that_prints(rt: HostRuntime) {
+    let output = paused_while_printing(&rt, rt.alloc());
+    let text = str::from_utf8(output.as_slice()).expect(&rt, "text");
+    let (before, after) = text
+        .split_once("\"command\":\"pause\"")
+        .expect(&rt, "an answer");
+    let (between, _) = after
+        .split_once("\"event\":\"stopped\"")
+        .expect(&rt, "a stop");
+    assert!(rt; outputs(before) <= MOST_OUTPUTS, "{}", outputs(before));
+    assert!(rt; outputs(between) <= MOST_OUTPUTS, "{}", outputs(between));
+}
+
+/// The last read waits until the listener was told how the session ended, which it is after a fault and after the answer to
+/// `disconnect`.
+#[test]
+fn tells_how_it_ended_before_the_input_ends(rt: HostRuntime) {
+    let alloc = rt.alloc();
+    let disconnect =
+        b"Content-Length: 49\r\n\r\n{\"seq\":1,\"type\":\"request\",\"command\":\"disconnect\"}";
+    for sent in [b"fault\r\n".as_slice(), disconnect.as_slice()] {
+        let cuts = [Cut {
+            at: sent.len(),
+            hold: Hold::Told,
+        }];
+        let streams = Streams {
+            cuts: cuts.as_slice(),
+            ..Streams::WELL
+        };
+        let progress = Progress::new();
+        let _ = serve_from(
+            &rt,
+            alloc,
+            FirstSeq::One,
+            &mut Input::new(&rt, sent, streams, &progress),
+            &mut Output::new(&rt, alloc, streams, &progress),
+            &mut Files::none(alloc),
+            &mut SliceGate::new(&rt, streams, &progress),
+            &mut Listener::new(&progress),
+        );
+        assert!(rt; !progress.has_missed());
+    }
 }

@@ -1,4 +1,4 @@
-//! Reads and writes that fail in turn. Those that are interrupted are tried again, as each is once.
+//! Reads and writes that fail in turn. Each is interrupted once before that, and tried again.
 
 use crate::fakes::{Hold, Streams};
 use crate::programs::{BROKEN, Debugging, NOTHING, OVERFLOW, PAUSED, PROCEDURES};

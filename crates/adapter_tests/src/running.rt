@@ -5,7 +5,7 @@ use crate::listings::{LAWFUL, LISTING};
 use crate::rows::{HELLO, INITIALIZE};
 use crate::transcript::{ANSWERED, frames, input};
 use adapter::arguments::HELP;
-use adapter::execute;
+use adapter::{FirstSeq, execute};
 use dap_session::Loader;
 use std::alloc::Global;
 use std::process::Abort;
@@ -42,7 +42,16 @@ where
         ..streams
     };
     let mut errors = Output::new(rt, rt.alloc(), roomy, &progress);
-    let reason = execute(rt, arguments, loader, &mut input, &mut output, &mut errors);
+    let first = FirstSeq::One;
+    let reason = execute(
+        rt,
+        first,
+        arguments,
+        loader,
+        &mut input,
+        &mut output,
+        &mut errors,
+    );
     output.bytes.as_slice() == expected.output
         && errors.bytes.as_slice() == expected.errors.as_bytes()
         && reason.status() == expected.status
@@ -193,7 +202,16 @@ fn ends_so_where_errors_cannot_be_written(rt: HostRuntime) {
     let mut errors = Output::new(&rt, alloc, full, &progress);
     let mut input = Input::new(&rt, b"", Streams::WELL, &progress);
     let files = &mut Files::none(alloc);
-    let reason = execute(&rt, &CHECK, files, &mut input, &mut output, &mut errors);
+    let first = FirstSeq::One;
+    let reason = execute(
+        &rt,
+        first,
+        &CHECK,
+        files,
+        &mut input,
+        &mut output,
+        &mut errors,
+    );
     assert_eq!(rt; reason.status(), 1);
     assert!(rt; output.bytes.is_empty() && errors.bytes.is_empty());
 }

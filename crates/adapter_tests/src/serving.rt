@@ -3,7 +3,9 @@
 use crate::fakes::{Cut, Hold, Input, Output, Progress, SliceGate, Streams};
 use crate::rows::{FAULTS, HELLO, INITIALIZE, ROWS, Row, fault_row};
 use crate::transcript::{ANSWERED, SENT, frames, input};
-use adapter::{Reading, ServeFault, Served, Writing, end_of_serve, serve};
+use adapter::{
+    Deaf, FirstSeq, Reading, ServeFault, Served, Writing, end_of_serve, serve, serve_from,
+};
 use std::alloc::Global;
 use std::process::Abort;
 use std::sync::Wait;
@@ -48,7 +50,7 @@ struct Expected<'a> {
     last_line: &'a str,
 }
 
-/// Whether the input is answered so.
+/// Returns whether the input is answered so.
 fn is_served<R: Threads + Wait + Abort + Copy + Drop + Send + Sync>(
     rt: &R,
     alloc: Global,
@@ -73,7 +75,7 @@ fn by(step: usize) -> Streams<'static> {
     }
 }
 
-/// The row is served so: whole, by single bytes, and cut in two at each place.
+/// Asserts that the row is served so: whole, by single bytes, and cut in two at each place.
 fn assert_served<R: Threads + Wait + Abort + Copy + Drop + Send + Sync>(
     rt: &R,
     alloc: Global,
@@ -190,4 +192,40 @@ fn serves_streams_of_std(rt: HostRuntime) {
     );
     assert_eq!(rt; result, Ok(Served::Disconnected));
     assert_eq!(rt; output.as_slice(), expected.as_slice());
+}
+
+/// Requests that a client numbers from 0.
+const FROM_ZERO: &str = r#"
+> {"seq":0,"type":"request","command":"initialize"}
+< {"body":{"supportsConditionalBreakpoints":true,"supportsConfigurationDoneRequest":true,"supportsHitConditionalBreakpoints":true,"supportsLogPoints":true,"supportsStepBack":true},"command":"initialize","request_seq":0,"seq":1,"success":true,"type":"response"}
+> {"seq":1,"type":"request","command":"disconnect"}
+< {"command":"disconnect","request_seq":1,"seq":2,"success":true,"type":"response"}
+"#;
+
+/// What is answered of these where the first number is 1.
+const FROM_ONE: &str = r#"
+< {"command":"disconnect","request_seq":1,"seq":1,"success":true,"type":"response"}
+"#;
+
+#[test]
+fn serves_clients_that_count_from_zero(rt: HostRuntime) {
+    let alloc = rt.alloc();
+    let input = frames(alloc, FROM_ZERO, SENT).expect(&rt, "memory");
+    for (first, answers) in [(FirstSeq::Zero, FROM_ZERO), (FirstSeq::One, FROM_ONE)] {
+        let expected = frames(alloc, answers, ANSWERED).expect(&rt, "memory");
+        let mut output = Vec::new(alloc);
+        let progress = Progress::new();
+        let result = serve_from(
+            &rt,
+            alloc,
+            first,
+            &mut Reading::new(&rt, input.as_slice()),
+            &mut Writing::new(&rt, &mut output),
+            &mut Files::everywhere(alloc, b""),
+            &mut SliceGate::new(&rt, Streams::WELL, &progress),
+            &mut Deaf,
+        );
+        assert!(rt; result.is_ok(), "{first:?}");
+        assert_eq!(rt; output.as_slice(), expected.as_slice(), "{first:?}");
+    }
 }

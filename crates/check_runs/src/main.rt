@@ -2,7 +2,7 @@
 //! with the file's name, and then the file's listing or, where there is none, the last line of standard error.
 #![tactic(auto)]
 
-use adapter::{FileLoader, Reading, Writing, execute};
+use adapter::{FileLoader, FirstSeq, Reading, Writing, execute};
 use std::env;
 
 /// Checks each file in turn, with what is said on standard error printed to standard output.
@@ -14,7 +14,15 @@ fn main(rt: HostRuntime) -> Result<(), anyhow::Error> {
         let arguments = ["pl0dap", "--check", file.as_str()];
         let input = &mut Reading::new(&rt, rt.stdin());
         let output = &mut Writing::new(&rt, rt.stdout());
-        execute(&rt, &arguments, &mut files, input, output, errors);
+        execute(
+            &rt,
+            FirstSeq::One,
+            &arguments,
+            &mut files,
+            input,
+            output,
+            errors,
+        );
     }
     Ok(())
 }

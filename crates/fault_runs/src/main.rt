@@ -2,13 +2,10 @@
 //! isn't on standard output.
 #![tactic(auto)]
 
-use adapter::{Reading, Writing, run};
+use adapter::{FirstSeq, run_process};
 use std::process::ExitCode;
 
 /// Does what the `main` of `pl0dap` does.
 fn main(rt: HostRuntime) -> ExitCode {
-    let input = &mut Reading::new(&rt, rt.stdin());
-    let output = &mut Writing::new(&rt, rt.stdout());
-    let errors = &mut Writing::new(&rt, rt.stderr());
-    ExitCode::from(run(&rt, input, output, errors).status())
+    run_process(&rt, FirstSeq::One, rt.stdin(), rt.stdout(), rt.stderr())
 }

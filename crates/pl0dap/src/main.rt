@@ -1,13 +1,10 @@
 //! `pl0dap`: a debug adapter for PL/0 over standard input and output. What it does is said in `adapter`.
 #![tactic(auto)]
 
-use adapter::{Reading, Writing, run};
+use adapter::{FirstSeq, run_process};
 use std::process::ExitCode;
 
 /// Serves or checks as the arguments ask, and exits with the status of how that ended.
 fn main(rt: HostRuntime) -> ExitCode {
-    let input = &mut Reading::new(&rt, rt.stdin());
-    let output = &mut Writing::new(&rt, rt.stdout());
-    let errors = &mut Writing::new(&rt, rt.stderr());
-    ExitCode::from(run(&rt, input, output, errors).status())
+    run_process(&rt, FirstSeq::One, rt.stdin(), rt.stdout(), rt.stderr())
 }

@@ -1,10 +1,10 @@
-//! Streams and a gate, each for a thread of its own. Who waits in vain fails.
+//! Streams and a gate, each for a thread of its own. A wait that is never met fails the test.
 
 ghost use Rattle.std.specs.Prelude.{ℕ, None};
 
 use crate::fakes::next_count;
 use crate::fakes::progress::{Hold, Progress};
-use adapter::{IoFault, Sink, Source};
+use adapter::{EndListener, IoFault, ServeFault, Served, Sink, Source};
 use dbg_runner::{Gate, GhostList};
 use std::alloc::Global;
 use std::process::Abort;
@@ -79,7 +79,7 @@ impl<'a, R: Abort> Input<'a, R> {
         }
     }
 
-    /// Whether what a read from here on waits for came.
+    /// Returns whether what a read from here on waits for has come.
     fn is_let_through(&self) -> bool {
         for cut in self.streams.cuts {
             if cut.at == self.at && !self.progress.reaches(cut.hold) {
@@ -89,7 +89,7 @@ impl<'a, R: Abort> Input<'a, R> {
         true
     }
 
-    /// How many bytes a read with so much room gives.
+    /// Returns how many bytes a read with this much room gives.
     fn count(&self, room: usize) -> usize {
         let mut end = self.bytes.len().min(self.streams.read_fails_at);
         for cut in self.streams.cuts {
@@ -127,6 +127,9 @@ impl<R: Abort> Source for Input<'_, R> {
     }
 }
 
+/// What stands in the frame of a stop.
+const STOPPED: &str = "\"event\":\"stopped\"";
+
 /// An output, which counts what was written.
 #[derive(Drop)]
 pub struct Output<'a, R: Abort> {
@@ -155,7 +158,7 @@ impl<'a, R: Abort> Output<'a, R> {
         }
     }
 
-    /// How many bytes a write takes of those that it is given.
+    /// Returns how many of the bytes that it is given a write takes.
     fn count(&self, length: usize) -> usize {
         if !self.progress.reaches(self.streams.write_hold) {
             return 0;
@@ -185,12 +188,15 @@ impl<R: Abort> Sink for Output<'_, R> {
                 Err(IoFault::Failed)
             };
         }
+        if str::from_utf8(&bytes[..count]).is_ok_and(|text| text.contains(STOPPED)) {
+            self.progress.note_stopped();
+        }
         self.progress.note_written(self.bytes.len());
         Ok(count)
     }
 }
 
-/// A gate that holds slice 1 of run 1; waiting in vain ends the test.
+/// A gate that holds slice 1 of run 1. A wait that is never met fails the test.
 #[derive(Drop)]
 pub struct SliceGate<'a, R: Abort> {
     rt: &'a R,
@@ -219,5 +225,27 @@ impl<R: Abort> Gate for SliceGate<'_, R> {
         }
         self.progress.note_slice();
         self.passed = self.passed.and(&(run, slice));
+    }
+}
+
+/// A listener that lets others see that it was told.
+#[derive(Drop)]
+pub struct Listener<'a> {
+    progress: &'a Progress,
+}
+
+impl<'a> Listener<'a> {
+    pub fn new(progress: &'a Progress) -> Listener<'a> {
+        Listener { progress }
+    }
+}
+
+impl EndListener for Listener<'_> {
+    ghost use Rattle.std.specs.Prelude.{⊤};
+
+    ghost tells = { λ _ _ _. ⊤ };
+
+    fn tell(&mut self, _outcome: Result<Served, ServeFault>) {
+        self.progress.note_told();
     }
 }

@@ -1,7 +1,10 @@
 use Rattle.adapter.proofs.InputTaken.{input_taken_whole, first_disconnect_closes}
 use Rattle.adapter.proofs.RunsEnd.{runs_end_once}
-use Rattle.adapter.proofs.SessionFaults.{nobody_is_gone, full_is_four}
+use Rattle.adapter.proofs.SessionFaults.{outcome_is_of_session, nobody_is_gone, full_is_four}
 use Rattle.adapter.proofs.laws.serving_laws.Goals as goal
+
+pub returns-clause-outcome : goal.returns-clause-outcome
+returns-clause-outcome c = outcome_is_of_session
 
 pub returns-clause-input : goal.returns-clause-input
 returns-clause-input c = input_taken_whole

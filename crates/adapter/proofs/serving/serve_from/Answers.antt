@@ -1,0 +1,142 @@
+use denote.Exit as Exit
+use denote.Param.Send as Send
+use Rattle.std.proofs.Common.{rules, ◌≡◌, ◌≢◌, [], ◌++◌, ap, ◌∙◌, subst}
+use Rattle.std.specs.List.{flat_map}
+use Rattle.dap_session.specs.Ports.{ports}
+use Rattle.dbg_runner.specs.Queues.{passed_in}
+use Rattle.dap_session.specs.Sending.{Begins}
+use Rattle.dap_wires.specs.Inbox.{client_events, received, sent_reports, taken_events}
+use Rattle.dap_wires.specs.Orders.{FourWereInside, pushed_orders, taken_orders}
+use Rattle.dap_wires.specs.Outbox.{put_frames, messages_put, messages_received, messages_taken}
+use Rattle.dap_wires.specs.Reading.{IsReadUntil}
+use Rattle.dap_wires.specs.Senders.{from_client, reports_among}
+use Rattle.byte_streams.specs.Streams.{supply, output as output_at}
+use Rattle.dap_wires.specs.Writing.{IsWrittenUntil}
+use Rattle.adapter.specs.Jobs.{Drove}
+use Rattle.adapter.specs.Serving.{World, world, streams, outcome_of, nothing_sent, IsDriven, drove}
+use Rattle.adapter.proofs.Crossing.{runner_task_send, runner_output_send, reader_task_send, reader_output_send}
+use Rattle.adapter.proofs.Gathered.{gathers, moved}
+use Rattle.adapter.proofs.serving.serve_from.Goals as goal
+
+pub returns-in-Ok-done-clause-served : goal.returns-in-Ok-done-clause-served
+returns-in-Ok-done-clause-served g c =
+    let ends = c.in-Ok-done.ends in
+    let closed = c.in-Ok-done.closed in
+    let facts : (Begins (reports_among (received ends.inbox)) (sent_reports c.in-Ok-done.reports))
+    × (Begins (from_client (received ends.inbox)) (client_events c.in-Ok-done.client))
+    × (Begins (messages_received c.in-Ok-done.written) (messages_put ends.outbox))
+    × (Begins (taken_orders c.in-Ok-done.taken) (pushed_orders ends.orders).orders)
+    × (c.outcome.result ≡ outcome_of c.in-Ok-done.wrote closed) × (c.in-Ok-done.input.now ≡ c.input-1.given.0)
+    × (c.in-Ok-done.output.now ≡ c.output-1.given.0) × (c.in-Ok-done.loader.now ≡ c.loader-1.given.0)
+    × (c.in-Ok-done.gate.now ≡ c.gate-1.given.0) × ((pushed_orders ends.orders).fulls ≢ 0
+    → FourWereInside (pushed_orders ends.orders).orders) = (
+      (c.reconcile.ensures.reports.0, search (rules, c.reconcile.ensures.reports.1)),
+      (c.reconcile.ensures.client.0, search (rules, c.reconcile.ensures.client.1)),
+      (c.reconcile.ensures.frames.0, search (rules, c.reconcile.ensures.frames.1)),
+      (c.reconcile.ensures.orders.0, search (rules, c.reconcile.ensures.orders.1)),
+      search (rules, c.outcome.ensures),
+      search rules,
+      search rules,
+      search rules,
+      search rules,
+      λ some. moved (c.reconcile.ensures.full (λ none. some (search (rules, none)))) (search rules),
+    ) in
+    let inbox_reports : Begins (reports_among (received ends.inbox)) (sent_reports c.in-Ok-done.reports) = facts.0 in
+    let inbox_client : Begins (from_client (received ends.inbox)) (client_events c.in-Ok-done.client) = facts.1 in
+    let outbox_taken : Begins (messages_received c.in-Ok-done.written) (messages_put ends.outbox) = facts.2 in
+    let orders_taken : Begins (taken_orders c.in-Ok-done.taken) (pushed_orders ends.orders).orders = facts.3 in
+    let answer : c.outcome.result ≡ outcome_of c.in-Ok-done.wrote closed = facts.4 in
+    let input : c.in-Ok-done.input.now ≡ c.input-1.given.0 = facts.5 in
+    let output : c.in-Ok-done.output.now ≡ c.output-1.given.0 = facts.6 in
+    let loader : c.in-Ok-done.loader.now ≡ c.loader-1.given.0 = facts.7 in
+    let gate : c.in-Ok-done.gate.now ≡ c.gate-1.given.0 = facts.8 in
+    let w = c.in-Ok-done.ensures.ok.0 in
+    let r = c.in-Ok-done.ensures.ok.1 in
+    let i = c.in-Ok-done.ensures.ok.2 in
+    let s = c.in-Ok-done.ensures.ok.3 in
+    let given_to = c.new-session.ensures in
+    let events : taken_events c.new-session.result.inbox ≡ [] =
+    ap taken_events given_to.inbox ∙ c.in-Ok.ensures.events in
+    let frames : put_frames c.new-session.result.outbox ≡ record { frames = []; refused = [] } =
+    ap put_frames given_to.outbox ∙ c.in-Ok-outbox.ensures.frames in
+    let orders : pushed_orders c.new-session.result.orders ≡ record { orders = []; fulls = 0; refusals = 0 } =
+    ap pushed_orders given_to.orders ∙ c.in-Ok-orders.ensures.pushed in
+    let ports_are : ports (put_frames c.new-session.result.outbox)
+    (pushed_orders c.new-session.result.orders) ≡ nothing_sent =
+    ap (λ w. ports w (pushed_orders c.new-session.result.orders)) frames
+    ∙ ap (λ o. ports (record { frames = []; refused = [] }) o) orders in
+    let fresh : Drove c.args.first closed [] (received ends.inbox) (g.L.Loader.loaded c.new-session.result.loader.now)
+    (g.L.Loader.loaded c.in-Ok-done.loader.now)
+    (ports (put_frames c.new-session.result.outbox) (pushed_orders c.new-session.result.orders))
+    (messages_put ends.outbox) (pushed_orders ends.orders) =
+    subst (λ given. Drove c.args.first closed given (received ends.inbox)
+    (g.L.Loader.loaded c.new-session.result.loader.now)
+    (g.L.Loader.loaded c.in-Ok-done.loader.now)
+    (ports (put_frames c.new-session.result.outbox) (pushed_orders c.new-session.result.orders))
+    (messages_put ends.outbox) (pushed_orders ends.orders)) events
+    (subst (λ f. Drove f closed (taken_events c.new-session.result.inbox) (received ends.inbox)
+    (g.L.Loader.loaded c.new-session.result.loader.now) (g.L.Loader.loaded c.in-Ok-done.loader.now)
+    (ports (put_frames c.new-session.result.outbox) (pushed_orders c.new-session.result.orders))
+    (messages_put ends.outbox) (pushed_orders ends.orders)) given_to.first s.5) in
+    let lent : Drove c.args.first closed [] (received ends.inbox) (g.L.Loader.loaded c.args.loader.now)
+    (g.L.Loader.loaded c.in-Ok-done.loader.now)
+    (ports (put_frames c.new-session.result.outbox) (pushed_orders c.new-session.result.orders))
+    (messages_put ends.outbox) (pushed_orders ends.orders) =
+    subst (λ l. Drove c.args.first closed [] (received ends.inbox) (g.L.Loader.loaded l)
+    (g.L.Loader.loaded c.in-Ok-done.loader.now)
+    (ports (put_frames c.new-session.result.outbox) (pushed_orders c.new-session.result.orders))
+    (messages_put ends.outbox) (pushed_orders ends.orders)) given_to.loader fresh in
+    let session : Drove c.args.first closed [] (received ends.inbox) (g.L.Loader.loaded c.args.loader.now)
+    (g.L.Loader.loaded c.in-Ok-done.loader.now) nothing_sent (messages_put ends.outbox) (pushed_orders ends.orders) =
+    subst (λ p. Drove c.args.first closed [] (received ends.inbox) (g.L.Loader.loaded c.args.loader.now)
+    (g.L.Loader.loaded c.in-Ok-done.loader.now) p (messages_put ends.outbox) (pushed_orders ends.orders)) ports_are
+    lent in
+    let client : client_events c.in-Ok-done.client ≡ i.2.0 =
+    i.2.1 ∙ ap (λ l. l ++ i.2.0) (ap client_events c.new-reader.ensures.inbox ∙ c.in-Ok.ensures.client.0) in
+    let taken : messages_received c.in-Ok-done.written ≡ w.3.0 =
+    w.3.1 ∙ ap (λ l. l ++ w.3.0) (ap messages_taken c.new-writer.ensures.outbox ∙ c.in-Ok-outbox.ensures.messages)
+    in
+    let read =
+    subst (λ x. IsReadUntil c.in-Ok-done.field-0-2-2 i.2.0 (supply (g.I.Source.left x) (g.I.Source.failures x))
+    (supply (g.I.Source.left c.in-Ok-done.input.now) (g.I.Source.failures c.in-Ok-done.input.now)))
+    c.new-reader.ensures.input i.2.2 in
+    let written =
+    subst (λ x. IsWrittenUntil c.in-Ok-done.wrote w.3.0 (output_at (g.O.Sink.written x) (g.O.Sink.failures x))
+    (output_at (g.O.Sink.written c.in-Ok-done.output.now) (g.O.Sink.failures c.in-Ok-done.output.now)))
+    c.new-writer.ensures.output w.3.2 in
+    let four : (pushed_orders ends.orders).fulls ≢ 0 → FourWereInside (pushed_orders ends.orders).orders = facts.9 in
+    let passed : g.G.Gate.passed c.in-Ok-done.gate.now ≡ g.G.Gate.passed c.args.gate.now ++ flat_map passed_in r.3.0 =
+    r.3.4 ∙ ap (λ x. g.G.Gate.passed x ++ flat_map passed_in r.3.0) c.new-runner.ensures.gate in
+    let before : World =
+    world (g.L.Loader.loaded c.args.loader.now) (g.G.Gate.passed c.args.gate.now)
+    (streams (g.I.Source.left c.args.input.now) (g.I.Source.failures c.args.input.now)
+    (g.O.Sink.written c.args.output.now) (g.O.Sink.failures c.args.output.now)) in
+    let after : World =
+    world (g.L.Loader.loaded c.in-Ok-done.loader.now) (g.G.Gate.passed c.in-Ok-done.gate.now)
+    (streams (g.I.Source.left c.in-Ok-done.input.now) (g.I.Source.failures c.in-Ok-done.input.now)
+    (g.O.Sink.written c.in-Ok-done.output.now) (g.O.Sink.failures c.in-Ok-done.output.now)) in
+    let driven : IsDriven c.args.first c.in-Ok-done.wrote closed before after =
+    gathers c.args.first c.in-Ok-done.wrote closed before after (received ends.inbox) (messages_put ends.outbox)
+    (pushed_orders ends.orders) _ i.2.0 r.3.0 _ (taken_orders c.in-Ok-done.taken) w.3.0
+    session read
+    (subst (λ l. Begins (from_client (received ends.inbox)) l) client inbox_client)
+    r.3.1 r.3.2 r.3.3
+    orders_taken four inbox_reports passed written
+    (subst (λ l. Begins l (messages_put ends.outbox)) taken outbox_taken) in
+    drove c.in-Ok-done.wrote closed answer (rw (input, output, loader, gate) at driven)
+
+pub run_beside-done-requires-send-T : goal.run_beside-done-requires-send-T
+run_beside-done-requires-send-T g c κs within =
+    Send.param_send 2 _ (Send.arg_send _ Exit.no _ (runner_task_send _ _ _ c.type_bounds.send-G c.type_bounds.send-R))
+
+pub run_beside-done-requires-send-U : goal.run_beside-done-requires-send-U
+run_beside-done-requires-send-U g c κs within =
+    Send.param_send 3 _ (Send.arg_send _ Exit.no _ (reader_task_send _ _ _ c.type_bounds.send-I c.type_bounds.send-R))
+
+pub run_beside-done-requires-send-B : goal.run_beside-done-requires-send-B
+run_beside-done-requires-send-B g c κs within =
+    Send.param_send 7 _ (Send.arg_send _ Exit.no _ (runner_output_send _ _ _ c.type_bounds.send-G c.type_bounds.send-R))
+
+pub run_beside-done-requires-send-C : goal.run_beside-done-requires-send-C
+run_beside-done-requires-send-C g c κs within =
+    Send.param_send 8 _ (Send.arg_send _ Exit.no _ (reader_output_send _ _ _ c.type_bounds.send-I c.type_bounds.send-R))

@@ -1,0 +1,101 @@
+//! Telling how serving ended as soon as that is known.
+
+ghost use Rattle.std.specs.Prelude.{◌≡◌};
+ghost use Rattle.adapter.specs.Serving.{outcome_of};
+
+use crate::jobs::SessionEnds;
+use crate::serving::{ServeFault, Served, outcome};
+use crate::tasks::Witness;
+use dap_session::{Closed, SessionFault};
+use dap_wires::{ReceiveLog, WriteFailed, WriterMessage};
+use std::sync::Wait;
+
+/// Is told how serving ended.
+pub trait EndListener {
+    ghost use Rattle.std.specs.Prelude.{Result};
+    ghost use Rattle.adapter.specs.declared.serving.Served.{Served};
+    ghost use Rattle.adapter.specs.declared.serving.ServeFault.{ServeFault};
+
+    /// What holds of the listener before and after it is told an outcome.
+    ghost tells: { Self → Self → Result Served ServeFault → Type 0 };
+
+    /// Takes the outcome.
+    fn tell(&mut self, outcome: Result<Served, ServeFault>)
+        ensures { tells self.old self.new outcome };
+}
+
+/// A listener that does nothing.
+#[derive(Drop)]
+pub struct Deaf;
+
+impl EndListener for Deaf {
+    ghost use Rattle.std.specs.Prelude.{⊤};
+
+    ghost tells = { λ _ _ _. ⊤ };
+
+    fn tell(&mut self, _outcome: Result<Served, ServeFault>) {}
+}
+
+/// Tells the listener how serving ended, and returns that.
+pub(crate) fn tell<E: EndListener>(
+    listener: &mut E,
+    outcome: Result<Served, ServeFault>,
+) -> Result<Served, ServeFault>
+    ensures same { result ≡ outcome }
+    ensures told { E.tells listener.old listener.new outcome }
+{
+    listener.tell(outcome);
+    outcome
+}
+
+/// A witness of how the writer and the session ended, which tells a listener that was lent.
+#[derive(Drop)]
+pub(crate) struct Telling<'a, E> {
+    listener: &'a mut E,
+}
+
+impl<'a, E> Telling<'a, E> {
+    /// A witness that tells `listener`.
+    pub(crate) fn new(listener: &'a mut E) -> Telling<'a, E>
+        ensures same_listener { result.listener.ghost_name ≡ listener.entry.ghost_name }
+        ensures listener { result.listener.now ≡ listener.old }
+    {
+        Telling { listener }
+    }
+
+    /// Returns the listener, which wasn't told.
+    pub(crate) fn into_listener(self) -> &'a mut E
+        ensures same_listener { result.ghost_name ≡ self.entry.listener.ghost_name }
+        ensures listener { result.now ≡ self.entry.listener.now }
+    {
+        self.listener
+    }
+}
+
+impl<'a, 'o, 'l, O, L, R: Wait + Drop, E: EndListener> Witness<
+    (
+        &'o mut O,
+        ReceiveLog<WriterMessage>,
+        Result<(), WriteFailed>,
+    ),
+    (&'l mut L, SessionEnds<R>, Result<Closed, SessionFault>),
+> for Telling<'a, E> {
+    type Output = &'a mut E;
+
+    ghost sees = { λ w writer session listener. (listener.ghost_name ≡ w.listener.ghost_name)
+        × E.tells w.listener.now listener.now (outcome_of writer.2 session.2) };
+
+    fn see(
+        self,
+        writer: &(
+            &'o mut O,
+            ReceiveLog<WriterMessage>,
+            Result<(), WriteFailed>,
+        ),
+        session: &(&'l mut L, SessionEnds<R>, Result<Closed, SessionFault>),
+    ) -> &'a mut E {
+        let Telling { listener } = self;
+        listener.tell(outcome(&writer.2, &session.2));
+        listener
+    }
+}
