@@ -1,0 +1,350 @@
+-- What a run of a machine writes, up to a step that writes a number, faults or ends the program.
+use Rattle.std.proofs.Common.{◌≡◌, ℕ, zero, suc, ◌+◌, ◌-◌, ◌<◌, ◌≤◌, Bool, true, false, cond, List, [], ◌∷◌, ◌++◌, length, Option, None, Some, ℤ, Result, Ok, Err, refl, sym, ◌∙◌, ap, subst, arith, append_assoc, append-nil, add-one}
+use Rattle.std.specs.Prelude.{nat_eq, nat_lt, option_and_then, option_to_list}
+use Rattle.std.specs.Option.{option_map_or}
+use Rattle.std.specs.Fmt.{signed_decimal}
+use Rattle.pl0_tree.specs.Tree.{Statement, Empty, Then, Assign, Call, Write, If, While, Block}
+use Rattle.pl0_meaning.specs.declared.RunFault.{RunFault}
+use Rattle.pl0_tree.specs.Scope.{home}
+use Rattle.pl0_meaning.specs.declared.RunFault.TheVariants.{Depth, StepLimit}
+use Rattle.pl0_meaning.specs.Values.{Frame, Configuration, value, truth}
+use Rattle.pl0_meaning.specs.Linking.{at_next}
+use Rattle.pl0_meaning.specs.Runs.{Outcome, Goes, Faults, Over, at, led_to, outcome, step_at, step, frame_step, statement_step, on_value, entered, callee, assigned, doing, opened, frame_limit, last_position, written, written_by, written_from}
+use Rattle.pl0_machine.specs.declared.outcome.StepOutcome.{StepOutcome}
+use Rattle.pl0_machine.specs.declared.outcome.StepOutcome.TheVariants.{Went, Done, Fault}
+use Rattle.pl0_machine.specs.Machine.{Standing, program, frames_of, depth_of, outcome_of, told, Stepped}
+use Rattle.pl0_machine.specs.Stretches.{ahead, Stretches, RanOn}
+use Rattle.pl0_tool.specs.Running.{number_lines, lines_between, told_numbers, Ran, IsLast, HasRun}
+use Rattle.pl0_tool.specs.Pending.{Holds}
+use Rattle.pl0_tool.specs.declared.running.RunEnd.TheVariants.{Ended, Faulted, WriteFailed}
+use Rattle.byte_streams.specs.Streams.{Output, WritesAll, FailsIn}
+
+-- ---- lines
+
+pub lines-append : (xs ys : List ℤ) → number_lines (xs ++ ys) ≡ number_lines xs ++ number_lines ys
+lines-append [] ys = refl
+lines-append (x ∷ xs) ys =
+    ap (λ l. signed_decimal x ++ (10 ∷ l)) (lines-append xs ys)
+    ∙ sym (append_assoc (signed_decimal x) (10 ∷ number_lines xs) (number_lines ys))
+
+-- ---- numbers
+
+written_from-suc : (main : Block) (a n : ℕ) → written_from main a (suc n) ≡ written_from main a n
+    ++ written_by (outcome main (a + n))
+written_from-suc main a zero =
+    let e : a ≡ a + 0 = omega arith in
+    append-nil (written_by (outcome main a)) ∙ ap (λ k. written_by (outcome main k)) e
+written_from-suc main a (suc n) =
+    let e : a + 1 + n ≡ a + suc n = omega arith in
+    let here = written_by (outcome main a) in
+    ap (λ ws. here ++ ws) (written_from-suc main (a + 1)
+    n ∙ ap (λ k. written_from main (a + 1) n ++ written_by (outcome main k)) e)
+    ∙ sym (append_assoc here (written_from main (a + 1) n) (written_by (outcome main (a + suc n))))
+
+written-next : (main : Block) (a b : ℕ) → a ≤ b → written main a (b + 1) ≡ written main a b
+    ++ written_by (outcome main b)
+written-next main a b le =
+    let more : b + 1 - a ≡ (b - a) + 1 = omega arith in
+    let there : a + (b - a) ≡ b = omega arith in
+    ap (λ n. written_from main a n) more ∙ rw add-one (written_from-suc main a (b - a))
+    ∙ ap (λ k. written_from main a (b - a) ++ written_by (outcome main k)) there
+
+-- steps that write nothing
+pub silent_steps : (main : Block) (a b n : ℕ) → a ≤ b
+    → ((k : ℕ) → k < n → written_by (outcome main (b + k)) ≡ [])
+    → written main a (b + n) ≡ written main a b
+silent_steps main a b zero le silent = let e : b + 0 ≡ b = omega arith in ap (λ k. written main a k) e
+silent_steps main a b (suc n) le silent =
+    let e : b + suc n ≡ (b + n) + 1 = omega arith in
+    let more : a ≤ b + n = omega arith in
+    let last : n < suc n = omega arith in
+    ap (λ k. written main a k) e
+    ∙ written-next main a (b + n) more
+    ∙ ap (λ l. written main a (b + n) ++ l) (silent n last)
+    ∙ append-nil (written main a (b + n))
+    ∙ silent_steps main a b n le (λ k lt. silent k (omega arith))
+
+-- ---- a step that leads to no frames writes nothing
+
+abbrev WritesFirst : Outcome → Type 0
+WritesFirst (Goes (Some v) []) = ⊥
+WritesFirst (Goes (Some v) (f ∷ below)) = Unit {0}
+WritesFirst (Goes None c) = Unit {0}
+WritesFirst (Faults fault) = Unit {0}
+WritesFirst Over = Unit {0}
+
+on_some : (r : Result ℤ RunFault) (f : Frame) (below : Configuration)
+    → WritesFirst (on_value r (λ v. Goes (Some v) (f ∷ below)))
+on_some (Err fault) f below = tt
+on_some (Ok v) f below = tt
+
+on_none : {A : Type 0} (r : Result A RunFault) (g : A → Configuration)
+    → WritesFirst (on_value r (λ v. Goes None (g v)))
+on_none (Err fault) g = tt
+on_none (Ok v) g = tt
+
+enters : (b : Bool) (c : Configuration) → WritesFirst (cond b (Goes None c) (Faults Depth))
+enters true c = tt
+enters false c = tt
+
+calls : (o : Option Frame) (c : Configuration) → WritesFirst (option_map_or (entered c) o Over)
+calls None c = tt
+calls (Some f) c = enters (nat_lt (length c) frame_limit) (f ∷ c)
+
+of_statement : (main : Block) (f : Frame) (below : Configuration) (s : Statement) (rest : List Statement)
+    → WritesFirst (statement_step main f below s rest)
+of_statement main f below (Assign x e) rest =
+    on_none (value main (f ∷ below) (length below) e)
+    (λ v. assigned (doing f rest ∷ below) (home main f.block x.word) v)
+of_statement main f below (Write p e) rest = on_some (value main (f ∷ below) (length below) e) (doing f rest) below
+of_statement main f below (If p test s) rest =
+    on_none (truth main (f ∷ below) (length below) test)
+    (λ holds. doing f (cond holds (opened s ++ rest) rest) ∷ below)
+of_statement main f below (While p test s) rest =
+    on_none (truth main (f ∷ below) (length below) test)
+    (λ holds. doing f (cond holds (opened s ++ (While p test s ∷ rest)) rest) ∷ below)
+of_statement main f below (Call p x) rest =
+    calls (option_and_then (λ h. callee main (f ∷ below) h.path h.declaration.meaning) (home main f.block x.word))
+    (f ∷ below)
+of_statement main f below Empty rest = tt
+of_statement main f below (Then s t) rest = tt
+
+of_frame : (main : Block) (f : Frame) (below : Configuration) (todo : List Statement)
+    → WritesFirst (frame_step main f below todo)
+of_frame main f below [] = tt
+of_frame main f below (s ∷ rest) = of_statement main f below s rest
+
+of_step : (main : Block) (c : Configuration) → WritesFirst (step main c)
+of_step main [] = tt
+of_step main (f ∷ below) = of_frame main f below f.todo
+
+of_position : (main : Block) (b : Bool) (c : Configuration) → WritesFirst (cond b (Faults StepLimit) (step main c))
+of_position main true c = tt
+of_position main false c = of_step main c
+
+of_outcome : (main : Block) (n : ℕ) (o : Option Configuration) → WritesFirst (option_map_or (step_at main n) o Over)
+of_outcome main n None = tt
+of_outcome main n (Some c) = of_position main (nat_eq n last_position) c
+
+-- ---- what a step tells, and what it wrote
+
+wrote_last : (number : Option ℤ) → WritesFirst (Goes number []) → option_to_list number ≡ []
+wrote_last None first = refl
+wrote_last (Some v) first = absurd first
+
+step_wrote : (a : ℕ) (last new : Standing) (told : StepOutcome) → a ≤ last.position
+    → Stepped (outcome_of last) last told new
+    → written (program last) a new.position ≡ written (program last) a last.position ++ told_numbers told
+step_wrote a last new told le stepped = by_outcome (outcome_of last) refl stepped
+  where
+    main : Block
+    main = program last
+
+    onward : (number : Option ℤ) (c : Configuration) → outcome_of last ≡ Goes number c
+        → new ≡ record last { position = last.position + 1 }
+        → written (program last) a new.position ≡ written (program last) a last.position ++ option_to_list number
+    onward number c is led =
+        ap (λ (m : Standing). written (program last) a m.position) led
+        ∙ written-next (program last) a last.position le
+        ∙ ap (λ o. written (program last) a last.position ++ written_by o) is
+
+    by_outcome : (o : Outcome) → outcome_of last ≡ o → Stepped o last told new
+        → written (program last) a new.position ≡ written (program last) a last.position ++ told_numbers told
+    by_outcome (Goes number []) is s =
+        let first = subst WritesFirst is (of_outcome (program last) last.position (at (program last) last.position)) in
+        onward number [] is s.1
+        ∙ ap (λ l. written (program last) a last.position ++ l) (wrote_last number first)
+        ∙ ap (λ t. written (program last) a last.position ++ told_numbers t) (sym s.0)
+    by_outcome (Goes number (f ∷ below)) is s =
+        onward number (f ∷ below) is s.1
+        ∙ ap (λ t. written (program last) a last.position ++ told_numbers t) (sym s.0)
+    by_outcome (Faults fault) is s =
+        ap (λ (m : Standing). written (program last) a m.position) s.1
+        ∙ sym (append-nil (written (program last) a last.position))
+        ∙ ap (λ t. written (program last) a last.position ++ told_numbers t) (sym s.0)
+    by_outcome Over is s = absurd s
+
+step_ahead : (last new : Standing) (told : StepOutcome) → Stepped (outcome_of last) last told new
+    → (n : ℕ) × (new ≡ ahead last n)
+step_ahead last new told stepped = by_outcome (outcome_of last) stepped
+  where
+    by_outcome : (o : Outcome) → Stepped o last told new → (n : ℕ) × (new ≡ ahead last n)
+    by_outcome (Goes number c) s = (1, s.1)
+    by_outcome (Faults fault) s =
+        let e : last.position ≡ last.position + 0 = omega arith in
+        (0, s.1 ∙ ap (λ p. record last { position = p }) e)
+    by_outcome Over s = absurd s
+
+-- ---- many steps
+
+pub ahead-ahead : (m : Standing) (i j : ℕ) → ahead (ahead m i) j ≡ ahead m (i + j)
+ahead-ahead m i j =
+    let e : m.position + i + j ≡ m.position + (i + j) = omega arith in ap (λ p. record m { position = p }) e
+
+-- steps that write nothing, and one more
+ran_after : (old new : Standing) (told : StepOutcome) (n : ℕ)
+    → ((k : ℕ) → k < n → written_by (outcome (program old) (old.position + k)) ≡ [])
+    → Stepped (outcome_of (ahead old n)) (ahead old n) told new
+    → Ran old new told
+ran_after old new told n silent stepped =
+    let more = step_ahead (ahead old n) new told stepped in record {
+      wrote = λ a le.
+          let further : a ≤ old.position + n = omega arith in
+          step_wrote a (ahead old n) new told further stepped
+          ∙ ap (λ l. l ++ told_numbers told) (silent_steps (program old) a old.position n le silent);
+      before = n;
+      last = stepped;
+      steps = n + more.0;
+      led = more.1 ∙ ahead-ahead old n more.0;
+    }
+
+pub ran_step : (old new : Standing) (told : StepOutcome) → Stepped (outcome_of old) old told new → Ran old new told
+ran_step old new told stepped =
+    let e : old.position ≡ old.position + 0 = omega arith in
+    let here : old ≡ ahead old 0 = ap (λ p. record old { position = p }) e in
+    ran_after old new told 0 (λ k lt. absurd (omega arith))
+    (subst (λ (m : Standing). Stepped (outcome_of m) m told new) here stepped)
+
+pub ran_stretch : (old mid new : Standing) (told : StepOutcome) → Stretches None old mid
+    → Stepped (outcome_of mid) mid told new
+    → Ran old new told
+ran_stretch old mid new told s stepped =
+    ran_after old new told s.steps (λ k lt. (s.passed k lt).silent)
+    (subst (λ (m : Standing). Stepped (outcome_of m) m told new) s.led stepped)
+
+pub ran_on : (limit : ℕ) (old new : Standing) (told : StepOutcome) → RanOn limit None old (Some told) new
+    → Ran old new told
+ran_on limit old new told r = ran_stretch old r.0 new told r.1 r.3
+
+-- ---- the last step
+
+done_is : (last new : Standing) → Stepped (outcome_of last) last Done new → IsLast last × (new ≡ ahead last 1)
+done_is last new stepped = by_outcome (outcome_of last) refl stepped
+  where
+    by_outcome : (o : Outcome) → outcome_of last ≡ o → Stepped o last Done new → IsLast last × (new ≡ ahead last 1)
+    by_outcome (Goes number []) is s = ((number, is), s.1)
+    by_outcome (Goes number (f ∷ below)) is s = let other : Done ≡ Went number = s.0 in cc
+    by_outcome (Faults fault) is s = let other : Done ≡ Fault fault = s.0 in cc
+    by_outcome Over is s = absurd s
+
+pub fault_is : (last new : Standing) (fault : RunFault) → Stepped (outcome_of last) last (Fault fault) new
+    → outcome_of new ≡ Faults fault
+fault_is last new fault stepped = by_outcome (outcome_of last) refl stepped
+  where
+    by_outcome : (o : Outcome) → outcome_of last ≡ o → Stepped o last (Fault fault) new → outcome_of new ≡ Faults fault
+    by_outcome (Goes number []) is s = let other : Fault fault ≡ Done = s.0 in cc
+    by_outcome (Goes number (f ∷ below)) is s = let other : Fault fault ≡ Went number = s.0 in cc
+    by_outcome (Faults other) is s =
+        let same : other ≡ fault = let e : Fault fault ≡ Fault other = s.0 in cc in
+        ap (λ (m : Standing). outcome_of m) s.1 ∙ is ∙ ap Faults same
+    by_outcome Over is s = absurd s
+
+-- after a step that goes on the program runs
+pub runs_on : (last new : Standing) (number : Option ℤ) → Stepped (outcome_of last) last (Went number) new
+    → 0 < depth_of new
+runs_on last new number stepped = by_outcome (outcome_of last) refl stepped
+  where
+    by_outcome : (o : Outcome) → outcome_of last ≡ o → Stepped o last (Went number) new → 0 < depth_of new
+    by_outcome (Goes number' []) is s = let other : Went number ≡ Done = s.0 in cc
+    by_outcome (Goes number' (f ∷ below)) is s =
+        let there : at (program last) (last.position + 1) ≡ Some (f ∷ below) =
+        at_next (program last) last.position ∙ ap led_to is in
+        let some : 0 < length (f ∷ below) = omega arith in
+        subst (λ (m : Standing). 0 < depth_of m) (sym s.1) (subst (λ o. 0 < length (frames_of o)) (sym there) some)
+    by_outcome (Faults fault) is s = let other : Went number ≡ Fault fault = s.0 in cc
+    by_outcome Over is s = absurd s
+
+-- ---- a run up to now, and on
+
+abbrev pub Came : Standing → Standing → Type 0
+Came start now = (steps : ℕ) × (now ≡ ahead start steps)
+
+pub came_none : (start : Standing) → Came start start
+came_none start =
+    let e : start.position ≡ start.position + 0 = omega arith in (0, ap (λ p. record start { position = p }) e)
+
+abbrev CameOn : Standing → Standing → StepOutcome → Standing → Type 0
+CameOn start new told m = Ran m new told → Came start new
+
+pub came_on : (start now new : Standing) (told : StepOutcome) → Came start now → Ran now new told → Came start new
+came_on start now new told came r = subst (CameOn start new told) (sym came.1) at r
+  where
+    at : CameOn start new told (ahead start came.0)
+    at ran = (came.0 + ran.steps, ran.led ∙ ahead-ahead start came.0 ran.steps)
+
+abbrev WroteOn : Standing → Standing → StepOutcome → Standing → Type 0
+WroteOn start new told m =
+    Ran m new told → lines_between start new ≡ lines_between start m ++ number_lines (told_numbers told)
+
+pub wrote_on : (start now new : Standing) (told : StepOutcome) → Came start now → Ran now new told
+    → lines_between start new ≡ lines_between start now ++ number_lines (told_numbers told)
+wrote_on start now new told came r = subst (WroteOn start new told) (sym came.1) at r
+  where
+    at : WroteOn start new told (ahead start came.0)
+    at ran =
+        let le : start.position ≤ start.position + came.0 = omega arith in
+        ap number_lines (ran.wrote start.position le)
+        ∙ lines-append (written (program start) start.position (start.position + came.0)) (told_numbers told)
+
+pub wrote_none : (start : Standing) → lines_between start start ≡ []
+wrote_none start =
+    let e : start.position - start.position ≡ 0 = omega arith in
+    ap (λ n. number_lines (written_from (program start) start.position n)) e
+
+abbrev EndsSo : Standing → Standing → Output → Output → Standing → Type 0
+EndsSo start new before after m = Ran m new Done → HasRun Ended start new before after
+
+pub ended_so : (start now new : Standing) (before after : Output) → Came start now → Ran now new Done
+    → WritesAll (lines_between start new) before after
+    → HasRun Ended start new before after
+ended_so start now new before after came r wrote = subst (EndsSo start new before after) (sym came.1) at r
+  where
+    at : EndsSo start new before after (ahead start came.0)
+    at ran =
+        let is = done_is (ahead (ahead start came.0) ran.before) new ran.last in (
+          ahead (ahead start came.0) ran.before,
+          came.0 + ran.before,
+          ahead-ahead start came.0 ran.before,
+          is.0,
+          is.1,
+          wrote,
+        )
+
+pub faulted_so : (start now new : Standing) (fault : RunFault) (before after : Output) → Came start now
+    → Ran now new (Fault fault)
+    → WritesAll (lines_between start new) before after
+    → HasRun (Faulted fault) start new before after
+faulted_so start now new fault before after came r wrote =
+    let more = came_on start now new (Fault fault) came r in (
+      more.0,
+      more.1,
+      fault_is (ahead now r.before) new fault r.last,
+      wrote,
+    )
+
+pub failed_so : (start now new : Standing) (told : StepOutcome) (before after : Output) → Came start now
+    → Ran now new told
+    → FailsIn (lines_between start new) before after
+    → HasRun WriteFailed start new before after
+failed_so start now new told before after came r failed =
+    let more = came_on start now new told came r in (more.0, more.1, failed)
+
+-- after a number the program runs
+pub running_on : (now new : Standing) (number : Option ℤ) → Ran now new (Went number) → 0 < depth_of new
+running_on now new number r = runs_on (ahead now r.before) new number r.last
+
+-- the lines of one number
+pub one_line : (v : ℤ) → number_lines (told_numbers (Went (Some v))) ≡ signed_decimal v ++ (10 ∷ [])
+one_line v = refl
+
+-- what is pending stays so over steps that tell no number
+pub held_on : (start now new : Standing) (told : StepOutcome) (before out : Output) (pending : List ℕ)
+    → told_numbers told ≡ [] → Came start now
+    → Ran now new told
+    → Holds before out pending (lines_between start now)
+    → Holds before out pending (lines_between start new)
+held_on start now new told before out pending none came r held =
+    subst (Holds before out pending)
+    (sym (wrote_on start now new told came r
+    ∙ ap (λ l. lines_between start now ++ number_lines l) none
+    ∙ append-nil (lines_between start now))) held

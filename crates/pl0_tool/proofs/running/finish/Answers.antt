@@ -1,0 +1,7 @@
+use Rattle.std.proofs.Common.{refl, inr}
+use Rattle.pl0_tool.proofs.PendingBytes.{holds_failed_last}
+use Rattle.pl0_tool.proofs.running.finish.Goals as goal
+
+pub returns-else-flush : goal.returns-else-flush
+returns-else-flush g c before text held =
+    inr (refl, holds_failed_last before _ _ _ text held c.if-flush.ensures.flushed)

@@ -1,0 +1,29 @@
+use Rattle.std.proofs.Common.{sym, subst}
+use Rattle.pl0_tool.proofs.RunLines.{came_none}
+use Rattle.pl0_tool.proofs.TracedRows.{IsStop, came_to, goes_further, never_there}
+use Rattle.pl0_tool.proofs.tracing.go_to.Goals as goal
+
+pub numbers-init : goal.numbers-init
+numbers-init g c = (c.requires.alive, c.requires.within, came_none c.args.machine.now)
+
+pub returns-in-None-run : goal.returns-in-None-run
+returns-in-None-run g c =
+    came_to c.args.machine.now c.numbers.machine c.run.new.self c.args.position c.numbers.invariant.2
+    c.in-None-run.ensures
+
+pub numbers-preserved : goal.numbers-preserved
+numbers-preserved g c =
+    goes_further c.args.machine.now c.numbers.machine c.run.new.self c.args.position c.in-Some-Went.field-0
+    c.in-Some-Went.field-0-is c.numbers.invariant.2 c.in-Some-Went.ensures
+
+pub returns-in-Some-Done : goal.returns-in-Some-Done
+returns-in-Some-Done g c =
+    never_there c.args.machine.now c.numbers.machine c.run.new.self c.args.position c.in-Some-Done.field-0
+    c.numbers.invariant.2 c.in-Some-Done.ensures
+    (subst IsStop (sym c.in-Some-Done.field-0-is) tt)
+
+pub returns-in-Some-Fault : goal.returns-in-Some-Fault
+returns-in-Some-Fault g c =
+    never_there c.args.machine.now c.numbers.machine c.run.new.self c.args.position c.in-Some-Fault.field-0
+    c.numbers.invariant.2 c.in-Some-Fault.ensures
+    (subst IsStop (sym c.in-Some-Fault.field-0-is) tt)

@@ -1,0 +1,12 @@
+use Rattle.std.proofs.Common.{◌≡◌, ◌<◌, ◌+◌, length}
+use Rattle.pl0_machine.specs.Machine.{depth_of}
+use Rattle.pl0_tool.specs.Tracing.{at_position}
+use Rattle.pl0_tool.proofs.TracedRows.{TellPositions}
+use Rattle.pl0_tool.proofs.tracing.rows_of.Given as goal
+
+abbrev pub invariant-loop-index : goal.invariant-loop-index
+invariant-loop-index l =
+    (0 < depth_of l.machine)
+    × (l.machine ≡ at_position l.initial.machine (l.initial.machine.position + l.index))
+    × (length l.rows.items ≡ l.index)
+    × TellPositions l.initial.machine l.initial.machine.position l.rows.items

@@ -1,0 +1,11 @@
+use Rattle.std.proofs.Common.{subst, IfOk}
+use Rattle.pl0_machine.specs.Machine.{Standing}
+use Rattle.pl0_tool.specs.Tracing.{AreRows}
+use Rattle.pl0_tool.proofs.TracedRows.{told_from}
+use Rattle.pl0_tool.proofs.tracing.trace.Goals as goal
+
+pub returns-then-go_to : goal.returns-then-go_to
+returns-then-go_to g c =
+    told_from c.args.machine.now c.args.from c.args.count c.rows_of.result
+    (subst (λ (m : Standing). IfOk c.rows_of.result (λ rows. AreRows m m.position c.args.count rows.items))
+    c.if-go_to.ensures.1 c.rows_of.ensures)
