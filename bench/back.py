@@ -9,6 +9,8 @@ compiled without optimization, is recorded for a few thousand turns, since recor
 instruction; then gdb steps back. Times are from before a request is written to after the last message that it causes. It needs
 gdb, with Python, and clang.
 """
+from __future__ import annotations
+
 import json
 import os
 import statistics
@@ -68,7 +70,7 @@ print("RECORD", run, instructions, kept, min(steps))
 
 def stopped(client: session.Client) -> None:
     """Waits for the next stop."""
-    while json.loads(client.receive()).get("event") != "stopped":
+    while json.loads(client.content()).get("event") != "stopped":
         pass
 
 
@@ -76,7 +78,7 @@ def seconds(client: session.Client, command: str, arguments: dict) -> float:
     """From a request to the stop that it leads to."""
     frame = client.framed(command, arguments)
     begin = time.perf_counter()
-    client.send(frame)
+    client.put(frame)
     stopped(client)
     return time.perf_counter() - begin
 
@@ -110,9 +112,9 @@ def go_back(program: str, folder: str) -> None:
 def log(program: str, folder: str) -> None:
     client = client_of(program, folder, LOGS, {"line": LOG_LINE, "logMessage": "x is {x}"})
     begin = time.perf_counter()
-    client.send(client.framed("configurationDone", {}))
+    client.put(client.framed("configurationDone", {}))
     logged = 0
-    while (message := json.loads(client.receive())).get("event") != "exited":
+    while (message := json.loads(client.content())).get("event") != "exited":
         logged += message.get("body", {}).get("output", "").count("x is ")
     taken = time.perf_counter() - begin
     client.end()

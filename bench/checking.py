@@ -7,6 +7,8 @@ Each text is lawful. What is looked at is the growth: twice the text is to take 
 the program's start is taken off. In the shapes `deeper` and `farther` the nesting grows with the text, up to its limit
 of 64 levels.
 """
+from __future__ import annotations
+
 import os
 import resource
 import subprocess

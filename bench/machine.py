@@ -7,6 +7,8 @@ PROGRAM is pl0dap, whose `--check` gives the code to the C interpreter; SPEED is
 Both run each of bench/programs to its end, in turn, so that whatever else the computer does slows both. The figures to hold are
 5 times the C interpreter's steps a second for `count`, 4.5 for `links` and 1.5 for `divide`.
 """
+from __future__ import annotations
+
 import os
 import re
 import subprocess

@@ -1,6 +1,6 @@
 #!/usr/bin/env python3
 """Times debug sessions: the start, the answers at a stop, many requests at once, pauses, the way to the next stop, and runs under
-a breakpoint; and looks at the memory at a stop.
+a breakpoint; looks at the memory at a stop; and counts the outputs that come before a pause takes effect.
 
 usage: session.py PROGRAM [SPEED]
 
@@ -11,6 +11,8 @@ before the request is written, or the process is started, to after the last mess
 stand a C interpreter of the same code, and the program `speed` where it is given. It needs clang, and valgrind for the
 instructions.
 """
+from __future__ import annotations
+
 import dataclasses
 import functools
 import itertools
@@ -27,6 +29,9 @@ import threading
 import time
 
 HERE = os.path.dirname(os.path.abspath(__file__))
+sys.path.insert(0, os.path.join(HERE, "..", "checks"))
+import client as protocol  # noqa: E402
+
 STARTS = 200
 MANY = 200
 FEW = 20
@@ -44,51 +49,39 @@ PIPELINED = (25_000, 100_000)
 PIPELINED_TURNS = 5
 # How long a program runs before it is paused.
 MOMENT = 0.001
+# How often a loop prints in each turn, and how long a client that reads slowly rests.
+PRINTS = 300
+REST = 0.02
 # How much is taken from a pipe at once, at most.
 PIECE = 1 << 20
 
 
-class Client:
-    """A process that frames are sent to."""
+class Client(protocol.Client):
+    """A client that does nothing but read and write, so that little of what is timed is its own."""
 
     def __init__(self, command: list[str], folder: str) -> None:
-        pipe, null = subprocess.PIPE, subprocess.DEVNULL
-        self.process = subprocess.Popen(command, stdin=pipe, stdout=pipe, stderr=null, bufsize=0, cwd=folder)
-        self.seq = 0
-        self.came = bytearray()
+        super().__init__(command, folder, wait=None, stderr=subprocess.DEVNULL)
 
-    def take(self) -> None:
-        piece = os.read(self.process.stdout.fileno(), PIECE)
-        if not piece:
-            sys.exit(f"{self.process.args} ended with status {self.process.wait()}")
-        self.came += piece
+    def more(self) -> bool:
+        piece = os.read(self.child.stdout.fileno(), PIECE)
+        self.frames.take(piece)
+        return piece != b""
 
-    def receive(self) -> bytes:
-        """The next content."""
-        while (head := self.came.find(b"\r\n\r\n")) < 0:
-            self.take()
-        begin = head + 4
-        end = begin + int(self.came[len("Content-Length: "):head])
-        while len(self.came) < end:
-            self.take()
-        content = bytes(self.came[begin:end])
-        del self.came[:end]
+    def content(self) -> bytes:
+        """The next content, which must come."""
+        content = super().content()
+        if content is None:
+            sys.exit(f"{self.child.args} ended with status {self.child.wait()}")
         return content
 
-    def framed(self, command: str, arguments: dict) -> bytes:
-        self.seq += 1
-        request = {"seq": self.seq, "type": "request", "command": command, "arguments": arguments}
-        content = json.dumps(request).encode()
-        return b"Content-Length: %d\r\n\r\n%s" % (len(content), content)
-
-    def send(self, frame: bytes) -> None:
+    def put(self, frame: bytes) -> None:
         while frame:
-            frame = frame[os.write(self.process.stdin.fileno(), frame):]
+            frame = frame[os.write(self.child.stdin.fileno(), frame):]
 
     def ask(self, command: str, arguments: dict) -> bytes:
         """The answer to a request, which must be granted, with each breakpoint."""
-        self.send(self.framed(command, arguments))
-        answer = self.receive()
+        self.put(self.framed(command, arguments))
+        answer = self.content()
         if not json.loads(answer)["success"] or b'"verified":false' in answer:
             sys.exit(f"{command}: {answer.decode()}")
         return answer
@@ -97,9 +90,9 @@ class Client:
         """The time of a round trip, up to the last of that many messages."""
         frame = self.framed(command, arguments)
         begin = time.perf_counter()
-        self.send(frame)
+        self.put(frame)
         for _ in range(messages):
-            content = self.receive()
+            content = self.content()
         taken = time.perf_counter() - begin
         if messages > 1 and b'"event":"stopped"' not in content:
             sys.exit(f"{command}: {content.decode()}")
@@ -108,23 +101,23 @@ class Client:
     def launch(self, path: str, on_entry: bool) -> None:
         self.ask("initialize", {})
         self.ask("launch", {"program": path, "stopOnEntry": on_entry})
-        self.receive()
+        self.content()
 
     def run_to(self, event: str) -> None:
         """Lets the program run to this event, before which it sends none."""
         self.ask("configurationDone", {})
-        content = self.receive()
+        content = self.content()
         if json.loads(content)["event"] != event:
             sys.exit(f"not {event}: {content.decode()}")
 
     def kibibytes(self, name: str) -> int:
-        with open(f"/proc/{self.process.pid}/status", encoding="ascii") as file:
+        with open(f"/proc/{self.child.pid}/status", encoding="ascii") as file:
             return next(int(line.split()[1]) for line in file if line.startswith(name))
 
     def end(self) -> None:
-        self.process.stdin.close()
-        self.process.stdout.close()
-        self.process.wait()
+        self.end_input()
+        self.child.stdout.close()
+        self.child.wait()
 
 
 @dataclasses.dataclass
@@ -266,8 +259,8 @@ def started(command: list[str], folder: str) -> float:
     """The time from a start to the answer of `initialize`."""
     begin = time.perf_counter()
     client = Client(command, folder)
-    client.send(client.framed("initialize", {}))
-    client.receive()
+    client.put(client.framed("initialize", {}))
+    client.content()
     taken = time.perf_counter() - begin
     client.end()
     return taken
@@ -299,18 +292,17 @@ def instructions(program: str, question: Question, count: int, folder: str) -> i
         return int(re.search(r"Collected : (\d+)", file.read()).group(1))
 
 
-def instructions_each(program: str, question: Question, folder: str) -> str:
-    if not shutil.which("valgrind"):
-        return "-"
+def instructions_each(program: str, question: Question, folder: str) -> int:
+    """The instructions of an answer."""
     few, more = (instructions(program, question, count, folder) for count in (1, 3))
-    return f"{(more - few) // 2:,}"
+    return (more - few) // 2
 
 
 def constant(answer: str, contents: list[bytes], folder: str) -> list[str]:
     """The command that answers each frame with these contents."""
     path = os.path.join(folder, "answered")
     with open(path, "wb") as file:
-        file.write(b"".join(b"Content-Length: %d\r\n\r\n%s" % (len(content), content) for content in contents))
+        file.write(b"".join(map(protocol.frame, contents)))
     return [answer, path]
 
 
@@ -324,7 +316,7 @@ def show_questions(program: str, answer: str, folder: str) -> None:
         ]
         client.end()
         other.end()
-        counted = instructions_each(program, question, folder)
+        counted = f"{instructions_each(program, question, folder):,}" if shutil.which("valgrind") else "-"
         show(question.name, [one for one, _ in times], f"{len(content):9,} {counted:>12}")
         show("  by `answer.c`", [one for _, one in times])
 
@@ -353,23 +345,23 @@ def show_journeys(program: str, answer: str, folder: str) -> None:
 def pipelined_seconds(command: list[str], count: int, folder: str) -> float:
     """The time of that many requests that are written without waiting, up to the end of the output."""
     client = Client(command, folder)
-    client.send(client.framed("initialize", {}))
-    client.receive()
+    client.put(client.framed("initialize", {}))
+    client.content()
     whole = b"".join(client.framed("threads", {}) for _ in range(count)) + client.framed("disconnect", {})
 
     def feed() -> None:
-        client.send(whole)
-        client.process.stdin.close()
+        client.put(whole)
+        client.child.stdin.close()
 
     feeder = threading.Thread(target=feed)
     frames = 0
     begin = time.perf_counter()
     feeder.start()
-    while piece := os.read(client.process.stdout.fileno(), PIECE):
+    while piece := os.read(client.child.stdout.fileno(), PIECE):
         frames += piece.count(b"Content-Length")
     taken = time.perf_counter() - begin
     feeder.join()
-    client.process.wait()
+    client.child.wait()
     # A header may be cut between two pieces, which is seldom.
     if frames < count * 0.9:
         sys.exit(f"{command}: {frames} frames for {count} requests")
@@ -402,6 +394,38 @@ def show_memory(program: str, folder: str) -> None:
         client.ask("stackTrace", {"threadId": 1})
         print(f"after `stackTrace` of it: {memory(client)}")
         client.end()
+
+
+def outputs_until(client: Client, name: str) -> int:
+    """How many outputs come before the event of this name, or the response to this command."""
+    outputs = 0
+    while protocol.name_of(message := json.loads(client.content())) != name:
+        outputs += message.get("event") == "output"
+    return outputs
+
+
+def show_outputs(program: str, folder: str) -> None:
+    """The most outputs around a pause, and before the answer to `disconnect`, of loops that print, where the client rests before."""
+    bodies = {"prints at each step": "! 1; " * PRINTS, "prints at each second step": "x := x + 1; ! x", "prints at one step of 16": "x := x + 1; " * 15 + "! x"}
+    for name, body in bodies.items():
+        with open(os.path.join(folder, "prints.pl0"), "w", encoding="ascii") as file:
+            file.write(f"var x; while 1 = 1 do begin {body} end.\n")
+        client = Client([program], folder)
+        client.launch("prints.pl0", False)
+        client.ask("configurationDone", {})
+        before, between = [], []
+        for _ in range(FEW):
+            time.sleep(REST)
+            client.put(client.framed("pause", {"threadId": 1}))
+            before.append(outputs_until(client, "pause"))
+            between.append(outputs_until(client, "stopped"))
+            client.ask("continue", {"threadId": 1})
+        time.sleep(REST)
+        client.put(client.framed("disconnect"))
+        last = outputs_until(client, "disconnect")
+        client.end()
+        print(f"a loop that {name}: at most {max(before):,} outputs before the answer to `pause` and {max(between):,} between it "
+              f"and the stop, of {FEW} times; {last:,} before the answer to `disconnect`, those in the pipe with them")
 
 
 def loop() -> str:
@@ -479,10 +503,10 @@ def loops() -> dict[str, Loop]:
 
 def show_runs(program: str, speed: str | None, folder: str) -> None:
     runs = {f"a session, {name}": functools.partial(run.seconds, program, folder) for name, run in loops().items()}
-    runs |= {
+    runs.update({
         name: functools.partial(command_seconds, command, folder)
         for name, command in commands(program, speed, folder).items()
-    }
+    })
     times = {name: [] for name in runs}
     for _ in range(RUNS):
         for name, run in runs.items():
@@ -506,6 +530,7 @@ def main() -> int:
         show_pipelined(program, answer, folder)
         show_runs(program, speed[0] if speed else None, folder)
         show_memory(program, folder)
+        show_outputs(program, folder)
     return 0
 
 

@@ -9,6 +9,8 @@ are never reached. All run the same text, in turn, so that whatever else the com
 the runner at least 0.9 of the machine's steps a second, and slices without breakpoints too; with 256 elsewhere the same
 within 5 per cent; with a false condition at least a quarter.
 """
+from __future__ import annotations
+
 import os
 import re
 import resource

@@ -7,6 +7,8 @@ For each load the input is a file, taken at a size and at four times that size. 
 of the program to one byte. What is looked at is the growth: four times the input is to take at most 4.5 times the time.
 It needs a C compiler.
 """
+from __future__ import annotations
+
 import os
 import subprocess
 import sys
@@ -14,25 +16,19 @@ import tempfile
 import time
 
 HERE = os.path.dirname(os.path.abspath(__file__))
-
-
-def frame(content: bytes) -> bytes:
-    return b"Content-Length: %d\r\n\r\n%s" % (len(content), content)
+sys.path.insert(0, os.path.join(HERE, "..", "checks"))
+from client import frame, request  # noqa: E402
 
 
 def requests(count: int) -> bytes:
     """`initialize`, that many pipelined `threads`, and `disconnect`."""
-    first = frame(b'{"seq":1,"type":"request","command":"initialize"}')
-    last = frame(b'{"seq":2,"type":"request","command":"disconnect"}')
-    return first + b"".join(
-        frame(b'{"seq":%d,"type":"request","command":"threads"}' % (n + 3)) for n in range(count)
-    ) + last
+    first, last = frame(request(1, "initialize")), frame(request(2, "disconnect"))
+    return first + b"".join(frame(request(n + 3, "threads")) for n in range(count)) + last
 
 
 def large(count: int) -> bytes:
     """That many contents of 1,048,576 bytes each: a request after spaces."""
-    content = b'{"seq":1,"type":"request","command":"initialize"}'.rjust(1 << 20)
-    return frame(content) * count
+    return frame(request(1, "initialize").rjust(1 << 20)) * count
 
 
 def seconds(program: str, path: str, extra: dict[str, str]) -> float:

@@ -7,6 +7,8 @@ What is timed is what `session.py` times of starts, questions at a stop, ways to
 program and then to the other, beside `answer.c` where it can, so that whatever else the computer does slows all of them. The times
 are in microseconds, the best and the median of each.
 """
+from __future__ import annotations
+
 import os
 import statistics
 import subprocess

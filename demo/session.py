@@ -3,58 +3,39 @@
 
 usage: session.py [--short] [--waiting TEXT] SESSION PROGRAM [ARGUMENT..]
 
-Each line of SESSION is a content to send; a line that begins with # is a remark, and an empty line is passed over. A line
-`wait NAME` waits for the response to the command NAME or the event NAME before more is sent. Without such a line all is sent at
-once.
+SESSION is written as checks/notation.py says. Requests are sent when all messages that stand before them have come; where some are
+joined by `+`, at once. The input ends after the last of them.
 
-With --short, each message is printed by what it says, and not as it is. With --waiting, TEXT is printed until the first answer
-comes, once every few seconds, with the seconds that have passed. The status is that of the program.
+With --short, each message is printed by what it says, and not as it is. With --waiting, TEXT is printed with the seconds that
+have passed, until the first answer comes: on a terminal in one line that is written again and again, and else in a line every half
+minute. The status is that of the program, or 1 where a message isn't the one that SESSION has.
 """
+from __future__ import annotations
+
 import argparse
 import json
-import subprocess
+import os
 import sys
 import threading
 import time
 
-from worked import detail
+sys.path.insert(0, os.path.join(os.path.dirname(os.path.abspath(__file__)), "..", "checks"))
+from client import Client, name_of  # noqa: E402
+from notation import Exchange, detail, sessions  # noqa: E402
 
-# How often it is said that the first answer is waited for.
-SECONDS_BETWEEN = 5.0
-
-
-def frame(content: bytes) -> bytes:
-    return b"Content-Length: %d\r\n\r\n%s" % (len(content), content)
-
-
-def contents(stream):
-    """The contents of the frames on a stream, each as soon as it has come."""
-    while header := stream.readline():
-        stream.readline()
-        yield stream.read(int(header.removeprefix(b"Content-Length: "))).decode()
+# How often it is said that the first answer is waited for: on a terminal, and else.
+SECONDS_BETWEEN = {True: 1.0, False: 30.0}
+ERASED = "\r\033[K"
 
 
 def say_waiting(text: str, until: threading.Event) -> None:
     """Prints the text and the seconds that have passed, again and again until the event is set."""
-    start = time.monotonic()
-    while not until.wait(SECONDS_BETWEEN):
-        print(f"  {text}: {time.monotonic() - start:.0f} s", flush=True)
-
-
-def waited_for(stream, text: str | None):
-    """The contents of the stream; until the first one has come, the text says that it is waited for."""
-    came = threading.Event()
-    if text is not None:
-        threading.Thread(target=say_waiting, args=(text, came), daemon=True).start()
-    for content in contents(stream):
-        came.set()
-        yield content
-    came.set()
-
-
-def named(message: dict) -> str:
-    """The name of an event, or the command of a response."""
-    return message.get("event", message.get("command"))
+    start, is_terminal = time.monotonic(), sys.stdout.isatty()
+    while not until.wait(SECONDS_BETWEEN[is_terminal]):
+        line = f"  {text}: {time.monotonic() - start:.0f} s"
+        print(ERASED + line if is_terminal else line, end="" if is_terminal else "\n", flush=True)
+    if is_terminal:
+        print(ERASED, end="", flush=True)
 
 
 def short(content: str) -> str:
@@ -64,53 +45,71 @@ def short(content: str) -> str:
         return f"{message['command']} {json.dumps(message['arguments']) if 'arguments' in message else ''}".strip()
     granted = "" if message["type"] == "event" else "granted"
     text = message.get("message") or detail(message.get("body", {})) or granted
-    return f"{named(message)}: {text}" if text else named(message)
+    return f"{name_of(message)}: {text}" if text else name_of(message)
 
 
 class Playing:
     """A session that is played to a command, and printed."""
 
     def __init__(self, given: argparse.Namespace):
-        self.run = subprocess.Popen(given.command, stdin=subprocess.PIPE, stdout=subprocess.PIPE)
-        self.answers = waited_for(self.run.stdout, given.waiting)
+        # For ever, since the command may have to build the program first.
+        self.client = Client(given.command, wait=None, stderr=None)
         self.written = short if given.short else str
+        self.came = threading.Event()
+        self.waiting = threading.Thread(target=say_waiting, args=(given.waiting, self.came), daemon=True)
+        self.is_waiting = given.waiting is not None
+        self.is_right = True
 
-    def play(self, lines: list[str]) -> int:
-        """Plays the lines of a session, and returns the command's exit status."""
-        for line in lines:
-            self.play_line(line)
-        self.run.stdin.close()
-        self.print_until(None)
-        return self.run.wait()
+    def play(self, exchanges: list[Exchange]) -> int:
+        """Plays a session, and returns the command's exit status, or 1 where it goes differently."""
+        if self.is_waiting:
+            self.waiting.start()
+        for number, exchange in enumerate(exchanges, 1):
+            self.ask(exchange)
+            if number == len(exchanges):
+                self.client.end_input()
+            for wanted in exchange.answers:
+                self.receive(wanted)
+        while self.receive(None):
+            pass
+        return self.client.status() or (0 if self.is_right else 1)
 
-    def play_line(self, line: str) -> None:
-        if line.startswith("wait "):
-            self.run.stdin.flush()
-            self.print_until(line.removeprefix("wait "))
-        elif not line or line.startswith("#"):
-            print(line, flush=True)
-        else:
-            print(f"  -> {self.written(line)}", flush=True)
-            self.run.stdin.write(frame(line.encode()))
+    def ask(self, exchange: Exchange) -> None:
+        """Prints the requests, each after a blank line and its remarks where it has some, and sends them."""
+        for remarks, request in zip(exchange.remarks, exchange.requests):
+            for line in [""] * bool(remarks) + [f"# {remark}" for remark in remarks]:
+                print(line)
+            print(f"  -> {self.written(request.decode())}", flush=True)
+        self.client.write_now(exchange.piece())
 
-    def print_until(self, name: str | None) -> None:
-        """Prints the answers up to the one of this name, or all that come."""
-        for content in self.answers:
-            print(f"  <- {self.written(content)}", flush=True)
-            if name is not None and name == named(json.loads(content)):
-                return
+    def end_waiting(self) -> None:
+        self.came.set()
+        if self.is_waiting:
+            self.is_waiting = False
+            self.waiting.join()
+
+    def receive(self, wanted: bytes | None) -> bool:
+        """Prints the next message, and answers whether one came."""
+        content = self.client.content()
+        self.end_waiting()
+        if content is not None:
+            print(f"  <- {self.written(content.decode())}", flush=True)
+        if content != wanted:
+            self.is_right = False
+            print(f"  and not: {wanted.decode() if wanted else 'nothing more'}", flush=True)
+        return content is not None
 
 
 def main() -> int:
-    parser = argparse.ArgumentParser(usage=__doc__.split("\n\n")[1].removeprefix("usage: "))
+    parser = argparse.ArgumentParser(usage=__doc__.split("\n\n")[1].replace("usage: ", "", 1))
     parser.add_argument("--short", action="store_true")
     parser.add_argument("--waiting")
     parser.add_argument("session")
     parser.add_argument("command", nargs=argparse.REMAINDER)
     given = parser.parse_args()
     with open(given.session, encoding="utf-8") as file:
-        lines = [line.rstrip("\n") for line in file]
-    status = Playing(given).play(lines)
+        (session,) = sessions(file.read())
+    status = Playing(given).play(session.exchanges)
     print(f"exit status {status}")
     return status
 

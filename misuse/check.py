@@ -2,6 +2,7 @@
 
 A file's first line says what the compiler must answer: `// Refused: CODE`, or `// Accepted`.
 """
+from __future__ import annotations
 
 import os
 import pathlib
@@ -29,13 +30,13 @@ def make_copy(top: pathlib.Path) -> pathlib.Path:
 def is_answered(crate: pathlib.Path, source: pathlib.Path) -> bool:
     """Whether the compiler answers as the file's first line says; prints what it says else."""
     text = source.read_text()
-    wanted = text.splitlines()[0].removeprefix("// ")
+    wanted = text.splitlines()[0][len("// "):]
     (crate / "src" / "lib.rt").write_text(text)
     run = subprocess.run(["rt", "check"], cwd=crate, capture_output=True, text=True)
     if wanted == "Accepted":
         good = run.returncode == 0
     else:
-        good = f"error[{wanted.removeprefix('Refused: ')}]" in run.stdout + run.stderr
+        good = f"error[{wanted.replace('Refused: ', '')}]" in run.stdout + run.stderr
     print(f"{source.name}: {wanted if good else 'not as wanted'}")
     if not good:
         print(run.stdout + run.stderr)

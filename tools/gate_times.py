@@ -9,6 +9,8 @@ program, and of all together. Each is measured with one job on a copy of the cra
 which are proved first where they are not. The first edit costs a proof of its own. The gate builds a program by a second
 compiler too, which is not measured. The status is 1 where a part fails, or where a crate takes over 10 minutes in all.
 """
+from __future__ import annotations
+
 import pathlib
 import resource
 import shutil

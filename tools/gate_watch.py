@@ -7,6 +7,8 @@ Runs `rt ci`, or COMMAND, and looks once a second at the processes below it. At 
 processor seconds of the prover and the compilers that worked for it, the dearest first, then the sum and the wall time.
 What a process takes after the last look at it is missed. The status is that of the command.
 """
+from __future__ import annotations
+
 import os
 import pathlib
 import re

@@ -8,6 +8,8 @@ such a folder where none is, a copy of the crate is given its plants in place of
 tries them over the work that is kept in `out/`. Prints a line for each edit, and at the end one that counts those that were
 refused, those that got through and those that were not judged. The status is 1 where one was not refused.
 """
+from __future__ import annotations
+
 import re
 import shutil
 import subprocess

@@ -1,4 +1,6 @@
 """Copies of a crate, and of the crates below it, in a temporary folder: for scripts that change a crate and try it."""
+from __future__ import annotations
+
 import contextlib
 import pathlib
 import subprocess

@@ -3,6 +3,8 @@
 A session is made beside a model of the adapter, so that what is asked fits the situation more often than not. In a session that
 crosses, requests are sent while the program runs too; in another one the client waits for the stop first.
 """
+from __future__ import annotations
+
 import dataclasses
 import json
 import random
@@ -10,7 +12,7 @@ import tempfile
 
 from plain_pl0 import Block, Machine, Program, RunFault, Statement, TextFault, read_program
 from plain_session import FITTING, RESUMING, Session
-from playing import frame, put_files
+from client import frame, put_files
 
 MOST_STEPS = 4000
 NAMES = ["a", "b", "c", "n", "x", "y", "main", "P2", "p", "q", "r"]
@@ -345,7 +347,7 @@ class Maker:
         """The names that a block can use, and at times others."""
         names = {} if block and self.chance.random() < 0.9 else {self.chance.choice(NAMES): "var" for _ in range(2)}
         while block:
-            names = {name: declared.kind for name, declared in block.declared.items()} | names
+            names = {**{name: declared.kind for name, declared in block.declared.items()}, **names}
             block = block.outer
         return names
 
@@ -421,7 +423,7 @@ class Maker:
             return {"expression": text, **({"frameId": self.frame_id()} if chance.random() < 0.8 else {})}
         thread = {"threadId": self.often(1, [0, 2, 2**53 - 1], 0.05)}
         if command == "stackTrace" and chance.random() < 0.6:
-            thread |= {"startFrame": chance.randrange(5), "levels": chance.randrange(5)}
+            thread.update(startFrame=chance.randrange(5), levels=chance.randrange(5))
         return thread
 
     def spoilt(self, arguments: dict) -> object:

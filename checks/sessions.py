@@ -10,6 +10,8 @@ for one of the orders in which they can meet (`interleavings`), so two plays of 
 the seed, the session, and the shortest one found that shows it, and ends with status 1; `sessions.py PROGRAM 1 SEED` plays that
 seed again.
 """
+from __future__ import annotations
+
 import collections
 import dataclasses
 import json
@@ -24,7 +26,7 @@ from interleavings import Following, Item, Write, breach, items_of
 from making import Part, Story, ending, make
 from plain_pl0 import Machine, Program, RunFault
 from plain_session import GOING_BACK, RESUMING, FrameFault, Frames, Session, request_of
-from playing import Adapter, put_files
+from client import Client, put_files
 
 WORD = re.compile(rb"\s+|[A-Za-z0-9]+|[^\sA-Za-z0-9]+")
 # How often a session whose output may differ from one time to the next is played before it counts as lawful.
@@ -52,7 +54,7 @@ def play(program: str, story: Story) -> Found:
 
 def play_exactly(program: str, story: Story, folder: str) -> Found:
     """Waits for each message that must come before it writes more."""
-    model, adapter = Session(folder), Adapter(program, folder)
+    model, adapter = Session(folder), Client(program, folder)
     found = None
     for number, part in enumerate(story.parts, 1):
         if found or model.is_closed():
@@ -62,7 +64,7 @@ def play_exactly(program: str, story: Story, folder: str) -> Found:
     return Found(found or end_difference(end, model), model.sent, model.held)
 
 
-def part_difference(adapter: Adapter, model: Session, number: int, text: bytes) -> str | None:
+def part_difference(adapter: Client, model: Session, number: int, text: bytes) -> str | None:
     """Gives a part of the input to the adapter and to the model, and tells how the adapter first differs."""
     before = len(model.sent)
     adapter.write_now(text)
@@ -84,7 +86,7 @@ class Talk:
     """A client that knows what it asked and what was answered."""
 
     def __init__(self, program: str, folder: str):
-        self.adapter = Adapter(program, folder)
+        self.adapter = Client(program, folder)
         self.frames = Frames()
         self.asked = 0
         self.is_over = False
@@ -252,7 +254,7 @@ def main() -> int:
             return 1
         counts[story.crosses] += kinds(found.messages)
         held += found.held
-    print(f"{number} sessions from seed {first} on, {sum(one.total() for one in counts.values())} messages: as they must be")
+    print(f"{number} sessions from seed {first} on, {sum(sum(one.values()) for one in counts.values())} messages: as they must be")
     for crosses, name in ((False, "exactly compared"), (True, "with requests during runs")):
         print(f"{name}: " + ", ".join(f"{count} {kind}" for kind, count in sorted(counts[crosses].items())))
     if held:

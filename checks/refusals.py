@@ -1,11 +1,11 @@
 #!/usr/bin/env python3
 """Runs the programs again and again, with another allocation, thread, read or write refused each time, and judges how they end.
 
-usage: refusals.py PROGRAM [SPEED]
+usage: refusals.py [--speed SPEED] [--pl0 PL0] PROGRAM..
 
-PROGRAM is pl0dap; SPEED is the program `speed`, which runs a text by the machine alone, in slices under a plan, and by the
-runner. Each allocation is refused in turn, up to the first run that asks for none more, and then each thread, read and write of
-PROGRAM. What is written may differ from the whole answer only by what is missing at its end, of a session by whole frames,
+PROGRAM is pl0dap or pl0dap_from_zero; SPEED is the program `speed`, which runs a text by the machine alone, in slices under a plan,
+and by the runner; PL0 is the program `pl0`. Each allocation is refused in turn, up to the first run that asks for none more, and then each thread, read and
+write of PROGRAM. What is written may differ from the whole answer only by what is missing at its end, of a session by whole frames,
 and the program must say why. But a run in slices may also end by the report that there was no memory for its first one, and
 must at least once; and where the file of a launch can't be read, the launch must be refused, and the session goes on.
 
@@ -13,10 +13,14 @@ The threads of a session take turns as they like, so which call is the Nth diffe
 one that is allowed, and none must hang. Before a thread was asked for nothing may be written where the session gives up. It
 needs clang.
 """
+from __future__ import annotations
+
+import argparse
 import collections
 import dataclasses
 import itertools
 import os
+import pathlib
 import signal
 import subprocess
 import sys
@@ -24,6 +28,7 @@ import tempfile
 from collections.abc import Iterator
 
 import feeding
+import notation
 import rows
 
 HERE = os.path.dirname(os.path.abspath(__file__))
@@ -47,6 +52,7 @@ SESSION_ENDS = {
     "read": [(0, ""), (1, "pl0dap: read failed")],
     "write": WRITE_ENDS,
 }
+PL0_ENDS = {"allocation": [(0, ""), (3, "pl0: no memory")], "write": [(3, "")]}
 LISTING_ENDS = {"allocation": ALLOCATION_ENDS, "read": [(1, "pl0dap: cannot read")], "write": WRITE_ENDS}
 # What a session with a program that can't be read is called.
 UNREAD = "launch refused"
@@ -94,7 +100,7 @@ class Run:
     ends: dict[str, list[tuple[int, str]]]
     source: str = os.devnull
     # What it is asked over pipes, in place of the source.
-    exchanges: list[feeding.Exchange] | None = None
+    exchanges: list[notation.Exchange] | None = None
     # Whether it runs for as long as the client likes.
     is_endless: bool = False
     # What it must write in place of the whole at some refusal of a kind, with status 0, and what that is called.
@@ -183,6 +189,24 @@ def runs_of_texts(speed: str) -> dict[str, Run]:
     }
 
 
+def stored_run(crate: str) -> tuple[list[str], bytes]:
+    """The arguments of a stored run of pl0, with the whole path of its file, and what it writes."""
+    folder = pathlib.Path(CRATES, crate)
+    *options, name = (folder / "args").read_text(encoding="utf-8").split()
+    return [*options, str(folder / "data" / name)], (folder / "stdout").read_bytes()
+
+
+def runs_of_pl0(pl0: str) -> dict[str, Run]:
+    procedures = os.path.join(CRATES, "check_runs", "data", "procedures.pl0")
+    given = {
+        "a run of pl0": (["run", procedures], b"1\n2\n"),
+        "a check by pl0": (["check", procedures], b""),
+        "a listing by pl0": stored_run("pl0_list_runs"),
+        "a trace by pl0": stored_run("pl0_trace_runs"),
+    }
+    return {name: Run([pl0, *arguments], by_bytes(text), PL0_ENDS) for name, (arguments, text) in given.items()}
+
+
 @dataclasses.dataclass
 class Outcome:
     """What a run wrote, its status, what it said on standard error beside its log, whether a call was refused, and whether no
@@ -195,8 +219,8 @@ class Outcome:
     early: bool = False
 
 
-def lines_said(errors: bytes) -> str:
-    return " ".join(line.strip() for line in errors.decode().splitlines() if line and not line.startswith("["))
+def lines_said(errors: str) -> str:
+    return " ".join(line.strip() for line in errors.splitlines() if line and not line.startswith("["))
 
 
 def perform(run: Run, notice: feeding.Notice, patience: int, **settings) -> Outcome:
@@ -209,7 +233,7 @@ def perform(run: Run, notice: feeding.Notice, patience: int, **settings) -> Outc
             done = subprocess.run(run.command, stdin=file, capture_output=True, cwd=rows.TOP, timeout=limit, **settings)
         except subprocess.TimeoutExpired:
             return Outcome(b"", -signal.SIGKILL, "it hangs")
-    return Outcome(done.stdout, done.returncode, lines_said(done.stderr))
+    return Outcome(done.stdout, done.returncode, lines_said(done.stderr.decode()))
 
 
 def play(run: Run, environment: dict[str, str] | None = None, patience: int = 1) -> Outcome:
@@ -265,13 +289,29 @@ def is_judged(name: str, run: Run, kind: str, library: str) -> bool:
     return not wrong and not unseen and (kind != "allocation" or run.ends is not SESSION_ENDS or early > 0)
 
 
+def runs_of_programs(programs: list[str]) -> dict[str, Run]:
+    """The runs of each program, with its name before theirs where there is another."""
+    if len(programs) == 1:
+        return runs(programs[0])
+    return {f"{os.path.basename(program)}, {name}": run for program in programs for name, run in runs(program).items()}
+
+
 def main() -> int:
+    parser = argparse.ArgumentParser(usage=__doc__.split("\n\n")[1].replace("usage: ", "", 1))
+    parser.add_argument("--speed")
+    parser.add_argument("--pl0")
+    parser.add_argument("programs", nargs="+")
+    given = parser.parse_args()
     good = True
-    program, *speed = map(os.path.abspath, sys.argv[1:])
     with tempfile.TemporaryDirectory() as folder:
         library = os.path.join(folder, "refuse.so")
         subprocess.run(["clang", "-shared", "-fPIC", "-o", library, os.path.join(HERE, "refuse.c")], check=True)
-        for name, run in {**runs(program), **(runs_of_texts(*speed) if speed else {})}.items():
+        played = runs_of_programs(list(map(os.path.abspath, given.programs)))
+        if given.speed:
+            played |= runs_of_texts(os.path.abspath(given.speed))
+        if given.pl0:
+            played |= runs_of_pl0(os.path.abspath(given.pl0))
+        for name, run in played.items():
             outcome = play(run)
             if outcome != Outcome(run.whole(), 0, ""):
                 print(f"{name}, nothing refused: {outcome}")

@@ -9,12 +9,13 @@ between the declaration of a variable and its use; 300 numbers are written one a
 without waiting. Each request must be granted under its own number, the numbers of what comes must run 1, 2, 3, and the stop
 must have the frames and values that the text gives. Prints what was seen, and ends with status 1 where something is wrong.
 """
-import json
+from __future__ import annotations
+
 import os
 import sys
 import tempfile
 
-from playing import Client, put_files
+from client import Client, put_files
 
 LIMIT = 65_536
 DEPTH = 1_024
@@ -50,16 +51,16 @@ def condition(holds: bool) -> str:
     return front + " + 0" * ((CONDITION - len(front)) // 4) + " " * ((CONDITION - len(front)) % 4)
 
 
-class Session:
+class Session(Client):
     """A client that checks the numbers of all that comes."""
 
     def __init__(self, program: str, folder: str):
-        self.client = Client(program, folder)
+        super().__init__(program, folder)
         self.last = 0
         self.written: list[str] = []
 
     def receive(self) -> dict:
-        message = json.loads(self.client.receive() or b"{}")
+        message = super().receive()
         self.last += 1
         if message.get("seq") != self.last:
             raise SystemExit(f"message {self.last} is {message}")
@@ -75,14 +76,9 @@ class Session:
             raise SystemExit(f"request {number}: {message}")
         return message.get("body", {})
 
-    def ask(self, command: str, arguments: dict) -> dict:
-        self.client.ask([(command, json.dumps(arguments))])
-        return self.granted(self.client.seq)
-
-    def event(self, name: str) -> dict:
-        while (message := self.receive()).get("event") != name:
-            pass
-        return message.get("body", {})
+    def ask(self, command: str, arguments: object = None) -> dict:
+        self.send((command, arguments))
+        return self.granted(self.seq)
 
 
 def breakpoints(session: Session, asked: list[dict]) -> None:
@@ -110,22 +106,22 @@ def play(session: Session, first: int, stop: int) -> None:
     session.ask("launch", {"program": FILE, "stopOnEntry": True})
     breakpoints(session, [{"line": first + at, "condition": condition(False)} for at in range(BREAKPOINTS)])
     session.ask("configurationDone", {})
-    session.event("stopped")
+    session.wait_for("stopped")
     for _ in range(RUNS):
         session.ask("stepIn", {"threadId": 1})
-        session.event("stopped")
+        session.wait_for("stopped")
     print(f"{RUNS:,} runs under {BREAKPOINTS} conditions of {CONDITION:,} bytes")
     breakpoints(session, [{"line": first + at, "condition": condition(False)} for at in range(BREAKPOINTS - 1)]
                 + [{"line": stop, "condition": condition(True)}])
     session.ask("continue", {"threadId": 1})
-    session.event("stopped")
+    session.wait_for("stopped")
     at_the_depth(session)
-    session.client.ask([("threads", "")] * MESSAGES)
-    for number in range(session.client.seq - MESSAGES + 1, session.client.seq + 1):
+    session.send(*[("threads",)] * MESSAGES)
+    for number in range(session.seq - MESSAGES + 1, session.seq + 1):
         session.granted(number)
     print(f"{MESSAGES:,} requests at once")
     session.ask("continue", {"threadId": 1})
-    session.event("terminated")
+    session.wait_for("terminated")
     if session.written != [str(TURNS)] * NUMBERS:
         raise SystemExit(f"{len(session.written)} numbers")
     print(f"{NUMBERS} numbers, one after the other")
@@ -142,7 +138,7 @@ def main() -> int:
         put_files(folder, {FILE: whole})
         session = Session(program, folder)
         play(session, first, stop)
-        rest, status, said = session.client.end()
+        rest, status, said = session.end()
     print(f"status {status}, {len(rest)} bytes after the answer to disconnect")
     return 1 if rest or status or said else 0
 

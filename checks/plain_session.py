@@ -2,6 +2,8 @@
 
 It is written apart from the adapter, from the protocol's rules, and stands on `plain_pl0`.
 """
+from __future__ import annotations
+
 import copy
 import dataclasses
 import json

@@ -7,7 +7,8 @@ Copies the crates, puts that number in place of the machine's last position, and
 through `rt try`, which proves nothing. A loop without end has to stop there, before an assignment, with `stepLimit`; its variable says how
 many steps were taken. The status is 1 where it is otherwise.
 """
-import io
+from __future__ import annotations
+
 import json
 import pathlib
 import shutil
@@ -15,7 +16,7 @@ import subprocess
 import sys
 import tempfile
 
-from session import contents, frame
+from client import Frames, frame, name_of, request
 
 TOP = pathlib.Path(__file__).resolve().parent.parent
 DECLARED = "pub const LAST_POSITION: u64 = 9007199254740991;"
@@ -46,16 +47,16 @@ def copy_crates(top: pathlib.Path) -> None:
 
 def play(top: pathlib.Path) -> dict[str, dict]:
     """The bodies that the session sends, by the command or the event that they are of."""
-    requests = [{"seq": seq, "type": "request", "command": name, "arguments": arguments} for seq, (name, arguments) in enumerate(REQUESTS, 1)]
-    (top / "sent").write_bytes(b"".join(frame(json.dumps(request).encode()) for request in requests))
+    (top / "sent").write_bytes(b"".join(frame(request(seq, *one)) for seq, one in enumerate(REQUESTS, 1)))
     (top / "loop.pl0").write_text(PROGRAM)
     files = [word for name in ("sent", "loop.pl0") for word in ("--data", f"{name}={top / name}")]
     run = subprocess.run(["rt", "try", "--seconds", "300", *files, "--", "session", "sent"], cwd=top / "crates/speed", stdout=subprocess.PIPE)
-    said = {}
-    for content in contents(io.BytesIO(run.stdout)):
-        print(f"  <- {content}")
+    said, frames = {}, Frames()
+    frames.take(run.stdout)
+    for content in frames:
+        print(f"  <- {content.decode()}")
         message = json.loads(content)
-        said[message.get("event", message.get("command"))] = message.get("body", {})
+        said[name_of(message)] = message.get("body", {})
     return said
 
 

@@ -4,6 +4,8 @@ The adapter reads, runs, answers and writes in threads. So requests and reports 
 orders, and a run is held after its first slice or a later one. The model of `plain_session` is followed through all of
 them, as far as each agrees with what was sent.
 """
+from __future__ import annotations
+
 import dataclasses
 import json
 

@@ -1,16 +1,19 @@
 #!/usr/bin/env python3
 """Plays many sessions in which a program in a loop without end is paused and goes on, and looks for what is left over.
 
-usage: soak.py PROGRAM [ONE_BY_ONE] [AT_ONCE]
+usage: soak.py [--seconds SECONDS] PROGRAM [ONE_BY_ONE] [AT_ONCE]
 
 100 sessions are played one after the other, and 20 at once. In each the loop is paused twice, and looked at between the pauses; in
 turn it only runs, or logs a message at each thousandth turn, or goes back after the first pause, by a step and to the beginning.
 A session ends, in turn, by `disconnect` where the program stopped, by `disconnect` while it runs, or by the end of the input
 while it runs. While the loop runs, the adapter must have its four threads, and as many open files as at its start; after the
 session its process must be gone, with status 0 and nothing said; and at the end this script must have as many open files and
-threads as at the beginning. A session that takes more than 30 seconds, or all of them together more than 5 minutes, hang. Ends
-with status 1 where something is wrong.
+threads as at the beginning. A session that takes more than 30 seconds, or all of them together more than 5 minutes, hang. All of it is
+played again until SECONDS have passed. Ends with status 1 where something is wrong.
 """
+from __future__ import annotations
+
+import argparse
 import collections
 import concurrent.futures
 import dataclasses
@@ -23,7 +26,7 @@ import tempfile
 import threading
 import time
 
-from playing import Client, put_files
+from client import Client, Wrong, name_of, put_files
 
 MOST_SECONDS = 300
 MOST_SECONDS_EACH = 30
@@ -36,10 +39,6 @@ ENDS = ("a disconnect at a stop", "a disconnect in a run", "the end of the input
 LOG_POINT = '{"source":{"path":"loop.pl0"},"breakpoints":[{"line":3,"hitCondition":"%1000","logMessage":"x is {x}"}]}'
 LOGGED = "x is 1\n"
 MOST_MEMORY = re.compile(r"^VmHWM:\s+([0-9]+) kB$", re.MULTILINE)
-
-
-class Wrong(Exception):
-    """Something in a session was not as it must be."""
 
 
 @dataclasses.dataclass
@@ -56,74 +55,66 @@ class Played:
     wrong: str | None = None
 
 
-class Session:
+class Session(Client):
     """A session that is played."""
 
     def __init__(self, program: str, folder: str, played: Played):
-        self.client = Client(program, folder)
-        self.process = self.client.adapter.child
+        super().__init__(program, folder)
         self.played = played
 
-    def received(self, name: str) -> dict:
+    def expect(self, name: str) -> dict:
         """The next message but for logs, which must be the granted response to this command, or this event."""
-        while True:
-            content = self.client.receive()
-            message = json.loads(content) if content else {}
-            if message.get("event") == "output" and self.is_log(message["body"]):
-                self.played.logs += 1
-                if name == "output":
-                    return message
-                continue
-            if message.get("event", message.get("command")) != name or not message.get("success", True):
-                raise Wrong(f"{name} must come, and not {content!r}")
-            return message
+        while self.is_log(message := self.receive()):
+            self.played.logs += 1
+            if name == "output":
+                return message
+        if name_of(message) != name or not message.get("success", True):
+            raise Wrong(f"{name} must come, and not {message}")
+        return message
 
-    def is_log(self, body: dict) -> bool:
-        return self.played.kind == LOGS and body == {"category": "console", "output": LOGGED}
-
-    def asked(self, command: str, arguments: str = "") -> dict:
-        self.client.ask([(command, arguments)])
-        return self.received(command)
+    def is_log(self, message: dict) -> bool:
+        is_output = message.get("event") == "output"
+        return is_output and self.played.kind == LOGS and message["body"] == {"category": "console", "output": LOGGED}
 
     def stopped(self, reason: str) -> None:
-        found = self.received("stopped")["body"]["reason"]
+        found = self.expect("stopped")["body"]["reason"]
         if found != reason:
             raise Wrong(f"the stop is by {found}, and not by {reason}")
 
     def pause(self) -> None:
         """Pauses the program."""
         begin = time.monotonic()
-        self.asked("pause", THREAD)
+        self.ask("pause", THREAD)
         self.stopped("pause")
         self.played.pauses.append(time.monotonic() - begin)
 
     def look(self) -> None:
         """Looks where the program stands."""
-        frames = self.asked("stackTrace", THREAD)["body"]["stackFrames"]
+        frames = self.ask("stackTrace", THREAD)["stackFrames"]
         if [frame["name"] for frame in frames] != ["main"]:
             raise Wrong(f"these frames: {frames}")
 
     def go_back(self) -> None:
         """Goes back by a step, and to the beginning, where x is 0."""
-        self.asked("stepBack", THREAD)
+        self.ask("stepBack", THREAD)
         self.stopped("step")
-        self.asked("reverseContinue", THREAD)
+        self.ask("reverseContinue", THREAD)
         self.stopped("entry")
-        if (value := self.asked("evaluate", '{"expression":"x"}')["body"]["result"]) != "0":
+        if (value := self.ask("evaluate", '{"expression":"x"}')["result"]) != "0":
             raise Wrong(f"x is {value} at the beginning")
 
     def begin(self) -> None:
         """Launches the loop."""
-        self.asked("initialize")
-        files = open_files(self.process.pid)
-        self.asked("launch", '{"program":"loop.pl0"}')
-        self.received("initialized")
+        self.ask("initialize")
+        files = open_files(self.child.pid)
+        self.ask("launch", '{"program":"loop.pl0"}')
+        self.expect("initialized")
         if self.played.kind == LOGS:
-            self.asked("setBreakpoints", LOG_POINT)
-        self.asked("configurationDone")
+            self.ask("setBreakpoints", LOG_POINT)
+        self.ask("configurationDone")
         if self.played.kind == LOGS:
-            self.received("output")
-        now = threads(self.process.pid), open_files(self.process.pid)
+            self.expect("output")
+        now = threads(self.child.pid), open_files(self.child.pid)
         if now != (THREADS, files):
             raise Wrong(f"{now[0]} threads, and the open files {now[1]}, which were {files}")
 
@@ -133,31 +124,39 @@ class Session:
         self.look()
         if self.played.kind == GOES_BACK:
             self.go_back()
-        self.asked("continue", THREAD)
+        self.ask("continue", THREAD)
         self.pause()
-        with open(f"/proc/{self.process.pid}/status", encoding="ascii") as file:
+        with open(f"/proc/{self.child.pid}/status", encoding="ascii") as file:
             self.played.memory = int(MOST_MEMORY.search(file.read())[1])
         if self.played.end != ENDS[0]:
-            self.asked("continue", THREAD)
+            self.ask("continue", THREAD)
         if self.played.end != ENDS[2]:
-            self.asked("disconnect")
+            self.ask("disconnect")
+
+    def end_with_logs(self) -> tuple[bytes, int, str]:
+        """Ends the input, and returns what was still written that is no log."""
+        self.end_input()
+        while (content := self.content()) is not None:
+            if not self.is_log(json.loads(content)):
+                return content, *self.end()[1:]
+        return self.end()
 
     def play(self) -> None:
         """Plays the session to its end. One that hangs is ended, which shows in its status."""
         start = time.monotonic()
-        timer = threading.Timer(MOST_SECONDS_EACH, self.process.kill)
+        timer = threading.Timer(MOST_SECONDS_EACH, self.child.kill)
         timer.start()
         try:
             self.converse()
         except Wrong as found:
             self.played.wrong = str(found)
-        left, *end = self.client.end()
+        left, *end = self.end_with_logs()
         timer.cancel()
         timer.join()
-        if end != [0, ""] or left and self.played.kind != LOGS:
+        if left or end != [0, ""]:
             self.played.wrong = self.played.wrong or f"it ended with {end}, after {left!r}"
-        if os.path.exists(f"/proc/{self.process.pid}"):
-            self.played.wrong = self.played.wrong or f"process {self.process.pid} is left"
+        if os.path.exists(f"/proc/{self.child.pid}"):
+            self.played.wrong = self.played.wrong or f"process {self.child.pid} is left"
         self.played.seconds = time.monotonic() - start
 
 
@@ -199,23 +198,37 @@ def give_up() -> None:
     os._exit(1)
 
 
-def main() -> int:
-    program = os.path.abspath(sys.argv[1])
-    single, together = map(int, [*sys.argv[2:4], *["100", "20"][len(sys.argv[2:4]):]])
+def round_of(program: str, folder: str, single: int, together: int) -> bool:
+    """Plays the sessions one by one and at once, and answers whether all went well."""
     watch = threading.Timer(MOST_SECONDS, give_up)
     watch.start()
-    before = open_files(), threads(os.getpid())
+    start = time.monotonic()
+    good = tell("one after the other", [played(program, folder, number) for number in range(single)], time.monotonic() - start)
+    start = time.monotonic()
+    with concurrent.futures.ThreadPoolExecutor(together) as pool:
+        sessions = list(pool.map(lambda number: played(program, folder, number), range(together)))
+    good &= tell("at once", sessions, time.monotonic() - start)
+    watch.cancel()
+    watch.join()
+    return good
+
+
+def main() -> int:
+    parser = argparse.ArgumentParser(usage=__doc__.split("\n\n")[1].replace("usage: ", "", 1))
+    parser.add_argument("--seconds", type=float, default=0.0)
+    parser.add_argument("program", type=os.path.abspath)
+    parser.add_argument("single", type=int, nargs="?", default=100)
+    parser.add_argument("together", type=int, nargs="?", default=20)
+    given = parser.parse_args()
+    before, begin, rounds, good = (open_files(), threads(os.getpid())), time.monotonic(), 0, True
     with tempfile.TemporaryDirectory() as folder:
         put_files(folder, {"loop.pl0": LOOP})
-        start = time.monotonic()
-        good = tell("one after the other", [played(program, folder, number) for number in range(single)], time.monotonic() - start)
-        start = time.monotonic()
-        with concurrent.futures.ThreadPoolExecutor(together) as pool:
-            sessions = list(pool.map(lambda number: played(program, folder, number), range(together)))
-        good &= tell("at once", sessions, time.monotonic() - start)
+        while good and (rounds == 0 or time.monotonic() - begin < given.seconds):
+            good = round_of(given.program, folder, given.single, given.together)
+            rounds += 1
     after = open_files(), threads(os.getpid())
+    print(f"{rounds} times {given.single + given.together} sessions in {time.monotonic() - begin:.0f} s")
     print(f"open files before and after: {len(before[0])} and {len(after[0])}; threads: {before[1]} and {after[1]}")
-    watch.cancel()
     return 0 if good and after == before else 1
 
 

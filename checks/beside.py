@@ -8,6 +8,8 @@ while a program runs, so there is one order of events, and the two outputs must 
 out: it prints nothing of those. Every other seed from SEED on is played, until COUNT sessions were compared; 200 from seed 1 on
 where nothing is given. At a difference this prints the seed and both outputs, and ends with status 1.
 """
+from __future__ import annotations
+
 import itertools
 import os
 import subprocess
@@ -16,7 +18,7 @@ import tempfile
 
 from making import Story, make
 from plain_session import Session
-from playing import Adapter, frame, put_files
+from client import Client, frame, put_files
 
 
 def driven(speed: str, folder: str, sent: bytes) -> bytes | None:
@@ -30,7 +32,7 @@ def driven(speed: str, folder: str, sent: bytes) -> bytes | None:
 
 def served(program: str, folder: str, story: Story) -> bytes:
     """What the program writes to a client that waits for each run to end; the model says how many messages come before."""
-    model, adapter = Session(folder), Adapter(program, folder)
+    model, adapter = Session(folder), Client(program, folder)
     came = b""
     for part in story.parts:
         if model.is_closed():

@@ -1,0 +1,118 @@
+#!/usr/bin/env python3
+"""Checks the program `pl0`: what docs/PL0.md says of mistakes, that it lists the code that is checked, and its output.
+
+usage: pl0_pages.py PL0
+
+Each row of the table of mistakes in docs/PL0.md is tried where its example is a text: the code is the number of the
+fault, and the sentence and the place are what `pl0 check` tells. For each of the examples `pl0 list` shows the same
+instructions, and the same steps beside them, as `pl0dap --check` prints, whose stored output the gate compares. The table of a run in
+docs/PL0.md is what `pl0 trace` writes, also where it begins later or ends earlier. A program
+that writes more than a megabyte writes it all to a pipe; where nobody reads on, or the disk is full, it ends at once with
+status 3. Prints what is wrong, and ends with status 1 where anything is.
+"""
+import itertools
+import pathlib
+import re
+import subprocess
+import sys
+
+TOP = pathlib.Path(__file__).resolve().parent.parent
+ROW = re.compile(r"^\| (\d+) \| \w+ \| .* \| (.*) \| `([^`]*)` \| `(\d+) (\d+) (\d+)` \|$")
+ENDLESS = b"var n; while 0 = 0 do begin n := n + 1; ! n end.\n"
+FAULTY = b"var n; begin n := n; ! 1 / n end.\n"
+LONG = b"var n; while n < 200000 do begin n := n + 1; ! n end.\n"
+
+
+def run(*words: str, text: bytes = b"", **streams: object) -> subprocess.CompletedProcess[bytes]:
+    return subprocess.run(words, input=text, capture_output=not streams, check=False, timeout=60, **streams)
+
+
+def wrong_mistakes(pl0: str):
+    """What is wrong with the rows of mistakes."""
+    rows = 0
+    for line in (TOP / "docs" / "PL0.md").read_text(encoding="utf-8").splitlines():
+        row = ROW.match(line)
+        if not row:
+            continue
+        number, sentence, text, code, place_line, column = row.groups()
+        rows += 1
+        told = run(pl0, "check", "-", text=text.encode())
+        wanted = f"-:{place_line}:{column}: error: {sentence}\n".encode()
+        if number != code or told.stderr != wanted or told.returncode != 2 or told.stdout:
+            yield f"mistake {number}: {told.stderr!r}, status {told.returncode}, where {wanted!r} is wanted"
+    if rows < 8:
+        yield f"only {rows} rows of mistakes were found"
+
+
+def listed(text: bytes) -> list[list[bytes]]:
+    """The instructions in a listing of `pl0 list`: number, name, level, address, and the step that each begins."""
+    found = []
+    for line in text.splitlines():
+        code = re.match(rb"^ *(@\d+)? +(\d+) ([A-Z]{3}) (\d+) +(-?\d+)(?:  .*)?$", line)
+        if code:
+            found.append([*code.groups()[1:], *([code[1]] if code[1] else [])])
+    return found
+
+
+def stored_code(name: str) -> list[list[bytes]]:
+    """The instructions that `pl0dap --check` prints of an example."""
+    stored = (TOP / "crates" / "check_runs" / "stdout").read_bytes()
+    lines = stored.split(name.encode() + b":\n")[1].split(b"\n\n")[1].splitlines()
+    return [line.split() for line in itertools.takewhile(lambda line: line[:1].isdigit(), lines)]
+
+
+def wrong_listings(pl0: str):
+    """The examples whose code is listed otherwise than `pl0dap --check` prints it."""
+    for example in sorted((TOP / "examples").glob("*.pl0")):
+        if listed(run(pl0, "list", str(example)).stdout) != stored_code(example.name):
+            yield f"{example.name}: another code is listed than checked"
+
+
+def wrong_traces(pl0: str):
+    """What is wrong with the table of a run, its parts, and a run that ends or faults before the first position told."""
+    page = (TOP / "docs" / "PL0.md").read_text(encoding="utf-8")
+    table = page.split("$ pl0 trace procedures.pl0\n")[1].split("```")[0].encode().splitlines(keepends=True)
+    program = str(TOP / "crates" / "pl0_trace_runs" / "data" / "procedures.pl0")
+    for start, steps in ((0, 100), (0, 1), (7, 5), (19, 1), (19, 2), (20, 3)):
+        told = run(pl0, "trace", program, "--from", str(start), "--steps", str(steps))
+        wanted = b"".join([table[0], *table[start + 1 : start + steps + 1]])
+        said = b"" if start < len(table) - 1 else b"pl0: the run ends at position 20\n"
+        if (told.stdout, told.stderr, told.returncode) != (wanted, said, 0):
+            yield f"a trace of {steps} steps from {start}: {told}, where {wanted!r} is wanted"
+    for start in ("0", "3", "7"):
+        told = run(pl0, "trace", "-", "--from", start, text=FAULTY)
+        if told.returncode != 1 or not told.stderr.startswith(b"-:1:22: fault: division by zero\n  in main at -:1:22\n"):
+            yield f"a trace from {start} of a run that faults: {told}"
+
+
+def wrong_outputs(pl0: str):
+    """What is wrong with long outputs, and with outputs that fail."""
+    wanted = "".join(f"{n}\n" for n in range(1, 200001)).encode()
+    told = run(pl0, "run", "-", text=LONG)
+    if told.stdout != wanted or told.returncode:
+        yield f"a megabyte: {len(told.stdout)} bytes, status {told.returncode}"
+    with open("/dev/full", "wb") as full:
+        status = run(pl0, "run", "-", text=LONG, stdout=full).returncode
+    if status != 3:
+        yield f"a full disk: status {status}"
+    pipe = subprocess.PIPE
+    with subprocess.Popen([pl0, "run", "-"], stdin=pipe, stdout=pipe, stderr=pipe) as program:
+        program.stdin.write(ENDLESS)
+        program.stdin.close()
+        first = program.stdout.readline()
+        program.stdout.close()
+        status = program.wait(timeout=60)
+        said = program.stderr.read()
+    if first != b"1\n" or said or status != 3:
+        yield f"a closed pipe: {first!r}, {said!r}, status {status}"
+
+
+def main() -> int:
+    (pl0,) = sys.argv[1:]
+    wrong = [*wrong_mistakes(pl0), *wrong_listings(pl0), *wrong_traces(pl0), *wrong_outputs(pl0)]
+    print("\n".join(wrong) or "mistakes, listings, traces and long outputs are as they should be")
+    return 1 if wrong else 0
+
+
+if __name__ == "__main__":
+    sys.exit(main())

@@ -1,0 +1,172 @@
+#!/usr/bin/env python3
+"""Runs everything that the merge gate leaves out, and writes one line of each to out/release.md.
+
+usage: release.py [CHECK]
+
+Each check is a target of the Makefile. They are run one after the other, the short ones first, and all of them also where one fails.
+It says which commit, which kit and which computer, and refuses a tree that differs from its commit; the transcripts and pictures that
+`make editors` writes aren't looked at. With CHECK it goes on from that check, and keeps what was found of those before it, which must
+be of the same commit and kit. A check that the Makefile doesn't have counts as not run. What each one printed is in out/release/. The
+status is 0 where every check passed, 1 where one failed, and 2 where none did, but one was not run or not whole.
+"""
+from __future__ import annotations
+
+import json
+import os
+import pathlib
+import platform
+import re
+import subprocess
+import sys
+import time
+from typing import NamedTuple
+
+TOP = pathlib.Path(__file__).resolve().parent.parent
+OUT = TOP / "out"
+LOGS, STATE, PAGE = OUT / "release", OUT / "release.json", OUT / "release.md"
+# What `make editors` writes.
+WRITTEN = ("docs/editors/", "docs/pictures/")
+PASSED, FAILED, PARTLY, MISSING = "passed", "FAILED", "not whole", "not run"
+
+
+class Check(NamedTuple):
+    """A target, its variables, what it is, and whether it is one to go on with another day."""
+
+    name: str
+    what: str
+    variables: tuple[str, ...] = ()
+    is_long: bool = False
+    # Statuses of its last command that mean that something it needs is missing.
+    partly: tuple[int, ...] = ()
+
+
+CHECKS = [
+    Check("build", "both programs, proved", is_long=True),
+    Check("pages", "names on pages, lengths of functions and lines"),
+    Check("rows", "worked inputs and sessions, both programs"),
+    Check("hostile", "hostile inputs, both programs"),
+    Check("misuse", "programs that the compiler must refuse"),
+    Check("clients", "other clients of the protocol"),
+    Check("threads", "the threads' queues"),
+    Check("model", "the model of the threads"),
+    Check("last-position", "the last position, in a copy of the crates"),
+    Check("editors", "editors and their sessions", partly=(2,)),
+    Check("beside", "random sessions beside the session over memory"),
+    Check("sessions", "2,000 random sessions beside a plain model", ("SESSIONS=2000",), is_long=True),
+    Check("refusals", "each allocation, thread, read and write refused, all programs", is_long=True),
+    Check("soak", "sessions that leave nothing over, for an hour", ("SOAK=3600",), is_long=True),
+    Check("bench", "times and instructions", is_long=True),
+    Check("plants", "planted bugs, whole", is_long=True),
+]
+
+
+def output(*command: str) -> str:
+    """What a command prints; nothing where it can't be run."""
+    try:
+        return subprocess.run(command, cwd=TOP, capture_output=True, text=True).stdout.strip()
+    except OSError:
+        return ""
+
+
+def changed() -> list[str]:
+    """The files that differ from the commit, but for what `make editors` writes."""
+    lines = subprocess.run(["git", "status", "--porcelain"], cwd=TOP, capture_output=True, text=True, check=True).stdout.splitlines()
+    return [line[3:] for line in lines if not line[3:].startswith(WRITTEN)]
+
+
+def computer() -> str:
+    with open("/proc/cpuinfo", encoding="utf-8") as file:
+        models = re.findall(r"^model name\s*: (.*)$", file.read(), re.MULTILINE)
+    memory = os.sysconf("SC_PAGE_SIZE") * os.sysconf("SC_PHYS_PAGES") / 2**30
+    model = models[0] if models else platform.processor() or platform.machine()
+    return f"{os.cpu_count()} of {model}, {memory:.0f} GiB, {platform.system()} {platform.release()}, Python {platform.python_version()}"
+
+
+def identity() -> dict[str, str]:
+    """What is checked, and by what."""
+    return {
+        "commit": output("git", "rev-parse", "HEAD"),
+        "kit": output("rt", "--version").splitlines()[0] if output("rt", "--version") else "no kit on the path",
+    }
+
+
+def has_target(name: str) -> bool:
+    return re.search(rf"^{re.escape(name)}:", (TOP / "Makefile").read_text(encoding="utf-8"), re.MULTILINE) is not None
+
+
+def last_line(text: str) -> str:
+    """The last line that a check printed itself."""
+    lines = [line.strip() for line in text.splitlines() if line.strip() and not line.startswith("make")]
+    return lines[-1] if lines else ""
+
+
+def run(check: Check) -> dict[str, object]:
+    """Runs a check, and returns how it went. What it prints goes to its log."""
+    if not has_target(check.name):
+        return {"result": MISSING, "minutes": 0.0, "last": "the Makefile has no such target"}
+    LOGS.mkdir(parents=True, exist_ok=True)
+    log, begin = LOGS / f"{check.name}.log", time.monotonic()
+    with open(log, "w", encoding="utf-8") as file:
+        command = ["make", "--no-print-directory", check.name, *check.variables]
+        status = subprocess.run(command, cwd=TOP, stdin=subprocess.DEVNULL, stdout=file, stderr=subprocess.STDOUT).returncode
+    text = log.read_text(encoding="utf-8", errors="replace")
+    failures = [int(number) for number in re.findall(r"^make.*\*\*\* .* Error (\d+)", text, re.MULTILINE)]
+    is_partly = bool(failures) and all(number in check.partly for number in failures)
+    result = PASSED if status == 0 else PARTLY if is_partly else FAILED
+    return {"result": result, "minutes": (time.monotonic() - begin) / 60, "last": last_line(text)}
+
+
+def line(name: str, found: dict) -> str:
+    return f"{name:14} {found['result']:9} {found['minutes']:7.1f} min  {found['last']}"
+
+
+def page(who: dict[str, str], results: dict[str, dict]) -> str:
+    rows = [
+        f"| `make {' '.join([check.name, *check.variables])}` | {check.what} | {results[check.name]['result']} | "
+        f"{results[check.name]['minutes']:.1f} | {str(results[check.name]['last']).replace('|', '/')} |"
+        for check in CHECKS if check.name in results
+    ]
+    rest = [check.name for check in CHECKS if check.name not in results]
+    head = ["# What the gate leaves out", "", *(f"- {name}: {what}" for name, what in who.items())]
+    table = ["", "| Command | What | Result | Minutes | Its last line |", "|---|---|---|---|---|", *rows]
+    return "\n".join([*head, *table, *(["", f"Not tried yet: {', '.join(rest)}."] if rest else [])]) + "\n"
+
+
+def kept(who: dict[str, str], first: str) -> dict[str, dict]:
+    """What was found of the checks before the first one, by an earlier run of the same commit and kit."""
+    before = [check.name for check in CHECKS][:[check.name for check in CHECKS].index(first)]
+    state = json.loads(STATE.read_text(encoding="utf-8")) if STATE.exists() else {"who": {}, "results": {}}
+    if any(state["who"].get(name) != who[name] for name in ("commit", "kit")):
+        sys.exit(f"there is no earlier run of this commit and kit to go on with from {first}")
+    lacking = [name for name in before if name not in state["results"]]
+    if lacking:
+        sys.exit(f"the earlier run has nothing of {lacking[0]}: go on from there")
+    return {name: state["results"][name] for name in before}
+
+
+def main() -> int:
+    names = [check.name for check in CHECKS]
+    if len(sys.argv) > 2 or any(name not in names for name in sys.argv[1:]):
+        sys.exit(f"{__doc__}\nChecks: {', '.join(names)}")
+    if files := changed():
+        sys.exit(f"the tree differs from its commit: {', '.join(files[:5])}{' ..' if files[5:] else ''}")
+    who = identity()
+    results = kept(who, sys.argv[1]) if sys.argv[1:] else {}
+    who.update({"computer": computer(), "begun": time.strftime("%Y-%m-%d %H:%M UTC", time.gmtime()), "load": f"{os.getloadavg()[0]:.2f}"})
+    OUT.mkdir(exist_ok=True)
+    print("\n".join(f"{name}: {what}" for name, what in who.items()), flush=True)
+    for check in CHECKS[names.index(sys.argv[1]) if sys.argv[1:] else 0:]:
+        long = f" (long: `make release FROM={check.name}` goes on here)" if check.is_long else ""
+        print(f"{check.name}: {check.what}{long}", flush=True)
+        results[check.name] = run(check)
+        STATE.write_text(json.dumps({"who": who, "results": results}, indent=1), encoding="utf-8")
+        PAGE.write_text(page(who, results), encoding="utf-8")
+        if identity()["commit"] != who["commit"] or changed():
+            sys.exit(f"the tree changed while {check.name} ran: what was found is of no commit")
+    print("\n".join(["", *(line(name, found) for name, found in results.items())]))
+    found = {one["result"] for one in results.values()}
+    return 1 if FAILED in found else 2 if found & {PARTLY, MISSING} else 0
+
+
+if __name__ == "__main__":
+    sys.exit(main())
