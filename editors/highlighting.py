@@ -10,6 +10,8 @@ their kind. Some texts of this script's own, with tokens that touch each other, 
 Kate's own engine is installed (`kate-syntax-highlighter`), it has to give the characters of each kind a look of their own. Prints
 a line for each difference, and ends with status 1 where there is one.
 """
+from __future__ import annotations
+
 import html.parser
 import json
 import os

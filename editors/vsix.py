@@ -8,6 +8,8 @@ give the same bytes. After packing, FILE is read back: the manifest has to say w
 them names has to be there, the grammar's patterns and the snippets have to be readable, and the snippets have to be texts of
 PL/0 tokens. Prints what is wrong, and ends with status 1 where anything is.
 """
+from __future__ import annotations
+
 import json
 import os
 import re
@@ -22,7 +24,7 @@ SOURCE = os.path.join(TOP, "editors", "vscode")
 LEFT_OUT = ("launch.json",)  # a template for the user's own folder
 LICENSE = "LICENSE.txt"
 THE_FIRST_DAY = (1980, 1, 1, 0, 0, 0)
-KINDS = {"json": "application/json", "txt": "text/plain", "vsixmanifest": "text/xml"}
+KINDS = {"js": "application/javascript", "json": "application/json", "txt": "text/plain", "vsixmanifest": "text/xml"}
 MANIFEST, TYPES = "extension.vsixmanifest", "[Content_Types].xml"
 MANIFEST_SPACE = "{http://schemas.microsoft.com/developer/vsx-schema/2011}"
 TYPES_SPACE = "{http://schemas.openxmlformats.org/package/2006/content-types}"
@@ -119,7 +121,7 @@ def wrong_manifest(file: zipfile.ZipFile, package: dict) -> Iterator[str]:
 def named(part: object) -> Iterator[str]:
     """The files that a part of package.json names."""
     if isinstance(part, str) and part.startswith("./"):
-        yield part.removeprefix("./")
+        yield part[2:] if part.startswith("./") else part
     for inner in part.values() if isinstance(part, dict) else part if isinstance(part, list) else ():
         yield from named(inner)
 
@@ -168,7 +170,7 @@ def wrong_snippets(snippets: dict) -> Iterator[str]:
 
 def packed(file: zipfile.ZipFile, path: str) -> dict | None:
     """What a file that package.json names holds, if it is there."""
-    name = "extension/" + path.removeprefix("./")
+    name = "extension/" + (path[2:] if path.startswith("./") else path)
     return json.loads(file.read(name)) if name in file.namelist() else None
 
 

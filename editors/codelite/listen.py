@@ -7,6 +7,8 @@ CodeLite 17 starts this as its `dap` server, and connects to PORT of this comput
 what comes over it, and what it writes goes back. CodeLite says in `initialize` that it counts lines and columns from 0, but counts
 them from 1: that request is passed on with both members true, and all else as it is.
 """
+from __future__ import annotations
+
 import json
 import re
 import socket

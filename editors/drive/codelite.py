@@ -8,6 +8,8 @@ COMMAND starts the adapter, or the proxy before it. Ends with status 0 once all 
 Needs codelite (17), Xvfb and xdotool. CodeLite's settings are in a folder that is removed afterwards. It has no window manager, and
 so the window's place, and that of all in it, is always the same.
 """
+from __future__ import annotations
+
 import json
 import os
 import shlex

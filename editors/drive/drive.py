@@ -9,6 +9,8 @@ demo/endless.pl0. docs/editors/ gets a transcript of each session, docs/pictures
 Nothing is installed. Status 0: all that was wanted was done. Status 1: the adapter sent something else than a session says, or an
 editor failed. Status 2: only an editor, or what a picture needs, is missing.
 """
+from __future__ import annotations
+
 import os
 import shutil
 import subprocess
@@ -18,20 +20,22 @@ from screen import NEEDED
 
 DRIVE = os.path.dirname(os.path.realpath(__file__))
 TOP = os.path.realpath(os.path.join(DRIVE, "..", ".."))
-TRANSCRIPTS = os.path.join(TOP, "docs", "editors")
-PICTURES = os.path.join(TOP, "docs", "pictures")
+RECORDINGS = os.path.join(TOP, "docs", "editors")
+MADE_IN = os.path.join(TOP, "docs" if os.environ.get("RECORD") == "1" else "out")
+TRANSCRIPTS = os.path.join(MADE_IN, "editors")
+PICTURES = os.path.join(MADE_IN, "pictures")
 WRITTEN = ("vscode.txt", "vscode_back.txt", "vscode_log.txt", "neovim.txt", "neovim_back.txt", "from_zero.txt")
 FROM_ZERO = ("kate.txt", "kate_endless.txt", "neovim.txt", "neovim_back.txt")  # sessions of editors that number their requests from 0
-RECORDED = ("emacs.txt", "emacs_back.txt", "emacs_endless.txt", "kate.txt", "kate_endless.txt", "codelite.txt")
+RECORDED = ("emacs.txt", "emacs_back.txt", "emacs_fault.txt", "emacs_endless.txt", "kate.txt", "kate_endless.txt", "codelite.txt")
 AT_THE_END, BY_DISCONNECT = '"event":"terminated"', '"command":"disconnect","request_seq"'
-ENDINGS = {"factorial": AT_THE_END, "back": AT_THE_END, "endless": BY_DISCONNECT}  # what each session comes to
+ENDINGS = {"factorial": AT_THE_END, "back": AT_THE_END, "fault": BY_DISCONNECT, "endless": BY_DISCONNECT}  # what each session comes to
 HAS_DAP_MODE = "(progn (require 'package) (package-initialize) (require 'dap-ui))"
 
 
 def replay(program: str, from_zero: str) -> bool:
     """Whether the adapter sends what the sessions say."""
     written = [os.path.join(DRIVE, name) for name in WRITTEN]
-    recorded = [os.path.join(TRANSCRIPTS, name) for name in RECORDED]
+    recorded = [os.path.join(RECORDINGS, name) for name in RECORDED]
     sessions = [session for session in written + recorded if os.path.exists(session)]
     shifted = [session for session in sessions if os.path.basename(session) in FROM_ZERO]
     plain = [session for session in sessions if session not in shifted]
@@ -107,20 +111,20 @@ def take_picture(_session: str, program: str) -> bool:
 def main() -> int:
     if len(sys.argv) != 3:
         print(__doc__, file=sys.stderr)
-        return 1
+        return 4
     program, from_zero = (os.path.abspath(name) for name in sys.argv[1:])
     print("Sessions, played to the adapter:", flush=True)
     is_right, is_whole = replay(program, from_zero), True
     emacs, display = missing_for_emacs(), missing(*NEEDED)
     for editor, lacks, sessions, drive, started in (
-        ("Emacs", emacs, ("factorial", "back", "endless"), drive_emacs, program),
+        ("Emacs", emacs, ("factorial", "back", "fault", "endless"), drive_emacs, program),
         ("Emacs in a terminal", emacs + missing("xterm") + display, ("picture",), take_picture, program),
         ("Kate", missing("kate") + display, ("factorial", "endless"), drive_kate, from_zero),
         ("CodeLite", missing("codelite") + display, ("factorial",), drive_codelite, program),
     ):
         if lacks:
             is_whole = False
-            print(f"{editor} was not driven. Missing: {', '.join(lacks)}. docs/EDITORS.md says how to install it.", flush=True)
+            print(f"{editor} was not driven. Missing: {', '.join(lacks)}. docs/CLIENTS.md names the packages.", flush=True)
             continue
         for session in sessions:
             print(f"{editor}, session {session}:", flush=True)

@@ -1,8 +1,8 @@
-;;; emacs.el --- Emacs debugs examples/factorial.pl0 or demo/endless.pl0 -*- lexical-binding: t; -*-
+;;; emacs.el --- Emacs debugs PL/0 programs -*- lexical-binding: t; -*-
 
 ;; usage: emacs --batch --load editors/drive/emacs.el -- SESSION COMMAND..
 ;;
-;; SESSION is factorial, back or endless.  COMMAND starts the adapter, or the proxy before it.  Prints what Emacs shows, line by line,
+;; SESSION is factorial, back, fault or endless.  COMMAND starts the adapter, or the proxy before it.  Prints what Emacs shows, line by line,
 ;; and ends with status 0 at the end of the session.
 ;;
 ;; SESSION picture is for an Emacs in a terminal, without --batch: it stops, shows frames, variables and output, and makes the file
@@ -48,9 +48,15 @@
                                                :variablesReference (gethash "variablesReference" scope)))
              ", "))
 
+(defun drive-marked-line ()
+  "The line that Emacs marks as the one of the stop; nil where none is."
+  (when dap-ui--cursor-overlay
+    (line-number-at-pos (overlay-start dap-ui--cursor-overlay))))
+
 (defun drive-show-stop ()
-  "Wait for a stop; print the frames, and the variables of the newest one."
-  (drive-wait "a stop" (drive-frame))
+  "Wait for a stop; print the marked line, the frames, and the variables of the newest one."
+  (drive-wait "a stop" (and (drive-frame) (drive-marked-line)))
+  (drive-show "line %d is marked" (drive-marked-line))
   (dolist (frame (gethash 1 (dap--debug-session-thread-stack-frames (dap--cur-session))))
     (drive-show "frame %s at line %d" (gethash "name" frame) (gethash "line" frame)))
   (dolist (scope (gethash "scopes" (dap-request (dap--cur-session) "scopes" :frameId (gethash "id" (drive-frame)))))
@@ -83,7 +89,7 @@
 (defun drive-breakpoint (line command text)
   "Set a breakpoint at LINE, call COMMAND by its name, and type TEXT."
   (drive-go-to-line line)
-  (dap-breakpoint-toggle)
+  (dap-breakpoint-add)
   (execute-kbd-macro (vconcat (kbd (format "M-x %s RET" command)) text (kbd "RET"))))
 
 (defun drive-show-output ()
@@ -124,8 +130,21 @@
   (dap-continue (dap--cur-session) 1)
   (drive-show-stop)
   (drive-go-to-line 10)
-  (dap-breakpoint-toggle)
+  (call-interactively #'dap-breakpoint-delete)
   (drive-to-the-end))
+
+(defun drive-fault ()
+  "A program that can't take its next step: the name of the fault is shown."
+  (drive-start "examples/overflow.pl0")
+  (let (said)
+    (cl-letf (((symbol-function 'lsp--error) (lambda (form &rest values) (setq said (apply #'format form values)))))
+      (drive-debug)
+      (drive-show-stop)
+      (drive-wait "the fault's name" said))
+    (drive-show "%s" (string-replace "\n" ": " said)))
+  (dap-disconnect (dap--cur-session))
+  (drive-rest 1)
+  (drive-show-process "a second after disconnect"))
 
 (defun drive-rest (seconds)
   "Let SECONDS pass."
@@ -159,9 +178,9 @@
   (drive-pause)
   (drive-evaluate "6 * 7")
   (drive-continue)
-  (dap-breakpoint-toggle)
+  (dap-breakpoint-add)
   (drive-show-stop)
-  (dap-breakpoint-toggle)
+  (call-interactively #'dap-breakpoint-delete)
   (drive-continue)
   (drive-pause)
   (drive-continue)
@@ -197,7 +216,6 @@
         inhibit-startup-screen t
         native-comp-async-report-warnings-errors nil)
   (frame-set-background-mode nil)
-  (dap-ui-mode 1)
   (drive-start "examples/factorial.pl0")
   (drive-breakpoint 9 "dap-breakpoint-log-message" "k is {k}, n {n}")
   (drive-breakpoint 10 "dap-breakpoint-condition" "k = 8")
@@ -213,6 +231,7 @@
   ("picture" (drive-picture))
   ("factorial" (drive-factorial))
   ("back" (drive-back))
+  ("fault" (drive-fault))
   ("endless" (drive-endless))
   (_ (drive-show "no session %s" drive-session) (kill-emacs 4)))
 (when noninteractive

@@ -9,6 +9,8 @@ the session is in the proxy's transcript. PICTURE gets a picture of the last sto
 Xvfb and xdotool; the icons are those of breeze-icon-theme, where it is installed. Kate's settings are in a folder that is removed
 afterwards.
 """
+from __future__ import annotations
+
 import json
 import os
 import subprocess

@@ -9,36 +9,22 @@ remark says so once. Other remarks begin with # as well: the end of the editor's
 that ends the editor's child is passed on; SIGKILL can't be. FOLDER, which stands for the place of the program under
 debugging, is recorded as ${folder}.
 """
+from __future__ import annotations
+
 import argparse
 import json
 import os
-import re
 import signal
 import subprocess
 import sys
 import threading
 import time
 
-LENGTH = re.compile(rb"^Content-Length: ([0-9]+)\r$", re.MULTILINE)
+sys.path.insert(0, os.path.join(os.path.dirname(os.path.realpath(__file__)), "..", "..", "checks"))
+from client import ANY_HEADER, Frames  # noqa: E402
+
 AT_ONCE = 65536
 SIGNALS = (signal.SIGTERM, signal.SIGHUP, signal.SIGINT)
-
-
-class Contents:
-    """The contents of a stream of frames that comes in pieces."""
-
-    def __init__(self) -> None:
-        self.rest = b""
-
-    def take(self, piece: bytes):
-        """The contents that this piece completes."""
-        self.rest += piece
-        while (end := self.rest.find(b"\r\n\r\n")) >= 0:
-            length = LENGTH.search(self.rest, 0, end + 2)
-            if length is None or len(self.rest) < end + 4 + int(length[1]):
-                return
-            content, self.rest = self.rest[end + 4 :][: int(length[1])], self.rest[end + 4 + int(length[1]) :]
-            yield content.decode("utf-8", "backslashreplace")
 
 
 class Transcript:
@@ -80,10 +66,11 @@ class Transcript:
 
 def pass_on(source: int, target: int, transcript: Transcript, arrow: str) -> None:
     """Passes on what comes, until nothing comes or nobody takes it. Each content is recorded before its last byte is passed on."""
-    contents = Contents()
+    contents = Frames(ANY_HEADER)
     while piece := os.read(source, AT_ONCE):
-        for content in contents.take(piece):
-            transcript.content(arrow, content)
+        contents.take(piece)
+        for content in contents:
+            transcript.content(arrow, content.decode("utf-8", "backslashreplace"))
         while piece:
             piece = piece[os.write(target, piece) :]
     if contents.rest:

@@ -1,4 +1,6 @@
 """A display of its own for an editor (Xvfb), keys for what is on it (xdotool), and its pictures as PNG."""
+from __future__ import annotations
+
 import collections
 import os
 import struct

@@ -7,6 +7,8 @@ COMMAND starts the adapter. Emacs runs in xterm on a display of its own; emacs.e
 variables, what a log point has said, and the frames. PICTURE gets a PNG of that. Ends with status 1 where no stop is shown in time.
 Needs emacs with dap-mode, xterm, Xvfb and xdotool.
 """
+from __future__ import annotations
+
 import os
 import subprocess
 import sys

@@ -2,11 +2,13 @@
 
 ;;; Commentary:
 
-;; A mode for PL/0 programs, and what dap-mode has to know of the adapter.  Load this file, open a program, and call `dap-debug'.
+;; A mode for PL/0 programs, what dap-mode has to know of the adapter, and commands that run, trace and check a program.  Load this
+;; file, open a program, and call `dap-debug'.
 
 ;;; Code:
 
 (require 'dap-mode)
+(require 'dap-ui)
 (require 'dap-utils)
 
 (defgroup pl0 nil "PL/0 programs." :group 'languages)
@@ -14,6 +16,10 @@
 (defcustom pl0-dap-command '("pl0dap")
   "The adapter and its arguments."
   :type '(repeat string))
+
+(defcustom pl0-command "pl0"
+  "The program that runs, traces and checks PL/0 programs."
+  :type 'string)
 
 (defconst pl0-font-lock-keywords
   (let ((name "[[:alpha:]][[:alnum:]]*"))
@@ -34,6 +40,32 @@
 
 ;;;###autoload
 (add-to-list 'auto-mode-alist '("\\.pl0\\'" . pl0-mode))
+
+;; What these commands print of a mistake or a fault begins with its file, line and column, and `next-error' goes there.
+(defun pl0-compile (what)
+  "Save the program of the current buffer, and do WHAT with it."
+  (unless buffer-file-name
+    (user-error "This buffer has no file"))
+  (save-buffer)
+  (compile (mapconcat #'shell-quote-argument (list pl0-command what buffer-file-name) " ")))
+
+;;;###autoload
+(defun pl0-run ()
+  "Run the program of the current buffer."
+  (interactive)
+  (pl0-compile "run"))
+
+;;;###autoload
+(defun pl0-trace ()
+  "Show the run of the program of the current buffer, step by step."
+  (interactive)
+  (pl0-compile "trace"))
+
+;;;###autoload
+(defun pl0-check ()
+  "Look for a mistake in the program of the current buffer."
+  (interactive)
+  (pl0-compile "check"))
 
 (defun pl0-dap-configuration (configuration)
   "CONFIGURATION with what it leaves out: the adapter, and the current buffer's file as the program."
@@ -57,6 +89,10 @@
 (when dap-output-buffer-filter
   (add-to-list 'dap-output-buffer-filter "console"))
 
+(defun pl0-dap-session-p (session)
+  "Whether SESSION is with this adapter."
+  (equal "pl0" (plist-get (dap--debug-session-launch-args session) :type)))
+
 ;; dap-mode has no commands for going back.
 ;;;###autoload
 (defun pl0-dap-step-back (session)
@@ -73,11 +109,32 @@
 ;; The adapter's process ends at the end of its input, which dap-mode leaves open after `disconnect'.
 (defun pl0-dap-close-input (message _callback session)
   "Close the adapter's input if MESSAGE, which was sent in SESSION, is `disconnect'."
-  (when (and (equal "disconnect" (plist-get message :command))
-             (equal "pl0" (plist-get (dap--debug-session-launch-args session) :type)))
+  (when (and (equal "disconnect" (plist-get message :command)) (pl0-dap-session-p session))
     (process-send-eof (dap--debug-session-proc session))))
 
 (advice-add 'dap--send-message :after #'pl0-dap-close-input)
+
+;; A fault's name is in the event `stopped'.  dap-mode asks for it once more, by `exceptionInfo', and shows what it is answered.
+(defvar pl0-dap-fault nil "The name of the fault before which a program stopped last.")
+
+(defun pl0-dap-keep-fault (_session event)
+  "Keep the name of the fault in EVENT, if it has one."
+  (when (equal "stopped" (gethash "event" event))
+    (setq pl0-dap-fault (gethash "text" (gethash "body" event)))))
+
+(advice-add 'dap--on-event :before #'pl0-dap-keep-fault)
+
+(defun pl0-dap-answer-exception-info (send message callback session)
+  "Answer MESSAGE by CALLBACK if it asks for the fault of SESSION, and else SEND it."
+  (if (and (equal "exceptionInfo" (plist-get message :command)) (pl0-dap-session-p session))
+      (funcall callback (ht ("body" (ht ("exceptionId" pl0-dap-fault) ("description" "The next step can't be taken")))))
+    (funcall send message callback session)))
+
+(advice-add 'dap--send-message :around #'pl0-dap-answer-exception-info)
+
+;; These mark the line of a stop and those of breakpoints, and make a menu Debug.
+(dap-mode 1)
+(dap-ui-mode 1)
 
 (provide 'pl0-dap)
 ;;; pl0-dap.el ends here
