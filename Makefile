@@ -4,24 +4,36 @@ PREFIX ?= /usr/local
 APART = dap_frame dap_msg dbg_runner
 PROGRAM = crates/pl0dap/out/pl0dap
 FROM_ZERO = crates/pl0dap_from_zero/out/pl0dap_from_zero
+PL0 = crates/pl0/out/pl0
 SPEED = crates/speed/out/speed
 SOURCES = crates.txt $(shell find crates -name out -prune -o -type f \( -name '*.rt' -o -name '*.antt' \) -print)
+# How many random sessions `make sessions` plays, from which check `make release` goes on, and for how many seconds `make soak`
+# plays.
+SESSIONS ?= 500
+FROM ?=
+SOAK ?= 0
 
-.PHONY: try build demo rows hostile soak sessions editors vsix refusals last-position misuse check plants gate-times pages install bench
+INSTALLED = $(DESTDIR)$(PREFIX)
+MANUAL = $(INSTALLED)/share/man/man1
 
-# A debug session in short form, a few minutes after a fresh clone. `rt try` takes only an input that ends, so all is sent at once:
-# a stop on entry needs no run, which the end of the input would end.
+.PHONY: try build demo rows hostile soak sessions beside editors clients vsix refusals last-position misuse check plants \
+  gate-times pages threads install uninstall bench instructions release
+
+# A debug session in short form, a few minutes after a fresh clone. `rt try` reads its standard input, not the crate's file
+# `stdin`, and takes only an input that ends, so all is sent at once: a stop on entry needs no run, which the end of the input
+# would end.
 try:
-	@echo "This builds the program in about two minutes, or more where the computer is busy, and proves nothing. 'make build' proves it."
+	@echo "This builds the program in about two minutes, or more where the computer is busy, and proves nothing."
+	@echo "'make build' proves it."
 	@python3 demo/session.py --short --waiting "building, not proving" demo/entry.session \
 	  env -C crates/pl0dap rt try --data factorial.pl0=../../examples/factorial.pl0
-	@echo "The lines 'checked', 'races' and 'run' are of rt try: the program ended by itself, no data races were looked for, and"
-	@echo "nothing was proved (proved=no). For the whole session, with runs and stops at breakpoints: make demo."
+	@echo "The lines 'checked', 'races' and 'run' are of rt try: the program ended by itself, no data races were looked for,"
+	@echo "and nothing was proved (proved=no). For the whole session, with runs and stops at breakpoints: make demo."
 
-build: $(PROGRAM)
+build: $(PROGRAM) $(FROM_ZERO) $(PL0)
 
-# Crates that share none below them are proved side by side. Then `rt run` proves the others, builds the program and runs it; with no
-# input it serves nobody and ends.
+# Crates that share none below them are proved side by side. Then `rt run` proves the others, builds the program and runs it;
+# with no input it serves nobody and ends.
 $(PROGRAM): $(SOURCES)
 	$(MAKE) --jobs $(APART:%=prove-%)
 	cd crates/pl0dap && rt run < /dev/null
@@ -30,6 +42,11 @@ $(PROGRAM): $(SOURCES)
 # The program for editors that number their requests from 0.
 $(FROM_ZERO): $(SOURCES) $(PROGRAM)
 	cd crates/pl0dap_from_zero && rt run < /dev/null
+	touch $@
+
+# The program that runs, checks and lists programs from a shell.
+$(PL0): $(SOURCES)
+	cd crates/pl0 && rt run -- --version
 	touch $@
 
 # Proves a crate and those below it, with the crate's name before each line, which comes as it is written.
@@ -41,43 +58,58 @@ $(SPEED): $(SOURCES)
 	cd crates/speed && rt run -- work data/count.pl0
 	touch $@
 
-# Two debug sessions on examples/factorial.pl0, message by message: a breakpoint with a condition, a stop, questions, a step, the end;
-# and a log point, a stop, steps back, and on again.
+# Two debug sessions on examples/factorial.pl0, message by message: a breakpoint with a condition, a stop, questions, a step,
+# the end; and a log point, a stop, steps back, and on again.
 demo: $(PROGRAM)
 	python3 demo/session.py demo/factorial.session $(PROGRAM)
 	python3 demo/session.py demo/back.session $(PROGRAM)
 
-# Worked inputs, whole, a byte at a time and cut at many places, with what must come out; a session that is large in everything; that the sessions of docs/PROTOCOL.md
-# are the demo's; that the examples are those whose listings the gate compares; and that the programs whose stored runs the gate
-# compares have one `main`.
-rows: $(PROGRAM) $(FROM_ZERO)
-	python3 demo/rows.py $(PROGRAM)
-	python3 demo/rows.py $(FROM_ZERO)
-	python3 demo/largest.py $(PROGRAM)
+# Worked inputs, whole, a byte at a time and cut at many places, with what must come out; a session that is large in
+# everything; that the sessions of docs/PROTOCOL.md are the demo's; that the examples are those whose listings the gate
+# compares; and that the programs whose stored runs the gate compares have one `main`.
+rows: $(PROGRAM) $(FROM_ZERO) $(PL0)
+	python3 checks/rows.py $(PROGRAM) $(FROM_ZERO)
+	python3 checks/largest.py $(PROGRAM)
+	python3 checks/largest.py $(FROM_ZERO)
 	diff -r -x fault.pl0 -x procedures.pl0 examples crates/check_runs/data
-	diff <(sed '/^\/\//d' crates/pl0dap/src/main.rt) <(sed '/^\/\//d' crates/fault_runs/src/main.rt)
-	diff <(sed '/^\/\//d' crates/pl0dap/src/main.rt) <(sed '/^\/\//d' crates/argument_runs/src/main.rt)
+	python3 checks/pl0_pages.py $(PL0)
+	for runs in fault check list trace; do \
+	  diff <(sed '/^\/\//d' crates/pl0/src/main.rt) <(sed '/^\/\//d' crates/pl0_$${runs}_runs/src/main.rt) || exit 1; done
+	for runs in argument unread fault mistake usage; do \
+	  diff <(sed '/^\/\//d' crates/pl0dap/src/main.rt) <(sed '/^\/\//d' crates/$${runs}_runs/src/main.rt) || exit 1; done
 
 # Hostile headers, contents, types, numbers, sizes, situations, cuts and ends, with what docs/PROTOCOL.md says of each.
 hostile: $(PROGRAM) $(FROM_ZERO)
-	python3 demo/hostile.py $(PROGRAM) $(FROM_ZERO)
+	python3 checks/hostile.py $(PROGRAM) $(FROM_ZERO)
+	python3 checks/nonblocking.py $(PROGRAM) $(FROM_ZERO)
 
-# 500 sessions with a loop without end, and what is left over of them; and clients that read, write and leave as they like.
-soak: $(PROGRAM)
-	python3 demo/soak.py $(PROGRAM) 480 20
-	python3 demo/clients.py $(PROGRAM)
+# 500 sessions with a loop without end, and what is left over of them, again and again for SOAK seconds, and once at least; fewer
+# with the other program; and clients that read, write and leave as they like.
+soak: $(PROGRAM) $(FROM_ZERO)
+	python3 checks/soak.py --seconds $(SOAK) $(PROGRAM) 480 20
+	python3 checks/soak.py $(FROM_ZERO) 80 20
+	python3 checks/clients.py $(PROGRAM)
+	python3 checks/clients.py $(FROM_ZERO)
 
-# Random sessions, each message compared with what a plain model of the adapter says; and others, whose bytes are compared with what
-# the session puts over memory, in one thread.
-sessions: $(PROGRAM) $(SPEED)
-	python3 demo/sessions.py $(PROGRAM) 500
-	python3 demo/beside.py $(PROGRAM) $(SPEED) 200
+# Random sessions, each message compared with what a plain model of the adapter says.
+sessions: $(PROGRAM)
+	python3 checks/sessions.py $(PROGRAM) $(SESSIONS)
 
-# What Visual Studio Code and Kate mark in programs; the sessions of editors, played to the program; then Emacs, Kate and CodeLite,
-# where they are installed, debug a program with it, and pictures are taken. Nothing is installed: status 2 where one is missing.
+# Random sessions whose bytes are compared with what the session puts over memory, in one thread.
+beside: $(PROGRAM) $(SPEED)
+	python3 checks/beside.py $(PROGRAM) $(SPEED) 200
+
+# What Visual Studio Code and Kate mark in programs; the sessions of editors, played to the program; then Emacs, Kate and
+# CodeLite, where they are installed, debug a program with it, and pictures are taken, all into out/; with RECORD=1 into docs/.
+# Nothing is installed: status 2 where one is missing.
 editors: $(PROGRAM) $(FROM_ZERO)
-	python3 editors/highlighting.py $(PROGRAM) examples/*.pl0 demo/*.pl0
+	python3 editors/highlighting.py $(PROGRAM) examples/*.pl0 demo/*.pl0 checks/*.pl0
 	python3 editors/drive/drive.py $(PROGRAM) $(FROM_ZERO)
+
+# Outside clients and types: a session by Microsoft's debugpy, each message decoded by go-dap and type-checked against
+# @vscode/debugprotocol. Nothing is installed: status 2 where one is missing.
+clients: $(PROGRAM) $(FROM_ZERO)
+	python3 checks/outside_clients.py $(PROGRAM) $(FROM_ZERO)
 
 # The extension for Visual Studio Code, packed and read back.
 vsix:
@@ -95,7 +127,12 @@ plants:
 gate-times:
 	python3 tools/gate_times.py $(CRATE)
 
-# That the files and headings that the pages name are there.
+# The model of the four threads, explored in every interleaving, with Debian's spin and gcc: status 2 where one is missing.
+threads:
+	@tools/threads/explore.sh
+
+# Whether the files, headings and functions that the pages name are there, and what the model of the threads names, and
+# whether functions and lines are short.
 pages:
 	python3 tools/pages.py
 
@@ -103,23 +140,44 @@ pages:
 misuse:
 	python3 misuse/check.py
 
-# Each allocation, read and write of the program refused in turn, and each allocation of the runs that step a text.
-refusals: $(PROGRAM) $(SPEED)
-	python3 demo/refusals.py $(PROGRAM) $(SPEED)
+# Each allocation, read and write of the programs refused in turn, and each allocation of the runs that step a text.
+refusals: $(PROGRAM) $(FROM_ZERO) $(SPEED) $(PL0)
+	python3 checks/refusals.py --speed $(SPEED) --pl0 $(PL0) $(PROGRAM) $(FROM_ZERO)
 
 # A program without end, up to the last position, which is 1,001 in a copy of the crates. That copy is not proved.
 last-position:
-	python3 demo/last_position.py
+	python3 checks/last_position.py
 
-install: $(PROGRAM) $(FROM_ZERO)
-	install -D $(PROGRAM) $(DESTDIR)$(PREFIX)/bin/pl0dap
-	install -D $(FROM_ZERO) $(DESTDIR)$(PREFIX)/bin/pl0dap_from_zero
-	install -D -m 644 docs/pl0dap.1 $(DESTDIR)$(PREFIX)/share/man/man1/pl0dap.1
+# Copies what `make build` has made, and proves and builds nothing.
+install:
+	@for program in $(PROGRAM) $(FROM_ZERO) $(PL0); do test -x $$program || { echo "$$program isn't there: make build"; exit 1; }; done
+	install -D $(PROGRAM) $(INSTALLED)/bin/pl0dap
+	install -D $(FROM_ZERO) $(INSTALLED)/bin/pl0dap_from_zero
+	install -D $(PL0) $(INSTALLED)/bin/pl0
+	install -D editors/codelite/listen.py $(INSTALLED)/bin/pl0dap-listen
+	install -D -m 644 docs/pl0dap.1 $(MANUAL)/pl0dap.1
+	install -D -m 644 docs/pl0dap_from_zero.1 $(MANUAL)/pl0dap_from_zero.1
+	install -D -m 644 docs/pl0.1 $(MANUAL)/pl0.1
 
-bench: $(PROGRAM) $(SPEED)
+uninstall:
+	rm -f $(addprefix $(INSTALLED)/bin/,pl0dap pl0dap_from_zero pl0dap-listen pl0)
+	rm -f $(addprefix $(MANUAL)/,pl0dap.1 pl0dap_from_zero.1 pl0.1)
+
+bench: $(PROGRAM) $(SPEED) $(PL0)
 	python3 bench/throughput.py $(PROGRAM)
 	python3 bench/session.py $(PROGRAM) $(SPEED)
 	python3 bench/machine.py $(PROGRAM) $(SPEED)
+	python3 bench/shell.py $(PROGRAM) $(PL0)
 	python3 bench/slices.py $(SPEED)
 	python3 bench/back.py $(PROGRAM)
 	python3 bench/checking.py $(PROGRAM)
+	python3 bench/instructions.py $(SPEED)
+
+# Instructions a step and an answer, beside those that bench/instructions.txt has.
+instructions: $(SPEED)
+	python3 bench/instructions.py $(SPEED)
+
+# Everything that the gate leaves out, with one line each at the end and in out/release.md. It takes hours: `make release
+# FROM=plants` goes on with a run that was broken off.
+release:
+	python3 checks/release.py $(FROM)

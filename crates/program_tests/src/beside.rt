@@ -86,7 +86,7 @@ const OUTCOMES: [SliceOutcome; 5] = [
     SliceOutcome::Fault(RunFault::Depth),
 ];
 
-/// Which of the known outcomes the run of a random program has, in slices as by single steps.
+/// Returns which of the known outcomes the run of a random program has; slices and single steps must agree.
 fn outcome_of(rt: &impl Abort, alloc: Global, seed: u64) -> usize {
     let text = random_program(alloc, seed).expect(rt, "memory");
     let sliced = in_slices(rt, alloc, text.as_str());

@@ -58,7 +58,7 @@ pub fn breakpoints_at(rt: &impl Abort, alloc: Global, lines: &[Line]) -> Vec<Sou
     all
 }
 
-/// The same with log messages.
+/// Breakpoints as they are asked for, with log messages.
 pub fn log_points_at(rt: &impl Abort, alloc: Global, points: &[LogPoint]) -> Vec<SourceBreakpoint> {
     let mut all = Vec::new(alloc);
     for (line, condition, hit, message) in points {
@@ -76,7 +76,7 @@ pub fn log_points_at(rt: &impl Abort, alloc: Global, points: &[LogPoint]) -> Vec
     all
 }
 
-/// Puts a plan of these breakpoints in: how they are answered.
+/// Puts a plan of these breakpoints in, and returns the answers to them.
 pub fn put_in(
     rt: &impl Abort,
     alloc: Global,
@@ -95,7 +95,7 @@ pub fn put_in(
     answers
 }
 
-/// A lawful text under breakpoints, at position 0, which was considered in a mode: why it is due, if it is.
+/// Returns a debuggee of a lawful text under breakpoints, at position 0, considered in a mode; and why it is due, if so.
 pub fn begun(
     rt: &impl Abort,
     alloc: Global,
@@ -112,7 +112,7 @@ pub fn begun(
     (StoppedDebuggee::new(debuggee), reason)
 }
 
-/// The same, with breakpoints at lines.
+/// Returns such a debuggee with breakpoints at these lines.
 pub fn begin(
     rt: &impl Abort,
     alloc: Global,
@@ -124,7 +124,7 @@ pub fn begin(
     begun(rt, alloc, text, &breakpoints, mode)
 }
 
-/// Runs a slice in the mode `Continue`: its report, and the debuggee where the run goes on.
+/// Runs a slice in the mode `Continue`, and returns its report, and the debuggee if the run goes on.
 pub fn onward(
     rt: &impl Abort,
     alloc: Global,
@@ -137,7 +137,7 @@ pub fn onward(
     (report, on.map(StoppedDebuggee::new))
 }
 
-/// Takes the debuggee's next step: whether it is no fault.
+/// Takes the debuggee's next step, and returns whether it isn't a fault.
 pub fn goes(debuggee: &mut Debuggee) -> bool
     requires { IsConsidered debuggee.old }
     ensures { IsTrue result → debuggee.new.next ≡ debuggee.new.position }

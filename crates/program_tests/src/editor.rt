@@ -96,7 +96,7 @@ fn expression_fault(
     parse_expression(alloc, text.as_bytes(), &names, &table, step).err()
 }
 
-/// A text has these faults, with the names of a step.
+/// Asserts that a text has these faults, with the names of a step.
 fn assert_found(rt: &impl Abort, alloc: Global, tree: &Tree, step: &str, text: &str, wanted: &str) {
     let step = step.parse::<usize>().expect(rt, "a step");
     let mut found = String::new(alloc);

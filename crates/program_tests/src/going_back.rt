@@ -12,7 +12,7 @@ use std::process::Abort;
 /// At each of these positions a checkpoint is kept, if one is asked for.
 const APART: u64 = 256;
 
-/// Takes steps to a position, or to the end: how many.
+/// Takes steps to a position, or to the end, and returns how many.
 fn steps_to(rt: &impl Abort, alloc: Global, debuggee: &mut Debuggee, position: u64) -> u64
     requires { debuggee.old.next ≡ debuggee.old.position }
     ensures { debuggee.new.next ≡ debuggee.new.position }
@@ -37,7 +37,7 @@ fn steps_to(rt: &impl Abort, alloc: Global, debuggee: &mut Debuggee, position: u
     debuggee.machine().position().saturating_sub(from)
 }
 
-/// A loop that stands at position 400,000, with its checkpoints.
+/// Returns a loop at position 400,000, with its checkpoints.
 fn at_the_end_of_the_loop(rt: &impl Abort, alloc: Global) -> Debuggee
     ensures { result.next ≡ result.position }
 {
@@ -47,7 +47,7 @@ fn at_the_end_of_the_loop(rt: &impl Abort, alloc: Global) -> Debuggee
     debuggee
 }
 
-/// Goes back, which is asked for at a position that was come to.
+/// Goes back from a position that a run reached.
 fn back(rt: &impl Abort, debuggee: &mut Debuggee, to: u64) -> u64
     ensures { debuggee.new.next ≡ debuggee.new.position }
 {

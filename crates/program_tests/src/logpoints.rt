@@ -10,7 +10,7 @@ use std::process::Abort;
 /// How many positions are considered, at most.
 const POSITIONS: u64 = 100;
 
-/// A text under log points, at position 0, and how these are answered.
+/// Returns a debuggee of a text under log points, at position 0, and the answers to these.
 fn asked(
     rt: &impl Abort,
     alloc: Global,
@@ -31,8 +31,8 @@ fn note(rt: &impl Abort, alloc: Global, notes: &mut String, position: u64, what:
     notes.push_str(line.as_str()).expect(rt, "memory");
 }
 
-/// What a text does in the mode `Continue` under log points: of each position that logs or is due its number, the logs with
-/// their breakpoints' numbers, and `stop`.
+/// Returns what a text does in the mode `Continue` under log points: for each position that logs or is due, its number,
+/// the logs with their breakpoints' numbers, and `stop`.
 fn notes_of(rt: &impl Abort, alloc: Global, text: &str, points: &[LogPoint]) -> String {
     let (mut debuggee, _) = asked(rt, alloc, text, points);
     let mut logs = Logs::new(alloc).expect(rt, "memory");
@@ -65,7 +65,7 @@ const POINTS: [LogPoint; 4] = [
     (3, "x > 3", "", "second }{x}{x}"),
 ];
 
-/// Of the loop log points, and what is noted of it.
+/// Log points in the loop, and the logs expected.
 const NOTED: [(&[LogPoint], &str); 6] = [
     (
         &[(3, "", "", MESSAGE)],
@@ -112,7 +112,7 @@ fn logs_in_the_newest_frame(rt: HostRuntime) {
     );
 }
 
-/// Of the loop a line, the texts of a condition, a hit condition and a message, and the answer.
+/// A line of the loop, the texts of a condition, a hit condition and a message, and the expected answer.
 const ANSWERS: [(u32, &str, &str, &str, Resolution); 20] = [
     (3, "", "", "{x", Resolution::BadLogMessage),
     (3, "", "", "{}", Resolution::BadLogMessage),

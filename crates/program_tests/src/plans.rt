@@ -19,7 +19,7 @@ fn ask(rt: &impl Abort, alloc: Global, unit: &Unit, lines: &[Line]) -> (Plan, Ve
     resolve(alloc, unit, &asked).expect(rt, "memory")
 }
 
-/// The lines of a text are answered so.
+/// Asserts that breakpoints at these lines of a text are answered so.
 fn assert_answers(
     rt: &impl Abort,
     alloc: Global,
@@ -47,7 +47,7 @@ fn answers_lines(rt: HostRuntime) {
     );
 }
 
-/// Of the loop a line with a condition and a hit condition, and the answer.
+/// A line of the loop with a condition and a hit condition, and the expected answer.
 const TEXTS: [(u32, &str, &str, Resolution); 16] = [
     (3, "x > 2", "%2", Resolution::At(1)),
     (3, "1 / 0 = 1", "3", Resolution::At(1)),
@@ -81,7 +81,7 @@ fn answers_texts(rt: HostRuntime) {
     }
 }
 
-/// The breakpoints at a step have these numbers.
+/// Asserts that the breakpoints at a step have these numbers.
 fn assert_entry(rt: &impl Abort, unit: &Unit, plan: &Plan, step: usize, wanted: &[usize])
     requires { IsPlanOf unit.now plan.now }
 {

@@ -78,7 +78,7 @@ fn ends_slices_at_logs(rt: HostRuntime) {
 /// More slices than any run here has.
 const SLICES: u64 = 10_000;
 
-/// Runs a debuggee back in this mode, or on in the mode `Continue`: the last report.
+/// Runs a debuggee back in this mode, or on in the mode `Continue`, and returns the last report.
 fn run(rt: &impl Abort, alloc: Global, debuggee: StoppedDebuggee, mode: Mode) -> Report {
     if goes_back(mode) {
         return run_back(rt, alloc, Retreat::new(debuggee.into_debuggee(), mode));
@@ -114,7 +114,7 @@ fn run_back(rt: &impl Abort, alloc: Global, retreat: Retreat) -> Report {
     panic!(rt; "no end")
 }
 
-/// A mode; then of the run's last report its end, its outcome, the numbers written before it starts, the numbers that
+/// A mode; then the end of the run's last report, its outcome, the numbers written before it starts, the numbers that
 /// it tells, and the steps run again.
 type Run<'a> = (Mode, u64, SliceOutcome, u64, &'a [i64], u64);
 
@@ -225,4 +225,20 @@ fn steps_back_without_checkpoints(rt: HostRuntime) {
         (Mode::StepBack, 399_999, STEP, 0, [].as_slice(), 399_999),
     ];
     assert_runs(&rt, rt.alloc(), debuggee, runs.as_slice());
+}
+
+#[test]
+fn goes_back_to_a_stop_from_a_checkpoint(rt: HostRuntime) {
+    let lines = [(1u32, "x = 199000", ""), (1, "x = 200000", "")];
+    let (debuggee, _) = begin(&rt, rt.alloc(), LONG_LOOP, lines.as_slice(), Mode::Continue);
+    let (report, _) = ordered(&rt, rt.alloc(), debuggee, Mode::Continue);
+    assert_eq!(rt; report.summary().end, 398_000);
+    let debuggee = StoppedDebuggee::new(report.into_debuggee().expect(&rt, "a debuggee"));
+    let (report, _) = ordered(&rt, rt.alloc(), debuggee, Mode::Continue);
+    assert_eq!(rt; report.summary().end, 400_000);
+    let debuggee = StoppedDebuggee::new(report.into_debuggee().expect(&rt, "a debuggee"));
+    let (report, count) = ordered(&rt, rt.alloc(), debuggee, Mode::Reverse);
+    let summary = report.summary();
+    assert_eq!(rt; (summary.end, summary.outcome), (398_000, BREAKPOINT));
+    assert_eq!(rt; (summary.again, count), (400_687, 1_566));
 }

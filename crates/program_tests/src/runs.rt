@@ -35,7 +35,7 @@ fn ends_of_runs(rt: HostRuntime) {
     assert_rows(&rt, rt.alloc(), View::End, ENDS);
 }
 
-/// Of each frame its block, the step that it is in, the frame that it is linked to, and its first variable. The last
+/// Each frame's block, the step that it is in, the frame that it is linked to, and its first variable. The last
 /// one was called by frame 2, which frame 1 called; both frames of p are linked to the main block's.
 type Row = (u32, usize, Option<usize>, Option<i64>);
 

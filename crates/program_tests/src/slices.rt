@@ -18,7 +18,7 @@ struct Seen {
     numbers: Vec<i64>,
 }
 
-/// Runs one slice: the debuggee where the run goes on, and that which stopped.
+/// Runs one slice, and returns the debuggee if the run goes on, and otherwise the one that stopped.
 fn run_slice(
     rt: &impl Abort,
     alloc: Global,
@@ -86,7 +86,7 @@ fn run_on(rt: &impl Abort, alloc: Global, debuggee: StoppedDebuggee, seen: &mut 
     }
 }
 
-/// In mode Continue the slices of a program end just there.
+/// Asserts that in the mode `Continue` the slices of a program end exactly there.
 fn assert_ends(
     rt: &impl Abort,
     alloc: Global,
@@ -218,7 +218,7 @@ fn steps_by_mode(rt: HostRuntime) {
     }
 }
 
-/// Of 256 breakpoints at one line each is due at a time of its own: by its hit condition, this sign and a number.
+/// 256 breakpoints at one line, each due at a different arrival: by its hit condition, which is this sign and a number.
 fn assert_counts(rt: &impl Abort, alloc: Global, sign: &str, from: u32, at_start: Option<Reason>) {
     let mut lines = Vec::new(alloc);
     for number in from..from.saturating_add(256) {

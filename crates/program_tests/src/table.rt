@@ -41,13 +41,13 @@ pub fn text_of(rt: &impl Abort, alloc: Global, cell: &str) -> String {
     text
 }
 
-/// A text shows this.
+/// Asserts that a text shows this.
 pub fn assert_shown(rt: &impl Abort, alloc: Global, view: View, text: &str, wanted: &str) {
     let found = show(rt, alloc, view, text);
     assert_eq!(rt; found.as_str(), wanted, "{text}");
 }
 
-/// Each text of a table shows what its row says.
+/// Asserts that each text of a table shows what its row says.
 pub fn assert_rows(rt: &impl Abort, alloc: Global, view: View, table: &str) {
     for row in table.lines().skip(1) {
         let (_, cells) = first_cell(row);

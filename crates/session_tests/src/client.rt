@@ -1,4 +1,4 @@
-//! The events of a transcript. One that it doesn't have, and out of memory, end the test.
+//! The events of a transcript. Asking for more than it has ends the test, and so does running out of memory.
 
 use crate::reports::described;
 use crate::text::unescaped;

@@ -146,7 +146,7 @@ fn breakpoint(alloc: Global, shown: &str) -> Result<String, AllocError> {
     }
 }
 
-/// `2 of 4: p 10:1 id 3, p 9:15 id 2`.
+/// `4 frames: p 10:1 id 3, p 9:15 id 2`.
 fn frames(alloc: Global, shown: &str) -> Result<String, AllocError> {
     let (total, frames) = in_two(shown, " frames: ");
     let last = format!(in alloc; "],\"totalFrames\":{total}")?;

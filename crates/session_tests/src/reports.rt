@@ -13,7 +13,7 @@ use std::alloc::Global;
 use std::process::Abort;
 use std::sync::Arc;
 
-/// The report of `run 1, Continue, from 0, lines 3 5, of TEXT`. Of `-` there are no breakpoints, and no text means this
+/// The report of `run 1, Continue, from 0, lines 3 5, of TEXT`. `-` means no breakpoints, and no text means this
 /// one.
 pub fn described(rt: &impl Abort, alloc: Global, description: &str, program: &str) -> Report {
     let (run, rest) = description.split_once(", ").expect(rt, "a run");

@@ -16,7 +16,7 @@ use std::alloc::Global;
 use std::process::Abort;
 use std::sync::Wait;
 
-/// Each session goes so, with the client's bytes whole and one by one.
+/// Asserts that each session goes as it is written, with the client's bytes whole and one by one.
 fn assert_sessions<R: Abort + Wait>(rt: &R, alloc: Global, sessions: &str) {
     for session in sessions.split("\n# ").skip(1) {
         for piece in [usize::MAX, 1] {
