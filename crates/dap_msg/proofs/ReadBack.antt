@@ -17,13 +17,13 @@ use Rattle.serde_json.specs.View.{items_of}
 use Rattle.serde_json.specs.Written.{outline, items_outline, members_outline, compact_text}
 use Rattle.serde_json.proofs.Numbers.{number_of-decimal}
 use Rattle.serde_json.proofs.Texts.{print-outline}
-use Rattle.dap_msg.specs.Laws.{NumbersFit, LineFits, FrameFits, ReferenceFits, MessagesAreReadBack}
+use Rattle.dap_msg.specs.Laws.{NamesItself, NumbersFit, LineFits, FrameFits, ReferenceFits, MessagesAreReadBack}
 use Rattle.dap_msg.specs.Outgoing.{value_of, text_of}
 use Rattle.dap_msg.specs.Scopes.{scope}
 use Rattle.dap_msg.specs.SetBreakpoints.{breakpoint}
 use Rattle.dap_msg.specs.StackTrace.{stack_frame}
 use Rattle.dap_msg.specs.Variables.{variable}
-use Rattle.dap_msg.specs.Writing.{Fits, ItemsFit, MembersFit}
+use Rattle.dap_msg.specs.Writing.{Fits, ItemsFit, MembersFit, IsContent}
 use Rattle.dap_msg.specs.declared.outgoing.BreakpointAnswer.{BreakpointAnswer}
 use Rattle.dap_msg.specs.declared.outgoing.BreakpointAnswer.TheVariants.{At, Unverified}
 use Rattle.dap_msg.specs.declared.outgoing.Outgoing.{Outgoing}
@@ -282,3 +282,14 @@ message_fits (Event event.Terminated) seq fits below = (tt, (below, (tt, tt)))
 pub messages_are_read_back : MessagesAreReadBack
 messages_are_read_back message seq fits below =
     (text_is_read message seq (message_fits message seq fits below), says message seq)
+
+-- ---- contents
+
+pub content_is_read : (message : Outgoing) (seq : ℕ) (bytes : List ℕ) → IsContent (value_of message seq) bytes
+    → read bytes ≡ Some (value_of message seq)
+content_is_read message seq bytes is = rw is.text (text_is_read message seq is.fits)
+
+pub content_names : (message : Outgoing) (seq : ℕ) (bytes : List ℕ) → IsContent (value_of message seq) bytes
+    → NamesItself message seq bytes
+content_names message seq bytes is =
+    (value_of message seq, (is.utf8, content_is_read message seq bytes is), says message seq)

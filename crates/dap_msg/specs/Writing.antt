@@ -1,10 +1,10 @@
 -- Defines, for private contracts, what is written of a message.
-use Rattle.std.specs.Prelude.{◌≡◌, ◌<◌, ◌^◌, List, [], ◌∷◌, ◌++◌}
+use Rattle.std.specs.Prelude.{◌≡◌, ◌<◌, ◌^◌, ℕ, List, [], ◌∷◌, ◌++◌, IsUtf8}
 use Rattle.json.specs.Token.{Token, key}
 use Rattle.json.specs.Tree.{json_tokens}
 use Rattle.json.specs.Written.{Written}
 use Rattle.serde_json.specs.Data.{Data, null, boolean, number, unsigned, negative, float, string, array, object, Items, no_items, item, Members, no_members, member}
-use Rattle.serde_json.specs.Written.{outline}
+use Rattle.serde_json.specs.Written.{outline, compact_text}
 
 -- each number in the value is a whole number of 64 bits that isn't negative
 abbrev mutual
@@ -46,3 +46,9 @@ pub record WritesMembers (ms : Members) (old new : Written) : Type 0 where
   pub before : new.before ≡ old.before
   pub tokens : new.tokens ≡ old.tokens ++ members_tokens_of ms
   pub fits : MembersFit ms
+
+-- the bytes are the value's text
+pub record IsContent (d : Data) (bytes : List ℕ) : Type 0 where
+  pub text : bytes ≡ compact_text d
+  pub utf8 : IsUtf8 bytes
+  pub fits : Fits d

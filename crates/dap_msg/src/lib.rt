@@ -47,12 +47,14 @@
 
 mod arguments;
 mod command;
+mod draft;
 mod entries;
 mod events;
 mod items;
 mod laws;
 mod members;
 mod outgoing;
+mod plain_answers;
 mod printable;
 mod question;
 mod reading;

@@ -1,0 +1,13 @@
+use Rattle.std.proofs.Common.{rules, ◌<◌, ◌^◌}
+use Rattle.std.proofs.lemmas.Result.{on_ok_weaker}
+use Rattle.dap_msg.proofs.PlainAnswers.{end_put}
+use Rattle.dap_msg.proofs.plain_answers.put_end.Goals as goal
+
+pub returns : goal.returns
+returns c =
+    let below : c.args.request_seq < 2 ^ 64 = search rules in
+    let next_below : c.args.seq < 2 ^ 64 = search rules in
+    on_ok_weaker c.put-5.result
+    (end_put c.args.command.now c.args.request_seq c.args.seq _ _ _ _ _ _ _ _ c.requires below next_below
+    c.in_ok-put.ensures c.in_ok-put-2.ensures c.in_ok-put-3.ensures c.in_ok-put_whole.ensures c.in_ok-put-4.ensures
+    c.in_ok-put_whole-2.ensures) c.put-5.ensures

@@ -1,0 +1,11 @@
+use Rattle.std.proofs.Common.{rules, ◌<◌, ◌^◌}
+use Rattle.std.proofs.lemmas.Result.{on_ok_weaker}
+use Rattle.dap_msg.proofs.PlainAnswers.{frames_put}
+use Rattle.dap_msg.proofs.plain_answers.put_stack_trace_body.Goals as goal
+
+pub returns : goal.returns
+returns c =
+    let below : c.args.total < 2 ^ 64 = search rules in
+    on_ok_weaker c.put-3.result
+    (λ last. frames_put c.args.path.now c.args.frames.now c.args.total _ _ _ _ _ _ below
+    c.in_ok-put.ensures c.in_ok-put_frames.ensures c.in_ok-put-2.ensures c.in_ok-put_whole.ensures last) c.put-3.ensures

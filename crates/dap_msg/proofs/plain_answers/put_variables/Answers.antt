@@ -1,0 +1,26 @@
+use Rattle.std.proofs.Common.{◌≡◌, true, subst, sym}
+use Rattle.std.proofs.lemmas.List.Sums.{AllPass-from_list_all}
+use Rattle.dap_msg.specs.PlainAnswers.{is_plain, PutsValue}
+use Rattle.dap_msg.specs.Variables.{variable}
+use Rattle.dap_msg.specs.declared.outgoing.Variable.{Variable}
+use Rattle.dap_msg.proofs.PlainAnswers.{item_put, each_put}
+use Rattle.dap_msg.proofs.plain_answers.put_variables.Goals as goal
+
+pub put_variable-requires : goal.put_variable-requires
+put_variable-requires c =
+    subst (λ (v : Variable). is_plain v.name ≡ true) (sym c.variable-item.is)
+    (AllPass-from_list_all (λ (v : Variable). is_plain v.name) c.args.variables.now c.requires
+    c.loop-variable.variable-index c.variable-item.result c.loop-variable-test.true)
+
+pub loop-variable-preserved : goal.loop-variable-preserved
+loop-variable-preserved c =
+    item_put variable c.args.variables.now c.loop-variable.variable-index c.variable-item.result
+    c.loop-variable.is_later _ c.loop-variable.text _ _ c.loop-variable-test.true c.loop-variable.invariant
+    c.in_ok-put_comma_if.ensures
+    (subst (λ x. PutsValue (variable x) c.put_comma_if.new.self c.put_variable.new.text) c.variable-item.is
+    c.in_ok-put_variable.ensures)
+
+pub returns : goal.returns
+returns c =
+    each_put variable c.args.variables.now c.loop-variable.variable-index c.loop-variable.is_later _ _
+    c.loop-variable-test.false c.loop-variable.invariant

@@ -1,0 +1,8 @@
+use Rattle.std.proofs.Common.{map, take}
+use Rattle.dap_msg.specs.Variables.{variable}
+use Rattle.dap_msg.proofs.PlainAnswers.{PutsFront}
+use Rattle.dap_msg.proofs.plain_answers.put_variables.Given as goal
+
+abbrev pub invariant-loop-variable : goal.invariant-loop-variable
+invariant-loop-variable l =
+    PutsFront (map variable (take l.variable-index l.variables)) l.is_later l.initial.text l.text
