@@ -7,7 +7,7 @@ use Rattle.dap_frame.specs.declared.header.Scan.{Scan}
 use Rattle.dap_frame.specs.Header.{IsHeader}
 use Rattle.dap_frame.specs.Frame.{IsFrameInFront, Frames}
 use Rattle.dap_frame.specs.Progress.{IsScanned, IsRead, IsBounded}
-use Rattle.dap_frame.proofs.Frames.{frames_join}
+use Rattle.dap_frame.proofs.Frames.{same_frame, frames_join}
 
 scanned_more : (scan : Scan) (rest piece : List ℕ) → IsScanned scan rest → IsScanned scan (rest ++ piece)
 scanned_more scan rest piece is =
@@ -67,6 +67,13 @@ pub frames_one_more : (stream rest more content : List ℕ) (contents : List (Li
     → IsFrameInFront rest content more → Frames stream (contents ++ content ∷ []) more
 frames_one_more stream rest more content contents h f =
     frames_join stream rest more contents (content ∷ []) h (more, f, refl)
+
+-- the frame whose content was copied is the one that was passed
+pub frame_passed : (bytes content given other rest more : List ℕ) → IsFrameInFront bytes content rest → given ≡ content
+    → IsFrameInFront bytes other more → IsFrameInFront bytes given more
+frame_passed bytes content given other rest more f is g =
+    let same = same_frame bytes content other rest more f g in
+    subst (λ c. IsFrameInFront bytes c more) (sym same.0 ∙ sym is) g
 
 pub frame_longer : (bytes content rest piece : List ℕ) → IsFrameInFront bytes content rest
     → IsFrameInFront (bytes ++ piece) content (rest ++ piece)

@@ -9,6 +9,10 @@ pub record IsFrameInFront (bytes content rest : List ℕ) : Type 0 where
   pub lawful : IsHeader header (length content)
   pub spelled : bytes ≡ header ++ (content ++ rest)
 
+-- a whole frame of some content stands at the front
+abbrev pub HasFrame : List ℕ → Type 0
+HasFrame bytes = (content : List ℕ) × (rest : List ℕ) × IsFrameInFront bytes content rest
+
 -- the bytes are the frames of these contents, one after the other, and then the rest
 abbrev pub Frames : List ℕ → List (List ℕ) → List ℕ → Type 0
 Frames bytes [] rest = bytes ≡ rest

@@ -1,12 +1,13 @@
 //! The decoder: it takes a stream in pieces and returns the contents of the frames in it.
 
-ghost use Rattle.std.specs.Prelude.{◌≡◌, ◌≢◌, ◌≤◌, ◌++◌, ◌∷◌, [], ℕ, List, Option, Some, None, IfOk, IfErr, OnOk, MatchOption, length, drop};
+ghost use Rattle.std.specs.Prelude.{◌≡◌, ◌≢◌, ◌≤◌, ◌++◌, ◌∷◌, [], ℕ, List, Option, Some, None, IfOk, IfErr, OnOk, MatchOption, MatchBool, length, drop};
 ghost use Rattle.dap_frame.specs.Header.{FaultAt};
-ghost use Rattle.dap_frame.specs.Frame.{Frames, IsOpen, IsFrameInFront};
-ghost use Rattle.dap_frame.specs.Progress.{spare, IsBounded};
+ghost use Rattle.dap_frame.specs.Frame.{Frames, HasFrame, IsOpen, IsFrameInFront};
+ghost use Rattle.dap_frame.specs.Progress.{spare, IsBounded, IsRead};
 
 use crate::fault::FramingFault;
 use crate::header::{Header, content_of, read_on};
+use crate::laws::frame_laws;
 use std::alloc::Global;
 use std::marker::Model;
 
@@ -107,6 +108,28 @@ impl Decoder {
         ensures fault { IfErr result (λ fault. self.old.fault ≡ None → fault ≢ NoMemory →
             FaultAt self.old.rest fault × (self.new ≡ record { rest = self.old.rest; fault = Some fault })) }
     {
+        if !self.has_frame()? {
+            return Ok(None);
+        }
+        let mut given = Vec::new(*self.bytes.allocator());
+        given.extend_from_slice(self.content())?;
+        self.pass();
+        Ok(Some(given))
+    }
+
+    /// Whether a whole frame has come, whose content may then be read where it stands, and passed after that.
+    ///
+    /// # Errors
+    ///
+    /// The fault that stands where the next frame should. This call, every later one and `feed` return it.
+    pub fn has_frame(&mut self) -> Result<bool, FramingFault>
+        ensures found { IfOk result (λ found. MatchBool found (HasFrame self.old.rest) (IsOpen self.old.rest)) }
+        ensures same { OnOk result (self.new ≡ self.old) }
+        ensures sound { OnOk result (self.old.fault ≡ None) }
+        ensures again { (fault : FramingFault) → self.old.fault ≡ Some fault → (result ≡ Err fault) × (self.new ≡ self.old) }
+        ensures fault { IfErr result (λ fault. self.old.fault ≡ None →
+            FaultAt self.old.rest fault × (self.new ≡ record { rest = self.old.rest; fault = Some fault })) }
+    {
         if let Some(fault) = self.fault {
             return Err(fault);
         }
@@ -118,14 +141,46 @@ impl Decoder {
             }
         }
         let rest = &self.bytes.as_slice()[self.front..];
-        let Some((content, size)) = content_of(rest, self.header) else {
-            return Ok(None);
-        };
-        let mut given = Vec::new(*self.bytes.allocator());
-        given.extend_from_slice(content)?;
+        match content_of(rest, self.header) {
+            Some(_) => Ok(true),
+            None => Ok(false),
+        }
+    }
+
+    /// Returns the content of the frame at the front, where it stands.
+    pub fn content(&self) -> &[u8]
+        requires { HasFrame self.now.rest }
+        ensures { (rest : List ℕ) × IsFrameInFront self.now.rest result.now rest }
+    {
+        front_frame(&self.bytes.as_slice()[self.front..], self.header).0
+    }
+
+    /// Passes the frame at the front. What follows it is the rest of the stream then.
+    pub fn pass(&mut self)
+        requires { HasFrame self.old.rest }
+        ensures frame { (content : List ℕ) × IsFrameInFront self.old.rest content self.new.rest }
+        ensures fault { self.new.fault ≡ self.old.fault }
+    {
+        let size = front_frame(&self.bytes.as_slice()[self.front..], self.header).1;
         self.front = compact(&mut self.bytes, self.front + size, SPARE);
         self.header = Header::START;
-        Ok(Some(given))
+    }
+}
+
+/// Returns the content of the frame at the front, and how many bytes the frame takes.
+fn front_frame(rest: &[u8], header: Header) -> (&[u8], usize)
+    requires read { IsRead header rest.now }
+    requires frame { HasFrame rest.now }
+    ensures within { result.1 ≤ length rest.now }
+    ensures frame { IsFrameInFront rest.now result.0.now (drop result.1 rest.now) }
+{
+    frame_laws();
+    let Ok(header) = read_on(rest, header) else {
+        unreachable!()
+    };
+    match content_of(rest, header) {
+        Some(frame) => frame,
+        None => unreachable!(),
     }
 }
 
