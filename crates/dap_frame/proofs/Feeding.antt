@@ -1,5 +1,5 @@
 -- What was read of a rest stays read when more of it comes.
-use Rattle.std.proofs.Common.{◌≡◌, ◌+◌, ◌≤◌, ℕ, Bool, true, false, cond, List, [], ◌∷◌, ◌++◌, length, drop, refl, sym, ◌∙◌, ap, subst, arith, append_assoc, length-append}
+use Rattle.std.proofs.Common.{◌≡◌, ◌+◌, ◌≤◌, ℕ, List, [], ◌∷◌, ◌++◌, length, drop, refl, sym, ◌∙◌, ap, subst, arith, append_assoc, length-append}
 use Rattle.std.proofs.lemmas.List.{take-append-le, drop-append-le, get_or_append_left}
 use Rattle.dap_frame.specs.declared.header.Header.{Header}
 use Rattle.dap_frame.specs.declared.header.Header.TheVariants.{Open, Whole}
@@ -54,13 +54,6 @@ kept_more header bytes piece front is =
       subst (IsRead header) (sym same) (read_more header (drop front bytes) piece is.1),
       subst (λ r. IsBounded (length (bytes ++ piece)) (length r)) (sym same) (omega (arith, bounded, longer, more)),
     )
-
--- and so it does where the piece was taken or was not
-pub fed : (header : Header) (bytes piece new : List ℕ) (front : ℕ) (taken : Bool)
-    → new ≡ cond taken (bytes ++ piece) bytes → IsKept header bytes front → IsKept header new front
-fed header bytes piece new front false e is = subst (λ b. IsKept header b front) (sym e) is
-fed header bytes piece new front true e is =
-    subst (λ b. IsKept header b front) (sym e) (kept_more header bytes piece front is)
 
 -- one frame more
 pub frames_one_more : (stream rest more content : List ℕ) (contents : List (List ℕ)) → Frames stream contents rest

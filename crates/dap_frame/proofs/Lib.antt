@@ -22,5 +22,7 @@ pub mod Judging
 pub mod Scanning
 -- What was read of a rest stays read when more of it comes; for `Decoder::feed` and `Decoder::next_content`.
 pub mod Feeding
+-- How many bytes are kept, by where the rest begins; for `compact` and what calls it.
+pub mod Keeping
 -- Each rest is one of the three: a frame, a fault, or neither yet; for the clause `one_of_three` of `frame_laws`.
 pub mod Deciding

@@ -1,5 +1,5 @@
 -- Defines how far the header part at the front of a rest was read, and how many bytes a decoder may keep.
-use Rattle.std.specs.Prelude.{◌≡◌, ℕ, ◌+◌, ◌*◌, ◌<◌, ◌≤◌, List, [], ◌∷◌, length, take, slice_index, Option, Some, None, decimal}
+use Rattle.std.specs.Prelude.{◌≡◌, ℕ, ◌-◌, nat_lt, if◌then◌else◌, ◌+◌, ◌*◌, ◌<◌, ◌≤◌, List, [], ◌∷◌, length, take, slice_index, Option, Some, None, decimal}
 use Rattle.std.specs.List.{AllByRecursion}
 use Rattle.dap_frame.specs.declared.header.Header.{Header}
 use Rattle.dap_frame.specs.declared.header.Header.TheVariants.{Open, Whole}
@@ -50,3 +50,8 @@ spare = 4096
 -- at most twice as many bytes are kept as the rest has, and `spare` more
 abbrev pub IsBounded : ℕ → ℕ → Type 0
 IsBounded kept rest = kept ≤ 2 * rest + spare
+
+-- how many of `len` bytes are kept when the next piece comes: the first `front`, of frames already read, are removed
+-- where they are more than the rest
+abbrev pub kept_of : ℕ → ℕ → ℕ
+kept_of front len = if nat_lt (len - front) front then len - front else len

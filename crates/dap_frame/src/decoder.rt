@@ -1,9 +1,9 @@
 //! The decoder: it takes a stream in pieces and returns the contents of the frames in it.
 
-ghost use Rattle.std.specs.Prelude.{◌≡◌, ◌≢◌, ◌≤◌, ◌++◌, ◌∷◌, [], ℕ, List, Option, Some, None, IfOk, IfErr, OnOk, MatchOption, MatchBool, length, drop};
+ghost use Rattle.std.specs.Prelude.{◌≡◌, ◌≢◌, ◌+◌, ◌<◌, ◌≤◌, ◌++◌, ◌∷◌, [], ℕ, List, Option, Some, None, IfOk, IfErr, OnOk, OnErr, MatchOption, MatchBool, length, drop, vec_capacity, vec_len};
 ghost use Rattle.dap_frame.specs.Header.{FaultAt};
 ghost use Rattle.dap_frame.specs.Frame.{Frames, HasFrame, IsOpen, IsFrameInFront};
-ghost use Rattle.dap_frame.specs.Progress.{spare, IsBounded, IsRead};
+ghost use Rattle.dap_frame.specs.Progress.{spare, kept_of, IsBounded, IsRead};
 
 use crate::fault::FramingFault;
 use crate::header::{Header, content_of, read_on};
@@ -32,13 +32,13 @@ pub struct Decoder {
 }
 
 impl Model for Decoder {
-    ghost use Rattle.std.specs.Prelude.{drop, ◌≤◌, length};
+    ghost use Rattle.std.specs.Prelude.{drop, ◌-◌, ◌≤◌, length, vec_capacity, vec_len};
     ghost use Rattle.dap_frame.specs.Stream.{Stream};
-    ghost use Rattle.dap_frame.specs.Progress.{IsRead, IsBounded};
+    ghost use Rattle.dap_frame.specs.Progress.{kept_of, IsRead, IsBounded};
 
     ghost Value = { Stream };
 
-    ghost view = { λ decoder. record { rest = drop decoder.front decoder.bytes.items; fault = decoder.fault } };
+    ghost view = { λ decoder. record { rest = drop decoder.front decoder.bytes.items; fault = decoder.fault; room = vec_capacity decoder.bytes - kept_of decoder.front (vec_len decoder.bytes) } };
 
     ghost invariant = { λ decoder. (decoder.front ≤ length decoder.bytes.items)
         × IsRead decoder.header (drop decoder.front decoder.bytes.items)
@@ -51,7 +51,7 @@ impl Decoder {
 
     /// Returns a decoder at the beginning of a stream. It takes no memory.
     pub fn new(alloc: Global) -> Decoder
-        ensures { result ≡ record { rest = []; fault = None } }
+        ensures { result ≡ record { rest = []; fault = None; room = 0 } }
     {
         Decoder {
             bytes: Vec::new(alloc),
@@ -68,17 +68,21 @@ impl Decoder {
     /// The fault that was found before, or `NoMemory`, which an empty piece never gets. The decoder is unchanged then.
     pub fn feed(&mut self, piece: &[u8]) -> Result<(), FramingFault>
         ensures ok { OnOk result ((self.old.fault ≡ None)
-            × (self.new ≡ record { rest = self.old.rest ++ piece.now; fault = None })) }
+            × (self.new ≡ record { rest = self.old.rest ++ piece.now; fault = None; room = self.new.room })) }
         // The piece joins the end of the stream: the contents returned so far stay the same.
         ensures stream { (stream : List ℕ) (contents : List (List ℕ)) → Frames stream contents self.old.rest →
             OnOk result (Frames (stream ++ piece.now) contents self.new.rest) }
         ensures err { IfErr result (λ fault. (self.new ≡ self.old)
             × MatchOption self.old.fault (fault ≡ NoMemory × piece.now ≢ []) (λ first. fault ≡ first)) }
+        // Memory is needed only where there is no room for the piece, and a piece takes no more of the room than its length.
+        ensures full { self.old.fault ≡ None → OnErr result (self.old.room < length piece.now) }
+        ensures room { OnOk result (self.old.room ≤ self.new.room + length piece.now) }
     {
         if let Some(fault) = self.fault {
             return Err(fault);
         }
         self.front = compact(&mut self.bytes, self.front, 0);
+        self.bytes.reserve(piece.len())?;
         self.bytes.extend_from_slice(piece)?;
         Ok(())
     }
@@ -105,8 +109,9 @@ impl Decoder {
         // Memory is needed only for a content that isn't empty.
         ensures needed { result ≡ Err NoMemory → self.old.fault ≡ None →
             (content : List ℕ) × (rest : List ℕ) × IsFrameInFront self.old.rest content rest × (content ≢ []) }
+        ensures room { self.old.room ≤ self.new.room }
         ensures fault { IfErr result (λ fault. self.old.fault ≡ None → fault ≢ NoMemory →
-            FaultAt self.old.rest fault × (self.new ≡ record { rest = self.old.rest; fault = Some fault })) }
+            FaultAt self.old.rest fault × (self.new ≡ record self.old { fault = Some fault })) }
     {
         if !self.has_frame()? {
             return Ok(None);
@@ -128,7 +133,7 @@ impl Decoder {
         ensures sound { OnOk result (self.old.fault ≡ None) }
         ensures again { (fault : FramingFault) → self.old.fault ≡ Some fault → (result ≡ Err fault) × (self.new ≡ self.old) }
         ensures fault { IfErr result (λ fault. self.old.fault ≡ None →
-            FaultAt self.old.rest fault × (self.new ≡ record { rest = self.old.rest; fault = Some fault })) }
+            FaultAt self.old.rest fault × (self.new ≡ record self.old { fault = Some fault })) }
     {
         if let Some(fault) = self.fault {
             return Err(fault);
@@ -160,6 +165,7 @@ impl Decoder {
         requires { HasFrame self.old.rest }
         ensures frame { (content : List ℕ) × IsFrameInFront self.old.rest content self.new.rest }
         ensures fault { self.new.fault ≡ self.old.fault }
+        ensures room { self.old.room ≤ self.new.room }
     {
         let size = front_frame(&self.bytes.as_slice()[self.front..], self.header).1;
         self.front = compact(&mut self.bytes, self.front + size, SPARE);
@@ -192,6 +198,9 @@ fn compact(bytes: &mut Vec<u8>, front: usize, extra: usize) -> usize
     ensures there { result ≤ length bytes.new.items }
     ensures rest { drop result bytes.new.items ≡ drop front bytes.old.items }
     ensures bounded { IsBounded (length bytes.new.items) (length (drop result bytes.new.items)) }
+    ensures capacity { vec_capacity bytes.new ≡ vec_capacity bytes.old }
+    ensures kept { kept_of result (vec_len bytes.new) ≡ kept_of front (vec_len bytes.old) }
+    ensures removed { extra ≡ 0 → kept_of result (vec_len bytes.new) ≡ vec_len bytes.new }
 {
     let left = bytes.len() - front;
     if front <= left || front - left <= extra {

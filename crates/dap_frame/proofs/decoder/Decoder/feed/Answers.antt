@@ -1,18 +1,9 @@
-use Rattle.std.proofs.Common.{◌≡◌, ◌∙◌, ◌++◌, sym, ap, subst, drop}
-use Rattle.std.specs.Result.{is_ok}
+use Rattle.std.proofs.Common.{◌≡◌, ◌∙◌, ◌++◌, refl, sym, ap, subst, drop, arith, vec_len}
 use Rattle.std.proofs.lemmas.List.{drop-append-le}
 use Rattle.dap_frame.specs.Frame.{Frames}
-use Rattle.dap_frame.specs.Progress.{IsRead}
-use Rattle.dap_frame.proofs.Feeding.{fed, frames_longer}
+use Rattle.dap_frame.proofs.Feeding.{frames_longer}
+use Rattle.dap_frame.proofs.Keeping.{kept_within}
 use Rattle.dap_frame.proofs.decoder.Decoder.feed.Goals as goal
-
-pub invariant_of-self : goal.invariant_of-self
-invariant_of-self c =
-    let kept = c.compact-self-inside.ensures in
-    fed c.self.inside.header c.compact-self-inside.new.bytes.items c.args.piece.now c.extend_from_slice.new.self.items
-    c.compact-self-inside.result
-    (is_ok c.extend_from_slice.result) c.extend_from_slice.ensures.items
-    (kept.there, subst (IsRead c.self.inside.header) (sym kept.rest) c.self.invariant.1, kept.bounded)
 
 pub returns-clause-stream : goal.returns-clause-stream
 returns-clause-stream c = λ stream contents before.
@@ -20,8 +11,23 @@ returns-clause-stream c = λ stream contents before.
     let piece = c.args.piece.now in
     let front = c.compact-self-inside.result in
     let bytes = c.compact-self-inside.new.bytes.items in
-    let taken : c.extend_from_slice.new.self.items ≡ bytes ++ piece = c.in_ok-extend_from_slice.ensures.items in
+    let taken : c.extend_from_slice.new.self.items ≡ bytes ++ piece =
+    c.in_ok-extend_from_slice.ensures.items ∙ ap (λ b. b ++ piece) c.reserve.ensures.items in
     let rest : c.args.self.now.rest ++ piece ≡ drop front c.extend_from_slice.new.self.items =
     ap (λ r. r ++ piece) (sym (ap (λ s. s.rest) c.self.view_is) ∙ sym kept.rest)
     ∙ sym (drop-append-le front bytes piece kept.there) ∙ ap (drop front) (sym taken) in
     subst (Frames (stream ++ piece) contents) rest (frames_longer stream c.args.self.now.rest piece contents before)
+
+pub returns-clause-room : goal.returns-clause-room
+returns-clause-room c =
+    let before = ap (λ s. s.room) c.self.view_is in
+    let compact = c.compact-self-inside.ensures in
+    let capacity = compact.capacity in
+    let kept = compact.kept in
+    let all = compact.removed refl in
+    let reserved = c.reserve.ensures.capacity in
+    let extended = c.extend_from_slice.ensures.capacity in
+    let len = c.reserve.ensures.len in
+    let longer = c.in_ok-extend_from_slice.ensures.len in
+    let within = kept_within c.compact-self-inside.result (vec_len c.extend_from_slice.new.self) in
+    omega (arith, before, capacity, kept, all, reserved, extended, len, longer, within)

@@ -1,0 +1,30 @@
+use Rattle.std.proofs.Common.{◌≡◌, ◌-◌, sym, ◌∙◌, arith, vec_len}
+use Rattle.dap_frame.proofs.Keeping.{kept_whole, kept_rest}
+use Rattle.dap_frame.proofs.decoder.compact.Goals as goal
+use Rattle.dap_frame.proofs.decoder.compact.Goals.{then-front-left-via-then-front-left, then-front-left-via-else-front-left+then-front-left-2}
+
+pub returns-then-front-left-clause-removed : goal.returns-then-front-left-clause-removed
+returns-then-front-left-clause-removed c = λ none.
+    let len = c.len.ensures in
+    elim c.then-front-left.branch [
+      | then-front-left-via-then-front-left w ↦
+          let few = w.if-front-left.true in
+          kept_whole c.args.front (vec_len c.args.bytes.now) (omega (arith, len, few))
+      | then-front-left-via-else-front-left+then-front-left-2 w ↦
+          let few = w.if-front-left-2.true in
+          kept_whole c.args.front (vec_len c.args.bytes.now) (omega (arith, len, few, none))
+    ]
+
+pub returns-clause-kept : goal.returns-clause-kept
+returns-clause-kept c =
+    let many = c.if-front-left.false in
+    let len = c.len.ensures in
+    let same = c.copy_within.ensures.len in
+    let cut = c.truncate.ensures.len in
+    let left : vec_len c.truncate.new.self ≡ vec_len c.args.bytes.now - c.args.front =
+    omega (arith, len, same, cut) in
+    kept_whole 0 (vec_len c.truncate.new.self) (omega arith) ∙ left
+    ∙ sym (kept_rest c.args.front (vec_len c.args.bytes.now) (omega (arith, len, many)))
+
+pub returns-clause-removed : goal.returns-clause-removed
+returns-clause-removed c = λ none. kept_whole 0 (vec_len c.truncate.new.self) (omega arith)
