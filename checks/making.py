@@ -127,7 +127,16 @@ class Texts:
             return [name]
         return [self.chance.choice(NUMBERS[:6] if self.chance.random() < 0.95 else NUMBERS)]
 
+    def chain(self, names: dict[str, str]) -> list[str]:
+        """Four to eight operands, whatever the frames of their variables; at times a division by one of them faults."""
+        words = self.factor(names, 1)
+        for _ in range(self.chance.randrange(3, 8)):
+            words += [self.chance.choices(SIGNS, [5, 5, 2, 2])[0], *self.factor(names, 0)]
+        return words
+
     def expression(self, names: dict[str, str], size: int = 2) -> list[str]:
+        if size == 2 and self.chance.random() < 0.08:
+            return self.chain(names)
         words = ["-"] if self.chance.random() < 0.1 else ["+"] if self.chance.random() < 0.03 else []
         words += self.factor(names, size)
         while size > 0 and self.chance.random() < 0.4:
