@@ -1,23 +1,23 @@
 #!/usr/bin/env python3
 """Checks what pages and sources say about themselves and each other: names, lengths of functions and of lines.
 
-usage: pages.py [--record]
+usage: pages.py [--record | --laws]
 
 In README.md, CHANGELOG.md and docs/*.md a link has to lead to a file, and to a heading where it names one. A name in backquotes
 that ends like a source file or a script has to be that of a file of the repository, or the end of its path; names that stand for
-others, such as `src/NAME.rt`, aren't looked at. A name that stands with its file, as in "`NAME` (`FILE`)", "(`NAME`, `FILE`)" and
-"`NAME` in `FILE`", or before its file in a row of a table, has to be declared in that file. Prose has lines of at most 124 columns.
-In docs/PROOFS.md each clause that a law function's answers have a goal for has a row under that function's heading, and each lemma of
-a row is in a file of the row. The version in the first line of the program's help is that of the manual pages, of the extension, and
-of the newest changes. In the model of the threads each process and inline names, in the comment before it, what it stands for:
-`@ FILE: NAME, NAME`. The files and their functions, types and variants have to be there, and a size, `@size FILE: NAME (VALUE)`, has
-to be the constant's.
+others, such as `src/NAME.rt`, aren't looked at. A name that stands with its file, as in "`NAME` (`FILE`)", "(`NAME`, `FILE`)",
+"`NAME`: `FILE`" and "`NAME` in `FILE`", or before its file in a row of a table, has to be declared in that file. Prose has lines of
+at most 124 columns. In docs/PROMISES.md stand the name of each law of a session's history and of each of its clauses. The version in
+the first line of the program's help is that of the manual pages, of the extension, and of the newest changes. In the model of the
+threads each process and inline names, in the comment before it, what it stands for: `@ FILE: NAME, NAME`. The files and their
+functions, types and variants have to be there, and a size, `@size FILE: NAME (VALUE)`, has to be the constant's.
 
 In sources no function has over 40 lines, contracts not counted, but those of LONG_FUNCTIONS. Lines of definitions and proofs have
 at most 120 columns, but for imports, which the kit keeps on one line, and names of goals. So have lines of contracts, but for as many
 in each file as tools/long_contracts.txt grants it, which --record writes anew.
 
-Prints what is wrong, and ends with status 1 where anything is.
+Prints what is wrong, and ends with status 1 where anything is. With --laws it prints instead, for each law function that proofs
+answer, each of its clauses, what that says, and the lemmas by which it is answered, with their files.
 """
 from __future__ import annotations
 
@@ -48,9 +48,12 @@ LINK = re.compile(r"\]\(([^)#]*)(?:#([^)]*))?\)")
 NAME = re.compile(r"`([\w./*-]+\.(?:rt|antt|py|edit|session|md|lua|json|el|txt|c))`")
 # What stands for a name, and what begins a file of a user's own.
 STANDS_FOR = re.compile(r"NAME|MODULE|\bName\b|\bX\.|/F/|^\.")
-# A clause that a law function's answers have a goal for, and a row of a table of laws: clause, meaning, lemmas, files.
-GOAL = re.compile(r"^returns-clause-(\w+) c =", re.MULTILINE)
-LAW_ROW = re.compile(r"\| `(\w+)` \| .* \| (.*) \| (.*) \|")
+# A law function with its clauses, and one of these; the answer to a goal of one, and a lemma file with what is used of it.
+LAW = re.compile(r"^pub fn (\w+_laws)\(.*\)\n((?:    (?:ensures|//) .*\n)+)", re.MULTILINE)
+CLAUSE = re.compile(r"^    ensures (\w*) ?\{ (.*) \}$", re.MULTILINE)
+ANSWER = re.compile(r"^returns(?:-clause-(\w+))? c =(.*?)(?=^pub |\Z)", re.MULTILINE | re.DOTALL)
+LEMMAS = re.compile(r"^use Rattle\.(\w+)\.proofs\.([\w.]+)\.\{(.*)\}$", re.MULTILINE)
+HISTORY_LAWS = TOP / "crates" / "dap_history" / "src" / "laws.rt"
 VERSION = r"(\d+\.\d+\.\d+)"
 # Where the version stands, and what says it there: first where it is defined.
 VERSIONS = {
@@ -75,7 +78,8 @@ DECLARED = (
 )
 NAMED = [
     re.compile(rf"({WORDS}) \(({FILES})\)"),
-    re.compile(rf"\(({WORDS}), ({FILES})\)"),
+    re.compile(rf"(?:\(|; )({WORDS}), ({FILES})(?=[;)])"),
+    re.compile(rf"({WORDS}): ({FILES})"),
     re.compile(rf"({WORDS}) in ({FILES})"),
     re.compile(rf"\| (?:[^|`]* )?({WORDS}) \| ({FILES}) \|"),
 ]
@@ -162,20 +166,26 @@ def misplaced(page: pathlib.Path, files: list[pathlib.Path]) -> Iterator[str]:
 
 
 def wrong_laws() -> Iterator[str]:
-    """What is wrong with the tables of laws in docs/PROOFS.md."""
-    page = TOP / "docs" / "PROOFS.md"
-    text = page.read_text(encoding="utf-8")
+    """The laws of a session's history, and their clauses, that docs/PROMISES.md doesn't name."""
+    page = (TOP / "docs" / "PROMISES.md").read_text(encoding="utf-8")
+    for law, clauses in LAW.findall(HISTORY_LAWS.read_text(encoding="utf-8")):
+        for name in (law, *(clause for clause, _ in CLAUSE.findall(clauses))):
+            if name and f"`{name}`" not in page:
+                yield f"docs/PROMISES.md: {name} of {law} isn't named"
+
+
+def answered_laws() -> Iterator[tuple[str, str, str, str]]:
+    """Each clause of a law that its proofs answer: the law, the clause, what it says, and the lemmas with their files."""
     for answers in sorted(TOP.glob("crates/*/proofs/**/*_laws/Answers.antt")):
-        law = answers.parent.name
-        rows = {row[0]: row[1:] for row in LAW_ROW.findall(text.partition(f"### `{law}`\n")[2].partition("\n### ")[0])}
-        for clause in GOAL.findall(answers.read_text(encoding="utf-8")):
-            if clause not in rows:
-                yield f"docs/PROOFS.md: {law} has no row for the clause {clause}"
-        for clause, (lemmas, places) in rows.items():
-            held = "".join((TOP / "crates" / place).read_text(encoding="utf-8") for place in NAME.findall(places))
-            for lemma in re.findall(r"`([\w-]+)`", lemmas) if held else []:
-                if not re.search(rf"^\s*(?:pub )?{lemma} :", held, re.MULTILINE):
-                    yield f"docs/PROOFS.md: {law}, {clause}: {lemma} isn't in {places}"
+        crate, text = answers.relative_to(TOP).parts[1], answers.read_text(encoding="utf-8")
+        sources = "".join(file.read_text(encoding="utf-8") for file in sorted((TOP / "crates" / crate / "src").rglob("*.rt")))
+        says = dict(CLAUSE.findall(dict(LAW.findall(sources)).get(answers.parent.name, "")))
+        used = [(name.strip(), f"{of}/proofs/{path.replace('.', '/')}.antt")
+                for of, path, names in LEMMAS.findall(text) if of == crate for name in names.split(",")]
+        for clause, body in ANSWER.findall(text):
+            lemmas = [f"{name} ({file})" for name, file in used if re.search(rf"(?<![\w-]){re.escape(name)}(?![\w-])", body)]
+            said = says.get(clause, "") if clause else " ".join(says.values())
+            yield answers.parent.name, clause or " ".join(says), said, ", ".join(lemmas)
 
 
 def long_logic() -> Iterator[str]:
@@ -286,6 +296,9 @@ def record() -> None:
 def main() -> int:
     if sys.argv[1:] == ["--record"]:
         record()
+        return 0
+    if sys.argv[1:] == ["--laws"]:
+        print("\n".join("\t".join(row) for row in answered_laws()))
         return 0
     files = [file for file in TOP.rglob("*") if file.is_file() and not {"out", ".git", "__pycache__"} & set(file.parts)]
     found = [one for page in pages() for one in (*wrong(page, files), *misplaced(page, files))]
