@@ -38,7 +38,11 @@ impl Model for Decoder {
 
     ghost Value = { Stream };
 
-    ghost view = { λ decoder. record { rest = drop decoder.front decoder.bytes.items; fault = decoder.fault; room = vec_capacity decoder.bytes - kept_of decoder.front (vec_len decoder.bytes) } };
+    ghost view = { λ decoder. record {
+      rest = drop decoder.front decoder.bytes.items;
+      fault = decoder.fault;
+      room = vec_capacity decoder.bytes - kept_of decoder.front (vec_len decoder.bytes);
+    } };
 
     ghost invariant = { λ decoder. (decoder.front ≤ length decoder.bytes.items)
         × IsRead decoder.header (drop decoder.front decoder.bytes.items)
@@ -74,7 +78,7 @@ impl Decoder {
             OnOk result (Frames (stream ++ piece.now) contents self.new.rest) }
         ensures err { IfErr result (λ fault. (self.new ≡ self.old)
             × MatchOption self.old.fault (fault ≡ NoMemory × piece.now ≢ []) (λ first. fault ≡ first)) }
-        // Memory is needed only where there is no room for the piece, and a piece takes no more of the room than its length.
+        // Memory is needed only where there is no room for the piece, which takes no more of the room than its length.
         ensures full { self.old.fault ≡ None → OnErr result (self.old.room < length piece.now) }
         ensures room { OnOk result (self.old.room ≤ self.new.room + length piece.now) }
     {
@@ -104,7 +108,8 @@ impl Decoder {
             (Frames stream contents self.new.rest)
             (λ content. Frames stream (contents ++ content.items ∷ []) self.new.rest)) }
         ensures sound { OnOk result (self.old.fault ≡ None) }
-        ensures again { (fault : FramingFault) → self.old.fault ≡ Some fault → (result ≡ Err fault) × (self.new ≡ self.old) }
+        ensures again { (fault : FramingFault) → self.old.fault ≡ Some fault →
+            (result ≡ Err fault) × (self.new ≡ self.old) }
         ensures memory { result ≡ Err NoMemory → self.new ≡ self.old }
         // Memory is needed only for a content that isn't empty.
         ensures needed { result ≡ Err NoMemory → self.old.fault ≡ None →
@@ -131,7 +136,8 @@ impl Decoder {
         ensures found { IfOk result (λ found. MatchBool found (HasFrame self.old.rest) (IsOpen self.old.rest)) }
         ensures same { OnOk result (self.new ≡ self.old) }
         ensures sound { OnOk result (self.old.fault ≡ None) }
-        ensures again { (fault : FramingFault) → self.old.fault ≡ Some fault → (result ≡ Err fault) × (self.new ≡ self.old) }
+        ensures again { (fault : FramingFault) → self.old.fault ≡ Some fault →
+            (result ≡ Err fault) × (self.new ≡ self.old) }
         ensures fault { IfErr result (λ fault. self.old.fault ≡ None →
             FaultAt self.old.rest fault × (self.new ≡ record self.old { fault = Some fault })) }
     {
