@@ -20,9 +20,8 @@ pub(crate) fn frame_name(alloc: Global, unit: &Unit, block: u32) -> Result<Text,
     requires { IsSome (slice_get (blocks (program_of unit.now)) block) }
     ensures { IfOk result (λ name. (q : Path) → slice_get (blocks (program_of unit.now)) block ≡ Some q → name ≡ frame_name (program_of unit.now) q) }
 {
-    let name = match block_name(&unit.tree.program, &unit.nestings, block) {
-        Some(name) => String::from_str(alloc, name.text.as_str())?,
-        None => String::from_str(alloc, "main")?,
-    };
-    Ok(Text::new(name))
+    match block_name(&unit.tree.program, &unit.nestings, block) {
+        Some(name) => Text::copied(alloc, name.text.as_str()),
+        None => Text::copied(alloc, "main"),
+    }
 }

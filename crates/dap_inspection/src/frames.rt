@@ -36,7 +36,7 @@ pub fn stack_trace(
         return Ok(Err(Refusal::UnknownThread));
     }
     let machine = debuggee.machine();
-    let path = Text::new(String::from_str(alloc, path.as_str())?);
+    let path = Text::copied(alloc, path.as_str())?;
     let frames = Items::new(asked_frames(alloc, machine, settings, asked)?);
     let total = machine.depth() as u64;
     Ok(Ok(Body::StackTrace {

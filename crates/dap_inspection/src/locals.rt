@@ -66,7 +66,7 @@ fn valued(
 {
     let mut list = Vec::with_capacity(alloc, names.len())?;
     for (index, name) in names.iter().enumerate() {
-        let name = Text::new(String::from_str(alloc, name.text.as_str())?);
+        let name = Text::copied(alloc, name.text.as_str())?;
         let value = machine.value(frame, index);
         list.push(Variable { name, value })?;
     }

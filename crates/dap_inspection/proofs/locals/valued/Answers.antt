@@ -9,7 +9,7 @@ loop-index-preserved c =
     let fits : FitsSigned w64 c.value-value.result = search rules in
     c.in_ok-push.ensures.items
     ∙ one_more (frame_of c.args.machine.now c.args.frame) c.args.names.now c.loop-index.index c.index-names-index.result
-    c.value-value.result _ c.new-name.result c.loop-index.list.items c.loop-index-test.true c.index-names-index.is
+    c.value-value.result _ c.in_ok-name.name c.loop-index.list.items c.loop-index-test.true c.index-names-index.is
     c.value-value.ensures
     (to_z-of_z w64 c.value-value.result fits)
-    (c.new-name.ensures ∙ c.in_ok-from_str.ensures.ok ∙ c.as_str.ensures.value) c.loop-index.invariant
+    (c.in_ok-name.ensures ∙ c.as_str.ensures.value) c.loop-index.invariant
