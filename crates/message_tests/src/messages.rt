@@ -212,6 +212,44 @@ fn writes_variables(rt: HostRuntime) {
     );
 }
 
+/// Names of 23 and of 24 bytes, alone and beside one that needs escapes.
+#[test]
+fn writes_names_of_each_kind(rt: HostRuntime) {
+    let alloc = rt.alloc();
+    let names = [
+        "abcdefghijklmnopqrstuvw",
+        "abcdefghijklmnopqrstuvwx",
+        "a\"b\\c",
+    ];
+    let plain =
+        r#"{"name":"abcdefghijklmnopqrstuvw","value":"-1","variablesReference":0},{"name":"abcdefghijklmnopqrstuvwx","value":"-1","variablesReference":0}"#;
+    let escaped = r#",{"name":"a\"b\\c","value":"-1","variablesReference":0}"#;
+    for (count, end) in [(2, ""), (3, escaped)] {
+        let mut variables = Vec::new(alloc);
+        for name in names.iter().take(count) {
+            let name = Text::copied(alloc, name).expect(&rt, "memory");
+            let value = -1;
+            variables
+                .push(Variable { name, value })
+                .expect(&rt, "memory");
+        }
+        let body = Body::Variables(Items::new(variables));
+        let expected = format!(in alloc;
+            "\"body\":{{\"variables\":[{plain}{end}]}},\"command\":\"variables\""
+        ).expect(&rt, "memory");
+        assert!(rt;
+            is_body_written(
+                &rt,
+                alloc,
+                Supported::Inspect(QuestionKind::Variables),
+                body,
+                expected.as_str()
+            ),
+            "{count}"
+        );
+    }
+}
+
 /// Refusals, and the message of each.
 const REFUSALS: [(Refusal, &str); 12] = [
     (Refusal::Unsupported, "unsupported"),
