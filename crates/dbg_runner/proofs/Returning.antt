@@ -15,7 +15,8 @@ use Rattle.dbg_runner.specs.declared.retreat.Way.TheVariants.{Searches, Returns}
 use Rattle.dbg_runner.specs.Rooms.{slice_limit}
 use Rattle.dbg_runner.specs.Plain.{goes_back}
 use Rattle.dbg_runner.specs.Hops.{moved, standing, gone_back}
-use Rattle.dbg_runner.specs.Courses.{IsOn, leads_to, RanAgain, arrival}
+use Rattle.dbg_runner.specs.Retreating.{steps_to, steps_again}
+use Rattle.dbg_runner.specs.Courses.{IsOn, leads_to, in_all, RanAgain, arrival}
 
 -- ---- checkpoints
 
@@ -53,7 +54,19 @@ reverses main bs mode.StepBack n other back = absurd (other refl)
 reverses main bs mode.Reverse n other back = refl
 reverses main bs _ n other back = absurd cc
 
+-- to go back there all positions below are run through, but for a single step
+pub runs_through : (kept : List ℕ) (m : Mode) (n to : ℕ) → m ≢ mode.StepBack → goes_back m ≡ true
+    → steps_again kept m n to ≡ steps_again kept mode.Reverse n to
+runs_through kept mode.StepBack n to other back = absurd (other refl)
+runs_through kept mode.Reverse n to other back = refl
+runs_through kept _ n to other back = absurd cc
+
 -- ---- it begins
+
+-- gone back towards where it stops, it has to take the steps from the checkpoint
+pub from_checkpoint : (old new : Debugged) (to : ℕ) → new ≡ gone_back old to
+    → to - new.position ≡ steps_to new.trail.kept to
+from_checkpoint old new to gone = subst (λ (d : Debugged). to - d.position ≡ steps_to d.trail.kept to) (sym gone) refl
 
 -- gone back towards where it stops
 pub on_return : (n : ℕ) (old new : Debugged) (to : ℕ) (why : Reason) (again : ℕ) → new ≡ gone_back old to → to ≤ n
@@ -95,6 +108,15 @@ goes_on_returning n again old to why most steps new on is gone =
     let before = on.0 in
     let few = on.2 in
     subst (λ d. IsOn n d (again + steps) (Returns to why)) (sym gone) (omega (arith, is), on.1, omega arith)
+
+-- where that leads it has taken as many steps
+pub as_many_on : (n again : ℕ) (old : Debugged) (to : ℕ) (why : Reason) (most steps : ℕ) (new : Debugged)
+    → old.position ≤ to → steps ≡ min most (to - old.position) → new ≡ standing old (old.position + steps)
+    → in_all n new (again + steps) (Returns to why) ≡ in_all n old again (Returns to why)
+as_many_on n again old to why most steps new before is gone =
+    let least = min-le_right most (to - old.position) in
+    let there : new.position ≡ old.position + steps = ap (λ (d : Debugged). d.position) gone in
+    omega (arith, there, least, is, before)
 
 arrives : (to position : ℕ) (why : Reason) → arrival (Returns to why) position ≡ None → to ≢ position
 arrives to position why = by_test (nat_eq to position) refl
@@ -155,6 +177,15 @@ module _ (n again : ℕ) (old : Debugged) (found more : Option ℕ) (limit : ℕ
     from_old : back ≡ gone_back old to
     from_old = turned ∙ ap (λ (d : Debugged). gone_back d to) gone
 
+    searched : in_all n back limit (Returns to why) ≡ in_all n old again (Searches found)
+    searched =
+        let way = from_checkpoint old back to from_old in
+        let kept = ap (λ (d : Debugged). steps_to d.trail.kept to) from_old in
+        let same : steps_to old.trail.kept to
+        ≡ steps_to old.trail.kept (reversed (program_of old) old.breakpoints n).position =
+        ap (λ (s : Stop). steps_to old.trail.kept s.position) stop_is in
+        omega (arith, way, kept, same, ended)
+
     pub turns : RanAgain n again old (Searches found) (limit + steps) new (Returns to why)
     turns =
         let place : there.position ≡ limit = ap (λ (d : Debugged). d.position) gone in
@@ -168,6 +199,8 @@ module _ (n again : ℕ) (old : Debugged) (found more : Option ℕ) (limit : ℕ
         record {
           on = goes_on_returning n limit back to why (again + slice_limit - limit) steps new returning steps_is went;
           leads = stop_is;
+          as_many = as_many_on n limit back to why (again + slice_limit - limit) steps new returning.0 steps_is went
+              ∙ searched;
           kept = moved_on old new (back.position + steps) back.counted_from
               (went ∙ ap (λ (d : Debugged). moved d (back.position + steps) back.counted_from) from_old);
           considered = considered;

@@ -1,14 +1,15 @@
 -- What contracts see of a run that goes back.
-use Rattle.std.specs.Prelude.{◌≡◌, ℕ, ◌+◌, ◌≤◌, List, [], length, Option, Some, None}
+use Rattle.std.specs.Prelude.{◌≡◌, ℕ, ◌+◌, ◌-◌, ◌≤◌, List, [], length, Option, Some, None}
 use Rattle.pl0_unit.specs.declared.unit.Unit.{Unit as Compiled}
 use Rattle.pl0_meaning.specs.Runs.{written}
 use Rattle.pl0_machine.specs.Machine.{program_of}
 use Rattle.dbg_plan.specs.Breakpoints.{Breakpoint}
 use Rattle.dbg_plan.specs.declared.mode.Reason.{Reason}
 use Rattle.dbg_plan.specs.Retreat.{goal_of}
-use Rattle.dbg_plan.specs.Trail.{Trail}
+use Rattle.dbg_plan.specs.Trail.{Trail, floor_of}
 use Rattle.dbg_plan.specs.Debugged.{Debugged}
 use Rattle.dbg_plan.specs.declared.mode.Mode.{Mode}
+use Rattle.dbg_plan.specs.declared.mode.Mode.TheVariants.{Entry, Continue, In, Over, Out, StepBack, Reverse}
 use Rattle.dbg_runner.specs.declared.outcome.SliceOutcome.{SliceOutcome}
 use Rattle.dbg_runner.specs.declared.outcome.SliceOutcome.TheVariants as out
 use Rattle.dbg_runner.specs.declared.report.Summary.{Summary}
@@ -27,6 +28,26 @@ pub record Retreating : Type 0 where
   pub again : ℕ
   pub position : ℕ
   pub trail : Trail
+
+-- ---- how many steps are run again
+
+-- how many steps lead to a position from the last checkpoint at or before it, or from position 0
+abbrev pub steps_to : List ℕ → ℕ → ℕ
+steps_to kept to = to - floor_of kept to
+
+-- How many steps a run in this mode from position n, which stops at position `to`, runs again in all, with checkpoints
+-- at these positions. Going back to where it was last due, it first runs through all positions below n, to find that
+-- stop.
+abbrev pub steps_again : List ℕ → Mode → ℕ → ℕ → ℕ
+steps_again kept StepBack n to = steps_to kept to
+steps_again kept Reverse n to = (n - 1) + steps_to kept to
+steps_again kept Entry n to = 0
+steps_again kept Continue n to = 0
+steps_again kept In n to = 0
+steps_again kept (Over d) n to = 0
+steps_again kept (Out d) n to = 0
+
+-- ---- a run between two slices
 
 -- the run of this debuggee that begins
 abbrev pub turned : Debugged → Mode → Retreating
@@ -92,13 +113,14 @@ pub record IsRoomFor (room : Room) (b : Retreating) : Type 0 where
 abbrev pub further : Retreating → ℕ → ℕ → Retreating
 further b again position = record b { again = again; position = position }
 
--- At most a slice's steps were run again, up to where the run stops, for this reason. Where it doesn't stop, all of
--- them were.
+-- At most a slice's steps were run again, and all of them where the run doesn't stop. Where it stops, for this reason,
+-- the trail says how many were in all.
 abbrev pub RanBack : Retreating → Option Reason → Retreating → Type 0
 RanBack old None new = new ≡ further old (old.again + slice_limit) new.position
 RanBack old (Some reason) new =
     (new ≡ further old new.again new.position)
     × (old.again ≤ new.again)
+    × (new.again ≡ steps_again old.trail.kept old.mode old.start new.position)
     × (new.again ≤ old.again + slice_limit)
     × (goal_of (program_of old.unit) old.breakpoints old.mode old.start ≡ Some
     (record { position = new.position; reason = reason }))

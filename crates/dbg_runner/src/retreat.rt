@@ -9,7 +9,7 @@ ghost use Rattle.dbg_runner.specs.Plain.{goes_back};
 ghost use Rattle.dbg_runner.specs.Lawful.{RunsAt};
 ghost use Rattle.dbg_runner.specs.Rooms.{IsRoomOf};
 ghost use Rattle.dbg_runner.specs.Hops.{moved};
-ghost use Rattle.dbg_runner.specs.Courses.{IsOn, leads_to, RanAgain, arrival};
+ghost use Rattle.dbg_runner.specs.Courses.{IsOn, IsCounted, leads_to, RanAgain, arrival};
 
 use crate::buffers::Buffers;
 use crate::hops::{go_back, go_on, search};
@@ -173,6 +173,7 @@ impl Retreat {
         requires come { goal_of (program_in self.unit) self.breakpoints self.mode self.start ≡ Some (record { position = self.position; reason = reason }) }
         ensures of { IsReportOf (heading_back run self) (plain_report result) }
         ensures outcome { result.outcome ≡ out.Due reason }
+        ensures end { result.end ≡ self.position }
         ensures again { result.again ≡ self.again }
         ensures trail { IfSome result.debuggee (λ d. d.trail ≡ self.trail) }
     {
@@ -272,15 +273,16 @@ fn begin(debuggee: &mut Debuggee, outputs: &mut Outputs, mode: Mode) -> Way
     requires back { goes_back mode ≡ true }
     ensures on { IsOn debuggee.old.position debuggee.new 0 result }
     ensures leads { goal_of (program_of debuggee.old) debuggee.old.breakpoints mode debuggee.old.position ≡ Some (leads_to debuggee.old.position debuggee.new result) }
+    ensures counted { IsCounted mode debuggee.old.position debuggee.new 0 result }
     ensures kept { debuggee.new ≡ moved debuggee.old debuggee.new.position debuggee.new.counted_from }
     ensures considered { IsConsidered debuggee.new }
     ensures room { outputs.new ≡ outputs.old }
 {
     let start = debuggee.machine().position();
     if let Mode::StepBack = mode {
-        let to = start.saturating_sub(1);
-        go_back(debuggee, outputs, to);
-        return Way::Returns(to, Reason::Step);
+        let previous = start.saturating_sub(1);
+        go_back(debuggee, outputs, previous);
+        return Way::Returns(previous, Reason::Step);
     }
     let due = go_back(debuggee, outputs, 0);
     if start == 0 {
