@@ -12,12 +12,15 @@ pub struct Buffers {
 }
 
 impl Buffers {
-    ghost use Rattle.std.specs.Prelude.{◌≡◌, ◌≤◌, [], IfOk, vec_capacity};
+    ghost use Rattle.std.specs.Prelude.{◌≡◌, ◌≤◌, [], None, IfOk, vec_capacity};
     ghost use Rattle.dbg_runner.specs.Rooms.{slice_limit};
     ghost use Rattle.dbg_runner.specs.Buffers.{numbers_in, logs_in};
 
     /// Returns `Buffers` without a buffer. It allocates nothing.
-    pub fn new() -> Buffers {
+    pub fn new() -> Buffers
+        ensures numbers { result.numbers ≡ None }
+        ensures logs { result.logs ≡ None }
+    {
         Buffers {
             numbers: None,
             logs: None,
