@@ -25,29 +25,31 @@ use Rattle.dap_history.specs.Replies.{Reply, nothing, answered, refused, causing
 
 -- ---- lines and columns, as the client counts them
 
--- 0 if the client counts from 1, and 1 if it counts from 0
+-- By how much a client's numbers are less than those counted from 1: 0 where it counts from 1 too, and 1 where it
+-- counts from 0.
 abbrev pub offset : Bool → ℕ
 offset true = 0
 offset false = 1
 
--- the same for the client's lines
+-- the offset of the client's lines, as it said in `initialize`
 abbrev pub line_offset : History → ℕ
 line_offset past = offset (settings past).lines_start_at_1
 
--- the same for the client's columns
+-- the offset of the client's columns
 abbrev pub column_offset : History → ℕ
 column_offset past = offset (settings past).columns_start_at_1
 
 -- ---- what lines become
 
--- a line asked for, counted from 1
+-- A line of the request, as the debugger is asked for it: with its number counted from 1, which is `less` more than the
+-- client's, and with the client's texts.
 pub record IsAskedAs (less : ℕ) (b : SourceBreakpoint) (asked : AskedLine) : Type 0 where
   pub line : asked.line ≡ b.line + less
   pub condition : string_bytes asked.condition ≡ b.condition
   pub hit : string_bytes asked.hit_condition ≡ b.hit_condition
   pub message : string_bytes asked.log_message ≡ b.log_message
 
--- the same for each of the lines
+-- the same for each line of the request, in order
 abbrev pub AreAskedAs : ℕ → List SourceBreakpoint → List AskedLine → Type 0
 AreAskedAs less [] [] = Unit {0}
 AreAskedAs less (b ∷ bs) (asked ∷ more) = IsAskedAs less b asked × AreAskedAs less bs more
@@ -65,7 +67,7 @@ pub record IsResolved (main : Block) (less : ℕ) (lines : List SourceBreakpoint
 abbrev pub step_line : Block → ℕ → ℕ
 step_line main n = option_map_or (λ s. s.place.line) (slice_get (steps main) n) 0
 
--- the answer to a line, by how it is resolved
+-- the answer to a line, by how it is resolved; its line is counted as the client counts
 abbrev pub answer_of : Block → ℕ → Resolution → BreakpointAnswer
 answer_of main less (At n) = answer.At (step_line main n - less)
 answer_of main less NoStep = answer.Unverified why.NoStep

@@ -30,25 +30,25 @@ use Rattle.dap_history.specs.declared.ending.Ending.TheVariants as ending
 use Rattle.dap_history.specs.declared.ending.Closed.TheVariants.{Disconnected, InputEnded, ReadFailed}
 use Rattle.dap_history.specs.declared.fault.SessionFault.TheVariants.{Frame, NoMemory}
 
--- ---- the situation
+-- ---- the situation: a mark is the situation to which something leads, if it changes it; the last mark counts
 
--- the situation to which a successful answer leads, if it changes the situation
+-- the mark of a successful answer
 abbrev pub command_mark : CommandName → Option Situation
 command_mark (name.Supported supported.Initialize) = Some Ready
 command_mark (name.Supported supported.Launch) = Some Configuring
 command_mark _ = None
 
--- the same for any answer
+-- the mark of an answer; a refusal has none
 abbrev pub answer_mark : CommandName → Result Body Refusal → Option Situation
 answer_mark command (Ok body) = command_mark command
 answer_mark command (Err refusal) = None
 
--- the situation to which a stop leads
+-- the mark of a stop, which always has one
 abbrev pub stop_mark : StopReason → Situation
 stop_mark (reason.Exception fault) = Faulted
 stop_mark _ = Stopped
 
--- the same for an event
+-- the mark of an event: only a stop and the program's end have one
 abbrev pub event_mark : EventBody → Option Situation
 event_mark (event.Stopped r) = Some (stop_mark r)
 event_mark (event.Exited code) = Some Ended
@@ -57,18 +57,18 @@ event_mark (event.Output v) = None
 event_mark (event.Log text) = None
 event_mark event.Terminated = None
 
--- the same for a message
+-- the mark of a message
 abbrev pub message_mark : Outgoing → Option Situation
 message_mark (Answer seq command result) = answer_mark command result
 message_mark (Event e) = event_mark e
 
--- the same for an order
+-- the mark of an order: only `Go` has one
 abbrev pub order_mark : PlainOrder → Option Situation
 order_mark (Go run) = Some Running
 order_mark (Hold run) = None
 order_mark Quit = None
 
--- the same for a step, whose orders come after its messages
+-- the mark of a step: the last among its messages and then its orders
 abbrev pub step_mark : Step → Option Situation
 step_mark step = or_else (last_such order_mark step.effect.orders) (last_such message_mark (messages step))
 
@@ -153,7 +153,7 @@ plan past = unwrap_or (last_such (λ step. step.effect.put_in) past) no_plan
 
 -- ---- what waits during a run until the runner returns the debuggee; when a run is ordered, nothing waits
 
--- which breakpoints wait after a step, if it changes them
+-- Which breakpoints wait after a step, if it changes them: `Some None` where it orders a run, since none wait then.
 abbrev pub waits_by : Step → Option (Option (List Breakpoint))
 waits_by step = or_else (option_map (λ run. None) (last_such go step.effect.orders)) (option_map Some step.effect.waits)
 
@@ -166,7 +166,7 @@ abbrev pub is_pause : Option Outgoing → Option Bool
 is_pause (Some (Answer seq (name.Supported supported.Pause) (Ok body))) = Some true
 is_pause _ = None
 
--- whether a pause waits after a step, if the step changes it
+-- Whether a pause waits after a step, if it changes that: none does where it orders a run.
 abbrev pub pauses_by : Step → Option Bool
 pauses_by step = or_else (option_map (λ run. false) (last_such go step.effect.orders)) (is_pause step.answer)
 
