@@ -28,19 +28,19 @@ pub record Asked : Type 0 where
 
 -- the reply to `stackTrace`
 abbrev pub stack_trace : Asked → StackTraceArguments → Configuration → Reply
-stack_trace of asked c =
-    on_thread asked.thread_id (answered (body.StackTrace of.path (frames_asked of.program of.counting asked c)
-    (length c)))
+stack_trace subject asked c =
+    on_thread asked.thread_id (answered (body.StackTrace subject.path
+    (frames_asked subject.program subject.counting asked c) (length c)))
 
 -- the reply to `scopes`, by the frame with the id, if there is one
 abbrev pub scopes : Asked → ℕ → Configuration → Option Frame → Reply
-scopes of id c None = refused refusal.UnknownFrame
-scopes of id c (Some f) = answered (body.Scopes (scopes_from of.program c (id - 1)))
+scopes subject id c None = refused refusal.UnknownFrame
+scopes subject id c (Some f) = answered (body.Scopes (scopes_from subject.program c (id - 1)))
 
 -- the reply to `variables`, by the frame with the reference, if there is one
 abbrev pub variables : Asked → Option Frame → Reply
-variables of None = refused refusal.UnknownReference
-variables of (Some f) = answered (body.Variables (variables_of of.program f))
+variables subject None = refused refusal.UnknownReference
+variables subject (Some f) = answered (body.Variables (variables_of subject.program f))
 
 -- ---- `evaluate`
 
@@ -73,16 +73,18 @@ EvaluatesIn main c id (Some f) text reply = HasResult main c (id - 1) f text rep
 
 -- the reply to a question, asked where the program is in this configuration
 abbrev pub RepliesFrom : Asked → Configuration → Question → Reply → Type 0
-RepliesFrom of c (question.StackTrace asked) reply = reply ≡ stack_trace of asked c
-RepliesFrom of c (question.Scopes asked) reply = reply ≡ scopes of asked.frame_id c (frame_by_id c asked.frame_id)
-RepliesFrom of c (question.Variables asked) reply = reply ≡ variables of (frame_by_id c asked.variables_reference)
-RepliesFrom of c (question.Evaluate asked) reply =
-    EvaluatesIn of.program c asked.frame_id (frame_by_id c asked.frame_id) asked.expression reply
+RepliesFrom subject c (question.StackTrace asked) reply = reply ≡ stack_trace subject asked c
+RepliesFrom subject c (question.Scopes asked) reply =
+    reply ≡ scopes subject asked.frame_id c (frame_by_id c asked.frame_id)
+RepliesFrom subject c (question.Variables asked) reply =
+    reply ≡ variables subject (frame_by_id c asked.variables_reference)
+RepliesFrom subject c (question.Evaluate asked) reply =
+    EvaluatesIn subject.program c asked.frame_id (frame_by_id c asked.frame_id) asked.expression reply
 
 -- the same, where there is such a configuration
 abbrev pub RepliesAt : Asked → Option Configuration → Question → Reply → Type 0
-RepliesAt of None question reply = ⊥
-RepliesAt of (Some c) question reply = RepliesFrom of c question reply
+RepliesAt subject None question reply = ⊥
+RepliesAt subject (Some c) question reply = RepliesFrom subject c question reply
 
 -- what a question is asked of in a session
 abbrev pub asked_of : History → Launched → Asked
