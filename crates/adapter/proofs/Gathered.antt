@@ -16,9 +16,9 @@ use Rattle.dap_history.specs.Events.{Incoming, Piece, End, ReadFailed, File, Rep
 use Rattle.dap_history.specs.Events.{NoMemory as NoMemoryCame}
 use Rattle.dap_history.specs.Interleaving.{Load}
 use Rattle.dap_history.proofs.Closings.{closed_by_end, closed_by_failure, interleaved_end, interleaved_failure, quit_is_last}
-use Rattle.dap_session.specs.Ports.{Ports, Ordered}
-use Rattle.dap_session.specs.Sending.{Begins, HasTriedQuit, ordered_at}
-use Rattle.dap_session.specs.Serving.{Serves, Drives, closes, gives_up}
+use Rattle.dap_session.specs.Ports.{Ports, PushedOrders}
+use Rattle.dap_session.specs.Sending.{IsPrefixOf, HasTriedQuit, ordered_at}
+use Rattle.dap_session.specs.Serving.{Serves, SessionOutcome, closes, gives_up}
 use Rattle.dbg_runner.specs.Plain.{PlainOrder, PlainReport, Quit}
 use Rattle.dbg_runner.specs.Queues.{order_in, sent_in, handed_back_in, passed_in}
 use Rattle.dbg_runner.specs.Runner.{Act, Runner, Idle, Ended, Does, Leads}
@@ -35,8 +35,8 @@ use Rattle.dap_wires.specs.Senders.{from_client, reports_among}
 use Rattle.byte_streams.specs.Streams.{Supply, Output, WritesAll}
 use Rattle.dap_wires.specs.Writing.{IsWrittenUntil}
 use Rattle.dap_wires.proofs.Sending.{client_append, frames_append}
-use Rattle.adapter.specs.Jobs.{Drove}
-use Rattle.adapter.specs.Serving.{World, input_of, output_of, nothing_sent, Writes, TakenOfSent, TakenOfPushed, IsDriven}
+use Rattle.adapter.specs.Jobs.{SessionLeaves}
+use Rattle.adapter.specs.Serving.{World, input_of, output_of, nothing_sent, Writes, TakenOfSent, TakenOfPushed, TasksEnd}
 
 -- ---- lists
 
@@ -48,7 +48,7 @@ module _ {A : Type 0} where
   append_none [] ys e = refl
   append_none (x ∷ xs) ys e = absurd (search (e, rules))
 
-  begins_more : (xs ys zs : List A) → Begins xs ys → Begins xs (ys ++ zs)
+  begins_more : (xs ys zs : List A) → IsPrefixOf xs ys → IsPrefixOf xs (ys ++ zs)
   begins_more xs ys zs b = (b.0 ++ zs, sym (append_assoc xs b.0 zs) ∙ ap (λ l. l ++ zs) b.1)
 
 -- ---- the writer
@@ -71,7 +71,7 @@ ended_whole (message.End ∷ p ∷ taken) more ended whole = absurd ended
 -- the frames that were put were written, or a prefix of them
 pub writes_frames : (wrote : Result (Unit {0}) WriteFailed) (taken put : List WriterMessage) (frames : List (List ℕ))
     (old later : Output)
-    → Begins taken put → frames_in put ≡ frames → (has_end put ≡ false) ⊎ AreEnded put
+    → IsPrefixOf taken put → frames_in put ≡ frames → (has_end put ≡ false) ⊎ AreEnded put
     → IsWrittenUntil wrote taken old later → Writes wrote (concat frames) old later
 writes_frames (Ok done) taken put frames old later begins frames_are (inl without) written =
     absurd (true≢false (sym (ended_has taken begins.0 written.0) ∙ (ap has_end begins.1 ∙ without)))
@@ -88,7 +88,7 @@ writes_frames (Err failed) taken put frames old later begins frames_are ended wr
       (
         part.0,
         part.1,
-        subst (Begins part.0) (sym whole)
+        subst (IsPrefixOf part.0) (sym whole)
             (begins_more part.0 (concat (frames_in taken)) (concat (frames_in begins.0)) part.2),
       ),
       written.1.1,
@@ -96,7 +96,7 @@ writes_frames (Err failed) taken put frames old later begins frames_are ended wr
 
 -- without the end the writer ended by a failure
 write_fails : (wrote : Result (Unit {0}) WriteFailed) (taken put : List WriterMessage) (old later : Output)
-    → Begins taken put → has_end put ≡ false → IsWrittenUntil wrote taken old later → is_err wrote ≡ true
+    → IsPrefixOf taken put → has_end put ≡ false → IsWrittenUntil wrote taken old later → is_err wrote ≡ true
 write_fails (Ok done) taken put old later begins without written =
     absurd (true≢false (sym (ended_has taken begins.0 written.0) ∙ (ap has_end begins.1 ∙ without)))
 write_fails (Err failed) taken put old later begins without written = refl
@@ -104,7 +104,7 @@ write_fails (Err failed) taken put old later begins without written = refl
 -- ---- the session's faults
 
 -- The order to quit takes no refusal back.
-keeps_refusals : (old later : Ordered) → HasTriedQuit old later → (old.fulls ≤ later.fulls)
+keeps_refusals : (old later : PushedOrders) → HasTriedQuit old later → (old.fulls ≤ later.fulls)
     × (old.refusals ≤ later.refusals)
 keeps_refusals old later (inl pushed) =
     let fulls = pushed.1 in let refusals = pushed.2 in (omega (arith, fulls), omega (arith, refusals))
@@ -118,7 +118,7 @@ keeps_refusals old later (inr refused) = by_count refused.1
 
 -- Where the session answers that the queue of orders was full, it found it so.
 found_full : (f : FirstSeq) (events given : List Incoming) (loads : List Load) (sent : Ports)
-    → Drives f events given loads nothing_sent sent (Err OrdersFull) → sent.orders_full ≢ 0
+    → SessionOutcome f events given loads nothing_sent sent (Err OrdersFull) → sent.orders_full ≢ 0
 found_full f events given loads sent (gives_up cannot from short) = λ none.
     let found = short.fails.breaks.1 in
     let kept =
@@ -127,7 +127,7 @@ found_full f events given loads sent (gives_up cannot from short) = λ none.
 
 -- Where it answers that the runner is gone, the port had said so.
 pub found_runner_gone : (f : FirstSeq) (events given : List Incoming) (loads : List Load) (sent : Ports)
-    → Drives f events given loads nothing_sent sent (Err RunnerGone) → sent.runner_gone ≢ 0
+    → SessionOutcome f events given loads nothing_sent sent (Err RunnerGone) → sent.runner_gone ≢ 0
 found_runner_gone f events given loads sent (gives_up cannot from short) = λ none.
     let found = short.fails.breaks.1 in
     let kept =
@@ -140,7 +140,7 @@ not_empty (y ∷ xs) x none = absurd (search (none, rules))
 
 -- Where it answers that the writer is gone, a frame was refused.
 found_gone : (f : FirstSeq) (events given : List Incoming) (loads : List Load) (sent : Ports)
-    → Drives f events given loads nothing_sent sent (Err WriterGone) → sent.refused ≢ []
+    → SessionOutcome f events given loads nothing_sent sent (Err WriterGone) → sent.refused ≢ []
 found_gone f events given loads sent (gives_up cannot from short) = λ none.
     let broke = short.fails.breaks in
     not_empty short.fails.between.refused broke.frame (sym broke.refused_are ∙ (sym short.quit.refused_are ∙ none))
@@ -190,7 +190,7 @@ last_sent (p ∷ pieces) last (x ∷ xs) ys own one other e = last_sent pieces l
 -- all that was sent was taken where that has an event that is no piece
 all_taken : (end : ReadEnd) (taken client front back : List Incoming) (own : Incoming) (old later : Supply)
     → IsReadUntil end client old later
-    → Begins taken client → ¬ IsPiece own → taken ≡ front ++ own ∷ back → taken ≡ client
+    → IsPrefixOf taken client → ¬ IsPiece own → taken ≡ front ++ own ∷ back → taken ≡ client
 all_taken end taken client front back own old later read begins other has =
     let sent : front ++ own ∷ (back ++ begins.0) ≡ map Piece read.pieces ++ last_of end =
     sym (append_assoc front (own ∷ back) begins.0) ∙ (ap (λ l. l ++ begins.0) (sym has) ∙ (begins.1 ∙ read.sent_are)) in
@@ -255,8 +255,8 @@ ends_by (act ∷ acts) leads = ends_by_some Idle act acts leads
 takes_client : (f : FirstSeq) (result : Result Closed SessionFault) (events given client : List Incoming)
     (loads : List Load)
     (sent : Ports) (end : ReadEnd) (old later : Supply)
-    → Drives f events given loads nothing_sent sent result → IsReadUntil end client old later
-    → Begins (from_client given) client
+    → SessionOutcome f events given loads nothing_sent sent result → IsReadUntil end client old later
+    → IsPrefixOf (from_client given) client
     → TakenOfSent result (from_client given) client
 takes_client f (Ok closed.Disconnected) events given client loads sent end old later drives read begins = begins
 takes_client f (Ok closed.InputEnded) events given client loads sent end old later (closes from serves) read begins =
@@ -272,8 +272,8 @@ takes_client f (Ok closed.ReadFailed) events given client loads sent end old lat
 takes_client f (Err fault) events given client loads sent end old later drives read begins = begins
 
 all_orders : (f : FirstSeq) (events : List Incoming) (by : Ending) (sent : Ports) (acts : List Act)
-    → Serves f events by nothing_sent sent → Begins (flat_map order_in acts) sent.orders
-    → EndsBy acts → (flat_map order_in acts ≡ sent.orders) ⊎ (Begins (flat_map order_in acts) sent.orders
+    → Serves f events by nothing_sent sent → IsPrefixOf (flat_map order_in acts) sent.orders
+    → EndsBy acts → (flat_map order_in acts ≡ sent.orders) ⊎ (IsPrefixOf (flat_map order_in acts) sent.orders
     × (flat_map handed_back_in acts ≢ []))
 all_orders f events by sent acts serves begins (inl quits) =
     let whole : orders_of serves.past ≡ quits.0 ++ Quit ∷ begins.0 =
@@ -286,8 +286,8 @@ all_orders f events by sent acts serves begins (inr refused) = inr (begins, refu
 takes_orders : (f : FirstSeq) (result : Result Closed SessionFault) (events given : List Incoming) (loads : List Load)
     (sent : Ports)
     (acts : List Act)
-    → Drives f events given loads nothing_sent sent result → Leads Idle acts Ended
-    → Begins (flat_map order_in acts) sent.orders
+    → SessionOutcome f events given loads nothing_sent sent result → Leads Idle acts Ended
+    → IsPrefixOf (flat_map order_in acts) sent.orders
     → TakenOfPushed result acts sent.orders
 takes_orders f (Ok by) events given loads sent acts (closes from serves) leads begins =
     all_orders f events (ending.Closed by) sent acts serves begins (ends_by acts leads)
@@ -296,23 +296,24 @@ takes_orders f (Err fault) events given loads sent acts drives leads begins = be
 -- Nothing was taken, put or pushed when all began.
 pub gathers : (f : FirstSeq) (wrote : Result (Unit {0}) WriteFailed) (result : Result Closed SessionFault)
     (before after : World)
-    (given : List Incoming) (put : List WriterMessage) (pushed : Ordered) (end : ReadEnd) (client : List Incoming)
+    (given : List Incoming) (put : List WriterMessage) (pushed : PushedOrders) (end : ReadEnd) (client : List Incoming)
     (acts : List Act) (reports : List PlainReport) (orders : List PlainOrder) (taken : List WriterMessage)
-    → Drove f result [] given before.loads after.loads nothing_sent put pushed
-    → IsReadUntil end client (input_of before.streams) (input_of after.streams) → Begins (from_client given) client
+    → SessionLeaves f result [] given before.loads after.loads nothing_sent put pushed
+    → IsReadUntil end client (input_of before.streams) (input_of after.streams) → IsPrefixOf (from_client given) client
     → Leads Idle acts Ended → orders ≡ flat_map order_in acts → reports ≡ flat_map sent_in acts
-    → Begins orders pushed.orders → (pushed.fulls ≢ 0 → FourWereInside pushed.orders)
-    → Begins (reports_among given) reports
+    → IsPrefixOf orders pushed.orders → (pushed.fulls ≢ 0 → FourWereInside pushed.orders)
+    → IsPrefixOf (reports_among given) reports
     → after.passed ≡ before.passed ++ flat_map passed_in acts
-    → IsWrittenUntil wrote taken (output_of before.streams) (output_of after.streams) → Begins taken put
-    → IsDriven f wrote result before after
+    → IsWrittenUntil wrote taken (output_of before.streams) (output_of after.streams) → IsPrefixOf taken put
+    → TasksEnd f wrote result before after
 gathers f wrote result before after given put pushed end client acts reports orders taken
     drove read client_taken leads orders_are reports_are orders_taken four reports_taken gate_passed written put_taken =
     let d = drove.driven in
-    let drives : Drives f d.events given d.loads nothing_sent drove.later result =
-    subst (λ g. Drives f d.events g d.loads nothing_sent drove.later result) (sym d.given_are) d.drives in
-    let begins : Begins (flat_map order_in acts) drove.later.orders =
-    subst (λ o. Begins o drove.later.orders) orders_are (subst (λ o. Begins orders o) drove.orders_are orders_taken)
+    let drives : SessionOutcome f d.events given d.loads nothing_sent drove.later result =
+    subst (λ g. SessionOutcome f d.events g d.loads nothing_sent drove.later result) (sym d.given_are) d.drives in
+    let begins : IsPrefixOf (flat_map order_in acts) drove.later.orders =
+    subst (λ o. IsPrefixOf o drove.later.orders) orders_are
+    (subst (λ o. IsPrefixOf orders o) drove.orders_are orders_taken)
     in
     record {
       given = given;
@@ -326,7 +327,7 @@ gathers f wrote result before after given put pushed end client acts reports ord
         never_gone = drove.never_gone;
         full = λ is. subst FourWereInside drove.orders_are
             (four (λ none. found_full f d.events given d.loads drove.later
-            (subst (λ r. Drives f d.events given d.loads nothing_sent drove.later r) is drives)
+            (subst (λ r. SessionOutcome f d.events given d.loads nothing_sent drove.later r) is drives)
             (sym drove.fulls_are ∙ none)));
       };
       reader = record {
@@ -341,7 +342,7 @@ gathers f wrote result before after given put pushed end client acts reports ord
         acts = acts;
         worked = leads;
         orders_taken = takes_orders f result d.events given d.loads drove.later acts drives leads begins;
-        reports_taken = subst (λ r. Begins (reports_among given) r) reports_are reports_taken;
+        reports_taken = subst (λ r. IsPrefixOf (reports_among given) r) reports_are reports_taken;
         gate_passed = gate_passed;
       };
       writer = record {
@@ -350,6 +351,6 @@ gathers f wrote result before after given put pushed end client acts reports ord
             put_taken drove.frames_are drove.ended written;
         writer_gone = λ is. write_fails wrote taken put (output_of before.streams) (output_of after.streams) put_taken
             (drove.refused (found_gone f d.events given d.loads drove.later
-            (subst (λ r. Drives f d.events given d.loads nothing_sent drove.later r) is drives))) written;
+            (subst (λ r. SessionOutcome f d.events given d.loads nothing_sent drove.later r) is drives))) written;
       };
     }

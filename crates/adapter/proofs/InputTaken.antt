@@ -18,8 +18,8 @@ use Rattle.dap_history.specs.Events.{NoMemory as NoMemoryCame}
 use Rattle.dap_history.specs.Interleaving.{Load, IsLoad, Interleaves}
 use Rattle.dap_history.specs.Laws.{stream_of, DisconnectIsLast}
 use Rattle.dap_history.proofs.Closings.{closed_by_end}
-use Rattle.dap_session.specs.Sending.{Begins}
-use Rattle.dap_session.specs.Serving.{Drives, closes}
+use Rattle.dap_session.specs.Sending.{IsPrefixOf}
+use Rattle.dap_session.specs.Serving.{SessionOutcome, closes}
 use Rattle.dap_wires.specs.declared.reading.ReadEnd.{ReadEnd}
 use Rattle.dap_wires.specs.declared.reading.ReadEnd.TheVariants as ends
 use Rattle.dap_wires.specs.Reading.{IsReadUntil, Loses, last_of}
@@ -256,7 +256,8 @@ input_taken_whole f wrote before after driven = by_drives session.drives
     session : SessionSends f (Ok closed.InputEnded) driven.given driven.sent before.loads after.loads
     session = driven.session
 
-    by_drives : Drives f session.events driven.given session.loaded nothing_sent driven.sent (Ok closed.InputEnded)
+    by_drives : SessionOutcome f session.events driven.given session.loaded nothing_sent driven.sent
+        (Ok closed.InputEnded)
         → TakesWholeInput session.events (input_of before.streams) (input_of after.streams)
     by_drives (closes from serves) =
         let by = closed_by_end session.events serves.past serves.rest serves.history serves.ending_is in
@@ -323,7 +324,7 @@ module _ (last : DisconnectIsLast) (f : FirstSeq) (events given client : List In
     (end : ReadEnd)
     (old later : Supply)
     (from : Interleaves f [] events given loads) (read : IsReadUntil end client old later)
-    (taken : Begins (from_client given) client) where
+    (taken : IsPrefixOf (from_client given) client) where
   first_disconnect : (past : History) (rest : Rest) → rest.first ≡ f → IsHistoryOf events past rest
       → ending_of past ≡ Some (ending.Closed closed.Disconnected) → TakesFirstDisconnect f events old later
   first_disconnect past rest same_first history is = record {
@@ -373,7 +374,8 @@ first_disconnect_closes last f wrote before after driven = by_drives session.dri
     session : SessionSends f (Ok closed.Disconnected) driven.given driven.sent before.loads after.loads
     session = driven.session
 
-    by_drives : Drives f session.events driven.given session.loaded nothing_sent driven.sent (Ok closed.Disconnected)
+    by_drives : SessionOutcome f session.events driven.given session.loaded nothing_sent driven.sent
+        (Ok closed.Disconnected)
         → TakesFirstDisconnect f session.events (input_of before.streams) (input_of after.streams)
     by_drives (closes from serves) =
         first_disconnect last f session.events driven.given driven.reader.client session.loaded driven.reader.end

@@ -24,7 +24,7 @@ use Rattle.dap_history.specs.Readings.{go, order_mark, message_mark, step_mark, 
 use Rattle.dap_history.specs.Replies.{Reply}
 use Rattle.dap_history.specs.Launching.{Launches}
 use Rattle.dap_history.specs.Reports.{outputs, report_effect}
-use Rattle.dap_history.specs.Stops.{stop_of_event, IsStanding}
+use Rattle.dap_history.specs.Stops.{stop_of_event, IsStopped}
 use Rattle.dap_history.specs.Emission.{Causes}
 use Rattle.dap_history.specs.Events.{Incoming, Piece, End, ReadFailed, File, Report, Rest, IsHistoryOf}
 use Rattle.dap_history.specs.Events.{NoMemory as NoMemoryCame}
@@ -39,8 +39,8 @@ use Rattle.dap_history.proofs.Runs.{none_such, AreNumbered}
 use Rattle.dap_history.proofs.Silent.{StopsBy, no_stop, at_first, NextRuns, all_silent}
 use Rattle.dap_history.proofs.Standing.{MarkIs, mark_unwrap, answers_only, ReportsStop, step_stops}
 use Rattle.dap_history.proofs.Started.{IsYoung, was_young}
-use Rattle.dap_session.specs.Sending.{Begins}
-use Rattle.dap_session.specs.Serving.{Drives, closes}
+use Rattle.dap_session.specs.Sending.{IsPrefixOf}
+use Rattle.dap_session.specs.Serving.{SessionOutcome, closes}
 use Rattle.dap_wires.specs.Senders.{reports_among}
 use Rattle.adapter.specs.Laws.{RunsEndOnce, IsCutShort}
 use Rattle.adapter.specs.Serving.{nothing_sent, TakenOfPushed, SessionSends}
@@ -88,7 +88,7 @@ goes_before n past more (inr ended) = inr (ended_before n past more ended)
 record RunsEnd (past : History) : Type 0 where
   pub counted : Counted past
   pub young : IsYoung (situation past) → runs past ≡ 0
-  pub stands : IsStanding (situation past) → NoneGoes (runs past) past
+  pub stands : IsStopped (situation past) → NoneGoes (runs past) past
   pub each : (n : ℕ) → 1 ≤ n → n < runs past → HasEnded n past
 
 -- ---- where a step orders a run
@@ -103,8 +103,8 @@ module _ (past : History) (step : Step) (here : RunsEnd past) where
   was_young_here : (s : Situation) → situation past ≡ s → IsYoung s → Before
   was_young_here s is young = inl (here.young (subst IsYoung (sym is) young))
 
-  stood_here : (s : Situation) → situation past ≡ s → IsStanding s → Before
-  stood_here s is standing = goes_before (runs past) past (step ∷ []) (here.stands (subst IsStanding (sym is) standing))
+  stood_here : (s : Situation) → situation past ≡ s → IsStopped s → Before
+  stood_here s is standing = goes_before (runs past) past (step ∷ []) (here.stands (subst IsStopped (sym is) standing))
 
   can_run_here : (s : Situation) → situation past ≡ s → CanRun s → Before
   can_run_here Configuring is can = was_young_here Configuring is tt
@@ -244,10 +244,10 @@ module _ (Q : Incoming → Type 0) (past : History) (step : Step) (taken : IsTak
       by_orders (inl none) = same_runs none ∙ here.young (was_young Q past step taken causes young)
       by_orders (inr running) = absurd (subst IsYoung running young)
 
-  stands_more : IsStanding (situation longer) → NoneGoes (runs longer) longer
+  stands_more : IsStopped (situation longer) → NoneGoes (runs longer) longer
   stands_more standing = by_orders silent_or_running
     where
-      by_mark : MarkIs IsStanding (step_mark step) ⊎ ((step_mark step ≡ None) × IsStanding (situation past))
+      by_mark : MarkIs IsStopped (step_mark step) ⊎ ((step_mark step ≡ None) × IsStopped (situation past))
           → NoneGoes (runs past) longer
       by_mark (inl mark) =
           stops_when past step here Q step.item refl taken causes
@@ -257,9 +257,9 @@ module _ (Q : Incoming → Type 0) (past : History) (step : Step) (taken : IsTak
       by_orders : OrdersNone step.effect ⊎ (situation longer ≡ Running) → NoneGoes (runs longer) longer
       by_orders (inl none) =
           subst (λ n. NoneGoes n longer) (sym (same_runs none))
-          (by_mark (mark_unwrap IsStanding (step_mark step) (situation past)
-          (subst IsStanding (situation-snoc past step) standing)))
-      by_orders (inr running) = absurd (subst IsStanding running standing)
+          (by_mark (mark_unwrap IsStopped (step_mark step) (situation past)
+          (subst IsStopped (situation-snoc past step) standing)))
+      by_orders (inr running) = absurd (subst IsStopped running standing)
 
   each_more : (n : ℕ) → 1 ≤ n → n < runs longer → HasEnded n longer
   each_more n first below = by_orders (orders_when past step here Q step.item refl taken causes)
@@ -365,15 +365,15 @@ numbered_front n (run ∷ xs) ys are = (are.0, numbered_front (n + 1) xs ys are.
 
 -- the runner took the first of the orders, or all
 takes_first : (by : Closed) (acts : List Act) (pushed : List PlainOrder) → TakenOfPushed (Ok by) acts pushed
-    → Begins (flat_map order_in acts) pushed
+    → IsPrefixOf (flat_map order_in acts) pushed
 takes_first by acts pushed (inl all) = ([], append-nil (flat_map order_in acts) ∙ all)
 takes_first by acts pushed (inr some) = some.0
 
 module _ (f : FirstSeq) (events given : List Incoming) (loads : List Load) (past : History) (rest : Rest)
     (acts : List Act)
     (from : Interleaves f [] events given loads) (history : IsHistoryOf events past rest)
-    (orders : Begins (flat_map order_in acts) (orders_of past))
-    (reports : Begins (reports_among given) (flat_map sent_in acts)) where
+    (orders : IsPrefixOf (flat_map order_in acts) (orders_of past))
+    (reports : IsPrefixOf (reports_among given) (flat_map sent_in acts)) where
   ended : RunsEnd past
   ended = along (λ e. Unit {0}) RunsEnd (runs_end_kept (λ e. Unit {0})) runs_end_first events past rest
       (any_events events) history
@@ -416,7 +416,8 @@ runs_end_once one_last reported f by wrote before after driven front act back h 
     worked : Leads Idle (front ++ act ∷ back) Ended
     worked = subst (λ l. Leads Idle l Ended) acts_are driven.runner.worked
 
-    by_drives : Drives f session.events driven.given session.loaded nothing_sent driven.sent (Ok by) → ¬ IsCutByGo back
+    by_drives : SessionOutcome f session.events driven.given session.loaded nothing_sent driven.sent (Ok by)
+        → ¬ IsCutByGo back
     by_drives (closes from serves) cut =
         not_endless f session.events driven.given session.loaded serves.past serves.rest acts from serves.history
         orders driven.runner.reports_taken h.run
@@ -425,8 +426,8 @@ runs_end_once one_last reported f by wrote before after driven front act back h 
         (numbered f session.events driven.given session.loaded serves.past serves.rest acts from serves.history
         orders driven.runner.reports_taken))))
       where
-        orders : Begins (flat_map order_in acts) (orders_of serves.past)
-        orders = subst (Begins (flat_map order_in acts)) serves.orders_are
+        orders : IsPrefixOf (flat_map order_in acts) (orders_of serves.past)
+        orders = subst (IsPrefixOf (flat_map order_in acts)) serves.orders_are
             (takes_first by acts driven.sent.orders driven.runner.orders_taken)
 
     by_cut : IsCutShort back ⊎ IsCutByGo back → HasLast (reports_of_run back) ⊎ IsCutShort back

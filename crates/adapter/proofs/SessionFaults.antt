@@ -5,11 +5,11 @@ use Rattle.dap_history.specs.declared.fault.SessionFault.{SessionFault}
 use Rattle.dap_history.specs.declared.fault.SessionFault.TheVariants.{OrdersFull, RunnerGone, WriterGone}
 use Rattle.dap_history.specs.declared.ending.Closed.{Closed}
 use Rattle.dap_history.specs.declared.ending.Closed.TheVariants as closed
-use Rattle.dap_session.specs.Serving.{Drives}
+use Rattle.dap_session.specs.Serving.{SessionOutcome}
 use Rattle.dap_wires.specs.declared.writing.WriteFailed.{WriteFailed}
 use Rattle.adapter.specs.declared.serving.ServeFault.TheVariants.{Session}
 use Rattle.adapter.specs.Laws.{closed_of, OutcomeIsOfSession, NobodyIsGone, FullIsFour}
-use Rattle.adapter.specs.Serving.{nothing_sent, outcome_of, IsDriven, drove, had_no_memory, had_no_thread}
+use Rattle.adapter.specs.Serving.{nothing_sent, outcome_of, TasksEnd, tasks_ended, had_no_memory, had_no_thread}
 use Rattle.adapter.proofs.Gathered.{found_runner_gone}
 
 -- what is returned tells what closed the session
@@ -22,9 +22,9 @@ closes_by (Ok done) (Ok closed.ReadFailed) by is = (refl, let same : closed.Read
 closes_by (Ok done) (Err f) by is = absurd cc
 
 pub outcome_is_of_session : OutcomeIsOfSession
-outcome_is_of_session f outcome by before after (drove wrote result is driven) closes =
+outcome_is_of_session f outcome by before after (tasks_ended wrote result is driven) closes =
     let c = closes_by wrote result by (ap closed_of (sym is) ∙ closes) in
-    subst (λ w. IsDriven f w (Ok by) before after) c.0 (subst (λ r. IsDriven f wrote r before after) c.1 driven)
+    subst (λ w. TasksEnd f w (Ok by) before after) c.0 (subst (λ r. TasksEnd f wrote r before after) c.1 driven)
 outcome_is_of_session f outcome by before after (had_no_memory is same) closes =
     let e = ap closed_of (sym is) ∙ closes in absurd cc
 outcome_is_of_session f outcome by before after (had_no_thread is) closes =
@@ -41,7 +41,7 @@ answers (Ok done) (Ok closed.ReadFailed) fault is = absurd cc
 answers (Ok done) (Err f) fault is = (refl, let same : f ≡ fault = cc in ap Err same)
 
 pub nobody_is_gone : NobodyIsGone
-nobody_is_gone f outcome before after (drove wrote result is driven) = (
+nobody_is_gone f outcome before after (tasks_ended wrote result is driven) = (
   λ gone.
       let a = answers wrote result WriterGone (sym is ∙ gone) in
       true≢false (sym (driven.writer.writer_gone a.1) ∙ a.0),
@@ -49,7 +49,8 @@ nobody_is_gone f outcome before after (drove wrote result is driven) = (
       let a = answers wrote result RunnerGone (sym is ∙ gone) in
       let session = driven.session in
       found_runner_gone f session.events driven.given session.loaded driven.sent
-      (subst (λ r. Drives f session.events driven.given session.loaded nothing_sent driven.sent r) a.1 session.drives)
+      (subst (λ r. SessionOutcome f session.events driven.given session.loaded nothing_sent driven.sent r) a.1
+      session.drives)
       session.never_gone,
 )
 nobody_is_gone f outcome before after (had_no_memory is same) =
@@ -58,10 +59,10 @@ nobody_is_gone f outcome before after (had_no_thread is) =
     (λ gone. let e = sym is ∙ gone in absurd cc, λ gone. let e = sym is ∙ gone in absurd cc)
 
 pub full_is_four : FullIsFour
-full_is_four f before after (drove wrote result is driven) =
+full_is_four f before after (tasks_ended wrote result is driven) =
     let a = answers wrote result OrdersFull (sym is) in
-    let four : IsDriven f wrote (Err OrdersFull) before after =
-    subst (λ r. IsDriven f wrote r before after) a.1 driven in
+    let four : TasksEnd f wrote (Err OrdersFull) before after =
+    subst (λ r. TasksEnd f wrote r before after) a.1 driven in
     record { wrote = wrote; driven = four; four = four.session.full refl }
 full_is_four f before after (had_no_memory is same) = absurd cc
 full_is_four f before after (had_no_thread is) = absurd cc

@@ -12,7 +12,7 @@ use Rattle.dap_history.specs.declared.fault.SessionFault.TheVariants.{OrdersFull
 use Rattle.dap_history.specs.History.{Item, Content, Step, History}
 use Rattle.dap_history.specs.Events.{Incoming, End, Rest, IsHistoryOf}
 use Rattle.dap_history.specs.Laws.{stream_of}
-use Rattle.dap_session.specs.Sending.{Begins}
+use Rattle.dap_session.specs.Sending.{IsPrefixOf}
 use Rattle.dap_wires.specs.declared.writing.WriteFailed.{WriteFailed}
 use Rattle.dap_wires.specs.Orders.{FourWereInside}
 use Rattle.byte_streams.specs.Streams.{Supply}
@@ -20,7 +20,7 @@ use Rattle.adapter.specs.declared.serving.Served.{Served}
 use Rattle.adapter.specs.declared.serving.Served.TheVariants as served
 use Rattle.adapter.specs.declared.serving.ServeFault.{ServeFault}
 use Rattle.adapter.specs.declared.serving.ServeFault.TheVariants.{ReadFailed, Session}
-use Rattle.adapter.specs.Serving.{World, input_of, IsDriven, IsServed}
+use Rattle.adapter.specs.Serving.{World, input_of, TasksEnd, IsServed}
 
 -- ---- What closed the session
 
@@ -36,7 +36,7 @@ closed_of (Err fault) = None
 abbrev pub OutcomeIsOfSession : Type 0
 OutcomeIsOfSession =
     (first : FirstSeq) (outcome : Result Served ServeFault) (by : Closed) (before after : World)
-    → IsServed first outcome before after → closed_of outcome ≡ Some by → IsDriven first (Ok tt) (Ok by) before after
+    → IsServed first outcome before after → closed_of outcome ≡ Some by → TasksEnd first (Ok tt) (Ok by) before after
 
 -- ---- The input
 
@@ -53,7 +53,7 @@ pub record TakesWholeInput (events : List Incoming) (old later : Supply) : Type 
 abbrev pub InputIsTakenWhole : Type 0
 InputIsTakenWhole =
     (first : FirstSeq) (wrote : Result (Unit {0}) WriteFailed) (before after : World)
-    → (driven : IsDriven first wrote (Ok closed.InputEnded) before after)
+    → (driven : TasksEnd first wrote (Ok closed.InputEnded) before after)
     → TakesWholeInput driven.session.events (input_of before.streams) (input_of after.streams)
 
 -- a request to disconnect
@@ -65,7 +65,7 @@ AsksToDisconnect item = (seq : ℕ) × (item ≡ Content (Some (record { seq = s
 pub record TakesFirstDisconnect (client_first : FirstSeq) (events : List Incoming) (old later : Supply) : Type 0 where
   pub read : List ℕ
   pub consumed : Consumes old.left later.left read
-  pub begins : Begins (stream_of events) read
+  pub begins : IsPrefixOf (stream_of events) read
   pub before : History
   pub step : Step
   pub rest : Rest
@@ -79,7 +79,7 @@ pub record TakesFirstDisconnect (client_first : FirstSeq) (events : List Incomin
 abbrev pub FirstDisconnectCloses : Type 0
 FirstDisconnectCloses =
     (first : FirstSeq) (wrote : Result (Unit {0}) WriteFailed) (before after : World)
-    → (driven : IsDriven first wrote (Ok closed.Disconnected) before after)
+    → (driven : TasksEnd first wrote (Ok closed.Disconnected) before after)
     → TakesFirstDisconnect first driven.session.events (input_of before.streams) (input_of after.streams)
 
 -- ---- Runs
@@ -95,7 +95,7 @@ pub data IsCutShort : List Act → Type 0 where
 abbrev pub RunsEndOnce : Type 0
 RunsEndOnce =
     (first : FirstSeq) (by : Closed) (wrote : Result (Unit {0}) WriteFailed) (before after : World)
-    → (driven : IsDriven first wrote (Ok by) before after)
+    → (driven : TasksEnd first wrote (Ok by) before after)
     → (front : List Act) (act : Act) (back : List Act) (h : Heading) → driven.runner.acts ≡ front ++ act ∷ back
     → taken_by act ≡ Some (Go h)
     → AllButLastGoOn (reports_of_run back) × (HasLast (reports_of_run back) ⊎ IsCutShort back)
@@ -112,7 +112,7 @@ NobodyIsGone =
 -- together.
 pub record FindsFour (first : FirstSeq) (before after : World) : Type 0 where
   pub wrote : Result (Unit {0}) WriteFailed
-  pub driven : IsDriven first wrote (Err OrdersFull) before after
+  pub driven : TasksEnd first wrote (Err OrdersFull) before after
   pub four : FourWereInside driven.sent.orders
 
 -- `serve` returns the fault that the queue of orders was full only where four orders were inside together.

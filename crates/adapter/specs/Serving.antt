@@ -10,8 +10,8 @@ use Rattle.dap_history.specs.declared.ending.Closed.TheVariants as closed
 use Rattle.dap_history.specs.Events.{Incoming, AreLawful}
 use Rattle.dap_history.specs.Interleaving.{Load}
 use Rattle.dap_session.specs.Ports.{Ports}
-use Rattle.dap_session.specs.Sending.{Begins}
-use Rattle.dap_session.specs.Serving.{Drives}
+use Rattle.dap_session.specs.Sending.{IsPrefixOf}
+use Rattle.dap_session.specs.Serving.{SessionOutcome}
 use Rattle.dbg_runner.specs.Plain.{PlainOrder}
 use Rattle.dbg_runner.specs.Queues.{order_in, sent_in, handed_back_in, passed_in}
 use Rattle.dbg_runner.specs.Runner.{Act, Idle, Ended, Leads}
@@ -66,17 +66,18 @@ Writes (Err failed) bytes old later = FailsIn bytes old later
 
 -- What the session took of what the reader sent: all, where the input's end or a failed read closed it, else a prefix.
 abbrev pub TakenOfSent : Result Closed SessionFault → List Incoming → List Incoming → Type 0
-TakenOfSent (Ok closed.Disconnected) taken sent = Begins taken sent
+TakenOfSent (Ok closed.Disconnected) taken sent = IsPrefixOf taken sent
 TakenOfSent (Ok closed.InputEnded) taken sent = taken ≡ sent
 TakenOfSent (Ok closed.ReadFailed) taken sent = taken ≡ sent
-TakenOfSent (Err fault) taken sent = Begins taken sent
+TakenOfSent (Err fault) taken sent = IsPrefixOf taken sent
 
 -- What the runner took of the orders that the session pushed: all, where something closed the session, unless a report
 -- was returned to the runner; else a prefix.
 abbrev pub TakenOfPushed : Result Closed SessionFault → List Act → List PlainOrder → Type 0
 TakenOfPushed (Ok by) acts pushed =
-    (flat_map order_in acts ≡ pushed) ⊎ (Begins (flat_map order_in acts) pushed × (flat_map handed_back_in acts ≢ []))
-TakenOfPushed (Err fault) acts pushed = Begins (flat_map order_in acts) pushed
+    (flat_map order_in acts ≡ pushed) ⊎ (IsPrefixOf (flat_map order_in acts) pushed ×
+    (flat_map handed_back_in acts ≢ []))
+TakenOfPushed (Err fault) acts pushed = IsPrefixOf (flat_map order_in acts) pushed
 
 -- ---- session, reader, runner and writer, side by side
 
@@ -88,7 +89,7 @@ pub record SessionSends (first : FirstSeq) (result : Result Closed SessionFault)
   pub events : List Incoming
   pub loaded : List Load
   pub lawful : AreLawful events
-  pub drives : Drives first events given loaded nothing_sent sent result
+  pub drives : SessionOutcome first events given loaded nothing_sent sent result
   pub loads_are : later_loads ≡ loads ++ loaded
   pub never_gone : sent.runner_gone ≡ 0
   pub full : result ≡ Err OrdersFull → FourWereInside sent.orders
@@ -108,7 +109,7 @@ pub record RunnerActs (result : Result Closed SessionFault) (given : List Incomi
   pub acts : List Act
   pub worked : Leads Idle acts Ended
   pub orders_taken : TakenOfPushed result acts orders
-  pub reports_taken : Begins (reports_among given) (flat_map sent_in acts)
+  pub reports_taken : IsPrefixOf (reports_among given) (flat_map sent_in acts)
   pub gate_passed : later_passed ≡ passed ++ flat_map passed_in acts
 
 -- The writer wrote the frames that the session put, or the output failed after a prefix of them. The session found the
@@ -120,7 +121,7 @@ pub record WriterWrites (wrote : Result (Unit {0}) WriteFailed) (result : Result
 
 -- Each of the four came to its end. They share what the inbox gave to the session, which came from the reader and the
 -- runner, and what the session sent: frames to the writer, and orders to the runner.
-pub record IsDriven (first : FirstSeq) (wrote : Result (Unit {0}) WriteFailed) (result : Result Closed SessionFault)
+pub record TasksEnd (first : FirstSeq) (wrote : Result (Unit {0}) WriteFailed) (result : Result Closed SessionFault)
     (before after : World) : Type 0 where
   pub given : List Incoming
   pub sent : Ports
@@ -140,8 +141,8 @@ outcome_of (Ok done) (Err f) = Err (fault.Session f)
 -- Serving ended with this outcome. Where there was no memory for the queues, nothing was done. Where a thread can't be
 -- started, nothing more is known.
 pub data IsServed (first : FirstSeq) (outcome : Result Served ServeFault) (before after : World) : Type 0 where
-  drove : (wrote : Result (Unit {0}) WriteFailed) (result : Result Closed SessionFault)
-      → outcome ≡ outcome_of wrote result → IsDriven first wrote result before after
+  tasks_ended : (wrote : Result (Unit {0}) WriteFailed) (result : Result Closed SessionFault)
+      → outcome ≡ outcome_of wrote result → TasksEnd first wrote result before after
       → IsServed first outcome before after
   had_no_memory : outcome ≡ Err (fault.Session NoMemory) → after ≡ before → IsServed first outcome before after
   had_no_thread : outcome ≡ Err fault.NoThread → IsServed first outcome before after

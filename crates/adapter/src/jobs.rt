@@ -15,7 +15,7 @@ ghost use Rattle.dap_wires.specs.Orders.{pushed_orders, push_queue, taken_orders
 ghost use Rattle.dap_wires.specs.Reading.{IsReadUntil};
 ghost use Rattle.byte_streams.specs.Streams.{supply, output as output_at};
 ghost use Rattle.dap_wires.specs.Writing.{IsWrittenUntil};
-ghost use Rattle.adapter.specs.Jobs.{Drove};
+ghost use Rattle.adapter.specs.Jobs.{SessionLeaves};
 
 use crate::gates::{Gated, OpenGate};
 use crate::tasks::{LastTask, Task};
@@ -249,7 +249,8 @@ impl<'a, L: Loader, R: Wait + Drop> Task for SessionTask<'a, L, R> {
         × (left_queue r.1.inbox ≡ event_queue t.inbox)
         × (ended_queue r.1.outbox ≡ frame_queue t.outbox) × (ended_unused_queue r.1.outbox ≡ unused_queue t.outbox)
         × (push_queue r.1.orders ≡ push_queue t.orders)
-        × Drove t.first r.2 (taken_events t.inbox) (received r.1.inbox) (L.loaded t.loader.now) (L.loaded r.0.now)
+        × SessionLeaves t.first r.2 (taken_events t.inbox) (received r.1.inbox) (L.loaded t.loader.now)
+        (L.loaded r.0.now)
         (ports (put_frames t.outbox) (pushed_orders t.orders)) (messages_put r.1.outbox) (pushed_orders r.1.orders) };
 
     fn run(self) -> (&'a mut L, SessionEnds<R>, Result<Closed, SessionFault>) {

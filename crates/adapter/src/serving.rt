@@ -2,7 +2,7 @@
 //! one.
 
 ghost use Rattle.std.specs.Prelude.{◌≡◌, ◌≢◌, true};
-ghost use Rattle.dap_session.specs.Sending.{Begins};
+ghost use Rattle.dap_session.specs.Sending.{IsPrefixOf};
 ghost use Rattle.dap_wires.specs.Ends.{receive_log, receive_log_queue};
 ghost use Rattle.dap_wires.specs.Inbox.{client_events, client_queue, sent_reports, report_queue, received, left_queue};
 ghost use Rattle.dap_wires.specs.Orders.{FourWereInside, pushed_orders, push_queue, taken_orders, pop_queue};
@@ -177,10 +177,10 @@ fn reconcile<R: Wait + Drop>(
     requires outbox { (ended_unused_queue ends.outbox ≡ ended_queue ends.outbox) × (receive_log_queue written ≡ ended_queue ends.outbox) }
     requires messages { (receive_log written).takes ≡ true }
     requires orders { pop_queue taken ≡ push_queue ends.orders }
-    ensures client { Begins (from_client (received ends.inbox)) (client_events client) }
-    ensures reports { Begins (reports_among (received ends.inbox)) (sent_reports reports) }
-    ensures frames { Begins (messages_received written) (messages_put ends.outbox) }
-    ensures orders { Begins (taken_orders taken) (pushed_orders ends.orders).orders }
+    ensures client { IsPrefixOf (from_client (received ends.inbox)) (client_events client) }
+    ensures reports { IsPrefixOf (reports_among (received ends.inbox)) (sent_reports reports) }
+    ensures frames { IsPrefixOf (messages_received written) (messages_put ends.outbox) }
+    ensures orders { IsPrefixOf (taken_orders taken) (pushed_orders ends.orders).orders }
     ensures full { (pushed_orders ends.orders).fulls ≢ 0 → FourWereInside (pushed_orders ends.orders).orders }
 {
     let SessionEnds {

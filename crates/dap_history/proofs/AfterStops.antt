@@ -9,12 +9,12 @@ none_in_both (x ∷ xs) ys is = absurd cc
 
 module _ (A B : Type 0) (P : A → Type 0) (f : A → Option B) where
   -- after an element of this kind f gives nothing
-  abbrev pub Quiet : List A → Type 0
-  Quiet [] = Unit {0}
-  Quiet (x ∷ xs) = (P x → filter_map f xs ≡ []) × Quiet xs
+  abbrev pub NoneAfter : List A → Type 0
+  NoneAfter [] = Unit {0}
+  NoneAfter (x ∷ xs) = (P x → filter_map f xs ≡ []) × NoneAfter xs
 
   -- so what it gives before such an element is all
-  pub all_before : (xs before : List A) (x : A) (after : List A) → P x → filter_map f (x ∷ []) ≡ [] → Quiet xs
+  pub all_before : (xs before : List A) (x : A) (after : List A) → P x → filter_map f (x ∷ []) ≡ [] → NoneAfter xs
       → xs ≡ before ++ x ∷ after → filter_map f before ≡ filter_map f xs
   all_before [] [] x after kind none quiet is = absurd cc
   all_before [] (b ∷ before) x after kind none quiet is = absurd cc
@@ -40,7 +40,7 @@ module _ (A B : Type 0) (P : A → Type 0) (f : A → Option B) where
       rest = cc
 
   -- where it gives nothing at all
-  pub none_quiet : (xs : List A) → filter_map f xs ≡ [] → Quiet xs
+  pub none_quiet : (xs : List A) → filter_map f xs ≡ [] → NoneAfter xs
   none_quiet [] is = tt
   none_quiet (x ∷ xs) is =
       let rest = none_in_both (filter_map f (x ∷ [])) (filter_map f xs) (sym (filter_map-append f (x ∷ []) xs) ∙ is) in

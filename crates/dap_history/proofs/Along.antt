@@ -17,7 +17,7 @@ use Rattle.dap_history.specs.Readings.{situation, closing, ending_of}
 use Rattle.dap_history.proofs.Readings.{ending_of-snoc}
 use Rattle.dap_history.specs.Launching.{wanted_in}
 use Rattle.dap_msg.specs.declared.request.FirstSeq.{FirstSeq}
-use Rattle.dap_history.specs.Events.{Incoming, Piece, End, ReadFailed, NoMemory, File, Report, AreLawful, Rest, only_bytes, IsTaking, Takes, one_more, closed, open_ended, faulty, waits, MayTake, LeadsByPiece, LeadsByFile, LeadsByReport, Loads, LeadsByEvent, Leads, IsHistoryOf}
+use Rattle.dap_history.specs.Events.{Incoming, Piece, End, ReadFailed, NoMemory, File, Report, AreLawful, Rest, only_bytes, IsTaking, Takes, one_more, closed, open_ended, faulty, waits, MayTake, LeadsByPiece, LeadsByFile, LeadsByReport, Loads, LeadsByEvent, LeadsByEvents, IsHistoryOf}
 
 -- an item is taken only so: a content that wants no file, a launch in Ready, a report that is accepted; and what an
 -- event brings is as Q says of it
@@ -154,7 +154,7 @@ module _ (Q : Incoming → Type 0) (P : History → Type 0) (kept : IsKept Q P) 
       subst (λ l. Holds new l) (sym leads.1) (along_report past rest r new good leads.0 here)
 
   along_from : (past : History) (rest : Rest) (events : List Incoming) (new : History) (left : Rest)
-      → AllEvents Q events → Leads past rest events new left → Holds past rest → Holds new left
+      → AllEvents Q events → LeadsByEvents past rest events new left → Holds past rest → Holds new left
   along_from past rest [] new left good all here =
       subst (λ h. Holds h left) (sym all.0) (subst (λ r. Holds past r) (sym all.1) here)
   along_from past rest (e ∷ events) new left good all here =

@@ -26,7 +26,7 @@ use Rattle.dap_history.specs.Readings.{go, situation, runs, is_held, is_back, la
 use Rattle.dap_history.specs.Replies.{Reply}
 use Rattle.dap_history.specs.Breakpoints.{hold_once, effect_in}
 use Rattle.dap_history.specs.Running.{mode_of, enters}
-use Rattle.dap_history.specs.Reports.{Accepts, held, report_effect}
+use Rattle.dap_history.specs.Reports.{Accepts, held_effect, report_effect}
 use Rattle.dap_history.specs.Considered.{all_runs}
 use Rattle.dap_history.specs.Emission.{Causes}
 use Rattle.dap_history.specs.GoingBack.{back_by}
@@ -163,7 +163,7 @@ report_mode past r (slice.Fault fault) accepts run goes = absurd cc
 report_mode past r slice.NoMemory accepts run goes = absurd cc
 report_mode past r slice.Held accepts run goes = by_pause (waiting_pause past) goes
   where
-    by_pause : (pauses : Bool) → last_such go (held past r pauses).orders ≡ Some run
+    by_pause : (pauses : Bool) → last_such go (held_effect past r pauses).orders ≡ Some run
         → held_mode slice.Held (last_run past) ≡ Some run.mode
     by_pause true goes = absurd cc
     by_pause false goes =

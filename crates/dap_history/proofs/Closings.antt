@@ -20,7 +20,7 @@ use Rattle.dap_history.specs.Last.{or_else}
 use Rattle.dap_history.specs.History.{Launched, Item, Content, Loaded, Accepted, Fault, InputEnd, ReadFailure, MemoryFailure, Effect, Step, History, orders_of}
 use Rattle.dap_history.specs.Readings.{situation, runs, is_back, waiting_pause, is_held, closing_command, closing_report, closing, ending_of}
 use Rattle.dap_history.specs.Replies.{Reply, causing, ordering}
-use Rattle.dap_history.specs.Reports.{report_effect, held}
+use Rattle.dap_history.specs.Reports.{report_effect, held_effect}
 use Rattle.dap_history.specs.Launching.{Launches}
 use Rattle.dap_history.specs.Breakpoints.{hold_once, effect_in}
 use Rattle.dap_history.specs.Running.{enters}
@@ -154,11 +154,11 @@ quit_ends (Hold run ∷ orders) (x ∷ front) more quiet is = quit_ends orders f
 
 -- ---- which replies order Quit
 
-abbrev IsQuiet : Reply → Type 0
-IsQuiet reply = NoQuit reply.effect.orders
+abbrev OrdersNoQuit : Reply → Type 0
+OrdersNoQuit reply = NoQuit reply.effect.orders
 
-quiet_if : (reply other : Reply) → IsQuiet other → reply ≡ other → IsQuiet reply
-quiet_if reply other quiet is = subst IsQuiet (sym is) quiet
+quiet_if : (reply other : Reply) → OrdersNoQuit other → reply ≡ other → OrdersNoQuit reply
+quiet_if reply other quiet is = subst OrdersNoQuit (sym is) quiet
 
 hold_quiet : (past : History) → NoQuit (hold_once past)
 hold_quiet past = by_test (is_held past || is_back past)
@@ -182,7 +182,7 @@ QuitsBy orders _ = NoQuit orders
 
 -- a reply to another command than `disconnect`
 shape_quiet : (past : History) (s : Situation) (asked : Command) (reply : Reply) → ¬ (asked ≡ command.Disconnect)
-    → Shape past s asked reply → IsQuiet reply
+    → Shape past s asked reply → OrdersNoQuit reply
 shape_quiet past s asked reply other (refuses why is) = quiet_if reply _ tt is
 shape_quiet past s asked reply other (is_calm calm is) = subst NoQuit (ap (λ (e : Effect). e.orders) (sym is)) tt
 shape_quiet past s asked reply other (sets a l asks there at_path is) =
@@ -202,7 +202,7 @@ replies_quit s past command.Disconnect reply is = ap (λ (r : Reply). r.effect.o
 replies_quit s past asked reply is = shape_quiet past s asked reply (λ same. absurd cc) (shaped past reply s asked is)
 
 launches_quiet : (launch : Launch) (file : Option (List ℕ)) (reply : Reply) → Launches launch.arguments file reply
-    → IsQuiet reply
+    → OrdersNoQuit reply
 launches_quiet launch None reply is = quiet_if reply _ tt is
 launches_quiet launch (Some text) reply (inl is) = quiet_if reply _ tt is.reply_is
 launches_quiet launch (Some text) reply (inr is) = quiet_if reply _ tt is.reply_is
@@ -211,7 +211,7 @@ report_quiet : (past : History) (r : PlainReport) (outcome : SliceOutcome)
     → NoQuit (report_effect past r outcome).orders
 report_quiet past r slice.Held = by_test (waiting_pause past)
   where
-    by_test : (pauses : Bool) → NoQuit (held past r pauses).orders
+    by_test : (pauses : Bool) → NoQuit (held_effect past r pauses).orders
     by_test true = tt
     by_test false = tt
 report_quiet past r _ = tt

@@ -21,14 +21,15 @@ use Rattle.dap_history.specs.History.{Item, Content, Loaded, Accepted, Fault, In
 use Rattle.dap_history.specs.Readings.{situation}
 use Rattle.dap_history.specs.Launching.{wanted_by, wanted_in}
 use Rattle.dap_history.specs.Emission.{IsAfter}
-use Rattle.dap_history.specs.Events.{Incoming, Piece, End, ReadFailed, NoMemory, File, Report, Rest, only_bytes, IsInFront, Takes, one_more, closed, open_ended, faulty, waits, MayTake, LeadsByPiece, LeadsByFile, LeadsByReport, Loads, Leads}
-use Rattle.dap_history.specs.Laws.{stream_of, launch_request, read_as, waiting, contents_read, AreRead, ContentsAreOfTheStream}
+use Rattle.dap_history.specs.Events.{Incoming, Piece, End, ReadFailed, NoMemory, File, Report, Rest, only_bytes, IsInFront, Takes, one_more, closed, open_ended, faulty, waits, MayTake, LeadsByPiece, LeadsByFile, LeadsByReport, Loads, LeadsByEvents}
+use Rattle.dap_history.specs.Laws.{stream_of, launch_request, read_as, waiting, contents_read, AreReadAs, ContentsAreOfTheStream}
 use Rattle.dap_history.proofs.FirstKept.{first_by_event}
 
 -- ---- what is read
 
-read-append : (f : FirstSeq) (cs ds : List (List ℕ)) (rs ss : List (Option Request)) → AreRead f cs rs → AreRead f ds ss
-    → AreRead f (cs ++ ds) (rs ++ ss)
+read-append : (f : FirstSeq) (cs ds : List (List ℕ)) (rs ss : List (Option Request)) → AreReadAs f cs rs
+    → AreReadAs f ds ss
+    → AreReadAs f (cs ++ ds) (rs ++ ss)
 read-append f [] ds [] ss a b = b
 read-append f [] ds (r ∷ rs) ss a b = absurd a
 read-append f (c ∷ cs) ds [] ss a b = absurd a
@@ -51,7 +52,7 @@ reads_after past item new after =
 record Gives (f : FirstSeq) (bytes left : List ℕ) (requests : List (Option Request)) : Type 0 where
   contents : List (List ℕ)
   framed : Frames bytes contents left
-  read : AreRead f contents requests
+  read : AreReadAs f contents requests
 
 gives_nothing : (f : FirstSeq) (bytes : List ℕ) → Gives f bytes bytes []
 gives_nothing f bytes = record { contents = []; framed = refl; read = tt }
@@ -204,7 +205,7 @@ module _ (join : FramesJoin) (f : FirstSeq) where
   report_same past r new (inr is) = after_same past (Accepted r) new refl is.2
 
   events_hold : (stream : List ℕ) (past : History) (before : Rest) (events : List Incoming) (new : History)
-      (rest : Rest) → before.first ≡ f → Leads past before events new rest → Holds stream past before
+      (rest : Rest) → before.first ≡ f → LeadsByEvents past before events new rest → Holds stream past before
       → Holds (stream ++ stream_of events) new rest
   events_hold stream past before [] new rest same all here =
       subst (λ s. Holds s new rest) (sym (append-nil stream))

@@ -9,7 +9,7 @@ use Rattle.dap_msg.specs.declared.request.FirstSeq.{FirstSeq}
 use Rattle.dap_msg.specs.declared.request.Request.{Request}
 use Rattle.dap_history.specs.declared.launch.Launch.{Launch}
 use Rattle.dap_history.specs.History.{History, Fault}
-use Rattle.dap_history.specs.Events.{Incoming, Piece, Rest, only_bytes, IsTaking, IsInFront, Takes, one_more, closed, open_ended, faulty, waits, LeadsByPiece, LeadsByEvent, Leads}
+use Rattle.dap_history.specs.Events.{Incoming, Piece, Rest, only_bytes, IsTaking, IsInFront, Takes, one_more, closed, open_ended, faulty, waits, LeadsByPiece, LeadsByEvent, LeadsByEvents}
 use Rattle.dap_history.specs.Laws.{CutsChangeNothing}
 use Rattle.dap_history.proofs.Along.{closes_for_good}
 
@@ -106,8 +106,8 @@ two_pieces past before a b mid between new rest first second =
     (two_by_piece before.first past before.launch (before.bytes ++ a) b mid between new rest first second)
 
 joined : (a b : List ℕ) (before after : List Incoming) (past : History) (start : Rest) (new : History) (rest : Rest)
-    → Leads past start (before ++ (Piece a ∷ Piece b ∷ after)) new rest
-    → Leads past start (before ++ (Piece (a ++ b) ∷ after)) new rest
+    → LeadsByEvents past start (before ++ (Piece a ∷ Piece b ∷ after)) new rest
+    → LeadsByEvents past start (before ++ (Piece (a ++ b) ∷ after)) new rest
 joined a b [] after past start new rest all =
     (all.3.0, all.3.1, two_pieces past start a b all.0 all.1 all.3.0 all.3.1 all.2 all.3.2, all.3.3)
 joined a b (e ∷ before) after past start new rest all =

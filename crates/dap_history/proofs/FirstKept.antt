@@ -5,7 +5,7 @@ use Rattle.dap_history.specs.declared.launch.Launch.{Launch}
 use Rattle.dap_history.specs.declared.fault.LoadFault.{LoadFault}
 use Rattle.dap_history.specs.declared.fault.LoadFault.TheVariants as load_fault
 use Rattle.dap_history.specs.History.{History}
-use Rattle.dap_history.specs.Events.{Incoming, Piece, End, ReadFailed, NoMemory, File, Report, Rest, Takes, one_more, closed, open_ended, faulty, waits, LeadsByPiece, LeadsByFile, LeadsByEvent, Leads}
+use Rattle.dap_history.specs.Events.{Incoming, Piece, End, ReadFailed, NoMemory, File, Report, Rest, Takes, one_more, closed, open_ended, faulty, waits, LeadsByPiece, LeadsByFile, LeadsByEvent, LeadsByEvents}
 
 pub first_by_takes : {first : FirstSeq} {past new : History} {bytes : List ℕ} {rest : Rest}
     → Takes first past bytes new rest → rest.first ≡ first
@@ -44,7 +44,7 @@ first_by_event past rest (Report r) new left leads = first_same rest left leads.
 
 -- and so do events
 pub first_kept : (past : History) (rest : Rest) (events : List Incoming) (new : History) (left : Rest)
-    → Leads past rest events new left → left.first ≡ rest.first
+    → LeadsByEvents past rest events new left → left.first ≡ rest.first
 first_kept past rest [] new left all = first_same rest left all.1
 first_kept past rest (e ∷ events) new left all =
     first_kept all.0 all.1 events new left all.3 ∙ first_by_event past rest e all.0 all.1 all.2

@@ -15,7 +15,7 @@ use Rattle.dap_history.specs.declared.situation.Situation.TheVariants.{Configuri
 use Rattle.dap_history.specs.Last.{last_such}
 use Rattle.dap_history.specs.History.{Launched, Content, History, Effect}
 use Rattle.dap_history.specs.Readings.{go, situation, launched, plan}
-use Rattle.dap_history.specs.Replies.{Reply, OfProgram, causing, stops, stop_of}
+use Rattle.dap_history.specs.Replies.{Reply, OfProgram, causing, stopped_events, stop_of}
 use Rattle.dap_history.specs.Running.{first_mode, first_logs, enters, ConfiguresIn}
 use Rattle.dap_history.specs.Emission.{RepliesIn, Causes}
 use Rattle.dap_history.specs.Stops.{stop_of_event, stop_in, run_in}
@@ -73,7 +73,11 @@ enters_stops past l None = (
       ∙ stop_of_logs (plan past).breakpoints (first_at past l) [],
   refl,
 )
-enters_stops past l (Some r) = (stop_of_logs (plan past).breakpoints (first_at past l) (stops (stop_of r)), refl)
+enters_stops past l (Some r) = (
+  stop_of_logs (plan past).breakpoints (first_at past l)
+      (stopped_events (stop_of r)),
+  refl,
+)
 
 module _ (one : OneProgram) (joins : WrittenJoins) where
   pub zero_considered : PositionZeroIsConsidered

@@ -44,13 +44,13 @@ use Rattle.dap_history.specs.declared.situation.Situation.TheVariants.{Fresh, Re
 use Rattle.dap_history.specs.Last.{or_else}
 use Rattle.dap_history.specs.History.{Launched, Item, Content, Loaded, Accepted, InputEnd, ReadFailure, Step, History, Effect, with_answer, messages, messages_of}
 use Rattle.dap_history.specs.Readings.{situation, launched, position, waiting_pause}
-use Rattle.dap_history.specs.Replies.{Reply, nothing, ordering, refused, on_thread, OfProgram, stops, ends, told_logs}
+use Rattle.dap_history.specs.Replies.{Reply, nothing, ordering, refused, on_thread, OfProgram, stopped_events, exited_events, log_events}
 use Rattle.dap_history.specs.Launching.{initialize_in, Launches}
-use Rattle.dap_history.specs.Breakpoints.{answer_of, effect_in, SetsOf, SetsIn, is_at}
+use Rattle.dap_history.specs.Breakpoints.{answer_to_line, effect_in, SetsOf, SetsIn, is_same_path}
 use Rattle.dap_history.specs.Running.{body_of, resumes, first_logs, enters, ConfiguresIn, ResumesIn, RetreatsIn, pause_in}
-use Rattle.dap_history.specs.Frames.{Counting, line_of, column_of, frame_name, shown_frame, shown_frames, at_most, scopes_from, frame_by_id}
-use Rattle.dap_history.specs.Inspection.{Asked, stack_trace, scopes, variables, result_reply, EvaluatesIn, RepliesFrom, RepliesAt, asked_of, InspectsIn}
-use Rattle.dap_history.specs.Reports.{outputs, held, report_effect}
+use Rattle.dap_history.specs.Frames.{Counting, shown_line, shown_column, frame_name, shown_frame, shown_frames, at_most, scopes_from, frame_by_id}
+use Rattle.dap_history.specs.Inspection.{Subject, stack_trace, scopes, variables, result_reply, EvaluatesIn, RepliesFrom, RepliesAt, subject_in, InspectsIn}
+use Rattle.dap_history.specs.Reports.{outputs, held_effect, report_effect}
 use Rattle.dap_history.specs.Emission.{threads_in, RepliesIn, Answers, HasEffect, Causes}
 use Rattle.dap_history.specs.Events.{Incoming, Rest, IsHistoryOf}
 use Rattle.dap_history.proofs.Readings.{launched-snoc, messages_of-snoc}
@@ -81,7 +81,7 @@ events_fit-append : (es fs : List EventBody) → EventsFit es → EventsFit fs �
 events_fit-append [] fs a b = b
 events_fit-append (e ∷ es) fs a b = (a.0, events_fit-append es fs a.1 b)
 
-logs_fit : (bs : List Breakpoint) (ls : List Log) → EventsFit (told_logs bs ls)
+logs_fit : (bs : List Breakpoint) (ls : List Log) → EventsFit (log_events bs ls)
 logs_fit bs [] = tt
 logs_fit bs (l ∷ ls) = (tt, logs_fit bs ls)
 
@@ -113,12 +113,12 @@ line_small less None near = omega arith
 line_small less (Some s) near = omega (arith, near.0)
 
 place_line_small : (counting : Counting) (o : Option StepAt) → MayBeNear o
-    → line_of counting (option_map (λ s. s.place) o) < 2 ^ 64
+    → shown_line counting (option_map (λ s. s.place) o) < 2 ^ 64
 place_line_small counting None near = omega arith
 place_line_small counting (Some s) near = omega (arith, near.0)
 
 place_column_small : (counting : Counting) (o : Option StepAt) → MayBeNear o
-    → column_of counting (option_map (λ s. s.place) o) < 2 ^ 64
+    → shown_column counting (option_map (λ s. s.place) o) < 2 ^ 64
 place_column_small counting None near = omega arith
 place_column_small counting (Some s) near = omega (arith, near.1)
 
@@ -141,10 +141,10 @@ scopes_fit main (f ∷ below) i few =
     (scopes_fit main below f.link less) (scopes_fit main below i less)
 
 module _ (main : Block) (near : BlockNear main) where
-  answers_fit : (less : ℕ) (answers : List Resolution) → All LineFits (map (answer_of main less) answers)
-  answers_fit less answers = All-map LineFits (answer_of main less) answers (λ k d lt. one_fits _)
+  answers_fit : (less : ℕ) (answers : List Resolution) → All LineFits (map (answer_to_line main less) answers)
+  answers_fit less answers = All-map LineFits (answer_to_line main less) answers (λ k d lt. one_fits _)
     where
-      one_fits : (r : Resolution) → LineFits (answer_of main less r)
+      one_fits : (r : Resolution) → LineFits (answer_to_line main less r)
       one_fits (At n) = line_small less _ (program_step_near main n near)
       one_fits _ = tt
 
@@ -181,7 +181,7 @@ ItemsFit (step ∷ past) = ItemFits step.item × ItemsFit past
 -- ---- replies
 
 module _ (few : FramesAreFew) where
-  stack_fits : (of : Asked) (asked : StackTraceArguments) (n : ℕ) (c : Configuration) → BlockNear of.program
+  stack_fits : (of : Subject) (asked : StackTraceArguments) (n : ℕ) (c : Configuration) → BlockNear of.program
       → at of.program n ≡ Some c → ReplyFits (stack_trace of asked c)
   stack_fits of asked n c near is =
       let less = few of.program n c is in
@@ -191,13 +191,13 @@ module _ (few : FramesAreFew) where
         events = tt;
       })
 
-  scopes_reply_fits : (of : Asked) (id n : ℕ) (c : Configuration) (f : Option Frame) → at of.program n ≡ Some c
+  scopes_reply_fits : (of : Subject) (id n : ℕ) (c : Configuration) (f : Option Frame) → at of.program n ≡ Some c
       → ReplyFits (scopes of id c f)
   scopes_reply_fits of id n c None is = refused_fits _
   scopes_reply_fits of id n c (Some f) is =
       record { result = scopes_fit of.program c (id - 1) (few of.program n c is); events = tt }
 
-  variables_fit : (of : Asked) (f : Option Frame) → ReplyFits (variables of f)
+  variables_fit : (of : Subject) (f : Option Frame) → ReplyFits (variables of f)
   variables_fit of None = refused_fits _
   variables_fit of (Some f) = record { result = tt; events = tt }
 
@@ -212,7 +212,7 @@ module _ (few : FramesAreFew) where
   evaluates_fit main c id (Some f) text reply (inl is) = fits_if reply _ (result_fits is.result) is.reply_is
   evaluates_fit main c id (Some f) text reply (inr is) = fits_if reply _ (refused_fits _) is.reply_is
 
-  replies_fit : (of : Asked) (n : ℕ) (c : Configuration) (question : Question) (reply : Reply) → BlockNear of.program
+  replies_fit : (of : Subject) (n : ℕ) (c : Configuration) (question : Question) (reply : Reply) → BlockNear of.program
       → at of.program n ≡ Some c → RepliesFrom of c question reply → ReplyFits reply
   replies_fit of n c (question.StackTrace a) reply near is says = fits_if reply _ (stack_fits of a n c near is) says
   replies_fit of n c (question.Scopes a) reply near is says =
@@ -222,7 +222,7 @@ module _ (few : FramesAreFew) where
   replies_fit of n c (question.Evaluate a) reply near is says =
       evaluates_fit of.program c a.frame_id (frame_by_id c a.frame_id) a.expression reply says
 
-  replies_at_fit : (of : Asked) (n : ℕ) (o : Option Configuration) (question : Question) (reply : Reply)
+  replies_at_fit : (of : Subject) (n : ℕ) (o : Option Configuration) (question : Question) (reply : Reply)
       → BlockNear of.program → at of.program n ≡ o → RepliesAt of o question reply → ReplyFits reply
   replies_at_fit of n None question reply near is says = absurd says
   replies_at_fit of n (Some c) question reply near is says = replies_fit of n c question reply near is says
@@ -232,10 +232,10 @@ module _ (few : FramesAreFew) where
   LaunchedNear (Some l) = BlockNear l.program
 
   inspects_fit : (l : Option Launched) (past : History) (question : Question) (reply : Reply) → LaunchedNear l
-      → OfProgram l (λ l. RepliesAt (asked_of past l) (at l.program (position past)) question reply) → ReplyFits reply
+      → OfProgram l (λ l. RepliesAt (subject_in past l) (at l.program (position past)) question reply) → ReplyFits reply
   inspects_fit None past question reply near says = absurd says
   inspects_fit (Some l) past question reply near says =
-      replies_at_fit (asked_of past l) (position past) (at l.program (position past)) question reply near refl says
+      replies_at_fit (subject_in past l) (position past) (at l.program (position past)) question reply near refl says
 
   inspects_in_fit : (s : Situation) (past : History) (question : Question) (reply : Reply)
       → LaunchedNear (launched past) → InspectsIn s past question reply → ReplyFits reply
@@ -267,9 +267,10 @@ module _ (few : FramesAreFew) where
       fits_if reply _ (record { result = All-map LineFits _ lines (λ k d lt. tt); events = tt }) says
 
   sets_fit : (l : Option Launched) (past : History) (a : SetBreakpointsArguments) (reply : Reply) → LaunchedNear l
-      → OfProgram l (λ l. SetsOf (is_at a.path l.path) past l a.breakpoints reply) → ReplyFits reply
+      → OfProgram l (λ l. SetsOf (is_same_path a.path l.path) past l a.breakpoints reply) → ReplyFits reply
   sets_fit None past a reply near says = absurd says
-  sets_fit (Some l) past a reply near says = sets_of_fit (is_at a.path l.path) past l a.breakpoints reply near says
+  sets_fit (Some l) past a reply near says = sets_of_fit
+      (is_same_path a.path l.path) past l a.breakpoints reply near says
 
   sets_in_fit : (s : Situation) (past : History) (a : SetBreakpointsArguments) (reply : Reply)
       → LaunchedNear (launched past) → SetsIn s past a reply → ReplyFits reply
@@ -279,7 +280,7 @@ module _ (few : FramesAreFew) where
 
   enters_fit : (past : History) (l : Launched) (why : Option Reason) → EventsFit (enters past l why).events
   enters_fit past l None = logs_fit _ _
-  enters_fit past l (Some r) = events_fit-append (first_logs past l) (stops _) (logs_fit _ _) (tt, tt)
+  enters_fit past l (Some r) = events_fit-append (first_logs past l) (stopped_events _) (logs_fit _ _) (tt, tt)
 
   configures_fit : (o : Option Launched) (past : History) (reply : Reply) (why : Launched → Option Reason)
       → OfProgram o (λ l. reply ≡ record { result = Ok body.None; effect = enters past l (why l) }) → ReplyFits reply
@@ -360,19 +361,21 @@ module _ (few : FramesAreFew) where
   numbers_fit (v ∷ vs) = (tt, numbers_fit vs)
 
   outputs_fit : (past : History) (r : PlainReport) → EventsFit (outputs past r)
-  outputs_fit past r = events_fit-append (map event.Output _) (told_logs r.plan r.logs) (numbers_fit _) (logs_fit _ _)
+  outputs_fit past r = events_fit-append (map event.Output _) (log_events r.plan r.logs) (numbers_fit _) (logs_fit _ _)
 
-  held_fits : (past : History) (r : PlainReport) (pauses : Bool) → EventsFit (held past r pauses).events
-  held_fits past r true = events_fit-append (outputs past r) (stops _) (outputs_fit past r) (tt, tt)
+  held_fits : (past : History) (r : PlainReport) (pauses : Bool) → EventsFit (held_effect past r pauses).events
+  held_fits past r true = events_fit-append (outputs past r) (stopped_events _) (outputs_fit past r) (tt, tt)
   held_fits past r false = outputs_fit past r
 
   report_fits : (past : History) (r : PlainReport) (o : SliceOutcome) → EventsFit (report_effect past r o).events
   report_fits past r slice.More = outputs_fit past r
-  report_fits past r (slice.Due reason) = events_fit-append (outputs past r) (stops _) (outputs_fit past r) (tt, tt)
+  report_fits past r (slice.Due reason) = events_fit-append (outputs past r) (stopped_events _) (outputs_fit past r)
+      (tt, tt)
   report_fits past r slice.Held = held_fits past r (waiting_pause past)
   report_fits past r slice.Done =
-      events_fit-append (outputs past r) (ends 0) (outputs_fit past r) (near_small 0 (lit≤ tt), (tt, tt))
-  report_fits past r (slice.Fault fault) = events_fit-append (outputs past r) (stops _) (outputs_fit past r) (tt, tt)
+      events_fit-append (outputs past r) (exited_events 0) (outputs_fit past r) (near_small 0 (lit≤ tt), (tt, tt))
+  report_fits past r (slice.Fault fault) = events_fit-append (outputs past r) (stopped_events _) (outputs_fit past r)
+      (tt, tt)
   report_fits past r slice.NoMemory = tt
 
   -- ---- steps

@@ -22,7 +22,7 @@ use Rattle.dap_history.specs.Readings.{go, situation, position, plan, is_back, l
 use Rattle.dap_history.specs.Replies.{nothing}
 use Rattle.dap_history.specs.Reports.{from_next, put_in_at, report_effect}
 use Rattle.dap_history.specs.Emission.{Causes}
-use Rattle.dap_history.specs.Stops.{run_in, stop_of_event, IsStanding}
+use Rattle.dap_history.specs.Stops.{run_in, stop_of_event, IsStopped}
 use Rattle.dap_history.specs.GoingBack.{back_in, EachGoesBackAsAsked, CountsBeginAnew, RetreatsAreNotHeld}
 use Rattle.dap_history.specs.Events.{Incoming}
 use Rattle.dap_history.proofs.Readings.{situation-snoc, position-snoc, plan-snoc, last_run-snoc}
@@ -113,7 +113,7 @@ leads_to_running past step run is =
 
 -- where a run that went back stands, the plan counts from the next position
 abbrev BackStood : History → Type 0
-BackStood past = is_back past ≡ true → IsStanding (situation past) → (plan past).counted_from ≡ position past + 1
+BackStood past = is_back past ≡ true → IsStopped (situation past) → (plan past).counted_from ≡ position past + 1
 
 abbrev Counted : History → Item → Effect → Type 0
 Counted past item effect =
@@ -122,10 +122,10 @@ Counted past item effect =
 no_run_back : (past : History) → last_run past ≡ None → is_back past ≡ false
 no_run_back past none = ap (λ o. option_map_or (λ (run : Heading). goes_back run.mode) o false) none
 
-counted_put : (past : History) (put : Option Plan) → PutsIn (situation past) past put → IsStanding (situation past)
+counted_put : (past : History) (put : Option Plan) → PutsIn (situation past) past put → IsStopped (situation past)
     → (plan past).counted_from ≡ position past + 1 → (unwrap_or put (plan past)).counted_from ≡ position past + 1
 counted_put past None puts stands was = was
-counted_put past (Some p) (inl configuring) stands was = absurd (subst IsStanding configuring stands)
+counted_put past (Some p) (inl configuring) stands was = absurd (subst IsStopped configuring stands)
 counted_put past (Some p) (inr counts) stands was = counts
 
 stops_configuring : (s : Situation) (past : History) (o : Option StopReason) (r : StopReason) → StopsBy s past o
@@ -142,10 +142,10 @@ module _ (one : OneProgram) (joins : WrittenJoins) where
 
   -- where a run that goes back has come to its stop
   come : (past : History) (r : PlainReport) (main : Block) (e : SliceOutcome) → goes_back r.mode ≡ true
-      → GoesBackBy main r e → MarkIs IsStanding (mark_of_effect (report_effect past r e))
+      → GoesBackBy main r e → MarkIs IsStopped (mark_of_effect (report_effect past r e))
       → Counted past (Accepted r) (report_effect past r e)
   come past r main slice.More back by mark =
-      absurd (subst (MarkIs IsStanding) (outputs_unmarked past r) mark)
+      absurd (subst (MarkIs IsStopped) (outputs_unmarked past r) mark)
   come past r main (slice.Due reason) back by mark =
       ap (λ b. (unwrap_or (if b then Some (from_next r.end (unwrap_or (waiting_plan past) (plan past).breakpoints)) else
       put_in_at r.end (waiting_plan past)) (plan past)).counted_from) back
@@ -160,7 +160,7 @@ module _ (one : OneProgram) (joins : WrittenJoins) where
     -- nothing is put in, and no stop is reported
     still : (item : Item) (effect : Effect) → step.effect ≡ effect → effect.put_in ≡ None
         → last_such stop_of_event effect.events ≡ None → end_of item ≡ None
-        → (ReportsStop step.effect.events ⊎ IsStanding (situation past)) → Counted past item step.effect
+        → (ReportsStop step.effect.events ⊎ IsStopped (situation past)) → Counted past item step.effect
     still item effect is none no_stops stays (inl stops) = absurd (no_stop_by step effect is no_stops stops)
     still item effect is none no_stops stays (inr stands) =
         ap (λ (e : Effect). (unwrap_or e.put_in (plan past)).counted_from) is
@@ -169,21 +169,21 @@ module _ (one : OneProgram) (joins : WrittenJoins) where
         ∙ ap (λ o. unwrap_or o (position past) + 1) (sym stays)
 
     -- the step leads to where the program stands, or changes no situation
-    abbrev Leads : Type 0
-    Leads = MarkIs IsStanding (step_mark step) ⊎ ((step_mark step ≡ None) × IsStanding (situation past))
+    abbrev IsStoppedAfter : Type 0
+    IsStoppedAfter = MarkIs IsStopped (step_mark step) ⊎ ((step_mark step ≡ None) × IsStopped (situation past))
 
-    by_stop : (item : Item) → Causes past item step → Leads → ReportsStop step.effect.events
-        ⊎ IsStanding (situation past)
+    by_stop : (item : Item) → Causes past item step → IsStoppedAfter → ReportsStop step.effect.events
+        ⊎ IsStopped (situation past)
     by_stop item causes (inl mark) = inl (step_stops step (answers_only past item step causes) mark)
     by_stop item causes (inr is) = inr is.1
 
-    counted_by : (item : Item) → IsTaken IsLawfulEvent past item → Causes past item step → Leads
+    counted_by : (item : Item) → IsTaken IsLawfulEvent past item → Causes past item step → IsStoppedAfter
         → Counted past item step.effect
     counted_by (Content None) taken is leads =
         still (Content None) nothing is.effect_is refl refl refl (by_stop (Content None) is leads)
     counted_by (Content (Some request)) taken is leads = by_request (by_stop (Content (Some request)) is leads)
       where
-        by_request : ReportsStop step.effect.events ⊎ IsStanding (situation past)
+        by_request : ReportsStop step.effect.events ⊎ IsStopped (situation past)
             → Counted past (Content (Some request)) step.effect
         by_request (inl stops) =
             let configuring =
@@ -203,13 +203,13 @@ module _ (one : OneProgram) (joins : WrittenJoins) where
         goes : goes_back r.mode ≡ true
         goes = sym (is_back_is past r taken.0) ∙ back
 
-        by_mark : Leads → Counted past (Accepted r) step.effect
+        by_mark : IsStoppedAfter → Counted past (Accepted r) step.effect
         by_mark (inl mark) =
             subst (Counted past (Accepted r)) (sym is.effect_is)
             (come past r taken.1.program r.outcome goes
             (subst (λ b. Went taken.1.program r b) goes taken.1.lawful.went).outcome
-            (subst (MarkIs IsStanding) (mark_of (report_effect past r r.outcome) step is) mark))
-        by_mark (inr stands) = absurd (subst IsStanding taken.0.running stands.1)
+            (subst (MarkIs IsStopped) (mark_of (report_effect past r r.outcome) step is) mark))
+        by_mark (inr stands) = absurd (subst IsStopped taken.0.running stands.1)
     counted_by (Fault k) taken is leads = still (Fault k) _ is.effect_is refl refl refl (by_stop (Fault k) is leads)
     counted_by InputEnd taken is leads = still InputEnd _ is.effect_is refl refl refl (by_stop InputEnd is leads)
     counted_by ReadFailure taken is leads =
@@ -228,7 +228,7 @@ module _ (one : OneProgram) (joins : WrittenJoins) where
     where
       by_run : (o : Option Heading) → last_such go step.effect.orders ≡ o
           → (plan (past ++ step ∷ [])).counted_from ≡ position (past ++ step ∷ []) + 1
-      by_run (Some run) is = absurd (subst IsStanding (leads_to_running past step run is) standing)
+      by_run (Some run) is = absurd (subst IsStopped (leads_to_running past step run is) standing)
       by_run None none =
           let same : last_run (past ++ step ∷ []) ≡ last_run past =
           last_run-snoc past step ∙ ap (λ o. or_else o (last_run past)) none in
@@ -236,8 +236,8 @@ module _ (one : OneProgram) (joins : WrittenJoins) where
           ap (λ o. option_map_or (λ (run : Heading). goes_back run.mode) o false) (sym same) ∙ back in
           ap (λ (p : Plan). p.counted_from) (plan-snoc past step)
           ∙ counted_by past step here.ran here.stood was step.item taken causes
-          (mark_unwrap IsStanding (step_mark step) (situation past)
-          (subst IsStanding (situation-snoc past step) standing))
+          (mark_unwrap IsStopped (step_mark step) (situation past)
+          (subst IsStopped (situation-snoc past step) standing))
           ∙ ap (λ n. n + 1) (sym (position-snoc past step))
 
   back_kept : IsKept IsLawfulEvent Back
@@ -274,9 +274,9 @@ module _ (one : OneProgram) (joins : WrittenJoins) where
           absurd (not_begun before step was.held.ran was.held.stood back
           (was.held.ran.configuring (subst IsConfiguring (sym is) tt)).0)
       by_situation Stopped is can counted starts =
-          counted ∙ was.held.stood back (subst IsStanding (sym is) tt) ∙ ap (λ n. n + 1) (sym starts)
+          counted ∙ was.held.stood back (subst IsStopped (sym is) tt) ∙ ap (λ n. n + 1) (sym starts)
       by_situation Faulted is can counted starts =
-          counted ∙ was.held.stood back (subst IsStanding (sym is) tt) ∙ ap (λ n. n + 1) (sym starts)
+          counted ∙ was.held.stood back (subst IsStopped (sym is) tt) ∙ ap (λ n. n + 1) (sym starts)
       by_situation _ is can counted starts = absurd can
 
       by_place : IsResumed before run ⊎ (is_back before ≡ false) → run.counted_from ≡ run.start + 1

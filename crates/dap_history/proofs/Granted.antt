@@ -17,9 +17,9 @@ use Rattle.dap_history.specs.declared.situation.Situation.TheVariants.{Faulted}
 use Rattle.dap_history.specs.Last.{last_such}
 use Rattle.dap_history.specs.History.{Launched, Content, Accepted, Step, History, Effect}
 use Rattle.dap_history.specs.Readings.{go, situation, plan, waiting_pause}
-use Rattle.dap_history.specs.Replies.{Reply, stops, stop_of}
+use Rattle.dap_history.specs.Replies.{Reply, stopped_events, stop_of}
 use Rattle.dap_history.specs.Running.{first_logs, enters}
-use Rattle.dap_history.specs.Reports.{held, report_effect}
+use Rattle.dap_history.specs.Reports.{held_effect, report_effect}
 use Rattle.dap_history.specs.Emission.{Causes}
 use Rattle.dap_history.specs.Stops.{IsOutput, TellsFirst, TellsBy, EachReplyIsTold}
 use Rattle.dap_history.specs.Runs.{mode_by, IsExcused, GrantedRunsAreOrdered, HeldRunsGoOn}
@@ -99,7 +99,7 @@ begins_done : (past : History) (s : Situation) (l : Launched) (why : Option Reas
     → IsDone s command.ConfigurationDone (enters past l why)
 begins_done past s l None = inl refl
 begins_done past s l (Some r) =
-    inr (ap is_some (stop_of_logs (plan past).breakpoints (first_at past l) (stops (stop_of r))))
+    inr (ap is_some (stop_of_logs (plan past).breakpoints (first_at past l) (stopped_events (stop_of r))))
 
 module _ (past : History) (s : Situation) (asked : Command) (reply : Reply) (b : Body) (granted : reply.result ≡ Ok b)
     (asks : IsSome (mode_by 0 asked)) where
@@ -121,7 +121,7 @@ module _ (past : History) (s : Situation) (asked : Command) (reply : Reply) (b :
   reply_done (quits by is) = absurd (let e = subst (λ c. IsSome (mode_by 0 c)) by asks in cc)
 
 held_run : (past : History) (r : PlainReport) (pauses : Bool) → pauses ≡ false
-    → IsSome (last_such go (held past r pauses).orders)
+    → IsSome (last_such go (held_effect past r pauses).orders)
 held_run past r false is = refl
 held_run past r true is = absurd cc
 

@@ -28,9 +28,9 @@ use Rattle.dap_history.specs.History.{Launched, Item, Content, Loaded, Accepted,
 use Rattle.dap_history.specs.Readings.{go, situation, step_mark, runs, is_held, is_back, hold_mark, last_run, waiting_pause, closing, ending_of}
 use Rattle.dap_history.specs.Replies.{Reply}
 use Rattle.dap_history.specs.Launching.{Launches}
-use Rattle.dap_history.specs.Breakpoints.{hold_once, effect_in, is_at}
+use Rattle.dap_history.specs.Breakpoints.{hold_once, effect_in, is_same_path}
 use Rattle.dap_history.specs.Running.{enters}
-use Rattle.dap_history.specs.Reports.{held, report_effect}
+use Rattle.dap_history.specs.Reports.{held_effect, report_effect}
 use Rattle.dap_history.specs.Emission.{RepliesIn, Answers, Causes}
 use Rattle.dap_history.specs.GoingBack.{back_by}
 use Rattle.dap_history.specs.Runs.{IsToWait, GrantsWait, HoldOnce, WaitsAreHeld}
@@ -136,7 +136,7 @@ report_orders past r (slice.Fault fault) step is = orders_none is
 report_orders past r slice.NoMemory step is = orders_none is
 report_orders past r slice.Held step is = by_pause (waiting_pause past) is
   where
-    by_pause : (pauses : Bool) → step.effect.orders ≡ (held past r pauses).orders → OrdersBy past step
+    by_pause : (pauses : Bool) → step.effect.orders ≡ (held_effect past r pauses).orders → OrdersBy past step
     by_pause true is = orders_none is
     by_pause false is = orders_go _ refl is
 
@@ -349,7 +349,7 @@ not_calm : (past : History) (asked : Command) → IsCalm past Running asked → 
 not_calm past (command.Pause a) calm to_wait = calm
 not_calm past (command.SetBreakpoints a) calm to_wait =
     let same : calm.0 ≡ to_wait.0 = let e = sym calm.1 ∙ to_wait.1 in cc in
-    let e = sym calm.2 ∙ ap (λ (l : Launched). is_at a.path l.path) same
+    let e = sym calm.2 ∙ ap (λ (l : Launched). is_same_path a.path l.path) same
     ∙ at_path_so a.path to_wait.0.path to_wait.2 in absurd cc
 not_calm past _ calm to_wait = to_wait
 

@@ -30,10 +30,10 @@ use Rattle.dap_history.specs.History.{Launched, Item, Content, Loaded, Accepted,
 use Rattle.dap_history.specs.Readings.{situation, launched, position}
 use Rattle.dap_history.specs.Replies.{Reply, nothing, refused, OfProgram}
 use Rattle.dap_history.specs.Launching.{initialize_in, wanted_in, Launches}
-use Rattle.dap_history.specs.Breakpoints.{SetsOf, SetsIn, is_at}
+use Rattle.dap_history.specs.Breakpoints.{SetsOf, SetsIn, is_same_path}
 use Rattle.dap_history.specs.Running.{body_of, ConfiguresIn, ResumesIn, RetreatsIn, pause_in}
 use Rattle.dap_history.specs.Frames.{frame_by_id}
-use Rattle.dap_history.specs.Inspection.{Asked, asked_of, scopes, variables, result_reply, EvaluatesIn, RepliesFrom, RepliesAt, InspectsIn}
+use Rattle.dap_history.specs.Inspection.{Subject, subject_in, scopes, variables, result_reply, EvaluatesIn, RepliesFrom, RepliesAt, InspectsIn}
 use Rattle.dap_history.specs.Emission.{threads_in, RepliesIn, Causes}
 use Rattle.dap_history.specs.Events.{Incoming, Rest, IsHistoryOf}
 use Rattle.dap_history.specs.Verdicts.{refused_thread, refused_by, IsGranted, IsVerdict, EachIsJudged, IsNothing, RefusalsChangeNothing, SpeaksUp, OthersTellNothing, AnswersComeFirst}
@@ -90,9 +90,9 @@ module _ (past : History) where
   sets_judged Fresh a reply is = result_is reply _ is
   sets_judged Ready a reply is = result_is reply _ is
   sets_judged _ a reply is =
-      of_one (launched past) (λ l. SetsOf (is_at a.path l.path) past l a.breakpoints reply)
+      of_one (launched past) (λ l. SetsOf (is_same_path a.path l.path) past l a.breakpoints reply)
       (IsGranted (command.SetBreakpoints a) reply.result)
-      (λ l says. sets_granted a l reply (is_at a.path l.path) says) is
+      (λ l says. sets_granted a l reply (is_same_path a.path l.path) says) is
 
   configures_judged : (s : Situation) (reply : Reply) → ConfiguresIn s past reply
       → IsVerdict (refused_by s command.ConfigurationDone) command.ConfigurationDone reply.result
@@ -150,13 +150,13 @@ module _ (past : History) where
   abbrev QuestionJudged : Question → Reply → Type 0
   QuestionJudged q reply = IsVerdict (thread_refused q) (command.Inspect q) reply.result
 
-  scopes_judged : (of : Asked) (id : ℕ) (c : Configuration) (f : Option Frame) (reply : Reply)
+  scopes_judged : (of : Subject) (id : ℕ) (c : Configuration) (f : Option Frame) (reply : Reply)
       → reply ≡ scopes of id c f
       → ((ss : _) × (reply.result ≡ Ok (body.Scopes ss))) ⊎ (reply.result ≡ Err refusal.UnknownFrame)
   scopes_judged of id c None reply is = inr (result_is reply _ is)
   scopes_judged of id c (Some f) reply is = inl (_, result_is reply _ is)
 
-  variables_judged : (of : Asked) (f : Option Frame) (reply : Reply) → reply ≡ variables of f
+  variables_judged : (of : Subject) (f : Option Frame) (reply : Reply) → reply ≡ variables of f
       → ((vs : _) × (reply.result ≡ Ok (body.Variables vs))) ⊎ (reply.result ≡ Err refusal.UnknownReference)
   variables_judged of None reply is = inr (result_is reply _ is)
   variables_judged of (Some f) reply is = inl (_, result_is reply _ is)
@@ -172,13 +172,13 @@ module _ (past : History) where
   value_judged (Err Overflow) reply is = inr (inr (inr (inl (result_is reply _ is))))
   value_judged (Err DivideByZero) reply is = inr (inr (inr (inr (result_is reply _ is))))
 
-  evaluate_judged : (of : Asked) (c : Configuration) (id : ℕ) (f : Option Frame) (text : List ℕ) (reply : Reply)
+  evaluate_judged : (of : Subject) (c : Configuration) (id : ℕ) (f : Option Frame) (text : List ℕ) (reply : Reply)
       → EvaluatesIn of.program c id f text reply → Evaluated reply
   evaluate_judged of c id None text reply is = inr (inl (result_is reply _ is))
   evaluate_judged of c id (Some f) text reply (inl is) = value_judged is.result reply is.reply_is
   evaluate_judged of c id (Some f) text reply (inr is) = inr (inr (inl (result_is reply _ is.reply_is)))
 
-  question_judged : (of : Asked) (c : Configuration) (q : Question) (reply : Reply) → RepliesFrom of c q reply
+  question_judged : (of : Subject) (c : Configuration) (q : Question) (reply : Reply) → RepliesFrom of c q reply
       → QuestionJudged q reply
   question_judged of c (question.StackTrace a) reply is =
       on_one_thread (command.Inspect (question.StackTrace a)) (nat_eq a.thread_id 1) _ reply is
@@ -190,16 +190,16 @@ module _ (past : History) where
       evaluate_judged of c a.frame_id (frame_by_id c a.frame_id) a.expression reply is
 
   asked_judged : (q : Question) (reply : Reply)
-      → OfProgram (launched past) (λ l. RepliesAt (asked_of past l) (at l.program (position past)) q reply)
+      → OfProgram (launched past) (λ l. RepliesAt (subject_in past l) (at l.program (position past)) q reply)
       → QuestionJudged q reply
   asked_judged q reply is =
-      of_one (launched past) (λ l. RepliesAt (asked_of past l) (at l.program (position past)) q reply)
+      of_one (launched past) (λ l. RepliesAt (subject_in past l) (at l.program (position past)) q reply)
       (QuestionJudged q reply) (λ l says. by_place l (at l.program (position past)) says) is
     where
-      by_place : (l : Launched) (c : Option Configuration) → RepliesAt (asked_of past l) c q reply
+      by_place : (l : Launched) (c : Option Configuration) → RepliesAt (subject_in past l) c q reply
           → QuestionJudged q reply
       by_place l None is = absurd is
-      by_place l (Some c) is = question_judged (asked_of past l) c q reply is
+      by_place l (Some c) is = question_judged (subject_in past l) c q reply is
 
   -- where the program stands, only the thread may refuse it
   standing : (q : Question) (reply : Reply) → QuestionJudged q reply

@@ -40,11 +40,11 @@ use Rattle.dap_history.specs.Readings.{situation, step_mark, launched, end_of, p
 use Rattle.dap_history.specs.Replies.{Reply, nothing, ordering, refused, causing, OfProgram, on_thread}
 use Rattle.dap_history.specs.Launching.{Launches}
 use Rattle.dap_history.specs.Running.{resumes, enters, ConfiguresIn, ResumesIn, RetreatsIn}
-use Rattle.dap_history.specs.Inspection.{RepliesFrom, RepliesAt, asked_of, InspectsIn}
+use Rattle.dap_history.specs.Inspection.{RepliesFrom, RepliesAt, subject_in, InspectsIn}
 use Rattle.dap_history.specs.Reports.{report_effect}
 use Rattle.dap_history.specs.Emission.{RepliesIn, Causes, IsAfter}
 use Rattle.dap_history.specs.Laws.{IsPlain, IsPlainItem, EachItemLeads}
-use Rattle.dap_history.specs.Stops.{IsStanding}
+use Rattle.dap_history.specs.Stops.{IsStopped}
 use Rattle.dap_history.proofs.Readings.{situation-snoc, position-snoc, launched-snoc}
 use Rattle.dap_history.proofs.Texts.{OneProgram}
 use Rattle.dap_history.proofs.Along.{IsTaken, IsKept, IsLawfulEvent, lawful_events, along}
@@ -131,7 +131,7 @@ calm_early_result : (past : History) (s : Situation) (seq : ℕ) (asked : Comman
 calm_early_result past s seq asked (Ok b) early calm = calm_early past s seq asked b early calm
 calm_early_result past s seq asked (Err why) early calm = inl early
 
-standing_late : (s : Situation) → IsStanding s → ¬ IsEarly s
+standing_late : (s : Situation) → IsStopped s → ¬ IsEarly s
 standing_late Stopped stands early = early
 standing_late Faulted stands early = early
 standing_late _ stands early = stands
@@ -326,16 +326,16 @@ module _ (one : OneProgram) (joins : WrittenJoins) (no_gaps : RunsHaveNoGaps) wh
 
     -- a question that every configuration answers
     module _ (asked : Question) (answers : (l : Launched) (c : Configuration)
-        → Answered (RepliesFrom (asked_of past l) c asked)) where
-      at_some : (l : Launched) (o : Option Configuration) → IsSome o → Answered (RepliesAt (asked_of past l) o asked)
+        → Answered (RepliesFrom (subject_in past l) c asked)) where
+      at_some : (l : Launched) (o : Option Configuration) → IsSome o → Answered (RepliesAt (subject_in past l) o asked)
       at_some l (Some c) is = answers l c
       at_some l None is = absurd cc
 
       at_program : IsLaunched past → Answered
           (λ reply. OfProgram (launched past)
-          (λ l. RepliesAt (asked_of past l) (at l.program (position past)) asked reply))
+          (λ l. RepliesAt (subject_in past l) (at l.program (position past)) asked reply))
       at_program there =
-          with_program (λ l reply. RepliesAt (asked_of past l) (at l.program (position past)) asked reply) there
+          with_program (λ l reply. RepliesAt (subject_in past l) (at l.program (position past)) asked reply) there
           (λ l is. at_some l (at l.program (position past)) (here.alive l is))
 
       inspects : (s : Situation) → situation past ≡ s → Answered (InspectsIn s past asked)

@@ -30,7 +30,7 @@ use Rattle.dap_history.specs.declared.situation.Situation.TheVariants.{Fresh, Re
 use Rattle.dap_history.specs.History.{Launched, Item, Content, Loaded, Accepted, Step, History}
 use Rattle.dap_history.specs.Readings.{situation, settings_by, settings, launched}
 use Rattle.dap_history.specs.Replies.{Reply, OfProgram}
-use Rattle.dap_history.specs.Breakpoints.{offset, line_offset, IsAskedAs, AreAskedAs, step_line, answer_of, is_at, SetsOf, SetsIn}
+use Rattle.dap_history.specs.Breakpoints.{offset, line_offset, IsAskedAs, AreAskedAs, step_line, answer_to_line, is_same_path, SetsOf, SetsIn}
 use Rattle.dap_history.specs.Emission.{RepliesIn, Causes}
 use Rattle.dap_history.specs.Events.{Incoming, Rest, IsHistoryOf}
 use Rattle.dap_history.specs.Stops.{stop_in}
@@ -195,7 +195,7 @@ module _ (main : Block) (less : ℕ) where
     condition_not n not is = not (subst (HasConditionAt main n) (sym as_asked.condition) is)
 
     answers_line : (r : Resolution) (mine : List Breakpoint) → IsResolvedTo main asked r mine
-        → AnswersLine main less b (answer_of main less r)
+        → AnswersLine main less b (answer_to_line main less r)
     answers_line (At n) mine is =
         let there = step_there asked.line n is.0 in (
           n,
@@ -225,7 +225,7 @@ module _ (main : Block) (less : ℕ) where
     )
 
     gives_line : (r : Resolution) (mine : List Breakpoint) → IsResolvedTo main asked r mine
-        → GivesBreakpoint main less b (answer_of main less r) mine
+        → GivesBreakpoint main less b (answer_to_line main less r) mine
     gives_line (At n) mine is = (
       n,
       is.1.0,
@@ -246,7 +246,7 @@ module _ (main : Block) (less : ℕ) where
   -- the breakpoints of lines
   pub give_lines : (lines : List SourceBreakpoint) (asked : List AskedLine) (answers : List Resolution)
       (bs : List Breakpoint) → AreAskedAs less lines asked → AreResolved main asked answers bs
-      → GiveBreakpoints main less lines (map (answer_of main less) answers) bs
+      → GiveBreakpoints main less lines (map (answer_to_line main less) answers) bs
   give_lines [] [] [] bs as_asked are = are
   give_lines (b ∷ lines) (a ∷ asked) (r ∷ answers) bs as_asked are = (
     are.0,
@@ -263,7 +263,7 @@ module _ (main : Block) (less : ℕ) where
 
   answers_lines : (lines : List SourceBreakpoint) (asked : List AskedLine) (answers : List Resolution)
       (bs : List Breakpoint) → AreAskedAs less lines asked → AreResolved main asked answers bs
-      → AnswersLines main less lines (map (answer_of main less) answers)
+      → AnswersLines main less lines (map (answer_to_line main less) answers)
   answers_lines [] [] [] bs as_asked are = tt
   answers_lines (b ∷ lines) (a ∷ asked) (r ∷ answers) bs as_asked are = (
     answers_line b a as_asked.0 r are.0 are.3,
@@ -284,11 +284,11 @@ record AnswersSet (past : History) (asked : SetBreakpointsArguments) (reply : Re
   others : (¬ (asked.path ≡ Some l.path)) → answers ≡ map (λ b. answer.Unverified why.OtherSource) asked.breakpoints
 
 module _ (past : History) (asked : SetBreakpointsArguments) (reply : Reply) where
-  sets_of : (l : Launched) → launched past ≡ Some l → (same : Bool) → is_at asked.path l.path ≡ same
+  sets_of : (l : Launched) → launched past ≡ Some l → (same : Bool) → is_same_path asked.path l.path ≡ same
       → SetsOf same past l asked.breakpoints reply → AnswersSet past asked reply
   sets_of l there true at_ is = record {
     l = l;
-    answers = map (answer_of l.program (line_offset past)) is.answers;
+    answers = map (answer_to_line l.program (line_offset past)) is.answers;
     there = there;
     result_is = ap (λ (r : Reply). r.result) is.reply_is;
     ours = λ path_is. answers_lines l.program (line_offset past) asked.breakpoints is.resolved.asked is.answers
@@ -305,9 +305,10 @@ module _ (past : History) (asked : SetBreakpointsArguments) (reply : Reply) wher
   }
 
   program_of : (o : Option Launched) → launched past ≡ o
-      → OfProgram o (λ l. SetsOf (is_at asked.path l.path) past l asked.breakpoints reply) → AnswersSet past asked reply
+      → OfProgram o (λ l. SetsOf (is_same_path asked.path l.path) past l asked.breakpoints reply)
+      → AnswersSet past asked reply
   program_of None none is = absurd is
-  program_of (Some l) there is = sets_of l there (is_at asked.path l.path) refl is
+  program_of (Some l) there is = sets_of l there (is_same_path asked.path l.path) refl is
 
   sets_answered : (s : Situation) (b : Body) → reply.result ≡ Ok b → SetsIn s past asked reply
       → (¬ (s ≡ Fresh)) × AnswersSet past asked reply

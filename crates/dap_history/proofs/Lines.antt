@@ -32,16 +32,16 @@ use Rattle.dap_history.specs.Plans.{Plan, no_plan}
 use Rattle.dap_history.specs.Last.{or_else, last_such}
 use Rattle.dap_history.specs.History.{Launched, Item, Content, Loaded, Accepted, Fault, InputEnd, ReadFailure, MemoryFailure, Step, History, Effect}
 use Rattle.dap_history.specs.Readings.{go, situation, step_mark, message_mark, order_mark, settings_by, settings, launched, runs, is_held, is_back, last_run, end_of, position, plan, waits_by, waiting_plan, waiting_pause}
-use Rattle.dap_history.specs.Replies.{Reply, nothing, ordering, refused, causing, stops, ends, stop_of, exception_of}
+use Rattle.dap_history.specs.Replies.{Reply, nothing, ordering, refused, causing, stopped_events, exited_events, stop_of, exception_of}
 use Rattle.dap_history.specs.Launching.{Launches, launches}
-use Rattle.dap_history.specs.Breakpoints.{offset, line_offset, IsResolved, answer_of, effect_in, is_at}
+use Rattle.dap_history.specs.Breakpoints.{offset, line_offset, IsResolved, answer_to_line, effect_in, is_same_path}
 use Rattle.dap_history.specs.Running.{body_of, resumes, enters}
-use Rattle.dap_history.specs.Reports.{Accepts, from_next, put_in_at, put_in_by, held, report_effect}
+use Rattle.dap_history.specs.Reports.{Accepts, from_next, put_in_at, put_in_by, held_effect, report_effect}
 use Rattle.dap_history.specs.Considered.{starts_by}
 use Rattle.dap_history.specs.Emission.{Causes}
 use Rattle.dap_history.specs.GoingBack.{back_by}
-use Rattle.dap_history.specs.Stops.{run_in, Orders, IsStanding}
-use Rattle.dap_history.specs.Lines.{lines_at, lines_by, lines_set, AreOfLines as AreSpelled, anew_mark, are_anew, next_counted, counts_from, HasDebuggee, PlanIsOfLines, EachRunHasItsLines, EachRunCountsFrom}
+use Rattle.dap_history.specs.Stops.{run_in, Orders, IsStopped}
+use Rattle.dap_history.specs.Lines.{lines_at, lines_by, lines_set, AreOfLines as AreSpelled, anew_mark, are_anew, next_counted, first_counted, HasDebuggee, PlanIsOfLines, EachRunHasItsLines, EachRunCountsFrom}
 use Rattle.dap_history.specs.Events.{Incoming, Rest, AreLawful, IsHistoryOf}
 use Rattle.dap_history.specs.LineAnswers.{GiveBreakpoints}
 use Rattle.dap_msg.specs.declared.outgoing.BreakpointAnswer.{BreakpointAnswer}
@@ -77,7 +77,7 @@ spelled l counting None bs is = is
 spelled l counting (Some lines) bs is =
     subst (λ n. (answers : List BreakpointAnswer) × GiveBreakpoints l.program n lines answers bs)
     (offset_is counting.lines_start_at_1) (
-      map (answer_of l.program (offset counting.lines_start_at_1)) is.0,
+      map (answer_to_line l.program (offset counting.lines_start_at_1)) is.0,
       give_lines l.program (offset counting.lines_start_at_1) lines is.1.asked is.0 bs is.1.as_asked is.1.resolved,
     )
 
@@ -194,7 +194,7 @@ back_goes (command.Retreat k a) m is = tt
 back_goes _ m is = absurd cc
 
 module _ (l : Launched) (v : View) where
-  stands_there : (s : Situation) → IsStanding s → Planned l s v → Stands l v
+  stands_there : (s : Situation) → IsStopped s → Planned l s v → Stands l v
   stands_there Stopped stands here = here
   stands_there Faulted stands here = here
   stands_there _ stands here = absurd stands
@@ -219,7 +219,8 @@ module _ (l : Launched) (v : View) where
   calm_planned past seq s (command.Initialize a) b there calm here = tt
   calm_planned past seq s (command.SetBreakpoints a) b there calm here =
       let same : calm.0 ≡ l = let e = sym calm.1 ∙ there in cc in
-      other_lines s a.breakpoints (is_at a.path l.path) (ap (λ (k : Launched). is_at a.path k.path) (sym same) ∙ calm.2)
+      other_lines s a.breakpoints (is_same_path a.path l.path)
+      (ap (λ (k : Launched). is_same_path a.path k.path) (sym same) ∙ calm.2)
       here
   calm_planned past seq s command.Threads b there calm here = here
   calm_planned past seq s (command.Pause a) b there calm here = here
@@ -238,7 +239,8 @@ module _ (l : Launched) (v : View) where
   pause_planned seq n a false here = here
 
   -- lines that are set
-  module _ (seq : ℕ) (a : SetBreakpointsArguments) (same : is_at a.path l.path ≡ true) (b : Body) (bs : List Breakpoint)
+  module _ (seq : ℕ) (a : SetBreakpointsArguments) (same : is_same_path a.path l.path ≡ true) (b : Body)
+      (bs : List Breakpoint)
       (are : AreOfLines l (less v) (Some a.breakpoints) bs) where
     abbrev lines_then : Bool → Option (List SourceBreakpoint)
     lines_then t = if t then Some a.breakpoints else None
@@ -256,7 +258,7 @@ module _ (l : Launched) (v : View) where
     abbrev wait_then : Bool → View
     wait_then t = view_of v.settings (or_else (lines_then t) v.lines) v.now (Some bs) v.last v.here (anew_then t)
 
-    waits_planned : Planned l Running v → Planned l Running (wait_then (is_at a.path l.path))
+    waits_planned : Planned l Running v → Planned l Running (wait_then (is_same_path a.path l.path))
     waits_planned here = subst (λ t. Planned l Running (wait_then t)) (sym same) (are, here.1, here.2, here.3, refl)
 
     sets_running : (n : ℕ) (t : Bool) → Planned l Running v → After l Running
@@ -285,7 +287,7 @@ module _ (l : Launched) (v : View) where
   begins_planned past seq l' (Some r) plan_is here =
       subst (λ o. Planned l (unwrap_or (or_else o None) Configuring)
       (next l (answering seq command.ConfigurationDone (Ok body.None) (enters past l' (Some r))) v))
-      (sym (mark_of_logs (plan past).breakpoints (first_at past l') (stops (stop_of r)) ∙ stop_marks r))
+      (sym (mark_of_logs (plan past).breakpoints (first_at past l') (stopped_events (stop_of r)) ∙ stop_marks r))
       (here.0, here.1 ∙ ap (λ o. next_counted (goes_back_last o) o v.here) (sym here.2))
 
 -- what holds where the program l is launched, after a reply
@@ -301,11 +303,11 @@ module _ (past : History) (l : Launched) (there : launched past ≡ Some l) (seq
       (calm_result l (view l past) past seq (situation past) asked reply.result there calm here)
   reply_planned reply (sets a l' by there' same resolves) here =
       let one : l' ≡ l = let e = sym there' ∙ there in cc in
-      let at_path = ap (λ (k : Launched). is_at a.path k.path) (sym one) ∙ same in
+      let at_path = ap (λ (k : Launched). is_same_path a.path k.path) (sym one) ∙ same in
       let are =
       subst (λ (k : Launched). IsResolved k.program (line_offset past) a.breakpoints resolves.answers
       resolves.breakpoints) one resolves.resolved in
-      let b = body.Breakpoints (map (answer_of l'.program (line_offset past)) resolves.answers) in
+      let b = body.Breakpoints (map (answer_to_line l'.program (line_offset past)) resolves.answers) in
       subst (Replied (situation past)) (sym resolves.reply_is)
       (subst (λ c. After l (situation past)
       (answering seq c (Ok b) (effect_in (situation past) past resolves.breakpoints)) (view l past)) (sym by)
@@ -322,7 +324,7 @@ module _ (past : History) (l : Launched) (there : launched past ≡ Some l) (seq
   reply_planned reply (resumes_by resume_kind l' by here_is there' is) here =
       subst (Replied (situation past)) (sym is)
       (goes_planned l (view l past) seq asked (resuming_goes asked resume_kind by) (body_of resume_kind)
-      (situation past) _ refl (stands_there l (view l past) (situation past) (subst IsStanding (sym here_is) tt)
+      (situation past) _ refl (stands_there l (view l past) (situation past) (subst IsStopped (sym here_is) tt)
       here))
   reply_planned reply (is_over resume_kind by here_is is) here = subst (Replied (situation past)) (sym is) tt
   reply_planned reply (retreats m l' by back stands there' is) here =
@@ -391,9 +393,9 @@ module _ (past : History) (r : PlainReport) (accepts : Accepts past r) (l : Laun
       (sym (ap (λ os. or_else (last_such order_mark os) (last_such message_mark (map Event effect.events))) none ∙ is))
       planned
 
-  held_planned : (pauses : Bool) → Reported slice.Held (held past r pauses)
+  held_planned : (pauses : Bool) → Reported slice.Held (held_effect past r pauses)
   held_planned true =
-      by_mark slice.Held (held past r true) (Some Stopped) refl (outputs_mark past r (stops stop.Pause))
+      by_mark slice.Held (held_effect past r true) (Some Stopped) refl (outputs_mark past r (stopped_events stop.Pause))
       (are_put, put_counts)
   held_planned false = (are_put, _, refl, refl, refl)
 
@@ -402,13 +404,13 @@ module _ (past : History) (r : PlainReport) (accepts : Accepts past r) (l : Laun
       by_mark slice.More (report_effect past r slice.More) None refl (outputs_unmarked past r) here
   report_planned (slice.Due why) =
       by_mark (slice.Due why) (report_effect past r (slice.Due why)) (Some Stopped) refl
-      (outputs_mark past r (stops (stop_of why)) ∙ stop_marks why) (are_put, put_counts)
+      (outputs_mark past r (stopped_events (stop_of why)) ∙ stop_marks why) (are_put, put_counts)
   report_planned slice.Held = held_planned (waiting_pause past)
   report_planned slice.Done =
-      by_mark slice.Done (report_effect past r slice.Done) (Some Ended) refl (outputs_mark past r (ends 0)) tt
+      by_mark slice.Done (report_effect past r slice.Done) (Some Ended) refl (outputs_mark past r (exited_events 0)) tt
   report_planned (slice.Fault fault) =
       by_mark (slice.Fault fault) (report_effect past r (slice.Fault fault)) (Some Faulted) refl
-      (outputs_mark past r (stops (stop.Exception (exception_of fault)))) (are_put, put_counts)
+      (outputs_mark past r (stopped_events (stop.Exception (exception_of fault)))) (are_put, put_counts)
   report_planned slice.NoMemory = here
 
 -- ---- before a launch
@@ -635,7 +637,7 @@ module _ (one : OneProgram) (joins : WrittenJoins) where
   abbrev RunsSo : History → Option Outgoing → Heading → Type 0
   RunsSo past answer run =
       (l : Launched) × (launched past ≡ Some l) × AreOfLines l (line_offset past) (lines_set l.path past) run.plan
-      × (run.counted_from ≡ counts_from past l answer run.start)
+      × (run.counted_from ≡ first_counted past l answer run.start)
 
   not_a_start : (seq : ℕ) (asked : Command) (b : Body) → IsGoing asked
       → starts_by (Some (Answer seq (name_of asked) (Ok b))) ≡ false
@@ -720,7 +722,7 @@ module _ (one : OneProgram) (joins : WrittenJoins) where
       → last_such go (report_effect past r e).orders ≡ Some run → RunsSo past None run
   held_so past r accepts l there planned slice.Held run goes = by_pause (waiting_pause past) goes
     where
-      by_pause : (pauses : Bool) → last_such go (held past r pauses).orders ≡ Some run → RunsSo past None run
+      by_pause : (pauses : Bool) → last_such go (held_effect past r pauses).orders ≡ Some run → RunsSo past None run
       by_pause true goes = absurd cc
       by_pause false goes =
           let same = ap (λ o. unwrap_or o run) goes in (

@@ -17,7 +17,7 @@ use Rattle.dap_history.specs.Replies.{Reply}
 use Rattle.dap_history.specs.Launching.{Launches}
 use Rattle.dap_history.specs.Considered.{all_runs, end_in, starts_by, before_start, first_texts, run_texts, logged}
 use Rattle.dap_history.specs.Emission.{HasEffect, Causes}
-use Rattle.dap_history.specs.Laws.{log_of, logs, LogsAreOfPositions, StopsFollowLogs}
+use Rattle.dap_history.specs.Laws.{log_of, log_texts, LogsAreOfPositions, StopsFollowLogs}
 use Rattle.dap_history.proofs.Readings.{messages_of-snoc, launched-snoc}
 use Rattle.dap_history.proofs.Along.{IsTaken, IsKept, IsLawfulEvent, lawful_events, along}
 use Rattle.dap_history.proofs.Each.{EachTaken, each_kept, each_first}
@@ -64,7 +64,7 @@ by_logs said past events true (Some l) is (logs_first k more configuring there e
     ∙ ap (λ l. first_texts l (Some past)) same
 
 unlogged : (past : History) (step : Step) (effect : Effect) (l : Option Launched) → HasEffect effect step
-    → texts_in effect.events ≡ [] → logs (messages step) ≡ start_texts (starts_by step.answer) l past
+    → texts_in effect.events ≡ [] → log_texts (messages step) ≡ start_texts (starts_by step.answer) l past
 unlogged past step effect l has none =
     no_answer_unlogged step has.answer_is ∙ ap (λ (e : Effect). texts_in e.events) has.effect_is ∙ none
     ∙ ap (λ a. start_texts (starts_by a) l past) (sym has.answer_is)
@@ -83,7 +83,7 @@ no_start true l past step (starts_here k configuring there effect_is leads) read
 
 step_texts : LogsAreSaid → (past : History) (item : Item) (step : Step) (l : Option Launched) → launched past ≡ l
     → IsTaken IsLawfulEvent past item → Causes past item step
-    → logs (messages step) ≡ start_texts (starts_by step.answer) l past ++ item_texts item
+    → log_texts (messages step) ≡ start_texts (starts_by step.answer) l past ++ item_texts item
 step_texts said past (Content None) step l is taken causes = unlogged past step _ l causes refl ∙ sym (append-nil _)
 step_texts said past (Content (Some request)) step l is taken causes =
     answer_unlogged _ _ _ step causes.2.answer_is
@@ -133,13 +133,14 @@ reports_or_not : (item : Item) → Reports item
 reports_or_not (Accepted r) = inl (r, refl)
 reports_or_not _ = inr ((λ n. refl), refl)
 
-logs-snoc : (past : History) (step : Step) → logs (messages_of (past ++ step ∷ [])) ≡ logs (messages_of past)
-    ++ logs (messages step)
-logs-snoc past step = ap logs (messages_of-snoc past step) ∙ filter_map-append log_of (messages_of past) (messages step)
+logs-snoc : (past : History) (step : Step) → log_texts (messages_of (past ++ step ∷ [])) ≡ log_texts (messages_of past)
+    ++ log_texts (messages step)
+logs-snoc past step = ap log_texts (messages_of-snoc past step) ∙ filter_map-append log_of (messages_of past)
+    (messages step)
 
 abbrev ToldOf : History → Option Launched → Type 0
-ToldOf past None = logs (messages_of past) ≡ []
-ToldOf past (Some l) = logs (messages_of past) ≡ logged l past
+ToldOf past None = log_texts (messages_of past) ≡ []
+ToldOf past (Some l) = log_texts (messages_of past) ≡ logged l past
 
 module _ (one : OneProgram) (joins : WrittenJoins) (said : LogsAreSaid) where
   pub record Logging (past : History) : Type 0 where
@@ -181,17 +182,17 @@ module _ (one : OneProgram) (joins : WrittenJoins) (said : LogsAreSaid) where
     item_none (Accepted r) taken none = absurd (let e = sym none ∙ taken.0.run_is in cc)
     item_none _ taken none = refl
 
-    none_told : launched past ≡ None → logs (messages_of new) ≡ []
+    none_told : launched past ≡ None → log_texts (messages_of new) ≡ []
     none_told is =
         let progress = so_far.ran.so_far.progress None is in
         logs-snoc past step
-        ∙ ap (λ ts. ts ++ logs (messages step)) (so_far.told None is)
+        ∙ ap (λ ts. ts ++ log_texts (messages step)) (so_far.told None is)
         ∙ step_texts said past step.item step None is taken causes
         ∙ ap (λ ts. ts ++ item_texts step.item) (none_texts (starts_by step.answer))
         ∙ item_none step.item taken progress.1
 
     -- what is logged where the program was just launched
-    first_told : (l : Launched) → launched past ≡ None → logs (messages_of new) ≡ logged l new
+    first_told : (l : Launched) → launched past ≡ None → log_texts (messages_of new) ≡ logged l new
     first_told l is =
         let progress = so_far.ran.so_far.progress None is in
         none_told is
@@ -246,12 +247,12 @@ module _ (one : OneProgram) (joins : WrittenJoins) (said : LogsAreSaid) where
           ∙ sym (append-nil (first_texts l (Some past)))
           ∙ ap (λ ts. first_texts l (Some past) ++ ts) (sym none)
 
-      told_on : logs (messages_of new) ≡ logged l new
+      told_on : log_texts (messages_of new) ≡ logged l new
       told_on =
           let s = start_texts (starts_by step.answer) (Some l) past in
           let i = item_texts step.item in
           logs-snoc past step
-          ∙ ap (λ ts. ts ++ logs (messages step)) (so_far.told (Some l) is)
+          ∙ ap (λ ts. ts ++ log_texts (messages step)) (so_far.told (Some l) is)
           ∙ ap (λ ts. (first_before ++ runs_before) ++ ts)
           (step_texts said past step.item step (Some l) is taken causes)
           ∙ shuffle first_before runs_before s i (apart (starts_by step.answer) starts)

@@ -12,7 +12,7 @@ use Rattle.dap_msg.specs.declared.request.Request.{Request}
 use Rattle.pl0_meaning.specs.Laws.{FramesAreFew}
 use Rattle.dap_history.specs.History.{Item, Content, Loaded, Accepted, Step, History, messages_of}
 use Rattle.dap_history.specs.Output.{frames_from}
-use Rattle.dap_history.specs.Laws.{launch_request, read_as, waiting, AreRead, ContentsAreOfTheStream, SeqCountFromOne, FramesAreReadBack}
+use Rattle.dap_history.specs.Laws.{launch_request, read_as, waiting, AreReadAs, ContentsAreOfTheStream, SeqCountFromOne, FramesAreReadBack}
 use Rattle.dap_history.proofs.Fitting.{ItemFits, ItemsFit, message_fits, history_fits}
 
 numbered : (k : ℕ) (messages : List Outgoing) (n : ℕ) → slice_get (frames_from k messages) n ≡ option_map
@@ -39,8 +39,8 @@ abbrev items : History → List Item
 items past = map (λ (step : Step). step.item) past
 
 item_small : RequestsEcho → (f : FirstSeq) (item : Item) (others : List Item) (waits : List (Option Request))
-    (contents : List (List ℕ)) → AreRead f contents (filter_map read_as (item ∷ others) ++ waits)
-    → ItemFits item × ((left : List (List ℕ)) × AreRead f left (filter_map read_as others ++ waits))
+    (contents : List (List ℕ)) → AreReadAs f contents (filter_map read_as (item ∷ others) ++ waits)
+    → ItemFits item × ((left : List (List ℕ)) × AreReadAs f left (filter_map read_as others ++ waits))
 item_small echo f (Content None) others waits [] are = absurd are
 item_small echo f (Content None) others waits (c ∷ cs) are = (tt, (cs, are.1))
 item_small echo f (Content (Some request)) others waits [] are = absurd are
@@ -52,7 +52,7 @@ item_small echo f (Accepted r) others waits contents are = (tt, (contents, are))
 item_small echo f _ others waits contents are = (tt, (contents, are))
 
 items_small : RequestsEcho → (f : FirstSeq) (past : History) (waits : List (Option Request)) (contents : List (List ℕ))
-    → AreRead f contents (filter_map read_as (items past) ++ waits) → ItemsFit past
+    → AreReadAs f contents (filter_map read_as (items past) ++ waits) → ItemsFit past
 items_small echo f [] waits contents are = tt
 items_small echo f (step ∷ past) waits contents are =
     let first = item_small echo f step.item (items past) waits contents are in

@@ -20,11 +20,11 @@ use Rattle.dap_history.specs.declared.situation.Situation.TheVariants.{Fresh}
 use Rattle.dap_history.specs.Last.{or_else, last_such}
 use Rattle.dap_history.specs.History.{Launched, Item, Content, Loaded, Accepted, Step, History, Effect}
 use Rattle.dap_history.specs.Readings.{go, situation, plan, waiting_pause}
-use Rattle.dap_history.specs.Replies.{Reply, stops, ends, stop_of, exception_of, told_logs}
+use Rattle.dap_history.specs.Replies.{Reply, stopped_events, exited_events, stop_of, exception_of, log_events}
 use Rattle.dap_history.specs.Launching.{Launches}
 use Rattle.dap_history.specs.Breakpoints.{effect_in}
 use Rattle.dap_history.specs.Running.{first_logs, enters}
-use Rattle.dap_history.specs.Reports.{outputs, held, report_effect}
+use Rattle.dap_history.specs.Reports.{outputs, held_effect, report_effect}
 use Rattle.dap_history.specs.Emission.{Causes}
 use Rattle.dap_history.specs.Stops.{stop_of_event, stop_in, run_in, Orders}
 use Rattle.dap_history.proofs.Readings.{or_else-none}
@@ -99,13 +99,13 @@ stops_of_numbers [] es = refl
 stops_of_numbers (v ∷ vs) es = stops_of_numbers vs es
 
 stops_of_logs : (bs : List Breakpoint) (ls : List Log) (es : List EventBody)
-    → stops_in (told_logs bs ls ++ es) ≡ stops_in es
+    → stops_in (log_events bs ls ++ es) ≡ stops_in es
 stops_of_logs bs [] es = refl
 stops_of_logs bs (l ∷ ls) es = stops_of_logs bs ls es
 
 outputs_stops : (past : History) (r : PlainReport) (es : List EventBody) → stops_in (outputs past r ++ es) ≡ stops_in es
 outputs_stops past r es =
-    ap stops_in (outputs_apart past r es) ∙ stops_of_numbers (told_numbers past r) (told_logs r.plan r.logs ++ es)
+    ap stops_in (outputs_apart past r es) ∙ stops_of_numbers (told_numbers past r) (log_events r.plan r.logs ++ es)
     ∙ stops_of_logs r.plan r.logs es
 
 abbrev StopsOnce : Effect → Type 0
@@ -114,16 +114,17 @@ StopsOnce effect = AtMostOne (stops_in effect.events)
 report_stops_once : (past : History) (r : PlainReport) (e : SliceOutcome) → StopsOnce (report_effect past r e)
 report_stops_once past r slice.More =
     subst AtMostOne (sym (ap stops_in (sym (append-nil (outputs past r))) ∙ outputs_stops past r [])) tt
-report_stops_once past r (slice.Due reason) = subst AtMostOne (sym (outputs_stops past r (stops (stop_of reason)))) tt
+report_stops_once past r (slice.Due reason) = subst AtMostOne
+    (sym (outputs_stops past r (stopped_events (stop_of reason)))) tt
 report_stops_once past r slice.Held = by_pause (waiting_pause past)
   where
-    by_pause : (pauses : Bool) → StopsOnce (held past r pauses)
-    by_pause true = subst AtMostOne (sym (outputs_stops past r (stops stop.Pause))) tt
+    by_pause : (pauses : Bool) → StopsOnce (held_effect past r pauses)
+    by_pause true = subst AtMostOne (sym (outputs_stops past r (stopped_events stop.Pause))) tt
     by_pause false =
         subst AtMostOne (sym (ap stops_in (sym (append-nil (outputs past r))) ∙ outputs_stops past r [])) tt
-report_stops_once past r slice.Done = subst AtMostOne (sym (outputs_stops past r (ends 0))) tt
+report_stops_once past r slice.Done = subst AtMostOne (sym (outputs_stops past r (exited_events 0))) tt
 report_stops_once past r (slice.Fault fault) =
-    subst AtMostOne (sym (outputs_stops past r (stops (stop.Exception (exception_of fault))))) tt
+    subst AtMostOne (sym (outputs_stops past r (stopped_events (stop.Exception (exception_of fault))))) tt
 report_stops_once past r slice.NoMemory = tt
 
 enters_stop_once : (past : History) (l : Launched) (why : Option Reason) → StopsOnce (enters past l why)
@@ -131,7 +132,7 @@ enters_stop_once past l None =
     subst AtMostOne (sym (ap stops_in (sym (append-nil (first_logs past l)))
     ∙ stops_of_logs (plan past).breakpoints (first_at past l) [])) tt
 enters_stop_once past l (Some r) =
-    subst AtMostOne (sym (stops_of_logs (plan past).breakpoints (first_at past l) (stops (stop_of r)))) tt
+    subst AtMostOne (sym (stops_of_logs (plan past).breakpoints (first_at past l) (stopped_events (stop_of r)))) tt
 
 pub quiet_in : (s : Situation) (past : History) (bs : List Breakpoint) → (effect_in s past bs).events ≡ []
 quiet_in Fresh past bs = refl

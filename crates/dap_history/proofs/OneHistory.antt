@@ -13,7 +13,7 @@ use Rattle.dap_history.specs.History.{Item, Content, Loaded, Accepted, Fault, In
 use Rattle.dap_history.specs.Readings.{situation}
 use Rattle.dap_history.specs.Launching.{wanted_in}
 use Rattle.dap_history.specs.Emission.{IsAfter}
-use Rattle.dap_history.specs.Events.{Incoming, Piece, End, ReadFailed, NoMemory, File, Report, Rest, IsTaking, IsInFront, Takes, one_more, closed, open_ended, faulty, waits, MayTake, LeadsByPiece, LeadsByFile, LeadsByReport, Loads, LeadsByEvent, Leads}
+use Rattle.dap_history.specs.Events.{Incoming, Piece, End, ReadFailed, NoMemory, File, Report, Rest, IsTaking, IsInFront, Takes, one_more, closed, open_ended, faulty, waits, MayTake, LeadsByPiece, LeadsByFile, LeadsByReport, Loads, LeadsByEvent, LeadsByEvents}
 
 -- bytes have one frame or one fault in front, a content is one request or none, and an item leads to one history
 pub record IsReadOnce : Type 0 where
@@ -180,10 +180,11 @@ module _ (once : IsReadOnce) where
   one_event past before (Report r) new other rest left a b = (one_report past r new other a.0 b.0, a.1 ∙ sym b.1)
 
   pub one_history : (past : History) (before : Rest) (events : List Incoming) (new other : History) (rest left : Rest)
-      → Leads past before events new rest → Leads past before events other left → Same new rest other left
+      → LeadsByEvents past before events new rest → LeadsByEvents past before events other left
+      → Same new rest other left
   one_history past before [] new other rest left a b = (a.0 ∙ sym b.0, a.1 ∙ sym b.1)
   one_history past before (e ∷ events) new other rest left a b =
       let same = one_event past before e a.0 b.0 a.1 b.1 a.2 b.2 in
       one_history a.0 a.1 events new other rest left a.3
-      (subst (λ h. Leads h a.1 events other left) (sym same.0)
-      (subst (λ r. Leads b.0 r events other left) (sym same.1) b.3))
+      (subst (λ h. LeadsByEvents h a.1 events other left) (sym same.0)
+      (subst (λ r. LeadsByEvents b.0 r events other left) (sym same.1) b.3))

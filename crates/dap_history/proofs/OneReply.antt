@@ -40,10 +40,10 @@ use Rattle.dap_history.specs.History.{Launched, Item, Content, Loaded, Accepted,
 use Rattle.dap_history.specs.Readings.{situation, launched, position}
 use Rattle.dap_history.specs.Replies.{Reply, refused, ordering, causing, OfProgram, on_thread}
 use Rattle.dap_history.specs.Launching.{Launches, launches, syntax}
-use Rattle.dap_history.specs.Breakpoints.{IsAskedAs, AreAskedAs, answer_of, effect_in, line_offset, Resolves, SetsOf, Sets, SetsIn, is_at}
+use Rattle.dap_history.specs.Breakpoints.{IsAskedAs, AreAskedAs, answer_to_line, effect_in, line_offset, Resolves, SetsOf, Sets, SetsIn, is_same_path}
 use Rattle.dap_history.specs.Running.{enters, resumes, ConfiguresIn, ResumesIn, RetreatsIn}
 use Rattle.dap_history.specs.Frames.{frame_by_id}
-use Rattle.dap_history.specs.Inspection.{Asked as Of, asked_of, result_reply, EvaluatesIn, RepliesFrom, RepliesAt, Inspects, InspectsIn}
+use Rattle.dap_history.specs.Inspection.{Subject, subject_in, result_reply, EvaluatesIn, RepliesFrom, RepliesAt, Inspects, InspectsIn}
 use Rattle.dap_history.specs.Emission.{RepliesIn, Answers, HasEffect, Causes, IsAfter}
 use Rattle.dap_history.proofs.Texts.{one_program}
 use Rattle.dap_history.proofs.MessageParts.{one_parts}
@@ -307,9 +307,9 @@ module _ (once : IsTextOnce) where
       one_lines l.program (line_offset past) lines a.resolved.asked b.resolved.asked a.answers b.answers
       a.breakpoints b.breakpoints a.resolved.as_asked b.resolved.as_asked a.resolved.resolved b.resolved.resolved in
       a.reply_is
-      ∙ ap (λ answers. causing (body.Breakpoints (map (answer_of l.program (line_offset past)) answers))
+      ∙ ap (λ answers. causing (body.Breakpoints (map (answer_to_line l.program (line_offset past)) answers))
       (effect_in (situation past) past a.breakpoints)) same.0
-      ∙ ap (λ bs. causing (body.Breakpoints (map (answer_of l.program (line_offset past)) b.answers))
+      ∙ ap (λ bs. causing (body.Breakpoints (map (answer_to_line l.program (line_offset past)) b.answers))
       (effect_in (situation past) past bs)) same.1
       ∙ sym b.reply_is
 
@@ -328,8 +328,9 @@ module _ (once : IsTextOnce) where
   one_sets : (past : History) (asked : SetBreakpointsArguments) (r s : Reply) → Sets past asked r → Sets past asked s
       → r ≡ s
   one_sets past asked r s a b =
-      one_of_program (launched past) (λ l reply. SetsOf (is_at asked.path l.path) past l asked.breakpoints reply) r s
-      (λ l x y. one_sets_of (is_at asked.path l.path) past l asked.breakpoints r s x y) a b
+      one_of_program (launched past) (λ l reply. SetsOf
+      (is_same_path asked.path l.path) past l asked.breakpoints reply) r s
+      (λ l x y. one_sets_of (is_same_path asked.path l.path) past l asked.breakpoints r s x y) a b
 
   one_sets_in : (s : Situation) (past : History) (asked : SetBreakpointsArguments) (r t : Reply) → SetsIn s past asked r
       → SetsIn s past asked t → r ≡ t
@@ -392,13 +393,13 @@ module _ (once : IsTextOnce) where
   one_evaluates main c id (Some f) text r s (inr a) (inl b) = absurd (a.none b.expression b.reads)
   one_evaluates main c id (Some f) text r s (inr a) (inr b) = a.reply_is ∙ sym b.reply_is
 
-  one_from : (of : Of) (c : Configuration) (question : Question) (r s : Reply) → RepliesFrom of c question r
+  one_from : (of : Subject) (c : Configuration) (question : Question) (r s : Reply) → RepliesFrom of c question r
       → RepliesFrom of c question s → r ≡ s
   one_from of c (question.Evaluate asked) r s a b =
       one_evaluates of.program c asked.frame_id (frame_by_id c asked.frame_id) asked.expression r s a b
   one_from of c _ r s a b = a ∙ sym b
 
-  one_at : (of : Of) (c : Option Configuration) (question : Question) (r s : Reply) → RepliesAt of c question r
+  one_at : (of : Subject) (c : Option Configuration) (question : Question) (r s : Reply) → RepliesAt of c question r
       → RepliesAt of c question s → r ≡ s
   one_at of None question r s a b = absurd a
   one_at of (Some c) question r s a b = one_from of c question r s a b
@@ -406,9 +407,9 @@ module _ (once : IsTextOnce) where
   one_inspects : (past : History) (question : Question) (r s : Reply) → Inspects past question r
       → Inspects past question s → r ≡ s
   one_inspects past question r s a b =
-      one_of_program (launched past) (λ l reply. RepliesAt (asked_of past l) (at l.program (position past)) question
+      one_of_program (launched past) (λ l reply. RepliesAt (subject_in past l) (at l.program (position past)) question
       reply) r s
-      (λ l x y. one_at (asked_of past l) (at l.program (position past)) question r s x y) a b
+      (λ l x y. one_at (subject_in past l) (at l.program (position past)) question r s x y) a b
 
   one_inspects_in : (s : Situation) (past : History) (question : Question) (r t : Reply) → InspectsIn s past question r
       → InspectsIn s past question t → r ≡ t

@@ -17,12 +17,12 @@ use Rattle.dap_history.specs.Plans.{Plan}
 use Rattle.dap_history.specs.Last.{last_such}
 use Rattle.dap_history.specs.History.{Launched, History, Effect}
 use Rattle.dap_history.specs.Readings.{go, runs, is_back, is_held, plan, situation, position}
-use Rattle.dap_history.specs.Replies.{Reply, nothing, reporting, ordering, ends}
+use Rattle.dap_history.specs.Replies.{Reply, nothing, reporting, ordering, exited_events}
 use Rattle.dap_history.specs.Breakpoints.{hold_once, effect_in}
 use Rattle.dap_history.specs.Running.{mode_of, resumes, enters}
 use Rattle.dap_history.specs.Emission.{RepliesIn}
 use Rattle.dap_history.specs.GoingBack.{back_by, back_of, held_by}
-use Rattle.dap_history.specs.Stops.{IsStanding}
+use Rattle.dap_history.specs.Stops.{IsStopped}
 use Rattle.dap_history.proofs.Shapes.{resume_kind_by, due_first, IsCalm, Shape, refuses, is_calm, sets, begins, resumes_by, is_over, retreats, interrupts, quits, shaped}
 
 -- where a reply may order a run
@@ -95,7 +95,7 @@ forward resume.Next depth = refl
 forward resume.StepIn depth = refl
 forward resume.StepOut depth = refl
 
-can_stand : (s : Situation) → IsStanding s → CanRun s
+can_stand : (s : Situation) → IsStopped s → CanRun s
 can_stand Stopped stands = tt
 can_stand Faulted stands = tt
 can_stand _ stands = absurd stands
@@ -134,7 +134,7 @@ module _ (s : Situation) (past : History) (asked : Command) (reply : Reply) wher
         hold = λ goes. refl;
       })
   by_shape here (is_over k by faulted is) =
-      orders_if None (reporting (ends 1)) (resumes_no_back asked k by) (ap (λ (r : Reply). r.effect) is)
+      orders_if None (reporting (exited_events 1)) (resumes_no_back asked k by) (ap (λ (r : Reply). r.effect) is)
       (record { run = runs_none; put = tt; hold = λ goes. refl })
   by_shape here (retreats m l by goes stands there is) =
       let back : (if goes_back m then Some m else None) ≡ Some m = ap (λ b. if b then Some m else None) goes in

@@ -15,7 +15,7 @@ use Rattle.dap_history.specs.History.{Item, Content, Loaded, Accepted, Step, His
 use Rattle.dap_history.specs.Readings.{go, situation, position, plan, is_back, waiting_pause}
 use Rattle.dap_history.specs.Replies.{Reply}
 use Rattle.dap_history.specs.Launching.{Launches}
-use Rattle.dap_history.specs.Reports.{Accepts, held, report_effect}
+use Rattle.dap_history.specs.Reports.{Accepts, held_effect, report_effect}
 use Rattle.dap_history.specs.Emission.{Causes}
 use Rattle.dap_history.specs.GoingBack.{back_by, back_in, back_of, held_by}
 use Rattle.dap_history.proofs.Along.{IsTaken, IsLawfulEvent}
@@ -80,7 +80,7 @@ report_ordered past r slice.Held accepts not = by_pause (waiting_pause past)
     onward : (if goes_back r.mode then Some r.mode else None) ≡ None
     onward = ap (λ b. if b then Some r.mode else None) forward
 
-    by_pause : (pauses : Bool) → OrderedBy past None (held past r pauses)
+    by_pause : (pauses : Bool) → OrderedBy past None (held_effect past r pauses)
     by_pause true = ordered_none
     by_pause false = ordered_one _ onward refl refl (inr (is_back_is past r accepts ∙ forward))
 
@@ -139,7 +139,7 @@ report_holds past r (slice.Fault fault) = refl
 report_holds past r slice.NoMemory = refl
 report_holds past r slice.Held = by_pause (waiting_pause past)
   where
-    by_pause : (pauses : Bool) → last_such held_by (held past r pauses).orders ≡ None
+    by_pause : (pauses : Bool) → last_such held_by (held_effect past r pauses).orders ≡ None
     by_pause true = refl
     by_pause false = refl
 

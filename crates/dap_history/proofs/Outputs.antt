@@ -17,9 +17,9 @@ use Rattle.dbg_runner.specs.declared.outcome.SliceOutcome.TheVariants as slice
 use Rattle.dap_history.specs.Last.{last_such}
 use Rattle.dap_history.specs.History.{Step, History, Effect, with_answer, messages}
 use Rattle.dap_history.specs.Readings.{go, numbers_told, numbers, message_mark, waiting_pause}
-use Rattle.dap_history.specs.Replies.{stops, ends, stop_of, exception_of, text_of_log, told_logs}
-use Rattle.dap_history.specs.Reports.{outputs, held, report_effect}
-use Rattle.dap_history.specs.Laws.{logs}
+use Rattle.dap_history.specs.Replies.{stopped_events, exited_events, stop_of, exception_of, text_of_log, log_events}
+use Rattle.dap_history.specs.Reports.{outputs, held_effect, report_effect}
+use Rattle.dap_history.specs.Laws.{log_texts}
 use Rattle.dap_history.specs.Stops.{stop_of_event}
 use Rattle.dap_history.proofs.Silent.{NextRuns, no_runs, next_run}
 use Rattle.dap_history.proofs.Told.{numbers_in, texts_in, numbers_of_numbers, texts_of_numbers, stop_of_numbers, mark_of_numbers, numbers_of_logs, texts_of_logs, stop_of_logs, mark_of_logs}
@@ -35,11 +35,11 @@ pub no_answer : (step : Step) → step.answer ≡ None → numbers (messages ste
 no_answer step is = ap (λ a. numbers (with_answer a (map Event step.effect.events))) is
 
 pub answer_unlogged : (seq : ℕ) (command : CommandName) (result : Result Body Refusal) (step : Step)
-    → step.answer ≡ Some (Answer seq command result) → logs (messages step) ≡ texts_in step.effect.events
-answer_unlogged seq command result step is = ap (λ a. logs (with_answer a (map Event step.effect.events))) is
+    → step.answer ≡ Some (Answer seq command result) → log_texts (messages step) ≡ texts_in step.effect.events
+answer_unlogged seq command result step is = ap (λ a. log_texts (with_answer a (map Event step.effect.events))) is
 
-pub no_answer_unlogged : (step : Step) → step.answer ≡ None → logs (messages step) ≡ texts_in step.effect.events
-no_answer_unlogged step is = ap (λ a. logs (with_answer a (map Event step.effect.events))) is
+pub no_answer_unlogged : (step : Step) → step.answer ≡ None → log_texts (messages step) ≡ texts_in step.effect.events
+no_answer_unlogged step is = ap (λ a. log_texts (with_answer a (map Event step.effect.events))) is
 
 -- ---- a report's outputs, and what follows them
 
@@ -50,34 +50,34 @@ abbrev pub told_texts : PlainReport → List (List ℕ)
 told_texts r = map (text_of_log r.plan) r.logs
 
 pub outputs_apart : (past : History) (r : PlainReport) (es : List EventBody) → outputs past r
-    ++ es ≡ map event.Output (told_numbers past r) ++ (told_logs r.plan r.logs ++ es)
-outputs_apart past r es = append_assoc (map event.Output (told_numbers past r)) (told_logs r.plan r.logs) es
+    ++ es ≡ map event.Output (told_numbers past r) ++ (log_events r.plan r.logs ++ es)
+outputs_apart past r es = append_assoc (map event.Output (told_numbers past r)) (log_events r.plan r.logs) es
 
 pub outputs_numbers : (past : History) (r : PlainReport) (es : List EventBody)
     → numbers_in (outputs past r ++ es) ≡ told_numbers past r ++ numbers_in es
 outputs_numbers past r es =
     ap numbers_in (outputs_apart past r es)
-    ∙ numbers_of_numbers (told_numbers past r) (told_logs r.plan r.logs ++ es)
+    ∙ numbers_of_numbers (told_numbers past r) (log_events r.plan r.logs ++ es)
     ∙ ap (λ l. told_numbers past r ++ l) (numbers_of_logs r.plan r.logs es)
 
 pub outputs_texts : (past : History) (r : PlainReport) (es : List EventBody)
     → texts_in (outputs past r ++ es) ≡ told_texts r ++ texts_in es
 outputs_texts past r es =
-    ap texts_in (outputs_apart past r es) ∙ texts_of_numbers (told_numbers past r) (told_logs r.plan r.logs ++ es)
+    ap texts_in (outputs_apart past r es) ∙ texts_of_numbers (told_numbers past r) (log_events r.plan r.logs ++ es)
     ∙ texts_of_logs r.plan r.logs es
 
 pub outputs_stop : (past : History) (r : PlainReport) (es : List EventBody)
     → last_such stop_of_event (outputs past r ++ es) ≡ last_such stop_of_event es
 outputs_stop past r es =
     ap (last_such stop_of_event) (outputs_apart past r es)
-    ∙ stop_of_numbers (told_numbers past r) (told_logs r.plan r.logs ++ es)
+    ∙ stop_of_numbers (told_numbers past r) (log_events r.plan r.logs ++ es)
     ∙ stop_of_logs r.plan r.logs es
 
 pub outputs_mark : (past : History) (r : PlainReport) (es : List EventBody)
     → last_such message_mark (map Event (outputs past r ++ es)) ≡ last_such message_mark (map Event es)
 outputs_mark past r es =
     ap (λ l. last_such message_mark (map Event l)) (outputs_apart past r es)
-    ∙ mark_of_numbers (told_numbers past r) (told_logs r.plan r.logs ++ es)
+    ∙ mark_of_numbers (told_numbers past r) (log_events r.plan r.logs ++ es)
     ∙ mark_of_logs r.plan r.logs es
 
 -- alone they report no stop, and lead to no situation
@@ -90,16 +90,16 @@ module _ (past : History) (r : PlainReport) where
       ap (λ es. last_such message_mark (map Event es)) (sym (append-nil (outputs past r))) ∙ outputs_mark past r []
 
 abbrev pub if_paused : Bool → List EventBody
-if_paused true = stops stop.Pause
+if_paused true = stopped_events stop.Pause
 if_paused false = []
 
 -- what follows a report's outputs
 abbrev pub following : History → SliceOutcome → List EventBody
 following past slice.More = []
-following past (slice.Due reason) = stops (stop_of reason)
+following past (slice.Due reason) = stopped_events (stop_of reason)
 following past slice.Held = if_paused (waiting_pause past)
-following past slice.Done = ends 0
-following past (slice.Fault fault) = stops (stop.Exception (exception_of fault))
+following past slice.Done = exited_events 0
+following past (slice.Fault fault) = stopped_events (stop.Exception (exception_of fault))
 following past slice.NoMemory = []
 
 -- a report for which there was no memory tells nothing
@@ -110,7 +110,7 @@ report_events past r slice.More none = sym (append-nil (outputs past r))
 report_events past r (slice.Due reason) none = refl
 report_events past r slice.Held none = by_pause (waiting_pause past)
   where
-    by_pause : (pauses : Bool) → (held past r pauses).events ≡ outputs past r ++ if_paused pauses
+    by_pause : (pauses : Bool) → (held_effect past r pauses).events ≡ outputs past r ++ if_paused pauses
     by_pause true = refl
     by_pause false = sym (append-nil (outputs past r))
 report_events past r slice.Done none = refl
@@ -118,9 +118,9 @@ report_events past r (slice.Fault fault) none = refl
 report_events past r slice.NoMemory none =
     sym
     (append-nil (outputs past r)
-    ∙ ap (λ vs. map event.Output (drop (numbers_told past - r.before) vs) ++ told_logs r.plan r.logs) (none refl).0
-    ∙ ap (λ vs. map event.Output vs ++ told_logs r.plan r.logs) (drop-nil (numbers_told past - r.before))
-    ∙ ap (told_logs r.plan) (none refl).1)
+    ∙ ap (λ vs. map event.Output (drop (numbers_told past - r.before) vs) ++ log_events r.plan r.logs) (none refl).0
+    ∙ ap (λ vs. map event.Output vs ++ log_events r.plan r.logs) (drop-nil (numbers_told past - r.before))
+    ∙ ap (log_events r.plan) (none refl).1)
 
 pub following_numbers : (past : History) (e : SliceOutcome) → numbers_in (following past e) ≡ []
 following_numbers past slice.More = refl
@@ -169,7 +169,7 @@ report_launches past r slice.More = refl
 report_launches past r (slice.Due reason) = refl
 report_launches past r slice.Held = held_launches (waiting_pause past)
   where
-    held_launches : (pauses : Bool) → (held past r pauses).launched ≡ None
+    held_launches : (pauses : Bool) → (held_effect past r pauses).launched ≡ None
     held_launches true = refl
     held_launches false = refl
 report_launches past r slice.Done = refl
@@ -189,7 +189,7 @@ report_goes past r slice.More = no_run
 report_goes past r (slice.Due reason) = no_run
 report_goes past r slice.Held = held_goes (waiting_pause past)
   where
-    held_goes : (pauses : Bool) → GoesOn r (held past r pauses)
+    held_goes : (pauses : Bool) → GoesOn r (held_effect past r pauses)
     held_goes true = no_run
     held_goes false = as_text _ refl refl
 report_goes past r slice.Done = no_run
@@ -203,7 +203,7 @@ report_runs past r slice.More = no_runs
 report_runs past r (slice.Due reason) = no_runs
 report_runs past r slice.Held = held_runs (waiting_pause past)
   where
-    held_runs : (pauses : Bool) → NextRuns past (filter_map go (held past r pauses).orders)
+    held_runs : (pauses : Bool) → NextRuns past (filter_map go (held_effect past r pauses).orders)
     held_runs true = no_runs
     held_runs false = next_run _ refl
 report_runs past r slice.Done = no_runs

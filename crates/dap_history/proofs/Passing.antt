@@ -30,7 +30,7 @@ use Rattle.dap_history.specs.History.{Launched, Item, Content, Loaded, Accepted,
 use Rattle.dap_history.specs.Readings.{go, situation, position, launched, last_run, end_of, command_mark, answer_mark, event_mark, message_mark, order_mark, step_mark}
 use Rattle.dap_history.specs.declared.launch.Launch.{Launch}
 use Rattle.dap_history.specs.Launching.{Launches}
-use Rattle.dap_history.specs.Replies.{Reply, stops, ends, stop_of}
+use Rattle.dap_history.specs.Replies.{Reply, stopped_events, exited_events, stop_of}
 use Rattle.dap_history.specs.Reports.{Accepts, report_effect}
 use Rattle.dap_history.specs.Emission.{RepliesIn, HasEffect, Causes}
 use Rattle.dap_history.specs.Stops.{due_in, NoneDueUpTo, NoneDueBefore}
@@ -287,14 +287,15 @@ abbrev LeadsNowhere : History → PlainReport → SliceOutcome → Type 0
 LeadsNowhere past r e = mark_of_effect (report_effect past r e) ≡ None
 
 stops_somewhere : (past : History) (r : PlainReport) (reason : Reason) → ¬ LeadsNowhere past r (slice.Due reason)
-stops_somewhere past r reason none = let e = sym (outputs_mark past r (stops (stop_of reason))) ∙ none in absurd cc
+stops_somewhere past r reason none = let e = sym (outputs_mark past r (stopped_events (stop_of reason)))
+    ∙ none in absurd cc
 
 undue_by : (main : Block) (past : History) (r : PlainReport) (e : SliceOutcome) → EndsBy main r e
     → LeadsNowhere past r e → NotDueAtEnd main r
 undue_by main past r slice.More (takes_all spent undue runs) none = inr undue
 undue_by main past r (slice.Due reason) is none = absurd (stops_somewhere past r reason none)
 undue_by main past r slice.Held (is_held stays runs) none = inl stays
-undue_by main past r slice.Done is none = let e = sym (outputs_mark past r (ends 0)) ∙ none in absurd cc
+undue_by main past r slice.Done is none = let e = sym (outputs_mark past r (exited_events 0)) ∙ none in absurd cc
 undue_by main past r (slice.Fault fault) (faults early passed fails runs) none = by_end passed
   where
     by_end : (r.end ≡ r.start) ⊎ IsPassed main r r.end → NotDueAtEnd main r

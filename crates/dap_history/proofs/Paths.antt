@@ -1,11 +1,11 @@
 -- A source is at a path just where its path is that one.
 use Rattle.std.proofs.Common.{◌≡◌, ℕ, List, true, Option, None, Some, refl, ◌∙◌, ap}
 use Rattle.std.proofs.lemmas.Slice.Eq.{bytes_eq-Decides}
-use Rattle.dap_history.specs.Breakpoints.{is_at}
+use Rattle.dap_history.specs.Breakpoints.{is_same_path}
 
-pub at_path : (path : Option (List ℕ)) (other : List ℕ) → is_at path other ≡ true → path ≡ Some other
+pub at_path : (path : Option (List ℕ)) (other : List ℕ) → is_same_path path other ≡ true → path ≡ Some other
 at_path None other is = absurd cc
 at_path (Some p) other is = ap Some ((bytes_eq-Decides p other).0 is)
 
-pub at_path_so : (path : Option (List ℕ)) (other : List ℕ) → path ≡ Some other → is_at path other ≡ true
-at_path_so path other is = ap (λ o. is_at o other) is ∙ (bytes_eq-Decides other other).1 refl
+pub at_path_so : (path : Option (List ℕ)) (other : List ℕ) → path ≡ Some other → is_same_path path other ≡ true
+at_path_so path other is = ap (λ o. is_same_path o other) is ∙ (bytes_eq-Decides other other).1 refl

@@ -25,9 +25,9 @@ use Rattle.dap_history.specs.declared.situation.Situation.{Situation}
 use Rattle.dap_history.specs.Last.{or_else, last_such}
 use Rattle.dap_history.specs.History.{Item, Content, Loaded, Accepted, Step, History, Effect}
 use Rattle.dap_history.specs.Readings.{go, situation, is_pause, waiting_pause}
-use Rattle.dap_history.specs.Replies.{Reply, stop_of, exception_of, stops, ends}
+use Rattle.dap_history.specs.Replies.{Reply, stop_of, exception_of, stopped_events, exited_events}
 use Rattle.dap_history.specs.Launching.{Launches}
-use Rattle.dap_history.specs.Reports.{held, report_effect}
+use Rattle.dap_history.specs.Reports.{held_effect, report_effect}
 use Rattle.dap_history.specs.Emission.{RepliesIn, Causes}
 use Rattle.dap_history.specs.Events.{Incoming}
 use Rattle.dap_history.specs.Stops.{stop_of_event, stop_in, run_in}
@@ -272,25 +272,26 @@ module _ (past : History) (r : PlainReport) where
       → (e ≡ slice.Held) × (waiting_pause past ≡ true)
   report_pauses slice.More is = let e = sym (outputs_stop_not past r) ∙ is in absurd cc
   report_pauses (slice.Due why) is =
-      absurd (reason_not_pause why (sym (outputs_stop past r (stops (stop_of why))) ∙ is))
+      absurd (reason_not_pause why (sym (outputs_stop past r (stopped_events (stop_of why))) ∙ is))
   report_pauses slice.Held is = by_pause (waiting_pause past) refl is
     where
       by_pause : (pauses : Bool) → waiting_pause past ≡ pauses
-          → last_such stop_of_event (held past r pauses).events ≡ Some stop.Pause
+          → last_such stop_of_event (held_effect past r pauses).events ≡ Some stop.Pause
           → (slice.Held ≡ slice.Held) × (waiting_pause past ≡ true)
       by_pause true same is = (refl, same)
       by_pause false same is = let e = sym (outputs_stop_not past r) ∙ is in absurd cc
-  report_pauses slice.Done is = let e = sym (outputs_stop past r (ends 0)) ∙ is in absurd cc
+  report_pauses slice.Done is = let e = sym (outputs_stop past r (exited_events 0)) ∙ is in absurd cc
   report_pauses (slice.Fault fault) is =
-      let e = sym (outputs_stop past r (stops (stop.Exception (exception_of fault)))) ∙ is in absurd cc
+      let e = sym (outputs_stop past r (stopped_events (stop.Exception (exception_of fault)))) ∙ is in absurd cc
   report_pauses slice.NoMemory is = absurd cc
 
-  held_stops : (pauses : Bool) → pauses ≡ true → last_such stop_of_event (held past r pauses).events ≡ Some stop.Pause
-  held_stops true is = outputs_stop past r (stops stop.Pause)
+  held_stops : (pauses : Bool) → pauses ≡ true → last_such stop_of_event (held_effect past r pauses).events
+      ≡ Some stop.Pause
+  held_stops true is = outputs_stop past r (stopped_events stop.Pause)
   held_stops false is = absurd cc
 
-  held_goes : (pauses : Bool) → pauses ≡ false → (last_such stop_of_event (held past r pauses).events ≡ None)
-      × IsSome (last_such go (held past r pauses).orders)
+  held_goes : (pauses : Bool) → pauses ≡ false → (last_such stop_of_event (held_effect past r pauses).events ≡ None)
+      × IsSome (last_such go (held_effect past r pauses).orders)
   held_goes true is = absurd cc
   held_goes false is = (outputs_stop_not past r, refl)
 
@@ -314,7 +315,7 @@ stops_so past _ step is stops_ =
 
 -- what is so of the effect of a held run's report is so of the step
 held_step : (past : History) (step : Step) (r : PlainReport) → Causes past step.item step → step.item ≡ Accepted r
-    → r.outcome ≡ slice.Held → step.effect ≡ held past r (waiting_pause past)
+    → r.outcome ≡ slice.Held → step.effect ≡ held_effect past r (waiting_pause past)
 held_step past step r causes item_is outcome_is = is.effect_is ∙ ap (report_effect past r) outcome_is
   where
     is : Causes past (Accepted r) step
@@ -353,8 +354,8 @@ pauses_stop events past rest history before step after past_is = (
     was = each.each before step after past_is
 
     on_effect : (r : PlainReport) → step.item ≡ Accepted r → r.outcome ≡ slice.Held
-        → (last_such stop_of_event (held before r (waiting_pause before)).events ≡ None)
-        × IsSome (last_such go (held before r (waiting_pause before)).orders)
+        → (last_such stop_of_event (held_effect before r (waiting_pause before)).events ≡ None)
+        × IsSome (last_such go (held_effect before r (waiting_pause before)).orders)
         → (stop_in step ≡ None) × IsSome (run_in step)
     on_effect r item_is outcome_is is =
         subst (λ (e : Effect). (last_such stop_of_event e.events ≡ None) × IsSome (last_such go e.orders))

@@ -19,13 +19,13 @@ use Rattle.dap_history.specs.declared.situation.Situation.{Situation}
 use Rattle.dap_history.specs.declared.situation.Situation.TheVariants.{Fresh, Ready, Configuring, Running, Stopped, Faulted}
 use Rattle.dap_history.specs.History.{Launched, History}
 use Rattle.dap_history.specs.Readings.{launched, plan, position}
-use Rattle.dap_history.specs.Replies.{Reply, nothing, reporting, ordering, answered, refused, causing, OfProgram, ends, on_thread}
+use Rattle.dap_history.specs.Replies.{Reply, nothing, reporting, ordering, answered, refused, causing, OfProgram, exited_events, on_thread}
 use Rattle.dap_history.specs.Launching.{initialize_in}
-use Rattle.dap_history.specs.Breakpoints.{hold_once, Resolves, SetsOf, SetsIn, is_at}
+use Rattle.dap_history.specs.Breakpoints.{hold_once, Resolves, SetsOf, SetsIn, is_same_path}
 use Rattle.dap_history.specs.Running.{mode_of, body_of, retreat_mode, resumes, first_mode, enters, ConfiguresIn, ResumesIn, RetreatsIn, pause_in}
 use Rattle.dap_history.specs.Emission.{threads_in, RepliesIn}
 use Rattle.dap_history.specs.GoingBack.{back_by}
-use Rattle.dap_history.specs.Stops.{IsStanding}
+use Rattle.dap_history.specs.Stops.{IsStopped}
 use Rattle.dap_history.proofs.Questions.{effect_is, no_effect}
 
 -- why position 0 is due, if it is
@@ -64,9 +64,9 @@ resume_kind_by _ = None
 -- a command that is answered and has no effect: a pause where the program stands, lines of another source, or a
 -- question
 abbrev pub IsCalm : History → Situation → Command → Type 0
-IsCalm past s (command.Pause asked) = IsStanding s
+IsCalm past s (command.Pause asked) = IsStopped s
 IsCalm past s (command.SetBreakpoints asked) =
-    (l : Launched) × (launched past ≡ Some l) × (is_at asked.path l.path ≡ false)
+    (l : Launched) × (launched past ≡ Some l) × (is_same_path asked.path l.path ≡ false)
 IsCalm past s (command.Initialize asked) = Unit {0}
 IsCalm past s command.Threads = Unit {0}
 IsCalm past s (command.Inspect q) = Unit {0}
@@ -76,7 +76,7 @@ pub data Shape (past : History) (s : Situation) (asked : Command) (reply : Reply
   refuses : (why : Refusal) → reply ≡ refused why → Shape past s asked reply
   is_calm : IsCalm past s asked → reply.effect ≡ nothing → Shape past s asked reply
   sets : (a : SetBreakpointsArguments) (l : Launched) → asked ≡ command.SetBreakpoints a → launched past ≡ Some l
-      → is_at a.path l.path ≡ true → Resolves past l a.breakpoints reply → Shape past s asked reply
+      → is_same_path a.path l.path ≡ true → Resolves past l a.breakpoints reply → Shape past s asked reply
   begins : (l : Launched) → asked ≡ command.ConfigurationDone → s ≡ Configuring → launched past ≡ Some l
       → reply ≡ causing body.None (enters past l (due_first past l)) → Shape past s asked reply
   resumes_by : (resume_kind : ResumeKind) (l : Launched) → resume_kind_by asked ≡ Some resume_kind → s ≡ Stopped
@@ -85,8 +85,8 @@ pub data Shape (past : History) (s : Situation) (asked : Command) (reply : Reply
       (ordering (resumes past l (mode_of resume_kind (depth_at l.program (position past)))))
       → Shape past s asked reply
   is_over : (resume_kind : ResumeKind) → resume_kind_by asked ≡ Some resume_kind → s ≡ Faulted
-      → reply ≡ causing (body_of resume_kind) (reporting (ends 1)) → Shape past s asked reply
-  retreats : (m : Mode) (l : Launched) → back_by asked ≡ Some m → goes_back m ≡ true → IsStanding s
+      → reply ≡ causing (body_of resume_kind) (reporting (exited_events 1)) → Shape past s asked reply
+  retreats : (m : Mode) (l : Launched) → back_by asked ≡ Some m → goes_back m ≡ true → IsStopped s
       → launched past ≡ Some l → reply ≡ causing body.None (ordering (resumes past l m)) → Shape past s asked reply
   interrupts : (a : ThreadArguments) → asked ≡ command.Pause a → s ≡ Running
       → reply ≡ causing body.None (ordering (hold_once past)) → Shape past s asked reply
@@ -108,18 +108,18 @@ of_program past (Some l) there says P by is = by l there is
 
 module _ (past : History) (reply : Reply) where
   sets_shape : (s : Situation) (a : SetBreakpointsArguments) (l : Launched) → launched past ≡ Some l → (same : Bool)
-      → is_at a.path l.path ≡ same → SetsOf same past l a.breakpoints reply
+      → is_same_path a.path l.path ≡ same → SetsOf same past l a.breakpoints reply
       → Shape past s (command.SetBreakpoints a) reply
   sets_shape s a l there true at_path is = sets a l refl there at_path is
   sets_shape s a l there false at_path is = is_calm (l, there, at_path) (ap (λ (r : Reply). r.effect) is)
 
   sets_launched : (s : Situation) (a : SetBreakpointsArguments)
-      → OfProgram (launched past) (λ l. SetsOf (is_at a.path l.path) past l a.breakpoints reply)
+      → OfProgram (launched past) (λ l. SetsOf (is_same_path a.path l.path) past l a.breakpoints reply)
       → Shape past s (command.SetBreakpoints a) reply
   sets_launched s a is =
-      of_program past (launched past) refl (λ l. SetsOf (is_at a.path l.path) past l a.breakpoints reply)
+      of_program past (launched past) refl (λ l. SetsOf (is_same_path a.path l.path) past l a.breakpoints reply)
       (Shape past s (command.SetBreakpoints a) reply)
-      (λ l there says. sets_shape s a l there (is_at a.path l.path) refl says) is
+      (λ l there says. sets_shape s a l there (is_same_path a.path l.path) refl says) is
 
   sets_in_shape : (s : Situation) (a : SetBreakpointsArguments) → SetsIn s past a reply
       → Shape past s (command.SetBreakpoints a) reply
@@ -152,16 +152,17 @@ module _ (past : History) (reply : Reply) where
           by_case (inl goes) = resumes_by resume_kind l by refl there goes
           by_case (inr other) = refuses _ other
   resumes_shape Faulted asked resume_kind thread by is =
-      by_case (by_thread (causing (body_of resume_kind) (reporting (ends 1))) (nat_eq thread 1) is)
+      by_case (by_thread (causing (body_of resume_kind) (reporting (exited_events 1))) (nat_eq thread 1) is)
     where
-      by_case : (reply ≡ causing (body_of resume_kind) (reporting (ends 1))) ⊎ (reply ≡ refused refusal.UnknownThread)
+      by_case : (reply ≡ causing (body_of resume_kind) (reporting (exited_events 1))) ⊎
+          (reply ≡ refused refusal.UnknownThread)
           → Shape past Faulted asked reply
       by_case (inl over) = is_over resume_kind by refl over
       by_case (inr other) = refuses _ other
   resumes_shape _ asked resume_kind thread by is = refuses _ is
 
   module _ (asked : Command) (m : Mode) (by : back_by asked ≡ Some m) (back : goes_back m ≡ true) where
-    retreats_launched : (s : Situation) → IsStanding s → (thread : ℕ)
+    retreats_launched : (s : Situation) → IsStopped s → (thread : ℕ)
         → OfProgram (launched past) (λ l. reply ≡ on_thread thread (causing body.None (ordering (resumes past l m))))
         → Shape past s asked reply
     retreats_launched s stands thread is =
@@ -184,7 +185,7 @@ module _ (past : History) (reply : Reply) where
     retreats_shape Faulted thread is = retreats_launched Faulted tt thread is
     retreats_shape _ thread is = refuses _ is
 
-  stands_calm : (s : Situation) → IsStanding s → (a : ThreadArguments) (same : Bool)
+  stands_calm : (s : Situation) → IsStopped s → (a : ThreadArguments) (same : Bool)
       → reply ≡ (if same then answered body.None else refused refusal.UnknownThread)
       → Shape past s (command.Pause a) reply
   stands_calm s stands a true is = is_calm stands (ap (λ (r : Reply). r.effect) is)

@@ -27,12 +27,12 @@ use Rattle.dap_history.specs.declared.situation.Situation.TheVariants.{Fresh, St
 use Rattle.dap_history.specs.History.{Launched}
 use Rattle.dap_history.specs.Readings.{situation, settings, launched}
 use Rattle.dap_history.specs.Replies.{Reply, refused}
-use Rattle.dap_history.specs.Frames.{Counting, frame_name, line_of, column_of, shown_frame, shown_frames, at_most, scopes_from, named, names_of, frame_by_id}
-use Rattle.dap_history.specs.Inspection.{Asked, asked_of, scopes, variables, result_reply, EvaluatesIn, RepliesFrom, RepliesAt}
-use Rattle.dap_history.specs.Stops.{IsStanding, StoppedLastAt, AnswersFrom}
+use Rattle.dap_history.specs.Frames.{Counting, frame_name, shown_line, shown_column, shown_frame, shown_frames, at_most, scopes_from, named, names_of, frame_by_id}
+use Rattle.dap_history.specs.Inspection.{Subject, subject_in, scopes, variables, result_reply, EvaluatesIn, RepliesFrom, RepliesAt}
+use Rattle.dap_history.specs.Stops.{IsStopped, StoppedLastAt, AnswersFrom}
 use Rattle.dap_history.specs.Verdicts.{refused_thread, refused_by}
 use Rattle.dap_history.specs.Initialized.{less_by}
-use Rattle.dap_history.specs.Shown.{HasId, HasNone, IsNamed, ShowsFrame, ShowsFrames, page, ShowsScopes, ShowsVariables, ShowsLocals, GivesValue, ShowsValue, OfFrame, Shows, AnswersShowTheProgram}
+use Rattle.dap_history.specs.Shown.{HasId, HasNone, IsBlockName, ShowsFrame, ShowsFrames, page, ShowsScopes, ShowsVariables, ShowsLocals, GivesValue, ShowsValue, OfFrame, Shows, AnswersShowTheProgram}
 use Rattle.dap_history.proofs.Along.{any_events, along}
 use Rattle.dap_history.proofs.Each.{WasTaken, EachTaken, each_kept, each_first}
 use Rattle.dap_history.proofs.Standing.{questions_answered}
@@ -43,7 +43,7 @@ result_is reply other is = ap (λ (r : Reply). r.result) is
 
 -- ---- frames
 
-named_so : (main : Block) (q : Path) → IsNamed main q (frame_name main q)
+named_so : (main : Block) (q : Path) → IsBlockName main q (frame_name main q)
 named_so main [] = refl
 named_so main (k ∷ q) = λ x is. ap (λ o. option_map_or (λ (y : Name). y.word) o (codes "main")) is
 
@@ -57,8 +57,8 @@ module _ (main : Block) (asked : InitializeArguments) where
   frame_so f id = record {
     id_is = refl;
     name_is = named_so main f.block;
-    line_is = λ s is. ap (λ o. line_of (counting_of asked) (option_map (λ (x : StepAt). x.place) o)) is;
-    column_is = λ s is. ap (λ o. column_of (counting_of asked) (option_map (λ (x : StepAt). x.place) o)) is;
+    line_is = λ s is. ap (λ o. shown_line (counting_of asked) (option_map (λ (x : StepAt). x.place) o)) is;
+    column_is = λ s is. ap (λ o. shown_column (counting_of asked) (option_map (λ (x : StepAt). x.place) o)) is;
   }
 
   frames_so : (c : Configuration) → ShowsFrames main asked c (shown_frames main (counting_of asked) c)
@@ -116,7 +116,7 @@ frame_above g below i f is = by_test (nat_eq (length below) i) refl
 
 -- a frame's scope in front of those of the frame that its link names
 linked_scopes : (main : Block) (whole : Configuration) (f g : Frame) (id : ℕ) (word : List ℕ) (more : List Scope)
-    → IsNamed main f.block word → HasId whole (f.link + 1) g → ShowsScopes main whole g (f.link + 1) more
+    → IsBlockName main f.block word → HasId whole (f.link + 1) g → ShowsScopes main whole g (f.link + 1) more
     → ShowsScopes main whole f id (record { name = word; reference = id } ∷ more)
 linked_scopes main whole f g id word [] named_ has shown = absurd shown
 linked_scopes main whole f g id word (t ∷ more) named_ has shown = (named_, refl, (g, has, shown))
@@ -202,7 +202,7 @@ on_one thread reply other allowed is = by_test (nat_eq thread 1) allowed is
 
 module _ (linked : FramesAreLinked) (fit : FramesFit) (l : Launched) (n : ℕ) (c : Configuration)
     (there : at l.program n ≡ Some c) (counting : InitializeArguments) where
-  abbrev of : Asked
+  abbrev of : Subject
   of = record { program = l.program; path = l.path; counting = counting_of counting }
 
   locals_so : (id : ℕ) (f : Frame) (reply : Reply) → HasId c id f → reply ≡ variables of (Some f)
@@ -259,12 +259,12 @@ module _ (linked : FramesAreLinked) (fit : FramesFit) (l : Launched) (n : ℕ) (
 
 -- a question that isn't refused is asked where the program stands, and only its thread might refuse it
 allowed_standing : (s : Situation) (q : Question) → refused_by s (command.Inspect q) ≡ None
-    → IsStanding s × (refused_by Stopped (command.Inspect q) ≡ None)
+    → IsStopped s × (refused_by Stopped (command.Inspect q) ≡ None)
 allowed_standing Stopped q allowed = (tt, allowed)
 allowed_standing Faulted q allowed = (tt, allowed)
 allowed_standing _ q allowed = absurd cc
 
-not_fresh : (s : Situation) → IsStanding s → ¬ (s ≡ Fresh)
+not_fresh : (s : Situation) → IsStopped s → ¬ (s ≡ Fresh)
 not_fresh Stopped stands is = absurd cc
 not_fresh Faulted stands is = absurd cc
 not_fresh _ stands is = stands
@@ -278,7 +278,7 @@ record HasShown (l : Launched) (m : ℕ) (counting : InitializeArguments) (q : Q
 abbrev counted : ℕ → ℕ → Counting
 counted lines columns = record { lines = lines; columns = columns }
 
-abbrev asking : Launched → Counting → Asked
+abbrev asking : Launched → Counting → Subject
 asking l counting = record { program = l.program; path = l.path; counting = counting }
 
 pub answers_show : FramesAreLinked → FramesFit → AnswersShowTheProgram
@@ -301,7 +301,7 @@ answers_show linked fit events past rest history before request q step asks allo
         (each_first Any IsCounted (inl refl)) events past rest (any_events events) history).each before step asks.after
         asks.past_is
 
-    standing : IsStanding (situation before) × (refused_by Stopped (command.Inspect q) ≡ None)
+    standing : IsStopped (situation before) × (refused_by Stopped (command.Inspect q) ≡ None)
     standing = allowed_standing (situation before) q
         (ap (refused_by (situation before)) (sym asks.question_is) ∙ allowed)
 
@@ -309,15 +309,15 @@ answers_show linked fit events past rest history before request q step asks allo
         × AnswersFrom l before m request q step
     from = (questions_answered events past rest history before request q step asks).0 standing.0
 
-    counting_is : (asked_of before from.0).counting ≡ counting_of (settings before)
+    counting_is : (subject_in before from.0).counting ≡ counting_of (settings before)
     counting_is =
-        ap (λ (k : ℕ). counted k (asked_of before from.0).counting.columns)
+        ap (λ (k : ℕ). counted k (subject_in before from.0).counting.columns)
         (offset_is (settings before).lines_start_at_1)
         ∙ ap (λ (k : ℕ). counted (less_by (settings before).lines_start_at_1) k)
         (offset_is (settings before).columns_start_at_1)
 
     by_place : (o : Option Configuration) → at from.0.program from.1 ≡ o
-        → RepliesAt (asked_of before from.0) o q from.4.reply
+        → RepliesAt (subject_in before from.0) o q from.4.reply
         → HasShown from.0 from.1 (settings before) q from.4.reply
     by_place None none replies = absurd replies
     by_place (Some c) there replies = record {

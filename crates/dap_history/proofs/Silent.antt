@@ -22,7 +22,7 @@ use Rattle.dap_history.specs.Last.{last_such}
 use Rattle.dap_history.specs.History.{Launched, History, Effect}
 use Rattle.dap_history.specs.Considered.{is_start, starts_by}
 use Rattle.dap_history.specs.Readings.{go, launched, runs, is_back, is_held, plan, situation, position, output}
-use Rattle.dap_history.specs.Replies.{Reply, nothing, reporting, ordering, ends, stop_of, stops as stop_events}
+use Rattle.dap_history.specs.Replies.{Reply, nothing, reporting, ordering, exited_events, stop_of, stopped_events}
 use Rattle.dap_history.specs.Breakpoints.{effect_in}
 use Rattle.dap_history.specs.Running.{resumes, first_logs, enters}
 use Rattle.dap_history.specs.Emission.{RepliesIn}
@@ -105,7 +105,7 @@ resumes_silent past l m there =
       logs = no_logs refl;
     }
 
-over_silent : {s : Situation} (past : History) → IsSilent false s past (reporting (ends 1))
+over_silent : {s : Situation} (past : History) → IsSilent false s past (reporting (exited_events 1))
 over_silent past =
     record {
       no_numbers = refl;
@@ -170,13 +170,13 @@ enters_silent past l None is due_is =
     }
 enters_silent past l (Some r) is due_is =
     let bs = (plan past).breakpoints in record {
-      no_numbers = numbers_of_logs bs (first_at past l) (stop_events (stop_of r));
+      no_numbers = numbers_of_logs bs (first_at past l) (stopped_events (stop_of r));
       no_launch = refl;
       goes = no_go;
       runs_are = no_runs;
-      stops = subst (StopsBy Configuring past) (sym (stop_of_logs bs (first_at past l) (stop_events (stop_of r))))
+      stops = subst (StopsBy Configuring past) (sym (stop_of_logs bs (first_at past l) (stopped_events (stop_of r))))
           (at_first l r refl is due_is);
-      logs = logs_first l (stop_events (stop_of r)) refl is refl refl;
+      logs = logs_first l (stopped_events (stop_of r)) refl is refl refl;
     }
 
 -- whether a command starts the program

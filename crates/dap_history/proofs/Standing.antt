@@ -24,9 +24,9 @@ use Rattle.dap_history.specs.Last.{or_else, last_such}
 use Rattle.dap_history.specs.History.{Launched, Item, Content, Loaded, Accepted, Step, History, with_answer, messages}
 use Rattle.dap_history.specs.Readings.{situation, position, launched, end_of, command_mark, answer_mark, event_mark, message_mark, order_mark, step_mark}
 use Rattle.dap_history.specs.Replies.{Reply, OfProgram, refused}
-use Rattle.dap_history.specs.Inspection.{RepliesAt, asked_of, Inspects, InspectsIn}
+use Rattle.dap_history.specs.Inspection.{RepliesAt, subject_in, Inspects, InspectsIn}
 use Rattle.dap_history.specs.Emission.{RepliesIn, Answers, Causes}
-use Rattle.dap_history.specs.Stops.{stop_of_event, stop_in, IsStanding, StoppedLastAt, AnswersFrom, QuestionsAreAnsweredThere}
+use Rattle.dap_history.specs.Stops.{stop_of_event, stop_in, IsStopped, StoppedLastAt, AnswersFrom, QuestionsAreAnsweredThere}
 use Rattle.dap_history.specs.Events.{Incoming}
 use Rattle.dap_history.proofs.Readings.{situation-snoc, position-snoc}
 use Rattle.dap_history.proofs.Along.{IsTaken, IsKept, any_events, along}
@@ -62,27 +62,27 @@ answers_only past _ step is = subst IsAnswer (sym is.answer_is) tt
 
 -- ---- a step that leads to where the program stands reports a stop
 
-command_not : (c : CommandName) → ¬ MarkIs IsStanding (command_mark c)
+command_not : (c : CommandName) → ¬ MarkIs IsStopped (command_mark c)
 command_not (name.Supported supported.Initialize) is = is
 command_not (name.Supported supported.Launch) is = is
 command_not _ is = is
 
-answer_not : (c : CommandName) (result : Result Body Refusal) → ¬ MarkIs IsStanding (answer_mark c result)
+answer_not : (c : CommandName) (result : Result Body Refusal) → ¬ MarkIs IsStopped (answer_mark c result)
 answer_not c (Ok b) is = command_not c is
 answer_not c (Err r) is = is
 
-orders_not : (os : List PlainOrder) → ¬ MarkIs IsStanding (last_such order_mark os)
+orders_not : (os : List PlainOrder) → ¬ MarkIs IsStopped (last_such order_mark os)
 orders_not [] is = is
-orders_not (o ∷ os) is = neither (orders_not os) (mark_else IsStanding (last_such order_mark os) (order_mark o) is)
+orders_not (o ∷ os) is = neither (orders_not os) (mark_else IsStopped (last_such order_mark os) (order_mark o) is)
   where
-    order_not : (o : PlainOrder) → ¬ MarkIs IsStanding (order_mark o)
+    order_not : (o : PlainOrder) → ¬ MarkIs IsStopped (order_mark o)
     order_not (Go run) is = is
     order_not (Hold run) is = is
     order_not Quit is = is
 
-    neither : ¬ MarkIs IsStanding (last_such order_mark os) → ¬
-        (MarkIs IsStanding (last_such order_mark os) ⊎ ((last_such order_mark os ≡ None)
-        × MarkIs IsStanding (order_mark o)))
+    neither : ¬ MarkIs IsStopped (last_such order_mark os) → ¬
+        (MarkIs IsStopped (last_such order_mark os) ⊎ ((last_such order_mark os ≡ None)
+        × MarkIs IsStopped (order_mark o)))
     neither not (inl is) = not is
     neither not (inr is) = order_not o is.1
 
@@ -96,7 +96,7 @@ stop_first : (o : Option StopReason) (r : StopReason) → (s : StopReason) × (o
 stop_first None r = (r, refl)
 stop_first (Some s) r = (s, refl)
 
-event_stops : (e : EventBody) (es : List EventBody) → MarkIs IsStanding (event_mark e) → ReportsStop (e ∷ es)
+event_stops : (e : EventBody) (es : List EventBody) → MarkIs IsStopped (event_mark e) → ReportsStop (e ∷ es)
 event_stops event.Initialized es is = absurd is
 event_stops (event.Stopped r) es is = stop_first (last_such stop_of_event es) r
 event_stops (event.Output v) es is = absurd is
@@ -104,36 +104,36 @@ event_stops (event.Log text) es is = absurd is
 event_stops (event.Exited code) es is = absurd is
 event_stops event.Terminated es is = absurd is
 
-events_stop : (es : List EventBody) → MarkIs IsStanding (last_such message_mark (map Event es)) → ReportsStop es
+events_stop : (es : List EventBody) → MarkIs IsStopped (last_such message_mark (map Event es)) → ReportsStop es
 events_stop [] is = absurd is
 events_stop (e ∷ es) is =
-    either (events_stop es) (mark_else IsStanding (last_such message_mark (map Event es)) (event_mark e) is)
+    either (events_stop es) (mark_else IsStopped (last_such message_mark (map Event es)) (event_mark e) is)
   where
-    either : (MarkIs IsStanding (last_such message_mark (map Event es)) → ReportsStop es)
-        → (MarkIs IsStanding (last_such message_mark (map Event es))
-        ⊎ ((last_such message_mark (map Event es) ≡ None) × MarkIs IsStanding (event_mark e))) → ReportsStop (e ∷ es)
+    either : (MarkIs IsStopped (last_such message_mark (map Event es)) → ReportsStop es)
+        → (MarkIs IsStopped (last_such message_mark (map Event es))
+        ⊎ ((last_such message_mark (map Event es) ≡ None) × MarkIs IsStopped (event_mark e))) → ReportsStop (e ∷ es)
     either more (inl is) = stop_else e es (more is)
     either more (inr is) = event_stops e es is.1
 
 messages_stop : (a : Option Outgoing) (es : List EventBody) → IsAnswer a
-    → MarkIs IsStanding (last_such message_mark (with_answer a (map Event es))) → ReportsStop es
+    → MarkIs IsStopped (last_such message_mark (with_answer a (map Event es))) → ReportsStop es
 messages_stop None es answer is = events_stop es is
 messages_stop (Some (Answer seq c result)) es answer is =
-    either (mark_else IsStanding (last_such message_mark (map Event es)) (answer_mark c result) is)
+    either (mark_else IsStopped (last_such message_mark (map Event es)) (answer_mark c result) is)
   where
-    either : (MarkIs IsStanding (last_such message_mark (map Event es))
-        ⊎ ((last_such message_mark (map Event es) ≡ None) × MarkIs IsStanding (answer_mark c result))) → ReportsStop es
+    either : (MarkIs IsStopped (last_such message_mark (map Event es))
+        ⊎ ((last_such message_mark (map Event es) ≡ None) × MarkIs IsStopped (answer_mark c result))) → ReportsStop es
     either (inl is) = events_stop es is
     either (inr is) = absurd (answer_not c result is.1)
 messages_stop (Some (Event e)) es answer is = absurd answer
 
-pub step_stops : (step : Step) → IsAnswer step.answer → MarkIs IsStanding (step_mark step)
+pub step_stops : (step : Step) → IsAnswer step.answer → MarkIs IsStopped (step_mark step)
     → ReportsStop step.effect.events
 step_stops step answer is =
-    either (mark_else IsStanding (last_such order_mark step.effect.orders) (last_such message_mark (messages step)) is)
+    either (mark_else IsStopped (last_such order_mark step.effect.orders) (last_such message_mark (messages step)) is)
   where
-    either : (MarkIs IsStanding (last_such order_mark step.effect.orders)
-        ⊎ ((last_such order_mark step.effect.orders ≡ None) × MarkIs IsStanding
+    either : (MarkIs IsStopped (last_such order_mark step.effect.orders)
+        ⊎ ((last_such order_mark step.effect.orders ≡ None) × MarkIs IsStopped
         (last_such message_mark (messages step)))) → ReportsStop step.effect.events
     either (inl is) = absurd (orders_not step.effect.orders is)
     either (inr is) = messages_stop step.answer step.effect.events answer is.1
@@ -142,12 +142,12 @@ step_stops step answer is =
 
 -- the program stands where it stopped last
 abbrev pub Stood : History → Type 0
-Stood past = IsStanding (situation past) → (m : ℕ) × StoppedLastAt past m × (m ≡ position past)
+Stood past = IsStopped (situation past) → (m : ℕ) × StoppedLastAt past m × (m ≡ position past)
 
 -- no report is accepted where the program stands
 moves_nothing : (Q : Incoming → Type 0) (past : History) (item : Item) → IsTaken Q past item
-    → IsStanding (situation past) → end_of item ≡ None
-moves_nothing Q past (Accepted r) taken is = absurd (subst IsStanding taken.0.running is)
+    → IsStopped (situation past) → end_of item ≡ None
+moves_nothing Q past (Accepted r) taken is = absurd (subst IsStopped taken.0.running is)
 moves_nothing Q past _ taken is = refl
 
 stops_here : (past : History) (step : Step) (r : StopReason) → stop_in step ≡ Some r → Stood (past ++ step ∷ [])
@@ -187,8 +187,8 @@ stood_more : (Q : Incoming → Type 0) (past : History) (step : Step) → IsTake
     → Causes past step.item step → Stood past → Stood (past ++ step ∷ [])
 stood_more Q past step taken causes stood = by_stop (stop_in step) refl
   where
-    onward : stop_in step ≡ None → (MarkIs IsStanding (step_mark step)
-        ⊎ ((step_mark step ≡ None) × IsStanding (situation past)))
+    onward : stop_in step ≡ None → (MarkIs IsStopped (step_mark step)
+        ⊎ ((step_mark step ≡ None) × IsStopped (situation past)))
         → (m : ℕ) × StoppedLastAt (past ++ step ∷ []) m × (m ≡ position (past ++ step ∷ []))
     onward none (inl is) =
         absurd (let stops = step_stops step (answers_only past step.item step causes) is in let e = sym none
@@ -204,8 +204,8 @@ stood_more Q past step taken causes stood = by_stop (stop_in step) refl
     by_stop : (o : Option StopReason) → stop_in step ≡ o → Stood (past ++ step ∷ [])
     by_stop (Some r) is = stops_here past step r is
     by_stop None none =
-        λ standing. onward none (mark_unwrap IsStanding (step_mark step) (situation past)
-        (subst IsStanding (situation-snoc past step) standing))
+        λ standing. onward none (mark_unwrap IsStopped (step_mark step) (situation past)
+        (subst IsStopped (situation-snoc past step) standing))
 
 pub stood_kept : (Q : Incoming → Type 0) → IsKept Q Stood
 stood_kept Q = record {
@@ -217,7 +217,7 @@ stood_kept Q = record {
 
 -- ---- questions
 
-inspects_here : (s : Situation) (past : History) (q : Question) (reply : Reply) → IsStanding s
+inspects_here : (s : Situation) (past : History) (q : Question) (reply : Reply) → IsStopped s
     → InspectsIn s past q reply → Inspects past q reply
 inspects_here Stopped past q reply is inspects = inspects
 inspects_here Faulted past q reply is inspects = inspects
@@ -228,7 +228,7 @@ no_body : (reply : Reply) (why : Refusal) (b : Body) → reply ≡ refused why �
 no_body reply why b is body = let e = ap (λ (r : Reply). r.result) (sym is) ∙ body in absurd cc
 
 standing_of : (s : Situation) (past : History) (q : Question) (reply : Reply) (b : Body) → InspectsIn s past q reply
-    → reply.result ≡ Ok b → IsStanding s
+    → reply.result ≡ Ok b → IsStopped s
 standing_of Stopped past q reply b is body = tt
 standing_of Faulted past q reply b is body = tt
 standing_of _ past q reply b is body = absurd (no_body reply _ b is body)
@@ -236,7 +236,7 @@ standing_of _ past q reply b is body = absurd (no_body reply _ b is body)
 -- the program that is inspected, shown where it stopped last
 shown : (before : History) (request : Request) (question : Question) (step : Step) (reply : Reply) (l : Option Launched)
     → launched before ≡ l
-    → OfProgram l (λ l. RepliesAt (asked_of before l) (at l.program (position before)) question reply)
+    → OfProgram l (λ l. RepliesAt (subject_in before l) (at l.program (position before)) question reply)
     → Answers request.seq (name_of request.body) reply step → (m : ℕ) × StoppedLastAt before m × (m ≡ position before)
     → (l : Launched) × (m : ℕ) × (launched before ≡ Some l) × StoppedLastAt before m
     × AnswersFrom l before m request question step
@@ -249,7 +249,7 @@ shown before request question step reply (Some l) is inspects answers stood = (
   record {
     reply =
         reply;
-    shown = subst (λ n. RepliesAt (asked_of before l) (at l.program n) question reply) (sym stood.2) inspects;
+    shown = subst (λ n. RepliesAt (subject_in before l) (at l.program n) question reply) (sym stood.2) inspects;
     answer_is = answers.answer_is;
   },
 )

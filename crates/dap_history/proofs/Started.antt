@@ -18,7 +18,7 @@ use Rattle.dap_history.specs.Last.{or_else, last_such}
 use Rattle.dap_history.specs.History.{Launched, Item, Content, Loaded, Accepted, Step, History, with_answer}
 use Rattle.dbg_plan.specs.Logs.{logs as position_logs}
 use Rattle.dap_history.specs.Readings.{situation, launched, plan, answer_mark, message_mark, order_mark, step_mark}
-use Rattle.dap_history.specs.Replies.{Reply, OfProgram, stops, stop_of}
+use Rattle.dap_history.specs.Replies.{Reply, OfProgram, stopped_events, stop_of}
 use Rattle.dap_history.specs.Running.{enters, ConfiguresIn}
 use Rattle.dap_history.specs.Considered.{is_start, starts_by, before_start}
 use Rattle.dap_history.specs.Emission.{RepliesIn, Answers, Causes}
@@ -110,7 +110,7 @@ enters_late past l None = (Running, refl, λ x. x)
 enters_late past l (Some r) = (
   Stopped,
   mark_of_logs (plan past).breakpoints
-      (position_logs l.program (plan past).breakpoints (plan past).counted_from 0) (stops (stop_of r))
+      (position_logs l.program (plan past).breakpoints (plan past).counted_from 0) (stopped_events (stop_of r))
       ∙ stop_marks r,
   λ x. x,
 )

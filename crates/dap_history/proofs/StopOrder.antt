@@ -17,7 +17,7 @@ use Rattle.dbg_runner.specs.Plain.{PlainReport}
 use Rattle.dap_history.specs.declared.launch.Launch.{Launch}
 use Rattle.dap_history.specs.History.{Item, Content, Loaded, Accepted, Step, History, Effect, with_answer, messages, messages_of}
 use Rattle.dap_history.specs.Readings.{situation, output}
-use Rattle.dap_history.specs.Replies.{Reply, told_logs}
+use Rattle.dap_history.specs.Replies.{Reply, log_events}
 use Rattle.dap_history.specs.Launching.{Launches}
 use Rattle.dap_history.specs.Reports.{outputs}
 use Rattle.dap_history.specs.Emission.{HasEffect, Causes}
@@ -31,7 +31,7 @@ use Rattle.dap_history.proofs.Outputs.{told_numbers, outputs_apart, following, r
 use Rattle.dap_history.proofs.Went.{nothing_told}
 use Rattle.dap_history.proofs.Progress.{Progress, progress_first, progress_kept, progress_more}
 use Rattle.dap_history.proofs.Each.{WasTaken, EachTaken, each_kept, each_first}
-use Rattle.dap_history.proofs.AfterStops.{Quiet, all_before, none_quiet}
+use Rattle.dap_history.proofs.AfterStops.{NoneAfter, all_before, none_quiet}
 
 abbrev pub IsStop : Outgoing → Type 0
 IsStop (Event (event.Stopped r)) = Unit {0}
@@ -45,7 +45,7 @@ IsLog _ = ⊥
 
 module _ (B : Type 0) (P : Outgoing → Type 0) (f : Outgoing → Option B) where
   abbrev QuietEvents : List EventBody → Type 0
-  QuietEvents es = Quiet Outgoing B P f (map Event es)
+  QuietEvents es = NoneAfter Outgoing B P f (map Event es)
 
   after_numbers : ((v : ℤ) → ¬ P (Event (event.Output v))) → (vs : List ℤ) (es : List EventBody) → QuietEvents es
       → QuietEvents (map event.Output vs ++ es)
@@ -54,7 +54,7 @@ module _ (B : Type 0) (P : Outgoing → Type 0) (f : Outgoing → Option B) wher
 
   after_logs : ((text : List ℕ) → ¬ P (Event (event.Log text)))
       → (bs : List Breakpoint) (ls : List Log) (es : List EventBody) → QuietEvents es
-      → QuietEvents (told_logs bs ls ++ es)
+      → QuietEvents (log_events bs ls ++ es)
   after_logs not bs [] es quiet = quiet
   after_logs not bs (l ∷ ls) es quiet = ((λ is. absurd (not _ is)), after_logs not bs ls es quiet)
 
@@ -64,17 +64,17 @@ module _ (B : Type 0) (P : Outgoing → Type 0) (f : Outgoing → Option B) wher
   -- ---- of steps
 
   unanswered_quiet : (step : Step) (effect : Effect) → HasEffect effect step → QuietEvents effect.events
-      → Quiet Outgoing B P f (messages step)
+      → NoneAfter Outgoing B P f (messages step)
   unanswered_quiet step effect has quiet =
-      subst (λ a. Quiet Outgoing B P f (with_answer a (map Event step.effect.events))) (sym has.answer_is)
+      subst (λ a. NoneAfter Outgoing B P f (with_answer a (map Event step.effect.events))) (sym has.answer_is)
       (subst (λ (e : Effect). QuietEvents e.events) (sym has.effect_is) quiet)
 
   answered_quiet : ((seq : ℕ) (command : CommandName) (result : Result Body Refusal) → ¬ P (Answer seq command result))
       → (seq : ℕ) (command : CommandName) (result : Result Body Refusal) (step : Step) (effect : Effect)
       → step.answer ≡ Some (Answer seq command result) → step.effect ≡ effect → QuietEvents effect.events
-      → Quiet Outgoing B P f (messages step)
+      → NoneAfter Outgoing B P f (messages step)
   answered_quiet not seq command result step effect answer is quiet =
-      subst (λ a. Quiet Outgoing B P f (with_answer a (map Event step.effect.events))) (sym answer)
+      subst (λ a. NoneAfter Outgoing B P f (with_answer a (map Event step.effect.events))) (sym answer)
       ((λ kind. absurd (not seq command result kind)), subst (λ (e : Effect). QuietEvents e.events) (sym is) quiet)
 
   module _ (no_answer : (seq : ℕ) (command : CommandName) (result : Result Body Refusal)
@@ -91,7 +91,7 @@ module _ (B : Type 0) (P : Outgoing → Type 0) (f : Outgoing → Option B) wher
         subst (λ (r : Reply). QuietEvents r.effect.events) (sym is.reply_is) of_initialized
 
     pub step_quiet : (past : History) (item : Item) (step : Step) → IsTaken IsLawfulEvent past item
-        → Causes past item step → Quiet Outgoing B P f (messages step)
+        → Causes past item step → NoneAfter Outgoing B P f (messages step)
     step_quiet past (Content (Some request)) step taken is =
         let silent = all_silent (situation past) past request.body is.0 is.1 in
         answered_quiet no_answer _ _ _ step is.0.effect is.2.answer_is is.2.effect_is
@@ -110,7 +110,7 @@ module _ (B : Type 0) (P : Outgoing → Type 0) (f : Outgoing → Option B) wher
 report_numbers_quiet : (P : Outgoing → Type 0) → ((v : ℤ) → ¬ P (Event (event.Output v)))
     → (past : History) (r : PlainReport) → QuietEvents ℤ P output (outputs past r ++ following past r.outcome)
 report_numbers_quiet P not past r =
-    let rest = told_logs r.plan r.logs ++ following past r.outcome in
+    let rest = log_events r.plan r.logs ++ following past r.outcome in
     subst (QuietEvents ℤ P output) (sym (outputs_apart past r (following past r.outcome)))
     (after_numbers ℤ P output not (told_numbers past r) rest
     (after_none ℤ P output rest (numbers_of_logs r.plan r.logs (following past r.outcome)
@@ -119,7 +119,7 @@ report_numbers_quiet P not past r =
 report_texts_quiet : (past : History) (r : PlainReport) → QuietEvents (List ℕ) IsStop log_of
     (outputs past r ++ following past r.outcome)
 report_texts_quiet past r =
-    let rest = told_logs r.plan r.logs ++ following past r.outcome in
+    let rest = log_events r.plan r.logs ++ following past r.outcome in
     subst (QuietEvents (List ℕ) IsStop log_of) (sym (outputs_apart past r (following past r.outcome)))
     (after_numbers (List ℕ) IsStop log_of (λ v no. no) (told_numbers past r) rest
     (after_logs (List ℕ) IsStop log_of (λ text no. no) r.plan r.logs (following past r.outcome)
@@ -134,7 +134,7 @@ reply_texts_quiet past true effect (logs_first l more configuring there is none)
     (after_logs (List ℕ) IsStop log_of (λ text no. no) _ _ more (after_none (List ℕ) IsStop log_of more none))
 
 numbers_after_stops : (past : History) (step : Step) → IsTaken IsLawfulEvent past step.item → Causes past step.item step
-    → Quiet Outgoing ℤ IsStop output (messages step)
+    → NoneAfter Outgoing ℤ IsStop output (messages step)
 numbers_after_stops past step =
     step_quiet ℤ IsStop output (λ seq command result no. no)
     (λ past starts effect logs none. after_none ℤ IsStop output effect.events none)
@@ -142,7 +142,7 @@ numbers_after_stops past step =
     past step.item step
 
 numbers_after_logs : (past : History) (step : Step) → IsTaken IsLawfulEvent past step.item → Causes past step.item step
-    → Quiet Outgoing ℤ IsLog output (messages step)
+    → NoneAfter Outgoing ℤ IsLog output (messages step)
 numbers_after_logs past step =
     step_quiet ℤ IsLog output (λ seq command result no. no)
     (λ past starts effect logs none. after_none ℤ IsLog output effect.events none)
@@ -150,7 +150,7 @@ numbers_after_logs past step =
     past step.item step
 
 pub logs_after_stops : (past : History) (step : Step) → IsTaken IsLawfulEvent past step.item
-    → Causes past step.item step → Quiet Outgoing (List ℕ) IsStop log_of (messages step)
+    → Causes past step.item step → NoneAfter Outgoing (List ℕ) IsStop log_of (messages step)
 logs_after_stops past step =
     step_quiet (List ℕ) IsStop log_of (λ seq command result no. no) reply_texts_quiet report_texts_quiet
     ((λ no. absurd no), tt)
@@ -161,7 +161,7 @@ logs_after_stops past step =
 -- what a message of this kind stands after
 pub all_so_far : (B : Type 0) (P : Outgoing → Type 0) (f : Outgoing → Option B) (front : History) (step : Step)
     (before : List Outgoing) (x : Outgoing) (after : List Outgoing)
-    → P x → filter_map f (x ∷ []) ≡ [] → Quiet Outgoing B P f (messages step) → messages step ≡ before ++ x ∷ after
+    → P x → filter_map f (x ∷ []) ≡ [] → NoneAfter Outgoing B P f (messages step) → messages step ≡ before ++ x ∷ after
     → filter_map f (messages_of front ++ before) ≡ filter_map f (messages_of (front ++ step ∷ []))
 all_so_far B P f front step before x after kind none quiet split =
     filter_map-append f (messages_of front) before

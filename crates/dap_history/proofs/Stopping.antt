@@ -18,9 +18,9 @@ use Rattle.dap_history.specs.declared.situation.Situation.TheVariants.{Ready}
 use Rattle.dap_history.specs.Last.{or_else, last_such}
 use Rattle.dap_history.specs.History.{Launched, Item, Content, Loaded, Accepted, Step, History, Effect}
 use Rattle.dap_history.specs.Readings.{go, situation, position, launched, last_run, waiting_pause, end_of, order_mark, step_mark}
-use Rattle.dap_history.specs.Replies.{Reply, stops, ends, stop_of, exception_of}
+use Rattle.dap_history.specs.Replies.{Reply, stopped_events, exited_events, stop_of, exception_of}
 use Rattle.dap_history.specs.Launching.{Launches}
-use Rattle.dap_history.specs.Reports.{Accepts, held, report_effect}
+use Rattle.dap_history.specs.Reports.{Accepts, held_effect, report_effect}
 use Rattle.dap_history.specs.Emission.{Causes}
 use Rattle.dap_history.proofs.Texts.{OneProgram}
 use Rattle.dap_history.specs.Stops.{stop_of_event, stop_in, NoneDueUpTo, NoneDueBefore, due_in, IsRunsStop, IsRetreatsStop, IsStopOf, IsRightStop, EachStopIsRight}
@@ -249,7 +249,7 @@ module _ (one : OneProgram) (joins : WrittenJoins) where
         → last_such stop_of_event (report_effect past r e).events ≡ Some s → IsRunsStop l run s r.end
     stops_on went slice.More ends_by s so_far = let e = sym (outputs_stop_not past r) ∙ so_far in absurd cc
     stops_on went (slice.Due why) (is_due on due_there runs) s so_far =
-        let same : stop_of why ≡ s = let e = sym (outputs_stop past r (stops (stop_of why))) ∙ so_far in cc in
+        let same : stop_of why ≡ s = let e = sym (outputs_stop past r (stopped_events (stop_of why))) ∙ so_far in cc in
         let from = begun_there one joins past r accepts lawful ran l is in
         subst (λ s. IsRunsStop l run s r.end) same
         (due_stop l run r.end why (
@@ -260,16 +260,17 @@ module _ (one : OneProgram) (joins : WrittenJoins) where
         ))
     stops_on went slice.Held (is_held stays runs) s so_far = by_pause (waiting_pause past) so_far
       where
-        by_pause : (pauses : Bool) → last_such stop_of_event (held past r pauses).events ≡ Some s
+        by_pause : (pauses : Bool) → last_such stop_of_event (held_effect past r pauses).events ≡ Some s
             → IsRunsStop l run s r.end
         by_pause true so_far =
-            let same : stop.Pause ≡ s = let e = sym (outputs_stop past r (stops stop.Pause)) ∙ so_far in cc in
+            let same : stop.Pause ≡ s = let e = sym (outputs_stop past r (stopped_events stop.Pause)) ∙ so_far in cc in
             subst (λ s. IsRunsStop l run s r.end) same (still one joins past r accepts lawful ran l is stays)
         by_pause false so_far = let e = sym (outputs_stop_not past r) ∙ so_far in absurd cc
-    stops_on went slice.Done ends_by s so_far = let e = sym (outputs_stop past r (ends 0)) ∙ so_far in absurd cc
+    stops_on went slice.Done ends_by s so_far = let e = sym (outputs_stop past r (exited_events 0))
+        ∙ so_far in absurd cc
     stops_on went (slice.Fault fault) (faults early passed fails runs) s so_far =
         let same : stop.Exception (exception_of fault) ≡ s =
-        let e = sym (outputs_stop past r (stops (stop.Exception (exception_of fault)))) ∙ so_far in cc in
+        let e = sym (outputs_stop past r (stopped_events (stop.Exception (exception_of fault)))) ∙ so_far in cc in
         let fails_there =
         ap (λ p. outcome p r.end) (sym
         (report_program one joins past r lawful l accepts (ran.so_far.progress (Some l) is))) ∙ fails in
@@ -307,7 +308,7 @@ module _ (one : OneProgram) (joins : WrittenJoins) where
         → last_such stop_of_event (report_effect past r e).events ≡ Some s → IsRetreatsStop l run s r.end
     stops_back back slice.More ends_by s so_far = let e = sym (outputs_stop_not past r) ∙ so_far in absurd cc
     stops_back back (slice.Due why) (has_come comes) s so_far =
-        let same : stop_of why ≡ s = let e = sym (outputs_stop past r (stops (stop_of why))) ∙ so_far in cc in
+        let same : stop_of why ≡ s = let e = sym (outputs_stop past r (stopped_events (stop_of why))) ∙ so_far in cc in
         subst (λ s. IsRetreatsStop l run s r.end) same (leads_there why back comes)
     stops_back back slice.NoMemory ends_by s so_far = absurd cc
     stops_back back slice.Held is s so_far = elim is [ ]

@@ -14,9 +14,9 @@ use Rattle.dap_history.specs.Last.{or_else}
 use Rattle.dap_history.specs.Readings.{closing_command, closing_report, closing}
 use Rattle.dap_history.specs.Reports.{Accepts}
 use Rattle.dap_history.specs.Emission.{IsAfter}
-use Rattle.dap_history.specs.Events.{Incoming, Piece, End, ReadFailed, NoMemory, File, Report, Rest, only_bytes, IsTaking, Takes, one_more, closed, open_ended, faulty, waits, MayTake, LeadsByPiece, Loads, LeadsByFile, LeadsByReport, LeadsByEvent, Leads}
+use Rattle.dap_history.specs.Events.{Incoming, Piece, End, ReadFailed, NoMemory, File, Report, Rest, only_bytes, IsTaking, Takes, one_more, closed, open_ended, faulty, waits, MayTake, LeadsByPiece, Loads, LeadsByFile, LeadsByReport, LeadsByEvent, LeadsByEvents}
 use Rattle.dap_history.specs.Laws.{HistoryIsOne}
-use Rattle.dap_history.specs.Taken.{file_item, GoesOnWith, IsOfBytes, AreOfBytes, Adds, EventsAreTaken, closes_by, fails_by, ends_by, EachItemEndsOrNot}
+use Rattle.dap_history.specs.Taken.{file_item, GoesOnWith, IsOfBytes, AreOfBytes, AddsSteps, EventsAreTaken, closes_by, fails_by, ends_by, EachItemEndsOrNot}
 use Rattle.dap_history.proofs.Readings.{or_else-none, ending_of-snoc}
 use Rattle.dap_history.proofs.Each.{WasTaken}
 use Rattle.dap_history.proofs.GoingBack.{Anything}
@@ -26,8 +26,9 @@ use Rattle.dap_history.proofs.FirstKept.{first_by_event}
 -- ---- the last event
 
 leads_last : (past : History) (rest : Rest) (events : List Incoming) (e : Incoming) (new : History) (left : Rest)
-    → Leads past rest (events ++ e ∷ []) new left
-    → (mid : History) × (between : Rest) × Leads past rest events mid between × LeadsByEvent mid between e new left
+    → LeadsByEvents past rest (events ++ e ∷ []) new left
+    → (mid : History) × (between : Rest) × LeadsByEvents past rest events mid between
+    × LeadsByEvent mid between e new left
 leads_last past rest [] e new left all = (
   past,
   rest,
@@ -82,15 +83,15 @@ goes_so past r is =
 
 module _ (past new : History) (rest : Rest) where
   abbrev AddsBy : Incoming → Type 0
-  AddsBy e = (steps : History) × (new ≡ past ++ steps) × Adds past rest e steps
+  AddsBy e = (steps : History) × (new ≡ past ++ steps) × AddsSteps past rest e steps
 
   -- the one item of an event that no bytes follow
   adds_one : (e : Incoming) (item : Item) → IsAfter past item new
-      → ((step : Step) → step.item ≡ item → Adds past rest e (step ∷ [])) → AddsBy e
+      → ((step : Step) → step.item ≡ item → AddsSteps past rest e (step ∷ [])) → AddsBy e
   adds_one e item after adds = (after.step ∷ [], after.new_is, adds after.step after.item_is)
 
   by_may : (e : Incoming) (item : Item) → IsTaking past → MayTake past item new
-      → ((step : Step) → step.item ≡ item → Adds past rest e (step ∷ [])) → AddsBy e
+      → ((step : Step) → step.item ≡ item → AddsSteps past rest e (step ∷ [])) → AddsBy e
   by_may e item taking (inl closed_) adds = absurd (closed_.0 taking)
   by_may e item taking (inr is) adds = adds_one e item is.1 adds
 
@@ -243,7 +244,7 @@ events_taken one events e past new rest left history more same = (
   λ not. event_not past new rest e left not leads,
 )
   where
-    last : (mid : History) × (between : Rest) × Leads [] (only_bytes left.first []) events mid between
+    last : (mid : History) × (between : Rest) × LeadsByEvents [] (only_bytes left.first []) events mid between
         × LeadsByEvent mid between e new left
     last = leads_last [] (only_bytes left.first []) events e new left more
 
@@ -252,7 +253,7 @@ events_taken one events e past new rest left history more same = (
 
     is_one : (past ≡ last.0) × (rest ≡ last.1)
     is_one = one events past last.0 rest last.1 history
-        (subst (λ f. Leads [] (only_bytes f []) events last.0 last.1) first_is last.2) (same ∙ first_is)
+        (subst (λ f. LeadsByEvents [] (only_bytes f []) events last.0 last.1) first_is last.2) (same ∙ first_is)
 
     leads : LeadsByEvent past rest e new left
     leads = subst (λ h. LeadsByEvent h rest e new left) (sym is_one.0)

@@ -13,8 +13,8 @@ use Rattle.dbg_runner.specs.declared.outcome.SliceOutcome.TheVariants as slice
 use Rattle.dbg_runner.specs.Plain.{PlainReport}
 use Rattle.dap_history.specs.History.{Accepted, History, Effect}
 use Rattle.dap_history.specs.Readings.{waiting_pause}
-use Rattle.dap_history.specs.Replies.{told_logs}
-use Rattle.dap_history.specs.Reports.{outputs, held, report_effect}
+use Rattle.dap_history.specs.Replies.{log_events}
+use Rattle.dap_history.specs.Reports.{outputs, held_effect, report_effect}
 use Rattle.dap_history.specs.Emission.{Causes}
 use Rattle.dap_history.specs.Stops.{IsOutput, tells_held, tells, EachReportIsTold}
 use Rattle.dap_history.proofs.Along.{any_events, along}
@@ -27,13 +27,13 @@ numbers_output : (vs : List ℤ) → All IsOutput (map event.Output vs)
 numbers_output [] = All-nil IsOutput
 numbers_output (v ∷ vs) = All-cons IsOutput (event.Output v) (map event.Output vs) tt (numbers_output vs)
 
-pub logs_output : (bs : List Breakpoint) (ls : List Log) → All IsOutput (told_logs bs ls)
+pub logs_output : (bs : List Breakpoint) (ls : List Log) → All IsOutput (log_events bs ls)
 logs_output bs [] = All-nil IsOutput
-logs_output bs (l ∷ ls) = All-cons IsOutput _ (told_logs bs ls) tt (logs_output bs ls)
+logs_output bs (l ∷ ls) = All-cons IsOutput _ (log_events bs ls) tt (logs_output bs ls)
 
 outputs_output : (past : History) (r : PlainReport) → All IsOutput (outputs past r)
 outputs_output past r =
-    All-append IsOutput (map event.Output (told_numbers past r)) (told_logs r.plan r.logs)
+    All-append IsOutput (map event.Output (told_numbers past r)) (log_events r.plan r.logs)
     (numbers_output (told_numbers past r)) (logs_output r.plan r.logs)
 
 -- the events are numbers and logs, and then these
@@ -50,7 +50,7 @@ report_tells past r (slice.Due why) = (
 )
 report_tells past r slice.Held = by_pause (waiting_pause past)
   where
-    by_pause : (pauses : Bool) → EndsIn (held past r pauses).events (tells_held pauses)
+    by_pause : (pauses : Bool) → EndsIn (held_effect past r pauses).events (tells_held pauses)
     by_pause true = (outputs past r, outputs_output past r, refl)
     by_pause false = (outputs past r, outputs_output past r, sym (append-nil (outputs past r)))
 report_tells past r slice.Done = (outputs past r, outputs_output past r, refl)

@@ -14,7 +14,7 @@ use Rattle.dap_history.specs.Last.{last_such}
 use Rattle.dap_history.specs.Readings.{message_mark, output}
 use Rattle.pl0_meaning.specs.declared.RunFault.{RunFault}
 use Rattle.pl0_meaning.specs.declared.RunFault.TheVariants as run_fault
-use Rattle.dap_history.specs.Replies.{stop_of, exception_of, text_of_log, told_logs}
+use Rattle.dap_history.specs.Replies.{stop_of, exception_of, text_of_log, log_events}
 use Rattle.dap_history.specs.Laws.{log_of}
 use Rattle.dap_history.specs.Stops.{told_reason, told_fault, stop_of_event}
 use Rattle.dap_history.proofs.Readings.{or_else-none}
@@ -50,22 +50,24 @@ mark_of_numbers (v ∷ vs) es = or_else-none _ ∙ mark_of_numbers vs es
 -- ---- logs in front
 
 module _ (bs : List Breakpoint) where
-  pub numbers_of_logs : (ls : List Log) (es : List EventBody) → numbers_in (told_logs bs ls ++ es) ≡ numbers_in es
+  pub numbers_of_logs : (ls : List Log) (es : List EventBody) → numbers_in (log_events bs ls ++ es) ≡ numbers_in es
   numbers_of_logs [] es = refl
   numbers_of_logs (l ∷ ls) es = numbers_of_logs ls es
 
-  pub texts_of_logs : (ls : List Log) (es : List EventBody) → texts_in (told_logs bs ls ++ es) ≡ map (text_of_log bs) ls
+  pub texts_of_logs : (ls : List Log) (es : List EventBody) → texts_in (log_events bs ls ++ es) ≡ map
+      (text_of_log bs) ls
       ++ texts_in es
   texts_of_logs [] es = refl
   texts_of_logs (l ∷ ls) es = ap (λ ts. text_of_log bs l ∷ ts) (texts_of_logs ls es)
 
-  pub stop_of_logs : (ls : List Log) (es : List EventBody) → last_such stop_of_event (told_logs bs ls ++ es) ≡ last_such
+  pub stop_of_logs : (ls : List Log) (es : List EventBody) → last_such stop_of_event (log_events bs ls ++ es)
+      ≡ last_such
       stop_of_event es
   stop_of_logs [] es = refl
   stop_of_logs (l ∷ ls) es = or_else-none _ ∙ stop_of_logs ls es
 
   pub mark_of_logs : (ls : List Log) (es : List EventBody) → last_such message_mark
-      (map Event (told_logs bs ls ++ es)) ≡ last_such message_mark (map Event es)
+      (map Event (log_events bs ls ++ es)) ≡ last_such message_mark (map Event es)
   mark_of_logs [] es = refl
   mark_of_logs (l ∷ ls) es = or_else-none _ ∙ mark_of_logs ls es
 

@@ -29,15 +29,15 @@ use Rattle.dap_history.specs.declared.situation.Situation.TheVariants.{Fresh, Re
 use Rattle.dap_history.specs.Last.{or_else, last_such}
 use Rattle.dap_history.specs.History.{Launched, Item, Content, Loaded, Accepted, Fault, InputEnd, ReadFailure, MemoryFailure, Step, History, Effect, with_answer}
 use Rattle.dap_history.specs.Readings.{order_mark, message_mark, situation, position, plan, waiting_pause}
-use Rattle.dap_history.specs.Replies.{Reply, nothing, reporting, ordering, stops, stop_of, exception_of, ends}
+use Rattle.dap_history.specs.Replies.{Reply, nothing, reporting, ordering, stopped_events, stop_of, exception_of, exited_events}
 use Rattle.dap_history.specs.Launching.{initialize_in, Launches}
 use Rattle.dap_history.specs.Breakpoints.{effect_in, hold_once}
 use Rattle.dap_history.specs.Running.{resumes, first_logs, enters, mode_of}
-use Rattle.dap_history.specs.Reports.{held, report_effect}
+use Rattle.dap_history.specs.Reports.{held_effect, report_effect}
 use Rattle.dap_history.specs.Emission.{RepliesIn, Answers, HasEffect, Causes}
 use Rattle.dap_history.specs.Events.{Incoming, Rest, IsHistoryOf}
 use Rattle.dap_history.specs.GoingBack.{back_by}
-use Rattle.dap_history.specs.Stops.{stop_of_event, IsStanding}
+use Rattle.dap_history.specs.Stops.{stop_of_event, IsStopped}
 use Rattle.dap_history.specs.Transitions.{runs_unless, report_leads, item_leads, after_step, after_steps, EachStepLeads, SituationIsAfterSteps}
 use Rattle.dap_history.proofs.Readings.{situation-snoc}
 use Rattle.dap_history.proofs.Along.{IsTaken, IsKept, any_events, along}
@@ -109,8 +109,8 @@ module _ (seq : ℕ) (past : History) where
       ∙ ap runs_unless (stop_of_logs (plan past).breakpoints (first_at past l) []))
   enters_leads l (Some r) =
       ap (λ m. unwrap_or (or_else m None) Configuring)
-      (mark_of_logs (plan past).breakpoints (first_at past l) (stops (stop_of r)) ∙ stop_marks r)
-      ∙ sym (ap runs_unless (stop_of_logs (plan past).breakpoints (first_at past l) (stops (stop_of r))))
+      (mark_of_logs (plan past).breakpoints (first_at past l) (stopped_events (stop_of r)) ∙ stop_marks r)
+      ∙ sym (ap runs_unless (stop_of_logs (plan past).breakpoints (first_at past l) (stopped_events (stop_of r))))
 
   forward_leads : (asked : Command) (resume_kind : ResumeKind) (l : Launched) (m : Mode)
       → resume_kind_by asked ≡ Some resume_kind → Granted Stopped asked (ordering (resumes past l m))
@@ -118,11 +118,11 @@ module _ (seq : ℕ) (past : History) where
   forward_leads _ resume_kind l m by = absurd cc
 
   over_leads : (asked : Command) (resume_kind : ResumeKind) → resume_kind_by asked ≡ Some resume_kind
-      → Granted Faulted asked (reporting (ends 1))
+      → Granted Faulted asked (reporting (exited_events 1))
   over_leads (command.Resume k a) resume_kind by = refl
   over_leads _ resume_kind by = absurd cc
 
-  back_leads : (s : Situation) (asked : Command) (m : Mode) (l : Launched) → IsStanding s → back_by asked ≡ Some m
+  back_leads : (s : Situation) (asked : Command) (m : Mode) (l : Launched) → IsStopped s → back_by asked ≡ Some m
       → Granted s asked (ordering (resumes past l m))
   back_leads Stopped (command.Retreat k a) m l stands by = refl
   back_leads Faulted (command.Retreat k a) m l stands by = refl
@@ -154,7 +154,7 @@ module _ (seq : ℕ) (past : History) where
         (subst (λ t. Granted t asked (ordering (resumes past l m))) (sym here) (forward_leads asked resume_kind l m by))
     shape_leads (is_over resume_kind by here is) =
         as_reply _ is
-        (subst (λ t. Granted t asked (reporting (ends 1))) (sym here) (over_leads asked resume_kind by))
+        (subst (λ t. Granted t asked (reporting (exited_events 1))) (sym here) (over_leads asked resume_kind by))
     shape_leads (retreats m l by back stands there is) = as_reply _ is (back_leads s asked m l stands by)
     shape_leads (interrupts a by here is) =
         as_reply _ is
@@ -192,20 +192,20 @@ ReportFits e effect =
     unwrap_or (mark_of_effect effect) Running ≡ report_leads e Running (last_such stop_of_event effect.events)
 
 module _ (past : History) (r : PlainReport) where
-  held_fits : (pauses : Bool) → ReportFits slice.Held (held past r pauses)
+  held_fits : (pauses : Bool) → ReportFits slice.Held (held_effect past r pauses)
   held_fits true =
-      ap (λ m. unwrap_or m Running) (outputs_mark past r (stops stop.Pause))
-      ∙ sym (ap runs_unless (outputs_stop past r (stops stop.Pause)))
+      ap (λ m. unwrap_or m Running) (outputs_mark past r (stopped_events stop.Pause))
+      ∙ sym (ap runs_unless (outputs_stop past r (stopped_events stop.Pause)))
   held_fits false = sym (ap runs_unless (outputs_stop_not past r))
 
   report_fits : (e : SliceOutcome) → ReportFits e (report_effect past r e)
   report_fits slice.More = ap (λ m. unwrap_or m Running) (outputs_unmarked past r)
   report_fits (slice.Due why) =
-      ap (λ m. unwrap_or m Running) (outputs_mark past r (stops (stop_of why)) ∙ stop_marks why)
+      ap (λ m. unwrap_or m Running) (outputs_mark past r (stopped_events (stop_of why)) ∙ stop_marks why)
   report_fits slice.Held = held_fits (waiting_pause past)
-  report_fits slice.Done = ap (λ m. unwrap_or m Running) (outputs_mark past r (ends 0))
+  report_fits slice.Done = ap (λ m. unwrap_or m Running) (outputs_mark past r (exited_events 0))
   report_fits (slice.Fault fault) =
-      ap (λ m. unwrap_or m Running) (outputs_mark past r (stops (stop.Exception (exception_of fault))))
+      ap (λ m. unwrap_or m Running) (outputs_mark past r (stopped_events (stop.Exception (exception_of fault))))
   report_fits slice.NoMemory = refl
 
 abbrev StepFits : Situation → Item → Step → Type 0

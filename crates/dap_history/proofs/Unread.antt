@@ -13,7 +13,7 @@ use Rattle.dap_history.specs.declared.fault.LoadFault.TheVariants as load_fault
 use Rattle.dap_history.specs.History.{Item, Fault, InputEnd, ReadFailure, MemoryFailure, History}
 use Rattle.dap_history.specs.Readings.{closing}
 use Rattle.dap_history.specs.Laws.{RestIsOpen}
-use Rattle.dap_history.specs.Events.{Incoming, Piece, End, ReadFailed, NoMemory, File, Report, Rest, only_bytes, IsTaking, Takes, one_more, closed, open_ended, faulty, waits, MayTake, LeadsByPiece, LeadsByFile, LeadsByReport, LeadsByEvent, Leads}
+use Rattle.dap_history.specs.Events.{Incoming, Piece, End, ReadFailed, NoMemory, File, Report, Rest, only_bytes, IsTaking, Takes, one_more, closed, open_ended, faulty, waits, MayTake, LeadsByPiece, LeadsByFile, LeadsByReport, LeadsByEvent, LeadsByEvents}
 use Rattle.dap_history.proofs.Along.{closes_for_good, any_events, along_waits}
 use Rattle.dap_history.proofs.GoingBack.{Anything, anything_kept}
 
@@ -111,7 +111,7 @@ unread_event past rest (File file) new left leads here = unread_file past rest r
 unread_event past rest (Report r) new left leads here = unread_report past rest r new left leads.0 leads.1 here
 
 unread_from : (past : History) (rest : Rest) (events : List Incoming) (new : History) (left : Rest)
-    → Leads past rest events new left → Unread past rest → Unread new left
+    → LeadsByEvents past rest events new left → Unread past rest → Unread new left
 unread_from past rest [] new left all here = unread_same past rest new left all.0 all.1 here
 unread_from past rest (e ∷ events) new left all here =
     unread_from all.0 all.1 events new left all.3 (unread_event past rest e all.0 all.1 all.2 here)

@@ -68,12 +68,12 @@ abbrev pub step_line : Block → ℕ → ℕ
 step_line main n = option_map_or (λ s. s.place.line) (slice_get (steps main) n) 0
 
 -- the answer to a line, by how it is resolved; its line is counted as the client counts
-abbrev pub answer_of : Block → ℕ → Resolution → BreakpointAnswer
-answer_of main less (At n) = answer.At (step_line main n - less)
-answer_of main less NoStep = answer.Unverified why.NoStep
-answer_of main less BadCondition = answer.Unverified why.BadCondition
-answer_of main less BadHitCondition = answer.Unverified why.BadHitCondition
-answer_of main less BadLogMessage = answer.Unverified why.BadLogMessage
+abbrev pub answer_to_line : Block → ℕ → Resolution → BreakpointAnswer
+answer_to_line main less (At n) = answer.At (step_line main n - less)
+answer_to_line main less NoStep = answer.Unverified why.NoStep
+answer_to_line main less BadCondition = answer.Unverified why.BadCondition
+answer_to_line main less BadHitCondition = answer.Unverified why.BadHitCondition
+answer_to_line main less BadLogMessage = answer.Unverified why.BadLogMessage
 
 -- ---- the answer
 
@@ -103,12 +103,12 @@ pub record Resolves (past : History) (l : Launched) (lines : List SourceBreakpoi
   pub answers : List Resolution
   pub breakpoints : List Breakpoint
   pub resolved : IsResolved l.program (line_offset past) lines answers breakpoints
-  pub reply_is : reply ≡ causing (body.Breakpoints (map (answer_of l.program (line_offset past)) answers))
+  pub reply_is : reply ≡ causing (body.Breakpoints (map (answer_to_line l.program (line_offset past)) answers))
       (effect_in (situation past) past breakpoints)
 
 -- the source is at this path
-abbrev pub is_at : Option (List ℕ) → List ℕ → Bool
-is_at path other = option_map_or (λ p. bytes_eq p other) path false
+abbrev pub is_same_path : Option (List ℕ) → List ℕ → Bool
+is_same_path path other = option_map_or (λ p. bytes_eq p other) path false
 
 -- the reply where a program is launched, by whether the source is the launched one
 abbrev pub SetsOf : Bool → History → Launched → List SourceBreakpoint → Reply → Type 0
@@ -118,7 +118,7 @@ SetsOf false past l lines reply = reply ≡ other_source lines
 -- the reply where a program is launched
 abbrev pub Sets : History → SetBreakpointsArguments → Reply → Type 0
 Sets past arguments reply =
-    OfProgram (launched past) (λ l. SetsOf (is_at arguments.path l.path) past l arguments.breakpoints reply)
+    OfProgram (launched past) (λ l. SetsOf (is_same_path arguments.path l.path) past l arguments.breakpoints reply)
 
 -- the reply to `setBreakpoints`
 abbrev pub SetsIn : Situation → History → SetBreakpointsArguments → Reply → Type 0

@@ -120,12 +120,13 @@ LeadsByEvent past rest (File file) new left = LeadsByFile past rest rest.launch 
 LeadsByEvent past rest (Report r) new left = LeadsByReport past r new × (left ≡ rest)
 
 -- Events, one after another, lead from the history `past` and the rest to the history `new` and the rest `left`.
-abbrev pub Leads : History → Rest → List Incoming → History → Rest → Type 0
-Leads past rest [] new left = (new ≡ past) × (left ≡ rest)
-Leads past rest (e ∷ events) new left =
-    (mid : History) × (between : Rest) × LeadsByEvent past rest e mid between × Leads mid between events new left
+abbrev pub LeadsByEvents : History → Rest → List Incoming → History → Rest → Type 0
+LeadsByEvents past rest [] new left = (new ≡ past) × (left ≡ rest)
+LeadsByEvents past rest (e ∷ events) new left =
+    (mid : History) × (between : Rest) × LeadsByEvent past rest e mid between
+    × LeadsByEvents mid between events new left
 
 -- The history that a list of events gives, by the first number that the client may use, and what came and isn't taken
 -- yet.
 abbrev pub IsHistoryOf : List Incoming → History → Rest → Type 0
-IsHistoryOf events past rest = Leads [] (only_bytes rest.first []) events past rest
+IsHistoryOf events past rest = LeadsByEvents [] (only_bytes rest.first []) events past rest

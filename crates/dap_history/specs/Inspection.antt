@@ -21,24 +21,24 @@ use Rattle.dap_history.specs.Frames.{Counting, frames_asked, scopes_from, variab
 use Rattle.dap_history.specs.Replies.{Reply, answered, refused, OfProgram, on_thread}
 
 -- What a question is asked of: a program, its path, and how the client counts lines and columns.
-pub record Asked : Type 0 where
+pub record Subject : Type 0 where
   pub program : Block
   pub path : List ℕ
   pub counting : Counting
 
 -- the reply to `stackTrace`
-abbrev pub stack_trace : Asked → StackTraceArguments → Configuration → Reply
+abbrev pub stack_trace : Subject → StackTraceArguments → Configuration → Reply
 stack_trace subject asked c =
     on_thread asked.thread_id (answered (body.StackTrace subject.path
     (frames_asked subject.program subject.counting asked c) (length c)))
 
 -- the reply to `scopes`, by the frame with the id, if there is one
-abbrev pub scopes : Asked → ℕ → Configuration → Option Frame → Reply
+abbrev pub scopes : Subject → ℕ → Configuration → Option Frame → Reply
 scopes subject id c None = refused refusal.UnknownFrame
 scopes subject id c (Some f) = answered (body.Scopes (scopes_from subject.program c (id - 1)))
 
 -- the reply to `variables`, by the frame with the reference, if there is one
-abbrev pub variables : Asked → Option Frame → Reply
+abbrev pub variables : Subject → Option Frame → Reply
 variables subject None = refused refusal.UnknownReference
 variables subject (Some f) = answered (body.Variables (variables_of subject.program f))
 
@@ -72,7 +72,7 @@ EvaluatesIn main c id (Some f) text reply = HasResult main c (id - 1) f text rep
 -- ---- questions
 
 -- the reply to a question, asked where the program is in this configuration
-abbrev pub RepliesFrom : Asked → Configuration → Question → Reply → Type 0
+abbrev pub RepliesFrom : Subject → Configuration → Question → Reply → Type 0
 RepliesFrom subject c (question.StackTrace asked) reply = reply ≡ stack_trace subject asked c
 RepliesFrom subject c (question.Scopes asked) reply =
     reply ≡ scopes subject asked.frame_id c (frame_by_id c asked.frame_id)
@@ -82,13 +82,13 @@ RepliesFrom subject c (question.Evaluate asked) reply =
     EvaluatesIn subject.program c asked.frame_id (frame_by_id c asked.frame_id) asked.expression reply
 
 -- the same, where there is such a configuration
-abbrev pub RepliesAt : Asked → Option Configuration → Question → Reply → Type 0
+abbrev pub RepliesAt : Subject → Option Configuration → Question → Reply → Type 0
 RepliesAt subject None question reply = ⊥
 RepliesAt subject (Some c) question reply = RepliesFrom subject c question reply
 
 -- what a question is asked of in a session
-abbrev pub asked_of : History → Launched → Asked
-asked_of past l =
+abbrev pub subject_in : History → Launched → Subject
+subject_in past l =
     record {
       program = l.program;
       path = l.path;
@@ -99,7 +99,7 @@ asked_of past l =
 -- the reply where the program stands
 abbrev pub Inspects : History → Question → Reply → Type 0
 Inspects past question reply =
-    OfProgram (launched past) (λ l. RepliesAt (asked_of past l) (at l.program (position past)) question reply)
+    OfProgram (launched past) (λ l. RepliesAt (subject_in past l) (at l.program (position past)) question reply)
 
 -- the reply to a question
 abbrev pub InspectsIn : Situation → History → Question → Reply → Type 0

@@ -93,18 +93,18 @@ abbrev pub contents_read : History → Option Launch → List (Option Request)
 contents_read past launch = filter_map read_as (map (λ (step : Step). step.item) past) ++ waiting launch
 
 -- each content is read as this
-abbrev pub AreRead : FirstSeq → List (List ℕ) → List (Option Request) → Type 0
-AreRead first [] [] = Unit {0}
-AreRead first (content ∷ contents) (request ∷ requests) =
-    IsRequestFrom first content request × AreRead first contents requests
-AreRead first _ _ = ⊥
+abbrev pub AreReadAs : FirstSeq → List (List ℕ) → List (Option Request) → Type 0
+AreReadAs first [] [] = Unit {0}
+AreReadAs first (content ∷ contents) (request ∷ requests) =
+    IsRequestFrom first content request × AreReadAs first contents requests
+AreReadAs first _ _ = ⊥
 
 -- However the stream was cut into pieces, the contents taken are, in order, those of its frames.
 abbrev pub ContentsAreOfTheStream : Type 0
 ContentsAreOfTheStream =
     (events : List Incoming) (past : History) (rest : Rest) → IsHistoryOf events past rest
     → (contents : List (List ℕ)) × Frames (stream_of events) contents rest.bytes
-    × AreRead rest.first contents (contents_read past rest.launch)
+    × AreReadAs rest.first contents (contents_read past rest.launch)
 
 -- Two pieces give what they give as one: how the stream was cut changes no message and no order.
 abbrev pub CutsChangeNothing : Type 0
@@ -124,26 +124,27 @@ RestIsOpen =
 -- ---- Answered once
 
 -- the seq and the command that an answer names
-abbrev pub answered : Outgoing → Option (ℕ × CommandName)
-answered (Answer seq command result) = Some (seq, command)
-answered (Event e) = None
+abbrev pub answered_request : Outgoing → Option (ℕ × CommandName)
+answered_request (Answer seq command result) = Some (seq, command)
+answered_request (Event e) = None
 
 -- the seq and the command of the request that an item is, if it is one
-abbrev pub asked : Item → Option (ℕ × CommandName)
-asked (Content None) = None
-asked (Content (Some request)) = Some (request.seq, name_of request.body)
-asked (Loaded launch file) = Some (launch.seq, name.Supported supported.Launch)
-asked (Accepted r) = None
-asked (Fault k) = None
-asked InputEnd = None
-asked ReadFailure = None
-asked MemoryFailure = None
+abbrev pub request_of_item : Item → Option (ℕ × CommandName)
+request_of_item (Content None) = None
+request_of_item (Content (Some request)) = Some (request.seq, name_of request.body)
+request_of_item (Loaded launch file) = Some (launch.seq, name.Supported supported.Launch)
+request_of_item (Accepted r) = None
+request_of_item (Fault k) = None
+request_of_item InputEnd = None
+request_of_item ReadFailure = None
+request_of_item MemoryFailure = None
 
 -- The answers are, in order, one for each well-formed request among the items, under its own seq and command.
 abbrev pub EachIsAnsweredOnce : Type 0
 EachIsAnsweredOnce =
     (events : List Incoming) (past : History) (rest : Rest) → IsHistoryOf events past rest
-    → filter_map answered (messages_of past) ≡ filter_map asked (map (λ (step : Step). step.item) past)
+    → filter_map answered_request (messages_of past) ≡ filter_map request_of_item
+    (map (λ (step : Step). step.item) past)
 
 -- ---- Numbering
 
@@ -233,15 +234,15 @@ log_of (Event (event.Log text)) = Some text
 log_of _ = None
 
 -- the logs that messages report
-abbrev pub logs : List Outgoing → List (List ℕ)
-logs messages = filter_map log_of messages
+abbrev pub log_texts : List Outgoing → List (List ℕ)
+log_texts messages = filter_map log_of messages
 
 -- The logs reported are, in order, those of the positions considered; there are none before a program is launched.
 abbrev pub LogsAreOfPositions : Type 0
 LogsAreOfPositions =
     (events : List Incoming) (past : History) (rest : Rest) → AreLawful events → IsHistoryOf events past rest
-    → ((l : Launched) → launched past ≡ Some l → logs (messages_of past) ≡ logged l past)
-    × (launched past ≡ None → logs (messages_of past) ≡ [])
+    → ((l : Launched) → launched past ≡ Some l → log_texts (messages_of past) ≡ logged l past)
+    × (launched past ≡ None → log_texts (messages_of past) ≡ [])
 
 -- The numbers reported before a log are exactly those of the steps up to the furthest position
 -- that the program has reached then.
@@ -262,4 +263,4 @@ StopsFollowLogs =
     → (l : Launched) → launched (front ++ step ∷ []) ≡ Some l
     → (before : List Outgoing) (reason : StopReason) (after : List Outgoing) → messages step ≡ before
     ++ Event (event.Stopped reason) ∷ after
-    → logs (messages_of front ++ before) ≡ logged l (front ++ step ∷ [])
+    → log_texts (messages_of front ++ before) ≡ logged l (front ++ step ∷ [])

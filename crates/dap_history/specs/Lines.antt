@@ -92,8 +92,8 @@ next_counted true last start = start + 1
 next_counted false last start = option_map_or (λ run. run.counted_from) last 0
 
 -- from where a run that begins at this position counts
-abbrev pub counts_from : History → Launched → Option Outgoing → ℕ → ℕ
-counts_from past l answer start =
+abbrev pub first_counted : History → Launched → Option Outgoing → ℕ → ℕ
+first_counted past l answer start =
     if starts_by answer then 0 else next_counted (are_anew l.path past || is_back past) (last_run past) start
 
 -- The run that starts the program counts from position 0. A later run counts from the position after its beginning if
@@ -104,4 +104,4 @@ EachRunCountsFrom =
     (events : List Incoming) (past : History) (rest : Rest) → AreLawful events → IsHistoryOf events past rest
     → (before : History) (step : Step) (after : History) (run : Heading) → past ≡ before ++ step ∷ after
     → Orders step run
-    → (l : Launched) × (launched before ≡ Some l) × (run.counted_from ≡ counts_from before l step.answer run.start)
+    → (l : Launched) × (launched before ≡ Some l) × (run.counted_from ≡ first_counted before l step.answer run.start)

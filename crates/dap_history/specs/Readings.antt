@@ -79,13 +79,13 @@ situation past = unwrap_or (last_such step_mark past) Fresh
 -- ---- the launched program
 
 -- how the client counts lines and columns, as a successful `initialize` says
-abbrev pub initialize_arguments : Command → Option InitializeArguments
-initialize_arguments (command.Initialize arguments) = Some arguments
-initialize_arguments _ = None
+abbrev pub settings_of : Command → Option InitializeArguments
+settings_of (command.Initialize arguments) = Some arguments
+settings_of _ = None
 
 -- the same for an item with its answer
 abbrev pub settings_by : Item → Option Outgoing → Option InitializeArguments
-settings_by (Content (Some request)) (Some (Answer seq command (Ok body))) = initialize_arguments request.body
+settings_by (Content (Some request)) (Some (Answer seq command (Ok body))) = settings_of request.body
 settings_by _ _ = None
 
 -- lines and columns count from 1

@@ -69,12 +69,12 @@ exception_of run_fault.Depth = exception.Depth
 exception_of run_fault.StepLimit = exception.StepLimit
 
 -- the event that the program stopped
-abbrev pub stops : StopReason → List EventBody
-stops r = event.Stopped r ∷ []
+abbrev pub stopped_events : StopReason → List EventBody
+stopped_events r = event.Stopped r ∷ []
 
 -- the events that the program has ended with this code
-abbrev pub ends : ℕ → List EventBody
-ends code = event.Exited code ∷ event.Terminated ∷ []
+abbrev pub exited_events : ℕ → List EventBody
+exited_events code = event.Exited code ∷ event.Terminated ∷ []
 
 -- ---- logs
 
@@ -83,8 +83,8 @@ abbrev pub text_of_log : List Breakpoint → Log → List ℕ
 text_of_log breakpoints log = log_text (parts_at breakpoints log.number) log.values
 
 -- logs as events
-abbrev pub told_logs : List Breakpoint → List Log → List EventBody
-told_logs breakpoints logs = map (λ log. event.Log (text_of_log breakpoints log)) logs
+abbrev pub log_events : List Breakpoint → List Log → List EventBody
+log_events breakpoints logs = map (λ log. event.Log (text_of_log breakpoints log)) logs
 
 -- ---- the thread
 

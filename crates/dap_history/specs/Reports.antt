@@ -11,7 +11,7 @@ use Rattle.dbg_runner.specs.declared.outcome.SliceOutcome.TheVariants as slice
 use Rattle.dap_history.specs.declared.situation.Situation.TheVariants.{Running}
 use Rattle.dap_history.specs.History.{History, Effect}
 use Rattle.dap_history.specs.Readings.{situation, last_run, runs, position, plan, numbers_told, waiting_plan, waiting_pause}
-use Rattle.dap_history.specs.Replies.{nothing, reporting, stop_of, exception_of, stops, ends, told_logs}
+use Rattle.dap_history.specs.Replies.{nothing, reporting, stop_of, exception_of, stopped_events, exited_events, log_events}
 
 -- A report is accepted while the program is running, if it continues the run that was ordered last.
 pub record Accepts (past : History) (r : PlainReport) : Type 0 where
@@ -24,7 +24,7 @@ pub record Accepts (past : History) (r : PlainReport) : Type 0 where
 
 -- First the report's numbers, in order, without those that were reported before the program went back; then its logs.
 abbrev pub outputs : History → PlainReport → List EventBody
-outputs past r = map event.Output (drop (numbers_told past - r.before) r.numbers) ++ told_logs r.plan r.logs
+outputs past r = map event.Output (drop (numbers_told past - r.before) r.numbers) ++ log_events r.plan r.logs
 
 -- breakpoints that are put in where a report ends count from the next position
 abbrev pub from_next : ℕ → List Breakpoint → Plan
@@ -43,12 +43,12 @@ put_in_by past r =
 
 -- the report's numbers and logs, and then these events; the session has the debuggee, and breakpoints that wait are put
 -- in
-abbrev pub stands : History → PlainReport → List EventBody → Effect
-stands past r events = record nothing { events = outputs past r ++ events; put_in = put_in_by past r }
+abbrev pub stopped_effect : History → PlainReport → List EventBody → Effect
+stopped_effect past r events = record nothing { events = outputs past r ++ events; put_in = put_in_by past r }
 
 -- the program goes on where it was held, in another run in the same mode
-abbrev pub goes_on : History → PlainReport → Effect
-goes_on past r =
+abbrev pub continued_effect : History → PlainReport → Effect
+continued_effect past r =
     let put_in = put_in_by past r in
     let now = unwrap_or put_in (plan past) in
     record nothing {
@@ -67,15 +67,15 @@ goes_on past r =
     }
 
 -- what the report of a held run causes, by whether a pause waits
-abbrev pub held : History → PlainReport → Bool → Effect
-held past r true = stands past r (stops stop.Pause)
-held past r false = goes_on past r
+abbrev pub held_effect : History → PlainReport → Bool → Effect
+held_effect past r true = stopped_effect past r (stopped_events stop.Pause)
+held_effect past r false = continued_effect past r
 
 -- what an accepted report causes
 abbrev pub report_effect : History → PlainReport → SliceOutcome → Effect
 report_effect past r slice.More = reporting (outputs past r)
-report_effect past r (slice.Due reason) = stands past r (stops (stop_of reason))
-report_effect past r slice.Held = held past r (waiting_pause past)
-report_effect past r slice.Done = reporting (outputs past r ++ ends 0)
-report_effect past r (slice.Fault fault) = stands past r (stops (stop.Exception (exception_of fault)))
+report_effect past r (slice.Due reason) = stopped_effect past r (stopped_events (stop_of reason))
+report_effect past r slice.Held = held_effect past r (waiting_pause past)
+report_effect past r slice.Done = reporting (outputs past r ++ exited_events 0)
+report_effect past r (slice.Fault fault) = stopped_effect past r (stopped_events (stop.Exception (exception_of fault)))
 report_effect past r slice.NoMemory = nothing

@@ -21,7 +21,7 @@ use Rattle.dap_history.specs.declared.situation.Situation.TheVariants.{Configuri
 use Rattle.dap_history.specs.History.{Launched, History, Effect}
 use Rattle.dap_history.specs.Readings.{launched, runs, position, plan}
 use Rattle.dap_history.specs.Breakpoints.{hold_once}
-use Rattle.dap_history.specs.Replies.{Reply, nothing, reporting, ordering, answered, refused, causing, OfProgram, stop_of, stops, ends, told_logs, on_thread}
+use Rattle.dap_history.specs.Replies.{Reply, nothing, reporting, ordering, answered, refused, causing, OfProgram, stop_of, stopped_events, exited_events, log_events, on_thread}
 
 -- the order of the next run, which begins at this position under this plan and in this mode
 abbrev pub goes : History → Launched → ℕ → Plan → Mode → List PlainOrder
@@ -49,11 +49,11 @@ first_mode l = if l.stop_on_entry then mode.Entry else mode.Continue
 abbrev pub first_logs : History → Launched → List EventBody
 first_logs past l =
     let now = plan past in
-    told_logs now.breakpoints (logs l.program now.breakpoints now.counted_from 0)
+    log_events now.breakpoints (logs l.program now.breakpoints now.counted_from 0)
 
 -- position 0 logs, and then the program stops there if it is due, or the first run begins there
 abbrev pub enters : History → Launched → Option Reason → Effect
-enters past l (Some r) = reporting (first_logs past l ++ stops (stop_of r))
+enters past l (Some r) = reporting (first_logs past l ++ stopped_events (stop_of r))
 enters past l None = record nothing { events = first_logs past l; orders = resumes past l mode.Continue }
 
 -- the reply to `configurationDone` where a program is launched
@@ -92,7 +92,7 @@ abbrev pub ResumesIn : Situation → History → ResumeKind → ℕ → Reply �
 ResumesIn Running past resume_kind thread reply = reply ≡ refused refusal.NotStopped
 ResumesIn Stopped past resume_kind thread reply = Resumes past resume_kind thread reply
 ResumesIn Faulted past resume_kind thread reply =
-    reply ≡ on_thread thread (causing (body_of resume_kind) (reporting (ends 1)))
+    reply ≡ on_thread thread (causing (body_of resume_kind) (reporting (exited_events 1)))
 ResumesIn _ past resume_kind thread reply = reply ≡ refused refusal.WrongPhase
 
 -- ---- `stepBack`, `reverseContinue`

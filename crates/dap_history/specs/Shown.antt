@@ -43,15 +43,15 @@ abbrev pub HasNone : Configuration → ℕ → Type 0
 HasNone c id = (f : Frame) → ¬ HasId c id f
 
 -- the name of a block's frames: `main`, or the procedure's
-abbrev pub IsNamed : Block → Path → List ℕ → Type 0
-IsNamed main [] word = word ≡ codes "main"
-IsNamed main (k ∷ q) word = (x : Name) → name_at main (k ∷ q) ≡ Some x → word ≡ x.word
+abbrev pub IsBlockName : Block → Path → List ℕ → Type 0
+IsBlockName main [] word = word ≡ codes "main"
+IsBlockName main (k ∷ q) word = (x : Name) → name_at main (k ∷ q) ≡ Some x → word ≡ x.word
 
 -- What is shown of a frame: its id, its name, and where its next step stands, as the client counts.
 pub record ShowsFrame (main : Block) (counting : InitializeArguments) (f : Frame) (id : ℕ) (shown : StackFrame)
     : Type 0 where
   pub id_is : shown.id ≡ id
-  pub name_is : IsNamed main f.block shown.name
+  pub name_is : IsBlockName main f.block shown.name
   pub line_is : (s : StepAt) → next_step main f ≡ Some s
       → shown.line ≡ s.place.line - less_by counting.lines_start_at_1
   pub column_is : (s : StepAt) → next_step main f ≡ Some s
@@ -82,9 +82,9 @@ pub record ShowsStack (l : Launched) (counting : InitializeArguments) (c : Confi
 -- main block's is the last.
 abbrev pub ShowsScopes : Block → Configuration → Frame → ℕ → List Scope → Type 0
 ShowsScopes main c f id [] = ⊥
-ShowsScopes main c f id (s ∷ []) = IsNamed main f.block s.name × (s.reference ≡ id) × (f.block ≡ [])
+ShowsScopes main c f id (s ∷ []) = IsBlockName main f.block s.name × (s.reference ≡ id) × (f.block ≡ [])
 ShowsScopes main c f id (s ∷ t ∷ more) =
-    IsNamed main f.block s.name × (s.reference ≡ id)
+    IsBlockName main f.block s.name × (s.reference ≡ id)
     × ((g : Frame) × HasId c (f.link + 1) g × ShowsScopes main c g (f.link + 1) (t ∷ more))
 
 -- ---- variables

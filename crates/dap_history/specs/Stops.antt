@@ -30,7 +30,7 @@ use Rattle.dap_history.specs.History.{Launched, Content, Accepted, Step, History
 use Rattle.dap_history.specs.Readings.{go, situation, launched, last_run, position, plan, waiting_pause}
 use Rattle.dap_history.specs.Replies.{Reply}
 use Rattle.dbg_plan.specs.declared.mode.Mode.TheVariants as mode
-use Rattle.dap_history.specs.Inspection.{RepliesAt, asked_of}
+use Rattle.dap_history.specs.Inspection.{RepliesAt, subject_in}
 use Rattle.dap_history.specs.Events.{Incoming, Rest, AreLawful, IsHistoryOf}
 
 -- why a position is due, as the client is told
@@ -193,10 +193,10 @@ EachRunStartsThere =
 -- ---- what is asked at a stop
 
 -- the program stands: the last event among beginnings of runs, stops and ends was a stop
-abbrev pub IsStanding : Situation → Type 0
-IsStanding Stopped = Unit {0}
-IsStanding Faulted = Unit {0}
-IsStanding _ = ⊥
+abbrev pub IsStopped : Situation → Type 0
+IsStopped Stopped = Unit {0}
+IsStopped Faulted = Unit {0}
+IsStopped _ = ⊥
 
 -- the program stopped last at position m
 pub record StoppedLastAt (past : History) (m : ℕ) : Type 0 where
@@ -220,7 +220,7 @@ pub record Asks (past before : History) (request : Request) (question : Question
 pub record AnswersFrom (l : Launched) (before : History) (m : ℕ) (request : Request) (question : Question)
     (step : Step) : Type 0 where
   pub reply : Reply
-  pub shown : RepliesAt (asked_of before l) (at l.program m) question reply
+  pub shown : RepliesAt (subject_in before l) (at l.program m) question reply
   pub answer_is : step.answer ≡ Some (Answer request.seq (name_of request.body) reply.result)
 
 -- Where the program stands, frames, scopes, variables and values are those of the launched program at its last stop.
@@ -230,7 +230,7 @@ QuestionsAreAnsweredThere =
     (events : List Incoming) (past : History) (rest : Rest) → IsHistoryOf events past rest
     → (before : History) (request : Request) (question : Question) (step : Step)
     → Asks past before request question step
-    → (IsStanding (situation before) → (l : Launched) × (m : ℕ) × (launched before ≡ Some l) × StoppedLastAt before m
+    → (IsStopped (situation before) → (l : Launched) × (m : ℕ) × (launched before ≡ Some l) × StoppedLastAt before m
     × AnswersFrom l before m request question step)
     × ((b : Body) → step.answer ≡ Some (Answer request.seq (name_of request.body) (Ok b))
-    → IsStanding (situation before))
+    → IsStopped (situation before))

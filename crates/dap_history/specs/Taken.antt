@@ -58,7 +58,7 @@ MayFollow (File file) more = AreOfBytes more
 MayFollow _ more = more ≡ []
 
 -- the steps begin with this item
-pub record BeginsWith (e : Incoming) (item : Item) (steps : History) : Type 0 where
+pub record BeginWithItem (e : Incoming) (item : Item) (steps : History) : Type 0 where
   pub step : Step
   pub more : History
   pub steps_are : steps ≡ step ∷ more
@@ -66,10 +66,10 @@ pub record BeginsWith (e : Incoming) (item : Item) (steps : History) : Type 0 wh
   pub follow : MayFollow e more
 
 -- what an event adds: a piece, what its bytes complete; any other, its item, or nothing where it is none
-abbrev pub Adds : History → Rest → Incoming → History → Type 0
-Adds past rest (Piece piece) steps = AreOfBytes steps
-Adds past rest e steps =
-    ((item : Item) × IsItem past rest e item × BeginsWith e item steps)
+abbrev pub AddsSteps : History → Rest → Incoming → History → Type 0
+AddsSteps past rest (Piece piece) steps = AreOfBytes steps
+AddsSteps past rest e steps =
+    ((item : Item) × IsItem past rest e item × BeginWithItem e item steps)
     ⊎ (((item : Item) → ¬ IsItem past rest e item) × (steps ≡ []))
 
 -- While a session takes items, each event that is one is taken, and nothing is taken that isn't. After that no event
@@ -78,7 +78,7 @@ abbrev pub EventsAreTaken : Type 0
 EventsAreTaken =
     (events : List Incoming) (e : Incoming) (past new : History) (rest left : Rest) → IsHistoryOf events past rest
     → IsHistoryOf (events ++ e ∷ []) new left → rest.first ≡ left.first
-    → (IsTaking past → (steps : History) × (new ≡ past ++ steps) × Adds past rest e steps)
+    → (IsTaking past → (steps : History) × (new ≡ past ++ steps) × AddsSteps past rest e steps)
     × (¬ IsTaking past → new ≡ past)
 
 -- ---- the end of a session

@@ -37,8 +37,8 @@ abbrev pub phase : Option Refusal
 phase = Some refusal.WrongPhase
 
 -- `notStopped`
-abbrev pub runs : Option Refusal
-runs = Some refusal.NotStopped
+abbrev pub not_stopped : Option Refusal
+not_stopped = Some refusal.NotStopped
 
 -- the column of the situation
 abbrev pub column : Situation
@@ -58,10 +58,10 @@ refused_in s (command.Launch asked) = column s phase yes phase phase phase phase
 refused_in s (command.SetBreakpoints asked) = column s phase phase yes yes yes yes yes
 refused_in s command.ConfigurationDone = column s phase phase yes phase phase phase phase
 refused_in s command.Threads = column s phase yes yes yes yes yes yes
-refused_in s (command.Resume kind asked) = column s phase phase phase runs yes yes phase
-refused_in s (command.Retreat kind asked) = column s phase phase phase runs yes yes phase
+refused_in s (command.Resume kind asked) = column s phase phase phase not_stopped yes yes phase
+refused_in s (command.Retreat kind asked) = column s phase phase phase not_stopped yes yes phase
 refused_in s (command.Pause asked) = column s phase phase phase yes yes yes phase
-refused_in s (command.Inspect asked) = column s phase phase phase runs yes yes phase
+refused_in s (command.Inspect asked) = column s phase phase phase not_stopped yes yes phase
 refused_in s command.Disconnect = column s yes yes yes yes yes yes yes
 refused_in s (command.Unsupported text) = Some refusal.Unsupported
 refused_in s (command.BadArguments k) = Some refusal.BadArguments

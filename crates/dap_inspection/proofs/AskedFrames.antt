@@ -9,7 +9,7 @@ use Rattle.pl0_meaning.specs.Values.{Frame, Configuration, frame_at}
 use Rattle.pl0_meaning.specs.Linking.{frame_at-top, frame_at-below, frame_within}
 use Rattle.dap_msg.specs.declared.outgoing.StackFrame.{StackFrame}
 use Rattle.dap_history.specs.Frames.{Counting, shown_frame, shown_frames, at_most}
-use Rattle.dap_inspection.specs.Showing.{IsShownAs, asked_of}
+use Rattle.dap_inspection.specs.Showing.{IsShownAs, count_shown}
 
 -- frame i stands at this index from the top
 shown_at : (main : Block) (counting : Counting) (c : Configuration) (i : ℕ) (f : Frame) (d : StackFrame)
@@ -73,10 +73,11 @@ one_more main counting c start left index shown s lefts lt is before =
 -- as many as are asked for
 pub all_asked : (main : Block) (counting : Counting) (c : Configuration) (start levels left : ℕ)
     → left ≡ length c - start →
-    take (asked_of levels left) (rest_of main counting c start) ≡ at_most levels (rest_of main counting c start)
+    take (count_shown levels left) (rest_of main counting c start) ≡ at_most levels (rest_of main counting c start)
 all_asked main counting c start levels left lefts =
     asked levels (rest_of main counting c start) (lefts ∙ sym (rest_length main counting c start))
   where
-    asked : (levels : ℕ) (xs : List StackFrame) → left ≡ length xs → take (asked_of levels left) xs ≡ at_most levels xs
+    asked : (levels : ℕ) (xs : List StackFrame) → left ≡ length xs → take (count_shown levels left) xs
+        ≡ at_most levels xs
     asked zero xs e = take_all left xs (omega (arith, e))
     asked (suc n) xs e = ap (λ k. take (min (suc n) k) xs) e ∙ take_min (suc n) xs

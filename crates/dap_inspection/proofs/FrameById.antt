@@ -5,19 +5,19 @@ use Rattle.dap_msg.specs.declared.outgoing.Body.TheVariants as body
 use Rattle.dap_msg.specs.declared.outgoing.Refusal.TheVariants as refusal
 use Rattle.dap_msg.specs.declared.outgoing.Scope.{Scope}
 use Rattle.dap_history.specs.Frames.{frame_by_id, scopes_from}
-use Rattle.dap_history.specs.Inspection.{Asked, scopes}
+use Rattle.dap_history.specs.Inspection.{Subject, scopes}
 use Rattle.dap_history.specs.Replies.{answered, refused}
 use Rattle.dap_inspection.proofs.AliveFrames.{none_alive, there}
 
-pub none_with_zero : (of : Asked) (c : Configuration) (id : ℕ) → id ≡ 0
+pub none_with_zero : (of : Subject) (c : Configuration) (id : ℕ) → id ≡ 0
     → refused refusal.UnknownFrame ≡ scopes of id c (frame_by_id c id)
 none_with_zero of c id is = sym (ap (λ n. scopes of id c (frame_by_id c n)) is)
 
-pub none_with_id : (of : Asked) (c : Configuration) (id : ℕ) → length c < id
+pub none_with_id : (of : Subject) (c : Configuration) (id : ℕ) → length c < id
     → refused refusal.UnknownFrame ≡ scopes of id c (frame_by_id c id)
 none_with_id of c id above = sym (ap (scopes of id c) (none_alive c id above))
 
-pub scopes_with_id : (of : Asked) (c : Configuration) (id : ℕ) (found : List Scope) → id ≢ 0 → id ≤ length c →
+pub scopes_with_id : (of : Subject) (c : Configuration) (id : ℕ) (found : List Scope) → id ≢ 0 → id ≤ length c →
     found ≡ scopes_from of.program c (id - 1) → answered (body.Scopes found) ≡ scopes of id c (frame_by_id c id)
 scopes_with_id of c zero found positive alive is = absurd (positive refl)
 scopes_with_id of c (suc i) found positive alive is =

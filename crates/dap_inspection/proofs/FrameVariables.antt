@@ -20,7 +20,7 @@ use Rattle.dap_msg.specs.declared.outgoing.Variable.{Variable}
 use Rattle.dap_msg.specs.declared.outgoing.Body.TheVariants as body
 use Rattle.dap_history.specs.Frames.{named, names_of, frame_by_id, variables_of as variables_of_frame}
 use Rattle.dap_history.specs.Replies.{answered}
-use Rattle.dap_history.specs.Inspection.{Asked, variables as variables_reply}
+use Rattle.dap_history.specs.Inspection.{Subject, variables as variables_reply}
 use Rattle.dap_inspection.specs.Alive.{IsAlive}
 use Rattle.dap_inspection.specs.Locals.{names_in, numbers_of}
 use Rattle.dap_inspection.proofs.AliveFrames.{there, by_id}
@@ -84,7 +84,7 @@ one_more o names k x v number word list lt is at same_number same_word read =
     ∙ ap (λ n. named (map plain_name (take n names)) (numbers_of o)) more
 
 -- those of a frame are what is shown of it
-pub shown : (of : Asked) (main : Block) (c : Configuration) (id i : ℕ) (names : List DeclaredName)
+pub shown : (of : Subject) (main : Block) (c : Configuration) (id i : ℕ) (names : List DeclaredName)
     (list : List Variable) → of.program ≡ main → IsAlive c id i →
     map plain_name names ≡ names_in main (frame_at c i) → list ≡ named (map plain_name names)
     (numbers_of (frame_at c i)) → answered (body.Variables list) ≡ variables_reply of (frame_by_id c id)

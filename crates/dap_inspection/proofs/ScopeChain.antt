@@ -106,19 +106,19 @@ left_of None = 0
 left_of (Some i) = i + 1
 
 -- one link leads from frame i, whose scope this is, to the next
-pub record Leads (main : Block) (c : Configuration) (i : ℕ) (scope : Scope) (next : Option ℕ) : Type 0 where
+pub record LinksTo (main : Block) (c : Configuration) (i : ℕ) (scope : Scope) (next : Option ℕ) : Type 0 where
   pub scopes : scopes_from main c i ≡ scope ∷ rest_from main c next
   pub fewer : left_of next ≤ i
 
 pub leads : (main : Block) (c : Configuration) (i : ℕ) (scope : Scope) (next : Option ℕ) → ∥ AreLinked main c ∥₁ →
     IsScopeOf main (frame_at c (i + 1 - 1)) (i + 1) scope → next ≡ parent_of i (frame_at c i)
-    → Leads main c i scope next
+    → LinksTo main c i scope next
 leads main c i scope next linked is parent =
     let same : i + 1 - 1 ≡ i = omega arith in
     frame i (frame_at c i) refl (subst (λ n. IsScopeOf main (frame_at c n) (i + 1) scope) same is) parent
   where
     frame : (i : ℕ) (o : Option Frame) → frame_at c i ≡ o → IsScopeOf main o (i + 1) scope → next ≡ parent_of i o
-        → Leads main c i scope next
+        → LinksTo main c i scope next
     frame i None at is parent = absurd is
     frame zero (Some f) at is parent = record {
       scopes = lowest_scopes main c f at ∙ ap (λ s. s ∷ []) (sym is)
@@ -136,7 +136,7 @@ leads main c i scope next linked is parent =
         }
 
 pub walked : (main : Block) (c : Configuration) (i : ℕ) (scope : Scope) (here next : Option ℕ) (found all : List Scope)
-    → Leads main c i scope next → here ≡ Some i →
+    → LinksTo main c i scope next → here ≡ Some i →
     found ++ rest_from main c here ≡ all → (found ++ scope ∷ []) ++ rest_from main c next ≡ all
 walked main c i scope here next found all one is before =
     append_assoc found (scope ∷ []) (rest_from main c next)

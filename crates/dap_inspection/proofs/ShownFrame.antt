@@ -11,7 +11,7 @@ use Rattle.pl0_meaning.specs.Values.{Frame}
 use Rattle.pl0_machine.specs.Machine.{program_of, Shows}
 use Rattle.pl0_machine.specs.declared.outcome.FrameView.{FrameView}
 use Rattle.dap_msg.specs.declared.outgoing.StackFrame.{StackFrame}
-use Rattle.dap_history.specs.Frames.{Counting, frame_name, frame_place, line_of, column_of}
+use Rattle.dap_history.specs.Frames.{Counting, frame_name, frame_place, shown_line, shown_column}
 use Rattle.dap_inspection.specs.Showing.{IsShownAs}
 use Rattle.dap_inspection.proofs.UnitTables.{step_within, step_place}
 
@@ -34,7 +34,7 @@ place_is u f view s shows at =
 
 abbrev framed : Counting → ℕ → List ℕ → Option Place → StackFrame
 framed counting id name place =
-    record { id = id; name = name; line = line_of counting place; column = column_of counting place }
+    record { id = id; name = name; line = shown_line counting place; column = shown_column counting place }
 
 pub shown_as : (u : Compiled) (counting : Counting) (o : Option Frame) (view : FrameView) (id line column : ℕ)
     (name : List ℕ) (s : Step) →

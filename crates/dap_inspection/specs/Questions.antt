@@ -5,12 +5,12 @@ use Rattle.dap_msg.specs.declared.outgoing.Refusal.{Refusal}
 use Rattle.dap_msg.specs.declared.requests.initialize.InitializeArguments.{InitializeArguments}
 use Rattle.dbg_plan.specs.Debugged.{Debugged, program_of}
 use Rattle.dap_history.specs.Breakpoints.{offset}
-use Rattle.dap_history.specs.Inspection.{Asked}
+use Rattle.dap_history.specs.Inspection.{Subject}
 use Rattle.dap_history.specs.Replies.{Reply, nothing}
 
 -- the debuggee's program, its path, and how a client with these settings counts
-abbrev pub question_of : Debugged → List ℕ → InitializeArguments → Asked
-question_of d path settings =
+abbrev pub subject_of : Debugged → List ℕ → InitializeArguments → Subject
+subject_of d path settings =
     record {
       program =
           program_of d;

@@ -13,9 +13,9 @@ abbrev pub counting_of : InitializeArguments → Counting
 counting_of settings = record { lines = offset settings.lines_start_at_1; columns = offset settings.columns_start_at_1 }
 
 -- how many of the frames that are left are asked for: at most this many, or all where it is 0
-abbrev pub asked_of : ℕ → ℕ → ℕ
-asked_of zero left = left
-asked_of (suc n) left = min (suc n) left
+abbrev pub count_shown : ℕ → ℕ → ℕ
+count_shown zero left = left
+count_shown (suc n) left = min (suc n) left
 
 -- what is shown of the frame with an id
 abbrev pub IsShownAs : Block → Counting → Option Frame → ℕ → StackFrame → Type 0

@@ -3,7 +3,7 @@
 ghost use Rattle.std.specs.Prelude.{◌≡◌, ◌<◌, IfOk};
 ghost use Rattle.pl0_machine.specs.Machine.{program, frames, frame_of, depth_of};
 ghost use Rattle.dbg_plan.specs.Debugged.{machine_of, program_of, IsConsidered};
-ghost use Rattle.dap_history.specs.Inspection.{Asked, RepliesFrom, result_reply};
+ghost use Rattle.dap_history.specs.Inspection.{Subject, RepliesFrom, result_reply};
 ghost use Rattle.dap_msg.specs.declared.question.Question.TheVariants as question;
 ghost use Rattle.dap_inspection.specs.Questions.{replied};
 ghost use Rattle.dap_inspection.specs.Evaluating.{IsReadIn};
@@ -28,7 +28,7 @@ pub fn evaluate(
     asked: &EvaluateArguments,
 ) -> Result<Result<Body, Refusal>, AllocError>
     requires { IsConsidered debuggee.now }
-    ensures { (of : Asked) → of.program ≡ program_of debuggee.now → IfOk result (λ r. RepliesFrom of (frames (machine_of debuggee.now)) (question.Evaluate asked.now) (replied r)) }
+    ensures { (of : Subject) → of.program ≡ program_of debuggee.now → IfOk result (λ r. RepliesFrom of (frames (machine_of debuggee.now)) (question.Evaluate asked.now) (replied r)) }
 {
     let machine = debuggee.machine();
     let Some(frame) = frame_with_id(machine, asked.frame_id) else {

@@ -7,8 +7,8 @@ ghost use Rattle.dap_history.specs.Breakpoints.{offset};
 ghost use Rattle.dap_history.specs.Frames.{frames_asked};
 ghost use Rattle.dap_history.specs.Inspection.{RepliesFrom};
 ghost use Rattle.dap_msg.specs.declared.question.Question.TheVariants as question;
-ghost use Rattle.dap_inspection.specs.Questions.{question_of, replied};
-ghost use Rattle.dap_inspection.specs.Showing.{counting_of, asked_of, IsShownAs};
+ghost use Rattle.dap_inspection.specs.Questions.{subject_of, replied};
+ghost use Rattle.dap_inspection.specs.Showing.{counting_of, count_shown, IsShownAs};
 
 use crate::frame_name::frame_name;
 use dap_msg::{Body, InitializeArguments, Items, Refusal, StackFrame, StackTraceArguments, Text};
@@ -30,7 +30,7 @@ pub fn stack_trace(
     asked: StackTraceArguments,
 ) -> Result<Result<Body, Refusal>, AllocError>
     requires { IsConsidered debuggee.now }
-    ensures { IfOk result (λ r. RepliesFrom (question_of debuggee.now path.now settings) (frames (machine_of debuggee.now)) (question.StackTrace asked) (replied r)) }
+    ensures { IfOk result (λ r. RepliesFrom (subject_of debuggee.now path.now settings) (frames (machine_of debuggee.now)) (question.StackTrace asked) (replied r)) }
 {
     if asked.thread_id != 1 {
         return Ok(Err(Refusal::UnknownThread));
@@ -66,7 +66,7 @@ fn asked_frames(
 
 /// How many of the `left` frames are asked for: at most `levels`, or all where that is 0.
 fn count_asked(levels: u64, left: usize) -> usize
-    ensures { result ≡ asked_of levels left }
+    ensures { result ≡ count_shown levels left }
 {
     if levels == 0 {
         return left;

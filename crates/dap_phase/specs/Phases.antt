@@ -1,4 +1,4 @@
--- Defines which histories a phase stands for.
+-- Defines which histories a phase represents.
 use Rattle.std.specs.Prelude.{◌≡◌, Option, None, Some}
 use Rattle.pl0_unit.specs.declared.unit.Unit.{Unit as Compiled}
 use Rattle.pl0_machine.specs.Machine.{program_of}
@@ -16,7 +16,7 @@ use Rattle.dap_history.specs.Readings.{situation, settings, launched, last_run, 
 use Rattle.dap_phase.specs.declared.phase.Phase.{Phase}
 use Rattle.dap_phase.specs.declared.phase.Phase.TheVariants as phase
 use Rattle.dap_phase.specs.declared.phase.Target.{Target}
-use Rattle.dap_phase.specs.Runs.{Ordered, heading_in}
+use Rattle.dap_phase.specs.Runs.{OrderedRun, heading_in}
 
 -- ---- the situation, and what waits
 
@@ -66,7 +66,7 @@ pub record IsDebuggee (d : Debugged) (past : History) : Type 0 where
   pub counted_from_is : d.counted_from ≡ (plan past).counted_from
 
 -- The run is the one that was ordered last, come to where the program stands, and the same breakpoints and pause wait.
-pub record IsRun (run : Ordered) (past : History) : Type 0 where
+pub record IsRun (run : OrderedRun) (past : History) : Type 0 where
   pub first : Heading
   pub ordered : last_run past ≡ Some first
   pub goes_on : record first { start = position past } ≡ heading_in (runs past) run
@@ -89,7 +89,7 @@ Keeps (phase.Stopped t d) past = IsTarget t d.unit past × IsDebuggee d past
 Keeps (phase.Faulted t d) past = IsTarget t d.unit past × IsDebuggee d past
 Keeps (phase.Ended t u) past = IsTarget t u.value past
 
--- The phase stands for the history: its situation is the history's, and so is what it keeps.
+-- The phase represents the history: its situation is the history's, and so is what it keeps.
 pub record IsPhase (p : Phase) (past : History) : Type 0 where
   pub situation_is : situation past ≡ situation_of p
   pub keeps : Keeps p past

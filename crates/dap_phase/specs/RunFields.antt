@@ -1,14 +1,14 @@
--- Defines what the fields of a run stand for.
+-- Defines what the fields of a run mean.
 use Rattle.std.specs.Prelude.{option_map}
 use Rattle.std.specs.Arc.{arc_value}
 use Rattle.dbg_plan.specs.Plans.{Listed, breakpoints_of}
 use Rattle.dbg_plan.specs.Breakpoints.{plain_breakpoints}
 use Rattle.dbg_plan.specs.Counting.{MayBePlanOf}
 use Rattle.dap_phase.specs.declared.run.Run.TheInside.{Inside}
-use Rattle.dap_phase.specs.Runs.{Ordered}
+use Rattle.dap_phase.specs.Runs.{OrderedRun}
 
 -- what contracts see of a run with these fields
-abbrev pub ordered_of : Inside → Ordered
+abbrev pub ordered_of : Inside → OrderedRun
 ordered_of r =
     record {
       unit =

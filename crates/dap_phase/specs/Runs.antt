@@ -10,7 +10,7 @@ use Rattle.dbg_runner.specs.Reported.{text_of}
 -- A run of a program in a mode, under breakpoints that count from position `counted_from`. Its next report starts at
 -- `position`. Breakpoints or a pause may wait until the runner returns the debuggee, and `held` says that this was
 -- ordered.
-pub record Ordered : Type 0 where
+pub record OrderedRun : Type 0 where
   pub unit : Compiled
   pub mode : Mode
   pub position : ℕ
@@ -21,8 +21,8 @@ pub record Ordered : Type 0 where
   pub held : Bool
 
 -- a run of this debuggee at its beginning
-abbrev pub begun : Debugged → Mode → Ordered
-begun d mode =
+abbrev pub begun_run : Debugged → Mode → OrderedRun
+begun_run d mode =
     record {
       unit =
           d.unit;
@@ -36,7 +36,7 @@ begun d mode =
     }
 
 -- the heading that the next report must have, where the run has this number
-abbrev pub heading_in : ℕ → Ordered → Heading
+abbrev pub heading_in : ℕ → OrderedRun → Heading
 heading_in number run =
     record {
       run =
@@ -49,8 +49,8 @@ heading_in number run =
     }
 
 -- the run after the order to hold it; a run that goes back isn't held
-abbrev pub asked_back : Ordered → Ordered
-asked_back run = record run { held = run.held || not (goes_back run.mode) }
+abbrev pub ordered_to_hold : OrderedRun → OrderedRun
+ordered_to_hold run = record run { held = run.held || not (goes_back run.mode) }
 
 -- the debuggee with the breakpoints that waited, which count from the next position to be considered
 abbrev pub with_waiting : Option (List Breakpoint) → Debugged → Debugged

@@ -31,12 +31,12 @@ pub struct Run {
 }
 
 impl Model for Run {
-    ghost use Rattle.dap_phase.specs.Runs.{Ordered};
+    ghost use Rattle.dap_phase.specs.Runs.{OrderedRun};
     ghost use Rattle.pl0_unit.specs.contracts.unit.Unit as compiled;
     ghost use Rattle.dbg_plan.specs.Breakpoints.{breakpoint_code};
     ghost use Rattle.std.specs.Coded.{codes};
 
-    ghost Value = { Ordered };
+    ghost Value = { OrderedRun };
 
     ghost coded = { Prim.hlevel (codes, compiled.the_row.coded, breakpoint_code) };
 
@@ -56,7 +56,7 @@ impl Run {
     ghost use Rattle.dbg_runner.specs.Plain.{Go, Hold, heading_of, goes_back as is_backward};
     ghost use Rattle.dbg_runner.specs.Orders.{plain_order};
     ghost use Rattle.dbg_runner.specs.Reported.{heading, plain_report, text_of};
-    ghost use Rattle.dap_phase.specs.Runs.{begun, heading_in, asked_back, with_waiting};
+    ghost use Rattle.dap_phase.specs.Runs.{begun_run, heading_in, ordered_to_hold, with_waiting};
 
     /// Begins the run of this number, and returns it with the order to the runner. Nothing waits.
     ///
@@ -68,7 +68,7 @@ impl Run {
         debuggee: StoppedDebuggee,
         mode: Mode,
     ) -> Result<(Run, Order), AllocError>
-        ensures run { IfOk result (λ r. r.0 ≡ begun debuggee mode) }
+        ensures run { IfOk result (λ r. r.0 ≡ begun_run debuggee mode) }
         ensures order { IfOk result (λ r. plain_order r.1 ≡ Go (heading number debuggee mode)) }
     {
         let of = debuggee.debuggee();
@@ -151,7 +151,7 @@ impl Run {
     /// back.
     pub fn hold(&mut self, number: u64) -> Option<Order>
         ensures order { option_to_list (option_map plain_order result) ≡ (if self.old.held || is_backward self.old.mode then [] else Hold number ∷ []) }
-        ensures held { self.new ≡ asked_back self.old }
+        ensures held { self.new ≡ ordered_to_hold self.old }
     {
         if self.held || goes_back(self.mode) {
             return None;

@@ -10,10 +10,10 @@ use Rattle.dap_msg.specs.declared.outgoing.Body.{Body}
 use Rattle.dap_msg.specs.declared.outgoing.Refusal.{Refusal}
 use Rattle.dap_history.specs.History.{History, Launched}
 use Rattle.dap_history.specs.Readings.{position}
-use Rattle.dap_history.specs.Inspection.{RepliesFrom, RepliesAt, asked_of, Inspects}
+use Rattle.dap_history.specs.Inspection.{RepliesFrom, RepliesAt, subject_in, Inspects}
 use Rattle.dap_history.specs.Replies.{Reply, OfProgram}
 use Rattle.dap_history.specs.Emission.{RepliesIn}
-use Rattle.dap_inspection.specs.Questions.{question_of, replied}
+use Rattle.dap_inspection.specs.Questions.{subject_of, replied}
 use Rattle.dap_phase.specs.declared.phase.Target.{Target}
 use Rattle.dap_phase.specs.declared.phase.Phase.{Phase}
 use Rattle.dap_phase.specs.declared.phase.Phase.TheVariants as phase
@@ -27,7 +27,7 @@ there (Some c) alive = refl
 -- the answer of the debuggee is that of the program where it stands
 pub inspected :
     (t : Target) (d : Debugged) (past : History) → IsTarget t d.unit past → IsDebuggee d past → IsConsidered d
-    → (question : Question) (reply : Reply) → RepliesFrom (question_of d t.path t.settings) (frames (machine_of d))
+    → (question : Question) (reply : Reply) → RepliesFrom (subject_of d t.path t.settings) (frames (machine_of d))
     question reply → Inspects past question reply
 inspected t d past target stands considered question reply from =
     let l : Launched =
@@ -38,11 +38,11 @@ inspected t d past target stands considered question reply from =
       program = program_of
           d.unit;
     } in
-    subst (λ o. OfProgram o (λ l. RepliesAt (asked_of past l) (at l.program (position past)) question reply))
+    subst (λ o. OfProgram o (λ l. RepliesAt (subject_in past l) (at l.program (position past)) question reply))
     (sym target.launched_is)
-    (subst (λ n. RepliesAt (asked_of past l) (at l.program n) question reply) stands.position_is
-    (subst (λ s. RepliesAt (question_of d t.path s) (at l.program d.position) question reply) target.settings_are
-    (subst (λ o. RepliesAt (question_of d t.path t.settings) o question reply)
+    (subst (λ n. RepliesAt (subject_in past l) (at l.program n) question reply) stands.position_is
+    (subst (λ s. RepliesAt (subject_of d t.path s) (at l.program d.position) question reply) target.settings_are
+    (subst (λ o. RepliesAt (subject_of d t.path t.settings) o question reply)
     (sym (there (at l.program d.position) considered.running)) from)))
 
 -- the answer of the debuggee of a phase that stands
@@ -50,7 +50,7 @@ pub answers_there :
     (p : Phase) (t : Target) (kept d : Debugged) → (p ≡ phase.Stopped t kept) ⊎ (p ≡ phase.Faulted t kept) → d ≡ kept
     → IsConsidered d
     → (question : Question) (result : Result Body Refusal)
-    → RepliesFrom (question_of d t.path t.settings) (frames (machine_of d)) question (replied result)
+    → RepliesFrom (subject_of d t.path t.settings) (frames (machine_of d)) question (replied result)
     → (past : History) → IsPhase p past → RepliesIn (situation_of p) past (Inspect question) (replied result)
 answers_there p t kept d stands same considered question result from past phase_is =
     elim stands [

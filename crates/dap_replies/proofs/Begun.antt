@@ -13,7 +13,7 @@ use Rattle.dap_history.specs.Readings.{step_mark, order_mark, message_mark, situ
 use Rattle.dap_history.specs.ReadingLaws.{ReadingsGoOn}
 use Rattle.dap_phase.specs.declared.phase.Phase.TheVariants as phase
 use Rattle.dap_phase.specs.declared.phase.Target.{Target}
-use Rattle.dap_phase.specs.Runs.{begun}
+use Rattle.dap_phase.specs.Runs.{begun_run}
 use Rattle.dap_phase.specs.Phases.{IsTarget, IsDebuggee, IsPhase}
 
 -- The step orders the next run, which is one of this debuggee in this mode. It launches nothing, and takes no settings.
@@ -29,7 +29,8 @@ with_next_run t told = record t { runs = t.runs + 1; told = told }
 -- The debuggee stands where the step leaves it, under the plan that is in force then.
 pub run_begins : ReadingsGoOn → (t : Target) (d : Debugged) (m : Mode) (past : History) (step : Step)
     → IsTarget t d.unit past → IsDebuggee d (past ++ step ∷ []) → OrdersRun t d m step
-    → (told : ℕ) → told ≡ numbers_told (past ++ step ∷ []) → IsPhase (phase.Running (with_next_run t told) (begun d m))
+    → (told : ℕ) → told ≡ numbers_told (past ++ step ∷ []) → IsPhase
+    (phase.Running (with_next_run t told) (begun_run d m))
     (past ++ step ∷ [])
 run_begins laws t d m past step is_t is_d orders told told_is = record {
   situation_is = laws.situation_is past step ∙ ap (λ o. unwrap_or o (situation past)) mark;

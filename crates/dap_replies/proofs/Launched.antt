@@ -23,10 +23,10 @@ use Rattle.dap_replies.specs.declared.effect.Reply.{Reply as Given}
 use Rattle.dap_replies.specs.Answering.{without_effect}
 use Rattle.dap_replies.specs.Launched.{HasBegun, target_of, unstarted}
 use Rattle.dap_replies.specs.Replied.{HasLaunched, launch_step}
-use Rattle.dap_replies.proofs.Stays.{IsQuiet, phase_stays, settings_stay, runs_stay, position_stays, told_stays, plan_stays}
+use Rattle.dap_replies.proofs.Stays.{ChangesNoReading, phase_stays, settings_stay, runs_stay, position_stays, told_stays, plan_stays}
 
 quiet_refusal : (launch : Launch) (file : Option (List ℕ)) (why : Refusal)
-    → IsQuiet (launch_step launch file (refused why))
+    → ChangesNoReading (launch_step launch file (refused why))
 quiet_refusal launch file why =
     record { effect_is = refl; no_mark = refl; sets_none = refl; no_pause = refl; no_end = refl; tells_none = refl }
 

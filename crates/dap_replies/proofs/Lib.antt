@@ -13,7 +13,7 @@ pub mod Launched
 -- A step that orders a run of the debuggee leads to Running; for the functions of `reporting`, `retreating` and
 -- `running`.
 pub mod Begun
--- After a report the phase stands for the history with the report's step; for the functions of `reporting`.
+-- After a report the phase represents the history with the report's step; for the functions of `reporting`.
 pub mod ReportSteps
 -- Which requests are refused, by the situation; for `configuration_done` and `take_standing`.
 pub mod Refused
@@ -22,7 +22,7 @@ pub mod Resumed
 -- Lines that are asked for and answered one after another are all of them; for `asked_lines`, `line_answer` and
 -- `resolved`.
 pub mod Lines
--- What `setBreakpoints` is replied, and that the phase afterwards stands for the longer history; for the functions of
+-- What `setBreakpoints` is replied, and that the phase afterwards represents the longer history; for the functions of
 -- `breakpoints`.
 pub mod SetBreakpoints
 -- The number of reported numbers stays below the bound on steps; for `fresh`.

@@ -12,7 +12,7 @@ use Rattle.dap_history.specs.Running.{ConfiguresIn, ResumesIn, RetreatsIn, retre
 use Rattle.dap_phase.specs.declared.phase.Phase.{Phase}
 use Rattle.dap_phase.specs.declared.phase.Phase.TheVariants as phase
 use Rattle.dap_phase.specs.declared.phase.Target.{Target}
-use Rattle.dap_phase.specs.Runs.{Ordered}
+use Rattle.dap_phase.specs.Runs.{OrderedRun}
 use Rattle.dbg_plan.specs.Debugged.{Debugged}
 use Rattle.dbg_plan.specs.declared.mode.Mode.{Mode}
 use Rattle.dap_phase.specs.Phases.{IsPhase, situation_of}
@@ -44,7 +44,7 @@ refuses_moves p asked why given refuses are = (
 pub nothing_moves : (p : Phase) (past : History) (thread : ℕ)
     → ((t : Target) (d : Debugged) → p ≡ phase.Stopped t d → ⊥)
     → ((t : Target) (d : Debugged) → p ≡ phase.Faulted t d → ⊥)
-    → ((t : Target) (run : Ordered) → p ≡ phase.Running t run → ⊥)
+    → ((t : Target) (run : OrderedRun) → p ≡ phase.Running t run → ⊥)
     → AreRefused (situation_of p) past thread refusal.WrongPhase
 nothing_moves (phase.Stopped t d) past thread not_stopped not_faulted not_running = absurd (not_stopped t d refl)
 nothing_moves (phase.Faulted t d) past thread not_stopped not_faulted not_running = absurd (not_faulted t d refl)

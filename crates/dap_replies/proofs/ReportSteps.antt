@@ -1,4 +1,4 @@
--- Where a report leads: the phase afterwards stands for the history with the report's step.
+-- Where a report leads: the phase afterwards represents the history with the report's step.
 use Rattle.std.proofs.Common.{◌≡◌, ℕ, ◌+◌, ◌-◌, ℤ, List, [], ◌∷◌, ◌++◌, map, drop, length, Bool, true, false, Option, None, Some, refl, sym, subst, ◌∙◌, ap}
 use Rattle.std.specs.Prelude.{unwrap_or, if◌then◌else◌}
 use Rattle.std.specs.List.{filter_map}
@@ -23,18 +23,18 @@ use Rattle.dap_history.specs.Plans.{Plan}
 use Rattle.dap_history.specs.History.{Item, Accepted, Step, History, messages}
 use Rattle.dap_history.specs.ReadingLaws.{ReadingsGoOn}
 use Rattle.dap_history.specs.Readings.{stop_mark, message_mark, situation, settings_by, go, end_of, position, numbers, numbers_told, plan, runs}
-use Rattle.dap_history.specs.Replies.{reporting, stops, ends, told_logs}
-use Rattle.dap_history.specs.Reports.{outputs, from_next, put_in_at, put_in_by, stands, goes_on}
+use Rattle.dap_history.specs.Replies.{reporting, stopped_events, exited_events, log_events}
+use Rattle.dap_history.specs.Reports.{outputs, from_next, put_in_at, put_in_by, stopped_effect, continued_effect}
 use Rattle.dap_history.specs.declared.situation.Situation.TheVariants.{Ended}
 use Rattle.dap_history.proofs.Told.{numbers_in}
 use Rattle.dap_history.proofs.Outputs.{told_numbers, outputs_numbers, outputs_mark}
 use Rattle.dap_phase.specs.declared.phase.Phase.TheVariants as phase
 use Rattle.dap_phase.specs.declared.phase.Target.{Target}
-use Rattle.dap_phase.specs.Runs.{Ordered, begun, heading_in, with_waiting}
+use Rattle.dap_phase.specs.Runs.{OrderedRun, begun_run, heading_in, with_waiting}
 use Rattle.dap_phase.specs.Phases.{IsTarget, IsDebuggee, IsRun, IsPhase}
 use Rattle.dap_phase.proofs.Units.{one_program}
 use Rattle.dap_replies.specs.Replied.{report_step}
-use Rattle.dap_replies.specs.Reporting.{fresh, outputs_after, with_told, Stops, GoesOnWith, standing}
+use Rattle.dap_replies.specs.Reporting.{fresh, outputs_after, with_told, Stops, ContinuesRun, standing}
 use Rattle.dap_replies.proofs.Stays.{situation_stays, settings_stay, launched_stays, last_run_stays, runs_stay, plan_stays, waiting_plan_stays, waiting_pause_stays, held_stays}
 use Rattle.dap_replies.proofs.Begun.{with_next_run, run_begins}
 
@@ -47,7 +47,7 @@ fresh_as t u r past is = ap (λ n. drop (n - r.before) r.numbers) is.told_is
 
 pub outputs_as : (t : Target) (u : Compiled) (r : Reported) (past : History) → IsTarget t u past
     → outputs_after t.told r ≡ outputs past (plain_report r)
-outputs_as t u r past is = ap (λ ns. map event.Output ns ++ told_logs r.plan r.logs) (fresh_as t u r past is)
+outputs_as t u r past is = ap (λ ns. map event.Output ns ++ log_events r.plan r.logs) (fresh_as t u r past is)
 
 -- the step of a report, with what follows what it tells
 abbrev TellsIn : PlainReport → History → Step → List EventBody → Type 0
@@ -83,7 +83,7 @@ no_mark past r =
 
 -- ---- the run goes on
 
-pub report_goes_on : ReadingsGoOn → (t : Target) (run : Ordered) (reported : Reported) (past : History)
+pub report_goes_on : ReadingsGoOn → (t : Target) (run : OrderedRun) (reported : Reported) (past : History)
     → IsPhase (phase.Running t run) past
     → IsPhase (phase.Running (with_told t reported) (record run { position = reported.end }))
     (past ++ report_step (plain_report reported) (reporting (outputs past (plain_report reported))) ∷ [])
@@ -121,19 +121,19 @@ report_goes_on laws t run reported past is = record {
 
 pub report_ends : ReadingsGoOn → (t : Target) (u : Compiled) (reported : Reported) (past : History) → IsTarget t u past
     → (situation (past ++ report_step (plain_report reported)
-    (reporting (outputs past (plain_report reported) ++ ends 0)) ∷ []) ≡ Ended)
+    (reporting (outputs past (plain_report reported) ++ exited_events 0)) ∷ []) ≡ Ended)
     × IsTarget (with_told t reported) u (past ++ report_step (plain_report reported)
-    (reporting (outputs past (plain_report reported) ++ ends 0)) ∷ [])
+    (reporting (outputs past (plain_report reported) ++ exited_events 0)) ∷ [])
 report_ends laws t u reported past is = (
-  laws.situation_is past step ∙ ap (λ mark. unwrap_or mark (situation past)) (outputs_mark past r (ends 0)),
-  target_tells laws t u reported past step (ends 0) refl refl refl is refl refl,
+  laws.situation_is past step ∙ ap (λ mark. unwrap_or mark (situation past)) (outputs_mark past r (exited_events 0)),
+  target_tells laws t u reported past step (exited_events 0) refl refl refl is refl refl,
 )
   where
     r : PlainReport
     r = plain_report reported
 
     step : Step
-    step = report_step r (reporting (outputs past r ++ ends 0))
+    step = report_step r (reporting (outputs past r ++ exited_events 0))
 
 -- ---- the debuggee comes back
 
@@ -201,14 +201,15 @@ put_in_stands true (Some bs) r trail now plan_is counted_is =
     record { unit_is = refl; position_is = refl; breakpoints_are = refl; counted_from_is = refl }
 
 -- the debuggee that came back, with what waited put in
-abbrev pub back : Ordered → Reported → Debugged
+abbrev pub back : OrderedRun → Reported → Debugged
 back run r = with_waiting run.waiting_plan (stopped r (trail_in r.debuggee))
 
 -- the plan in force when what waits is put in where the report ends
 abbrev pub plan_then : History → Reported → Plan
 plan_then past r = unwrap_or (put_in_by past (plain_report r)) (plan past)
 
-pub back_stands : (t : Target) (run : Ordered) (r : Reported) (past : History) → GoesOnWith r t run → IsRun run past
+pub back_stands : (t : Target) (run : OrderedRun) (r : Reported) (past : History) → ContinuesRun r t run
+    → IsRun run past
     → Stands (back run r) r (plan_then past r)
 back_stands t run r past goes is =
     subst (λ waits. Stands (back run r) r
@@ -217,7 +218,7 @@ back_stands t run r past goes is =
     (ap (λ (h : Heading). h.plan) goes ∙ is.breakpoints_are)
     (ap (λ (h : Heading). h.counted_from) goes ∙ is.counted_from_is))
 
-pub back_target : (t : Target) (run : Ordered) (r : Reported) (past : History) → GoesOnWith r t run
+pub back_target : (t : Target) (run : OrderedRun) (r : Reported) (past : History) → ContinuesRun r t run
     → IsPhase (phase.Running t run) past → IsTarget t (back run r).unit past
 back_target t run r past goes is =
     subst (λ u. IsTarget t u past) (sym (back_stands t run r past goes is.keeps.1).unit_is)
@@ -245,20 +246,21 @@ stands_so t d (stop.Exception fault) past there target_is debuggee_is =
     record { situation_is = there; keeps = (target_is, debuggee_is) }
 stands_so t d _ past there target_is debuggee_is = record { situation_is = there; keeps = (target_is, debuggee_is) }
 
-pub report_stands : ReadingsGoOn → (t : Target) (run : Ordered) (r : Reported) (reason : StopReason) (past : History)
-    → GoesOnWith r t run → IsPhase (phase.Running t run) past
+pub report_stands : ReadingsGoOn → (t : Target) (run : OrderedRun) (r : Reported) (reason : StopReason) (past : History)
+    → ContinuesRun r t run → IsPhase (phase.Running t run) past
     → IsPhase (standing (with_told t r) (back run r) reason)
-    (past ++ report_step (plain_report r) (stands past (plain_report r) (stops reason)) ∷ [])
+    (past ++ report_step (plain_report r) (stopped_effect past (plain_report r) (stopped_events reason)) ∷ [])
 report_stands laws t run r reason past goes is =
     stands_so (with_told t r) (back run r) reason (past ++ step ∷ [])
     (laws.situation_is past step ∙ ap (λ mark. unwrap_or mark (situation past))
-    (outputs_mark past (plain_report r) (stops reason)))
-    (target_tells laws t (back run r).unit r past step (stops reason) refl refl refl (back_target t run r past goes is)
+    (outputs_mark past (plain_report r) (stopped_events reason)))
+    (target_tells laws t (back run r).unit r past step (stopped_events reason) refl refl refl
+    (back_target t run r past goes is)
     refl refl)
     (back_debuggee laws (back run r) r past step (back_stands t run r past goes is.keeps.1) refl refl)
   where
     step : Step
-    step = report_step (plain_report r) (stands past (plain_report r) (stops reason))
+    step = report_step (plain_report r) (stopped_effect past (plain_report r) (stopped_events reason))
 
 -- ---- the program goes on as another run
 
@@ -282,7 +284,7 @@ same_heading : (n : ℕ) (d : Debugged) (m : Mode) (h : Heading)
 same_heading n d m h run_is text_is plan_is counted_is mode_is start_is =
     rw (run_is, text_is, plan_is, counted_is, mode_is, start_is)
 
-pub back_heading : (t : Target) (run : Ordered) (r : Reported) (past : History) → GoesOnWith r t run
+pub back_heading : (t : Target) (run : OrderedRun) (r : Reported) (past : History) → ContinuesRun r t run
     → IsPhase (phase.Running t run) past → heading (t.runs + 1) (back run r) run.mode ≡ next_run past r
 back_heading t run r past goes is =
     let so = back_stands t run r past goes is.keeps.1 in
@@ -290,10 +292,10 @@ back_heading t run r past goes is =
     (ap text_of so.unit_is) so.breakpoints_are so.counted_from_is (sym (ap (λ (h : Heading). h.mode) goes))
     so.position_is
 
-pub report_begins_again : ReadingsGoOn → (t : Target) (run : Ordered) (r : Reported) (past : History)
-    → GoesOnWith r t run → IsPhase (phase.Running t run) past
-    → IsPhase (phase.Running (with_next_run t (with_told t r).told) (begun (back run r) run.mode))
-    (past ++ report_step (plain_report r) (goes_on past (plain_report r)) ∷ [])
+pub report_begins_again : ReadingsGoOn → (t : Target) (run : OrderedRun) (r : Reported) (past : History)
+    → ContinuesRun r t run → IsPhase (phase.Running t run) past
+    → IsPhase (phase.Running (with_next_run t (with_told t r).told) (begun_run (back run r) run.mode))
+    (past ++ report_step (plain_report r) (continued_effect past (plain_report r)) ∷ [])
 report_begins_again laws t run r past goes is =
     run_begins laws t (back run r) run.mode past step (back_target t run r past goes is)
     (back_debuggee laws (back run r) r past step (back_stands t run r past goes is.keeps.1) refl refl)
@@ -308,7 +310,7 @@ report_begins_again laws t run r past goes is =
     (ap numbers_in (sym (append-nil (outputs past (plain_report r))))) refl)
   where
     step : Step
-    step = report_step (plain_report r) (goes_on past (plain_report r))
+    step = report_step (plain_report r) (continued_effect past (plain_report r))
 
 -- ---- the debuggee of a report that stops its run
 

@@ -25,9 +25,9 @@ use Rattle.dbg_runner.specs.Reported.{heading}
 use Rattle.dap_history.specs.declared.situation.Situation.TheVariants as situation_is
 use Rattle.dap_history.specs.Last.{or_else, last_such}
 use Rattle.dap_history.specs.History.{Launched, History, Effect}
-use Rattle.dap_history.specs.Readings.{situation, launched, runs, position, plan, initialize_arguments, answer_mark, message_mark}
+use Rattle.dap_history.specs.Readings.{situation, launched, runs, position, plan, settings_of, answer_mark, message_mark}
 use Rattle.dap_history.specs.ReadingLaws.{ReadingsGoOn}
-use Rattle.dap_history.specs.Replies.{Reply, nothing, reporting, ordering, causing, stop_of, stops, ends, told_logs, OfProgram, on_thread}
+use Rattle.dap_history.specs.Replies.{Reply, nothing, reporting, ordering, causing, stop_of, stopped_events, exited_events, log_events, OfProgram, on_thread}
 use Rattle.dap_history.specs.Running.{goes, resumes, first_mode, first_logs, enters, ConfiguresIn, ResumesIn, Retreats, RetreatsIn, retreat_mode, mode_of, body_of}
 use Rattle.dap_history.proofs.Told.{numbers_in, numbers_of_logs, mark_of_logs}
 use Rattle.dap_history.specs.Emission.{RepliesIn}
@@ -90,7 +90,7 @@ abbrev pub goes_after : List EventBody → List PlainOrder → Effect
 goes_after events orders = record nothing { events = events; orders = orders }
 
 pub goes_on : ReadingsGoOn → (command : Command) (t : Target) (d : Debugged) (m : Mode) (body : Body)
-    (events : List EventBody) (past : History) (given : Given) → initialize_arguments command ≡ None
+    (events : List EventBody) (past : History) (given : Given) → settings_of command ≡ None
     → numbers_in events ≡ []
     → IsTarget t d.unit past → IsDebuggee d past → HasGone t d m body events given
     → RepliesIn (situation past) past command (causing body (goes_after events (resumes past (launched_as t d.unit) m)))
@@ -116,14 +116,14 @@ goes_on laws command t d m body events past given sets_none tells_none is_t is_d
 
 -- after these events the program stops where it stands
 pub stops_there : ReadingsGoOn → (command : Command) (t : Target) (d : Debugged) (why : Reason)
-    (events : List EventBody) (past : History) (given : Given) → initialize_arguments command ≡ None
-    → numbers_in (events ++ stops (stop_of why)) ≡ [] → last_such message_mark
-    (map Event (events ++ stops (stop_of why))) ≡ Some situation_is.Stopped
+    (events : List EventBody) (past : History) (given : Given) → settings_of command ≡ None
+    → numbers_in (events ++ stopped_events (stop_of why)) ≡ [] → last_such message_mark
+    (map Event (events ++ stopped_events (stop_of why))) ≡ Some situation_is.Stopped
     → IsTarget t d.unit past → IsDebuggee d past → HasStopped t d why events given
-    → RepliesIn (situation past) past command (causing body.None (reporting (events ++ stops (stop_of why))))
+    → RepliesIn (situation past) past command (causing body.None (reporting (events ++ stopped_events (stop_of why))))
     → HasReplied command past given
 stops_there laws command t d why events past given sets_none tells_none mark is_t is_d stopped replies = record {
-  reply = causing body.None (reporting (events ++ stops (stop_of why)));
+  reply = causing body.None (reporting (events ++ stopped_events (stop_of why)));
   replies = replies;
   gives = record {
     result_is = stopped.result_is;
@@ -137,7 +137,7 @@ stops_there laws command t d why events past given sets_none tells_none mark is_
   phase_is = λ seq.
       let step =
       request_step (record { seq = seq; body = command })
-      (causing body.None (reporting (events ++ stops (stop_of why)))) in
+      (causing body.None (reporting (events ++ stopped_events (stop_of why)))) in
       subst (λ p. IsPhase p (past ++ step ∷ [])) (sym stopped.phase_is) (record {
         situation_is =
             laws.situation_is past step ∙ ap (λ mark. unwrap_or
@@ -160,10 +160,11 @@ over t u past _ ended is_t is = absurd is
 
 -- the program is over
 pub ends_there : ReadingsGoOn → (command : Command) (t : Target) (u : Compiled) (body : Body) (past : History)
-    (given : Given) → initialize_arguments command ≡ None → IsTarget t u past → HasEnded t u body given
-    → RepliesIn (situation past) past command (causing body (reporting (ends 1))) → HasReplied command past given
+    (given : Given) → settings_of command ≡ None → IsTarget t u past → HasEnded t u body given
+    → RepliesIn (situation past) past command (causing body (reporting (exited_events 1)))
+    → HasReplied command past given
 ends_there laws command t u body past given sets_none is_t ended replies = record {
-  reply = causing body (reporting (ends 1));
+  reply = causing body (reporting (exited_events 1));
   replies = replies;
   gives = record {
     result_is = ended.result_is;
@@ -175,7 +176,7 @@ ends_there laws command t u body past given sets_none is_t ended replies = recor
         };
   };
   phase_is = λ seq.
-      let step = request_step (record { seq = seq; body = command }) (causing body (reporting (ends 1))) in
+      let step = request_step (record { seq = seq; body = command }) (causing body (reporting (exited_events 1))) in
       over t u (past ++ step ∷ []) given.effect.phase (laws.situation_is past step)
       (target_stays laws past step refl refl sets_none refl t u is_t) ended.phase_is;
 }
@@ -192,21 +193,22 @@ still_there d past is =
 
 -- what it logs, by the definitions
 logs_as : (t : Target) (d : Debugged) (past : History) → IsPhase (phase.Configuring t d) past
-    → told_logs d.breakpoints (logs_now d) ≡ first_logs past (launched_as t d.unit)
+    → log_events d.breakpoints (logs_now d) ≡ first_logs past (launched_as t d.unit)
 logs_as t d past is =
     let is_d = is.keeps.1 in
     let main = program_of d.unit in
-    ap (λ n. told_logs d.breakpoints (logs main d.breakpoints d.counted_from n)) is.keeps.2
-    ∙ ap (λ n. told_logs d.breakpoints (logs main d.breakpoints n 0)) is_d.counted_from_is
-    ∙ ap (λ bs. told_logs bs (logs main bs (plan past).counted_from 0)) is_d.breakpoints_are
+    ap (λ n. log_events d.breakpoints (logs main d.breakpoints d.counted_from n)) is.keeps.2
+    ∙ ap (λ n. log_events d.breakpoints (logs main d.breakpoints n 0)) is_d.counted_from_is
+    ∙ ap (λ bs. log_events bs (logs main bs (plan past).counted_from 0)) is_d.breakpoints_are
 
 -- the debuggee's logs, told of where it was considered
 pub told_there : (d e : Debugged) (ls : List Log) (events : List EventBody) → e ≡ considered d → ls ≡ logs_now d
-    → events ≡ told_logs e.breakpoints ls → events ≡ told_logs d.breakpoints (logs_now d)
+    → events ≡ log_events e.breakpoints ls → events ≡ log_events d.breakpoints (logs_now d)
 told_there d e ls events e_is ls_are is =
-    is ∙ ap (λ (e : Debugged). told_logs e.breakpoints ls) e_is ∙ ap (told_logs d.breakpoints) ls_are
+    is ∙ ap (λ (e : Debugged). log_events e.breakpoints ls) e_is ∙ ap (log_events d.breakpoints) ls_are
 
-stop_mark_of : (why : Reason) → last_such message_mark (map Event (stops (stop_of why))) ≡ Some situation_is.Stopped
+stop_mark_of : (why : Reason) → last_such message_mark (map Event (stopped_events (stop_of why)))
+    ≡ Some situation_is.Stopped
 stop_mark_of reason.Breakpoint = refl
 stop_mark_of reason.Entry = refl
 stop_mark_of reason.Step = refl
@@ -214,15 +216,15 @@ stop_mark_of reason.Step = refl
 -- position 0 is due
 pub enters_due : ReadingsGoOn → (t : Target) (d e : Debugged) (m : Mode) (why : Reason) (events : List EventBody)
     (past : History) (given : Given) → e ≡ considered d → m ≡ first_mode (launched_as t d.unit) → Some why ≡ due_now d m
-    → events ≡ told_logs d.breakpoints (logs_now d) → HasStopped t e why events given
+    → events ≡ log_events d.breakpoints (logs_now d) → HasStopped t e why events given
     → IsPhase (phase.Configuring t d) past → HasReplied command.ConfigurationDone past given
 enters_due laws t d e m why events past given e_is m_is why_is events_are stopped is =
     let bs = (plan past).breakpoints in
     let ls = logs (program_of d.unit) bs (plan past).counted_from 0 in
     stops_there laws command.ConfigurationDone t (considered d) why (first_logs past (launched_as t d.unit)) past given
     refl
-    (numbers_of_logs bs ls (stops (stop_of why)))
-    (mark_of_logs bs ls (stops (stop_of why)) ∙ stop_mark_of why)
+    (numbers_of_logs bs ls (stopped_events (stop_of why)))
+    (mark_of_logs bs ls (stopped_events (stop_of why)) ∙ stop_mark_of why)
     is.keeps.0 (still_there d past is.keeps.1)
     (subst (λ es. HasStopped t (considered d) why es given) (events_are ∙ logs_as t d past is)
     (subst (λ e. HasStopped t e why events given) e_is stopped))
@@ -231,14 +233,14 @@ enters_due laws t d e m why events past given e_is m_is why_is events_are stoppe
 -- the first run begins there
 pub enters_running : ReadingsGoOn → (t : Target) (d e : Debugged) (m : Mode) (events : List EventBody) (past : History)
     (given : Given) → e ≡ considered d → m ≡ first_mode (launched_as t d.unit) → None ≡ due_now d m
-    → events ≡ told_logs d.breakpoints (logs_now d) → HasGone t e mode.Continue body.None events given
+    → events ≡ log_events d.breakpoints (logs_now d) → HasGone t e mode.Continue body.None events given
     → IsPhase (phase.Configuring t d) past → HasReplied command.ConfigurationDone past given
 enters_running laws t d e m events past given e_is m_is none_due events_are gone is =
     let bs = (plan past).breakpoints in
     let ls = logs (program_of d.unit) bs (plan past).counted_from 0 in
     goes_on laws command.ConfigurationDone t (considered d) mode.Continue body.None
     (first_logs past (launched_as t d.unit)) past given refl
-    (ap numbers_in (sym (append-nil (told_logs bs ls))) ∙ numbers_of_logs bs ls [])
+    (ap numbers_in (sym (append-nil (log_events bs ls))) ∙ numbers_of_logs bs ls [])
     is.keeps.0 (still_there d past is.keeps.1)
     (subst (λ es. HasGone t (considered d) mode.Continue body.None es given) (events_are ∙ logs_as t d past is)
     (subst (λ e. HasGone t e mode.Continue body.None events given) e_is gone))
@@ -277,9 +279,10 @@ pub ends_faulted : ReadingsGoOn → (t : Target) (d : Debugged) (body : Body) (k
     → HasReplied (command.Resume kind asked) past given
 ends_faulted laws t d body kind asked past given one body_is ended is =
     ends_there laws (command.Resume kind asked) t d.unit body past given refl is.keeps.0 ended
-    (subst (λ s. ResumesIn s past kind asked.thread_id (causing body (reporting (ends 1)))) (sym is.situation_is)
-    (ap (λ b. causing b (reporting (ends 1)))
-    body_is ∙ ap (λ n. on_thread n (causing (body_of kind) (reporting (ends 1)))) (sym one)))
+    (subst (λ s. ResumesIn s past kind asked.thread_id (causing body (reporting (exited_events 1))))
+    (sym is.situation_is)
+    (ap (λ b. causing b (reporting (exited_events 1)))
+    body_is ∙ ap (λ n. on_thread n (causing (body_of kind) (reporting (exited_events 1)))) (sym one)))
 
 -- ---- `stepBack` and `reverseContinue`
 

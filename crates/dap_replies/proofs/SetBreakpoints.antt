@@ -24,11 +24,11 @@ use Rattle.dap_history.specs.History.{Step, History}
 use Rattle.dap_history.specs.ReadingLaws.{ReadingsGoOn}
 use Rattle.dap_history.specs.Readings.{order_mark, situation, settings, go, runs, is_back, position, waiting_plan, hold_mark, is_held}
 use Rattle.dap_history.specs.Replies.{Reply, nothing, causing, OfProgram}
-use Rattle.dap_history.specs.Breakpoints.{offset, IsResolved, answer_of, other_source, effect_in, is_at, SetsOf, Sets, SetsIn}
+use Rattle.dap_history.specs.Breakpoints.{offset, IsResolved, answer_to_line, other_source, effect_in, is_same_path, SetsOf, Sets, SetsIn}
 use Rattle.dap_phase.specs.declared.phase.Phase.{Phase}
 use Rattle.dap_phase.specs.declared.phase.Phase.TheVariants as phase
 use Rattle.dap_phase.specs.declared.phase.Target.{Target}
-use Rattle.dap_phase.specs.Runs.{Ordered, heading_in, asked_back}
+use Rattle.dap_phase.specs.Runs.{OrderedRun, heading_in, ordered_to_hold}
 use Rattle.dap_phase.specs.Phases.{situation_of, IsTarget, IsDebuggee, IsRun, IsPhase}
 use Rattle.dap_replies.specs.Replied.{HasReplied, Replies, request_step}
 use Rattle.dap_replies.specs.declared.standing.StandsAt.{StandsAt}
@@ -42,18 +42,18 @@ use Rattle.dap_replies.proofs.Stays.{situation_stays, target_stays, position_sta
 
 sets : (past : History) (t : Target) (u : Compiled) (asked : SetBreakpointsArguments) (reply : Reply)
     → IsTarget t u past
-    → SetsOf (is_at asked.path t.path) past (launched_as t u) asked.breakpoints reply → Sets past asked reply
+    → SetsOf (is_same_path asked.path t.path) past (launched_as t u) asked.breakpoints reply → Sets past asked reply
 sets past t u asked reply target of =
-    subst (λ o. OfProgram o (λ l. SetsOf (is_at asked.path l.path) past l asked.breakpoints reply))
+    subst (λ o. OfProgram o (λ l. SetsOf (is_same_path asked.path l.path) past l asked.breakpoints reply))
     (sym target.launched_is) of
 
 -- lines of another source
 sets_other : (past : History) (t : Target) (u : Compiled) (asked : SetBreakpointsArguments) → IsTarget t u past
-    → not (is_at asked.path t.path) ≡ true → Sets past asked (other_source asked.breakpoints)
+    → not (is_same_path asked.path t.path) ≡ true → Sets past asked (other_source asked.breakpoints)
 sets_other past t u asked target other =
     let reply = other_source asked.breakpoints in
     sets past t u asked reply target (subst (λ b. SetsOf b past (launched_as t u) asked.breakpoints reply)
-    (sym (not-true (is_at asked.path t.path) other)) refl)
+    (sym (not-true (is_same_path asked.path t.path) other)) refl)
 
 pub replies_other : (p : Phase) (past : History) (asked : SetBreakpointsArguments) → is_other p asked.path ≡ true
     → IsPhase p past → SetsIn (situation_of p) past asked (other_source asked.breakpoints)
@@ -69,7 +69,7 @@ replies_other (phase.Ended t u) past asked other is = sets_other past t u.value 
 -- The path is the launched program's, and its lines are answered so.
 pub record AreSet (t : Target) (u : Compiled) (asked : SetBreakpointsArguments) (answers : List BreakpointAnswer)
     (bs : List Breakpoint) : Type 0 where
-  pub same : is_at asked.path t.path ≡ true
+  pub same : is_same_path asked.path t.path ≡ true
   pub answered : AreAnswered (program_of u) (offset t.settings.lines_start_at_1) asked.breakpoints answers bs
 
 pub sets_here : (past : History) (t : Target) (u : Compiled) (asked : SetBreakpointsArguments)
@@ -88,9 +88,11 @@ sets_here past t u asked answers bs s is target are =
           target.settings_are are.answered.resolved;
       reply_is =
           ap (λ l. causing (body.Breakpoints l) (effect_in s past bs))
-          (are.answered.answers_are ∙ ap (λ (i : InitializeArguments). map (answer_of main (offset i.lines_start_at_1))
+          (are.answered.answers_are ∙ ap (λ (i : InitializeArguments). map
+          (answer_to_line main (offset i.lines_start_at_1))
           found) target.settings_are)
-          ∙ ap (λ x. causing (body.Breakpoints (map (answer_of main (offset (settings past).lines_start_at_1)) found))
+          ∙ ap (λ x. causing (body.Breakpoints (map
+          (answer_to_line main (offset (settings past).lines_start_at_1)) found))
           (effect_in x past bs)) (sym is);
     }))
 
@@ -202,20 +204,20 @@ once_held false true n = refl
 once_held false false n = refl
 
 -- the last run goes back where its mode does
-pub back_as : (past : History) (run : Ordered) → IsRun run past → is_back past ≡ goes_back run.mode
+pub back_as : (past : History) (run : OrderedRun) → IsRun run past → is_back past ≡ goes_back run.mode
 back_as past run is =
     ap (λ (o : Option Heading). option_map_or (λ (h : Heading). goes_back h.mode) o false) is.ordered
     ∙ ap (λ (h : Heading). goes_back h.mode) is.goes_on
 
 -- the order is asked for as the definitions say
-pub once_as : (past : History) (run : Ordered) → IsRun run past → run.held || goes_back run.mode ≡ is_held past
+pub once_as : (past : History) (run : OrderedRun) → IsRun run past → run.held || goes_back run.mode ≡ is_held past
     || is_back past
 once_as past run is =
     ap (λ h. h || goes_back run.mode) is.held_is ∙ ap (λ b. is_held past || b) (sym (back_as past run is))
 
-pub held_after : ReadingsGoOn → (past : History) (step : Step) (run : Ordered) → IsRun run past
+pub held_after : ReadingsGoOn → (past : History) (step : Step) (run : OrderedRun) → IsRun run past
     → step.effect.orders ≡ once (is_held past || is_back past) (runs past)
-    → (asked_back run).held ≡ is_held (past ++ step ∷ [])
+    → (ordered_to_hold run).held ≡ is_held (past ++ step ∷ [])
 held_after laws past step run is orders_are =
     ap (λ h. h || not (goes_back run.mode)) is.held_is
     ∙ ap (λ b. is_held past || not b) (sym (back_as past run is))
@@ -223,9 +225,9 @@ held_after laws past step run is orders_are =
     ∙ ap (λ os. unwrap_or (last_such hold_mark os) (is_held past)) (sym orders_are)
     ∙ sym (laws.held_is past step)
 
-run_waits : ReadingsGoOn → (past : History) (run : Ordered) (bs : List Breakpoint) (seq : ℕ)
+run_waits : ReadingsGoOn → (past : History) (run : OrderedRun) (bs : List Breakpoint) (seq : ℕ)
     (asked : SetBreakpointsArguments) (answers : List BreakpointAnswer) → IsRun run past
-    → IsRun (asked_back (record run { waiting_plan = Some bs }))
+    → IsRun (ordered_to_hold (record run { waiting_plan = Some bs }))
     (past ++ set_step seq asked (causing (body.Breakpoints answers) (effect_in Running past bs)) ∷ [])
 run_waits laws past run bs seq asked answers is =
     let step = set_step seq asked (causing (body.Breakpoints answers) (effect_in Running past bs)) in
@@ -245,10 +247,10 @@ run_waits laws past run bs seq asked answers is =
       held_is = held_after laws past step run is refl;
     }
 
-pub waits_in_run : ReadingsGoOn → (t : Target) (run now : Ordered) (asked : SetBreakpointsArguments)
+pub waits_in_run : ReadingsGoOn → (t : Target) (run now : OrderedRun) (asked : SetBreakpointsArguments)
     (answers : List BreakpointAnswer) (bs : List Breakpoint) (order : Option Order) → AreSet t run.unit asked answers bs
     → option_to_list (option_map plain_order order) ≡ once (run.held || goes_back run.mode) t.runs
-    → now ≡ asked_back (record run { waiting_plan = Some bs })
+    → now ≡ ordered_to_hold (record run { waiting_plan = Some bs })
     → Replies (command.SetBreakpoints asked) (phase.Running t run) (with_order answers order (phase.Running t now))
 waits_in_run laws t run now asked answers bs order are order_is now_is past is =
     let reply = causing (body.Breakpoints answers) (effect_in Running past bs) in record {

@@ -21,7 +21,7 @@ use Rattle.dap_history.specs.Replies.{nothing, refused}
 use Rattle.dap_phase.specs.declared.phase.Phase.{Phase}
 use Rattle.dap_phase.specs.declared.phase.Phase.TheVariants as phase
 use Rattle.dap_phase.specs.declared.phase.Target.{Target}
-use Rattle.dap_phase.specs.Runs.{Ordered, heading_in}
+use Rattle.dap_phase.specs.Runs.{OrderedRun, heading_in}
 use Rattle.dap_phase.specs.Phases.{IsUnlaunched, IsTarget, IsDebuggee, IsRun, IsPhase, Keeps}
 use Rattle.dap_replies.specs.Replied.{request_step}
 
@@ -128,7 +128,7 @@ debuggee_stays laws past step puts_none no_end d is = record {
 
 pub run_stays : ReadingsGoOn → (past : History) (step : Step) → filter_map go step.effect.orders ≡ []
     → step.effect.put_in ≡ None → step.effect.waits ≡ None → is_pause step.answer ≡ None
-    → last_such hold_mark step.effect.orders ≡ None → end_of step.item ≡ None → (run : Ordered) → IsRun run past
+    → last_such hold_mark step.effect.orders ≡ None → end_of step.item ≡ None → (run : OrderedRun) → IsRun run past
     → IsRun run (past ++ step ∷ [])
 run_stays laws past step no_go puts_none waits_none no_pause no_hold no_end run is = record {
   first = is.first;
@@ -173,7 +173,7 @@ still_debuggee : ReadingsGoOn → (past : History) (step : Step) → IsStill ste
     → IsDebuggee d (past ++ step ∷ [])
 still_debuggee laws past step still = debuggee_stays laws past step still.puts_none still.no_end
 
-still_run : ReadingsGoOn → (past : History) (step : Step) → IsStill step → (run : Ordered) → IsRun run past
+still_run : ReadingsGoOn → (past : History) (step : Step) → IsStill step → (run : OrderedRun) → IsRun run past
     → IsRun run (past ++ step ∷ [])
 still_run laws past step still =
     run_stays laws past step still.no_go still.puts_none still.waits_none still.no_pause still.no_hold still.no_end
@@ -203,7 +203,7 @@ still_stays laws p past step still is = record {
 }
 
 -- the step causes nothing, and its item and answer change no reading but the next seq
-pub record IsQuiet (step : Step) : Type 0 where
+pub record ChangesNoReading (step : Step) : Type 0 where
   pub effect_is : step.effect ≡ nothing
   pub no_mark : step_mark step ≡ None
   pub sets_none : settings_by step.item step.answer ≡ None
@@ -211,7 +211,7 @@ pub record IsQuiet (step : Step) : Type 0 where
   pub no_end : end_of step.item ≡ None
   pub tells_none : numbers (messages step) ≡ []
 
-pub quiet_is_still : (step : Step) → IsQuiet step → IsStill step
+pub quiet_is_still : (step : Step) → ChangesNoReading step → IsStill step
 quiet_is_still step quiet = record {
   launches_none = ap (λ (e : Effect). e.launched) quiet.effect_is;
   no_go = ap (λ (e : Effect). filter_map go e.orders) quiet.effect_is;
@@ -225,7 +225,7 @@ quiet_is_still step quiet = record {
   tells_none = quiet.tells_none;
 }
 
-pub phase_stays : ReadingsGoOn → (p : Phase) (past : History) (step : Step) → IsQuiet step → IsPhase p past
+pub phase_stays : ReadingsGoOn → (p : Phase) (past : History) (step : Step) → ChangesNoReading step → IsPhase p past
     → IsPhase p (past ++ step ∷ [])
 phase_stays laws p past step quiet is = still_stays laws p past step (quiet_is_still step quiet) is
 
@@ -235,7 +235,7 @@ refused_pause seq (name.Supported supported.Pause) why = refl
 refused_pause seq _ why = refl
 
 -- a refused request leads nowhere, whatever was asked
-pub refusal_is_quiet : (request : Request) (why : Refusal) → IsQuiet (request_step request (refused why))
+pub refusal_is_quiet : (request : Request) (why : Refusal) → ChangesNoReading (request_step request (refused why))
 refusal_is_quiet request why = record {
   effect_is = refl;
   no_mark = refl;

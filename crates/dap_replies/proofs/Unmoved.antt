@@ -8,7 +8,7 @@ use Rattle.dap_msg.specs.declared.outgoing.Outgoing.TheVariants.{Answer}
 use Rattle.dap_msg.specs.declared.outgoing.Refusal.{Refusal}
 use Rattle.dap_history.specs.History.{History}
 use Rattle.dap_history.specs.ReadingLaws.{ReadingsGoOn}
-use Rattle.dap_history.specs.Readings.{answer_mark, initialize_arguments, is_pause}
+use Rattle.dap_history.specs.Readings.{answer_mark, settings_of, is_pause}
 use Rattle.dap_history.specs.Replies.{Reply, nothing}
 use Rattle.dap_history.specs.Emission.{RepliesIn}
 use Rattle.dap_phase.specs.declared.phase.Phase.{Phase}
@@ -16,11 +16,11 @@ use Rattle.dap_phase.specs.Phases.{IsPhase, situation_of}
 use Rattle.dap_replies.specs.Replied.{HasReplied, request_step}
 use Rattle.dap_replies.specs.Answering.{LeadsNowhere, without_effect}
 use Rattle.dap_replies.proofs.Situations.{replies_there}
-use Rattle.dap_replies.proofs.Stays.{IsQuiet, phase_stays}
+use Rattle.dap_replies.proofs.Stays.{ChangesNoReading, phase_stays}
 
 pub quiet_reply :
     ReadingsGoOn → (phase : Phase) (result : Result Body Refusal) (command : Command)
-    → ((seq : ℕ) → IsQuiet (request_step (record { seq = seq; body = command })
+    → ((seq : ℕ) → ChangesNoReading (request_step (record { seq = seq; body = command })
     (record { result = result; effect = nothing })))
     → (past : History) → IsPhase phase past → RepliesIn (situation_of phase) past command
     (record { result = result; effect = nothing })
@@ -44,7 +44,7 @@ no_mark (command.BadArguments k) result leads = absurd leads
 no_mark _ (Ok body) leads = refl
 no_mark _ (Err why) leads = refl
 
-sets_none : (command : Command) → LeadsNowhere command → initialize_arguments command ≡ None
+sets_none : (command : Command) → LeadsNowhere command → settings_of command ≡ None
 sets_none (command.Initialize asked) leads = absurd leads
 sets_none _ leads = refl
 
@@ -56,7 +56,8 @@ no_pause seq _ result leads = refl
 
 -- an answer to such a command is quiet
 pub leads_nowhere : (command : Command) (result : Result Body Refusal) → LeadsNowhere command → (seq : ℕ)
-    → IsQuiet (request_step (record { seq = seq; body = command }) (record { result = result; effect = nothing }))
+    → ChangesNoReading (request_step (record { seq = seq; body = command })
+    (record { result = result; effect = nothing }))
 leads_nowhere command (Ok body) leads seq = record {
   effect_is = refl;
   no_mark = no_mark command (Ok body) leads;

@@ -34,8 +34,8 @@ Refuses why phase given =
     → RepliesIn (situation_of phase) past command (refused why) → HasReplied command past given
 
 -- The reply is right for each command that is to be answered with this result and has no effect.
-abbrev pub Answers : Result Body Refusal → Phase → Given → Type 0
-Answers result phase given =
+abbrev pub AnswersOnly : Result Body Refusal → Phase → Given → Type 0
+AnswersOnly result phase given =
     (command : Command) → LeadsNowhere command → (past : History) → IsPhase phase past
     → RepliesIn (situation_of phase) past command (record { result = result; effect = nothing })
     → HasReplied command past given

@@ -11,8 +11,8 @@ use Rattle.pl0_unit.specs.declared.unit.Unit.{Unit as Compiled}
 use Rattle.dbg_runner.specs.Orders.{plain_order}
 use Rattle.dbg_runner.specs.Plain.{Go, Hold, goes_back}
 use Rattle.dbg_runner.specs.Reported.{heading}
-use Rattle.dap_history.specs.Replies.{ends, stop_of, stops}
-use Rattle.dap_phase.specs.Runs.{Ordered, begun, asked_back}
+use Rattle.dap_history.specs.Replies.{exited_events, stop_of, stopped_events}
+use Rattle.dap_phase.specs.Runs.{OrderedRun, begun_run, ordered_to_hold}
 use Rattle.dap_phase.specs.declared.phase.Phase.{Phase}
 use Rattle.dap_phase.specs.declared.phase.Phase.TheVariants as phase
 use Rattle.dap_phase.specs.declared.phase.Target.{Target}
@@ -26,13 +26,13 @@ pub record HasGone (t : Target) (d : Debugged) (m : Mode) (body : Body) (events 
   pub result_is : given.result ≡ Ok body
   pub events_are : given.effect.events ≡ events
   pub orders_are : option_to_list (option_map plain_order given.effect.order) ≡ Go (heading (t.runs + 1) d m) ∷ []
-  pub phase_is : given.effect.phase ≡ phase.Running (record t { runs = t.runs + 1 }) (begun d m)
+  pub phase_is : given.effect.phase ≡ phase.Running (record t { runs = t.runs + 1 }) (begun_run d m)
 
 -- after these events the program stops where it stands
 pub record HasStopped (t : Target) (d : Debugged) (reason : Reason) (events : List EventBody) (given : Reply) : Type 0
   where
     pub result_is : given.result ≡ Ok body.None
-    pub events_are : given.effect.events ≡ events ++ stops (stop_of reason)
+    pub events_are : given.effect.events ≡ events ++ stopped_events (stop_of reason)
     pub order_is : given.effect.order ≡ None
     pub phase_is : given.effect.phase ≡ phase.Stopped t d
 
@@ -44,17 +44,17 @@ IsOver target unit _ = ⊥
 -- the program has ended with the code 1
 pub record HasEnded (t : Target) (u : Compiled) (body : Body) (given : Reply) : Type 0 where
   pub result_is : given.result ≡ Ok body
-  pub events_are : given.effect.events ≡ ends 1
+  pub events_are : given.effect.events ≡ exited_events 1
   pub order_is : given.effect.order ≡ None
   pub phase_is : IsOver t u given.effect.phase
 
 -- a pause waits in this run
-pub record WaitsToPause (t : Target) (run : Ordered) (given : Reply) : Type 0 where
+pub record WaitsToPause (t : Target) (run : OrderedRun) (given : Reply) : Type 0 where
   pub result_is : given.result ≡ Ok body.None
   pub events_are : given.effect.events ≡ []
   pub orders_are : option_to_list (option_map plain_order given.effect.order) ≡ (if run.held
       || goes_back run.mode then [] else Hold t.runs ∷ [])
-  pub phase_is : given.effect.phase ≡ phase.Running t (asked_back (record run { waiting_pause = true }))
+  pub phase_is : given.effect.phase ≡ phase.Running t (ordered_to_hold (record run { waiting_pause = true }))
 
 -- the phase of a program that stands so
 abbrev pub phase_at : StandsAt → Target → Debugged → Phase
@@ -62,7 +62,7 @@ phase_at stands_at.Stop t d = phase.Stopped t d
 phase_at stands_at.Fault t d = phase.Faulted t d
 
 -- the program stands
-abbrev pub Stands : Phase → Type 0
-Stands (phase.Stopped t d) = Unit {0}
-Stands (phase.Faulted t d) = Unit {0}
-Stands _ = ⊥
+abbrev pub IsAtStop : Phase → Type 0
+IsAtStop (phase.Stopped t d) = Unit {0}
+IsAtStop (phase.Faulted t d) = Unit {0}
+IsAtStop _ = ⊥

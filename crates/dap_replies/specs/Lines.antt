@@ -9,7 +9,7 @@ use Rattle.dbg_plan.specs.Breakpoints.{Breakpoint}
 use Rattle.dbg_plan.specs.declared.resolving.Resolution.{Resolution}
 use Rattle.dbg_plan.specs.declared.resolving.Resolution.TheVariants.{At}
 use Rattle.dbg_runner.specs.declared.order.Order.{Order}
-use Rattle.dap_history.specs.Breakpoints.{IsResolved, answer_of, is_at}
+use Rattle.dap_history.specs.Breakpoints.{IsResolved, answer_to_line, is_same_path}
 use Rattle.dap_phase.specs.declared.phase.Phase.{Phase}
 use Rattle.dap_phase.specs.declared.phase.Phase.TheVariants as phase
 use Rattle.dap_replies.specs.declared.effect.Reply.{Reply as Given}
@@ -19,7 +19,7 @@ pub record AreAnswered (main : Block) (less : ℕ) (lines : List SourceBreakpoin
     (breakpoints : List Breakpoint) : Type 0 where
   pub resolutions : List Resolution
   pub resolved : IsResolved main less lines resolutions breakpoints
-  pub answers_are : answers ≡ map (answer_of main less) resolutions
+  pub answers_are : answers ≡ map (answer_to_line main less) resolutions
 
 -- the step that a line is resolved to, if there is one, is a step of the program
 abbrev pub IsAtStep : Block → Resolution → Type 0
@@ -28,11 +28,11 @@ IsAtStep main _ = Unit {0}
 
 -- a program is launched, and its source isn't at this path
 abbrev pub is_other : Phase → Option (List ℕ) → Bool
-is_other (phase.Configuring t d) path = not (is_at path t.path)
-is_other (phase.Running t run) path = not (is_at path t.path)
-is_other (phase.Stopped t d) path = not (is_at path t.path)
-is_other (phase.Faulted t d) path = not (is_at path t.path)
-is_other (phase.Ended t u) path = not (is_at path t.path)
+is_other (phase.Configuring t d) path = not (is_same_path path t.path)
+is_other (phase.Running t run) path = not (is_same_path path t.path)
+is_other (phase.Stopped t d) path = not (is_same_path path t.path)
+is_other (phase.Faulted t d) path = not (is_same_path path t.path)
+is_other (phase.Ended t u) path = not (is_same_path path t.path)
 is_other _ path = false
 
 -- the reply with these answers, this order or none, and no events

@@ -1,5 +1,5 @@
 -- Defines the contract of the functions that handle an item: the answer, the events and the order are those of the
--- definitions, and the phase afterwards stands for the history with the item's step.
+-- definitions, and the phase afterwards represents the history with the item's step.
 use Rattle.std.specs.Prelude.{◌≡◌, ◌++◌, ◌∷◌, [], ℕ, List, Option, None, Some, option_map}
 use Rattle.std.specs.Option.{option_to_list}
 use Rattle.dap_msg.specs.Commands.{name_of}
@@ -46,24 +46,24 @@ report_step r effect = step_of (Accepted r) None effect
 -- ---- what was done
 
 -- the events and the order are those of the effect
-pub record Does (done : Done) (effect : Effect) : Type 0 where
+pub record DoesEffect (done : Done) (effect : Effect) : Type 0 where
   pub events_are : done.events ≡ effect.events
   pub orders_are : option_to_list (option_map plain_order done.order) ≡ effect.orders
 
 -- what was done is the reply of the definitions
-pub record Gives (given : Given) (reply : Reply) : Type 0 where
+pub record GivesReply (given : Given) (reply : Reply) : Type 0 where
   pub result_is : given.result ≡ reply.result
-  pub effect_is : Does given.effect reply.effect
+  pub effect_is : DoesEffect given.effect reply.effect
 
 -- this is a right reply to the command, whatever the seq of its request is
 pub record HasReplied (command : Command) (past : History) (given : Given) : Type 0 where
   pub reply : Reply
   pub replies : RepliesIn (situation past) past command reply
-  pub gives : Gives given reply
+  pub gives : GivesReply given reply
   pub phase_is : (seq : ℕ) → IsPhase given.effect.phase
       (past ++ request_step (record { seq = seq; body = command }) reply ∷ [])
 
--- the contract of a function that replies: the same for each history that the phase stood for
+-- the contract of a function that replies: the same for each history that the phase represented
 abbrev pub Replies : Command → Phase → Given → Type 0
 Replies command phase given = (past : History) → IsPhase phase past → HasReplied command past given
 
@@ -71,10 +71,10 @@ Replies command phase given = (past : History) → IsPhase phase past → HasRep
 pub record HasLaunched (launch : Launch) (file : Option (List ℕ)) (past : History) (given : Given) : Type 0 where
   pub reply : Reply
   pub launches : Launches launch.arguments file reply
-  pub gives : Gives given reply
+  pub gives : GivesReply given reply
   pub phase_is : IsPhase given.effect.phase (past ++ launch_step launch file reply ∷ [])
 
 -- this is what follows the report
 pub record HasReported (r : PlainReport) (past : History) (done : Done) : Type 0 where
-  pub does : Does done (report_effect past r r.outcome)
+  pub does : DoesEffect done (report_effect past r r.outcome)
   pub phase_is : IsPhase done.phase (past ++ report_step r (report_effect past r r.outcome) ∷ [])

@@ -10,14 +10,14 @@ use Rattle.dbg_runner.specs.declared.outcome.SliceOutcome.{SliceOutcome}
 use Rattle.dbg_runner.specs.declared.outcome.SliceOutcome.TheVariants as slice
 use Rattle.dbg_runner.specs.Reported.{Reported, plain_report}
 use Rattle.dap_history.specs.History.{History, Effect}
-use Rattle.dap_history.specs.Replies.{told_logs}
+use Rattle.dap_history.specs.Replies.{log_events}
 use Rattle.dap_phase.specs.declared.phase.Target.{Target}
 use Rattle.dap_phase.specs.declared.phase.Phase.{Phase}
 use Rattle.dap_phase.specs.declared.phase.Phase.TheVariants as phase
-use Rattle.dap_phase.specs.Runs.{Ordered, heading_in}
+use Rattle.dap_phase.specs.Runs.{OrderedRun, heading_in}
 use Rattle.dap_phase.specs.Phases.{IsPhase}
 use Rattle.dap_replies.specs.declared.effect.Effect.{Effect as Done}
-use Rattle.dap_replies.specs.Replied.{Does, report_step}
+use Rattle.dap_replies.specs.Replied.{DoesEffect, report_step}
 
 -- the numbers of a report that weren't reported before, where `told` numbers were
 abbrev pub fresh : ℕ → Reported → List ℤ
@@ -25,7 +25,7 @@ fresh told r = drop (told - r.before) r.numbers
 
 -- these numbers and the logs of the report, as events
 abbrev pub outputs_after : ℕ → Reported → List EventBody
-outputs_after told r = map event.Output (fresh told r) ++ told_logs r.plan r.logs
+outputs_after told r = map event.Output (fresh told r) ++ log_events r.plan r.logs
 
 -- the target after these numbers were reported
 abbrev pub with_told : Target → Reported → Target
@@ -39,20 +39,20 @@ Stops (slice.Fault fault) = Unit {0}
 Stops _ = ⊥
 
 -- the report continues the run
-abbrev pub GoesOnWith : Reported → Target → Ordered → Type 0
-GoesOnWith report target run = heading_of (plain_report report) ≡ heading_in target.runs run
+abbrev pub ContinuesRun : Reported → Target → OrderedRun → Type 0
+ContinuesRun report target run = heading_of (plain_report report) ≡ heading_in target.runs run
 
 -- the phase of a program that stands for this reason
 abbrev pub standing : Target → Debugged → StopReason → Phase
 standing target d (stop.Exception fault) = phase.Faulted target d
 standing target d _ = phase.Stopped target d
 
--- the report has this effect, and the phase afterwards stands for the history with it
-pub record HasEffect (report : Reported) (effect : Effect) (past : History) (done : Done) : Type 0 where
-  pub does : Does done effect
+-- the report has this effect, and the phase afterwards represents the history with it
+pub record ReportCauses (report : Reported) (effect : Effect) (past : History) (done : Done) : Type 0 where
+  pub does : DoesEffect done effect
   pub phase_is : IsPhase done.phase (past ++ report_step (plain_report report) effect ∷ [])
 
--- the same for each history that the phase with this run stands for
-abbrev pub Leads : Target → Ordered → Reported → (History → Effect) → Done → Type 0
-Leads target run report effect done =
-    (past : History) → IsPhase (phase.Running target run) past → HasEffect report (effect past) past done
+-- the same for each history that the phase with this run represents
+abbrev pub FollowsReport : Target → OrderedRun → Reported → (History → Effect) → Done → Type 0
+FollowsReport target run report effect done =
+    (past : History) → IsPhase (phase.Running target run) past → ReportCauses report (effect past) past done

@@ -8,7 +8,7 @@ ghost use Rattle.dap_msg.specs.declared.outgoing.BreakpointRefusal.TheVariants a
 ghost use Rattle.pl0_machine.specs.Machine.{program_of};
 ghost use Rattle.dbg_plan.specs.Breakpoints.{plain_breakpoints};
 ghost use Rattle.dbg_plan.specs.Plans.{IsPlanOf};
-ghost use Rattle.dap_history.specs.Breakpoints.{offset, IsAskedAs, AreAskedAs, answer_of, is_at};
+ghost use Rattle.dap_history.specs.Breakpoints.{offset, IsAskedAs, AreAskedAs, answer_to_line, is_same_path};
 ghost use Rattle.dap_phase.specs.declared.phase.Phase.TheVariants as phase_is;
 ghost use Rattle.dap_replies.specs.Going.{phase_at};
 ghost use Rattle.dap_replies.specs.Lines.{AreAnswered, IsAtStep, is_other, with_order};
@@ -81,7 +81,7 @@ fn is_of_other_source(phase: &Phase, asked: &Option<Text>) -> bool
 
 /// Whether a path is the path of the launched program.
 fn is_launched(asked: &Option<Text>, target: &Target) -> bool
-    ensures { result ≡ is_at asked.now target.now.path }
+    ensures { result ≡ is_same_path asked.now target.now.path }
 {
     match asked {
         None => false,
@@ -111,7 +111,7 @@ fn before_start(
     asked: &SetBreakpointsArguments,
 ) -> Result<Reply, AllocError>
     requires within { AreWithin asked.now }
-    requires same { is_at asked.now.path target.path ≡ true }
+    requires same { is_same_path asked.now.path target.path ≡ true }
     ensures { IfOk result (Replies (command.SetBreakpoints asked.now) (phase_is.Configuring target debuggee)) }
 {
     reading_laws();
@@ -128,7 +128,7 @@ fn in_run(
     asked: &SetBreakpointsArguments,
 ) -> Result<Reply, AllocError>
     requires within { AreWithin asked.now }
-    requires same { is_at asked.now.path target.path ≡ true }
+    requires same { is_same_path asked.now.path target.path ≡ true }
     ensures { IfOk result (Replies (command.SetBreakpoints asked.now) (phase_is.Running target run)) }
 {
     reading_laws();
@@ -147,7 +147,7 @@ fn where_it_stands(
     asked: &SetBreakpointsArguments,
 ) -> Result<Reply, AllocError>
     requires within { AreWithin asked.now }
-    requires same { is_at asked.now.path target.path ≡ true }
+    requires same { is_same_path asked.now.path target.path ≡ true }
     ensures { IfOk result (Replies (command.SetBreakpoints asked.now) (phase_at stands target debuggee)) }
 {
     reading_laws();
@@ -180,7 +180,7 @@ fn after_end(
     asked: &SetBreakpointsArguments,
 ) -> Result<Reply, AllocError>
     requires within { AreWithin asked.now }
-    requires same { is_at asked.now.path target.path ≡ true }
+    requires same { is_same_path asked.now.path target.path ≡ true }
     ensures { IfOk result (Replies (command.SetBreakpoints asked.now) (phase_is.Ended target unit)) }
 {
     let (answers, _) = resolved(alloc, &unit, target.settings, asked)?;
@@ -256,7 +256,7 @@ fn line_answers(
     resolutions: &[Resolution],
 ) -> Result<Items<BreakpointAnswer>, AllocError>
     requires { All (IsAtStep (program_of unit.now)) resolutions.now }
-    ensures { IfOk result (λ answers. answers ≡ map (answer_of (program_of unit.now) less) resolutions.now) }
+    ensures { IfOk result (λ answers. answers ≡ map (answer_to_line (program_of unit.now) less) resolutions.now) }
 {
     let mut answers = Vec::with_capacity(alloc, resolutions.len())?;
     for resolution in resolutions {
@@ -268,7 +268,7 @@ fn line_answers(
 /// Returns the answer to a line of the program, by how it was resolved.
 fn line_answer(unit: &Unit, less: u32, resolution: Resolution) -> BreakpointAnswer
     requires { IsAtStep (program_of unit.now) resolution }
-    ensures { result ≡ answer_of (program_of unit.now) less resolution }
+    ensures { result ≡ answer_to_line (program_of unit.now) less resolution }
 {
     match resolution {
         Resolution::At(step) => {

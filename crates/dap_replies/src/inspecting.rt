@@ -7,7 +7,7 @@ ghost use Rattle.dap_msg.specs.declared.command.Command.TheVariants.{Inspect};
 ghost use Rattle.dap_history.specs.History.{History};
 ghost use Rattle.dap_history.specs.Inspection.{RepliesFrom};
 ghost use Rattle.dap_history.specs.Emission.{RepliesIn};
-ghost use Rattle.dap_inspection.specs.Questions.{question_of, replied};
+ghost use Rattle.dap_inspection.specs.Questions.{subject_of, replied};
 ghost use Rattle.dap_phase.specs.Phases.{IsPhase, situation_of};
 ghost use Rattle.dap_replies.specs.Replied.{Replies};
 
@@ -60,7 +60,7 @@ fn ask(
     question: &Question,
 ) -> Result<Result<Body, Refusal>, AllocError>
     requires considered { IsConsidered debuggee.now }
-    ensures { IfOk result (λ r. RepliesFrom (question_of debuggee.now target.now.path target.now.settings) (frames (machine_of debuggee.now)) question.now (replied r)) }
+    ensures { IfOk result (λ r. RepliesFrom (subject_of debuggee.now target.now.path target.now.settings) (frames (machine_of debuggee.now)) question.now (replied r)) }
 {
     match question {
         Question::StackTrace(asked) => {

@@ -1,7 +1,7 @@
 //! What a session does at a request, at the file of a launch and at a report, by its phase.
 //!
 //! The one contract is that of [`reply`]: the answer, the events after it and the order are those that the definitions of
-//! `dap_history` say for any history that the phase stands for, and the phase afterwards stands for the history with that
+//! `dap_history` say for any history that the phase represents, and the phase afterwards represents the history with that
 //! step (`specs/Replied`). [`launch`] has the same contract for the file of a launch, and [`report`] for a report that is
 //! accepted. The commands have files of their own.
 #![tactic(auto)]

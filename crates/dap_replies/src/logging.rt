@@ -4,7 +4,7 @@ ghost use Rattle.std.specs.Prelude.{◌≡◌, ◌++◌, OnOk, option_map};
 ghost use Rattle.std.specs.Arc.{arc_value};
 ghost use Rattle.dbg_plan.specs.PlainParts.{plain_parts};
 ghost use Rattle.dbg_plan.specs.Plans.{breakpoints_of, parts_at};
-ghost use Rattle.dap_history.specs.Replies.{told_logs};
+ghost use Rattle.dap_history.specs.Replies.{log_events};
 
 use dap_msg::{EventBody, Text};
 use dbg_plan::{Log, Part, Plan, log_text};
@@ -22,7 +22,7 @@ pub(crate) fn push_logs(
     logs: &[Log],
     events: &mut Vec<EventBody>,
 ) -> Result<(), AllocError>
-    ensures { OnOk result (events.new.items ≡ events.old.items ++ told_logs (breakpoints_of (option_map arc_value plan.now)) logs.now) }
+    ensures { OnOk result (events.new.items ≡ events.old.items ++ log_events (breakpoints_of (option_map arc_value plan.now)) logs.now) }
 {
     for log in logs {
         let text = log_text(alloc, parts(plan, log.number()), log)?;

@@ -2,7 +2,7 @@
 
 ghost use Rattle.dap_msg.specs.declared.command.Command.TheVariants as command_is;
 ghost use Rattle.dap_phase.specs.declared.phase.Phase.TheVariants as phase_is;
-ghost use Rattle.dap_replies.specs.Going.{Stands, WaitsToPause};
+ghost use Rattle.dap_replies.specs.Going.{IsAtStop, WaitsToPause};
 ghost use Rattle.dap_replies.specs.Replied.{Replies};
 
 use crate::effect::{Effect, Reply};
@@ -60,7 +60,7 @@ fn wait(alloc: Global, target: Target, mut run: Run) -> Reply
 
 /// Replies where the program is stopped already.
 fn remain(alloc: Global, phase: Phase, asked: ThreadArguments) -> Reply
-    requires { Stands phase }
+    requires { IsAtStop phase }
     ensures { Replies (command_is.Pause asked) phase result }
 {
     reading_laws();

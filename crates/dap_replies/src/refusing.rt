@@ -1,7 +1,7 @@
 //! Replies after which the phase is as before.
 
 ghost use Rattle.std.specs.Prelude.{◌≡◌, Ok, Err};
-ghost use Rattle.dap_replies.specs.Answering.{without_effect, Refuses, Answers};
+ghost use Rattle.dap_replies.specs.Answering.{without_effect, Refuses, AnswersOnly};
 
 use crate::effect::{Effect, Reply};
 use dap_history::reading_laws;
@@ -20,14 +20,14 @@ pub(crate) fn refuse(alloc: Global, phase: Phase, why: Refusal) -> Reply
 
 /// Answers a command with success.
 pub(crate) fn answer(alloc: Global, phase: Phase, body: Body) -> Reply
-    ensures { Answers (Ok body) phase result }
+    ensures { AnswersOnly (Ok body) phase result }
 {
     conclude(alloc, phase, Ok(body))
 }
 
 /// Answers a command with a result.
 pub(crate) fn conclude(alloc: Global, phase: Phase, given: Result<Body, Refusal>) -> Reply
-    ensures { Answers given phase result }
+    ensures { AnswersOnly given phase result }
 {
     reading_laws();
     without_effect(alloc, phase, given)

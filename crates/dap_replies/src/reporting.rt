@@ -5,14 +5,14 @@ ghost use Rattle.dbg_runner.specs.declared.outcome.SliceOutcome.TheVariants as s
 ghost use Rattle.dbg_runner.specs.Plain.{heading_of};
 ghost use Rattle.dbg_runner.specs.Reported.{plain_report, stopped, text_of, trail_in};
 ghost use Rattle.dap_history.specs.History.{History};
-ghost use Rattle.dap_history.specs.Replies.{ends, exception_of, reporting, stop_of, stops};
+ghost use Rattle.dap_history.specs.Replies.{exited_events, exception_of, reporting, stop_of, stopped_events};
 ghost use Rattle.dap_history.specs.Readings.{waiting_pause};
-ghost use Rattle.dap_history.specs.Reports.{goes_on, held, outputs, stands};
+ghost use Rattle.dap_history.specs.Reports.{continued_effect, held_effect, outputs, stopped_effect};
 ghost use Rattle.dap_phase.specs.Runs.{heading_in, with_waiting};
 ghost use Rattle.dap_phase.specs.Phases.{IsPhase};
 ghost use Rattle.dap_phase.specs.declared.phase.Phase.TheVariants as phase_is;
 ghost use Rattle.dap_replies.specs.Replied.{HasReported};
-ghost use Rattle.dap_replies.specs.Reporting.{fresh, outputs_after, with_told, Stops, GoesOnWith, Leads, standing};
+ghost use Rattle.dap_replies.specs.Reporting.{fresh, outputs_after, with_told, Stops, ContinuesRun, FollowsReport, standing};
 
 use crate::effect::Effect;
 use crate::logging::push_logs;
@@ -55,7 +55,8 @@ fn keep_running(
     mut run: Run,
     report: &Report,
 ) -> Result<Effect, AllocError>
-    ensures { IfOk result (Leads target run report.now (λ past. reporting (outputs past (plain_report report.now)))) }
+    ensures { IfOk result (FollowsReport target run report.now
+        (λ past. reporting (outputs past (plain_report report.now)))) }
 {
     reading_laws();
     let events = outputs(alloc, target.told, report)?;
@@ -76,9 +77,10 @@ fn stand(
     report: Report,
     reason: StopReason,
 ) -> Result<Effect, AllocError>
-    requires goes_on { GoesOnWith report target run }
+    requires goes_on { ContinuesRun report target run }
     requires stops { Stops report.outcome }
-    ensures { IfOk result (Leads target run report (λ past. stands past (plain_report report) (stops reason))) }
+    ensures { IfOk result (FollowsReport target run report
+        (λ past. stopped_effect past (plain_report report) (stopped_events reason))) }
 {
     reading_laws();
     let mut events = outputs(alloc, target.told, &report)?;
@@ -106,9 +108,10 @@ fn standing(target: Target, debuggee: StoppedDebuggee, reason: StopReason) -> Ph
 
 /// The runner returned the debuggee because it was ordered to: the program stands if a pause waits, and goes on otherwise.
 fn come_back(alloc: Global, target: Target, run: Run, report: Report) -> Result<Effect, AllocError>
-    requires goes_on { GoesOnWith report target run }
+    requires goes_on { ContinuesRun report target run }
     requires stops { Stops report.outcome }
-    ensures { IfOk result (Leads target run report (λ past. held past (plain_report report) (waiting_pause past))) }
+    ensures { IfOk result (FollowsReport target run report
+        (λ past. held_effect past (plain_report report) (waiting_pause past))) }
 {
     if run.waits_to_pause() {
         stand(alloc, target, run, report, StopReason::Pause)
@@ -124,9 +127,9 @@ fn begin_again(
     run: Run,
     report: Report,
 ) -> Result<Effect, AllocError>
-    requires goes_on { GoesOnWith report target run }
+    requires goes_on { ContinuesRun report target run }
     requires stops { Stops report.outcome }
-    ensures { IfOk result (Leads target run report (λ past. goes_on past (plain_report report))) }
+    ensures { IfOk result (FollowsReport target run report (λ past. continued_effect past (plain_report report))) }
 {
     reading_laws();
     let number = target.runs.checked_add(1).ok_or(AllocError)?;
@@ -148,7 +151,7 @@ fn begin_again(
 
 /// The program has ended.
 fn end(alloc: Global, target: Target, run: Run, report: &Report) -> Result<Effect, AllocError>
-    ensures { IfOk result (Leads target run report.now (λ past. reporting (outputs past (plain_report report.now) ++ ends 0))) }
+    ensures { IfOk result (FollowsReport target run report.now (λ past. reporting (outputs past (plain_report report.now) ++ exited_events 0))) }
 {
     reading_laws();
     let mut events = outputs(alloc, target.told, report)?;

@@ -5,7 +5,7 @@ ghost use Rattle.std.specs.Prelude.{◌≡◌, if◌then◌else◌, IfOk};
 ghost use Rattle.dap_msg.specs.declared.command.Command.TheVariants as command_is;
 ghost use Rattle.dbg_plan.specs.declared.mode.Mode.TheVariants as mode_is;
 ghost use Rattle.dap_phase.specs.declared.phase.Phase.TheVariants as phase_is;
-ghost use Rattle.dap_history.specs.Replies.{told_logs};
+ghost use Rattle.dap_history.specs.Replies.{log_events};
 ghost use Rattle.dap_history.specs.Running.{body_of, mode_of};
 ghost use Rattle.dap_replies.specs.Going.{HasGone, HasStopped, HasEnded};
 ghost use Rattle.dap_replies.specs.Replied.{Replies};
@@ -69,7 +69,7 @@ fn logged(
     debuggee: &StoppedDebuggee,
     logs: &Logs,
 ) -> Result<Vec<EventBody>, AllocError>
-    ensures { IfOk result (λ events. events.items ≡ told_logs debuggee.now.breakpoints logs.now) }
+    ensures { IfOk result (λ events. events.items ≡ log_events debuggee.now.breakpoints logs.now) }
 {
     let mut events = Vec::new(alloc);
     push_logs(

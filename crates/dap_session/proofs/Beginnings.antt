@@ -15,7 +15,7 @@ use Rattle.dap_history.specs.declared.fault.SessionFault.TheVariants.{Frame, NoM
 use Rattle.dap_history.specs.History.{Item, Content, Loaded, Accepted, InputEnd, ReadFailure, MemoryFailure, History, messages, messages_of, orders_of, next_seq}
 use Rattle.dap_history.specs.Emission.{IsAfter}
 use Rattle.dap_history.specs.ReadingLaws.{ReadingsGoOn}
-use Rattle.dap_history.specs.Events.{Incoming, Piece, End, ReadFailed, File, Report, Rest, only_bytes, IsTaking, AreLawful, Takes, one_more, closed, open_ended, faulty, waits, MayTake, LeadsByPiece, LeadsByFile, LeadsByReport, LeadsByEvent, Leads, IsHistoryOf}
+use Rattle.dap_history.specs.Events.{Incoming, Piece, End, ReadFailed, File, Report, Rest, only_bytes, IsTaking, AreLawful, Takes, one_more, closed, open_ended, faulty, waits, MayTake, LeadsByPiece, LeadsByFile, LeadsByReport, LeadsByEvent, LeadsByEvents, IsHistoryOf}
 use Rattle.dap_history.specs.Events.{NoMemory as NoMemoryCame}
 use Rattle.dap_history.specs.Laws.{HistoryIsOne}
 use Rattle.dap_history.specs.Interleaving.{Load}
@@ -24,9 +24,9 @@ use Rattle.dap_history.specs.Reports.{Accepts}
 use Rattle.dap_history.proofs.FirstKept.{first_kept}
 use Rattle.dap_history.proofs.OneHistory.{IsReadOnce, goes_on}
 use Rattle.dap_session.specs.Ports.{Ports}
-use Rattle.dap_session.specs.Sending.{Sends, Begins, PushesSome, PutsSome, BreaksOff, TriesQuit}
-use Rattle.dap_session.specs.Taking.{TakesSome, no_content, one_content, TowardByPiece, LoadsToward, Toward, FailsAt}
-use Rattle.dap_session.specs.Serving.{Serves, StopsShort, Drives, closes, ends_at_fault, runs_out_of_memory, gives_up}
+use Rattle.dap_session.specs.Sending.{Sends, IsPrefixOf, PushesSome, PutsSome, BreaksOff, TriesQuit}
+use Rattle.dap_session.specs.Taking.{TakesSome, no_content, one_content, TowardByPiece, LoadsToward, Toward, EventGivesUp}
+use Rattle.dap_session.specs.Serving.{Serves, StopsShort, SessionOutcome, closes, ends_at_fault, runs_out_of_memory, gives_up}
 use Rattle.dap_session.specs.Laws.{IsOnTheWay, IsReached, FaultsLeavePrefixes}
 use Rattle.dap_session.proofs.Joining.{frames_from-append, sends_both}
 use Rattle.dap_session.proofs.Driven.{lawful_apart}
@@ -34,29 +34,29 @@ use Rattle.dap_session.proofs.Retaken.{retaken, retaken_toward}
 
 -- ---- beginnings
 
-begins_same : {A : Type 0} (xs ys : List A) → xs ≡ ys → Begins xs ys
+begins_same : {A : Type 0} (xs ys : List A) → xs ≡ ys → IsPrefixOf xs ys
 begins_same xs ys is = ([], append-nil xs ∙ is)
 
-begins_both : {A : Type 0} (xs ys zs : List A) → Begins xs ys → Begins ys zs → Begins xs zs
+begins_both : {A : Type 0} (xs ys zs : List A) → IsPrefixOf xs ys → IsPrefixOf ys zs → IsPrefixOf xs zs
 begins_both xs ys zs first next =
     (first.0 ++ next.0, sym (append_assoc xs first.0 next.0) ∙ ap (λ l. l ++ next.0) first.1 ∙ next.1)
 
 -- a prefix of what is added, after what was there
-begins_after : {A : Type 0} (xs ys zs : List A) → Begins ys zs → Begins (xs ++ ys) (xs ++ zs)
+begins_after : {A : Type 0} (xs ys zs : List A) → IsPrefixOf ys zs → IsPrefixOf (xs ++ ys) (xs ++ zs)
 begins_after xs ys zs is = (is.0, append_assoc xs ys is.0 ∙ ap (λ l. xs ++ l) is.1)
 
-begins_front : {A : Type 0} (xs ys zs : List A) → Begins (xs ++ ys) zs → Begins xs zs
+begins_front : {A : Type 0} (xs ys zs : List A) → IsPrefixOf (xs ++ ys) zs → IsPrefixOf xs zs
 begins_front xs ys zs is = (ys ++ is.0, sym (append_assoc xs ys is.0) ∙ is.1)
 
-begins_longer : (past : History) (item : Item) (new : History) → IsAfter past item new → Begins past new
+begins_longer : (past : History) (item : Item) (new : History) → IsAfter past item new → IsPrefixOf past new
 begins_longer past item new after = (after.step ∷ [], sym after.new_is)
 
 -- ---- what longer histories send
 
-messages_begin : (past new : History) → Begins past new → Begins (messages_of past) (messages_of new)
+messages_begin : (past new : History) → IsPrefixOf past new → IsPrefixOf (messages_of past) (messages_of new)
 messages_begin past new is = (messages_of is.0, sym (flat_map-append messages past is.0) ∙ ap messages_of is.1)
 
-frames_begin : (past new : History) → Begins past new → Begins (frames_from 1 (messages_of past))
+frames_begin : (past new : History) → IsPrefixOf past new → IsPrefixOf (frames_from 1 (messages_of past))
     (frames_from 1 (messages_of new))
 frames_begin past new is =
     let more = messages_begin past new is in (
@@ -65,14 +65,14 @@ frames_begin past new is =
           ∙ ap (frames_from 1) more.1,
     )
 
-orders_begin : (past new : History) → Begins past new → Begins (orders_of past) (orders_of new)
+orders_begin : (past new : History) → IsPrefixOf past new → IsPrefixOf (orders_of past) (orders_of new)
 orders_begin past new is =
     (orders_of is.0, sym (flat_map-append (λ step. step.effect.orders) past is.0) ∙ ap orders_of is.1)
 
 -- ---- an event that was taken in part
 
 takes_begin : {f : FirstSeq} {past new : History} {bytes : List ℕ} {rest : Rest} → Takes f past bytes new rest
-    → Begins past new
+    → IsPrefixOf past new
 takes_begin {past = past} {new = new} (one_more {mid = mid} request taking front unwanted after taken) =
     begins_both past mid new (begins_longer past (Content request) mid after) (takes_begin taken)
 takes_begin {past = past} (closed not) = begins_same past past refl
@@ -84,7 +84,7 @@ module _ (once : IsReadOnce) where
   -- what was taken is a prefix of all that can be
   some_begin : {f : FirstSeq} {past mid new : History} {bytes left : List ℕ} {rest : Rest}
       → TakesSome f past bytes mid left
-      → Takes f past bytes new rest → Begins mid new
+      → Takes f past bytes new rest → IsPrefixOf mid new
   some_begin no_content all = takes_begin all
   some_begin {f = f} {new = new} {rest = rest}
       (one_content {past = past} {mid = mid} {more = more} request taking front unwanted after taken) all =
@@ -92,21 +92,21 @@ module _ (once : IsReadOnce) where
       some_begin taken (subst (λ h. Takes f h more new rest)
       (sym (once.one_after past (Content request) mid next.0 after next.1)) next.2)
 
-  may_begin : (past : History) (item : Item) (new : History) → MayTake past item new → Begins past new
+  may_begin : (past : History) (item : Item) (new : History) → MayTake past item new → IsPrefixOf past new
   may_begin past item new (inl is) = begins_same past new (sym is.1)
   may_begin past item new (inr is) = begins_longer past item new is.1
 
   item_begins : (past : History) (item : Item) (next new : History) → IsTaking past → (next ≡ past)
-      ⊎ IsAfter past item next → MayTake past item new → Begins next new
+      ⊎ IsAfter past item next → MayTake past item new → IsPrefixOf next new
   item_begins past item next new taking (inl same) may =
-      subst (λ h. Begins h new) (sym same) (may_begin past item new may)
+      subst (λ h. IsPrefixOf h new) (sym same) (may_begin past item new may)
   item_begins past item next new taking (inr after) (inl is) = absurd (is.0 taking)
   item_begins past item next new taking (inr after) (inr is) =
       begins_same next new (once.one_after past item next new after is.1)
 
   piece_begins : (f : FirstSeq) (past : History) (launch : Option Launch) (bytes : List ℕ) (next new : History)
       (left : Rest)
-      → TowardByPiece f past launch bytes next → LeadsByPiece f past launch bytes new left → Begins next new
+      → TowardByPiece f past launch bytes next → LeadsByPiece f past launch bytes new left → IsPrefixOf next new
   piece_begins f past None bytes next new left toward leads = some_begin toward.1 leads
   piece_begins f past (Some launch) bytes next new left toward leads = begins_same next new (toward ∙ sym leads.0)
 
@@ -115,7 +115,7 @@ module _ (once : IsReadOnce) where
       (mid other next new : History) (left : List ℕ) (rest : Rest)
       → IsAfter past (Loaded launch file) mid → TakesSome f mid bytes next left
       → IsAfter past (Loaded launch file) other
-      → Takes f other bytes new rest → Begins next new
+      → Takes f other bytes new rest → IsPrefixOf next new
   loaded_begins f past launch file bytes mid other next new left rest after taken there all =
       some_begin taken
       (subst (λ h. Takes f h bytes new rest) (once.one_after past (Loaded launch file) other mid there after) all)
@@ -132,13 +132,13 @@ module _ (once : IsReadOnce) where
   file_begins : (past : History) (rest : Rest) (launch : Option Launch) (answer : Result (List ℕ) LoadFault)
       (next new : History) (left : Rest) → IsTaking past → rest.launch ≡ launch
       → (next ≡ past) ⊎ LoadsToward past rest answer next → LeadsByFile past rest launch answer new left
-      → Begins next new
+      → IsPrefixOf next new
   file_begins past rest None answer next new left taking is (inl same) leads = begins_same next new (same ∙ sym leads.0)
   file_begins past rest None answer next new left taking is (inr toward) leads =
       absurd (let e = sym is ∙ toward.waits in cc)
   file_begins past rest (Some launch) (Ok file) next new left taking is toward (inl not) = absurd (not.0 taking)
   file_begins past rest (Some launch) (Ok file) next new left taking is (inl same) (inr loads) =
-      subst (λ h. Begins h new) (sym same)
+      subst (λ h. IsPrefixOf h new) (sym same)
       (begins_both past loads.mid new (begins_longer past _ loads.mid loads.loaded)
       (takes_begin loads.after))
   file_begins past rest (Some launch) (Ok file) next new left taking is (inr toward) (inr loads) =
@@ -148,7 +148,7 @@ module _ (once : IsReadOnce) where
   file_begins past rest (Some launch) (Err load_fault.CannotRead) next new left taking is toward (inl not) =
       absurd (not.0 taking)
   file_begins past rest (Some launch) (Err load_fault.CannotRead) next new left taking is (inl same) (inr loads) =
-      subst (λ h. Begins h new) (sym same)
+      subst (λ h. IsPrefixOf h new) (sym same)
       (begins_both past loads.mid new (begins_longer past _ loads.mid loads.loaded)
       (takes_begin loads.after))
   file_begins past rest (Some launch) (Err load_fault.CannotRead) next new left taking is (inr toward) (inr loads) =
@@ -157,21 +157,21 @@ module _ (once : IsReadOnce) where
       (same_launch past rest launch (Err load_fault.CannotRead) None next is toward same) toward.taken loads.loaded
       loads.after
   file_begins past rest (Some launch) (Err load_fault.NoMemory) next new left taking is (inl same) leads =
-      subst (λ h. Begins h new) (sym same) (may_begin past MemoryFailure new leads.0)
+      subst (λ h. IsPrefixOf h new) (sym same) (may_begin past MemoryFailure new leads.0)
   file_begins past rest (Some launch) (Err load_fault.NoMemory) next new left taking is (inr toward) leads =
       absurd (let e = toward.file_is in cc)
 
   report_begins : (past : History) (r : PlainReport) (next new : History) → IsTaking past → (next ≡ past)
-      ⊎ (Accepts past r × IsAfter past (Accepted r) next) → LeadsByReport past r new → Begins next new
+      ⊎ (Accepts past r × IsAfter past (Accepted r) next) → LeadsByReport past r new → IsPrefixOf next new
   report_begins past r next new taking (inl same) (inl not) = begins_same next new (same ∙ sym not.1)
   report_begins past r next new taking (inl same) (inr is) =
-      subst (λ h. Begins h new) (sym same) (begins_longer past (Accepted r) new is.2)
+      subst (λ h. IsPrefixOf h new) (sym same) (begins_longer past (Accepted r) new is.2)
   report_begins past r next new taking (inr toward) (inl not) = absurd (not.0 (taking, toward.0))
   report_begins past r next new taking (inr toward) (inr is) =
       begins_same next new (once.one_after past (Accepted r) next new toward.1 is.2)
 
   event_begins : (past : History) (rest : Rest) (event : Incoming) (next new : History) (left : Rest) → IsTaking past
-      → Toward past rest event next → LeadsByEvent past rest event new left → Begins next new
+      → Toward past rest event next → LeadsByEvent past rest event new left → IsPrefixOf next new
   event_begins past rest (Piece piece) next new left taking toward leads =
       piece_begins rest.first past rest.launch _ next new left toward leads
   event_begins past rest End next new left taking toward leads =
@@ -179,7 +179,7 @@ module _ (once : IsReadOnce) where
   event_begins past rest ReadFailed next new left taking toward leads =
       item_begins past ReadFailure next new taking toward leads.0
   event_begins past rest NoMemoryCame next new left taking toward leads =
-      subst (λ h. Begins h new) (sym toward) (may_begin past MemoryFailure new leads.0)
+      subst (λ h. IsPrefixOf h new) (sym toward) (may_begin past MemoryFailure new leads.0)
   event_begins past rest (File answer) next new left taking toward leads =
       file_begins past rest rest.launch answer next new left taking refl toward leads
   event_begins past rest (Report r) next new left taking toward leads =
@@ -188,8 +188,9 @@ module _ (once : IsReadOnce) where
 -- ---- a list of events, and its last
 
 leads_apart : (past : History) (rest : Rest) (events : List Incoming) (last : Incoming) (new : History) (left : Rest)
-    → Leads past rest (events ++ last ∷ []) new left
-    → (mid : History) × (between : Rest) × Leads past rest events mid between × LeadsByEvent mid between last new left
+    → LeadsByEvents past rest (events ++ last ∷ []) new left
+    → (mid : History) × (between : Rest) × LeadsByEvents past rest events mid between
+    × LeadsByEvent mid between last new left
 leads_apart past rest [] last new left all = (
   past,
   rest,
@@ -209,8 +210,8 @@ record SendsPart (new : History) (old later : Ports) : Type 0 where
   orders : List PlainOrder
   frames_are : later.frames ≡ old.frames ++ frames
   orders_are : later.orders ≡ old.orders ++ orders
-  frames_begin : Begins frames (frames_from 1 (messages_of new))
-  orders_begin : Begins orders (orders_of new)
+  frames_begin : IsPrefixOf frames (frames_from 1 (messages_of new))
+  orders_begin : IsPrefixOf orders (orders_of new)
   few : length frames < 2 ^ 53
 
 -- there are fewer messages than that where the next seq is no more
@@ -218,7 +219,7 @@ length-frames_from : (n : ℕ) (ms : List Outgoing) → length (frames_from n ms
 length-frames_from n [] = refl
 length-frames_from n (m ∷ ms) = ap (λ k. suc k) (length-frames_from (n + 1) ms)
 
-few_begin : (frames : List (List ℕ)) (past : History) → Begins frames (frames_from 1 (messages_of past))
+few_begin : (frames : List (List ℕ)) (past : History) → IsPrefixOf frames (frames_from 1 (messages_of past))
     → next_seq past ≤ 2 ^ 53 → length frames < 2 ^ 53
 few_begin frames past is fits =
     let whole = length-append frames is.0 in
@@ -249,7 +250,7 @@ same_part past old between later sent same =
       few = few_begin _ past (begins_same _ _ refl) (first_fits past old between sent);
     }
 
-longer_part : (past new : History) (old later : Ports) → Begins past new → SendsPart past old later
+longer_part : (past new : History) (old later : Ports) → IsPrefixOf past new → SendsPart past old later
     → SendsPart new old later
 longer_part past new old later is part = record {
   frames = part.frames;
@@ -271,13 +272,13 @@ pushed_part past next old between later sent some =
       orders_are =
           some.orders_are ∙ ap (λ l. l ++ some.pushed) all.1 ∙ append_assoc old.orders (orders_of past) some.pushed;
       frames_begin =
-          subst (λ ms. Begins (frames_from 1 (messages_of past)) (frames_from 1 ms)) (sym some.adds.messages_are) (
+          subst (λ ms. IsPrefixOf (frames_from 1 (messages_of past)) (frames_from 1 ms)) (sym some.adds.messages_are) (
             frames_from (1 + length (messages_of past)) some.messages,
             sym
                 (frames_from-append 1 (messages_of past) some.messages),
           );
       orders_begin =
-          subst (λ os. Begins (orders_of past ++ some.pushed) os) (sym some.adds.orders_are)
+          subst (λ os. IsPrefixOf (orders_of past ++ some.pushed) os) (sym some.adds.orders_are)
           (begins_after (orders_of past) some.pushed some.orders some.begins);
       few = few_begin _ past (begins_same _ _ refl) (first_fits past old between sent);
     }
@@ -287,11 +288,11 @@ put_part : (past next : History) (old between later : Ports) → Sends [] past o
 put_part past next old between later sent some =
     let all = sends_whole past old between sent in
     let seq : next_seq past ≡ 1 + length (messages_of past) = omega arith in
-    let begins : Begins (frames_from 1 (messages_of past) ++ some.put) (frames_from 1 (messages_of next)) =
-    subst (λ fs. Begins (frames_from 1 (messages_of past) ++ some.put) fs)
+    let begins : IsPrefixOf (frames_from 1 (messages_of past) ++ some.put) (frames_from 1 (messages_of next)) =
+    subst (λ fs. IsPrefixOf (frames_from 1 (messages_of past) ++ some.put) fs)
     (sym (ap (frames_from 1) some.adds.messages_are ∙ frames_from-append 1 (messages_of past) some.messages))
     (begins_after (frames_from 1 (messages_of past)) some.put _ (begins_front some.put (some.frame ∷ []) _
-    (subst (λ n. Begins (some.put ++ some.frame ∷ []) (frames_from n some.messages)) seq some.begins))) in record {
+    (subst (λ n. IsPrefixOf (some.put ++ some.frame ∷ []) (frames_from n some.messages)) seq some.begins))) in record {
       frames = frames_from 1 (messages_of past) ++ some.put;
       orders = orders_of past ++ some.orders;
       frames_are =
@@ -305,7 +306,7 @@ put_part past next old between later sent some =
     }
 
 -- the fault let through a part of the next step
-broken_part : (fault : SessionFault) (mid next : History) (old between later : Ports) → Begins mid next
+broken_part : (fault : SessionFault) (mid next : History) (old between later : Ports) → IsPrefixOf mid next
     → Sends [] mid old between → BreaksOff fault mid next between later → SendsPart next old later
 broken_part (Frame k) mid next old between later at sent breaks = absurd breaks
 broken_part NoMemory mid next old between later at sent breaks =
@@ -319,7 +320,7 @@ broken_part WriterGone mid next old between later at sent breaks = put_part mid 
 -- ---- a whole session
 
 next_toward : (fault : SessionFault) (past : History) (rest : Rest) (event : Incoming) (old later : Ports)
-    (fails : FailsAt fault past rest event old later) → Toward past rest event fails.next
+    (fails : EventGivesUp fault past rest event old later) → Toward past rest event fails.next
 next_toward fault past rest event old later fails = by fails.next_is
   where
     by : (fails.next ≡ fails.mid) ⊎ (Toward past rest event fails.next
@@ -328,11 +329,11 @@ next_toward fault past rest event old later fails = by fails.next_is
     by (inr is) = is.0
 
 mid_next : (fault : SessionFault) (past : History) (rest : Rest) (event : Incoming) (old later : Ports)
-    (fails : FailsAt fault past rest event old later) → Begins fails.mid fails.next
+    (fails : EventGivesUp fault past rest event old later) → IsPrefixOf fails.mid fails.next
 mid_next fault past rest event old later fails = by fails.next_is
   where
     by : (fails.next ≡ fails.mid) ⊎ (Toward past rest event fails.next
-        × ((item : Item) × IsAfter fails.mid item fails.next)) → Begins fails.mid fails.next
+        × ((item : Item) × IsAfter fails.mid item fails.next)) → IsPrefixOf fails.mid fails.next
     by (inl same) = begins_same fails.mid fails.next (sym same)
     by (inr is) = begins_longer fails.mid is.1.0 fails.next is.1.1
 
@@ -357,7 +358,7 @@ pub record PutsFew (reached : History) (old later : Ports) : Type 0 where
   pub frames : List (List ℕ)
   pub frames_are : later.frames ≡ old.frames ++ frames
   pub few : length frames < 2 ^ 53
-  pub begins : Begins frames (frames_from 1 (messages_of reached))
+  pub begins : IsPrefixOf frames (frames_from 1 (messages_of reached))
 
 module _ (laws : ReadingsGoOn) (once : IsReadOnce) (one : HistoryIsOne) where
   -- a history of all events goes on with the last one from where the session stood
@@ -367,7 +368,7 @@ module _ (laws : ReadingsGoOn) (once : IsReadOnce) (one : HistoryIsOne) where
   last_leads events last past rest new left first here whole =
       let apart = leads_apart [] (only_bytes left.first []) events last new left whole in
       let kept = first_kept [] (only_bytes left.first []) events apart.0 apart.1 apart.2 in
-      let there = subst (λ g. Leads [] (only_bytes g []) events apart.0 apart.1) (sym kept) apart.2 in
+      let there = subst (λ g. LeadsByEvents [] (only_bytes g []) events apart.0 apart.1) (sym kept) apart.2 in
       let same = one events apart.0 past apart.1 rest there here (kept ∙ first) in
       subst (λ r. LeadsByEvent past r last new left) same.1
       (subst (λ h. LeadsByEvent h apart.1 last new left) same.0 apart.3)
@@ -447,7 +448,7 @@ module _ (laws : ReadingsGoOn) (once : IsReadOnce) (one : HistoryIsOne) where
 
   fault_sent : (f : FirstSeq) (fault : SessionFault) (events given : List Incoming) (loads : List Load)
       (old later : Ports)
-      → AreLawful events → Drives f events given loads old later (Err fault)
+      → AreLawful events → SessionOutcome f events given loads old later (Err fault)
       → (stopped : Ports) × Sent f events old stopped × TriesQuit stopped later
   fault_sent f fault events given loads old later lawful (ends_at_fault from until) =
       (until.mid, serves_sent f events _ old until.mid lawful until.serves, until.quit)
@@ -491,7 +492,7 @@ module _ (laws : ReadingsGoOn) (once : IsReadOnce) (one : HistoryIsOne) where
 
   pub drives_few : (f : FirstSeq) (result : Result Closed SessionFault) (events given : List Incoming)
       (loads : List Load)
-      (old later : Ports) → AreLawful events → Drives f events given loads old later result
+      (old later : Ports) → AreLawful events → SessionOutcome f events given loads old later result
       → (reached : History) × IsReached f events reached × PutsFew reached old later
   drives_few f (Ok by) events given loads old later lawful (closes from serves) =
       puts_few f events old later later refl (serves_sent f events (ending.Closed by) old later lawful serves)

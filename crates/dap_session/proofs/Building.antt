@@ -11,8 +11,8 @@ use Rattle.dap_history.specs.History.{Step, History, messages}
 use Rattle.dap_history.specs.Output.{frames_from}
 use Rattle.dap_history.specs.ReadingLaws.{ReadingsGoOn}
 use Rattle.dap_session.specs.Building.{plain_frames, Built, AddsFrames, IsNotPushed}
-use Rattle.dap_session.specs.Ports.{Written, Ordered, ports}
-use Rattle.dap_session.specs.Sending.{Begins, Adds, PushesSome, BreaksOff}
+use Rattle.dap_session.specs.Ports.{Written, PushedOrders, ports}
+use Rattle.dap_session.specs.Sending.{IsPrefixOf, AddsToHistory, PushesSome, BreaksOff}
 use Rattle.dap_session.proofs.Joining.{frames_from-append}
 
 pub adds_both : (xs ys : List Outgoing) (a b c : Built) → AddsFrames xs a b → AddsFrames ys b c
@@ -37,7 +37,7 @@ adds_event done event a b c first then_ =
 
 -- frames that were put before one that was refused
 pub begins_all : (put : List (Vec ℕ Global)) (frame : Vec ℕ Global) (rest all : List (Vec ℕ Global)) → put ++ frame
-    ∷ rest ≡ all → Begins (plain_frames put ++ frame.items ∷ []) (plain_frames all)
+    ∷ rest ≡ all → IsPrefixOf (plain_frames put ++ frame.items ∷ []) (plain_frames all)
 begins_all put frame rest all is = (
   plain_frames rest,
   append_assoc (plain_frames put) (frame.items ∷ []) (plain_frames rest)
@@ -45,13 +45,14 @@ begins_all put frame rest all is = (
 )
 
 pub adds_step : ReadingsGoOn → (past : History) (step : Step)
-    → Adds past (past ++ step ∷ []) (messages step) step.effect.orders
+    → AddsToHistory past (past ++ step ∷ []) (messages step) step.effect.orders
 adds_step readings past step =
     record { messages_are = readings.messages_are past step; orders_are = readings.orders_are past step }
 
 -- an order that was refused, seen from its step
-pub pushes_none : (past new : History) (ms : List Outgoing) (os : List PlainOrder) (out : Written) (old later : Ordered)
-    → Adds past new ms os → later.orders ≡ old.orders → PushesSome past new (ports out old) (ports out later)
+pub pushes_none : (past new : History) (ms : List Outgoing) (os : List PlainOrder) (out : Written)
+    (old later : PushedOrders)
+    → AddsToHistory past new ms os → later.orders ≡ old.orders → PushesSome past new (ports out old) (ports out later)
 pushes_none past new ms os out old later adds same =
     record {
       messages = ms;
@@ -65,8 +66,9 @@ pushes_none past new ms os out old later adds same =
     }
 
 pub breaks_at_push : (fault : SessionFault) (past new : History) (ms : List Outgoing) (os : List PlainOrder)
-    (out : Written) (old later : Ordered)
-    → Adds past new ms os → IsNotPushed fault old later → BreaksOff fault past new (ports out old) (ports out later)
+    (out : Written) (old later : PushedOrders)
+    → AddsToHistory past new ms os → IsNotPushed fault old later → BreaksOff fault past new (ports out old)
+    (ports out later)
 breaks_at_push (Frame k) past new ms os out old later adds refused = absurd refused
 breaks_at_push NoMemory past new ms os out old later adds refused = absurd refused
 breaks_at_push SeqExhausted past new ms os out old later adds refused = absurd refused

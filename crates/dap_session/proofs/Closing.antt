@@ -11,7 +11,7 @@ use Rattle.dap_history.specs.ReadingLaws.{ReadingsGoOn}
 use Rattle.dap_history.specs.Replies.{ordering}
 use Rattle.dap_history.specs.Emission.{IsAfter}
 use Rattle.dap_history.specs.Events.{Incoming, Rest, IsTaking, LeadsByEvent}
-use Rattle.dap_session.specs.Ports.{Written, Ordered, ports}
+use Rattle.dap_session.specs.Ports.{Written, PushedOrders, ports}
 use Rattle.dap_session.specs.Building.{IsNotPushed}
 use Rattle.dap_session.specs.State.{State}
 use Rattle.dap_session.specs.Taking.{Toward}
@@ -32,13 +32,14 @@ pub record EndsInput (past : History) (rest : Rest) (event : Incoming) (item : I
   pub leads : (new : History) → IsAfter past item new → LeadsByEvent past rest event new rest
 
 -- closing fails by the port alone
-pub close_needs_none : (result : Result (Unit {0}) SessionFault) (closed : Closed) (last : State) (old later : Ordered)
+pub close_needs_none : (result : Result (Unit {0}) SessionFault) (closed : Closed) (last : State)
+    (old later : PushedOrders)
     → PushesQuit result old later → OnOk result (last.ending ≡ Some (ending.Closed closed)) → NeededNoMemory result last
 close_needs_none (Ok u) closed last old later quits ended = λ open_. absurd (let e = sym ended ∙ open_ in cc)
 close_needs_none (Err fault) closed last old later quits ended = λ lost. subst (λ f. IsNotPushed f old later) lost quits
 
 pub closes : ReadingsGoOn → (result : Result (Unit {0}) SessionFault) (past : History) (rest : Rest) (event : Incoming)
-    (item : Item) (closed : Closed) (last : State) (out : Written) (old later : Ordered) → IsTaking past
+    (item : Item) (closed : Closed) (last : State) (out : Written) (old later : PushedOrders) → IsTaking past
     → EndsInput past rest event item closed → IsAfter past item (past ++ closing_step item ∷ [])
     → PushesQuit result old later → OnOk result (last.ending ≡ Some (ending.Closed closed))
     → Handles result past rest event last (ports out old) (ports out later)

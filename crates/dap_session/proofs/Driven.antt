@@ -23,9 +23,9 @@ use Rattle.dap_session.specs.declared.want.Want.{Want}
 use Rattle.dap_session.specs.declared.want.Want.TheVariants as want_is
 use Rattle.dap_session.specs.Ports.{Ports, load_of}
 use Rattle.dap_session.specs.Sending.{Sends, RefusesNothing, TriesQuit}
-use Rattle.dap_session.specs.State.{State, StandsFor, Wants, WantsHere, IsOpenEnded}
-use Rattle.dap_session.specs.Taking.{LacksMemory, Expects, NeedsNoMemory, FailsAt, Comes, TakesEvent}
-use Rattle.dap_session.specs.Serving.{Serves, StopsShort, no_seq_is_left, orders_are_full, runner_is_gone, writer_is_gone, Drives, closes, ends_at_fault, runs_out_of_memory, gives_up, Driven}
+use Rattle.dap_session.specs.State.{State, Represents, Wants, WantsHere, IsOpenEnded}
+use Rattle.dap_session.specs.Taking.{LacksMemory, Expects, NeedsNoMemory, EventGivesUp, Comes, TakesEvent}
+use Rattle.dap_session.specs.Serving.{Serves, StopsShort, no_seq_is_left, orders_are_full, runner_is_gone, writer_is_gone, SessionOutcome, closes, ends_at_fault, runs_out_of_memory, gives_up, Driven}
 use Rattle.dap_session.specs.Coming.{Sources, stored, ComesFrom}
 use Rattle.dap_session.proofs.Reports.{accepts_expected}
 use Rattle.dap_session.proofs.Joining.{sends_both, refuses_both, sends_nothing}
@@ -92,17 +92,17 @@ pub record Way (f : FirstSeq) (session : State) (wanted : Option (List ℕ)) (be
   pub loads_are : now.loaded ≡ begin.loaded ++ loads
   pub lawful : AreLawful events
   pub interleaves : Interleaves f [] events given loads
-  pub stands : StandsFor f session events past
+  pub stands : Represents f session events past
   pub sent : Sends [] past old later
   pub sure : RefusesNothing old later
   pub open_ended : session.ending ≡ None
   pub wanted_is : wanted ≡ path_of session.phase
 
 -- a session that has taken no event keeps the first number that it was made with
-pub first_is : (session : State) (f : FirstSeq) → StandsFor f session [] [] → session.stream.first ≡ f
+pub first_is : (session : State) (f : FirstSeq) → Represents f session [] [] → session.stream.first ≡ f
 first_is session f stands = ap (λ s. s.first) (stands.goes_on refl).stream_is ∙ stands.first_is
 
-pub way_begins : (f : FirstSeq) (session : State) (begin : Sources) (old : Ports) → StandsFor f session [] []
+pub way_begins : (f : FirstSeq) (session : State) (begin : Sources) (old : Ports) → Represents f session [] []
     → session.ending ≡ None
     → None ≡ path_of session.phase
     → Way f session None begin begin old old
@@ -123,11 +123,11 @@ way_begins f session begin old stands open_ none = record {
 }
 
 -- the way begins with a session that has taken no event
-pub way_made : (session : State) (f : FirstSeq) (begin : Sources) (old : Ports) → StandsFor f session [] []
+pub way_made : (session : State) (f : FirstSeq) (begin : Sources) (old : Ports) → Represents f session [] []
     → Way session.stream.first session None begin begin old old
 way_made session f begin old stands =
     way_begins session.stream.first session begin old
-    (subst (λ g. StandsFor g session [] []) (sym (first_is session f stands)) stands) stands.ending_is
+    (subst (λ g. Represents g session [] []) (sym (first_is session f stands)) stands) stands.ending_is
     (sym (ap (option_map (λ launch. launch.arguments.program))
     ((stands.goes_on refl).launch_is ∙ ap (λ (r : Rest). r.launch) stands.history.1)))
 
@@ -150,7 +150,7 @@ record AddsNothing (f : FirstSeq) (events : List Incoming) (event : Incoming) (n
   awaited : Awaits f events path
 
 awaits : (f : FirstSeq) (session : State) (events : List Incoming) (past : History) (launch : Launch) (path : List ℕ)
-    → StandsFor f session events past → session.ending ≡ None
+    → Represents f session events past → session.ending ≡ None
     → launch_of session.phase ≡ Some launch → path ≡ launch.arguments.program → Awaits f events path
 awaits f session events past launch path stands open_ is same =
     let taking : IsTaking past = sym stands.ending_is ∙ open_ in record {
@@ -165,7 +165,7 @@ awaits f session events past launch path stands open_ is same =
     }
 
 awaits_none : (f : FirstSeq) (session : State) (events : List Incoming) (past : History)
-    → StandsFor f session events past
+    → Represents f session events past
     → session.ending ≡ None
     → launch_of session.phase ≡ None → AwaitsNone f events
 awaits_none f session events past stands open_ is =
@@ -214,7 +214,7 @@ adds_file f events path (Err NoMemory) now next awaited given loaded =
 
 adds_event : (f : FirstSeq) (session : State) (events : List Incoming) (past : History) (wanted : Option (List ℕ))
     (launch : Option Launch) (event : Incoming) (now next : Sources)
-    → StandsFor f session events past → session.ending ≡ None → launch_of session.phase ≡ launch
+    → Represents f session events past → session.ending ≡ None → launch_of session.phase ≡ launch
     → wanted ≡ option_map (λ l. l.arguments.program) launch
     → ComesFrom wanted event now next
     → Adds f events event now next ⊎ AddsNothing f events event now next
@@ -260,7 +260,7 @@ goes_on want session (Some (ending.Fault fault)) is wants not = absurd wants
 
 -- what the history says of an event that needs no memory, the session says too
 needs_none : (f : FirstSeq) (session : State) (events : List Incoming) (past : History)
-    (stands : StandsFor f session events past)
+    (stands : Represents f session events past)
     → session.ending ≡ None → (event : Incoming)
     → NeedsNoMemory stands.rest.launch (Accepts past) event → NeedsNoMemory (launch_of session.phase)
     (Expects session.phase) event
@@ -276,7 +276,7 @@ needs_none f session events past stands open_ NoMemoryCame needs = absurd needs
 
 -- where the session ran out of memory, the event needs some
 needs_some : (f : FirstSeq) (session after : State) (fault : SessionFault) (event : Incoming) (mid later : Ports)
-    (events : List Incoming) (past : History) (stands : StandsFor f session events past) → session.ending ≡ None
+    (events : List Incoming) (past : History) (stands : Represents f session events past) → session.ending ≡ None
     → TakesEvent session event (Err fault) after mid later
     → fault ≡ faults.NoMemory → ¬ NeedsNoMemory stands.rest.launch (Accepts past) event
 needs_some f session after fault event mid later events past stands open_ step lost needs =
@@ -357,7 +357,7 @@ stops_short : (f : FirstSeq) (events : List Incoming) (past : History) (rest : R
     (fault : SessionFault)
     → rest.first ≡ f → IsHistoryOf events past rest → IsTaking
     past → (fault ≡ faults.NoMemory → ¬ NeedsNoMemory rest.launch (Accepts past) event) → Sends [] past old mid
-    → RefusesNothing old mid → FailsAt fault past rest event mid later → TriesQuit later last
+    → RefusesNothing old mid → EventGivesUp fault past rest event mid later → TriesQuit later last
     → StopsShort f (events ++ event ∷ []) fault old last
 stops_short f events past rest event old mid later last fault first history taking needs sent sure fails quit = record {
   before = events;
@@ -384,7 +384,7 @@ ends : (f : FirstSeq) (events : List Incoming) (past : History) (rest : Rest) (e
     past → (fault ≡ faults.NoMemory → ¬ NeedsNoMemory rest.launch (Accepts past) event) → Sends [] past old mid
     → RefusesNothing old mid → TriesQuit later last
     → Comes f (Err fault) events past rest event after mid later → Interleaves f [] (events ++ event ∷ []) given loads
-    → Drives f (events ++ event ∷ []) given loads old last (Err fault)
+    → SessionOutcome f (events ++ event ∷ []) given loads old last (Err fault)
 ends f events past rest event after old mid later last given loads (faults.Frame k) first history taking needs sent sure
     quit
     comes from =
@@ -502,7 +502,8 @@ way_fails f session after wanted fault event begin now next old mid later last w
             given_are = none.given_are ∙ way.given_are;
             loads_are = none.loads_are ∙ way.loads_are;
             lawful = lawful_both way.events (event ∷ []) way.lawful law;
-            drives = subst (λ e. Drives f (way.events ++ event ∷ []) way.given way.loads old last (Err e)) (sym same)
+            drives = subst (λ e. SessionOutcome f (way.events ++ event ∷ []) way.given way.loads old last (Err e))
+                (sym same)
                 (runs_out_of_memory
                 (inr (record {
                   before = way.events;

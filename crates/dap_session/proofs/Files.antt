@@ -16,7 +16,7 @@ use Rattle.dap_session.specs.Incoming.{incoming_of}
 use Rattle.dap_session.specs.Ports.{Ports}
 use Rattle.dap_session.specs.State.{State, GoesOn}
 use Rattle.dap_session.specs.Taking.{no_content, TowardByPiece, file_of, Toward, LacksMemory}
-use Rattle.dap_session.specs.Handling.{IsAt, TakesItem, FailsAtItem, HandlesContents, Handles, plain_file}
+use Rattle.dap_session.specs.Handling.{HasHistory, TakesItem, FailsAtItem, HandlesContents, Handles, plain_file}
 use Rattle.dap_session.proofs.Going.{goes_after, stops_at_once, stops_at_item, arrives_at_once}
 
 pub incoming_file : (file : Result (Vec ℕ Global) LoadFault) → incoming_of (event.File file) ≡ File (plain_file file)
@@ -69,7 +69,7 @@ pub file_taken : (result : Result (Unit {0}) SessionFault) (past : History) (res
     → IsTaking past → IsGiven rest launch answer file
     → loaded.stream ≡ record { first = rest.first; rest = rest.bytes; fault = None }
     → TakesItem past (Loaded launch file) loaded old between
-    → ((h : History) → loaded.stream.fault ≡ None → launch_of loaded.phase ≡ None → IsAt loaded h
+    → ((h : History) → loaded.stream.fault ≡ None → launch_of loaded.phase ≡ None → HasHistory loaded h
     → HandlesContents loaded.stream.first result h loaded.stream.rest last between later)
     → Handles result past rest (File answer) last old later
 file_taken result past rest launch answer file loaded last old between later taking is stream_is item taken =

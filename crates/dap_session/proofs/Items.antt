@@ -18,7 +18,7 @@ use Rattle.dap_phase.specs.declared.phase.Phase.{Phase}
 use Rattle.dap_phase.specs.Phases.{IsPhase, launch_of}
 use Rattle.dap_replies.specs.declared.effect.Effect.{Effect as Done}
 use Rattle.dap_replies.specs.declared.effect.Reply.{Reply as Given}
-use Rattle.dap_replies.specs.Replied.{Does, Gives, step_of}
+use Rattle.dap_replies.specs.Replied.{DoesEffect, GivesReply, step_of}
 use Rattle.dap_replies.specs.Laws.{skipped, SkippingKeepsThePhase}
 use Rattle.dap_session.specs.Ports.{Ports}
 use Rattle.dap_session.specs.Sending.{Sends, RefusesNothing, BreaksOff}
@@ -81,7 +81,7 @@ fails_before past item old = record { next = past; next_is = inl refl; breaks = 
 
 -- a step of an item with this answer and this effect is what is sent
 pub is_step : (item : Item) (said answer : Option Outgoing) (effect : Effect) (done : Done) → said ≡ answer
-    → Does done effect → IsStepOf said done (step_of item answer effect)
+    → DoesEffect done effect → IsStepOf said done (step_of item answer effect)
 is_step item said answer effect done same does =
     record {
       messages_are =
@@ -124,7 +124,7 @@ skips laws keeps past session old taking open_ free knows =
 -- ---- what is sent of a reply
 
 pub is_answer_step : (item : Item) (seq : ℕ) (said name : CommandName) (given : Given) (reply : Reply) → said ≡ name
-    → Gives given reply
+    → GivesReply given reply
     → IsStepOf (Some (Answer seq said given.result)) given.effect
     (step_of item (Some (Answer seq name reply.result)) reply.effect)
 is_answer_step item seq said name given reply named gives =

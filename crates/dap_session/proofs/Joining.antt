@@ -7,7 +7,7 @@ use Rattle.dbg_runner.specs.Plain.{PlainOrder}
 use Rattle.dap_history.specs.History.{History, messages_of, orders_of, next_seq}
 use Rattle.dap_history.specs.Output.{frames_from}
 use Rattle.dap_session.specs.Ports.{Ports}
-use Rattle.dap_session.specs.Sending.{Adds, Sends, RefusesNothing}
+use Rattle.dap_session.specs.Sending.{AddsToHistory, Sends, RefusesNothing}
 
 pub frames_from-append : (n : ℕ) (xs ys : List Outgoing) → frames_from n (xs ++ ys) ≡ frames_from n xs
     ++ frames_from (n + length xs) ys
@@ -16,15 +16,16 @@ frames_from-append n (x ∷ xs) ys =
     ap (λ l. frame_of (text_of x n) ∷ l) (frames_from-append (n + 1) xs ys
     ∙ ap (λ k. frames_from (n + 1) xs ++ frames_from k ys) (omega arith))
 
-pub adds_both : (a b c : History) (m n : List Outgoing) (o r : List PlainOrder) → Adds a b m o → Adds b c n r
-    → Adds a c (m ++ n) (o ++ r)
+pub adds_both : (a b c : History) (m n : List Outgoing) (o r : List PlainOrder) → AddsToHistory a b m o
+    → AddsToHistory b c n r
+    → AddsToHistory a c (m ++ n) (o ++ r)
 adds_both a b c m n o r first next =
     record {
       messages_are = next.messages_are ∙ ap (λ l. l ++ n) first.messages_are ∙ append_assoc (messages_of a) m n;
       orders_are = next.orders_are ∙ ap (λ l. l ++ r) first.orders_are ∙ append_assoc (orders_of a) o r;
     }
 
-pub next_seq_along : (a b : History) (m : List Outgoing) (o : List PlainOrder) → Adds a b m o
+pub next_seq_along : (a b : History) (m : List Outgoing) (o : List PlainOrder) → AddsToHistory a b m o
     → next_seq b ≡ next_seq a + length m
 next_seq_along a b m o adds =
     let e = ap length adds.messages_are in let l = length-append (messages_of a) m in omega (arith, e, l)

@@ -21,7 +21,7 @@ pub mod Pieces
 pub mod Closing
 -- What a session does with the file of a launch; for `Session::take_event` and `Session::take_file`.
 pub mod Files
--- A session that stands for some events stands for one event more after it took it; for `Session::go_on`,
+-- A session that represents some events represents one event more after it took it; for `Session::go_on`,
 -- `Session::want` and `session_laws`.
 pub mod Standing
 -- A session that is driven takes events until it is closed or fails; for `session_laws` and `take_all`.

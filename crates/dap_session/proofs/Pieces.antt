@@ -11,7 +11,7 @@ use Rattle.dap_phase.specs.Phases.{IsPhase, launch_of}
 use Rattle.dap_session.specs.Ports.{Ports}
 use Rattle.dap_session.specs.State.{State, GoesOn}
 use Rattle.dap_session.specs.Taking.{no_content, TowardByPiece, Toward}
-use Rattle.dap_session.specs.Handling.{IsAt, Goes, Handles, HandlesContents}
+use Rattle.dap_session.specs.Handling.{HasHistory, Goes, Handles, HandlesContents}
 use Rattle.dap_session.proofs.Going.{stops_at_once, arrives_at_once}
 
 toward_here : (f : FirstSeq) (past : History) (launch : Option Launch) (bytes : List ℕ)
@@ -46,7 +46,7 @@ first_of : (session fed : State) (piece : List ℕ) (past : History) (rest : Res
 first_of session fed piece past rest is on = ap (λ s. s.first) is.stream_is ∙ ap (λ s. s.first) on.stream_is
 
 at_fed : (session fed : State) (piece : List ℕ) (past : History) (rest : Rest) → IsFed session fed piece
-    → session.ending ≡ None → IsTaking past → GoesOn session past rest → IsAt fed past
+    → session.ending ≡ None → IsTaking past → GoesOn session past rest → HasHistory fed past
 at_fed session fed piece past rest is open_ taking on =
     record {
       ending_is = is.ending_is ∙ open_ ∙ sym taking;
@@ -59,7 +59,7 @@ at_fed session fed piece past rest is open_ taking on =
 -- its contents are taken
 pub piece_taken : (result : Result (Unit {0}) SessionFault) (session fed last : State) (piece : List ℕ) (past : History)
     (rest : Rest) (old later : Ports) → session.ending ≡ None → IsFed session fed piece → launch_of fed.phase ≡ None
-    → ((h : History) → fed.stream.fault ≡ None → launch_of fed.phase ≡ None → IsAt fed h
+    → ((h : History) → fed.stream.fault ≡ None → launch_of fed.phase ≡ None → HasHistory fed h
     → HandlesContents fed.stream.first result h fed.stream.rest last old later)
     → IsTaking past → GoesOn session past rest → Handles result past rest (Piece piece) last old later
 piece_taken result session fed last piece past rest old later open_ is free taken taking on =

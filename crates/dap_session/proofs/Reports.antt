@@ -11,7 +11,7 @@ use Rattle.dap_history.specs.Events.{Rest, Report, IsTaking, LeadsByEvent}
 use Rattle.dap_phase.specs.declared.phase.Phase.{Phase}
 use Rattle.dap_phase.specs.declared.phase.Phase.TheVariants as phase
 use Rattle.dap_phase.specs.declared.phase.Target.{Target}
-use Rattle.dap_phase.specs.Runs.{Ordered, heading_in}
+use Rattle.dap_phase.specs.Runs.{OrderedRun, heading_in}
 use Rattle.dap_phase.specs.Phases.{launch_of, IsPhase}
 use Rattle.dap_session.specs.Ports.{Ports}
 use Rattle.dap_session.specs.State.{State, GoesOn}
@@ -34,7 +34,7 @@ passed past rest r session old not open_ taking on =
     open_ taking on
 
 -- what the next report begins with, by the history
-heading_is : (past : History) (t : Target) (run : Ordered) → IsPhase (phase.Running t run) past → (first : Heading)
+heading_is : (past : History) (t : Target) (run : OrderedRun) → IsPhase (phase.Running t run) past → (first : Heading)
     → last_run past ≡ Some first → record first { start = position past } ≡ heading_in t.runs run
 heading_is past t run is first ordered =
     let known = is.keeps in
@@ -64,7 +64,7 @@ report_passed past rest r session last old same other open_ taking on =
 
 -- ---- a report that is accepted
 
-pub accepts_report : (past : History) (t : Target) (run : Ordered) (r : PlainReport)
+pub accepts_report : (past : History) (t : Target) (run : OrderedRun) (r : PlainReport)
     → IsPhase (phase.Running t run) past → heading_of r ≡ heading_in t.runs run → Accepts past r
 accepts_report past t run r is expected =
     record {
@@ -86,11 +86,12 @@ accepts_expected (phase.Faulted t d) past r is expected = absurd expected
 accepts_expected (phase.Ended t u) past r is expected = absurd expected
 
 -- the session that had the run
-pub record HadRun (session : State) (t : Target) (run : Ordered) (r : PlainReport) : Type 0 where
+pub record HadRun (session : State) (t : Target) (run : OrderedRun) (r : PlainReport) : Type 0 where
   pub phase_was : session.phase ≡ phase.Running t run
   pub expected : heading_of r ≡ heading_in t.runs run
 
-pub report_taken : (result : Result (Unit {0}) SessionFault) (past : History) (rest : Rest) (t : Target) (run : Ordered)
+pub report_taken : (result : Result (Unit {0}) SessionFault) (past : History) (rest : Rest) (t : Target)
+    (run : OrderedRun)
     (r : PlainReport) (session last : State) (old later : Ports) → HadRun session t run r → last.stream ≡ session.stream
     → IsTaking past → GoesOn session past rest
     → HandlesItem result past (Accepted r) last old later → Handles result past rest (Report r) last old later

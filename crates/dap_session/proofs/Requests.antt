@@ -18,7 +18,7 @@ use Rattle.dap_phase.specs.declared.phase.Phase.TheVariants as phase
 use Rattle.dap_phase.specs.Phases.{situation_of, launch_of, WantsNoFile, IsPhase}
 use Rattle.dap_session.specs.Ports.{Ports}
 use Rattle.dap_session.specs.State.{State}
-use Rattle.dap_session.specs.Handling.{IsAt, HandlesItem, LeadsByContent, TakesContent, HandlesContent}
+use Rattle.dap_session.specs.Handling.{HasHistory, HandlesItem, LeadsByContent, TakesContent, HandlesContent}
 use Rattle.dap_session.proofs.Items.{refuses_none}
 use Rattle.dap_session.proofs.Joining.{sends_nothing}
 
@@ -82,7 +82,7 @@ launching_phase : (settings : InitializeArguments) (launch : Launch) (past : His
 launching_phase settings launch past is = record { situation_is = is.situation_is; keeps = is.keeps }
 
 pub launch_waits : (past : History) (request : Request) (arguments : LaunchArguments) (settings : InitializeArguments)
-    (session waiting : State) (old : Ports) → session.ending ≡ None → IsAt session past
+    (session waiting : State) (old : Ports) → session.ending ≡ None → HasHistory session past
     → request.body ≡ command.Launch arguments
     → IsWaiting session waiting settings (record { seq = request.seq; arguments = arguments })
     → TakesContent past (Some request) waiting old old

@@ -18,7 +18,7 @@ use Rattle.dap_history.specs.ReadingLaws.{ReadingsGoOn}
 use Rattle.dap_history.specs.Launching.{wanted_in}
 use Rattle.dap_history.specs.Reports.{Accepts}
 use Rattle.dap_history.specs.Emission.{IsAfter}
-use Rattle.dap_history.specs.Events.{Incoming, Piece, End, ReadFailed, File, Report, AreLawful, Rest, only_bytes, IsTaking, IsInFront, Takes, one_more, closed, open_ended, faulty, waits, MayTake, LeadsByPiece, LeadsByFile, LeadsByReport, LeadsByEvent, Leads, IsHistoryOf}
+use Rattle.dap_history.specs.Events.{Incoming, Piece, End, ReadFailed, File, Report, AreLawful, Rest, only_bytes, IsTaking, IsInFront, Takes, one_more, closed, open_ended, faulty, waits, MayTake, LeadsByPiece, LeadsByFile, LeadsByReport, LeadsByEvent, LeadsByEvents, IsHistoryOf}
 use Rattle.dap_history.specs.Events.{NoMemory as NoMemoryCame}
 use Rattle.dap_session.specs.Taking.{TakesSome, no_content, one_content, TowardByPiece, LoadsToward, Toward}
 use Rattle.dap_session.proofs.Driven.{lawful_both, lawful_apart}
@@ -238,7 +238,7 @@ module _ (laws : ReadingsGoOn) where
       by (inr is) = report_given retaken r new law.0 is.0 is.1 is.2
 
   events_given : (past : History) (rest : Rest) (events : List Incoming) (new : History) (left : Rest)
-      → AreLawful events → Leads past rest events new left → Retaken rest.first past rest.launch
+      → AreLawful events → LeadsByEvents past rest events new left → Retaken rest.first past rest.launch
       → Retaken rest.first new left.launch
   events_given past rest [] new left lawful all retaken =
       passed_over past rest rest.launch new left refl all.0 all.1 retaken

@@ -1,4 +1,4 @@
--- One event more for a session that stands for some.
+-- One event more for a session that represents some.
 use Rattle.std.proofs.Common.{◌≡◌, ◌≢◌, ◌⊎◌, inl, inr, ℕ, List, [], ◌∷◌, ◌++◌, Option, None, Some, Result, Ok, Err, refl, sym, ◌∙◌, ap, subst}
 use Rattle.std.specs.Prelude.{IfOk, IfErr, String, string_bytes}
 use Rattle.std.specs.declared.alloc.Global.{Global}
@@ -15,14 +15,14 @@ use Rattle.dap_history.specs.Readings.{closing, ending_of}
 use Rattle.dap_history.specs.ReadingLaws.{ReadingsGoOn}
 use Rattle.dap_history.specs.Emission.{IsAfter}
 use Rattle.dap_history.specs.Events as event
-use Rattle.dap_history.specs.Events.{Incoming, Rest, only_bytes, IsHistoryOf, IsTaking, Takes, one_more, closed, open_ended, faulty, waits, Loads, LeadsByPiece, LeadsByFile, LeadsByEvent, Leads}
+use Rattle.dap_history.specs.Events.{Incoming, Rest, only_bytes, IsHistoryOf, IsTaking, Takes, one_more, closed, open_ended, faulty, waits, Loads, LeadsByPiece, LeadsByFile, LeadsByEvent, LeadsByEvents}
 use Rattle.dap_phase.specs.declared.phase.Phase.TheVariants as phase
 use Rattle.dap_phase.specs.Phases.{launch_of}
 use Rattle.dap_session.specs.declared.want.Want.{Want}
 use Rattle.dap_session.specs.declared.want.Want.TheVariants as want_is
 use Rattle.dap_session.specs.Ports.{Ports}
-use Rattle.dap_session.specs.State.{State, StandsFor, WantsHere, Wants}
-use Rattle.dap_session.specs.Taking.{TakesSome, no_content, one_content, TowardByPiece, LoadsToward, file_of, Toward, FailsAt, Comes, TakesEvent}
+use Rattle.dap_session.specs.State.{State, Represents, WantsHere, Wants}
+use Rattle.dap_session.specs.Taking.{TakesSome, no_content, one_content, TowardByPiece, LoadsToward, file_of, Toward, EventGivesUp, Comes, TakesEvent}
 use Rattle.dap_session.specs.Handling.{Arrives, StopsOnTheWay, Handles, NeededNoMemory, HandlesEvent}
 use Rattle.dap_history.proofs.FirstKept.{first_by_event}
 use Rattle.dap_session.proofs.Items.{ending_after}
@@ -30,8 +30,8 @@ use Rattle.dap_session.proofs.Items.{ending_after}
 -- one event after others
 pub leads_one_more : (past : History) (rest : Rest) (events : List Incoming) (mid : History) (between : Rest)
     (event : Incoming) (new : History) (left : Rest)
-    → Leads past rest events mid between → LeadsByEvent mid between event new left
-    → Leads past rest (events ++ event ∷ []) new left
+    → LeadsByEvents past rest events mid between → LeadsByEvent mid between event new left
+    → LeadsByEvents past rest (events ++ event ∷ []) new left
 leads_one_more past rest [] mid between event new left all leads = (
   new,
   left,
@@ -45,7 +45,7 @@ pub history_one_more : (events : List Incoming) (mid : History) (between : Rest)
     (left : Rest) → IsHistoryOf events mid between → LeadsByEvent mid between event new left
     → IsHistoryOf (events ++ event ∷ []) new left
 history_one_more events mid between event new left history leads =
-    subst (λ f. Leads [] (only_bytes f []) (events ++ event ∷ []) new left)
+    subst (λ f. LeadsByEvents [] (only_bytes f []) (events ++ event ∷ []) new left)
     (sym (first_by_event mid between event new left leads))
     (leads_one_more [] (only_bytes between.first []) events mid between event new left history leads)
 
@@ -135,7 +135,7 @@ leads_toward laws past rest (event.Report r) new left taking leads still =
 -- ---- what comes of the event
 
 fails_at : (fault : SessionFault) (past : History) (rest : Rest) (e : Incoming) (old later : Ports)
-    → StopsOnTheWay (Toward past rest e) past fault old later → FailsAt fault past rest e old later
+    → StopsOnTheWay (Toward past rest e) past fault old later → EventGivesUp fault past rest e old later
 fails_at fault past rest e old later stops =
     record {
       mid = stops.mid;
@@ -163,7 +163,7 @@ comes_of_stop f WriterGone events past rest e session old later stops = fails_at
 
 -- the session gave up
 comes_of_fault : (f : FirstSeq) (fault : SessionFault) (events : List Incoming) (past : History) (e : Incoming)
-    (start session last : State) (old later : Ports) (stands : StandsFor f start events past)
+    (start session last : State) (old later : Ports) (stands : Represents f start events past)
     → Handles (Err fault) past stands.rest e session old later
     → Comes f (Err fault) events past stands.rest e last old later
 comes_of_fault f fault events past e start session last old later stands (inl stops) =
@@ -183,7 +183,7 @@ comes_of_fault f fault events past e start session last old later stands (inr en
 -- The session came through the event. It asks for something next, or there was no memory to ask.
 comes_of_want : ReadingsGoOn → (f : FirstSeq) (result : Result Want SessionFault) (events : List Incoming)
     (past : History)
-    (e : Incoming) (start session last : State) (old later : Ports) (stands : StandsFor f start events past)
+    (e : Incoming) (start session last : State) (old later : Ports) (stands : Represents f start events past)
     → IsTaking past
     → Arrives (LeadsByEvent past stands.rest e) past session old later
     → IfOk result (λ want. Wants want session session.ending)
@@ -237,11 +237,11 @@ want_needs_none (Err fault) session free lost waits_ = λ e. absurd (waits_ (fre
 
 -- ---- the event is taken
 
--- the same, of the history of the events that it stands for
+-- the same, of the history of the events that it represents
 handled_from : (start session : State) (e : Incoming) (taken : Result (Unit {0}) SessionFault) (old later : Ports)
     → start.ending ≡ None → HandlesEvent start e taken session old later
     → (f : FirstSeq) (events : List Incoming) (past : History)
-    (stands : StandsFor f start events past) → Handles taken past stands.rest e session old later
+    (stands : Represents f start events past) → Handles taken past stands.rest e session old later
 handled_from start session e taken old later open_ handled f events past stands =
     let taking : IsTaking past = sym stands.ending_is ∙ open_ in
     handled.comes past stands.rest taking (stands.goes_on taking)

@@ -5,8 +5,8 @@ use Rattle.dap_msg.specs.declared.outgoing.Outgoing.{Outgoing}
 use Rattle.dap_history.specs.declared.fault.SessionFault.{SessionFault}
 use Rattle.dap_history.specs.declared.fault.SessionFault.TheVariants.{NoMemory, SeqExhausted, OrdersFull, RunnerGone, WriterGone}
 use Rattle.dap_history.specs.Output.{frames_from}
-use Rattle.dap_session.specs.Ports.{Written, Ordered}
-use Rattle.dap_session.specs.Sending.{Begins}
+use Rattle.dap_session.specs.Ports.{Written, PushedOrders}
+use Rattle.dap_session.specs.Sending.{IsPrefixOf}
 
 -- frames as plain data
 abbrev pub plain_frames : List (Vec ℕ Global) → List (List ℕ)
@@ -28,7 +28,7 @@ abbrev pub IsNotBuilt : SessionFault → ℕ → List Outgoing → Type 0
 IsNotBuilt fault first messages = (fault ≡ NoMemory) ⊎ ((fault ≡ SeqExhausted) × (2 ^ 53 < first + length messages))
 
 -- An order was refused, and the refusal was counted.
-abbrev pub IsNotPushed : SessionFault → Ordered → Ordered → Type 0
+abbrev pub IsNotPushed : SessionFault → PushedOrders → PushedOrders → Type 0
 IsNotPushed OrdersFull old new = (new.orders ≡ old.orders) × (old.fulls < new.fulls)
 IsNotPushed RunnerGone old new = (new.orders ≡ old.orders) × (old.refusals < new.refusals)
 IsNotPushed _ old new = ⊥
@@ -40,4 +40,4 @@ pub record IsNotPut (fault : SessionFault) (frames : List (List ℕ)) (old new :
   pub frames_are : new.frames ≡ old.frames ++ put
   pub frame : List ℕ
   pub refused_are : new.refused ≡ old.refused ++ frame ∷ []
-  pub begins : Begins (put ++ frame ∷ []) frames
+  pub begins : IsPrefixOf (put ++ frame ∷ []) frames

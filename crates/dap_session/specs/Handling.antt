@@ -1,4 +1,4 @@
--- Defines, for private contracts, how far a session came from the history that it stood for, by the parts of an event.
+-- Defines, for private contracts, how far a session came from the history it represented, by the parts of an event.
 use Rattle.std.specs.Prelude.{◌≡◌, ◌≢◌, ◌⊎◌, ◌++◌, ◌∷◌, [], ℕ, List, Vec, Option, None, Some, Result, Ok, Err}
 use Rattle.std.specs.declared.alloc.Global.{Global}
 use Rattle.dap_frame.specs.declared.fault.FramingFault.{FramingFault}
@@ -17,14 +17,14 @@ use Rattle.dap_history.specs.Launching.{wanted_in}
 use Rattle.dap_history.specs.Emission.{IsAfter}
 use Rattle.dap_history.specs.Events.{Incoming, Rest, IsTaking, Takes, LeadsByEvent}
 use Rattle.dap_phase.specs.Phases.{launch_of}
-use Rattle.dap_session.specs.Ports.{Ordered, Ports}
+use Rattle.dap_session.specs.Ports.{PushedOrders, Ports}
 use Rattle.dap_session.specs.Building.{IsNotPushed}
 use Rattle.dap_session.specs.Sending.{Sends, RefusesNothing, BreaksOff}
 use Rattle.dap_session.specs.State.{State, Knows, GoesOn}
 use Rattle.dap_session.specs.Taking.{TowardByPiece, Toward, LacksMemory, Expects, NeedsNoMemory}
 
 -- The session is at this history: it has the history's ending, and until then its fields are the readings.
-pub record IsAt (session : State) (past : History) : Type 0 where
+pub record HasHistory (session : State) (past : History) : Type 0 where
   pub ending_is : session.ending ≡ ending_of past
   pub knows : IsTaking past → Knows session past
 
@@ -40,7 +40,7 @@ IsWell (Some (ending.Fault fault)) = ⊥
 pub record TakesItem (past : History) (item : Item) (session : State) (old later : Ports) : Type 0 where
   pub new : History
   pub after : IsAfter past item new
-  pub is_at : IsAt session new
+  pub is_at : HasHistory session new
   pub free : launch_of session.phase ≡ None
   pub sends : Sends past new old later
   pub refuses_nothing : RefusesNothing old later
@@ -66,7 +66,7 @@ LeadsByContent past request (Some launch) new = (wanted_in (situation past) requ
 -- The content was taken, and everything that it causes was sent.
 pub record TakesContent (past : History) (request : Option Request) (session : State) (old later : Ports) : Type 0 where
   pub new : History
-  pub is_at : IsAt session new
+  pub is_at : HasHistory session new
   pub leads : LeadsByContent past request (launch_of session.phase) new
   pub sends : Sends past new old later
   pub refuses_nothing : RefusesNothing old later
@@ -159,7 +159,7 @@ plain_file (Err fault) = Err fault
 -- ---- closing
 
 -- A Quit was pushed, or the port refused it.
-abbrev pub PushesQuit : Result (Unit {0}) SessionFault → Ordered → Ordered → Type 0
+abbrev pub PushesQuit : Result (Unit {0}) SessionFault → PushedOrders → PushedOrders → Type 0
 PushesQuit (Ok u) old later =
     (later.orders ≡ old.orders ++ Quit ∷ []) × (later.fulls ≡ old.fulls) × (later.refusals ≡ old.refusals)
 PushesQuit (Err fault) old later = IsNotPushed fault old later

@@ -12,7 +12,7 @@ use Rattle.dap_history.specs.Events.{Incoming, Rest, IsTaking, AreLawful, IsHist
 use Rattle.dap_history.specs.Interleaving.{Load}
 use Rattle.dap_history.specs.Output.{frames_from}
 use Rattle.dap_session.specs.Ports.{Ports}
-use Rattle.dap_session.specs.Sending.{Begins, TriesQuit}
+use Rattle.dap_session.specs.Sending.{IsPrefixOf, TriesQuit}
 use Rattle.dap_session.specs.Taking.{Toward}
 use Rattle.dap_session.specs.Serving.{Driven}
 
@@ -33,7 +33,8 @@ pub record IsOnTheWay (first : FirstSeq) (events : List Incoming) (reached : His
 -- hold of it.
 pub record IsReached (first : FirstSeq) (events : List Incoming) (reached : History) : Type 0 where
   pub way : ((rest : Rest) × (rest.first ≡ first) × IsHistoryOf events reached rest) ⊎ IsOnTheWay first events reached
-  pub begins : (past : History) (rest : Rest) → rest.first ≡ first → IsHistoryOf events past rest → Begins reached past
+  pub begins : (past : History) (rest : Rest) → rest.first ≡ first → IsHistoryOf events past rest
+      → IsPrefixOf reached past
   pub taken : List Incoming
   pub rest : Rest
   pub first_is : rest.first ≡ first
@@ -47,8 +48,8 @@ pub record SendsPrefix (reached : History) (old later : Ports) : Type 0 where
   pub orders : List PlainOrder
   pub frames_are : later.frames ≡ old.frames ++ frames
   pub orders_are : later.orders ≡ old.orders ++ orders
-  pub frames_begin : Begins frames (frames_from 1 (messages_of reached))
-  pub orders_begin : Begins orders (orders_of reached)
+  pub frames_begin : IsPrefixOf frames (frames_from 1 (messages_of reached))
+  pub orders_begin : IsPrefixOf orders (orders_of reached)
 
 -- Whatever fault ends a session, what it sent is a prefix of what the history that it reached says; after that, one
 -- Quit was pushed or refused.

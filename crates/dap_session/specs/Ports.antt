@@ -11,7 +11,7 @@ pub record Written : Type 0 where
 
 -- The orders pushed, the oldest first, and how many were refused: `fulls` because there was no room, and `refusals`
 -- because nobody takes orders any more.
-pub record Ordered : Type 0 where
+pub record PushedOrders : Type 0 where
   pub orders : List PlainOrder
   pub fulls : ℕ
   pub refusals : ℕ
@@ -29,7 +29,7 @@ pub record Ports : Type 0 where
   pub orders_full : ℕ
 
 -- both ports
-abbrev pub ports : Written → Ordered → Ports
+abbrev pub ports : Written → PushedOrders → Ports
 ports out orders =
     record {
       frames = out.frames;

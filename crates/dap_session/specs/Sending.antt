@@ -6,10 +6,10 @@ use Rattle.dap_history.specs.declared.fault.SessionFault.{SessionFault}
 use Rattle.dap_history.specs.declared.fault.SessionFault.TheVariants.{Frame, NoMemory, SeqExhausted, OrdersFull, RunnerGone, WriterGone}
 use Rattle.dap_history.specs.History.{History, messages_of, orders_of, next_seq}
 use Rattle.dap_history.specs.Output.{frames_from}
-use Rattle.dap_session.specs.Ports.{Ordered, Ports}
+use Rattle.dap_session.specs.Ports.{PushedOrders, Ports}
 
 -- The history `new` has these messages and orders after those of `past`.
-pub record Adds (past new : History) (messages : List Outgoing) (orders : List PlainOrder) : Type 0 where
+pub record AddsToHistory (past new : History) (messages : List Outgoing) (orders : List PlainOrder) : Type 0 where
   pub messages_are : messages_of new ≡ messages_of past ++ messages
   pub orders_are : orders_of new ≡ orders_of past ++ orders
 
@@ -21,7 +21,7 @@ SeqsFit past new = next_seq past ≤ 2 ^ 53 → next_seq new ≤ 2 ^ 53
 pub record Sends (past new : History) (old later : Ports) : Type 0 where
   pub messages : List Outgoing
   pub orders : List PlainOrder
-  pub adds : Adds past new messages orders
+  pub adds : AddsToHistory past new messages orders
   pub frames_are : later.frames ≡ old.frames ++ frames_from (next_seq past) messages
   pub orders_are : later.orders ≡ old.orders ++ orders
   pub seqs_fit : SeqsFit past new
@@ -35,31 +35,31 @@ pub record RefusesNothing (old later : Ports) : Type 0 where
 -- ---- where a session gives up
 
 -- xs is a prefix of ys
-abbrev pub Begins : {A : Type 0} → List A → List A → Type 0
-Begins {A} xs ys = (more : List A) × (xs ++ more ≡ ys)
+abbrev pub IsPrefixOf : {A : Type 0} → List A → List A → Type 0
+IsPrefixOf {A} xs ys = (more : List A) × (xs ++ more ≡ ys)
 
 -- A prefix of the orders that the history gained was pushed, and no frame was put.
 pub record PushesSome (past new : History) (old later : Ports) : Type 0 where
   pub messages : List Outgoing
   pub orders : List PlainOrder
-  pub adds : Adds past new messages orders
+  pub adds : AddsToHistory past new messages orders
   pub frames_are : later.frames ≡ old.frames
   pub refused_are : later.refused ≡ old.refused
   pub pushed : List PlainOrder
   pub orders_are : later.orders ≡ old.orders ++ pushed
-  pub begins : Begins pushed orders
+  pub begins : IsPrefixOf pushed orders
 
 -- All orders that the history gained were pushed, and the frames before one that was refused were put.
 pub record PutsSome (past new : History) (old later : Ports) : Type 0 where
   pub messages : List Outgoing
   pub orders : List PlainOrder
-  pub adds : Adds past new messages orders
+  pub adds : AddsToHistory past new messages orders
   pub orders_are : later.orders ≡ old.orders ++ orders
   pub put : List (List ℕ)
   pub frames_are : later.frames ≡ old.frames ++ put
   pub frame : List ℕ
   pub refused_are : later.refused ≡ old.refused ++ frame ∷ []
-  pub begins : Begins (put ++ frame ∷ []) (frames_from (next_seq past) messages)
+  pub begins : IsPrefixOf (put ++ frame ∷ []) (frames_from (next_seq past) messages)
   pub seqs_fit : SeqsFit past new
 
 -- What was sent of one more step, which leads from `past` to `new`, where this fault ended the sending. The fault has
@@ -74,7 +74,7 @@ BreaksOff RunnerGone past new old later = PushesSome past new old later × (old.
 BreaksOff WriterGone past new old later = PutsSome past new old later
 
 -- One Quit was pushed, and nothing was refused; or the port refused it, and the count for the reason has grown.
-abbrev pub HasTriedQuit : Ordered → Ordered → Type 0
+abbrev pub HasTriedQuit : PushedOrders → PushedOrders → Type 0
 HasTriedQuit old later =
     ((later.orders ≡ old.orders ++ Quit ∷ []) × (later.fulls ≡ old.fulls) × (later.refusals ≡ old.refusals))
     ⊎ ((later.orders ≡ old.orders)
@@ -82,7 +82,7 @@ HasTriedQuit old later =
     ⊎ ((old.refusals < later.refusals) × (later.fulls ≡ old.fulls))))
 
 -- what the port of orders did
-abbrev pub ordered_at : Ports → Ordered
+abbrev pub ordered_at : Ports → PushedOrders
 ordered_at p = record { orders = p.orders; fulls = p.orders_full; refusals = p.runner_gone }
 
 -- One Quit was pushed or refused, and nothing else was sent.

@@ -15,7 +15,7 @@ use Rattle.dap_history.specs.Output.{frames_from}
 use Rattle.dap_history.specs.Interleaving.{Load, Interleaves, InterleavesUpTo}
 use Rattle.dap_session.specs.Ports.{Ports}
 use Rattle.dap_session.specs.Sending.{Sends, RefusesNothing, TriesQuit}
-use Rattle.dap_session.specs.Taking.{NeedsNoMemory, FailsAt}
+use Rattle.dap_session.specs.Taking.{NeedsNoMemory, EventGivesUp}
 
 -- The events were taken until the session had this ending, and everything that they cause was sent: the frames of the
 -- messages, numbered 1, 2, 3 and so on, none of them 2^53 or more, and the orders.
@@ -57,7 +57,7 @@ pub record StopsShort (first : FirstSeq) (events : List Incoming) (fault : Sessi
   pub sent : Sends [] past old mid
   pub refuses_nothing : RefusesNothing old mid
   pub stopped : Ports
-  pub fails : FailsAt fault past rest last mid stopped
+  pub fails : EventGivesUp fault past rest last mid stopped
   pub quit : TriesQuit stopped later
 
 -- The faults at which what an event causes can't be sent: no seq is left, the queue of orders is full, or nobody takes
@@ -69,23 +69,23 @@ pub data CannotSend : SessionFault → Type 0 where
   writer_is_gone : CannotSend WriterGone
 
 -- What the events that an inbox and a loader returned lead to, and the result.
-pub data Drives (first : FirstSeq) (events given : List Incoming) (loads : List Load)
+pub data SessionOutcome (first : FirstSeq) (events given : List Incoming) (loads : List Load)
     (old later : Ports) : Result Closed SessionFault
     → Type 0 where
   -- the session was closed
   closes : {by : Closed} → Interleaves first [] events given loads → Serves first events (ending.Closed by) old later
-      → Drives first events given loads old later (Ok by)
+      → SessionOutcome first events given loads old later (Ok by)
   -- a framing fault ended it
   ends_at_fault : {fault : FramingFault} → Interleaves first [] events given loads
       → ServesUntilFault first events fault old later
-      → Drives first events given loads old later (Err (Frame fault))
+      → SessionOutcome first events given loads old later (Err (Frame fault))
   -- it ran out of memory; the loader's last answer may be missing then
   runs_out_of_memory : InterleavesUpTo first events given loads → StopsShort first events NoMemory old later
-      → Drives first events given loads old later (Err NoMemory)
+      → SessionOutcome first events given loads old later (Err NoMemory)
   -- it couldn't send what the last event gives
   gives_up : {fault : SessionFault} → CannotSend fault → Interleaves first [] events given loads
       → StopsShort first events fault old later
-      → Drives first events given loads old later (Err fault)
+      → SessionOutcome first events given loads old later (Err fault)
 
 -- an inbox and a loader returned these events and answers, and this is what they led to
 pub record Driven (first : FirstSeq) (result : Result Closed SessionFault) (given_before given_after : List Incoming)
@@ -96,4 +96,4 @@ pub record Driven (first : FirstSeq) (result : Result Closed SessionFault) (give
   pub given_are : given_after ≡ given_before ++ given
   pub loads_are : loaded_after ≡ loaded_before ++ loads
   pub lawful : AreLawful events
-  pub drives : Drives first events given loads old later result
+  pub drives : SessionOutcome first events given loads old later result

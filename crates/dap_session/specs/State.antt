@@ -1,4 +1,4 @@
--- Defines what a session keeps, and which lists of events it stands for.
+-- Defines what a session keeps, and which lists of events it represents.
 use Rattle.std.specs.Prelude.{◌≡◌, ℕ, List, String, string_bytes, Option, None, Some, Result, Ok, Err}
 use Rattle.std.specs.declared.alloc.Global.{Global}
 use Rattle.dap_frame.specs.declared.fault.FramingFault.{FramingFault}
@@ -40,8 +40,8 @@ pub record GoesOn (session : State) (past : History) (rest : Rest) : Type 0 wher
   pub launch_is : launch_of session.phase ≡ rest.launch
   pub stream_is : session.stream ≡ record { first = rest.first; rest = rest.bytes; fault = None }
 
--- The session stands for the events, whose history is `past`.
-pub record StandsFor (first : FirstSeq) (session : State) (events : List Incoming) (past : History) : Type 0 where
+-- The session represents the events, whose history is `past`.
+pub record Represents (first : FirstSeq) (session : State) (events : List Incoming) (past : History) : Type 0 where
   pub rest : Rest
   pub first_is : rest.first ≡ first
   pub history : IsHistoryOf events past rest
@@ -63,9 +63,9 @@ Wants want session (Some (ending.Closed by)) = want ≡ want_is.Closed
 Wants want session (Some (ending.Fault fault)) = ⊥
 
 -- what a session returns once it has ended
-abbrev pub answer_of : Ending → Result Want SessionFault
-answer_of (ending.Closed by) = Ok want_is.Closed
-answer_of (ending.Fault fault) = Err fault
+abbrev pub want_at_end : Ending → Result Want SessionFault
+want_at_end (ending.Closed by) = Ok want_is.Closed
+want_at_end (ending.Fault fault) = Err fault
 
 -- the session wasn't closed: it goes on, or gave up
 abbrev pub IsOpenEnded : Option Ending → Type 0

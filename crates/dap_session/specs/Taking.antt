@@ -24,7 +24,7 @@ use Rattle.dap_phase.specs.Runs.{heading_in}
 use Rattle.dap_session.specs.declared.want.Want.{Want}
 use Rattle.dap_session.specs.Ports.{Ports}
 use Rattle.dap_session.specs.Sending.{Sends, RefusesNothing, BreaksOff}
-use Rattle.dap_session.specs.State.{State, StandsFor, Wants}
+use Rattle.dap_session.specs.State.{State, Represents, Wants}
 
 -- ---- how far an event was taken
 
@@ -95,7 +95,8 @@ LacksMemory _ _ = ⊥
 
 -- The session gave up at the event. Some of its steps were sent completely, and one more step as far as the fault
 -- allowed.
-pub record FailsAt (fault : SessionFault) (past : History) (rest : Rest) (event : Incoming) (old later : Ports) : Type 0
+pub record EventGivesUp (fault : SessionFault) (past : History) (rest : Rest) (event : Incoming)
+    (old later : Ports) : Type 0
   where
     pub mid : History
     pub toward : Toward past rest event mid
@@ -107,7 +108,7 @@ pub record FailsAt (fault : SessionFault) (past : History) (rest : Rest) (event 
     pub breaks : BreaksOff fault mid next between later
 
 -- A framing fault ended the session at the event, and everything that the event causes was sent.
-pub record EndsAt (first : FirstSeq) (fault : FramingFault) (events : List Incoming) (past : History)
+pub record EventEndsInFault (first : FirstSeq) (fault : FramingFault) (events : List Incoming) (past : History)
     (event : Incoming) (old later : Ports) : Type 0 where
   pub new : History
   pub rest : Rest
@@ -117,11 +118,11 @@ pub record EndsAt (first : FirstSeq) (fault : FramingFault) (events : List Incom
   pub sends : Sends past new old later
   pub refuses_nothing : RefusesNothing old later
 
--- The session stands for the events and this one, and what this one causes was sent.
-pub record GoesWell (first : FirstSeq) (events : List Incoming) (past : History) (event : Incoming) (want : Want)
+-- The session represents the events and this one, and what this one causes was sent.
+pub record EventIsTaken (first : FirstSeq) (events : List Incoming) (past : History) (event : Incoming) (want : Want)
     (session : State) (old later : Ports) : Type 0 where
   pub new : History
-  pub stands : StandsFor first session (events ++ event ∷ []) new
+  pub stands : Represents first session (events ++ event ∷ []) new
   pub sends : Sends past new old later
   pub refuses_nothing : RefusesNothing old later
   pub wants : Wants want session session.ending
@@ -129,17 +130,18 @@ pub record GoesWell (first : FirstSeq) (events : List Incoming) (past : History)
 -- What an event leads to, by the result.
 abbrev pub Comes : FirstSeq → Result Want SessionFault → List Incoming → History → Rest → Incoming → State → Ports
     → Ports → Type 0
-Comes first (Ok want) events past rest event session old later = GoesWell first events past event want session old later
+Comes first (Ok want) events past rest event session old later =
+    EventIsTaken first events past event want session old later
 Comes first (Err (Frame fault)) events past rest event session old later =
-    EndsAt first fault events past event old later
-Comes first (Err fault) events past rest event session old later = FailsAt fault past rest event old later
+    EventEndsInFault first fault events past event old later
+Comes first (Err fault) events past rest event session old later = EventGivesUp fault past rest event old later
 
--- The session, which goes on, takes the event with this result. Whatever events it stands for, the result is what one
+-- The session, which goes on, takes the event with this result. Whatever events it represents, the result is what one
 -- more leads to. Where memory was lacking for the event it is `NoMemory`; an event that needs none never leads to that.
 pub record TakesEvent (session : State) (event : Incoming) (result : Result Want SessionFault) (after : State)
     (old later : Ports) : Type 0 where
   pub comes : (first : FirstSeq) (events : List Incoming) (past : History)
-      (stands : StandsFor first session events past)
+      (stands : Represents first session events past)
       → Comes first result events past stands.rest event after old later
   pub no_memory : LacksMemory event (launch_of session.phase) → result ≡ Err NoMemory
   pub enough : NeedsNoMemory (launch_of session.phase) (Expects session.phase) event → result ≢ Err NoMemory

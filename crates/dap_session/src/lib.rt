@@ -6,7 +6,7 @@
 //! cause, and the laws of all that is sent, are in `dap_history`, and what a session does at one item is in `dap_replies`.
 //!
 //! No history is stored: a session's fields are readings of the steps so far (`specs/State`), and a contract speaks of
-//! every list of events that the session stands for.
+//! every list of events that the session represents.
 #![tactic(auto)]
 
 mod driving;

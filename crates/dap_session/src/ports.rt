@@ -64,12 +64,12 @@ pub trait Out {
 /// Where orders go.
 pub trait Orders {
     ghost use Rattle.dbg_runner.specs.Orders.{plain_order};
-    ghost use Rattle.dap_session.specs.Ports.{Ordered};
+    ghost use Rattle.dap_session.specs.Ports.{PushedOrders};
     ghost use Rattle.dap_session.specs.declared.ports.OrderFault.TheVariants.{Full, Gone};
     ghost use Rattle.std.specs.Prelude.{◌≡◌, ◌++◌, ◌∷◌, [], ◌<◌, OnOk, OnErr, Err};
 
     /// The orders pushed, and how many were refused.
-    ghost seen: { Self → Ordered };
+    ghost seen: { Self → PushedOrders };
 
     /// There is no room for an order.
     ghost is_full: { Self → Type 0 };

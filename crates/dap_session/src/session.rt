@@ -52,20 +52,20 @@ impl Session {
     ghost use Rattle.dap_phase.specs.Phases.{launch_of};
     ghost use Rattle.dap_session.specs.Incoming.{incoming_of};
     ghost use Rattle.dap_session.specs.Ports.{ports};
-    ghost use Rattle.dap_session.specs.State.{StandsFor, IsOpenEnded, Wants, answer_of};
+    ghost use Rattle.dap_session.specs.State.{Represents, IsOpenEnded, Wants, want_at_end};
     ghost use Rattle.dap_session.specs.Taking.{TakesEvent};
     ghost use Rattle.dap_session.specs.Handling.{IsWell, HandlesEvent};
 
     /// Returns a session that has taken no event, for a client whose numbers begin with 1. It takes no memory.
     pub fn new(alloc: Global) -> Session
-        ensures { StandsFor FirstSeq.One result [] [] }
+        ensures { Represents FirstSeq.One result [] [] }
     {
         Session::new_from(alloc, FirstSeq::One)
     }
 
     /// Returns a session that has taken no event, by the first number that the client may use. It takes no memory.
     pub fn new_from(alloc: Global, first: FirstSeq) -> Session
-        ensures { StandsFor first result [] [] }
+        ensures { Represents first result [] [] }
     {
         Session {
             alloc,
@@ -106,7 +106,7 @@ impl Session {
             (ports (O.seen out.new) (D.seen orders.new)) }
         ensures failed { IfErr result (λ fault. self.new.ending ≡ Some (ending.Fault fault)) }
         // Once the session is closed or gave up, every call returns the same, and nothing changes.
-        ensures answer { (over : AnEnding) → self.old.ending ≡ Some over → result ≡ answer_of over }
+        ensures answer { (over : AnEnding) → self.old.ending ≡ Some over → result ≡ want_at_end over }
         ensures quiet { self.old.ending ≢ None → ports (O.seen out.new) (D.seen orders.new) ≡ ports (O.seen out.old) (D.seen orders.old) }
         ensures same { self.old.ending ≢ None → self.new ≡ self.old }
         ensures out { O.origin out.new ≡ O.origin out.old }

@@ -7,7 +7,7 @@ use Rattle.dap_history.specs.Events.{Incoming, Piece, End, ReadFailed, NoMemory,
 use Rattle.dap_session.specs.declared.ports.Event.{Event}
 use Rattle.dap_session.specs.declared.ports.Event.TheVariants as event
 use Rattle.dap_session.specs.Incoming.{incoming_of}
-use Rattle.dap_session.specs.Sending.{Begins}
+use Rattle.dap_session.specs.Sending.{IsPrefixOf}
 use Rattle.dbg_runner.specs.Plain.{PlainReport}
 use Rattle.dbg_runner.specs.Reported.{Reported, plain_report}
 use Rattle.dap_wires.specs.declared.arrival.Arrival.{Arrival}
@@ -141,13 +141,13 @@ module _ (taken inside : List Arrival) (given : List Event) (rest : List Reporte
 
   -- what the session was given of the reader's is a prefix of what that put
   pub client_begins : (put : List Arrival) → put ≡ of_first is_by_runner (taken ++ inside)
-      → Begins (from_client (map incoming_of given)) (came put)
+      → IsPrefixOf (from_client (map incoming_of given)) (came put)
   client_begins put put_is =
       (from_client (came inside), sym client_taken ∙ sym (client_first (taken ++ inside)) ∙ ap came (sym put_is))
 
   -- and of the runner's, which has sent more than it put
   pub reports_begin : (put : List Arrival) (kept : List Reported) → put ≡ of_second is_by_runner (taken ++ inside)
-      → Begins (reports_among (map incoming_of given)) (reports_among (came put) ++ map plain_report kept)
+      → IsPrefixOf (reports_among (map incoming_of given)) (reports_among (came put) ++ map plain_report kept)
   reports_begin put kept put_is = (
     (map plain_report rest ++ reports_among (came inside)) ++ map plain_report kept,
     sym (append_assoc (reports_among (map incoming_of given)) (map plain_report rest ++ reports_among (came inside))
@@ -241,7 +241,7 @@ frames_end xs = frames_append xs (message.End ∷ []) ∙ append-nil (frames_in 
 
 -- what was taken is a prefix of what was put
 pub messages_begin : (put kept taken inside : List WriterMessage) → put ≡ of_first (λ _. false) (taken ++ inside)
-    → Begins taken (put ++ kept)
+    → IsPrefixOf taken (put ++ kept)
 messages_begin put kept taken inside is = (
   inside ++ kept,
   sym (append_assoc taken inside kept) ∙ ap (λ l. l ++ kept) (sym (is ∙ all_first (taken ++ inside))),

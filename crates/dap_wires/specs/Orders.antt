@@ -5,14 +5,14 @@ use Rattle.crossbeam_queue.specs.Passes.{view}
 use Rattle.dbg_runner.specs.declared.order.Order.{Order}
 use Rattle.dbg_runner.specs.Orders.{plain_order}
 use Rattle.dbg_runner.specs.Plain.{PlainOrder}
-use Rattle.dap_session.specs.Ports.{Ordered}
+use Rattle.dap_session.specs.Ports.{PushedOrders}
 use Rattle.dap_wires.specs.declared.order_ends.OrderSender.{OrderSender}
 use Rattle.dap_wires.specs.declared.order_ends.OrderReceiver.{OrderReceiver}
 pub use Rattle.dap_wires.specs.Full.{FourWereInside}
 
 module _ {R : Type 0} where
   -- the orders that the session pushed, and how often it found the queue full; the runner is never gone
-  abbrev pub pushed_orders : OrderSender R → Ordered
+  abbrev pub pushed_orders : OrderSender R → PushedOrders
   pushed_orders e =
       record { orders = map plain_order (view e.pass).put_first; fulls = length e.fulls.entries; refusals = 0 }
 

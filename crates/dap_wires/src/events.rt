@@ -2,7 +2,7 @@
 
 ghost use Rattle.std.specs.Prelude.{◌≡◌, ◌++◌, ◌∷◌, [], true, false, IfOk, IfErr, OnOk, OnErr, IsTrue};
 ghost use Rattle.dap_session.specs.Incoming.{incoming_of};
-ghost use Rattle.dap_session.specs.Sending.{Begins};
+ghost use Rattle.dap_session.specs.Sending.{IsPrefixOf};
 ghost use Rattle.dbg_runner.specs.Reported.{plain_report};
 ghost use Rattle.dap_wires.specs.Inbox.{client_events, returned_events, put_reports, sent_reports, refused_reports, taken_events, client_queue, report_queue, event_queue, left_queue, received};
 ghost use Rattle.dap_wires.specs.Senders.{is_report, from_client, reports_among};
@@ -71,8 +71,8 @@ pub fn reconcile_inbox<R: Wait + Drop>(
     log: InboxLog,
 )
     requires one { (report_queue reports ≡ client_queue client) × (left_queue log ≡ client_queue client) }
-    ensures client { Begins (from_client (received log)) (client_events client) }
-    ensures reports { Begins (reports_among (received log)) (sent_reports reports) }
+    ensures client { IsPrefixOf (from_client (received log)) (client_events client) }
+    ensures reports { IsPrefixOf (reports_among (received log)) (sent_reports reports) }
 {
     reconcile(client.end, reports.end, log.log);
 }

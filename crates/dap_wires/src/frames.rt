@@ -1,7 +1,7 @@
 //! The outbox of a session: a queue of the frames that go to a writer.
 
 ghost use Rattle.std.specs.Prelude.{◌≡◌, ◌≢◌, ◌⊎◌, ◌++◌, ◌∷◌, [], true, false, ℕ, None, IfOk, IfSome, IfNone, IsTrue, IsFalse};
-ghost use Rattle.dap_session.specs.Sending.{Begins};
+ghost use Rattle.dap_session.specs.Sending.{IsPrefixOf};
 ghost use Rattle.dap_wires.specs.Ends.{receive_log, receive_log_queue};
 ghost use Rattle.dap_wires.specs.Outbox.{put_frames, frame_queue, unused_queue, messages_put, ended_queue, ended_unused_queue, messages_taken, writer_queue, messages_received, with_frame};
 ghost use Rattle.dap_wires.specs.WriterMessages.{frames_in, has_end, AreEnded};
@@ -51,7 +51,7 @@ pub fn outbox<R: Wait + Copy + Drop>(
 pub fn reconcile_outbox<R: Wait + Drop>(frames: EndedSender<R>, log: ReceiveLog<WriterMessage>)
     requires one { (ended_unused_queue frames ≡ ended_queue frames) × (receive_log_queue log ≡ ended_queue frames) }
     requires receiver { (receive_log log).takes ≡ true }
-    ensures taken { Begins (messages_received log) (messages_put frames) }
+    ensures taken { IsPrefixOf (messages_received log) (messages_put frames) }
 {
     reconcile(frames.end, frames.unused, log);
 }

@@ -4,7 +4,7 @@ ghost use Rattle.std.specs.Prelude.{◌≡◌, ◌≢◌, ◌≤◌, ◌∷◌, 
 ghost use Rattle.std.specs.Option.{option_to_list};
 ghost use Rattle.std.specs.Arc.{arc_value};
 ghost use Rattle.crossbeam_queue.specs.Passes.{view, IsPassOf, ruled_capacity};
-ghost use Rattle.dap_session.specs.Sending.{Begins};
+ghost use Rattle.dap_session.specs.Sending.{IsPrefixOf};
 ghost use Rattle.dbg_runner.specs.Orders.{plain_order};
 ghost use Rattle.dbg_runner.specs.declared.order.Order.{Order};
 ghost use Rattle.dap_wires.specs.Orders.{FourWereInside, pushed_orders, taken_orders, push_queue, pop_queue};
@@ -62,7 +62,7 @@ pub fn orders<R: Wait + Copy + Drop>(
 /// are a prefix of those that the session pushed.
 pub fn reconcile_orders<R: Wait + Drop>(session: OrderSender<R>, runner: OrderReceiver<R>)
     requires { pop_queue runner ≡ push_queue session }
-    ensures taken { Begins (taken_orders runner) (pushed_orders session).orders }
+    ensures taken { IsPrefixOf (taken_orders runner) (pushed_orders session).orders }
     ensures full { (pushed_orders session).fulls ≢ 0 → FourWereInside (pushed_orders session).orders }
 {
     let OrderSender {

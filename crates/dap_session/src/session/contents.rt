@@ -23,7 +23,7 @@ impl Session {
     ghost use Rattle.dap_phase.specs.Phases.{launch_of};
     ghost use Rattle.dap_session.specs.Ports.{ports};
     ghost use Rattle.dap_session.specs.State.{GoesOn};
-    ghost use Rattle.dap_session.specs.Handling.{IsAt, IsWell, HandlesContent, HandlesContents, Handles};
+    ghost use Rattle.dap_session.specs.Handling.{HasHistory, IsWell, HandlesContent, HandlesContents, Handles};
 
     /// Takes a piece of the input.
     pub(super) fn take_piece<O: Out, D: Orders>(
@@ -64,7 +64,7 @@ impl Session {
         orders: &mut D,
     ) -> Result<(), SessionFault>
         requires taking { self.old.ending ≡ None }
-        ensures comes { (past : History) → self.old.stream.fault ≡ None → launch_of self.old.phase ≡ None → IsAt self.old past →
+        ensures comes { (past : History) → self.old.stream.fault ≡ None → launch_of self.old.phase ≡ None → HasHistory self.old past →
             HandlesContents self.old.stream.first result past self.old.stream.rest self.new
             (ports (O.seen out.old) (D.seen orders.old))
             (ports (O.seen out.new) (D.seen orders.new)) }
@@ -91,7 +91,7 @@ impl Session {
     ) -> Result<(), SessionFault>
         requires taking { self.old.ending ≡ None }
         requires free { launch_of self.old.phase ≡ None }
-        ensures comes { (past : History) → IsAt self.old past →
+        ensures comes { (past : History) → HasHistory self.old past →
             (request : Option Request) × IsRequestFrom self.old.stream.first content.now request
             × HandlesContent result past request self.new
             (ports (O.seen out.old) (D.seen orders.old))

@@ -18,7 +18,7 @@ impl Session {
     ghost use Rattle.dap_history.specs.Events.{IsTaking};
     ghost use Rattle.dap_phase.specs.Phases.{IsPhase, WantsNoFile, launch_of};
     ghost use Rattle.dap_session.specs.Ports.{ports};
-    ghost use Rattle.dap_session.specs.Handling.{IsAt, IsWell, HandlesItem, HandlesContent};
+    ghost use Rattle.dap_session.specs.Handling.{HasHistory, IsWell, HandlesItem, HandlesContent};
 
     /// Takes a request: answers it, or, where it is a launch, waits for the file.
     pub(super) fn take_request<O: Out, D: Orders>(
@@ -30,7 +30,7 @@ impl Session {
         requires taking { self.old.ending ≡ None }
         requires fits { IsWithin request.body }
         requires free { launch_of self.old.phase ≡ None }
-        ensures comes { (past : History) → IsAt self.old past →
+        ensures comes { (past : History) → HasHistory self.old past →
             HandlesContent result past (Some request) self.new
             (ports (O.seen out.old) (D.seen orders.old))
             (ports (O.seen out.new) (D.seen orders.new)) }

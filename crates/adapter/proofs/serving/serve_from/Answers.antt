@@ -4,7 +4,7 @@ use Rattle.std.proofs.Common.{rules, ◌≡◌, ◌≢◌, [], ◌++◌, ap, ◌
 use Rattle.std.specs.List.{flat_map}
 use Rattle.dap_session.specs.Ports.{ports}
 use Rattle.dbg_runner.specs.Queues.{passed_in}
-use Rattle.dap_session.specs.Sending.{Begins}
+use Rattle.dap_session.specs.Sending.{IsPrefixOf}
 use Rattle.dap_wires.specs.Inbox.{client_events, received, sent_reports, taken_events}
 use Rattle.dap_wires.specs.Orders.{FourWereInside, pushed_orders, taken_orders}
 use Rattle.dap_wires.specs.Outbox.{put_frames, messages_put, messages_received, messages_taken}
@@ -12,8 +12,8 @@ use Rattle.dap_wires.specs.Reading.{IsReadUntil}
 use Rattle.dap_wires.specs.Senders.{from_client, reports_among}
 use Rattle.byte_streams.specs.Streams.{supply, output as output_at}
 use Rattle.dap_wires.specs.Writing.{IsWrittenUntil}
-use Rattle.adapter.specs.Jobs.{Drove}
-use Rattle.adapter.specs.Serving.{World, world, streams, outcome_of, nothing_sent, IsDriven, drove}
+use Rattle.adapter.specs.Jobs.{SessionLeaves}
+use Rattle.adapter.specs.Serving.{World, world, streams, outcome_of, nothing_sent, TasksEnd, tasks_ended}
 use Rattle.adapter.proofs.Crossing.{runner_task_send, runner_output_send, reader_task_send, reader_output_send}
 use Rattle.adapter.proofs.Gathered.{gathers, moved}
 use Rattle.adapter.proofs.serving.serve_from.Goals as goal
@@ -22,10 +22,10 @@ pub returns-in-Ok-done-clause-served : goal.returns-in-Ok-done-clause-served
 returns-in-Ok-done-clause-served g c =
     let ends = c.in-Ok-done.ends in
     let closed = c.in-Ok-done.closed in
-    let facts : (Begins (reports_among (received ends.inbox)) (sent_reports c.in-Ok-done.reports))
-    × (Begins (from_client (received ends.inbox)) (client_events c.in-Ok-done.client))
-    × (Begins (messages_received c.in-Ok-done.written) (messages_put ends.outbox))
-    × (Begins (taken_orders c.in-Ok-done.taken) (pushed_orders ends.orders).orders)
+    let facts : (IsPrefixOf (reports_among (received ends.inbox)) (sent_reports c.in-Ok-done.reports))
+    × (IsPrefixOf (from_client (received ends.inbox)) (client_events c.in-Ok-done.client))
+    × (IsPrefixOf (messages_received c.in-Ok-done.written) (messages_put ends.outbox))
+    × (IsPrefixOf (taken_orders c.in-Ok-done.taken) (pushed_orders ends.orders).orders)
     × (c.outcome.result ≡ outcome_of c.in-Ok-done.wrote closed) × (c.in-Ok-done.input.now ≡ c.input-1.given.0)
     × (c.in-Ok-done.output.now ≡ c.output-1.given.0) × (c.in-Ok-done.loader.now ≡ c.loader-1.given.0)
     × (c.in-Ok-done.gate.now ≡ c.gate-1.given.0) × ((pushed_orders ends.orders).fulls ≢ 0
@@ -41,10 +41,11 @@ returns-in-Ok-done-clause-served g c =
       search rules,
       λ some. moved (c.reconcile.ensures.full (λ none. some (search (rules, none)))) (search rules),
     ) in
-    let inbox_reports : Begins (reports_among (received ends.inbox)) (sent_reports c.in-Ok-done.reports) = facts.0 in
-    let inbox_client : Begins (from_client (received ends.inbox)) (client_events c.in-Ok-done.client) = facts.1 in
-    let outbox_taken : Begins (messages_received c.in-Ok-done.written) (messages_put ends.outbox) = facts.2 in
-    let orders_taken : Begins (taken_orders c.in-Ok-done.taken) (pushed_orders ends.orders).orders = facts.3 in
+    let inbox_reports : IsPrefixOf (reports_among (received ends.inbox)) (sent_reports c.in-Ok-done.reports) =
+    facts.0 in
+    let inbox_client : IsPrefixOf (from_client (received ends.inbox)) (client_events c.in-Ok-done.client) = facts.1 in
+    let outbox_taken : IsPrefixOf (messages_received c.in-Ok-done.written) (messages_put ends.outbox) = facts.2 in
+    let orders_taken : IsPrefixOf (taken_orders c.in-Ok-done.taken) (pushed_orders ends.orders).orders = facts.3 in
     let answer : c.outcome.result ≡ outcome_of c.in-Ok-done.wrote closed = facts.4 in
     let input : c.in-Ok-done.input.now ≡ c.input-1.given.0 = facts.5 in
     let output : c.in-Ok-done.output.now ≡ c.output-1.given.0 = facts.6 in
@@ -65,30 +66,31 @@ returns-in-Ok-done-clause-served g c =
     (pushed_orders c.new-session.result.orders) ≡ nothing_sent =
     ap (λ w. ports w (pushed_orders c.new-session.result.orders)) frames
     ∙ ap (λ o. ports (record { frames = []; refused = [] }) o) orders in
-    let fresh : Drove c.args.first closed [] (received ends.inbox) (g.L.Loader.loaded c.new-session.result.loader.now)
+    let fresh : SessionLeaves c.args.first closed [] (received ends.inbox)
+    (g.L.Loader.loaded c.new-session.result.loader.now)
     (g.L.Loader.loaded c.in-Ok-done.loader.now)
     (ports (put_frames c.new-session.result.outbox) (pushed_orders c.new-session.result.orders))
     (messages_put ends.outbox) (pushed_orders ends.orders) =
-    subst (λ given. Drove c.args.first closed given (received ends.inbox)
+    subst (λ given. SessionLeaves c.args.first closed given (received ends.inbox)
     (g.L.Loader.loaded c.new-session.result.loader.now)
     (g.L.Loader.loaded c.in-Ok-done.loader.now)
     (ports (put_frames c.new-session.result.outbox) (pushed_orders c.new-session.result.orders))
     (messages_put ends.outbox) (pushed_orders ends.orders)) events
-    (subst (λ f. Drove f closed (taken_events c.new-session.result.inbox) (received ends.inbox)
+    (subst (λ f. SessionLeaves f closed (taken_events c.new-session.result.inbox) (received ends.inbox)
     (g.L.Loader.loaded c.new-session.result.loader.now) (g.L.Loader.loaded c.in-Ok-done.loader.now)
     (ports (put_frames c.new-session.result.outbox) (pushed_orders c.new-session.result.orders))
     (messages_put ends.outbox) (pushed_orders ends.orders)) given_to.first s.5) in
-    let lent : Drove c.args.first closed [] (received ends.inbox) (g.L.Loader.loaded c.args.loader.now)
+    let lent : SessionLeaves c.args.first closed [] (received ends.inbox) (g.L.Loader.loaded c.args.loader.now)
     (g.L.Loader.loaded c.in-Ok-done.loader.now)
     (ports (put_frames c.new-session.result.outbox) (pushed_orders c.new-session.result.orders))
     (messages_put ends.outbox) (pushed_orders ends.orders) =
-    subst (λ l. Drove c.args.first closed [] (received ends.inbox) (g.L.Loader.loaded l)
+    subst (λ l. SessionLeaves c.args.first closed [] (received ends.inbox) (g.L.Loader.loaded l)
     (g.L.Loader.loaded c.in-Ok-done.loader.now)
     (ports (put_frames c.new-session.result.outbox) (pushed_orders c.new-session.result.orders))
     (messages_put ends.outbox) (pushed_orders ends.orders)) given_to.loader fresh in
-    let session : Drove c.args.first closed [] (received ends.inbox) (g.L.Loader.loaded c.args.loader.now)
+    let session : SessionLeaves c.args.first closed [] (received ends.inbox) (g.L.Loader.loaded c.args.loader.now)
     (g.L.Loader.loaded c.in-Ok-done.loader.now) nothing_sent (messages_put ends.outbox) (pushed_orders ends.orders) =
-    subst (λ p. Drove c.args.first closed [] (received ends.inbox) (g.L.Loader.loaded c.args.loader.now)
+    subst (λ p. SessionLeaves c.args.first closed [] (received ends.inbox) (g.L.Loader.loaded c.args.loader.now)
     (g.L.Loader.loaded c.in-Ok-done.loader.now) p (messages_put ends.outbox) (pushed_orders ends.orders)) ports_are
     lent in
     let client : client_events c.in-Ok-done.client ≡ i.2.0 =
@@ -115,15 +117,15 @@ returns-in-Ok-done-clause-served g c =
     world (g.L.Loader.loaded c.in-Ok-done.loader.now) (g.G.Gate.passed c.in-Ok-done.gate.now)
     (streams (g.I.Source.left c.in-Ok-done.input.now) (g.I.Source.failures c.in-Ok-done.input.now)
     (g.O.Sink.written c.in-Ok-done.output.now) (g.O.Sink.failures c.in-Ok-done.output.now)) in
-    let driven : IsDriven c.args.first c.in-Ok-done.wrote closed before after =
+    let driven : TasksEnd c.args.first c.in-Ok-done.wrote closed before after =
     gathers c.args.first c.in-Ok-done.wrote closed before after (received ends.inbox) (messages_put ends.outbox)
     (pushed_orders ends.orders) _ i.2.0 r.3.0 _ (taken_orders c.in-Ok-done.taken) w.3.0
     session read
-    (subst (λ l. Begins (from_client (received ends.inbox)) l) client inbox_client)
+    (subst (λ l. IsPrefixOf (from_client (received ends.inbox)) l) client inbox_client)
     r.3.1 r.3.2 r.3.3
     orders_taken four inbox_reports passed written
-    (subst (λ l. Begins l (messages_put ends.outbox)) taken outbox_taken) in
-    drove c.in-Ok-done.wrote closed answer (rw (input, output, loader, gate) at driven)
+    (subst (λ l. IsPrefixOf l (messages_put ends.outbox)) taken outbox_taken) in
+    tasks_ended c.in-Ok-done.wrote closed answer (rw (input, output, loader, gate) at driven)
 
 pub run_beside-done-requires-send-T : goal.run_beside-done-requires-send-T
 run_beside-done-requires-send-T g c κs within =

@@ -1,5 +1,5 @@
 use Rattle.std.proofs.Common.{[], subst, sym}
-use Rattle.dap_history.specs.Events.{only_bytes, Leads}
+use Rattle.dap_history.specs.Events.{only_bytes, LeadsByEvents}
 use Rattle.dap_history.proofs.Contents.{contents_of_stream}
 use Rattle.dap_history.proofs.Cuts.{cuts_change_nothing}
 use Rattle.dap_history.proofs.Starts.{each_run_starts}
@@ -39,7 +39,7 @@ returns-clause-one c = λ events past other rest left history there same.
       one_request = c.message_laws.ensures.reading;
       one_after = returns-clause-one_effect c;
     }) [] (only_bytes rest.first []) events past other rest left history
-    (subst (λ f. Leads [] (only_bytes f []) events other left) (sym same) there)
+    (subst (λ f. LeadsByEvents [] (only_bytes f []) events other left) (sym same) there)
 
 pub returns-clause-answered : goal.returns-clause-answered
 returns-clause-answered c = each_answered

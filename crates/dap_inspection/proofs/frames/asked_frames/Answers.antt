@@ -1,6 +1,6 @@
 use Rattle.std.proofs.Common.{◌≡◌, ◌-◌, length, take, rules, arith, ap, ◌∙◌}
 use Rattle.pl0_machine.specs.Machine.{program, frames}
-use Rattle.dap_inspection.specs.Showing.{counting_of, asked_of}
+use Rattle.dap_inspection.specs.Showing.{counting_of, count_shown}
 use Rattle.dap_inspection.proofs.AskedFrames.{rest_of, one_more, all_asked}
 use Rattle.dap_inspection.proofs.frames.asked_frames.Goals as goal
 use Rattle.dap_inspection.proofs.frames.asked_frames.Goals.{After-saturating_sub-left}
@@ -22,7 +22,7 @@ returns c =
     let m = c.args.machine.now in
     let counting = counting_of c.args.settings in
     let start = c.args.asked.start_frame in
-    let count : c.loop-index.index ≡ asked_of c.args.asked.levels c.saturating_sub-left.result =
+    let count : c.loop-index.index ≡ count_shown c.args.asked.levels c.saturating_sub-left.result =
     omega (arith, c.count_asked-count.ensures, c.loop-index.auto.index-end, c.loop-index-test.false) in
     c.loop-index.invariant
     ∙ ap (λ n. take n (rest_of (program m) counting (frames m) start)) count

@@ -1,11 +1,11 @@
 use Rattle.std.proofs.Common.{arith, ap}
 use Rattle.pl0_machine.specs.Machine.{program, frames}
-use Rattle.dap_inspection.proofs.ScopeChain.{Leads, leads, walked, left_of}
+use Rattle.dap_inspection.proofs.ScopeChain.{LinksTo, leads, walked, left_of}
 use Rattle.dap_inspection.proofs.scope_chain.scope_chain.Goals as goal
 use Rattle.dap_inspection.proofs.scope_chain.scope_chain.Goals.{After-static_parent-next}
 
 one_link : (c : After-static_parent-next) →
-    Leads (program c.args.machine.now) (frames c.args.machine.now) c.in-Some.frame c.in_ok-scope.field-0
+    LinksTo (program c.args.machine.now) (frames c.args.machine.now) c.in-Some.frame c.in_ok-scope.field-0
     c.static_parent-next.result
 one_link c =
     let m = c.args.machine.now in

@@ -7,7 +7,7 @@ use Rattle.dap_replies.specs.Lines.{AreAnswered}
 use Rattle.dap_msg.specs.declared.command.Command.TheVariants as command
 use Rattle.dap_phase.specs.declared.phase.Phase.TheVariants as phase_is
 use Rattle.dap_replies.specs.Replied.{Replies}
-use Rattle.dap_phase.specs.Runs.{Ordered, asked_back}
+use Rattle.dap_phase.specs.Runs.{OrderedRun, ordered_to_hold}
 use Rattle.dbg_runner.specs.Plain.{goes_back}
 use Rattle.dap_replies.proofs.SetBreakpoints.{once, waits_in_run}
 use Rattle.dap_replies.proofs.breakpoints.in_run.Goals as goal
@@ -27,6 +27,6 @@ returns c =
           (plain_breakpoints c.in_ok-answers.plan.value.breakpoints)) (c.deref.ensures ∙ c.unit.ensures)
           c.in_ok-answers.ensures.answered;
     })
-    (c.hold-order.ensures.order ∙ ap (λ (r : Ordered). once (r.held || goes_back r.mode) c.args.target.runs)
+    (c.hold-order.ensures.order ∙ ap (λ (r : OrderedRun). once (r.held || goes_back r.mode) c.args.target.runs)
     c.wait_for.ensures)
-    (c.hold-order.ensures.held ∙ ap asked_back c.wait_for.ensures))
+    (c.hold-order.ensures.held ∙ ap ordered_to_hold c.wait_for.ensures))

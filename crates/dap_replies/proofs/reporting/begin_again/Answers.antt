@@ -1,11 +1,11 @@
 use Rattle.std.proofs.Common.{◌≡◌, ◌+◌, ◌++◌, ◌∷◌, [], subst, sym, ap, ◌∙◌, arith}
 use Rattle.dbg_runner.specs.Plain.{Go}
 use Rattle.dbg_runner.specs.Reported.{plain_report, heading}
-use Rattle.dap_history.specs.Reports.{goes_on}
+use Rattle.dap_history.specs.Reports.{continued_effect}
 use Rattle.dap_phase.specs.declared.phase.Phase.TheVariants as phase
 use Rattle.dap_phase.specs.declared.phase.Target.{Target}
 use Rattle.dap_phase.specs.Phases.{IsPhase}
-use Rattle.dap_phase.specs.Runs.{begun}
+use Rattle.dap_phase.specs.Runs.{begun_run}
 use Rattle.dap_replies.specs.Replied.{report_step}
 use Rattle.dap_replies.specs.Reporting.{with_told}
 use Rattle.dap_replies.proofs.Begun.{with_next_run}
@@ -22,7 +22,7 @@ returns c = λ past is.
     let ordered : heading c.in_ok-number.number c.take_back-debuggee.result c.mode-mode.result
     ≡ heading (t.runs + 1) debuggee c.args.run.mode =
     rw (number, c.take_back-debuggee.ensures, c.mode-mode.ensures) in
-    let begins : c.in_ok-run.run' ≡ begun debuggee c.args.run.mode =
+    let begins : c.in_ok-run.run' ≡ begun_run debuggee c.args.run.mode =
     rw (c.in_ok-run.ensures.run, c.take_back-debuggee.ensures, c.mode-mode.ensures) in
     record {
       does = record {
@@ -33,7 +33,7 @@ returns c = λ past is.
             (ordered ∙ back_heading t c.args.run c.args.report past c.requires.goes_on is));
       };
       phase_is =
-          subst (λ p. IsPhase p (past ++ report_step r (goes_on past r) ∷ []))
+          subst (λ p. IsPhase p (past ++ report_step r (continued_effect past r) ∷ []))
           (sym (ap (λ (u : Target). phase.Running (record u { runs = c.in_ok-number.number }) c.in_ok-run.run')
           c.tell-target.ensures
           ∙ ap (λ n. phase.Running (record t { runs = n; told = (with_told t c.args.report).told }) c.in_ok-run.run')

@@ -2,7 +2,7 @@ use Rattle.std.proofs.Common.{◌++◌, ◌∷◌, [], subst, sym, refl, ap, ◌
 use Rattle.std.proofs.lemmas.List.{append_assoc}
 use Rattle.dap_msg.specs.declared.outgoing.EventBody.TheVariants as event
 use Rattle.dbg_runner.specs.Reported.{plain_report}
-use Rattle.dap_history.specs.Replies.{reporting, ends}
+use Rattle.dap_history.specs.Replies.{reporting, exited_events}
 use Rattle.dap_history.specs.Reports.{outputs}
 use Rattle.dap_phase.specs.declared.phase.Phase.TheVariants as phase
 use Rattle.dap_phase.specs.Phases.{IsTarget, IsPhase}
@@ -22,12 +22,12 @@ returns c = λ past is.
             ∙ c.in_ok-push-2.ensures.items
             ∙ ap (λ es. es ++ event.Terminated ∷ []) c.in_ok-push.ensures.items
             ∙ append_assoc c.in_ok-events.events.items (event.Exited 0 ∷ []) (event.Terminated ∷ [])
-            ∙ ap (λ es. es ++ ends 0) (c.in_ok-events.ensures
+            ∙ ap (λ es. es ++ exited_events 0) (c.in_ok-events.ensures
             ∙ outputs_as c.args.target c.args.run.unit c.args.report.now past is.keeps.0);
         orders_are = refl;
       };
       phase_is =
-          subst (λ p. IsPhase p (past ++ report_step r (reporting (outputs past r ++ ends 0)) ∷ []))
+          subst (λ p. IsPhase p (past ++ report_step r (reporting (outputs past r ++ exited_events 0)) ∷ []))
           (sym (ap (λ t. phase.Ended t c.into_unit.result) c.tell-target.ensures))
           (record { situation_is = over.0; keeps = over.1 });
     }

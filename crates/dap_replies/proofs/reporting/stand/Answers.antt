@@ -1,7 +1,7 @@
 use Rattle.std.proofs.Common.{◌++◌, ◌∷◌, [], subst, sym, refl, ap, ◌∙◌}
 use Rattle.dbg_runner.specs.Reported.{plain_report}
-use Rattle.dap_history.specs.Replies.{stops}
-use Rattle.dap_history.specs.Reports.{stands}
+use Rattle.dap_history.specs.Replies.{stopped_events}
+use Rattle.dap_history.specs.Reports.{stopped_effect}
 use Rattle.dap_phase.specs.Phases.{IsPhase}
 use Rattle.dap_replies.specs.Replied.{report_step}
 use Rattle.dap_replies.specs.Reporting.{with_told, standing}
@@ -16,12 +16,12 @@ returns c = λ past is.
         events_are =
             c.new.ensures
             ∙ c.in_ok-push.ensures.items
-            ∙ ap (λ es. es ++ stops c.args.reason)
+            ∙ ap (λ es. es ++ stopped_events c.args.reason)
             (c.in_ok-events.ensures ∙ outputs_as c.args.target c.args.run.unit c.args.report past is.keeps.0);
         orders_are = refl;
       };
       phase_is =
-          subst (λ p. IsPhase p (past ++ report_step r (stands past r (stops c.args.reason)) ∷ []))
+          subst (λ p. IsPhase p (past ++ report_step r (stopped_effect past r (stopped_events c.args.reason)) ∷ []))
           (sym (c.standing.ensures
           ∙ ap (λ t. standing t c.take_back-debuggee.result c.args.reason) c.tell-target.ensures
           ∙ ap (λ d. standing (with_told c.args.target c.args.report) d c.args.reason) c.take_back-debuggee.ensures))
