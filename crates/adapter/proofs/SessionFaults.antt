@@ -8,7 +8,7 @@ use Rattle.dap_history.specs.declared.ending.Closed.TheVariants as closed
 use Rattle.dap_session.specs.Serving.{SessionOutcome}
 use Rattle.dap_wires.specs.declared.writing.WriteFailed.{WriteFailed}
 use Rattle.adapter.specs.declared.serving.ServeFault.TheVariants.{Session}
-use Rattle.adapter.specs.Laws.{closed_of, OutcomeIsOfSession, NobodyIsGone, FullIsFour}
+use Rattle.adapter.specs.Laws.{closed_of, OutcomeIsOfSession, NobodyIsGone, FullAfterFour}
 use Rattle.adapter.specs.Serving.{nothing_sent, outcome_of, TasksEnd, tasks_ended, had_no_memory, had_no_thread}
 use Rattle.adapter.proofs.Gathered.{found_runner_gone}
 
@@ -58,11 +58,11 @@ nobody_is_gone f outcome before after (had_no_memory is same) =
 nobody_is_gone f outcome before after (had_no_thread is) =
     (λ gone. let e = sym is ∙ gone in absurd cc, λ gone. let e = sym is ∙ gone in absurd cc)
 
-pub full_is_four : FullIsFour
-full_is_four f before after (tasks_ended wrote result is driven) =
+pub full_after_four : FullAfterFour
+full_after_four f before after (tasks_ended wrote result is driven) =
     let a = answers wrote result OrdersFull (sym is) in
     let four : TasksEnd f wrote (Err OrdersFull) before after =
     subst (λ r. TasksEnd f wrote r before after) a.1 driven in
     record { wrote = wrote; driven = four; four = four.session.full refl }
-full_is_four f before after (had_no_memory is same) = absurd cc
-full_is_four f before after (had_no_thread is) = absurd cc
+full_after_four f before after (had_no_memory is same) = absurd cc
+full_after_four f before after (had_no_thread is) = absurd cc

@@ -14,7 +14,7 @@ use Rattle.dap_history.specs.Events.{Incoming, End, Rest, IsHistoryOf}
 use Rattle.dap_history.specs.Laws.{stream_of}
 use Rattle.dap_session.specs.Sending.{IsPrefixOf}
 use Rattle.dap_wires.specs.declared.writing.WriteFailed.{WriteFailed}
-use Rattle.dap_wires.specs.Orders.{FourWereInside}
+use Rattle.dap_wires.specs.Orders.{FourWerePushed}
 use Rattle.byte_streams.specs.Streams.{Supply}
 use Rattle.adapter.specs.declared.serving.Served.{Served}
 use Rattle.adapter.specs.declared.serving.Served.TheVariants as served
@@ -108,15 +108,14 @@ NobodyIsGone =
     (first : FirstSeq) (outcome : Result Served ServeFault) (before after : World) → IsServed first outcome before after
     → (outcome ≢ Err (Session WriterGone)) × (outcome ≢ Err (Session RunnerGone))
 
--- The session gave up since the queue of orders was full, and four of the orders that it pushed had been inside
--- together.
-pub record FindsFour (first : FirstSeq) (before after : World) : Type 0 where
+-- The session gave up since the queue of orders was full, and had pushed four orders at least.
+pub record FoundFull (first : FirstSeq) (before after : World) : Type 0 where
   pub wrote : Result (Unit {0}) WriteFailed
   pub driven : TasksEnd first wrote (Err OrdersFull) before after
-  pub four : FourWereInside driven.sent.orders
+  pub four : FourWerePushed driven.sent.orders
 
--- `serve` returns the fault that the queue of orders was full only where four orders were inside together.
-abbrev pub FullIsFour : Type 0
-FullIsFour =
+-- `serve` returns the fault that the queue of orders was full only where four orders at least had been pushed.
+abbrev pub FullAfterFour : Type 0
+FullAfterFour =
     (first : FirstSeq) (before after : World) → IsServed first (Err (Session OrdersFull)) before after
-    → FindsFour first before after
+    → FoundFull first before after

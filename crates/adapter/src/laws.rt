@@ -1,6 +1,6 @@
 //! The laws of serving.
 
-ghost use Rattle.adapter.specs.Laws.{OutcomeIsOfSession, InputIsTakenWhole, FirstDisconnectCloses, RunsEndOnce, NobodyIsGone, FullIsFour};
+ghost use Rattle.adapter.specs.Laws.{OutcomeIsOfSession, InputIsTakenWhole, FirstDisconnectCloses, RunsEndOnce, NobodyIsGone, FullAfterFour};
 
 use dap_history::history_laws;
 use dbg_runner::runner_laws;
@@ -13,7 +13,7 @@ pub fn serving_laws()
     ensures disconnect { FirstDisconnectCloses }
     ensures runs { RunsEndOnce }
     ensures gone { NobodyIsGone }
-    ensures full { FullIsFour }
+    ensures full { FullAfterFour }
 {
     history_laws();
     runner_laws();

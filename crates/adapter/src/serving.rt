@@ -5,7 +5,7 @@ ghost use Rattle.std.specs.Prelude.{◌≡◌, ◌≢◌, true};
 ghost use Rattle.dap_session.specs.Sending.{IsPrefixOf};
 ghost use Rattle.dap_wires.specs.Ends.{receive_log, receive_log_queue};
 ghost use Rattle.dap_wires.specs.Inbox.{client_events, client_queue, sent_reports, report_queue, received, left_queue};
-ghost use Rattle.dap_wires.specs.Orders.{FourWereInside, pushed_orders, push_queue, taken_orders, pop_queue};
+ghost use Rattle.dap_wires.specs.Orders.{FourWerePushed, pushed_orders, push_queue, taken_orders, pop_queue};
 ghost use Rattle.dap_wires.specs.Outbox.{messages_put, ended_queue, ended_unused_queue, messages_received};
 ghost use Rattle.dap_wires.specs.Senders.{from_client, reports_among};
 ghost use Rattle.adapter.specs.Serving.{streams, world, outcome_of, IsServed};
@@ -181,7 +181,7 @@ fn reconcile<R: Wait + Drop>(
     ensures reports { IsPrefixOf (reports_among (received ends.inbox)) (sent_reports reports) }
     ensures frames { IsPrefixOf (messages_received written) (messages_put ends.outbox) }
     ensures orders { IsPrefixOf (taken_orders taken) (pushed_orders ends.orders).orders }
-    ensures full { (pushed_orders ends.orders).fulls ≢ 0 → FourWereInside (pushed_orders ends.orders).orders }
+    ensures full { (pushed_orders ends.orders).fulls ≢ 0 → FourWerePushed (pushed_orders ends.orders).orders }
 {
     let SessionEnds {
         inbox,

@@ -1,10 +1,8 @@
--- Four orders that were inside together.
-use Rattle.std.proofs.Common.{◌≡◌, ◌≤◌, List, [], ◌∷◌, ◌++◌, ap, length, map, take, drop, arith, length-append}
-use Rattle.std.proofs.lemmas.List.{length-map, length-take, take-append-drop}
-use Rattle.dbg_runner.specs.Plain.{PlainOrder}
+-- A queue is full only once four orders were pushed.
+use Rattle.std.proofs.Common.{◌≡◌, ◌≤◌, List, [], ◌∷◌, ◌++◌, ap, length, map, arith, length-append}
+use Rattle.std.proofs.lemmas.List.{length-map}
 use Rattle.dbg_runner.specs.Orders.{plain_order}
 use Rattle.dbg_runner.specs.declared.order.Order.{Order}
-use Rattle.dap_wires.specs.Full.{FourWereInside}
 
 -- where the queue is full
 pub four_pushed : (pushed taken inside : List Order) → pushed ≡ taken ++ inside → length inside ≡ 4
@@ -19,12 +17,3 @@ pub still_four : (old new : List Order) (x : Order) → new ≡ old ++ x ∷ [] 
 still_four old new x is was =
     let m = length-map old plain_order in let n = length-map new plain_order in
     let e = ap length is in let a = length-append old (x ∷ []) in omega (arith, m, n, e, a, was)
-
--- the first four of them
-pub four_inside : (pushed : List PlainOrder) → 4 ≤ length pushed → FourWereInside pushed
-four_inside pushed many = record {
-  taken = [];
-  inside = take 4 pushed;
-  begins = (drop 4 pushed, take-append-drop 4 pushed);
-  four = let l = length-take 4 pushed in omega (arith, l, many);
-}

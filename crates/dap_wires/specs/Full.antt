@@ -1,11 +1,7 @@
--- Defines when a queue of orders was full.
-use Rattle.std.specs.Prelude.{◌≡◌, ◌++◌, List, length}
+-- Defines what a full queue of orders tells of the whole run.
+use Rattle.std.specs.Prelude.{◌≤◌, List, length}
 use Rattle.dbg_runner.specs.Plain.{PlainOrder}
-use Rattle.dap_session.specs.Sending.{IsPrefixOf}
 
--- Four of the orders that were pushed were inside together once: those after the ones that had been taken by then.
-pub record FourWereInside (pushed : List PlainOrder) : Type 0 where
-  pub taken : List PlainOrder
-  pub inside : List PlainOrder
-  pub begins : IsPrefixOf (taken ++ inside) pushed
-  pub four : length inside ≡ 4
+-- At least four orders were pushed, as many as the queue has room for. Some of them may have been taken meanwhile.
+abbrev pub FourWerePushed : List PlainOrder → Type 0
+FourWerePushed pushed = 4 ≤ length pushed

@@ -13,7 +13,7 @@ pub mod Inbox
 pub mod WriterMessages
 -- What went through an outbox.
 pub mod Outbox
--- When a queue of orders was full.
+-- What a full queue of orders tells of the whole run.
 pub mod Full
 -- What went through a queue of orders.
 pub mod Orders

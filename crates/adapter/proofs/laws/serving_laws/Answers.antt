@@ -1,6 +1,6 @@
 use Rattle.adapter.proofs.InputTaken.{input_taken_whole, first_disconnect_closes}
 use Rattle.adapter.proofs.RunsEnd.{runs_end_once}
-use Rattle.adapter.proofs.SessionFaults.{outcome_is_of_session, nobody_is_gone, full_is_four}
+use Rattle.adapter.proofs.SessionFaults.{outcome_is_of_session, nobody_is_gone, full_after_four}
 use Rattle.adapter.proofs.laws.serving_laws.Goals as goal
 
 pub returns-clause-outcome : goal.returns-clause-outcome
@@ -16,7 +16,7 @@ pub returns-clause-gone : goal.returns-clause-gone
 returns-clause-gone c = nobody_is_gone
 
 pub returns-clause-full : goal.returns-clause-full
-returns-clause-full c = full_is_four
+returns-clause-full c = full_after_four
 
 pub returns-clause-runs : goal.returns-clause-runs
 returns-clause-runs c = runs_end_once c.runner_laws.ensures.one_last c.runner_laws.ensures.runs

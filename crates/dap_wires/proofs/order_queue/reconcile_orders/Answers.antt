@@ -2,7 +2,6 @@ use Rattle.std.proofs.Common.{ap, ◌∙◌, sym, ◌++◌, map}
 use Rattle.std.proofs.lemmas.List.{map-append}
 use Rattle.dbg_runner.specs.Orders.{plain_order}
 use Rattle.dap_wires.proofs.Delivered.{merges_first, learns_whole, all_first}
-use Rattle.dap_wires.proofs.Filling.{four_inside}
 use Rattle.dap_wires.proofs.order_queue.reconcile_orders.Goals as goal
 
 pub absorb-requires-clause-rule : goal.absorb-requires-clause-rule
@@ -22,4 +21,4 @@ returns-clause-taken g c =
     (map plain_order known.0, sym (map-append plain_order _ known.0) ∙ ap (map plain_order) (sym all))
 
 pub returns-clause-full : goal.returns-clause-full
-returns-clause-full g c = λ some. four_inside _ (c.args.session.full some)
+returns-clause-full g c = c.args.session.full
