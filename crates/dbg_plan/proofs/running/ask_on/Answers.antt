@@ -1,5 +1,6 @@
-use Rattle.std.proofs.Common.{◌≡◌, ◌<◌, true, false, option_map, Some, None, refl, sym, subst, arith}
+use Rattle.std.proofs.Common.{◌≡◌, ◌<◌, ◌+◌, true, false, option_map, Some, None, refl, sym, ap, subst, arith}
 use Rattle.std.specs.Arc.{arc_value}
+use Rattle.pl0_machine.specs.Machine.{Standing}
 use Rattle.dbg_plan.proofs.Stepping.{went_on}
 use Rattle.dbg_plan.specs.Plans.{breakpoints_of}
 use Rattle.dbg_plan.specs.Quiet.{RanByMachine}
@@ -34,6 +35,18 @@ steps-preserved-else-not-quiet c =
     (sym c.settles-moved.ensures.machine)
     (goes c.args.limit (option_map arc_value c.args.plan.now) _ c.steps.machine c.steps.invariant c.step-outcome.result
     c.step-outcome.new.self c.step-outcome.ensures below (told.0 quiet))
+
+pub steps-smaller-else-not-quiet : goal.steps-smaller-else-not-quiet
+steps-smaller-else-not-quiet c =
+    let below : c.steps.machine.position < c.args.limit =
+    omega (arith, c.position.ensures.position, c.steps-test.true) in
+    let quiet : c.settles-moved.result.1 ≡ true = c.if-not-quiet.false in
+    let told = c.settles-moved.ensures.quiet.0 quiet in
+    let went =
+    went_on c.steps.machine c.step-outcome.new.self c.step-outcome.result c.step-outcome.ensures None told.0 in
+    let there = ap (λ (m : Standing). m.position) went.0 in
+    let moved = ap (λ (m : Standing). m.position) c.settles-moved.ensures.machine in
+    omega (arith, below, there, moved)
 
 pub returns-then-not-quiet : goal.returns-then-not-quiet
 returns-then-not-quiet c =
