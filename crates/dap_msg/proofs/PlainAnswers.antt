@@ -8,13 +8,13 @@ use Rattle.json.specs.Print.{escape, quoted, escape_byte}
 use Rattle.json.proofs.Printed.Strings.{escape_byte_plain}
 use Rattle.serde_json.specs.Data.{Data, string, member}
 use Rattle.serde_json.specs.View.{items_of}
-use Rattle.serde_json.specs.Written.{comma_if, compact_text, items_text, members_text}
+use Rattle.serde_json.specs.Written.{comma_if, compact_text, items_text}
 use Rattle.dap_msg.specs.Laws.{FrameFits}
 use Rattle.dap_msg.specs.Outgoing.{response_end, success_value}
 use Rattle.dap_msg.specs.PlainAnswers.{is_plain_byte, is_plain, PutsValue, PutsSome, PutsMembers, joined_text, PutsItems}
 use Rattle.dap_msg.specs.StackTrace.{stack_frame, stack_trace_body}
 use Rattle.dap_msg.specs.Variables.{variable, variables_body}
-use Rattle.dap_msg.specs.Writing.{Fits, ItemsFit, MembersFit, IsContent}
+use Rattle.dap_msg.specs.Writing.{Fits, ItemsFit, IsContent}
 use Rattle.dap_msg.specs.declared.outgoing.StackFrame.{StackFrame}
 use Rattle.dap_msg.specs.declared.outgoing.Variable.{Variable}
 
@@ -100,7 +100,8 @@ name_and_value : (name : List ℕ) (value : ℤ) → is_plain name ≡ true
     → 34 ∷ (name ++ (codes "\",\"value\":\"" ++ (signed_decimal value ++ codes "\",\"variablesReference\":0}")))
     ≡ quoted name ++ (codes ",\"value\":" ++ (quoted (signed_decimal value) ++ codes ",\"variablesReference\":0}"))
 name_and_value name value plain =
-    sym (quoted_plain name (codes ",\"value\":" ++ (quoted (signed_decimal value) ++ codes ",\"variablesReference\":0}")) plain
+    sym (quoted_plain name
+    (codes ",\"value\":" ++ (quoted (signed_decimal value) ++ codes ",\"variablesReference\":0}")) plain
     ∙ ap (λ t. 34 ∷ (name ++ (34 ∷ (codes ",\"value\":" ++ t))))
     (quoted_plain (signed_decimal value) (codes ",\"variablesReference\":0}") (plain_signed value)))
 
@@ -200,7 +201,8 @@ frames_put path frames total s0 s1 s2 s3 s4 s5 below opened items closed number 
     record {
       text = rw (ended, number, closed, items.text, opened)
           (five s0 _ _ _ _ _ ∙ ap (λ t. s0 ++ (codes "{\"stackFrames\":[" ++ t))
-          (sym (append_assoc (joined_text false ds) (93 ∷ []) (codes ",\"totalFrames\":" ++ (decimal total ++ codes "}")))
+          (sym (append_assoc (joined_text false ds) (93 ∷ [])
+          (codes ",\"totalFrames\":" ++ (decimal total ++ codes "}")))
           ∙ ap (λ t. t ++ (codes ",\"totalFrames\":" ++ (decimal total ++ codes "}"))) (sym (items_closed false ds))));
       fits = (items.fits, (below, tt));
     }
@@ -237,7 +239,8 @@ end_put command request_seq seq s0 s1 s2 s3 s4 s5 s6 s7 plain below next_below e
   text = rw (e7, e6, e5, e4, e3, e2, e1)
       (seven s0 _ _ _ _ _ _ _
       ∙ ap (λ t. s0 ++ (codes ",\"command\":" ++ t))
-      (sym (quoted_plain command (codes ",\"request_seq\":" ++ (decimal request_seq ++ (codes ",\"seq\":" ++ (decimal seq
+      (sym (quoted_plain command
+      (codes ",\"request_seq\":" ++ (decimal request_seq ++ (codes ",\"seq\":" ++ (decimal seq
       ++ codes ",\"success\":true,\"type\":\"response\"}")))) plain)));
   fits = (tt, (below, (next_below, (tt, (tt, tt)))));
 }

@@ -22,8 +22,8 @@ returns-in-StepBack-clause-on c =
     let old = c.args.debuggee.now in
     let at = c.position-start.ensures.position ∙ ap (λ (m : Standing). m.position) c.machine.ensures in
     let is = c.saturating_sub-previous.ensures in
-    on_return old.position old c.go_back.new.debuggee c.saturating_sub-previous.result reason.Step 0 c.go_back.ensures.gone
-    (omega (arith, is, at)) (omega arith)
+    on_return old.position old c.go_back.new.debuggee c.saturating_sub-previous.result reason.Step 0
+    c.go_back.ensures.gone (omega (arith, is, at)) (omega arith)
 
 pub returns-in-StepBack-clause-leads : goal.returns-in-StepBack-clause-leads
 returns-in-StepBack-clause-leads c =
