@@ -35,8 +35,10 @@ FUNCTION_LINES = 40
 LONG_FUNCTIONS = {
     ("crates/adapter/src/serving.rt", "serve_from"):
         "eight parameters with their bounds, on 24 lines; three queues and four tasks, of which one proof speaks",
+    ("crates/pl0_machine/src/finish.rt", "take_turn"):
+        "one line for each of 38 operations",
     ("crates/pl0_machine/src/take.rt", "take"):
-        "one table of jumps: each of 20 forms is an arm with a call of six arguments, which the layout sets on nine lines",
+        "one table of jumps: a line for each form, or nine where the layout breaks the call of its arm",
     ("crates/test_kit/src/runner.rt", "report_next"):
         "the runner's turn in one thread, which the runner itself takes in two functions between threads",
 }
