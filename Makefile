@@ -73,7 +73,7 @@ rows: $(PROGRAM) $(FROM_ZERO) $(PL0)
 	python3 checks/largest.py $(FROM_ZERO)
 	diff -r -x fault.pl0 -x procedures.pl0 examples crates/check_runs/data
 	python3 checks/pl0_pages.py $(PL0)
-	for runs in fault check list trace; do \
+	for runs in fault check list trace machine; do \
 	  diff <(sed '/^\/\//d' crates/pl0/src/main.rt) <(sed '/^\/\//d' crates/pl0_$${runs}_runs/src/main.rt) || exit 1; done
 	for runs in argument unread fault mistake usage; do \
 	  diff <(sed '/^\/\//d' crates/pl0dap/src/main.rt) <(sed '/^\/\//d' crates/$${runs}_runs/src/main.rt) || exit 1; done

@@ -6,11 +6,13 @@ usage: pl0_pages.py PL0
 Each row of the table of mistakes in docs/PL0.md is tried where its example is a text: the code is the number of the
 fault, and the sentence and the place are what `pl0 check` tells. For each of the examples `pl0 list` shows the same
 instructions, and the same steps beside them, as `pl0dap --check` prints, whose stored output the gate compares. The table of a run in
-docs/PL0.md is what `pl0 trace` writes, also where it begins later or ends earlier. A program
-that writes more than a megabyte writes it all to a pipe; where nobody reads on, or the disk is full, it ends at once with
-status 3. Prints what is wrong, and ends with status 1 where anything is.
+docs/PL0.md is what `pl0 trace` writes, also where it begins later or ends earlier, and so is the machine that is drawn
+there. A program that writes more than a megabyte writes it all to a pipe. Where nobody reads on, each command ends at once with
+status 3, and says nothing; where the disk is full, it says so once. Prints what is wrong, and ends with status 1 where
+anything is.
 """
 import itertools
+import os
 import pathlib
 import re
 import subprocess
@@ -68,11 +70,21 @@ def wrong_listings(pl0: str):
             yield f"{example.name}: another code is listed than checked"
 
 
-def wrong_traces(pl0: str):
-    """What is wrong with the table of a run, its parts, and a run that ends or faults before the first position told."""
+def drawn(command: str) -> bytes:
+    """What docs/PL0.md shows under a command."""
     page = (TOP / "docs" / "PL0.md").read_text(encoding="utf-8")
-    table = page.split("$ pl0 trace procedures.pl0\n")[1].split("```")[0].encode().splitlines(keepends=True)
+    return page.split(f"$ {command}\n")[1].split("```")[0].encode()
+
+
+def wrong_traces(pl0: str):
+    """What is wrong with the table of a run, its parts, the machine drawn, and a run that ends or faults before all that."""
+    table = drawn("pl0 trace procedures.pl0").splitlines(keepends=True)
     program = str(TOP / "crates" / "pl0_trace_runs" / "data" / "procedures.pl0")
+    options = ["--machine", "--from", "10", "--steps", "1"]
+    told = run(pl0, "trace", *options, program)
+    wanted = drawn(" ".join(["pl0 trace", *options, "procedures.pl0"]))
+    if (told.stdout, told.stderr, told.returncode) != (wanted, b"", 0):
+        yield f"the machine at position 10: {told}, where {wanted!r} is wanted"
     for start, steps in ((0, 100), (0, 1), (7, 5), (19, 1), (19, 2), (20, 3)):
         told = run(pl0, "trace", program, "--from", str(start), "--steps", str(steps))
         wanted = b"".join([table[0], *table[start + 1 : start + steps + 1]])
@@ -85,17 +97,30 @@ def wrong_traces(pl0: str):
             yield f"a trace from {start} of a run that faults: {told}"
 
 
+def outputs_of(pl0: str) -> list[list[str]]:
+    """A command line of each kind that writes to its output."""
+    program = str(TOP / "examples" / "gcd.pl0")
+    return [[pl0, "run", program], [pl0, "list", program], [pl0, "trace", program], [pl0, "--help"]]
+
+
 def wrong_outputs(pl0: str):
     """What is wrong with long outputs, and with outputs that fail."""
     wanted = "".join(f"{n}\n" for n in range(1, 200001)).encode()
     told = run(pl0, "run", "-", text=LONG)
     if told.stdout != wanted or told.returncode:
         yield f"a megabyte: {len(told.stdout)} bytes, status {told.returncode}"
-    with open("/dev/full", "wb") as full:
-        status = run(pl0, "run", "-", text=LONG, stdout=full).returncode
-    if status != 3:
-        yield f"a full disk: status {status}"
     pipe = subprocess.PIPE
+    for command in [*outputs_of(pl0), [pl0, "run", "-"]]:
+        with open("/dev/full", "wb") as full:
+            told = run(*command, text=LONG, stdout=full, stderr=pipe)
+        if (told.stderr, told.returncode) != (b"pl0: cannot write the output\n", 3):
+            yield f"a full disk: {told}"
+        read_end, write_end = os.pipe()
+        os.close(read_end)
+        told = run(*command, text=LONG, stdout=write_end, stderr=pipe)
+        os.close(write_end)
+        if (told.stderr, told.returncode) != (b"", 3):
+            yield f"a pipe that nobody reads: {told}"
     with subprocess.Popen([pl0, "run", "-"], stdin=pipe, stdout=pipe, stderr=pipe) as program:
         program.stdin.write(ENDLESS)
         program.stdin.close()

@@ -52,7 +52,7 @@ SESSION_ENDS = {
     "read": [(0, ""), (1, "pl0dap: read failed")],
     "write": WRITE_ENDS,
 }
-PL0_ENDS = {"allocation": [(0, ""), (3, "pl0: no memory")], "write": [(3, "")]}
+PL0_ENDS = {"allocation": [(0, ""), (3, "pl0: no memory")], "write": [(3, "pl0: cannot write the output")]}
 LISTING_ENDS = {"allocation": ALLOCATION_ENDS, "read": [(1, "pl0dap: cannot read")], "write": WRITE_ENDS}
 # What a session with a program that can't be read is called.
 UNREAD = "launch refused"
@@ -203,6 +203,7 @@ def runs_of_pl0(pl0: str) -> dict[str, Run]:
         "a check by pl0": (["check", procedures], b""),
         "a listing by pl0": stored_run("pl0_list_runs"),
         "a trace by pl0": stored_run("pl0_trace_runs"),
+        "a drawing by pl0": stored_run("pl0_machine_runs"),
     }
     return {name: Run([pl0, *arguments], by_bytes(text), PL0_ENDS) for name, (arguments, text) in given.items()}
 

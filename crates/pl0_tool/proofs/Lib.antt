@@ -6,3 +6,9 @@ pub mod RunLines
 pub mod TracedRows
 -- the tables of a unit, as a trace reads them
 pub mod TracedFrames
+-- where frames begin, as a drawing adds it up
+pub mod DrawnCells
+-- what is told of a fault, line by line
+pub mod FaultLines
+-- what commands tell, from what their parts told
+pub mod CommandTells

@@ -21,7 +21,7 @@ use Rattle.pl0_tool.proofs.RunLines.{Came, came_on, ran_on, runs_on}
 -- ---- lists that grow
 
 -- what holds of each element of a list and of one more
-one_more : {A : Type 0} (P : ℕ → A → Type 0) (xs : List A) (v : A)
+pub one_more : {A : Type 0} (P : ℕ → A → Type 0) (xs : List A) (v : A)
     → ((i : ℕ) (x : A) → slice_get xs i ≡ Some x → P i x) → P (length xs) v → (i : ℕ) (x : A)
     → slice_get (xs ++ v ∷ []) i ≡ Some x → P i x
 one_more {A} P [] v h here zero x e = subst (P zero) (same v x e) here
@@ -50,17 +50,17 @@ frame_more m hidden n rows row is h here =
     (subst (λ k. IsFrameRow (program m) (frame_of m (hidden + k)) row) (sym is) here)
 
 -- rows tell positions, from one on
-abbrev pub TellPositions : Standing → ℕ → List Row → Type 0
-TellPositions m from rows =
-    (i : ℕ) (row : Row) → slice_get rows i ≡ Some row → IsRow (at_position m (from + i)) row
+abbrev pub TellPositions : Bool → Standing → ℕ → List Row → Type 0
+TellPositions drawn m from rows =
+    (i : ℕ) (row : Row) → slice_get rows i ≡ Some row → IsRow drawn (at_position m (from + i)) row
 
-pub position_more : (m : Standing) (from n : ℕ) (rows : List Row) (row : Row) → length rows ≡ n
-    → TellPositions m from rows
-    → IsRow (at_position m (from + n)) row
-    → TellPositions m from (rows ++ row ∷ [])
-position_more m from n rows row is h here =
-    one_more (λ i r. IsRow (at_position m (from + i)) r) rows row h
-    (subst (λ k. IsRow (at_position m (from + k)) row) (sym is) here)
+pub position_more : (drawn : Bool) (m : Standing) (from n : ℕ) (rows : List Row) (row : Row) → length rows ≡ n
+    → TellPositions drawn m from rows
+    → IsRow drawn (at_position m (from + n)) row
+    → TellPositions drawn m from (rows ++ row ∷ [])
+position_more drawn m from n rows row is h here =
+    one_more (λ i r. IsRow drawn (at_position m (from + i)) r) rows row h
+    (subst (λ k. IsRow drawn (at_position m (from + k)) row) (sym is) here)
 
 -- ---- the numbers of a frame
 
@@ -214,61 +214,62 @@ never_there start now new position outcome came ran stop =
 
 -- ---- rows that are told one by one
 
-grown : (start now : Standing) (n : ℕ) (rows : List Row) (row : Row)
+grown : (drawn : Bool) (start now : Standing) (n : ℕ) (rows : List Row) (row : Row)
     → now ≡ at_position start (start.position + n)
     → length rows ≡ n
-    → TellPositions start start.position rows
-    → IsRow now row
-    → TellPositions start start.position (rows ++ row ∷ [])
-grown start now n rows row at is h here =
-    position_more start start.position n rows row is h (subst (λ (m : Standing). IsRow m row) at here)
+    → TellPositions drawn start start.position rows
+    → IsRow drawn now row
+    → TellPositions drawn start start.position (rows ++ row ∷ [])
+grown drawn start now n rows row at is h here =
+    position_more drawn start start.position n rows row is h (subst (λ (m : Standing). IsRow drawn m row) at here)
 
 -- a step that goes on
-pub told_on : (start now new : Standing) (n : ℕ) (rows list : List Row) (row : Row) (number : Option ℤ)
+pub told_on : (drawn : Bool) (start now new : Standing) (n : ℕ) (rows list : List Row) (row : Row) (number : Option ℤ)
     → list ≡ rows ++ row ∷ []
     → now ≡ at_position start (start.position + n)
     → length rows ≡ n
-    → TellPositions start start.position rows
-    → IsRow now row
+    → TellPositions drawn start start.position rows
+    → IsRow drawn now row
     → Stepped (outcome_of now) now (Went number) new
     → (0 < depth_of new) × (new ≡ at_position start (start.position + (n + 1))) × (length list ≡ n + 1)
-    × TellPositions start start.position list
-told_on start now new n rows list row number more at is h here stepped =
+    × TellPositions drawn start start.position list
+told_on drawn start now new n rows list row number more at is h here stepped =
     let next : start.position + n + 1 ≡ start.position + (n + 1) = omega arith in (
       runs_on now new number stepped,
       went_on now new number stepped
           ∙ ap (λ (m : Standing). at_position m (m.position + 1)) at
           ∙ ap (λ p. at_position start p) next,
       ap length more ∙ length_more rows row ∙ ap (λ k. k + 1) is,
-      subst (TellPositions start start.position) (sym more) (grown start now n rows row at is h here),
+      subst (TellPositions drawn start start.position) (sym more) (grown drawn start now n rows row at is h here),
     )
 
 -- a step with which the run stops
-pub told_last : (start now new : Standing) (n count : ℕ) (rows list : List Row) (row : Row) (outcome : StepOutcome)
+pub told_last : (drawn : Bool) (start now new : Standing) (n count : ℕ) (rows list : List Row) (row : Row)
+    (outcome : StepOutcome)
     → n < count
     → list ≡ rows ++ row ∷ []
     → now ≡ at_position start (start.position + n)
     → length rows ≡ n
-    → TellPositions start start.position rows
-    → IsRow now row
+    → TellPositions drawn start start.position rows
+    → IsRow drawn now row
     → Stepped (outcome_of now) now outcome new
     → IsStop outcome
-    → AreRows start start.position count list
-told_last start now new n count rows list row outcome lt more at is h here stepped stop =
+    → AreRows drawn start start.position count list
+told_last drawn start now new n count rows list row outcome lt more at is h here stepped stop =
     let longer = length_more rows row in
     let next : start.position + n + 1 ≡ start.position + length (rows ++ row ∷ []) = omega (arith, longer, is) in
     let none : depth_of (at_position start (start.position + n + 1)) ≡ 0 =
     subst (λ (m : Standing). depth_of (at_position m (m.position + 1)) ≡ 0) at
     (none_behind now new outcome stepped stop) in
-    subst (AreRows start start.position count) (sym more) (record {
-      each = grown start now n rows row at is h here;
+    subst (AreRows drawn start start.position count) (sym more) (record {
+      each = grown drawn start now n rows row at is h here;
       most = omega (arith, longer, is, lt);
       whole = λ fewer. subst (λ q. depth_of (at_position start q) ≡ 0) next none;
     })
 
 -- rows from the position to which a machine was taken
-pub told_from : {E : Type 0} (m : Standing) (from count : ℕ) (r : Result (Vec Row Global) E)
-    → IfOk r (λ rows. AreRows (at_position m from) from count rows.items)
-    → IfOk r (λ rows. AreRows m from count rows.items)
-told_from m from count (Ok rows) h = record { each = h.each; most = h.most; whole = h.whole }
-told_from m from count (Err e) h = tt
+pub told_from : {E : Type 0} (drawn : Bool) (m : Standing) (from count : ℕ) (r : Result (Vec Row Global) E)
+    → IfOk r (λ rows. AreRows drawn (at_position m from) from count rows.items)
+    → IfOk r (λ rows. AreRows drawn m from count rows.items)
+told_from drawn m from count (Ok rows) h = record { each = h.each; most = h.most; whole = h.whole }
+told_from drawn m from count (Err e) h = tt

@@ -3,10 +3,16 @@
 pub mod Running
 -- the program of a text
 pub mod Loading
--- what checking a text tells
-pub mod Checking
 -- what a trace tells
 pub mod Tracing
+-- what is drawn of a machine
+pub mod Drawing
+-- what is told of a fault
+pub mod Faulting
+-- how commands end
+pub mod Reporting
+-- what each command tells of a text
+pub mod Commands
 -- What private contracts cite.
 -- bytes that are still to be written
 pub mod Pending

@@ -4,21 +4,27 @@ use clap::builder::ValueParser;
 use clap::{Arg, ArgAction, ArgMatches, Command, Error};
 use std::alloc::{AllocError, Global};
 
-/// What the command line asks for.
-#[derive(Drop)]
-pub enum Request<'a> {
-    /// Run the program in this file.
-    Run(&'a str),
-    /// Tell this many positions of the program's run, from one on.
+/// What is to be done with a text.
+#[derive(Clone, Copy, Debug, PartialEq, Eq)]
+pub enum Task {
+    Run,
+    /// Tell this many positions of the program's run, from one on, with the machine's registers and cells where it is
+    /// drawn.
     Trace {
-        file: &'a str,
         from: u64,
         steps: usize,
+        drawn: bool,
     },
-    /// Check the texts in these files.
-    Check(Vec<&'a str>),
-    /// List the code of the program in this file.
-    List(&'a str),
+    Check,
+    List,
+}
+
+/// What the command line asks for.
+#[derive(Drop)]
+pub struct Request<'a> {
+    pub task: Task,
+    /// The names of the files; a task other than `Check` is for the first alone.
+    pub files: Vec<&'a str>,
 }
 
 /// How many positions are told where `--steps` doesn't say.
@@ -49,24 +55,26 @@ pub fn parse_arguments<'a>(alloc: Global, arguments: &'a [&'a str]) -> Result<Re
 
 /// What matches ask for.
 fn asked_for<'a>(alloc: Global, matches: &ArgMatches<'a>) -> Result<Request<'a>, Error> {
-    let mut files = Vec::new(alloc);
-    let Some((name, given)) = matches.subcommand() else {
-        return Ok(Request::Check(files));
+    let mut request = Request {
+        task: Task::Check,
+        files: Vec::new(alloc),
     };
-    for file in given.get_strs("FILE").unwrap_or(&[]) {
-        files.push(*file)?;
+    if let Some((name, given)) = matches.subcommand() {
+        for file in given.get_strs("FILE").unwrap_or(&[]) {
+            request.files.push(*file)?;
+        }
+        request.task = match name {
+            "run" => Task::Run,
+            "list" => Task::List,
+            "trace" => Task::Trace {
+                from: given.get_one("from").unwrap_or(0),
+                steps: given.get_one("steps").unwrap_or(STEPS) as usize,
+                drawn: given.get_flag("machine"),
+            },
+            _ => Task::Check,
+        };
     }
-    let first = files.first().copied().unwrap_or("-");
-    match name {
-        "run" => Ok(Request::Run(first)),
-        "list" => Ok(Request::List(first)),
-        "trace" => Ok(Request::Trace {
-            file: first,
-            from: given.get_one("from").unwrap_or(0),
-            steps: given.get_one("steps").unwrap_or(STEPS) as usize,
-        }),
-        _ => Ok(Request::Check(files)),
-    }
+    Ok(request)
 }
 
 /// The command line, with the help and the version that `clap` adds.
@@ -113,13 +121,20 @@ fn tracing<'a>(alloc: Global) -> Result<Command<'a>, AllocError> {
         .value_name("N")
         .value_parser(ValueParser::unsigned(1, MOST_STEPS))
         .help("How many steps to tell, 65,536 at most; 100 if not given");
+    let machine = Arg::new(alloc, "machine")
+        .long("machine")
+        .action(ArgAction::SetTrue)
+        .help(
+            "Show the machine: P, B and T, and of each frame its first cell, links and return address",
+        );
     of_file(
         alloc,
         "trace",
         "Tell a run step by step: place, source, what is written, and the frames before the step",
     )?
     .arg(from)?
-    .arg(steps)
+    .arg(steps)?
+    .arg(machine)
 }
 
 /// The command that checks files.

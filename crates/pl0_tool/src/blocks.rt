@@ -1,41 +1,22 @@
-//! The blocks of a program, by their numbers.
+//! The names of a program's blocks.
 
-use pl0_tree::{Block, Name};
-use std::alloc::{AllocError, Global};
+ghost use Rattle.std.specs.Prelude.{◌≡◌, ◌<◌, length, slice_get, Some};
+ghost use Rattle.pl0_tree.specs.Scope.{Path};
+ghost use Rattle.pl0_tree.specs.Steps.{blocks};
+ghost use Rattle.pl0_machine.specs.Machine.{program_of};
+ghost use Rattle.pl0_tool.specs.Faulting.{frame_name};
 
-/// A block, by the name of its frames and the names of its variables.
-#[derive(Clone, Copy)]
-pub struct NamedBlock<'a> {
-    pub name: &'a str,
-    pub variables: &'a [Name],
-}
+use pl0_syntax::block_name;
+use pl0_unit::Unit;
 
-/// Returns the blocks of a program by their numbers, which are in the order in which the blocks end.
-///
-/// # Errors
-///
-/// `AllocError`, where an allocation failed.
-pub fn named_blocks<'a>(
-    alloc: Global,
-    program: &'a Block,
-) -> Result<Vec<NamedBlock<'a>>, AllocError> {
-    let mut blocks = Vec::new(alloc);
-    add_blocks(program, "main", &mut blocks)?;
-    Ok(blocks)
-}
-
-/// Adds the blocks in a block, and then the block, which has this name.
-fn add_blocks<'a>(
-    block: &'a Block,
-    name: &'a str,
-    blocks: &mut Vec<NamedBlock<'a>>,
-) -> Result<(), AllocError> {
-    for procedure in &block.procedures {
-        add_blocks(&procedure.block, procedure.name.text.as_str(), blocks)?;
+/// Returns the name of the frames of the block with this number: the procedure's, or `main` for the main block's.
+pub fn frame_name(unit: &Unit, number: u32) -> &str
+    requires { number < length unit.now.nestings.items }
+    ensures { (q : Path) → slice_get (blocks (program_of unit.now)) number ≡ Some q
+        → result.now ≡ frame_name (program_of unit.now) q }
+{
+    match block_name(&unit.tree.program, &unit.nestings, number) {
+        Some(name) => name.text.as_str(),
+        None => "main",
     }
-    blocks.push(NamedBlock {
-        name,
-        variables: block.variables.as_slice(),
-    })?;
-    Ok(())
 }

@@ -1,26 +1,32 @@
 //! Running, tracing, checking and listing PL/0 programs from a command line.
 //!
-//! The main contract is that of [`run_machine`]: the numbers that are written, each on a line of its own, are those that the
-//! program writes by its meaning, up to its end or to the step that faults; or a prefix of them, where the output fails.
-//! [`trace`] tells positions of a run in order, each with the frames, the step and the number that the meaning has there.
-//! [`check_text`] tells the first mistake of a text, and nothing of a text that is a program's. [`run`] is all of the
-//! program `pl0` but its `main`.
+//! The main contract is that of [`perform`], which does a task with a text: of a text that is no program's it tells the
+//! first mistake. A run writes the numbers that the program writes by its meaning, each on a line of its own, up to its
+//! end or to the step that faults, or a prefix of them, where the output fails ([`run_machine`]); of a fault the newest
+//! frames are told. [`trace`] tells positions of a run in order, each with the frames, the step and the number that the
+//! meaning has there, and draws the machine, if it is to, as the meaning's frames lie in its cells. [`run`] is all of
+//! the program `pl0` but its `main`.
 #![tactic(auto)]
 
 mod arguments;
 mod blocks;
-mod checking;
+mod commands;
+mod drawing;
+mod fault;
 mod listing;
 mod output;
 mod program;
+mod report;
 mod running;
-mod stack;
 mod table;
 mod text;
 mod tracing;
 
-pub use checking::check_text;
+pub use arguments::Task;
+pub use commands::perform;
+pub use drawing::{Drawing, FrameHead};
 pub use program::run;
+pub use report::{Ending, Report};
 pub use running::{RunEnd, run_machine};
 pub use text::load;
 pub use tracing::{FrameRow, Row, trace};

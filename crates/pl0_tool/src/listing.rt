@@ -3,8 +3,8 @@
 use pl0_unit::{Instruction, Operation, Unit};
 use std::alloc::{AllocError, Global};
 
-/// Returns the text of a program with the code of each line under it. An instruction has a mark `@n` where it begins step n,
-/// its number, its name, level and address, and the name of its operation.
+/// Returns the text of a program with the code of each line under it. An instruction has a mark `@n` where it begins
+/// step n, its number, its name, level and address, and the name of its operation.
 ///
 /// # Errors
 ///
@@ -27,17 +27,16 @@ pub fn listing(alloc: Global, unit: &Unit) -> Result<Vec<u8>, AllocError> {
 
 /// Appends the first line of a text, and returns what follows it.
 fn put_line<'a>(listed: &mut Vec<u8>, text: &'a [u8]) -> Result<&'a [u8], AllocError> {
-    for (index, byte) in text.iter().enumerate() {
-        listed.push(*byte)?;
-        if *byte == b'\n' {
-            return Ok(&text[index + 1..]);
-        }
-    }
-    Ok(&[])
+    let end = match text.iter().position(|byte| *byte == b'\n') {
+        Some(at) => at + 1,
+        None => text.len(),
+    };
+    listed.extend_from_slice(&text[..end])?;
+    Ok(&text[end..])
 }
 
-/// The line under which an instruction stands, by its number: that of the step which it begins. What enters a block stands
-/// with the step that follows; 0 stands for the line of the instruction before.
+/// The line under which an instruction stands, by its number: that of the step which it begins. What enters a block
+/// stands with the step that follows; 0 stands for the line of the instruction before.
 fn line_of(unit: &Unit, address: usize, instruction: Instruction) -> u32 {
     let enters = match instruction {
         Instruction::Enter(_) => true,

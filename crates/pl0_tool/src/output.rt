@@ -1,14 +1,58 @@
 //! Lines that are written in large blocks.
 
-ghost use Rattle.std.specs.Prelude.{◌≡◌, ◌++◌, [], List, ℕ, MatchBool, if◌then◌else◌};
+ghost use Rattle.std.specs.Prelude.{◌≡◌, ◌++◌, [], false, List, ℕ, MatchBool, if◌then◌else◌};
 ghost use Rattle.byte_streams.specs.Streams.{Output, WritesAll, FailsIn, output as output_at};
 ghost use Rattle.pl0_tool.specs.Pending.{Holds};
 
 use byte_streams::{Sink, write_all};
+use std::io::{self, ErrorKind, Write};
 use std::sync::Wait;
 
-/// Adds bytes to those that are still to be written, of which at most `room` are kept; more of them are written. Returns
-/// `false` where the output fails.
+/// An output that notices when nobody reads it any more.
+#[derive(Drop)]
+pub struct Noticing<O: Write + Drop> {
+    inner: O,
+    is_closed: bool,
+}
+
+impl<O: Write + Drop> Noticing<O> {
+    /// An output of which no write has failed yet.
+    pub fn new(inner: O) -> Noticing<O>
+        ensures inner { result.inner ≡ inner }
+        ensures open { result.is_closed ≡ false }
+    {
+        Noticing {
+            inner,
+            is_closed: false,
+        }
+    }
+
+    /// Whether a write failed since nobody reads the output any more.
+    pub fn is_closed(&self) -> bool
+        ensures { result ≡ self.now.is_closed }
+    {
+        self.is_closed
+    }
+}
+
+impl<O: Write + Drop> Write for Noticing<O> {
+    ghost contents = { λ noticing. O.contents noticing.inner };
+
+    fn write(&mut self, bytes: &[u8]) -> io::Result<usize> {
+        let written = self.inner.write(bytes);
+        if let Err(error) = &written {
+            self.is_closed |= error.kind() == ErrorKind::BrokenPipe;
+        }
+        written
+    }
+
+    fn flush(&mut self) -> io::Result<()> {
+        self.inner.flush()
+    }
+}
+
+/// Adds bytes to those that are still to be written, of which at most `room` are kept; more of them are written.
+/// Returns `false` where the output fails.
 pub fn put<O: Sink>(
     rt: &impl Wait,
     output: &mut O,

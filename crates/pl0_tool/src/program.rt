@@ -1,396 +1,181 @@
 //! The program from its arguments to its exit status.
 
+ghost use Rattle.std.specs.Prelude.{◌≤◌};
+ghost use Rattle.byte_streams.specs.Streams.{output as output_at};
+ghost use Rattle.pl0_tool.specs.Reporting.{HasTold};
+
 use crate::arguments::{Request, parse_arguments};
-use crate::checking::check_text;
-use crate::listing::listing;
-use crate::running::{RunEnd, run_machine};
-use crate::stack::say_stack;
-use crate::table::table;
-use crate::text::{ReadFault, load, read_text};
-use crate::tracing::trace;
+use crate::commands::perform;
+use crate::output::Noticing;
+use crate::report::{Ending, Report};
+use crate::text::{ReadFault, read_text};
 use byte_streams::{Reading, Sink, Source, Writing, say, write_all};
 use clap::Error;
 use clap::error::ErrorKind;
-use itoa::Buffer;
-use pl0_machine::{Machine, StepOutcome};
-use pl0_meaning::RunFault;
-use pl0_mistakes::{fault_line, mistake_line};
-use pl0_tree::SyntaxFault;
-use pl0_unit::Unit;
-use std::alloc::{AllocError, Global};
+use std::alloc::AllocError;
 use std::io::{self, IsTerminal, Read, Write};
 use std::rt::{Clock, Env, Files};
-use std::sync::{Arc, Wait};
+use std::sync::Wait;
 use std::{env, fs};
 
 /// How many bytes of numbers are written together, where the output is no terminal.
 const ROOM: usize = 65_536;
 
-/// How the program ends.
-#[derive(Clone, Copy, Debug, PartialEq, Eq)]
-enum Ending {
-    Success,
-    Fault,
-    Mistake,
-    Failure,
-    NotUnderstood,
-}
-
-impl Ending {
-    /// The exit status.
-    fn status(self) -> u8 {
-        match self {
-            Ending::Success => 0,
-            Ending::Fault => 1,
-            Ending::Mistake => 2,
-            Ending::Failure => 3,
-            Ending::NotUnderstood => 4,
-        }
-    }
-}
-
 /// Does what the arguments of this process ask for, and returns the exit status: 0 where all went well, 1 where a run
-/// faulted, 2 where a text has a mistake, 3 where a file can't be read, the output fails or memory runs out, and 4 where the
-/// arguments aren't understood.
+/// faulted, 2 where a text has a mistake, 3 where a file can't be read, the output fails or memory runs out, and 4
+/// where the arguments aren't understood. An output that fails is told on standard error, unless nobody reads it any
+/// more.
 pub fn run<R, I, O, E>(rt: &R, input: I, output: O, errors: E) -> u8
 where
     R: Wait + Clock + Env + Files + AllocGlobal,
     I: Read + Drop,
     O: Write + IsTerminal + Drop,
     E: Write + Drop,
+    ensures { result ≤ 4 }
 {
     let room = if output.is_terminal() { 0 } else { ROOM };
-    let input = &mut Reading::new(rt, input);
-    let output = &mut Writing::new(rt, output);
+    let mut output = Noticing::new(output);
     let errors = &mut Writing::new(rt, errors);
-    match given_arguments(rt) {
-        Ok(given) => match texts(rt.alloc(), given.as_slice()) {
-            Ok(arguments) => execute(
-                rt,
-                arguments.as_slice(),
-                input,
-                output,
-                errors,
-                room,
-            ).status(),
-            Err(AllocError) => no_memory(rt, errors).status(),
-        },
-        Err(error) => say_unread(rt, &error, errors).status(),
+    let ending = execute(
+        rt,
+        &mut Reading::new(rt, input),
+        &mut Writing::new(rt, &mut output),
+        errors,
+        room,
+    );
+    if ending == Ending::Unwritten && !output.is_closed() {
+        say(rt, errors, &["pl0: cannot write the output\n"]);
     }
+    ending.status()
 }
 
-/// Says why the arguments can't be read: there was no memory for them, or one of them is not text.
-fn say_unread<E: Sink>(rt: &impl Wait, error: &io::Error, errors: &mut E) -> Ending {
-    match error.kind() {
-        io::ErrorKind::OutOfMemory => no_memory(rt, errors),
-        _ => {
-            say(rt, errors, &["pl0: an argument is not text\n"]);
-            Ending::NotUnderstood
+/// Does what the arguments of this process ask for, and writes what is to be told at the end.
+fn execute<R, I, O, E>(rt: &R, input: &mut I, output: &mut O, errors: &mut E, room: usize) -> Ending
+where
+    R: Wait + Clock + Env + Files + AllocGlobal,
+    I: Source,
+    O: Sink,
+    E: Sink,
+{
+    match attempt(rt, input, output, room) {
+        Ok(report) => tell(rt, &report, output, errors),
+        Err(AllocError) => {
+            say(rt, errors, &["pl0: no memory\n"]);
+            Ending::Failure
         }
     }
 }
 
-/// Returns the arguments of this process, the program's name first.
+/// Writes a report, and returns how the command ended.
+fn tell<O: Sink, E: Sink>(rt: &impl Wait, report: &Report, output: &mut O, errors: &mut E) -> Ending
+    ensures { HasTold report.now result
+        (output_at (O.written output.old) (O.failures output.old))
+        (output_at (O.written output.new) (O.failures output.new))
+        (output_at (E.written errors.old) (E.failures errors.old))
+        (output_at (E.written errors.new) (E.failures errors.new)) }
+{
+    let is_written = write_all(rt, output, report.output.as_slice());
+    let _ = write_all(rt, errors, report.errors.as_slice());
+    if is_written {
+        report.ending
+    } else {
+        Ending::Unwritten
+    }
+}
+
+/// Does what the arguments of this process ask for, the program's name first.
+fn attempt<R, I, O>(
+    rt: &R,
+    input: &mut I,
+    output: &mut O,
+    room: usize,
+) -> Result<Report, AllocError>
+where
+    R: Wait + Clock + Env + Files + AllocGlobal,
+    I: Source,
+    O: Sink,
+{
+    let alloc = rt.alloc();
+    let given = match given_arguments(rt) {
+        Ok(given) => given,
+        Err(error) if error.kind() == io::ErrorKind::OutOfMemory => return Err(AllocError),
+        Err(_) => {
+            let errors = Vec::from_slice(alloc, b"pl0: an argument is not text\n")?;
+            return Ok(Report::new(Vec::new(alloc), errors, Ending::NotUnderstood));
+        }
+    };
+    let mut arguments = Vec::new(alloc);
+    for argument in &given {
+        arguments.push(argument.as_str())?;
+    }
+    match parse_arguments(alloc, arguments.as_slice()) {
+        Ok(request) => answer(rt, &request, input, output, room),
+        Err(error) => unasked(rt, &error),
+    }
+}
+
+/// Returns the arguments of this process.
 fn given_arguments(rt: &(impl Env + AllocGlobal)) -> io::Result<Vec<String>> {
     Ok(env::args(rt)?.collect(rt.alloc())?)
 }
 
-/// Returns the arguments as borrowed texts.
-fn texts(alloc: Global, arguments: &[String]) -> Result<Vec<&str>, AllocError> {
-    arguments
-        .iter()
-        .map(|argument| argument.as_str())
-        .collect(alloc)
-}
-
-/// Does what the arguments ask for, the program's name first.
-fn execute<R, I, O, E>(
-    rt: &R,
-    arguments: &[&str],
-    input: &mut I,
-    output: &mut O,
-    errors: &mut E,
-    room: usize,
-) -> Ending
-where
-    R: Wait + Clock + Files + AllocGlobal,
-    I: Source,
-    O: Sink,
-    E: Sink,
-{
-    match parse_arguments(rt.alloc(), arguments) {
-        Ok(Request::Run(file)) => run_file(rt, file, input, output, errors, room),
-        Ok(Request::Trace { file, from, steps }) => {
-            trace_file(rt, file, from, steps, input, output, errors)
-        }
-        Ok(Request::Check(files)) => check_files(rt, files.as_slice(), input, errors),
-        Ok(Request::List(file)) => list_file(rt, file, input, output, errors),
-        Err(error) => answer(rt, &error, output, errors),
-    }
-}
-
-/// Writes the help, the version, or why the arguments aren't understood.
-fn answer<R: Wait + AllocGlobal, O: Sink, E: Sink>(
-    rt: &R,
-    error: &Error,
-    output: &mut O,
-    errors: &mut E,
-) -> Ending {
-    let Ok(text) = error.to_string(rt.alloc()) else {
-        return no_memory(rt, errors);
-    };
+/// Returns the help, the version, or why the arguments aren't understood.
+fn unasked(rt: &impl AllocGlobal, error: &Error) -> Result<Report, AllocError> {
+    let text = error.to_string(rt.alloc())?.into_bytes();
+    let nothing = Vec::new(rt.alloc());
     match error.kind() {
         ErrorKind::DisplayHelp | ErrorKind::DisplayVersion => {
-            if write_all(rt, output, text.as_bytes()) {
-                Ending::Success
-            } else {
-                Ending::Failure
-            }
+            Ok(Report::new(text, nothing, Ending::Success))
         }
-        ErrorKind::OutOfMemory => no_memory(rt, errors),
-        _ => {
-            say(rt, errors, &[text.as_str()]);
-            Ending::NotUnderstood
-        }
+        ErrorKind::OutOfMemory => Err(AllocError),
+        _ => Ok(Report::new(nothing, text, Ending::NotUnderstood)),
     }
 }
 
-/// Says that memory ran out.
-fn no_memory<E: Sink>(rt: &impl Wait, errors: &mut E) -> Ending {
-    say(rt, errors, &["pl0: no memory\n"]);
-    Ending::Failure
-}
-
-/// Returns the text in a file, or that of the input for `-`; or says why there is none.
-fn text_of<R: Wait + Clock + Files + AllocGlobal, I: Source, E: Sink>(
+/// Does what is asked for with each file, up to the first that can't be read.
+fn answer<R, I, O>(
     rt: &R,
-    file: &str,
-    input: &mut I,
-    errors: &mut E,
-) -> Result<Vec<u8>, Ending> {
-    let read = if file == "-" {
-        read_text(rt, rt.alloc(), input)
-    } else {
-        match fs::open(rt, file) {
-            Ok(opened) => read_text(rt, rt.alloc(), &mut Reading::new(rt, opened)),
-            Err(_) => Err(ReadFault::CannotRead),
-        }
-    };
-    match read {
-        Ok(text) => Ok(text),
-        Err(ReadFault::NoMemory) => Err(no_memory(rt, errors)),
-        Err(ReadFault::CannotRead) => {
-            say(rt, errors, &["pl0: cannot read ", file, "\n"]);
-            Err(Ending::Failure)
-        }
-    }
-}
-
-/// Returns the program in a file, or tells the first mistake of its text.
-fn unit_of<R: Wait + Clock + Files + AllocGlobal, I: Source, E: Sink>(
-    rt: &R,
-    file: &str,
-    input: &mut I,
-    errors: &mut E,
-) -> Result<Unit, Ending> {
-    let text = text_of(rt, file, input, errors)?;
-    match load(rt.alloc(), text.as_slice()) {
-        Ok(unit) => Ok(unit),
-        Err(SyntaxFault::NoMemory) => Err(no_memory(rt, errors)),
-        Err(SyntaxFault::InText { kind, place }) => {
-            match mistake_line(rt.alloc(), file, text.as_slice(), kind, place) {
-                Ok(line) => {
-                    let _ = write_all(rt, errors, line.as_slice());
-                    Err(Ending::Mistake)
-                }
-                Err(AllocError) => Err(no_memory(rt, errors)),
-            }
-        }
-    }
-}
-
-/// Returns a machine that stands before the first step of the program in a file, or tells the first mistake of its text.
-fn machine_of<R: Wait + Clock + Files + AllocGlobal, I: Source, E: Sink>(
-    rt: &R,
-    file: &str,
-    input: &mut I,
-    errors: &mut E,
-) -> Result<Machine, Ending> {
-    let unit = unit_of(rt, file, input, errors)?;
-    let Ok(unit) = Arc::new(rt.alloc(), unit) else {
-        return Err(no_memory(rt, errors));
-    };
-    match Machine::new(rt.alloc(), unit) {
-        Ok(machine) => Ok(machine),
-        Err(AllocError) => Err(no_memory(rt, errors)),
-    }
-}
-
-/// Runs the program in a file.
-fn run_file<R, I, O, E>(
-    rt: &R,
-    file: &str,
+    request: &Request<'_>,
     input: &mut I,
     output: &mut O,
-    errors: &mut E,
     room: usize,
-) -> Ending
+) -> Result<Report, AllocError>
 where
     R: Wait + Clock + Files + AllocGlobal,
     I: Source,
     O: Sink,
-    E: Sink,
 {
-    let mut machine = match machine_of(rt, file, input, errors) {
-        Ok(machine) => machine,
-        Err(ending) => return ending,
-    };
-    let mut pending = Vec::new(rt.alloc());
-    if machine.depth() == 0 {
-        return Ending::Success;
-    }
-    match run_machine(rt, &mut machine, output, &mut pending, room) {
-        RunEnd::Ended => Ending::Success,
-        RunEnd::WriteFailed => Ending::Failure,
-        RunEnd::Faulted(fault) => {
-            say_fault(rt, file, &machine, fault, errors);
-            Ending::Fault
-        }
-    }
-}
-
-/// Tells some positions of the run of the program in a file.
-fn trace_file<R, I, O, E>(
-    rt: &R,
-    file: &str,
-    from: u64,
-    steps: usize,
-    input: &mut I,
-    output: &mut O,
-    errors: &mut E,
-) -> Ending
-where
-    R: Wait + Clock + Files + AllocGlobal,
-    I: Source,
-    O: Sink,
-    E: Sink,
-{
-    let mut machine = match machine_of(rt, file, input, errors) {
-        Ok(machine) => machine,
-        Err(ending) => return ending,
-    };
-    if machine.depth() == 0 || machine.position() > from {
-        return Ending::Success;
-    }
-    let Ok(rows) = trace(rt, rt.alloc(), &mut machine, from, steps) else {
-        return no_memory(rt, errors);
-    };
-    let Ok(text) = table(rt.alloc(), machine.unit(), rows.as_slice()) else {
-        return no_memory(rt, errors);
-    };
-    if !write_all(rt, output, text.as_slice()) {
-        return Ending::Failure;
-    }
-    let last = rows.last().map(|row| row.outcome);
-    end_of_trace(rt, file, &mut machine, last, errors)
-}
-
-/// Tells where a run stopped that was traced, if it did. The outcome of the last step that was told is `None` where it
-/// stopped before the first.
-fn end_of_trace<R: Wait + AllocGlobal, E: Sink>(
-    rt: &R,
-    file: &str,
-    machine: &mut Machine,
-    last: Option<StepOutcome>,
-    errors: &mut E,
-) -> Ending {
-    let outcome = match last {
-        Some(outcome) => outcome,
-        None if machine.depth() > 0 => machine.step(),
-        None => {
-            let mut end = Buffer::new();
-            let end = end.format(machine.position());
-            say(rt, errors, &["pl0: the run ends at position ", end, "\n"]);
-            StepOutcome::Done
-        }
-    };
-    if let StepOutcome::Fault(fault) = outcome {
-        say_fault(rt, file, machine, fault, errors);
-        return Ending::Fault;
-    }
-    Ending::Success
-}
-
-/// Tells a fault at the step where the machine stands, with the frames that are alive.
-fn say_fault<R: Wait + AllocGlobal, E: Sink>(
-    rt: &R,
-    file: &str,
-    machine: &Machine,
-    fault: RunFault,
-    errors: &mut E,
-) {
-    if machine.depth() > 0 {
-        let step = machine.next_step();
-        if let Some(step) = machine.unit().steps.get(step) {
-            if let Ok(line) = fault_line(rt.alloc(), file, fault, step.place) {
-                let _ = write_all(rt, errors, line.as_slice());
+    let alloc = rt.alloc();
+    let mut report = Report::new(Vec::new(alloc), Vec::new(alloc), Ending::Success);
+    for file in &request.files {
+        match text_of(rt, file, input) {
+            Ok(text) => {
+                let task = request.task;
+                report.add(perform(rt, alloc, task, file, text.as_slice(), output, room)?)?;
+            }
+            Err(ReadFault::NoMemory) => return Err(AllocError),
+            Err(ReadFault::CannotRead) => {
+                let line = format!(in alloc; "pl0: cannot read {file}\n")?;
+                let errors = line.into_bytes();
+                report.add(Report::new(Vec::new(alloc), errors, Ending::Failure))?;
+                return Ok(report);
             }
         }
-        say_stack(rt, file, machine, errors);
     }
+    Ok(report)
 }
 
-/// Tells the first mistake of the text in each file.
-fn check_files<R: Wait + Clock + Files + AllocGlobal, I: Source, E: Sink>(
-    rt: &R,
-    files: &[&str],
-    input: &mut I,
-    errors: &mut E,
-) -> Ending {
-    let mut ending = Ending::Success;
-    for file in files {
-        let text = match text_of(rt, file, input, errors) {
-            Ok(text) => text,
-            Err(ending) => return ending,
-        };
-        match check_text(rt.alloc(), file, text.as_slice()) {
-            Ok(None) => {}
-            Ok(Some(line)) => {
-                let _ = write_all(rt, errors, line.as_slice());
-                ending = Ending::Mistake;
-            }
-            Err(AllocError) => return no_memory(rt, errors),
-        }
-    }
-    ending
-}
-
-/// Lists the program in a file.
-fn list_file<R, I, O, E>(
+/// Returns the text in a file, or that of the input for `-`.
+fn text_of<R: Wait + Clock + Files + AllocGlobal, I: Source>(
     rt: &R,
     file: &str,
     input: &mut I,
-    output: &mut O,
-    errors: &mut E,
-) -> Ending
-where
-    R: Wait + Clock + Files + AllocGlobal,
-    I: Source,
-    O: Sink,
-    E: Sink,
-{
-    let unit = match unit_of(rt, file, input, errors) {
-        Ok(unit) => unit,
-        Err(ending) => return ending,
-    };
-    match listing(rt.alloc(), &unit) {
-        Ok(text) => {
-            if write_all(rt, output, text.as_slice()) {
-                Ending::Success
-            } else {
-                Ending::Failure
-            }
-        }
-        Err(AllocError) => no_memory(rt, errors),
+) -> Result<Vec<u8>, ReadFault> {
+    if file == "-" {
+        return read_text(rt, rt.alloc(), input);
+    }
+    match fs::open(rt, file) {
+        Ok(opened) => read_text(rt, rt.alloc(), &mut Reading::new(rt, opened)),
+        Err(_) => Err(ReadFault::CannotRead),
     }
 }

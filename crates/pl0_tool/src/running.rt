@@ -26,8 +26,9 @@ pub enum RunEnd {
     WriteFailed,
 }
 
-/// Runs a machine to the end of its program, to a step that faults, or until the output fails, and writes each number on a
-/// line of its own. Up to `room` bytes are kept until they are written together, in `pending`, which is empty then.
+/// Runs a machine to the end of its program, to a step that faults, or until the output fails, and writes each number
+/// on a line of its own. Up to `room` bytes are kept until they are written together, in `pending`, which is empty
+/// then.
 pub fn run_machine<O: Sink>(
     rt: &impl Wait,
     machine: &mut Machine,

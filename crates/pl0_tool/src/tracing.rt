@@ -4,6 +4,7 @@ ghost use Rattle.std.specs.Prelude.{◌≡◌, ◌<◌, ◌≤◌, ℕ, IfOk, Ma
 ghost use Rattle.pl0_machine.specs.Machine.{program, frame_of, depth_of, variables_of, outcome_of, Stepped};
 ghost use Rattle.pl0_tool.specs.Tracing.{IsFrameRow, AreFrameRows, IsRow, AreRows, at_position, numbers_in};
 
+use crate::drawing::{Drawing, draw_if};
 use pl0_machine::{Machine, StepOutcome};
 use pl0_syntax::block;
 use pl0_tree::{Place, StepKind};
@@ -31,12 +32,14 @@ pub struct Row {
     pub hidden: usize,
     /// The other frames, the newest last.
     pub frames: Vec<FrameRow>,
+    /// The machine before the step, with the heads of those frames, where it is drawn.
+    pub drawing: Option<Drawing>,
     pub outcome: StepOutcome,
 }
 
-/// Tells up to `count` positions of a run, from `from` on, in order. There are fewer only where the run ends or faults. The
-/// machine goes to `from` without telling anything, and then stands at the end, at the step that faults, or behind what was
-/// told.
+/// Tells up to `count` positions of a run, from `from` on, in order. There are fewer only where the run ends or faults.
+/// The machine goes to `from` without telling anything, and then stands at the end, at the step that faults, or behind
+/// what was told.
 ///
 /// # Errors
 ///
@@ -47,13 +50,14 @@ pub fn trace(
     machine: &mut Machine,
     from: u64,
     count: usize,
+    drawn: bool,
 ) -> Result<Vec<Row>, AllocError>
     requires alive { 0 < depth_of machine.old }
     requires within { machine.old.position ≤ from }
-    ensures { IfOk result (λ rows. AreRows machine.old from count rows.items) }
+    ensures { IfOk result (λ rows. AreRows drawn machine.old from count rows.items) }
 {
     if go_to(rt, machine, from) {
-        rows_of(alloc, machine, count)
+        rows_of(alloc, machine, count, drawn)
     } else {
         Ok(Vec::new(alloc))
     }
@@ -79,13 +83,18 @@ fn go_to(rt: &impl Wait, machine: &mut Machine, position: u64) -> bool
 }
 
 /// Tells up to `count` positions from that of a machine on.
-fn rows_of(alloc: Global, machine: &mut Machine, count: usize) -> Result<Vec<Row>, AllocError>
+fn rows_of(
+    alloc: Global,
+    machine: &mut Machine,
+    count: usize,
+    drawn: bool,
+) -> Result<Vec<Row>, AllocError>
     requires { 0 < depth_of machine.old }
-    ensures { IfOk result (λ rows. AreRows machine.old machine.old.position count rows.items) }
+    ensures { IfOk result (λ rows. AreRows drawn machine.old machine.old.position count rows.items) }
 {
     let mut rows = Vec::new(alloc);
     for index in 0..count {
-        let row = next_row(alloc, machine)?;
+        let row = next_row(alloc, machine, drawn)?;
         let outcome = row.outcome;
         rows.push(row)?;
         match outcome {
@@ -98,9 +107,9 @@ fn rows_of(alloc: Global, machine: &mut Machine, count: usize) -> Result<Vec<Row
 }
 
 /// Tells the position of a machine, and takes its step.
-fn next_row(alloc: Global, machine: &mut Machine) -> Result<Row, AllocError>
+fn next_row(alloc: Global, machine: &mut Machine, drawn: bool) -> Result<Row, AllocError>
     requires { 0 < depth_of machine.old }
-    ensures { IfOk result (λ row. IsRow machine.old row
+    ensures { IfOk result (λ row. IsRow drawn machine.old row
         × Stepped (outcome_of machine.old) machine.old row.outcome machine.new) }
 {
     let unit: &Unit = machine.unit();
@@ -108,6 +117,7 @@ fn next_row(alloc: Global, machine: &mut Machine) -> Result<Row, AllocError>
     let position = machine.position();
     let hidden = machine.depth().saturating_sub(TOLD_FRAMES);
     let frames = newest_frames(alloc, machine, hidden)?;
+    let drawing = draw_if(drawn, alloc, machine, hidden)?;
     let outcome = machine.step();
     Ok(Row {
         position,
@@ -115,6 +125,7 @@ fn next_row(alloc: Global, machine: &mut Machine) -> Result<Row, AllocError>
         place: step.place,
         hidden,
         frames,
+        drawing,
         outcome,
     })
 }
@@ -148,7 +159,7 @@ fn frame_row(alloc: Global, machine: &Machine, frame: usize) -> Result<FrameRow,
 }
 
 /// Returns how many variables a frame has.
-fn variable_count(machine: &Machine, frame: usize) -> usize
+pub fn variable_count(machine: &Machine, frame: usize) -> usize
     requires { frame < depth_of machine.now }
     ensures { result ≡ variables_of (frame_of machine.now frame) }
 {

@@ -38,6 +38,7 @@ returns c =
             (next_place u o c.next_step.result s (next here) c.index-step.ensures);
         hidden = omega (arith, c.saturating_sub-hidden.ensures, c.depth.ensures.depth);
         frames = c.in_ok-frames.ensures;
+        drawing = c.in_ok-drawing.ensures;
         outcome = told_so m c.step-outcome.new.self c.step-outcome.result c.step-outcome.ensures;
       },
       c.step-outcome.ensures,

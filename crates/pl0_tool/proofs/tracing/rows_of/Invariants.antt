@@ -9,4 +9,4 @@ invariant-loop-index l =
     (0 < depth_of l.machine)
     × (l.machine ≡ at_position l.initial.machine (l.initial.machine.position + l.index))
     × (length l.rows.items ≡ l.index)
-    × TellPositions l.initial.machine l.initial.machine.position l.rows.items
+    × TellPositions l.drawn l.initial.machine l.initial.machine.position l.rows.items

@@ -1,0 +1,14 @@
+use Rattle.std.proofs.Common.{◌<◌, length, sym, subst}
+use Rattle.pl0_tree.specs.Steps.{blocks}
+use Rattle.pl0_tree.specs.Blocks.{AreNestings}
+use Rattle.pl0_machine.specs.Machine.{program_of}
+use Rattle.pl0_tool.proofs.TracedFrames.{unit_nestings}
+use Rattle.pl0_tool.proofs.blocks.frame_name.Goals as goal
+
+pub block_name-requires-clause-table : goal.block_name-requires-clause-table
+block_name-requires-clause-table c =
+    let u = c.args.unit.now in
+    subst (λ t. AreNestings (program_of u) t (blocks (program_of u))) (sym c.deref.ensures.value) (unit_nestings u)
+
+pub block_name-requires-clause-within : goal.block_name-requires-clause-within
+block_name-requires-clause-within c = subst (λ t. c.args.number < length t) (sym c.deref.ensures.value) c.requires

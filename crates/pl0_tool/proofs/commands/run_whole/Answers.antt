@@ -1,0 +1,37 @@
+use Rattle.std.proofs.Common.{sym, ◌∙◌, ap, Vec, Global, ℕ}
+use Rattle.pl0_tool.specs.Commands.{end_errors, end_ending}
+use Rattle.pl0_tool.proofs.CommandTells.{run_told}
+use Rattle.pl0_tool.proofs.commands.run_whole.Goals as goal
+
+pub returns-in-Ended : goal.returns-in-Ended
+returns-in-Ended g c =
+    let end = c.run_machine.result in
+    let file = c.args.file.now in
+    let last = c.run_machine.new.machine in
+    run_told end file c.args.machine.now last c.new-in-Ended-2.result _ _ c.run_machine.ensures
+    (ap (λ (v : Vec ℕ Global). v.items) c.new-in-Ended-2.ensures.output ∙ c.new-nothing.ensures.items)
+    (ap (λ (v : Vec ℕ Global). v.items) c.new-in-Ended-2.ensures.errors
+    ∙ c.new-in-Ended.ensures.items ∙ ap (λ e. end_errors file last e) (sym c.in-Ended.is))
+    (c.new-in-Ended-2.ensures.ending ∙ ap (λ e. end_ending e) (sym c.in-Ended.is))
+
+pub returns-in-WriteFailed : goal.returns-in-WriteFailed
+returns-in-WriteFailed g c =
+    let end = c.run_machine.result in
+    let file = c.args.file.now in
+    let last = c.run_machine.new.machine in
+    run_told end file c.args.machine.now last c.new-in-WriteFailed-2.result _ _ c.run_machine.ensures
+    (ap (λ (v : Vec ℕ Global). v.items) c.new-in-WriteFailed-2.ensures.output ∙ c.new-nothing.ensures.items)
+    (ap (λ (v : Vec ℕ Global). v.items) c.new-in-WriteFailed-2.ensures.errors
+    ∙ c.new-in-WriteFailed.ensures.items ∙ ap (λ e. end_errors file last e) (sym c.in-WriteFailed.is))
+    (c.new-in-WriteFailed-2.ensures.ending ∙ ap (λ e. end_ending e) (sym c.in-WriteFailed.is))
+
+pub returns : goal.returns
+returns g c =
+    let end = c.run_machine.result in
+    let file = c.args.file.now in
+    let last = c.run_machine.new.machine in
+    run_told end file c.args.machine.now last c.new-in-Faulted.result _ _ c.run_machine.ensures
+    (ap (λ (v : Vec ℕ Global). v.items) c.new-in-Faulted.ensures.output ∙ c.new-nothing.ensures.items)
+    (ap (λ (v : Vec ℕ Global). v.items) c.new-in-Faulted.ensures.errors
+    ∙ c.in_ok-errors-in-Faulted.ensures ∙ ap (λ e. end_errors file last e) (sym c.in-Faulted.is))
+    (c.new-in-Faulted.ensures.ending ∙ ap (λ e. end_ending e) (sym c.in-Faulted.is))

@@ -1,0 +1,15 @@
+use Rattle.std.proofs.Common.{◌+◌, ◌∙◌, ap}
+use Rattle.std.specs.Prelude.{position}
+use Rattle.std.specs.Option.{option_map_or}
+use Rattle.pl0_tool.specs.Drawing.{is_begun}
+use Rattle.pl0_tool.proofs.drawing.behind.Goals as goal
+
+pub returns-in-Some : goal.returns-in-Some
+returns-in-Some c =
+    ap (λ o. option_map_or (λ a. a + 1) o 0)
+    (c.in-Some.ensures ∙ ap (position (is_begun c.args.step)) c.deref.ensures.value)
+
+pub returns-in-None : goal.returns-in-None
+returns-in-None c =
+    ap (λ o. option_map_or (λ a. a + 1) o 0)
+    (c.in-None.ensures ∙ ap (position (is_begun c.args.step)) c.deref.ensures.value)

@@ -1,0 +1,189 @@
+//! The commands: what each one makes of a text.
+
+ghost use Rattle.std.specs.Prelude.{◌≡◌, ◌<◌, ◌≤◌, [], IfOk};
+ghost use Rattle.pl0_machine.specs.Machine.{depth_of};
+ghost use Rattle.byte_streams.specs.Streams.{output as output_at};
+ghost use Rattle.pl0_tool.specs.Commands.{Tells, ProgramTells, RunTells, IsReport, start_of};
+ghost use Rattle.pl0_tool.specs.declared.report.Ending.TheVariants.{Success};
+
+use crate::arguments::Task;
+use crate::fault::fault_report;
+use crate::listing::listing;
+use crate::report::{Ending, Report};
+use crate::running::{RunEnd, run_machine};
+use crate::table::table;
+use crate::text::load;
+use crate::tracing::trace;
+use byte_streams::Sink;
+use pl0_machine::{Machine, StepOutcome};
+use pl0_mistakes::mistake_line;
+use pl0_tree::SyntaxFault;
+use pl0_unit::Unit;
+use std::alloc::{AllocError, Global};
+use std::sync::{Arc, Wait};
+
+/// Does a task with a text, and returns what is still to be told of it. A run has written its numbers then, of which up
+/// to `room` bytes at a time are kept until they are written together.
+///
+/// # Errors
+///
+/// `AllocError`, where an allocation failed.
+pub fn perform<O: Sink>(
+    rt: &impl Wait,
+    alloc: Global,
+    task: Task,
+    file: &str,
+    text: &[u8],
+    output: &mut O,
+    room: usize,
+) -> Result<Report, AllocError>
+    ensures { IfOk result (λ report. Tells task file.now text.now report
+        (output_at (O.written output.old) (O.failures output.old))
+        (output_at (O.written output.new) (O.failures output.new))) }
+{
+    match load(alloc, text) {
+        Ok(unit) => perform_program(rt, alloc, task, file, unit, output, room),
+        Err(SyntaxFault::NoMemory) => Err(AllocError),
+        Err(SyntaxFault::InText { kind, place }) => {
+            let line = mistake_line(alloc, file, text, kind, place)?;
+            Ok(Report::new(Vec::new(alloc), line, Ending::Mistake))
+        }
+    }
+}
+
+/// Does a task with a program.
+fn perform_program<O: Sink>(
+    rt: &impl Wait,
+    alloc: Global,
+    task: Task,
+    file: &str,
+    unit: Unit,
+    output: &mut O,
+    room: usize,
+) -> Result<Report, AllocError>
+    ensures { IfOk result (λ report. ProgramTells task file.now unit report
+        (output_at (O.written output.old) (O.failures output.old))
+        (output_at (O.written output.new) (O.failures output.new))) }
+{
+    match task {
+        Task::Check => Ok(nothing_told(alloc)),
+        Task::List => list_program(alloc, &unit),
+        Task::Run => run_program(rt, alloc, file, unit, output, room),
+        Task::Trace { from, steps, drawn } => {
+            trace_program(rt, alloc, file, unit, from, steps, drawn)
+        }
+    }
+}
+
+/// Returns a report of nothing, and of a success.
+fn nothing_told(alloc: Global) -> Report
+    ensures { IsReport [] [] Success result }
+{
+    Report::new(Vec::new(alloc), Vec::new(alloc), Ending::Success)
+}
+
+/// Lists a program.
+fn list_program(alloc: Global, unit: &Unit) -> Result<Report, AllocError>
+    ensures { IfOk result (λ report. (report.errors.items ≡ []) × (report.ending ≡ Success)) }
+{
+    let listed = listing(alloc, unit)?;
+    Ok(Report::new(listed, Vec::new(alloc), Ending::Success))
+}
+
+/// Runs a program.
+fn run_program<O: Sink>(
+    rt: &impl Wait,
+    alloc: Global,
+    file: &str,
+    unit: Unit,
+    output: &mut O,
+    room: usize,
+) -> Result<Report, AllocError>
+    ensures { IfOk result (λ report. RunTells file.now (start_of unit) report
+        (output_at (O.written output.old) (O.failures output.old))
+        (output_at (O.written output.new) (O.failures output.new))) }
+{
+    let mut machine = first_machine(alloc, unit)?;
+    run_whole(rt, alloc, file, &mut machine, output, room)
+}
+
+/// Tells some positions of a program's run.
+fn trace_program(
+    rt: &impl Wait,
+    alloc: Global,
+    file: &str,
+    unit: Unit,
+    from: u64,
+    steps: usize,
+    drawn: bool,
+) -> Result<Report, AllocError> {
+    let mut machine = first_machine(alloc, unit)?;
+    trace_part(rt, alloc, file, &mut machine, from, steps, drawn)
+}
+
+/// Returns a machine before the first step of a program.
+fn first_machine(alloc: Global, unit: Unit) -> Result<Machine, AllocError>
+    ensures standing { IfOk result (λ machine. machine ≡ start_of unit) }
+    ensures alive { IfOk result (λ machine. 0 < depth_of machine) }
+{
+    let machine = Machine::new(alloc, Arc::new(alloc, unit)?)?;
+    Ok(machine)
+}
+
+/// Runs a machine to the end of its program.
+fn run_whole<O: Sink>(
+    rt: &impl Wait,
+    alloc: Global,
+    file: &str,
+    machine: &mut Machine,
+    output: &mut O,
+    room: usize,
+) -> Result<Report, AllocError>
+    requires { 0 < depth_of machine.old }
+    ensures { IfOk result (λ report. RunTells file.now machine.old report
+        (output_at (O.written output.old) (O.failures output.old))
+        (output_at (O.written output.new) (O.failures output.new))) }
+{
+    let nothing = Vec::new(alloc);
+    match run_machine(rt, machine, output, &mut Vec::new(alloc), room) {
+        RunEnd::Ended => Ok(Report::new(nothing, Vec::new(alloc), Ending::Success)),
+        RunEnd::WriteFailed => Ok(Report::new(nothing, Vec::new(alloc), Ending::Unwritten)),
+        RunEnd::Faulted(fault) => {
+            let errors = fault_report(alloc, file, machine, fault)?;
+            Ok(Report::new(nothing, errors, Ending::Fault))
+        }
+    }
+}
+
+/// Tells some positions of a machine's run, and where the run stopped if it did.
+fn trace_part(
+    rt: &impl Wait,
+    alloc: Global,
+    file: &str,
+    machine: &mut Machine,
+    from: u64,
+    steps: usize,
+    drawn: bool,
+) -> Result<Report, AllocError>
+    requires alive { 0 < depth_of machine.old }
+    requires within { machine.old.position ≤ from }
+{
+    let rows = trace(rt, alloc, machine, from, steps, drawn)?;
+    let told = table(alloc, machine.unit(), rows.as_slice(), drawn)?;
+    let outcome = match rows.last() {
+        Some(row) => row.outcome,
+        None if machine.depth() > 0 => machine.step(),
+        None => {
+            let end = machine.position();
+            let line = format!(in alloc; "pl0: the run ends at position {end}\n")?;
+            return Ok(Report::new(told, line.into_bytes(), Ending::Success));
+        }
+    };
+    match outcome {
+        StepOutcome::Fault(fault) => {
+            let errors = fault_report(alloc, file, machine, fault)?;
+            Ok(Report::new(told, errors, Ending::Fault))
+        }
+        _ => Ok(Report::new(told, Vec::new(alloc), Ending::Success)),
+    }
+}

@@ -1,0 +1,87 @@
+//! What is told of a run that faults.
+
+ghost use Rattle.std.specs.Prelude.{◌≡◌, ◌<◌, IfOk, string_bytes};
+ghost use Rattle.pl0_machine.specs.Machine.{program, frame_of, depth_of};
+ghost use Rattle.pl0_tool.specs.Faulting.{fault_report, first_line, frame_line, more_line};
+
+use crate::blocks::frame_name;
+use pl0_machine::Machine;
+use pl0_meaning::RunFault;
+use pl0_mistakes::fault_line;
+use pl0_unit::Unit;
+use std::alloc::{AllocError, Global};
+
+/// How many frames are told, the newest first.
+const SHOWN: usize = 16;
+
+/// Returns the line of a fault of the step at which a machine stands, and under it a line for each of the newest frames
+/// that are alive, the newest first.
+///
+/// # Errors
+///
+/// `AllocError`, where an allocation failed.
+pub fn fault_report(
+    alloc: Global,
+    file: &str,
+    machine: &Machine,
+    fault: RunFault,
+) -> Result<Vec<u8>, AllocError>
+    ensures { IfOk result (λ report. report.items ≡ fault_report file.now machine.now fault) }
+{
+    let mut report = first_line(alloc, file, machine, fault)?;
+    let depth = machine.depth();
+    for index in 0..depth.min(SHOWN) {
+        let line = frame_line(alloc, file, machine, depth - 1 - index)?;
+        report.extend_from_slice(line.as_bytes())?;
+    }
+    let more = more_line(alloc, depth.saturating_sub(SHOWN))?;
+    report.extend_from_slice(more.as_bytes())?;
+    Ok(report)
+}
+
+/// Returns the line of a fault of the step at which a machine stands, and nothing where no frame is alive.
+fn first_line(
+    alloc: Global,
+    file: &str,
+    machine: &Machine,
+    fault: RunFault,
+) -> Result<Vec<u8>, AllocError>
+    ensures { IfOk result (λ line. line.items ≡ first_line file.now machine.now fault) }
+{
+    if machine.depth() == 0 {
+        return Ok(Vec::new(alloc));
+    }
+    let unit: &Unit = machine.unit();
+    let step = unit.steps[machine.next_step()];
+    fault_line(alloc, file, fault, step.place)
+}
+
+/// Returns the line of a frame: its name, and where it stands.
+fn frame_line(
+    alloc: Global,
+    file: &str,
+    machine: &Machine,
+    frame: usize,
+) -> Result<String, AllocError>
+    requires { frame < depth_of machine.now }
+    ensures { IfOk result (λ line.
+        string_bytes line ≡ frame_line file.now (program machine.now) (frame_of machine.now frame)) }
+{
+    let view = machine.frame(frame);
+    let unit: &Unit = machine.unit();
+    let step = unit.steps[view.next_step];
+    let name = frame_name(unit, view.block);
+    let line = step.place.line;
+    let column = step.place.column;
+    format!(in alloc; "  in {name} at {file}:{line}:{column}\n")
+}
+
+/// Returns the line that says how many frames are left out, and nothing where none is.
+fn more_line(alloc: Global, more: usize) -> Result<String, AllocError>
+    ensures { IfOk result (λ line. string_bytes line ≡ more_line more) }
+{
+    if more == 0 {
+        return Ok(String::new(alloc));
+    }
+    format!(in alloc; "  and {more} more\n")
+}
