@@ -65,10 +65,13 @@ def loop(turns: int) -> str:
 def runs() -> list[Run]:
     many, few = (100_000, 300_000), (20_000, 60_000)
     count, links, divide = scaled("count", "100000000"), scaled("links", "30000000"), scaled("divide", "50000000")
+    primes, nested = scaled("primes", "150000"), scaled("nested", "600000")
     return [
         Run("a step of `count`, the machine alone", "machine", count, many),
         Run("a step of `links`, the machine alone", "machine", links, few),
         Run("a step of `divide`, the machine alone", "machine", divide, few),
+        Run("a step of `primes`, the machine alone", "machine", primes, (1_000, 3_000)),
+        Run("a step of `nested`, the machine alone", "machine", nested, (1_000, 3_000)),
         Run("a step of `count`, in slices", "slices", count, many),
         Run("a step of `count`, by the runner", "work", count, many),
         Run("a step of `links`, in slices", "slices", links, few),

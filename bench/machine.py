@@ -18,6 +18,8 @@ import time
 
 HERE = os.path.dirname(os.path.abspath(__file__))
 RUNS = 4
+# Those of bench/programs, each to its end.
+PROGRAMS = ("count", "links", "divide", "primes", "nested")
 
 
 def rate(command: list[str]) -> tuple[int, float]:
@@ -50,7 +52,7 @@ def main() -> int:
     with tempfile.TemporaryDirectory() as room:
         interpreter = os.path.join(room, "interpreter")
         subprocess.run(["clang", "-O2", "-o", interpreter, os.path.join(HERE, "interpreter.c")], check=True)
-        for name in ("count", "links", "divide"):
+        for name in PROGRAMS:
             text = os.path.join(HERE, "programs", f"{name}.pl0")
             listing = os.path.join(room, f"{name}.listing")
             with open(listing, "w") as sink:

@@ -17,6 +17,8 @@ import sys
 import tempfile
 import time
 
+from machine import PROGRAMS
+
 HERE = os.path.dirname(os.path.abspath(__file__))
 RUNS = 5
 TOKEN = re.compile(r"\w+|:=|<=|>=|[^\s\w]")
@@ -68,7 +70,7 @@ def main() -> int:
     with tempfile.TemporaryDirectory() as room:
         interpreter = os.path.join(room, "interpreter")
         subprocess.run(["clang", "-O2", "-o", interpreter, os.path.join(HERE, "interpreter.c")], check=True)
-        for name in ("count", "links", "divide"):
+        for name in PROGRAMS:
             text = os.path.join(HERE, "programs", f"{name}.pl0")
             listing, source, compiled = (os.path.join(room, f"{name}{end}") for end in (".listing", ".pas", ""))
             with open(listing, "w", encoding="utf-8") as sink:
