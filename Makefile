@@ -7,10 +7,11 @@ FROM_ZERO = crates/pl0dap_from_zero/out/pl0dap_from_zero
 PL0 = crates/pl0/out/pl0
 SPEED = crates/speed/out/speed
 SOURCES = crates.txt $(shell find crates -name out -prune -o -type f \( -name '*.rt' -o -name '*.antt' \) -print)
-# How many random sessions `make sessions` plays, from which check `make release` goes on, and for how many seconds `make soak`
-# plays.
+# How many random sessions `make sessions` plays, from which check `make release` goes on, how many crates `make plants` tries side
+# by side, and for how many seconds `make soak` plays.
 SESSIONS ?= 500
 FROM ?=
+JOBS ?= 1
 SOAK ?= 0
 
 INSTALLED = $(DESTDIR)$(PREFIX)
@@ -119,9 +120,10 @@ vsix:
 check:
 	rt ci
 
-# Planted bugs that the gate leaves out to save time: those of all crates, or of CRATE.
+# Planted bugs that the gate leaves out to save time: those of CRATE, or of each crate that tools/plants.txt doesn't have as it
+# is; JOBS crates side by side.
 plants:
-	python3 tools/plants.py $(CRATE)
+	python3 tools/plants.py --jobs $(JOBS) $(CRATE)
 
 # What CRATE costs the gate, in processor seconds, and whether it is within its budget.
 gate-times:
