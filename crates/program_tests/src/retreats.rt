@@ -1,7 +1,7 @@
 //! Slices that end at logs, and runs that go back.
 
 use crate::debugged::{
-    BREAKPOINT, ENTRY, LONG_LOOP, LOOP, STEP, begin, begun, log_points_at, onward,
+    BREAKPOINT, ENTRY, LONG_LOOP, LOOP, Line, STEP, begin, begun, log_points_at, onward,
 };
 use dbg_plan::{Log, Mode, Plan, log_text};
 use dbg_runner::{
@@ -198,21 +198,71 @@ fn ordered<R: Abort + Wait>(
     (last.report.expect(rt, "a report"), count)
 }
 
+/// An order to run in this mode; then where its last report ends, how many steps were run again, and how many reports it
+/// sent.
+type Turn = (Mode, u64, u64, u64);
+
+/// Gives a runner one order after the other to run the long loop, which stops at the conditions of `stops`.
+fn assert_counts<R: Abort + Wait>(rt: &R, alloc: Global, stops: &[Line], turns: &[Turn]) {
+    let (debuggee, _) = begin(rt, alloc, LONG_LOOP, stops, Mode::Continue);
+    let mut next = Some(debuggee);
+    for (mode, end, again, reports) in turns {
+        let debuggee = next.take().expect(rt, "a stop");
+        let (report, count) = ordered(rt, alloc, debuggee, *mode);
+        let summary = report.summary();
+        assert_eq!(rt;
+            (summary.end, summary.again, count),
+            (*end, *again, *reports)
+        );
+        next = report.into_debuggee().map(StoppedDebuggee::new);
+    }
+}
+
+/// A run back in the mode `Reverse` from position n to position m runs n - 1 steps again, up to where it began, and then
+/// those from the last checkpoint at or before m. One in the mode `StepBack` runs only the latter. Checkpoints are kept
+/// after slices, at least 4,096 positions apart: here at 4,096, since the first run stops at 5,000, and at 8,328, which
+/// the slices from there come to.
 #[test]
-fn steps_back_from_a_checkpoint(rt: HostRuntime) {
-    let lines = [(1u32, "x = 200000", "")];
-    let (debuggee, _) = begin(&rt, rt.alloc(), LONG_LOOP, lines.as_slice(), Mode::Continue);
-    let (report, count) = ordered(&rt, rt.alloc(), debuggee, Mode::Continue);
-    let summary = report.summary();
-    assert_eq!(rt;
-        (summary.end, summary.outcome, count),
-        (400_000, BREAKPOINT, 1_563)
-    );
-    let debuggee = StoppedDebuggee::new(report.into_debuggee().expect(&rt, "a debuggee"));
-    let (report, count) = ordered(&rt, rt.alloc(), debuggee, Mode::StepBack);
-    let summary = report.summary();
-    assert_eq!(rt; (summary.end, summary.outcome), (399_999, STEP));
-    assert_eq!(rt; (summary.again, count), (2_687, 11));
+fn counts_steps_from_checkpoints(rt: HostRuntime) {
+    let stops = [(1u32, "x = 2500", ""), (1, "x = 4500", "")];
+    let turns = [
+        (Mode::Continue, 5_000u64, 0u64, 20u64),
+        (Mode::Continue, 9_000, 0, 16),
+        (Mode::Reverse, 5_000, 8_999 + 904, 39),
+        (Mode::Continue, 9_000, 0, 16),
+        (Mode::StepBack, 8_999, 671, 3),
+        (Mode::Reverse, 5_000, 8_998 + 904, 39),
+        (Mode::StepBack, 4_999, 903, 4),
+        (Mode::Reverse, 0, 4_998, 20),
+    ];
+    assert_counts(&rt, rt.alloc(), stops.as_slice(), turns.as_slice());
+}
+
+/// A checkpoint at position 4,096: back to it none is run again, and back to the one before, all are.
+#[test]
+fn goes_back_to_a_checkpoint(rt: HostRuntime) {
+    let stops = [(1u32, "x = 2049", "")];
+    let turns = [
+        (Mode::Continue, 4_098u64, 0u64, 17u64),
+        (Mode::StepBack, 4_097, 1, 1),
+        (Mode::StepBack, 4_096, 0, 1),
+        (Mode::StepBack, 4_095, 4_095, 16),
+    ];
+    assert_counts(&rt, rt.alloc(), stops.as_slice(), turns.as_slice());
+}
+
+/// Where more than 64 are asked for, every second one is given up, and the next ones are 8,192 apart: after 266,240 the
+/// last one is 397,312.
+#[test]
+fn goes_back_from_one_of_many_checkpoints(rt: HostRuntime) {
+    let stops = [(1u32, "x = 199000", ""), (1, "x = 200000", "")];
+    let turns = [
+        (Mode::Continue, 398_000u64, 0u64, 1_555u64),
+        (Mode::Continue, 400_000, 0, 8),
+        (Mode::StepBack, 399_999, 2_687, 11),
+        (Mode::Reverse, 398_000, 399_998 + 688, 1_566),
+    ];
+    assert_counts(&rt, rt.alloc(), stops.as_slice(), turns.as_slice());
 }
 
 /// Without checkpoints, as slices alone run the program, all is run again.
@@ -225,20 +275,4 @@ fn steps_back_without_checkpoints(rt: HostRuntime) {
         (Mode::StepBack, 399_999, STEP, 0, [].as_slice(), 399_999),
     ];
     assert_runs(&rt, rt.alloc(), debuggee, runs.as_slice());
-}
-
-#[test]
-fn goes_back_to_a_stop_from_a_checkpoint(rt: HostRuntime) {
-    let lines = [(1u32, "x = 199000", ""), (1, "x = 200000", "")];
-    let (debuggee, _) = begin(&rt, rt.alloc(), LONG_LOOP, lines.as_slice(), Mode::Continue);
-    let (report, _) = ordered(&rt, rt.alloc(), debuggee, Mode::Continue);
-    assert_eq!(rt; report.summary().end, 398_000);
-    let debuggee = StoppedDebuggee::new(report.into_debuggee().expect(&rt, "a debuggee"));
-    let (report, _) = ordered(&rt, rt.alloc(), debuggee, Mode::Continue);
-    assert_eq!(rt; report.summary().end, 400_000);
-    let debuggee = StoppedDebuggee::new(report.into_debuggee().expect(&rt, "a debuggee"));
-    let (report, count) = ordered(&rt, rt.alloc(), debuggee, Mode::Reverse);
-    let summary = report.summary();
-    assert_eq!(rt; (summary.end, summary.outcome), (398_000, BREAKPOINT));
-    assert_eq!(rt; (summary.again, count), (400_687, 1_566));
 }
