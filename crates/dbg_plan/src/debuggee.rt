@@ -214,7 +214,7 @@ impl Debuggee {
         }
     }
 
-    /// Takes steps that write nothing and lead to positions without a breakpoint, up to the position `limit`, and returns
+    /// Takes steps that write nothing and lead to no arrival at a breakpoint, up to the position `limit`, and returns
     /// `None` there. Any other step is the last one, and what it did is returned; the position that it leads to isn't
     /// considered.
     #[inline(always)]
@@ -229,9 +229,9 @@ impl Debuggee {
         outcome
     }
 
-    /// Advances in the mode `Continue` up to the position `limit`, while the steps write nothing and lead to positions
-    /// without a breakpoint, and returns `None` there. Any other step is the last one, taken as `advance` takes it, and
-    /// where it led is returned. `logs` is empty before, and holds what the last position logs afterwards.
+    /// Advances in the mode `Continue` up to the position `limit`, while the steps write nothing and lead to no arrival at
+    /// a breakpoint, and returns `None` there. Any other step is the last one, taken as `advance` takes it, and where it
+    /// led is returned. `logs` is empty before, and holds what the last position logs afterwards.
     #[inline(always)]
     pub fn run(&mut self, limit: u64, numbers: &mut Vec<i64>, logs: &mut Logs) -> Option<Advance>
         requires considered { IsConsidered self.old }

@@ -114,7 +114,7 @@ fn read_parts(
     Ok(parts)
 }
 
-/// Appends what stands before an expression, if that isn't empty, and the expression.
+/// Appends what stands before an expression, which may be empty, and the expression.
 fn push_value(
     alloc: Global,
     parts: &mut Vec<Part>,

@@ -85,7 +85,7 @@ impl Plan {
         self.ordered.is_empty()
     }
 
-    /// Whether the other plan has the same breakpoints in the same order: steps, texts of conditions and rules.
+    /// Whether the other plan has the same breakpoints in the same order: steps, texts of conditions, rules, messages.
     pub fn same(&self, other: &Plan) -> bool
         ensures { Decides result (plain_breakpoints self.now.breakpoints ≡ plain_breakpoints other.now.breakpoints) }
     {
