@@ -1,21 +1,9 @@
 -- What a block declares a word as, by its declarations and by a table of them.
-use Rattle.std.proofs.Common.{◌≡◌, ◌⊎◌, inl, inr, ℕ, zero, suc, ◌+◌, Bool, true, false, cond, List, [], ◌∷◌, ◌++◌, map, length, Option, Some, None, refl, sym, ap, ◌∙◌, subst, arith}
-use Rattle.std.specs.Prelude.{slice_get, find, position, option_map, option_and_then, string_bytes}
+use Rattle.pl0_names.proofs.Common.{[], AConstant, ap, AProcedure, arith, AVariable, Block, block_at, blocks, Bool, bytes_eq, cond, constants, Declaration, Declared, declared_as, false, find, first_declaration, inl, inr, IsTableOf, Known, known, length, List, map, Meaning, meaning_of, means, Name, None, Option, option_and_then, option_map, option_or, out-Block, out-Procedure, Path, plain_block, plain_block_procedures, plain_constant, plain_constants, plain_name, plain_procedure, plain_variables, position, procedures, refl, slice_get, Some, stack_names, string_bytes, subst, suc, sym, told, true, variables, zero, ℕ, ◌++◌, ◌+◌, ◌∙◌, ◌∷◌, ◌≡◌, ◌⊎◌}
 use Rattle.std.specs.List.{position_from}
-use Rattle.std.specs.Option.{option_or}
-use Rattle.std.specs.Str.{bytes_eq}
 use Rattle.std.proofs.lemmas.List.Folds.{find-append}
 use Rattle.std.proofs.lemmas.Iterator.Adapters.{position_from-zero}
-use Rattle.pl0_tree.specs.declared.tree.Block.{Block as DeclaredBlock, out-Block}
-use Rattle.pl0_tree.specs.declared.tree.Procedure.{out-Procedure}
-use Rattle.pl0_tree.specs.Tree.{Name, Block, constants, variables, procedures}
-use Rattle.pl0_tree.specs.Plain.{plain_name, plain_constant, plain_block}
-use Rattle.pl0_tree.specs.PlainParts.{plain_procedure, plain_constants, plain_variables, plain_block_procedures}
-use Rattle.pl0_tree.specs.Scope.{Path, block_at, Meaning, AConstant, AVariable, AProcedure, Declaration, declared_as, first_declaration}
-use Rattle.pl0_tree.specs.Steps.{blocks}
-use Rattle.pl0_names.specs.declared.scope.Declared.{Declared}
-use Rattle.pl0_names.specs.Homes.{meaning_of}
-use Rattle.pl0_names.specs.Judging.{Known, known, told, means, stack_names, IsTableOf}
+use Rattle.pl0_tree.specs.declared.tree.Block.{Block as DeclaredBlock}
 use Rattle.pl0_names.proofs.Lookup.{numbered_there}
 use Rattle.pl0_names.proofs.Members.{get_parts}
 

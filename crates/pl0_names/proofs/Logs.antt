@@ -1,16 +1,9 @@
 -- What the log of declarations says of words and of blocks.
-use Rattle.std.proofs.Common.{◌≡◌, ℕ, zero, suc, ◌+◌, ◌-◌, ◌<◌, ◌≤◌, List, [], ◌∷◌, ◌++◌, map, length, reverse, get_or, refl, sym, ap, subst, ◌∙◌, arith, add-one, Option, Some, None, Bool, true, false, cond, ◌⊎◌, inl, inr}
-use Rattle.std.specs.Prelude.{option_map, find, nat_eq}
-use Rattle.std.specs.Option.{option_or}
-use Rattle.std.specs.Str.{bytes_eq}
-use Rattle.std.proofs.lemmas.Slice.Eq.{bytes_eq-Decides}
-use Rattle.std.proofs.lemmas.Bool.{cases_eq, both_ways}
+use Rattle.pl0_names.proofs.Common.{[], add-one, ap, arith, at_level, Bool, both_ways, bytes_eq, bytes_eq-Decides, cases_eq, cond, declared_in, false, find, found_at, found_in, get_or, get_or_append_left, get_or_at, inl, inr, IsNested, latest, length, length-reverse, List, map, names, nat_eq, None, Option, option_map, option_or, or_declared, refl, reverse, reverse-append, Some, subst, suc, sym, true, zero, ℕ, ◌++◌, ◌+◌, ◌-◌, ◌<◌, ◌∙◌, ◌∷◌, ◌≡◌, ◌≤◌, ◌⊎◌}
 use Rattle.std.proofs.lemmas.Grind.{common_steps}
-use Rattle.std.proofs.lemmas.List.{reverse-append, length-reverse, get_or_at, get_or_append_left}
 use Rattle.pl0_names.specs.declared.log.Entry.{Entry}
 use Rattle.pl0_names.specs.declared.scopes.Found.{Found}
-use Rattle.pl0_names.specs.Blocks.{names, found_at, found_in, or_declared, declared_in}
-use Rattle.pl0_names.specs.Logs.{at_level, blocks, latest, IsNested}
+use Rattle.pl0_names.specs.Logs.{blocks}
 
 -- ---- levels
 

@@ -1,18 +1,9 @@
 -- The walk from a block outward, to the first that declares a word.
-use Rattle.std.proofs.Common.{◌≡◌, ℕ, zero, suc, ◌+◌, ◌<◌, ◌≤◌, List, [], ◌∷◌, ◌++◌, length, length-append, slice_get, get_or, Option, Some, None, refl, sym, ap, ◌∙◌, subst, arith}
-use Rattle.std.specs.Prelude.{option_map, option_and_then}
-use Rattle.std.proofs.lemmas.Option.{slice_get-get_or}
+use Rattle.pl0_names.proofs.Common.{[], ABlock, ap, AreNestings, arith, Block, block_at, block_paths, blocks, Declaration, first_declaration, get_or, home, IsHomeAnswer, IsNesting, length, length-append, List, meaning_of, means, Nesting, NoMore, None, Option, option_and_then, option_map, or_else, Path, plain_block, Procedures, procedures_paths, refl, slice_get, slice_get-get_or, Some, subst, suc, sym, zero, ℕ, ◌++◌, ◌+◌, ◌<◌, ◌∙◌, ◌∷◌, ◌≡◌, ◌≤◌}
 use denote.Ref.{Bor}
-use Rattle.pl0_tree.specs.Plain.{plain_block}
-use Rattle.pl0_tree.specs.Tree.{Block, ABlock, Procedures, NoMore, AProcedure as AndProcedure}
-use Rattle.pl0_tree.specs.declared.nesting.Nesting.{Nesting}
+use Rattle.pl0_tree.specs.Tree.{AProcedure as AndProcedure}
 use Rattle.pl0_tree.specs.declared.tree.Block.{Block as DeclaredBlock}
-use Rattle.pl0_tree.specs.Scope.{Path, block_at, Declaration, first_declaration, or_else, home}
-use Rattle.pl0_tree.specs.Steps.{block_paths, procedures_paths, blocks}
-use Rattle.pl0_tree.specs.Blocks.{IsNesting, AreNestings}
 use Rattle.pl0_names.specs.declared.scope.Meaning.{Meaning as Kept}
-use Rattle.pl0_names.specs.Homes.{meaning_of, IsHomeAnswer}
-use Rattle.pl0_names.specs.Judging.{means}
 use Rattle.pl0_names.proofs.Lookup.{depth, nestings_lengths, read_at, same_path, main_found, outer_shallower, outer_within}
 
 -- ---- a path is shorter than the list of all

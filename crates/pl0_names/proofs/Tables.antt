@@ -1,16 +1,10 @@
 -- What the map of indices says, beside the log.
-use Rattle.std.proofs.Common.{Bool, ◌≡◌, ℕ, ◌+◌, ◌-◌, ◌<◌, List, ◌∷◌, length, reverse, get_or, refl, sym, ap, subst, ◌∙◌, Option, Some, None, true, cond, arith, rules}
-use Rattle.std.specs.Prelude.{IsSome, is_some, option_map, Result, Ok, Err, OnOk, OnErr}
+use Rattle.pl0_names.proofs.Common.{ap, arith, blocks_of, Bool, both_ways, bytes_eq, bytes_eq-Decides, cond, ends_at, eqb-true, Err, found_at, found_in, get_or, index_of, is_some, IsIndexed, IsLinked, IsNested, IsSome, IsTable, latest, length, length-reverse, List, None, Ok, OnErr, OnOk, Option, option_map, refl, Result, reverse, reverse-reverse, rules, Some, subst, sym, true, ℕ, ◌+◌, ◌-◌, ◌<◌, ◌∙◌, ◌∷◌, ◌≡◌}
 use Rattle.std.specs.Map.{update}
-use Rattle.std.specs.Str.{bytes_eq}
 use Rattle.std.specs.HashMap.{HashMap}
-use Rattle.std.proofs.lemmas.Slice.Eq.{bytes_eq-Decides}
-use Rattle.std.proofs.lemmas.Bool.{both_ways, eqb-true}
-use Rattle.std.proofs.lemmas.List.{reverse-reverse, length-reverse}
 use denote.Ref.{Bor}
 use Rattle.pl0_names.specs.declared.log.Entry.{Entry}
-use Rattle.pl0_names.specs.Logs.{blocks, latest, ends_at, index_of, IsLinked, IsNested, IsIndexed, IsTable}
-use Rattle.pl0_names.specs.Blocks.{blocks_of, found_at, found_in}
+use Rattle.pl0_names.specs.Logs.{blocks}
 use Rattle.pl0_names.proofs.Logs.{restored, nested_more, outer_same, latest_entry, at_latest, latest_bound, found_is, none_latest, nested_level}
 
 module _ {T : Type 0} where

@@ -1,20 +1,12 @@
 -- A token's bytes are skipped, and the lexer goes on after them.
-use Rattle.std.proofs.Common.{◌≡◌, ℕ, zero, suc, ◌+◌, ◌<◌, ◌≤◌, Bool, true, false, List, [], ◌∷◌, length, drop, take, get_or, cond, ◌||◌, eqb, refl, ap, sym, ◌∙◌, subst, arith, add-zero, pred}
-use Rattle.std.specs.Prelude.{take_while, nat_le, nat_lt, nat_eq, fold, find, ◌*◌, ◌-◌, ◌^◌, ◌==◌, ◌&&◌, not, Option, Some}
+use Rattle.pl0_parser.proofs.Common.{[], add-zero, ap, arith, at, behind, Bool, cond, decimal_value, drop, eqb, false, Faulty, find, fold, front_piece, get_or, is_space, is_word_byte, length, List, lit<, Mark, nat_eq, nat_le, nat_lt, not, number_symbol, NumberTooLarge, Option, Place, pred, refl, sign_piece, signs, Some, subst, suc, sym, Symbol, symbol_of, take, take_while, tokens_from, true, word_symbol, zero, ℕ, ◌&&◌, ◌*◌, ◌+◌, ◌-◌, ◌<◌, ◌==◌, ◌^◌, ◌||◌, ◌∙◌, ◌∷◌, ◌≡◌, ◌≤◌}
 use Rattle.std.specs.List.{prefix_len, starts_with}
 use Rattle.std.specs.Str.{IsAscii}
 use Rattle.std.specs.Cmp.Lexicographic.{pointwise}
-use Rattle.pl0_tree.specs.declared.token.Mark.{Mark}
-use Rattle.std.proofs.Common.{lit<}
 use Rattle.std.specs.Char.{is_ascii_digit, is_ascii_alphabetic}
 use Rattle.std.proofs.lemmas.Bool.{cond-false, cond-true, eqb-true}
 use Rattle.std.proofs.lemmas.Bool.Decides.{nat_tests}
-use Rattle.pl0_tree.specs.declared.fault.FaultKind.TheVariants.{NumberTooLarge}
-use Rattle.pl0_tree.specs.declared.tree.Place.{Place}
 use Rattle.pl0_tree.specs.declared.token.Symbol.{Symbol as Seen}
-use Rattle.pl0_tree.specs.Tokens.{Symbol, Faulty, behind, is_space, is_word_byte, word_symbol, number_symbol, decimal_value, front_piece, sign_piece, signs, tokens_from}
-use Rattle.pl0_tree.specs.Reading.{at}
-use Rattle.pl0_tree.specs.Words.{symbol_of}
 use Rattle.pl0_parser.specs.Cutting.{StaysOnLine, IsPiece, IsFront, IsSign, along}
 
 pub stays_le : (k : ℕ) (bytes : List ℕ) → StaysOnLine k bytes → k ≤ length bytes

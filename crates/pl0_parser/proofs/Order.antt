@@ -1,8 +1,5 @@
 -- The tokens of a text stand in the order of their places.
-use Rattle.std.proofs.Common.{◌≡◌, ℕ, zero, suc, ◌+◌, ◌≤◌, inl, inr, Bool, true, false, List, [], ◌∷◌, map, length, cond, eqb, refl, subst, arith, pred, lit<}
-use Rattle.std.specs.Prelude.{slice_get, Some, None}
-use Rattle.pl0_tree.specs.declared.tree.Place.{Place}
-use Rattle.pl0_tree.specs.Tokens.{Token, behind, is_space, front_piece, tokens_from, tokens_of, start}
+use Rattle.pl0_parser.proofs.Common.{[], arith, behind, Bool, cond, eqb, false, front_piece, inl, inr, is_space, length, List, lit<, map, None, Place, pred, refl, slice_get, Some, start, subst, suc, Token, tokens_from, tokens_of, true, zero, ℕ, ◌+◌, ◌∷◌, ◌≡◌, ◌≤◌}
 use Rattle.pl0_tree.specs.Scope.{IsBefore}
 use Rattle.pl0_tree.specs.Ascending.{Ascend}
 

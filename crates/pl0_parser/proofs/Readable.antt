@@ -1,16 +1,11 @@
 -- The grammar by symbols alone is the one by which tokens are read: symbols are such a text exactly where some tokens
 -- with them are read as a tree.
-use Rattle.std.proofs.Common.{◌≡◌, ℕ, ℤ, List, [], ◌∷◌, map, refl, ap}
-use Rattle.pl0_tree.specs.declared.tree.Operator.{Operator}
+use Rattle.pl0_parser.proofs.Common.{[], ABlock, ap, at, Binary, Block, Condition, Constant, Expression, List, map, Mark, Marked, Name, Named, Negate, Numeral, Operator, Procedures, ReadsBlock, ReadsCondition, ReadsConstantPart, ReadsConstants, ReadsExpression, ReadsFactor, ReadsMoreFactors, ReadsMoreTerms, ReadsProcedures, ReadsStatement, ReadsStatements, ReadsTerm, ReadsVariablePart, ReadsVariables, refl, start, Statement, Symbol, symbols, Token, ℕ, ℤ, ◌∷◌, ◌≡◌}
 use Rattle.pl0_tree.specs.declared.tree.Operator.TheVariants as operator
 use Rattle.pl0_tree.specs.declared.tree.Relation.{Relation}
-use Rattle.pl0_tree.specs.declared.token.Mark.{Mark}
 use Rattle.pl0_tree.specs.declared.token.Mark.TheVariants as mark
 use Rattle.pl0_tree.specs.Tree as tree
-use Rattle.pl0_tree.specs.Tree.{Name, Expression, Negate, Binary, Condition, Statement, Constant, Block, ABlock, Procedures}
-use Rattle.pl0_tree.specs.Tokens.{Symbol, Named, Numeral, Marked, Token, symbols, start}
 use Rattle.pl0_tree.specs.Reading as reading
-use Rattle.pl0_tree.specs.Reading.{at, ReadsExpression, ReadsMoreTerms, ReadsTerm, ReadsMoreFactors, ReadsFactor, ReadsCondition, ReadsStatement, ReadsStatements, ReadsConstants, ReadsConstantPart, ReadsVariables, ReadsVariablePart, ReadsBlock, ReadsProcedures}
 use Rattle.pl0_parser.proofs.Grammar as grammar
 use Rattle.pl0_parser.proofs.Grammar.{IsExpression, AreMoreTerms, IsTerm, AreMoreFactors, IsFactor, IsCondition, IsStatement, AreMoreStatements, AreConstants, AreMoreConstants, AreVariables, AreMoreVariables, IsBlock, AreProcedures}
 

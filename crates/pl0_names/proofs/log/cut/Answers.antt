@@ -1,4 +1,4 @@
-use Rattle.std.proofs.Common.{reverse, ◌∙◌}
+use Rattle.pl0_names.proofs.Common.{reverse, ◌∙◌}
 use Rattle.pl0_names.proofs.Logs.{latest_first}
 use Rattle.pl0_names.proofs.Tables.{has_index, cut_indexed, cut_outer, ends_read, cut_nested}
 use Rattle.pl0_names.proofs.log.cut.Goals as goal

@@ -1,5 +1,5 @@
-use Rattle.std.proofs.Common.{◌≡◌, ◌+◌, reverse, vec_len}
-use Rattle.pl0_names.specs.Logs.{blocks, IsNested, IsIndexed}
+use Rattle.pl0_names.proofs.Common.{IsIndexed, IsNested, reverse, vec_len, ◌+◌, ◌≡◌}
+use Rattle.pl0_names.specs.Logs.{blocks}
 use Rattle.pl0_names.proofs.log.cut.Given as goal
 
 abbrev pub invariant-loop-log : goal.invariant-loop-log

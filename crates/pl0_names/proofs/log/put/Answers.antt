@@ -1,5 +1,4 @@
-use Rattle.std.proofs.Common.{reverse, arith}
-use Rattle.std.proofs.lemmas.List.{length-reverse}
+use Rattle.pl0_names.proofs.Common.{arith, length-reverse, reverse}
 use Rattle.std.proofs.lemmas.Map.Text.{hash_map_updates_str}
 use Rattle.pl0_names.proofs.Logs.{latest_first}
 use Rattle.pl0_names.proofs.Tables.{put_indexed}

@@ -1,8 +1,6 @@
-use Rattle.std.proofs.Common.{sym, ap, ◌∙◌}
+use Rattle.pl0_names.proofs.Common.{ap, bytes_eq, index_of, sym, ◌∙◌}
 use Rattle.std.specs.Map.{update}
-use Rattle.std.specs.Str.{bytes_eq}
 use Rattle.std.proofs.lemmas.Map.Text.{hash_map_updates_str}
-use Rattle.pl0_names.specs.Logs.{index_of}
 use Rattle.pl0_names.proofs.Tables.{unless_absent}
 use Rattle.pl0_names.proofs.log.restore.Goals as goal
 

@@ -1,10 +1,4 @@
-use Rattle.std.proofs.Common.{◌≡◌, None, sym, ap, ◌∙◌, refl}
-use Rattle.std.specs.Prelude.{position, string_bytes}
-use Rattle.std.specs.Str.{bytes_eq}
-use Rattle.pl0_tree.specs.declared.tree.Block.{out-Block}
-use Rattle.pl0_tree.specs.declared.tree.Procedure.{out-Procedure}
-use Rattle.pl0_names.specs.Homes.{meaning_of}
-use Rattle.std.specs.Prelude.{option_map}
+use Rattle.pl0_names.proofs.Common.{ap, bytes_eq, meaning_of, None, option_map, out-Block, out-Procedure, position, refl, string_bytes, sym, ◌∙◌, ◌≡◌}
 use Rattle.pl0_names.proofs.Declared.{found_as, block_means}
 use Rattle.pl0_names.proofs.names.declared_in.Goals as goal
 use Rattle.pl0_names.proofs.names.declared_in.Goals.{After-constant_in, After-variable_in, After-procedure_in}

@@ -1,4 +1,4 @@
-use Rattle.std.proofs.Common.{sym, arith}
+use Rattle.pl0_parser.proofs.Common.{arith, sym}
 use Rattle.pl0_parser.proofs.LexerLemmas.{word_ascii, word_front, number_front, sign_front, digits_bounded}
 use Rattle.pl0_parser.proofs.lexer.front.Goals as goal
 

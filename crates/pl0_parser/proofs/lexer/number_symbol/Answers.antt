@@ -1,5 +1,4 @@
-use Rattle.std.proofs.Common.{◌≤◌, ◌+◌, ◌*◌, ◌-◌, ◌^◌, take, get_or, arith}
-use Rattle.pl0_tree.specs.Tokens.{decimal_value}
+use Rattle.pl0_parser.proofs.Common.{arith, decimal_value, get_or, take, ◌*◌, ◌+◌, ◌-◌, ◌^◌, ◌≤◌}
 use Rattle.pl0_parser.proofs.LexerLemmas.{too_large}
 use Rattle.pl0_parser.proofs.lexer.number_symbol.Goals as goal
 

@@ -1,5 +1,4 @@
-use Rattle.std.proofs.Common.{◌≡◌, ◌<◌, ◌^◌, take}
-use Rattle.pl0_tree.specs.Tokens.{decimal_value}
+use Rattle.pl0_parser.proofs.Common.{decimal_value, take, ◌<◌, ◌^◌, ◌≡◌}
 use Rattle.pl0_parser.proofs.lexer.number_symbol.Given as goal
 
 abbrev pub invariant-loop-digit : goal.invariant-loop-digit

@@ -1,8 +1,4 @@
-use Rattle.std.proofs.Common.{◌≡◌, ◌<◌, ℕ, List, [], ◌∷◌, ◌++◌, map, length, subst, sym, arith}
-use Rattle.pl0_tree.specs.declared.tree.Place.{Place}
-use Rattle.pl0_tree.specs.Tokens.{Token, EndOfText, tokens_from, tokens_of}
-use Rattle.pl0_tree.specs.Reading.{at}
-use Rattle.pl0_tree.specs.Words.{token_of}
+use Rattle.pl0_parser.proofs.Common.{[], arith, at, EndOfText, length, List, map, Place, subst, sym, Token, token_of, tokens_from, tokens_of, ℕ, ◌++◌, ◌<◌, ◌∷◌, ◌≡◌}
 use Rattle.pl0_tree.specs.Ascending.{Ascend}
 use Rattle.pl0_parser.proofs.Order.{tokens_in_order}
 use Rattle.pl0_parser.proofs.lexer.tokenize.Goals as goal

@@ -1,6 +1,4 @@
-use Rattle.std.proofs.Common.{◌≡◌, ◌+◌, ◌≤◌, ◌++◌, length, map}
-use Rattle.pl0_tree.specs.Tokens.{tokens_of, tokens_from}
-use Rattle.pl0_tree.specs.Words.{token_of}
+use Rattle.pl0_parser.proofs.Common.{length, map, token_of, tokens_from, tokens_of, ◌++◌, ◌+◌, ◌≡◌, ◌≤◌}
 use Rattle.pl0_parser.proofs.lexer.tokenize.Given as goal
 
 abbrev pub invariant-loop-rest : goal.invariant-loop-rest

@@ -1,8 +1,4 @@
-use Rattle.std.proofs.Common.{◌∷◌, ap, ◌∙◌}
-use Rattle.pl0_tree.specs.Tokens.{Marked}
-use Rattle.pl0_tree.specs.declared.token.Mark.TheVariants.{Period}
-use Rattle.pl0_tree.specs.Reading.{at}
-use Rattle.pl0_parser.specs.Parsing.{left_of, ending, RefusedAll}
+use Rattle.pl0_parser.proofs.Common.{ap, at, ending, left_of, Marked, Period, RefusedAll, ◌∙◌, ◌∷◌}
 use Rattle.pl0_parser.proofs.Progress.{stays_all, fails}
 use Rattle.pl0_parser.proofs.Statements.{marked}
 use Rattle.pl0_parser.proofs.Whole.{text_exits}

@@ -1,10 +1,4 @@
-use Rattle.std.proofs.Common.{◌≡◌, ◌<◌, length, Some, arith, subst, sym, ap, ◌∙◌}
-use Rattle.std.specs.Prelude.{slice_get, option_map}
-use Rattle.std.proofs.lemmas.Option.{slice_get-get_or}
-use Rattle.pl0_tree.specs.Blocks.{AreNestings}
-use Rattle.pl0_tree.specs.Plain.{plain_block}
-use Rattle.pl0_tree.specs.Steps.{blocks}
-use Rattle.pl0_names.specs.Homes.{meaning_of}
+use Rattle.pl0_names.proofs.Common.{ap, AreNestings, arith, blocks, length, meaning_of, option_map, plain_block, slice_get, slice_get-get_or, Some, subst, sym, ◌<◌, ◌∙◌, ◌≡◌}
 use Rattle.pl0_names.proofs.Declared.{AreTables, table_means}
 use Rattle.pl0_names.proofs.Lookup.{nestings_lengths}
 use Rattle.pl0_names.proofs.names.Names.declared.Goals as goal

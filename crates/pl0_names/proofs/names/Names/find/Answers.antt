@@ -1,10 +1,4 @@
-use Rattle.std.proofs.Common.{◌≡◌, Some, arith, subst, sym}
-use Rattle.std.specs.Prelude.{slice_get}
-use Rattle.pl0_tree.specs.Blocks.{AreNestings}
-use Rattle.pl0_tree.specs.Plain.{plain_block}
-use Rattle.pl0_tree.specs.Scope.{Path, block_at, home}
-use Rattle.pl0_tree.specs.Steps.{blocks}
-use Rattle.pl0_names.specs.Homes.{IsHomeAnswer}
+use Rattle.pl0_names.proofs.Common.{AreNestings, arith, block_at, blocks, home, IsHomeAnswer, Path, plain_block, slice_get, Some, subst, sym, ◌≡◌}
 use Rattle.pl0_names.proofs.Outward.{in_table, levels_few, found_here, found_nowhere, walk_on}
 use Rattle.pl0_names.proofs.names.Names.find.Goals as goal
 use Rattle.pl0_names.proofs.names.Names.find.Goals.{After-declared}

@@ -1,4 +1,4 @@
-use Rattle.pl0_tree.specs.Plain.{plain_block}
+use Rattle.pl0_names.proofs.Common.{plain_block}
 use Rattle.pl0_names.proofs.Lookup.{depth}
 use Rattle.pl0_names.proofs.Outward.{IsWalk}
 use Rattle.pl0_names.proofs.names.Names.find.Given as goal

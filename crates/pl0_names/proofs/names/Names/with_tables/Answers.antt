@@ -1,12 +1,7 @@
-use Rattle.std.proofs.Common.{◌≡◌, Some, arith, length, length-append, [], ◌∷◌, subst, sym, ap}
-use Rattle.pl0_tree.specs.Plain.{plain_block}
-use Rattle.pl0_tree.specs.Steps.{blocks}
+use Rattle.pl0_names.proofs.Common.{[], ap, arith, block_at, blocks, IsTableOf, length, length-append, plain_block, slice_get, Some, subst, sym, ◌∷◌, ◌≡◌}
 use Rattle.pl0_names.proofs.Declared.{AreTables, one_table_more}
 use Rattle.pl0_names.proofs.Lookup.{nestings_lengths}
 use Rattle.pl0_names.proofs.Members.{some_same}
-use Rattle.pl0_names.specs.Judging.{IsTableOf}
-use Rattle.pl0_tree.specs.Scope.{block_at}
-use Rattle.std.specs.Prelude.{slice_get}
 use Rattle.pl0_names.proofs.names.Names.with_tables.Goals as goal
 
 pub overflow_cast-number : goal.overflow_cast-number

@@ -1,5 +1,4 @@
-use Rattle.std.specs.Prelude.{◌≡◌, length}
-use Rattle.pl0_tree.specs.Plain.{plain_block}
+use Rattle.pl0_names.proofs.Common.{length, plain_block, ◌≡◌}
 use Rattle.pl0_names.proofs.Declared.{AreTables}
 use Rattle.pl0_names.proofs.names.Names.with_tables.Given as goal
 

@@ -1,8 +1,5 @@
-use Rattle.std.proofs.Common.{◌≡◌, ◌+◌, reverse, refl, sym, subst, ap, ◌∙◌, arith, rules}
-use Rattle.std.proofs.Common.{◌-◌, None}
+use Rattle.pl0_names.proofs.Common.{ap, arith, at_level, blocks_of, declared_in, IsNested, latest, names, None, refl, reverse, rules, subst, sym, ◌+◌, ◌-◌, ◌∙◌, ◌≡◌}
 use Rattle.std.proofs.lemmas.Result.{on_ok_weaker}
-use Rattle.pl0_names.specs.Logs.{at_level, latest, IsNested}
-use Rattle.pl0_names.specs.Blocks.{names, blocks_of, declared_in}
 use Rattle.pl0_names.proofs.Logs.{named_at, declared_old, declared_new, not_at, unnamed_at, none_latest}
 use Rattle.pl0_names.proofs.Tables.{has_place, latest_read}
 use Rattle.pl0_names.proofs.scopes.Scopes.declare.Goals.{in_default-via-in-None-1, in_default-via-in-Some+else-index-level}

@@ -1,5 +1,4 @@
-use Rattle.std.proofs.Common.{◌+◌, ◌∷◌, map, length, reverse, refl, sym, ap, ◌∙◌, arith}
-use Rattle.pl0_names.specs.Blocks.{names, no_names, blocks_of}
+use Rattle.pl0_names.proofs.Common.{ap, arith, blocks_of, length, map, names, no_names, refl, reverse, sym, ◌+◌, ◌∙◌, ◌∷◌}
 use Rattle.pl0_names.specs.Logs.{blocks}
 use Rattle.pl0_names.proofs.Logs.{nested_more, none_at, blocks_more, blocks_length}
 use Rattle.pl0_names.proofs.scopes.Scopes.enter.Goals as goal

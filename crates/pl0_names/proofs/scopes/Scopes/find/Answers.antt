@@ -1,4 +1,4 @@
-use Rattle.std.proofs.Common.{reverse, sym, ◌∙◌, arith}
+use Rattle.pl0_names.proofs.Common.{arith, reverse, sym, ◌∙◌}
 use Rattle.pl0_names.proofs.Tables.{has_place, found_none, found_some, level_below}
 use Rattle.pl0_names.proofs.scopes.Scopes.find.Goals as goal
 
