@@ -1,19 +1,7 @@
 -- No `INT` makes more cells than a program declares variables, and three.
-use Rattle.std.proofs.Common.{◌≡◌, ℕ, zero, suc, ◌+◌, ◌≤◌, List, [], ◌∷◌, ◌++◌, subst, arith, length, map, Option, Some, None}
-use Rattle.std.specs.Prelude.{slice_get}
-use Rattle.pl0_tree.specs.Tree.{Block, ABlock, Procedures, NoMore, AProcedure as AndProcedure, Statement, Empty, Assign, Call, Write, Then, If, While, Expression, Variable as Named, Number, Negate, Binary, Condition, Odd, Compare}
-use Rattle.pl0_tree.specs.Scope.{Path}
-use Rattle.pl0_tree.specs.Steps.{block_steps, procedures_steps}
-use Rattle.pl0_unit.specs.declared.instruction.Instruction.{Instruction}
-use Rattle.pl0_unit.specs.declared.instruction.Instruction.TheVariants.{Enter}
-use Rattle.pl0_names.specs.declared.scopes.Found.{Found}
-use Rattle.pl0_code.specs.declared.scope.Declared.{Declared}
-use Rattle.pl0_code.specs.declared.scope.Declared.TheVariants.{Constant, Variable, Procedure as AnEntry}
-use Rattle.pl0_code.specs.Lines.{Row}
-use Rattle.pl0_code.specs.Rows.{Resolver, read_of, read_declared, store_of, store_declared, call_of, call_declared, expression_rows, condition_rows, statement_rows, step_count}
-use Rattle.pl0_code.specs.Sizes.{block_length, procedures_length}
-use Rattle.pl0_code.specs.Chains.{resolver}
-use Rattle.pl0_code.specs.Blocks.{block_rows, procedures_rows}
+use Rattle.pl0_code.proofs.Common.{[], ABlock, arith, Assign, Binary, Block, block_length, block_rows, block_steps, Call, call_declared, call_of, Compare, Condition, condition_rows, Constant, Declared, Empty, Enter, Expression, expression_rows, Found, If, Instruction, length, List, map, Negate, NoMore, None, Number, Odd, Option, Path, Procedures, procedures_length, procedures_rows, procedures_steps, read_declared, read_of, Resolver, resolver, Row, slice_get, Some, Statement, statement_rows, step_count, store_declared, store_of, subst, suc, Then, Variable, While, Write, zero, ℕ, ◌++◌, ◌+◌, ◌∷◌, ◌≡◌, ◌≤◌}
+use Rattle.pl0_tree.specs.Tree.{AProcedure as AndProcedure, Variable as Named}
+use Rattle.pl0_code.specs.declared.scope.Declared.TheVariants.{Procedure as AnEntry}
 use Rattle.pl0_code.proofs.ReadSizes.{variable_count, variables_count}
 
 -- an instruction that makes at most k cells

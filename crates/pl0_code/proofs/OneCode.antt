@@ -1,18 +1,10 @@
 -- A program has one code: two listings that are code of it agree at each address.
-use Rattle.std.proofs.Common.{◌≡◌, ℕ, zero, suc, ◌+◌, ◌<◌, ◌≤◌, ◌⊎◌, inl, inr, List, [], ◌∷◌, length, map, Option, Some, None, refl, sym, ap, subst, ◌∙◌, arith}
-use Rattle.std.specs.Prelude.{slice_get, option_map, option_and_then}
-use Rattle.std.proofs.lemmas.Option.{slice_get-map}
-use Rattle.pl0_tree.specs.declared.tree.Place.{Place}
-use Rattle.pl0_tree.specs.Tree.{Expression, Variable, Number, Negate, Binary, Condition, Odd, Compare, Statement, Empty, Then, Assign, Call, Write, If, While, Block, ABlock, Procedure, Procedures, NoMore, AProcedure as AndProcedure, procedures, procedure_list}
-use Rattle.pl0_tree.specs.Scope.{Path, block_at, procedure_at, IsBefore, Meaning, AConstant, AVariable, AProcedure, Home, home}
-use Rattle.pl0_tree.specs.Steps.{StepAt, steps}
+use Rattle.pl0_code.proofs.Common.{[], ABlock, AConstant, ap, AProcedure, arith, Assign, AVariable, Binary, Block, block_at, block_length, Call, cell, Coded, CodedBlock, CodedCondition, CodedExpression, CodedProcedures, CodedStatement, Compare, Condition, condition_length, Empty, Enter, Expression, expression_length, Home, home, If, inl, inr, Instruction, IsBefore, Jump, JumpIfZero, Lays, LaysCall, LaysDeclaredCall, LaysDeclaredRead, LaysDeclaredStore, LaysRead, LaysStore, length, level, List, Listing, Literal, Load, map, Meaning, Negate, NoMore, None, Number, Odd, Operate, operator_operation, Option, option_and_then, option_map, Path, Place, Procedure, procedure_at, procedure_list, Procedures, procedures, procedures_length, refl, relation_operation, slice_get, slice_get-map, Some, Statement, statement_length, StepAt, steps, Store, subst, suc, sym, Then, While, Write, zero, ℕ, ◌+◌, ◌<◌, ◌∙◌, ◌∷◌, ◌≡◌, ◌≤◌, ◌⊎◌}
+use Rattle.pl0_tree.specs.Tree.{Variable, AProcedure as AndProcedure}
 use Rattle.pl0_tree.specs.Ascending.{Ascend}
 use Rattle.pl0_meaning.specs.Homes.{IsDeclaredBy, home_is}
-use Rattle.pl0_unit.specs.declared.instruction.Instruction.{Instruction}
-use Rattle.pl0_unit.specs.declared.instruction.Instruction.TheVariants.{Literal, Operate, Load, Store, Call as CallTo, Enter, Jump, JumpIfZero}
+use Rattle.pl0_unit.specs.declared.instruction.Instruction.TheVariants.{Call as CallTo}
 use Rattle.pl0_unit.specs.declared.instruction.Operation.TheVariants as operation
-use Rattle.pl0_unit.specs.Code.{Listing, Lays, LaysDeclaredRead, LaysRead, LaysDeclaredStore, LaysStore, LaysDeclaredCall, LaysCall, CodedExpression, CodedCondition, CodedStatement, CodedBlock, CodedProcedures, Coded, level, cell, operator_operation, relation_operation}
-use Rattle.pl0_code.specs.Sizes.{expression_length, condition_length, statement_length, block_length, procedures_length}
 
 -- ---- how many instructions code comes to
 

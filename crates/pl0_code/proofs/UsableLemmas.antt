@@ -1,18 +1,9 @@
 -- The words of a lawful program are found as what they are used for.
-use Rattle.std.proofs.Common.{◌≡◌, ℕ, zero, suc, ◌<◌, List, [], ◌∷◌, length, get_or, Option, Some, None, sym, subst, arith}
+use Rattle.pl0_code.proofs.Common.{[], AConstant, Allows, AProcedure, AreDeclaredBefore, arith, Assign, AVariable, Binary, Block, block_at, body, body_uses, Call, CanBeAssigned, CanBeCalled, CanBeRead, CanDo, CanEvaluate, CanTest, Compare, Condition, condition_uses, Constant, Declared, declared_as, Empty, entry, Expression, expression_uses, Found, get_or, If, IsAssigned, IsCalled, IsFoundTo, IsLawful, IsRead, joined, length, List, Meaning, Name, Negate, None, Number, Odd, Option, Path, plain_statement, Resolver, resolver, Some, Statement, statement_uses, subst, suc, sym, Then, use_of, UseKind, Variable, While, Write, zero, ℕ, ◌<◌, ◌∷◌, ◌≡◌}
 use Rattle.std.specs.Coded.{×_prop, Unit-prop}
 use Rattle.pl0_tree.specs.declared.tree.Statement.{Statement as DeclaredStatement}
-use Rattle.pl0_tree.specs.Tree.{Name, Block, body, Statement, Empty, Assign, Call, Write, Then, If, While, Expression, Variable as Named, Number, Negate, Binary, Condition, Odd, Compare}
-use Rattle.pl0_tree.specs.Plain.{plain_statement, joined}
-use Rattle.pl0_tree.specs.Scope.{Path, block_at, Meaning, AConstant, AVariable, AProcedure, UseKind, IsRead, IsAssigned, IsCalled, use_of, expression_uses, condition_uses, statement_uses, body_uses, Allows, IsLawful}
-use Rattle.pl0_names.specs.declared.scopes.Found.{Found}
-use Rattle.pl0_names.specs.Earlier.{AreDeclaredBefore}
-use Rattle.pl0_code.specs.declared.scope.Declared.{Declared}
-use Rattle.pl0_code.specs.declared.scope.Declared.TheVariants.{Constant, Variable, Procedure as AnEntry}
-use Rattle.pl0_code.specs.Rows.{Resolver}
-use Rattle.pl0_code.specs.Sizes.{entry}
-use Rattle.pl0_code.specs.Chains.{declared_as, resolver}
-use Rattle.pl0_code.specs.Usable.{CanBeRead, CanBeAssigned, CanBeCalled, IsFoundTo, CanEvaluate, CanTest, CanDo}
+use Rattle.pl0_tree.specs.Tree.{Variable as Named}
+use Rattle.pl0_code.specs.declared.scope.Declared.TheVariants.{Procedure as AnEntry}
 use Rattle.pl0_code.proofs.Coding.{IsMeant, AreMeant, meant_first, meant_second, meant_each, meant_found}
 
 -- what a name that is used so is declared as

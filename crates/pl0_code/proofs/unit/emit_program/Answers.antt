@@ -1,6 +1,4 @@
-use Rattle.std.proofs.Common.{[], length, refl, sym, ap}
-use Rattle.std.proofs.Math.Logic.{∥∥₁_map}
-use Rattle.pl0_tree.specs.Plain.{plain_block}
+use Rattle.pl0_code.proofs.Common.{[], ap, length, plain_block, refl, sym, ∥∥₁_map}
 use Rattle.pl0_code.proofs.unit.emit_program.Goals as goal
 
 pub block-requires-clause-placed : goal.block-requires-clause-placed

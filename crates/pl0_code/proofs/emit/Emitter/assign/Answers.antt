@@ -1,9 +1,4 @@
-use Rattle.std.proofs.Common.{◌++◌, ◌∷◌, [], length, sym, ap, subst, ◌∙◌, append_assoc, Some, None}
-use Rattle.pl0_tree.specs.Plain.{plain_name, plain_expression}
-use Rattle.pl0_names.specs.Blocks.{blocks_of, found_in}
-use Rattle.pl0_code.specs.Rows.{store_of, expression_rows}
-use Rattle.pl0_code.specs.Usable.{CanBeAssigned, IsFoundTo}
-use Rattle.pl0_code.specs.Lines.{row}
+use Rattle.pl0_code.proofs.Common.{[], ap, append_assoc, blocks_of, CanBeAssigned, expression_rows, found_in, IsFoundTo, length, None, plain_expression, plain_name, row, Some, store_of, subst, sym, ◌++◌, ◌∙◌, ◌∷◌}
 use Rattle.pl0_code.proofs.Successes.{on_ok}
 use Rattle.pl0_code.proofs.emit.Emitter.assign.Goals as goal
 

@@ -1,9 +1,4 @@
-use Rattle.std.proofs.Common.{◌++◌, ◌∷◌, [], sym, ap, subst, ◌∙◌, Some}
-use Rattle.pl0_tree.specs.Plain.{plain_name}
-use Rattle.pl0_names.specs.Blocks.{blocks_of, found_in}
-use Rattle.pl0_code.specs.Rows.{call_of}
-use Rattle.pl0_code.specs.Usable.{CanBeCalled, IsFoundTo}
-use Rattle.pl0_code.specs.Lines.{row}
+use Rattle.pl0_code.proofs.Common.{[], ap, blocks_of, call_of, CanBeCalled, found_in, IsFoundTo, plain_name, row, Some, subst, sym, ◌++◌, ◌∙◌, ◌∷◌}
 use Rattle.pl0_code.proofs.Successes.{on_ok}
 use Rattle.pl0_code.proofs.emit.Emitter.call.Goals as goal
 
