@@ -19,8 +19,7 @@ both k (r ∷ rs) ts a b = (a.0, both k rs ts a.1 b)
 
 read_one : (k n : ℕ) (d : Declared) → Narrow k (read_declared n d)
 read_one k n (Constant v) = tt
-read_one k n (Variable a) = tt
-read_one k n (AnEntry a) = tt
+read_one k n _ = tt
 
 read_narrow : (k : ℕ) (o : Option (Found Declared)) → Narrow k (read_of o)
 read_narrow k None = tt
@@ -28,8 +27,7 @@ read_narrow k (Some f) = read_one k f.level f.declared
 
 store_one : (k n : ℕ) (d : Declared) → Narrow k (store_declared n d)
 store_one k n (Constant v) = tt
-store_one k n (Variable a) = tt
-store_one k n (AnEntry a) = tt
+store_one k n _ = tt
 
 store_narrow : (k : ℕ) (o : Option (Found Declared)) → Narrow k (store_of o)
 store_narrow k None = tt
@@ -37,8 +35,7 @@ store_narrow k (Some f) = store_one k f.level f.declared
 
 call_one : (k n : ℕ) (d : Declared) → Narrow k (call_declared n d)
 call_one k n (Constant v) = tt
-call_one k n (Variable a) = tt
-call_one k n (AnEntry a) = tt
+call_one k n _ = tt
 
 call_narrow : (k : ℕ) (o : Option (Found Declared)) → Narrow k (call_of o)
 call_narrow k None = tt

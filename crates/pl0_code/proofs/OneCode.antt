@@ -11,11 +11,10 @@ use Rattle.pl0_unit.specs.declared.instruction.Operation.TheVariants as operatio
 module _ (u : Listing) where
   expression_long : (q : Path) (e : Expression) (b : Option ℕ) (from to : ℕ) → CodedExpression u q e b from to
       → to ≡ from + expression_length e
-  expression_long q (Number n) b from to h = h.1
-  expression_long q (Variable x) b from to h = h.1
   expression_long q (Negate e) b from to h = omega (arith, expression_long q e b from h.0 h.1, h.3)
   expression_long q (Binary op left right) b from to h =
       omega (arith, expression_long q left b from h.0 h.2, expression_long q right None h.0 h.1 h.3, h.5)
+  expression_long q _ b from to h = h.1
 
   condition_long : (q : Path) (c : Condition) (b : Option ℕ) (from to : ℕ) → CodedCondition u q c b from to
       → to ≡ from + condition_length c
@@ -161,10 +160,9 @@ module _ (main : Block) (ascend : Ascend (map (λ (s : StepAt). s.place) (steps 
 
     declared_store : (q h : Path) (k : Meaning) (a a' : ℕ) → a ≡ a' → LaysDeclaredStore u q h k a
         → LaysDeclaredStore v q h k a' → Agrees a
-    declared_store q h (AConstant k) a a' p x y = absurd x
     declared_store q h (AVariable k) a a' p x y =
         laid a a' (Store (level q h) (cell k)) (Store (level q h) (cell k)) None None p refl refl x y
-    declared_store q h (AProcedure k) a a' p x y = absurd x
+    declared_store q h _ a a' p x y = absurd x
 
     store : (q : Path) (o : Option Home) (a a' : ℕ) → a ≡ a' → LaysStore u q o a → LaysStore v q o a' → Agrees a
     store q None a a' p x y = absurd x
@@ -284,14 +282,13 @@ module _ (main : Block) (ascend : Ascend (map (λ (s : StepAt). s.place) (steps 
         declared_call : (q h : Path) (k : Meaning) (block : Block) (n n' a a' : ℕ) → block_at main h ≡ Some block
             → IsDeclaredBy block k → a ≡ a' → n ≡ n' → LaysDeclaredCall u e q h k n a → LaysDeclaredCall v f q h k n' a'
             → Agrees a
-        declared_call q h (AConstant k) block n n' a a' there declared p s x y = absurd x
-        declared_call q h (AVariable k) block n n' a a' there declared p s x y = absurd x
         declared_call q h (AProcedure k) block n n' a a' there declared p s x y =
             let inner = procedure_there (procedures block) k declared in
             let at : block_at main (k ∷ h) ≡ Some inner.0 = ap (option_and_then (procedure_at k)) there ∙ inner.1 in
             let same = entry_same (k ∷ h) inner.0 (entries_at all (k ∷ h) inner.0 at) in
             laid a a' (CallTo (level q h) (e (k ∷ h))) (CallTo (level q h) (f (k ∷ h))) (Some n) (Some n') p
             (ap (CallTo (level q h)) same) (ap Some s) x y
+        declared_call q h _ block n n' a a' there declared p s x y = absurd x
 
         call : (q : Path) (w : List ℕ) (o : Option Home) (n n' a a' : ℕ) → home main q w ≡ o → a ≡ a' → n ≡ n'
             → LaysCall u e q o n a → LaysCall v f q o n' a' → Agrees a

@@ -43,9 +43,8 @@ mutual
 
   factor_fits : {n : ℕ} (s : List Token) (e : Expression) (rest : List Token) → ReadsFactor n s e rest
       → expression_length e + length rest ≤ length s
-  factor_fits _ _ rest name = omega arith
-  factor_fits _ _ rest number = omega arith
   factor_fits _ e rest (nested {s = s} inner) = let a = expression_fits s e _ inner in omega (arith, a)
+  factor_fits _ _ rest _ = omega arith
 
 condition_fits : {n : ℕ} (s : List Token) (c : Condition) (rest : List Token) → ReadsCondition n s c rest
     → condition_length c + length rest ≤ length s

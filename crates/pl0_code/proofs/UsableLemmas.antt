@@ -15,14 +15,12 @@ CanBe IsCalled = CanBeCalled
 declared_for : (o : Option Block) (from : ℕ) (use_kind : UseKind) (m : Meaning) → Allows m use_kind
     → CanBe use_kind (declared_as o from m)
 declared_for o from IsRead (AConstant k) ok = tt
-declared_for o from IsRead (AVariable k) ok = tt
 declared_for o from IsRead (AProcedure k) ok = absurd ok
-declared_for o from IsAssigned (AConstant k) ok = absurd ok
-declared_for o from IsAssigned (AVariable k) ok = tt
-declared_for o from IsAssigned (AProcedure k) ok = absurd ok
 declared_for o from IsCalled (AConstant k) ok = absurd ok
 declared_for o from IsCalled (AVariable k) ok = absurd ok
 declared_for o from IsCalled (AProcedure k) ok = tt
+declared_for o from _ (AVariable k) ok = tt
+declared_for o from IsAssigned _ ok = absurd ok
 
 module _ (main : Block) (q : Path) where
   found_for : (use_kind : UseKind) (x : Name) → IsMeant main q (use_of use_kind x)
@@ -92,14 +90,12 @@ none_prop a b = absurd a
 
 declared_prop : (use_kind : UseKind) (d : Declared) → IsProp (CanBe use_kind d)
 declared_prop IsRead (Constant v) = Unit-prop
-declared_prop IsRead (Variable a) = Unit-prop
 declared_prop IsRead (AnEntry a) = none_prop
-declared_prop IsAssigned (Constant v) = none_prop
-declared_prop IsAssigned (Variable a) = Unit-prop
-declared_prop IsAssigned (AnEntry a) = none_prop
 declared_prop IsCalled (Constant v) = none_prop
 declared_prop IsCalled (Variable a) = none_prop
 declared_prop IsCalled (AnEntry a) = Unit-prop
+declared_prop _ (Variable a) = Unit-prop
+declared_prop IsAssigned _ = none_prop
 
 found_prop : (use_kind : UseKind) (o : Option (Found Declared)) → IsProp (IsFoundTo (CanBe use_kind) o)
 found_prop use_kind None = none_prop

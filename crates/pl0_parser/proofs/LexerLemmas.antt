@@ -217,15 +217,14 @@ both false y is = cc
 -- bytes that begin with a visible text stay on the line as long as it goes
 begins_stays : (ys xs : List ℕ) → is_visible ys ≡ true → starts_with nat_eq xs ys ≡ true → StaysOnLine (length ys) xs
 begins_stays [] xs visible begins = tt
-begins_stays (y ∷ []) [] visible begins = cc
 begins_stays (y ∷ []) (x ∷ xs) visible begins =
     let (first, rest) = both (nat_eq y x) (pointwise nat_eq [] []) begins in
     (λ same. not_line_feed y visible (eqb-true y x first ∙ same), tt)
-begins_stays (y ∷ z ∷ ys) [] visible begins = cc
 begins_stays (y ∷ z ∷ ys) (x ∷ xs) visible begins =
     let (first, rest) = both (nat_eq y x) (pointwise nat_eq (z ∷ ys) (take (length (z ∷ ys)) xs)) begins in
     let (head, tail) = both (not (y == 10)) (is_visible (z ∷ ys)) visible in
     (λ same. not_line_feed y head (eqb-true y x first ∙ same), begins_stays (z ∷ ys) xs tail rest)
+begins_stays _ [] visible begins = cc
 
 visible_some : (ys : List ℕ) → is_visible ys ≡ true → 0 < length ys
 visible_some [] visible = cc
