@@ -17,7 +17,7 @@ from typing import Iterator
 
 TOP = Path(__file__).resolve().parent.parent
 STATED = re.compile(r"^( *)(?:pub )?([^\s:(){}=]+) : (.*)$")
-BINDER = re.compile(r"^(?:→ )?[({]([^(){}:]+) : ((?:[^(){}]|\([^(){}]*\)|\{[^{}]*\})*)[)}] ?(?:→ )?")
+BINDER = re.compile(r"^(?:→ )?[({]([^(){}:]+?)(?: : (?:[^(){}]|\([^(){}]*\)|\{[^{}]*\})*)?[)}] ?(?:→ )?")
 WORD = re.compile(r"(?<![\w◌'-])[^\W\d][\w']*(?:-[\w']+)*(?![\w◌'-])")
 
 

@@ -24,5 +24,5 @@ pub use Rattle.pl0_unit.specs.declared.instruction.Instruction.TheVariants.{Ente
 pub use Rattle.std.proofs.Common.{[], add-one, ap, append-nil, append_assoc, arith, Bool, cond, drop, Err, false, FitsSigned, get_or, Global, inl, inr, length, length-append, List, map, None, Ok, OnOk, Option, refl, Result, rules, Some, subst, suc, sym, take, true, Vec, w64, zero, ℕ, ◌++◌, ◌+◌, ◌<◌, ◌^◌, ◌∙◌, ◌∷◌, ◌≡◌, ◌≤◌, ◌⊎◌}
 pub use Rattle.std.proofs.Math.Logic.{∥∥₁_elim, ∥∥₁_map}
 pub use Rattle.std.proofs.lemmas.List.{drop_all, length-map, map-append, take_all}
-pub use Rattle.std.proofs.lemmas.Option.{slice_get-get_or, slice_get-map, slice_get_cases}
+pub use Rattle.std.proofs.lemmas.Option.{same_Some, slice_get-get_or, slice_get-map, slice_get_cases}
 pub use Rattle.std.specs.Prelude.{find, option_and_then, option_map, pos, slice_get, unwrap_or}

@@ -1,7 +1,6 @@
 -- No `INT` makes more cells than a program declares variables, and three.
-use Rattle.pl0_code.proofs.Common.{[], ABlock, arith, Assign, Binary, Block, block_length, block_rows, block_steps, Call, call_declared, call_of, Compare, Condition, condition_rows, Constant, Declared, Empty, Enter, Expression, expression_rows, Found, If, Instruction, length, List, map, Negate, NoMore, None, Number, Odd, Option, Path, Procedures, procedures_length, procedures_rows, procedures_steps, read_declared, read_of, Resolver, resolver, Row, slice_get, Some, Statement, statement_rows, step_count, store_declared, store_of, subst, suc, Then, Variable, While, Write, zero, ℕ, ◌++◌, ◌+◌, ◌∷◌, ◌≡◌, ◌≤◌}
+use Rattle.pl0_code.proofs.Common.{[], ABlock, arith, Assign, Binary, Block, block_length, block_rows, block_steps, Call, call_declared, call_of, Compare, Condition, condition_rows, Constant, Declared, Empty, Enter, Expression, expression_rows, Found, If, Instruction, length, List, map, Negate, NoMore, None, Number, Odd, Option, Path, Procedures, procedures_length, procedures_rows, procedures_steps, read_declared, read_of, Resolver, resolver, Row, slice_get, Some, Statement, statement_rows, step_count, store_declared, store_of, subst, suc, Then, While, Write, zero, ℕ, ◌++◌, ◌+◌, ◌∷◌, ◌≡◌, ◌≤◌}
 use Rattle.pl0_tree.specs.Tree.{AProcedure as AndProcedure, Variable as Named}
-use Rattle.pl0_code.specs.declared.scope.Declared.TheVariants.{Procedure as AnEntry}
 use Rattle.pl0_code.proofs.ReadSizes.{variable_count, variables_count}
 
 -- an instruction that makes at most k cells
@@ -99,12 +98,9 @@ module _ (k : ℕ) (main : Block) where
 narrow_one : (k n : ℕ) (i : Instruction) → Narrow k i → Some i ≡ Some (Enter n) → n ≤ k
 narrow_one k n i narrow is = let same : i ≡ Enter n = cc in subst (Narrow k) same narrow
 
-none_there : {i : Instruction} → None ≡ Some i → ⊥
-none_there is = cc
-
 narrow_at : (k : ℕ) (rs : List Row) → AllNarrow k rs → (a n : ℕ)
     → slice_get (map (λ (r : Row). r.instruction) rs) a ≡ Some (Enter n) → n ≤ k
-narrow_at k [] narrow a n is = absurd (none_there is)
+narrow_at k [] narrow a n is = cc
 narrow_at k (r ∷ rs) narrow zero n is = narrow_one k n r.instruction narrow.0 is
 narrow_at k (r ∷ rs) narrow (suc a) n is = narrow_at k rs narrow.1 a n is
 

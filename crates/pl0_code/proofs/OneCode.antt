@@ -1,5 +1,5 @@
 -- A program has one code: two listings that are code of it agree at each address.
-use Rattle.pl0_code.proofs.Common.{[], ABlock, AConstant, ap, AProcedure, arith, Assign, AVariable, Binary, Block, block_at, block_length, Call, cell, Coded, CodedBlock, CodedCondition, CodedExpression, CodedProcedures, CodedStatement, Compare, Condition, condition_length, Empty, Enter, Expression, expression_length, Home, home, If, inl, inr, Instruction, IsBefore, Jump, JumpIfZero, Lays, LaysCall, LaysDeclaredCall, LaysDeclaredRead, LaysDeclaredStore, LaysRead, LaysStore, length, level, List, Listing, Literal, Load, map, Meaning, Negate, NoMore, None, Number, Odd, Operate, operator_operation, Option, option_and_then, option_map, Path, Place, Procedure, procedure_at, procedure_list, Procedures, procedures, procedures_length, refl, relation_operation, slice_get, slice_get-map, Some, Statement, statement_length, StepAt, steps, Store, subst, suc, sym, Then, While, Write, zero, ℕ, ◌+◌, ◌<◌, ◌∙◌, ◌∷◌, ◌≡◌, ◌≤◌, ◌⊎◌}
+use Rattle.pl0_code.proofs.Common.{[], ABlock, AConstant, ap, AProcedure, arith, Assign, AVariable, Binary, Block, block_at, block_length, Call, cell, Coded, CodedBlock, CodedCondition, CodedExpression, CodedProcedures, CodedStatement, Compare, Condition, condition_length, Empty, Enter, Expression, expression_length, Home, home, If, inl, inr, Instruction, IsBefore, Jump, JumpIfZero, Lays, LaysCall, LaysDeclaredCall, LaysDeclaredRead, LaysDeclaredStore, LaysRead, LaysStore, length, level, List, Listing, Literal, Load, map, Meaning, Negate, NoMore, None, Number, Odd, Operate, operator_operation, Option, option_and_then, option_map, Path, Place, Procedure, procedure_at, procedure_list, Procedures, procedures, procedures_length, refl, relation_operation, same_Some, slice_get, slice_get-map, Some, Statement, statement_length, StepAt, steps, Store, subst, suc, sym, Then, While, Write, zero, ℕ, ◌+◌, ◌<◌, ◌∙◌, ◌∷◌, ◌≡◌, ◌≤◌, ◌⊎◌}
 use Rattle.pl0_tree.specs.Tree.{Variable, AProcedure as AndProcedure}
 use Rattle.pl0_tree.specs.Ascending.{Ascend}
 use Rattle.pl0_meaning.specs.Homes.{IsDeclaredBy, home_is}
@@ -72,12 +72,6 @@ side (suc a) (suc b) = next (side a b)
     next (inl lt) = inl (omega arith)
     next (inr le) = inr (omega arith)
 
-some_same : {A : Type 0} (x y : A) → Some x ≡ Some y → x ≡ y
-some_same x y is = cc
-
-none_there : {A : Type 0} {x : A} → None ≡ Some x → ⊥
-none_there is = cc
-
 cons_same : {A : Type 0} (x y : A) (xs ys : List A) → x ≡ y → xs ≡ ys → x ∷ xs ≡ y ∷ ys
 cons_same x y xs ys p q = cc
 
@@ -87,7 +81,7 @@ each_same [] [] long at = refl
 each_same [] (y ∷ ys) long at = absurd (omega (arith, long))
 each_same (x ∷ xs) [] long at = absurd (omega (arith, long))
 each_same (x ∷ xs) (y ∷ ys) long at =
-    cons_same x y xs ys (some_same x y (at 0 (omega arith)))
+    cons_same x y xs ys (same_Some x y (at 0 (omega arith)))
     (each_same xs ys (omega (arith, long)) (λ i lt. at (suc i) (omega (arith, lt))))
 
 not_before : (p : Place) → IsBefore p p → ⊥
@@ -148,7 +142,7 @@ module _ (main : Block) (ascend : Ascend (map (λ (s : StepAt). s.place) (steps 
     declared_read : (q h : Path) (k : Meaning) (b b' : Option ℕ) (a a' : ℕ) → a ≡ a' → b ≡ b'
         → LaysDeclaredRead u q h k b a → LaysDeclaredRead v q h k b' a' → Agrees a
     declared_read q h (AConstant k) b b' a a' p s x y =
-        laid a a' (Literal x.0) (Literal y.0) b b' p (ap Literal (some_same x.0 y.0 (sym x.1 ∙ y.1))) s x.2 y.2
+        laid a a' (Literal x.0) (Literal y.0) b b' p (ap Literal (same_Some x.0 y.0 (sym x.1 ∙ y.1))) s x.2 y.2
     declared_read q h (AVariable k) b b' a a' p s x y =
         laid a a' (Load (level q h) (cell k)) (Load (level q h) (cell k)) b b' p refl s x y
     declared_read q h (AProcedure k) b b' a a' p s x y = absurd x
@@ -244,10 +238,10 @@ module _ (main : Block) (ascend : Ascend (map (λ (s : StepAt). s.place) (steps 
       in_procedures : (q : Path) (j : ℕ) (ps : Procedures) → ProceduresAgree q j ps → (i : ℕ) (b : Block)
           → option_map (λ (p : Procedure). p.block) (slice_get (procedure_list ps) i) ≡ Some b
           → EntriesAgree ((j + i) ∷ q) b
-      in_procedures q j NoMore h i b is = absurd (none_there is)
+      in_procedures q j NoMore h i b is = cc
       in_procedures q j (AndProcedure x c more) h zero b is =
           let same : j ≡ j + 0 = omega arith in subst (λ k. EntriesAgree (k ∷ q) b) same
-          (subst (EntriesAgree (j ∷ q)) (some_same c b is) h.0)
+          (subst (EntriesAgree (j ∷ q)) (same_Some c b is) h.0)
       in_procedures q j (AndProcedure x c more) h (suc i) b is =
           let same : j + 1 + i ≡ j + suc i = omega arith in subst (λ k. EntriesAgree (k ∷ q) b) same
           (in_procedures q (j + 1) more h.1 i b is)
@@ -259,12 +253,12 @@ module _ (main : Block) (ascend : Ascend (map (λ (s : StepAt). s.place) (steps 
           (in_procedures q 0 ps h.1 i b is)
 
       entries_at : EntriesAgree [] main → (q : Path) (b : Block) → block_at main q ≡ Some b → EntriesAgree q b
-      entries_at all [] b is = subst (EntriesAgree []) (some_same main b is) all
+      entries_at all [] b is = subst (EntriesAgree []) (same_Some main b is) all
       entries_at all (i ∷ q) b is = inner (block_at main q) (entries_at all q) is
         where
           inner : (o : Option Block) → ((c : Block) → o ≡ Some c → EntriesAgree q c)
               → option_and_then (procedure_at i) o ≡ Some b → EntriesAgree (i ∷ q) b
-          inner None outer is = absurd (none_there is)
+          inner None outer is = cc
           inner (Some c) outer is = in_block q c (outer c refl) i b is
 
       entry_same : (q : Path) (b : Block) → EntriesAgree q b → e q ≡ f q

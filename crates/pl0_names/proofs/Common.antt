@@ -14,7 +14,7 @@ pub use Rattle.pl0_tree.specs.Reading.{assignment, block, call, choice, comparis
 pub use Rattle.pl0_tree.specs.Scope.{AConstant, Allows, AProcedure, AVariable, block_at, body_uses, condition_uses, Declaration, declarations, declared_as, declared_here, expression_uses, first_declaration, Home, home, IsAssigned, IsBefore, IsCalled, IsLawful, IsLawfulOutside, IsLawfulUse, IsRead, Meaning, or_else, Path, procedure_at, statement_uses, Use, UseKind}
 pub use Rattle.pl0_tree.specs.Steps.{AreSteps, block_paths, block_steps, blocks, procedures_paths, procedures_steps, statement_steps, step, StepAt, steps}
 pub use Rattle.pl0_tree.specs.Tokens.{Token}
-pub use Rattle.pl0_tree.specs.Tree.{ABlock, Assign, Block, Call, Condition, Constant, constants, Empty, Expression, If, Name, NoMore, procedure_list, Procedures, procedures, Statement, Then, variables, While, Write}
+pub use Rattle.pl0_tree.specs.Tree.{ABlock, Block, Condition, Constant, constants, Empty, Expression, If, Name, NoMore, procedure_list, Procedures, procedures, Statement, Then, variables, While}
 pub use Rattle.pl0_tree.specs.declared.fault.FaultKind.{FaultKind}
 pub use Rattle.pl0_tree.specs.declared.fault.FaultKind.TheVariants.{TooEarly, TooManyNames, Twice, Unknown, WrongKind}
 pub use Rattle.pl0_tree.specs.declared.fault.SyntaxFault.{SyntaxFault}
@@ -25,9 +25,9 @@ pub use Rattle.pl0_tree.specs.declared.tree.Block.{out-Block}
 pub use Rattle.pl0_tree.specs.declared.tree.Place.{Place}
 pub use Rattle.pl0_tree.specs.declared.tree.Procedure.{out-Procedure, Procedure}
 pub use Rattle.std.proofs.Common.{[], add-one, add-zero, ap, append-nil, append_assoc, arith, Bool, cond, drop, drop-cons, Err, false, get_or, inl, inr, length, length-append, List, map, Ok, refl, Result, reverse, rules, subst, suc, sym, take, true, vec_len, zero, ℕ, ◌++◌, ◌+◌, ◌-◌, ◌<◌, ◌^◌, ◌||◌, ◌∙◌, ◌∷◌, ◌≡◌, ◌≤◌, ◌⊎◌}
-pub use Rattle.std.proofs.lemmas.Bool.{both_ways, cases_eq, eqb-true}
+pub use Rattle.std.proofs.lemmas.Bool.{both_ways, cases_eq, eqb-true, false_from_ne_true}
 pub use Rattle.std.proofs.lemmas.List.{drop_all, get_or_append_left, get_or_at, length-map, length-reverse, reverse-append, reverse-reverse}
-pub use Rattle.std.proofs.lemmas.Option.{slice_get-get_or, slice_get-map, slice_get_read, slice_get_within}
+pub use Rattle.std.proofs.lemmas.Option.{none-some, same_Some, slice_get-get_or, slice_get-map, slice_get_read, slice_get_within}
 pub use Rattle.std.proofs.lemmas.Slice.Eq.{bytes_eq-Decides}
 pub use Rattle.std.specs.Option.{option_map_or, option_or}
 pub use Rattle.std.specs.Prelude.{Box, find, IfErr, is_some, IsOk, IsSome, MatchOption, nat_eq, nat_lt, None, OnErr, OnOk, Option, option_and_then, option_map, position, slice_get, Some, string_bytes, Vec, ◌&&◌}

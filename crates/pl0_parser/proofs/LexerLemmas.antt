@@ -1,6 +1,7 @@
 -- A token's bytes are skipped, and the lexer goes on after them.
+use Rattle.std.proofs.lemmas.List.Sums.{take_while-cons}
 use Rattle.pl0_parser.proofs.Common.{[], add-zero, ap, arith, at, behind, Bool, cond, decimal_value, drop, eqb, false, Faulty, find, fold, front_piece, get_or, is_space, is_word_byte, length, List, lit<, Mark, nat_eq, nat_le, nat_lt, not, number_symbol, NumberTooLarge, Option, Place, pred, refl, sign_piece, signs, Some, subst, suc, sym, Symbol, symbol_of, take, take_while, tokens_from, true, word_symbol, zero, ℕ, ◌&&◌, ◌*◌, ◌+◌, ◌-◌, ◌<◌, ◌==◌, ◌^◌, ◌||◌, ◌∙◌, ◌∷◌, ◌≡◌, ◌≤◌}
-use Rattle.std.specs.List.{prefix_len, starts_with}
+use Rattle.std.specs.List.{starts_with}
 use Rattle.std.specs.Str.{IsAscii}
 use Rattle.std.specs.Cmp.Lexicographic.{pointwise}
 use Rattle.std.specs.Char.{is_ascii_digit, is_ascii_alphabetic}
@@ -49,15 +50,6 @@ front_is (b ∷ bytes) s size visible piece = record {
 
 -- A run of bytes that pass a test.
 
-while_at : (v : Bool) (n x : ℕ) (xs : List ℕ) → take (cond v (1 + n) 0) (x ∷ xs) ≡ cond v (x ∷ take n xs) []
-while_at true n x xs = let same : 1 + n ≡ suc n = omega arith in ap (λ k. take k (x ∷ xs)) same
-while_at false n x xs = refl
-
--- one byte of a run
-while_cons : (test : ℕ → Bool) (x : ℕ) (xs : List ℕ) → take_while test (x ∷ xs) ≡ cond (test x) (x ∷ take_while test xs)
-    []
-while_cons test x xs = while_at (test x) (prefix_len test xs) x xs
-
 take_run_at : (v : Bool) (x : ℕ) (xs run : List ℕ) → take (length run) xs ≡ run
     → take (length (cond v (x ∷ run) [])) (x ∷ xs) ≡ cond v (x ∷ run) []
 take_run_at true x xs run is = ap (λ ys. x ∷ ys) is
@@ -66,7 +58,7 @@ take_run_at false x xs run is = refl
 pub take_run : (test : ℕ → Bool) (xs : List ℕ) → take (length (take_while test xs)) xs ≡ take_while test xs
 take_run test [] = refl
 take_run test (x ∷ xs) =
-    subst (λ ys. take (length ys) (x ∷ xs) ≡ ys) (sym (while_cons test x xs))
+    subst (λ ys. take (length ys) (x ∷ xs) ≡ ys) (sym (take_while-cons test x xs))
     (take_run_at (test x) x xs (take_while test xs) (take_run test xs))
 
 stays_at : (v : Bool) (x : ℕ) (xs run : List ℕ) → (v ≡ true → x ≡ 10 → ⊥) → StaysOnLine (length run) xs
@@ -78,12 +70,12 @@ run_stays : (test : ℕ → Bool) → ((b : ℕ) → test b ≡ true → b ≡ 1
     → StaysOnLine (length (take_while test xs)) xs
 run_stays test visible [] = tt
 run_stays test visible (x ∷ xs) =
-    subst (λ ys. StaysOnLine (length ys) (x ∷ xs)) (sym (while_cons test x xs))
+    subst (λ ys. StaysOnLine (length ys) (x ∷ xs)) (sym (take_while-cons test x xs))
     (stays_at (test x) x xs (take_while test xs) (visible x) (run_stays test visible xs))
 
 run_some : (test : ℕ → Bool) (x : ℕ) (xs : List ℕ) → test x ≡ true → 0 < length (take_while test (x ∷ xs))
 run_some test x xs passes =
-    subst (λ ys. 0 < length ys) (sym (while_cons test x xs))
+    subst (λ ys. 0 < length ys) (sym (take_while-cons test x xs))
     (subst (λ v. 0 < length (cond v (x ∷ take_while test xs) [])) (sym passes) (omega arith))
 
 word_visible : (b : ℕ) → is_word_byte b ≡ true → b ≡ 10 → ⊥
@@ -144,7 +136,7 @@ run_all : (test : ℕ → Bool) (xs : List ℕ) (i : ℕ) → i < length (take_w
     → test (get_or (take_while test xs) i 0) ≡ true
 run_all test [] = nothing_inside test
 run_all test (x ∷ xs) =
-    subst (λ ys. (i : ℕ) → i < length ys → test (get_or ys i 0) ≡ true) (sym (while_cons test x xs))
+    subst (λ ys. (i : ℕ) → i < length ys → test (get_or ys i 0) ≡ true) (sym (take_while-cons test x xs))
     (run_all_at test (test x) x (take_while test xs) (λ is. is) (run_all test xs))
 
 digit_bounds : (b : ℕ) → is_ascii_digit b ≡ true → (48 ≤ b) × (b < 58)

@@ -1,5 +1,6 @@
 -- The tokens of a text stand in the order of their places.
-use Rattle.pl0_parser.proofs.Common.{[], arith, behind, Bool, cond, eqb, false, front_piece, inl, inr, is_space, length, List, lit<, map, None, Place, pred, refl, slice_get, Some, start, subst, suc, Token, tokens_from, tokens_of, true, zero, ℕ, ◌+◌, ◌∷◌, ◌≡◌, ◌≤◌}
+use Rattle.std.proofs.lemmas.Option.{same_Some}
+use Rattle.pl0_parser.proofs.Common.{[], arith, behind, Bool, cond, eqb, false, front_piece, inl, inr, is_space, length, List, lit<, map, Place, pred, refl, slice_get, Some, start, subst, suc, Token, tokens_from, tokens_of, true, zero, ℕ, ◌+◌, ◌∷◌, ◌≡◌, ◌≤◌}
 use Rattle.pl0_tree.specs.Scope.{IsBefore}
 use Rattle.pl0_tree.specs.Ascending.{Ascend}
 
@@ -41,27 +42,21 @@ tokens_ascend (b ∷ bytes) p (suc taken) q before =
     tokens_ascend bytes (behind p b) taken q (before_trans q p (behind p b) before (before_behind p b))
 tokens_ascend (b ∷ bytes) p zero q before = ascend_at (is_space b) p q b bytes before (tokens_ascend bytes (behind p b))
 
-some_same : (p q : Place) → Some p ≡ Some q → p ≡ q
-some_same p q is = cc
-
 -- the places of tokens
 abbrev places : List Token → List Place
 places ts = map (λ t. t.place) ts
 
-none_there : {q : Place} → None ≡ Some q → ⊥
-none_there is = cc
-
 each_behind : (ts : List Token) (p q : Place) (j : ℕ) → AscendBehind p ts → slice_get (places ts) j ≡ Some q
     → IsBefore p q
-each_behind [] p q j ascend is = absurd (none_there is)
-each_behind (t ∷ ts) p q zero ascend is = subst (λ r. IsBefore p r) (some_same t.place q is) ascend.0
+each_behind [] p q j ascend is = cc
+each_behind (t ∷ ts) p q zero ascend is = subst (λ r. IsBefore p r) (same_Some t.place q is) ascend.0
 each_behind (t ∷ ts) p q (suc j) ascend is = before_trans p t.place q ascend.0 (each_behind ts t.place q j ascend.1 is)
 
 in_order : (ts : List Token) (p : Place) → AscendBehind p ts → Ascend (places ts)
-in_order [] p ascend i j q r less first second = absurd (none_there second)
+in_order [] p ascend i j q r less first second = cc
 in_order (t ∷ ts) p ascend i zero q r less first second = absurd (omega arith)
 in_order (t ∷ ts) p ascend zero (suc j) q r less first second =
-    subst (λ x. IsBefore x r) (some_same t.place q first) (each_behind ts t.place r j ascend.1 second)
+    subst (λ x. IsBefore x r) (same_Some t.place q first) (each_behind ts t.place r j ascend.1 second)
 in_order (t ∷ ts) p ascend (suc i) (suc j) q r less first second =
     in_order ts t.place ascend.1 i j q r (omega arith) first second
 

@@ -1,7 +1,6 @@
-use Rattle.pl0_names.proofs.Common.{[], ap, arith, block_at, blocks, IsTableOf, length, length-append, plain_block, slice_get, Some, subst, sym, ◌∷◌, ◌≡◌}
+use Rattle.pl0_names.proofs.Common.{[], ap, arith, block_at, blocks, IsTableOf, length, length-append, plain_block, same_Some, slice_get, Some, subst, sym, ◌∷◌, ◌≡◌}
 use Rattle.pl0_names.proofs.Declared.{AreTables, one_table_more}
 use Rattle.pl0_names.proofs.Lookup.{nestings_lengths}
-use Rattle.pl0_names.proofs.Members.{some_same}
 use Rattle.pl0_names.proofs.names.Names.with_tables.Goals as goal
 
 pub overflow_cast-number : goal.overflow_cast-number
@@ -36,7 +35,7 @@ invariant_of-result c =
       counted =
           λ ts is. omega (
             arith,
-            ap length (some_same c.loop-number.tables.items ts is),
+            ap length (same_Some c.loop-number.tables.items ts is),
             count,
             all,
             c.loop-number-test.false,
@@ -44,5 +43,5 @@ invariant_of-result c =
       tabled = λ ts n table q b is. subst
           (λ l. slice_get l n ≡ Some table → slice_get (blocks (plain_block c.args.main.now)) n ≡ Some q
           → block_at (plain_block c.args.main.now) q ≡ Some b → IsTableOf b table)
-          (some_same c.loop-number.tables.items ts is) (c.loop-number.invariant.0 n table q b);
+          (same_Some c.loop-number.tables.items ts is) (c.loop-number.invariant.0 n table q b);
     }
