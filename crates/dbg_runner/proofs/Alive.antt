@@ -1,16 +1,9 @@
 -- Where frames are alive.
-use Rattle.std.proofs.Common.{◌≡◌, ℕ, zero, suc, ◌+◌, ◌<◌, ◌≤◌, ⊎_elim, Bool, true, false, nat_eq, if◌then◌else◌, [], ◌∷◌, length, Option, Some, None, ap, sym, ◌∙◌, refl, subst, arith, add-one}
-use Rattle.std.specs.Prelude.{option_and_then}
+use Rattle.dbg_runner.proofs.Common.{[], add-one, ap, arith, at, Block, Bool, cases_eq, false, Faults, frames_of, if◌then◌else◌, last_position, led_to, length, nat_eq, None, Option, option_and_then, Outcome, outcome, Over, refl, RunFault, RunsAt, Some, step_at, subst, suc, sym, true, zero, ℕ, ⊎_elim, ◌+◌, ◌<◌, ◌∷◌, ◌≡◌, ◌≤◌}
 use Rattle.std.specs.Option.{option_map_or}
-use Rattle.std.proofs.lemmas.Bool.{cases_eq}
-use Rattle.pl0_tree.specs.Tree.{Block}
-use Rattle.pl0_meaning.specs.declared.RunFault.{RunFault}
 use Rattle.pl0_meaning.specs.declared.RunFault.TheVariants.{StepLimit}
 use Rattle.pl0_meaning.specs.Values.{Configuration}
-use Rattle.pl0_meaning.specs.Runs.{Outcome, Faults, Over, at, step_at, led_to, outcome, last_position}
 use Rattle.pl0_meaning.specs.Laws.{PositionsAreBounded}
-use Rattle.pl0_machine.specs.Machine.{frames_of}
-use Rattle.dbg_runner.specs.Lawful.{RunsAt}
 
 -- nothing is alive after the end
 over : (b : Bool) → frames_of (led_to (if b then Faults StepLimit else Over)) ≡ []

@@ -1,22 +1,7 @@
 -- The steps that a run which goes back runs again.
-use Rattle.std.proofs.Common.{◌≡◌, ℕ, zero, suc, ◌+◌, ◌-◌, ◌<◌, ◌≤◌, ⊎_elim, Bool, false, if◌then◌else◌, List, Option, Some, None, is_some, ap, sym, ◌∙◌, refl, subst, arith, add-one, ℤ}
-use Rattle.std.proofs.lemmas.Bool.{cases_eq}
-use Rattle.pl0_tree.specs.Tree.{Block}
-use Rattle.pl0_meaning.specs.declared.RunFault.{RunFault}
-use Rattle.dbg_plan.specs.Breakpoints.{Breakpoint}
+use Rattle.dbg_runner.proofs.Common.{add-one, Advance, ap, arith, Block, Bool, Breakpoint, cases_eq, Debugged, Done, due, due_now, false, Fault, forward, further, Hopped, if◌then◌else◌, is_some, IsConsidered, last_due, List, Log, None, Option, program_of, RanFrom, Reason, refl, RunFault, RunsAt, Some, subst, suc, sym, To, zero, ℕ, ℤ, ⊎_elim, ◌+◌, ◌-◌, ◌<◌, ◌∙◌, ◌≡◌, ◌≤◌}
 use Rattle.dbg_plan.specs.declared.mode.Mode.TheVariants.{Continue}
-use Rattle.dbg_plan.specs.declared.mode.Reason.{Reason}
-use Rattle.dbg_plan.specs.declared.debuggee.Advance.{Advance}
-use Rattle.dbg_plan.specs.declared.debuggee.Advance.TheVariants.{To, Done, Fault}
-use Rattle.dbg_plan.specs.Due.{due}
-use Rattle.dbg_plan.specs.Logs.{Log}
-use Rattle.dbg_plan.specs.Debugged.{Debugged, program_of, IsConsidered, due_now}
-use Rattle.dbg_plan.specs.Advances.{further}
-use Rattle.dbg_plan.specs.Running.{forward, RanFrom}
-use Rattle.dbg_plan.specs.Retreat.{last_due}
 use Rattle.dbg_plan.proofs.Unwatched.{not_due}
-use Rattle.dbg_runner.specs.Lawful.{RunsAt}
-use Rattle.dbg_runner.specs.Hops.{Hopped}
 use Rattle.dbg_runner.proofs.Alive.{runs_before, not_over, no_fault}
 
 -- ---- one hop

@@ -1,21 +1,8 @@
 -- A kept report is lawful, and its debuggee was considered where it stands.
-use Rattle.std.proofs.Common.{◌≡◌, ℕ, ◌-◌, ◌<◌, ◌≤◌, Bool, true, false, Option, Some, ap, refl, sym, ◌∙◌, subst, arith}
-use Rattle.std.specs.Prelude.{zero, suc, is_some, if◌then◌else◌, List}
-use Rattle.pl0_tree.specs.Tree.{Block}
+use Rattle.dbg_runner.proofs.Common.{ap, arith, Block, Bool, Breakpoint, carried, Carries, Debugged, due, EndsBy, false, faults, goal_of, goes_back, GoesBackBy, has_come, has_no_memory, if◌then◌else◌, is_due, is_held, is_over, is_some, is_spent, IsConsidered, IsKept, IsLawful, lacks_memory, last_due, List, Mode, Option, plain_report, PlainReport, refl, Reported, reversed, RunsAt, SliceOutcome, Some, StandsAtEnd, stepped_back, Stop, stop_at, stopped, subst, suc, sym, takes_all, Trail, trail_in, true, Went, WentBack, WentOn, zero, ℕ, ◌∙◌, ◌≡◌, ◌≤◌}
 use Rattle.pl0_machine.specs.Machine.{program_of}
-use Rattle.dbg_plan.specs.Breakpoints.{Breakpoint}
-use Rattle.dbg_plan.specs.declared.mode.Mode.{Mode}
 use Rattle.dbg_plan.specs.declared.mode.Mode.TheVariants as mode
-use Rattle.dbg_plan.specs.Due.{due}
-use Rattle.dbg_plan.specs.Trail.{Trail}
-use Rattle.dbg_plan.specs.Retreat.{Stop, last_due, stop_at, stepped_back, reversed, goal_of}
-use Rattle.dbg_plan.specs.Debugged.{Debugged, IsConsidered}
-use Rattle.dbg_runner.specs.declared.outcome.SliceOutcome.{SliceOutcome}
 use Rattle.dbg_runner.specs.declared.outcome.SliceOutcome.TheVariants as out
-use Rattle.dbg_runner.specs.Plain.{PlainReport, goes_back}
-use Rattle.dbg_runner.specs.Lawful.{RunsAt, EndsBy, takes_all, is_due, is_over, faults, is_held, lacks_memory, GoesBackBy, is_spent, has_come, has_no_memory, WentOn, WentBack, Went, IsLawful}
-use Rattle.dbg_runner.specs.Reported.{Reported, plain_report, IsKept, stopped, carried, trail_in, Carries}
-use Rattle.dbg_runner.specs.ReportFields.{StandsAtEnd}
 use Rattle.dbg_runner.proofs.Alive.{runs_before}
 
 pub lawful : (r : Reported) → IsKept r → IsLawful (plain_report r)
@@ -69,9 +56,7 @@ ends_before main r out.More (is_spent stays all) = omega (arith, stays)
 ends_before main r (out.Due reason) (has_come come) =
     leads_back main r.plan r.mode r.start (record { position = r.end; reason = reason }) come
 ends_before main r out.NoMemory (has_no_memory stays) = omega (arith, stays)
-ends_before main r out.Held none = elim none [ ]
-ends_before main r out.Done none = elim none [ ]
-ends_before main r (out.Fault fault) none = elim none [ ]
+ends_before main r _ none = elim none [ ]
 
 runs_at_stop : (main : Block) (r : PlainReport) → WentBack main r → RunsAt main r.end
 runs_at_stop main r went = runs_before main r.end r.start (ends_before main r r.outcome went.outcome) went.begun
@@ -118,5 +103,4 @@ carried_considered back r d kept carries is = by_outcome back r.outcome refl car
     by_outcome : (b : Bool) (e : SliceOutcome) → e ≡ r.outcome → Carries b r e → IsConsidered d
     by_outcome true out.NoMemory same carries =
         let it : carries.0 ≡ d = cc in subst (λ (d : Debugged). IsConsidered d) it carries.2.considered
-    by_outcome true e same carries = where_it_ends r d kept is (carries ∙ ap (λ e. carried r e) same)
-    by_outcome false e same carries = where_it_ends r d kept is (carries ∙ ap (λ e. carried r e) same)
+    by_outcome _ e same carries = where_it_ends r d kept is (carries ∙ ap (λ e. carried r e) same)

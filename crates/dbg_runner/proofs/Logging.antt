@@ -1,21 +1,9 @@
 -- What the positions of a run log.
-use Rattle.std.proofs.Common.{◌≡◌, ◌⊎◌, ℕ, zero, suc, ◌+◌, ◌-◌, ◌<◌, ◌≤◌, ⊎_elim, false, if◌then◌else◌, List, [], ◌∷◌, ◌++◌, Option, Some, None, ap, refl, sym, ◌∙◌, arith, append_assoc, append-nil}
-use Rattle.std.specs.Prelude.{◌&&◌}
+use Rattle.dbg_runner.proofs.Common.{[], accepts, ap, append-nil, append_assoc, arith, arrivals, arrives_in, at, Block, Breakpoint, cases_eq, EndsBy, false, faults, if◌then◌else◌, is_due, is_held, is_hit, is_over, IsPassed, IsSpent, lacks_memory, List, Log, log_at, log_in, logs, logs_between, logs_from, logs_in, logs_told, None, Option, PlainReport, refl, slice_limit, SliceOutcome, Some, suc, sym, takes_all, WentOn, zero, ℕ, ⊎_elim, ◌&&◌, ◌++◌, ◌+◌, ◌-◌, ◌<◌, ◌∙◌, ◌∷◌, ◌≡◌, ◌≤◌, ◌⊎◌}
 use Rattle.std.specs.List.{cons_option}
 use Rattle.std.specs.List.{filter_map, enumerate_from}
-use Rattle.std.proofs.lemmas.Bool.{cases_eq}
-use Rattle.pl0_tree.specs.Tree.{Block}
 use Rattle.pl0_meaning.specs.Values.{Configuration}
-use Rattle.pl0_meaning.specs.Runs.{at}
-use Rattle.dbg_plan.specs.Breakpoints.{Breakpoint}
-use Rattle.dbg_plan.specs.Due.{arrives_in, accepts, arrivals, is_hit}
-use Rattle.dbg_plan.specs.Logs.{Log, log_in, log_at, logs}
-use Rattle.dbg_runner.specs.declared.outcome.SliceOutcome.{SliceOutcome}
 use Rattle.dbg_runner.specs.declared.outcome.SliceOutcome.TheVariants as out
-use Rattle.dbg_runner.specs.Plain.{PlainReport}
-use Rattle.dbg_runner.specs.Lawful.{IsPassed, IsSpent, EndsBy, takes_all, is_due, is_over, faults, is_held, lacks_memory, logs_in, logs_told, WentOn}
-use Rattle.dbg_runner.specs.Rooms.{slice_limit}
-use Rattle.dbg_runner.specs.Laws.{logs_from, logs_between}
 
 -- ---- stretches
 

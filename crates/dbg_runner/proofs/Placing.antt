@@ -1,15 +1,6 @@
 -- Where the debuggee is after a slice.
-use Rattle.std.proofs.Common.{◌≡◌, ℕ, Option, ap, refl, sym, ◌∙◌, subst}
-use Rattle.dbg_plan.specs.declared.mode.Mode.{Mode}
-use Rattle.dbg_plan.specs.Trail.{Trail}
-use Rattle.dbg_plan.specs.Debugged.{Debugged}
-use Rattle.dbg_runner.specs.declared.outcome.SliceOutcome.{SliceOutcome}
+use Rattle.dbg_runner.proofs.Common.{ap, beside_report, Debugged, heading, in_report, IsReportOf, IsSliceOf, Mode, Option, plain_report, refl, Reported, Room, sliced, SliceOutcome, StandsAtEnd, stopped, subst, sym, TookSteps, Trail, whereabouts, written_before, ℕ, ◌∙◌, ◌≡◌}
 use Rattle.dbg_runner.specs.declared.outcome.SliceOutcome.TheVariants as out
-use Rattle.dbg_runner.specs.Rooms.{Room}
-use Rattle.dbg_runner.specs.Lawful.{IsReportOf}
-use Rattle.dbg_runner.specs.Reported.{Reported, plain_report, heading, stopped, whereabouts, in_report, beside_report}
-use Rattle.dbg_runner.specs.ReportFields.{written_before, sliced, StandsAtEnd}
-use Rattle.dbg_runner.specs.Slices.{TookSteps, IsSliceOf}
 use Rattle.dbg_runner.proofs.Keeping.{lawful}
 
 in_place : (r : Reported) (d : Debugged) (trail : Trail) (e : SliceOutcome) → StandsAtEnd r d e → d.trail ≡ trail

@@ -1,24 +1,11 @@
 -- The reports of a run that goes back.
-use Rattle.std.proofs.Common.{Box, Global, ◌≡◌, ℕ, ◌+◌, ◌*◌, ◌<◌, ◌≤◌, [], length, Option, Some, None, refl, ap, sym, ◌∙◌, subst, arith}
-use Rattle.pl0_meaning.specs.Runs.{written}
-use Rattle.dbg_plan.specs.declared.mode.Reason.{Reason}
+use Rattle.dbg_runner.proofs.Common.{[], ap, arith, Box, Carries, counts_from, Debugged, Global, goal_of, goes_back, GoesBackBy, has_come, has_no_memory, is_spent, IsAt, IsKept, IsOn, IsReportWith, IsRetreat, IsRoomFor, length, None, Option, plain_report, program_of, Reason, refl, Reported, Retreating, retreating_of, Returns, Room, Searches, slice_limit, SliceOutcome, Some, stopped, subst, summary_back, sym, Went, written, ℕ, ◌*◌, ◌+◌, ◌∙◌, ◌≡◌, ◌≤◌}
 use Rattle.dbg_plan.specs.declared.debuggee.Debuggee.{Debuggee}
-use Rattle.dbg_plan.specs.Debugged.{Debugged, program_of}
-use Rattle.dbg_plan.specs.Retreat.{goal_of}
-use Rattle.dbg_runner.specs.declared.outcome.SliceOutcome.{SliceOutcome}
 use Rattle.dbg_runner.specs.declared.outcome.SliceOutcome.TheVariants as out
 use Rattle.dbg_runner.specs.declared.report.Summary.{Summary}
 use Rattle.dbg_runner.specs.declared.report.Cargo.TheVariants.{Sliced, Unsliced}
 use Rattle.dbg_runner.specs.declared.retreat.Way.{Way}
-use Rattle.dbg_runner.specs.declared.retreat.Way.TheVariants.{Searches, Returns}
 use Rattle.dbg_runner.specs.declared.retreat.Retreat.TheInside.{Inside}
-use Rattle.dbg_runner.specs.Rooms.{Room, slice_limit}
-use Rattle.dbg_runner.specs.Plain.{goes_back}
-use Rattle.dbg_runner.specs.Lawful.{GoesBackBy, is_spent, has_come, has_no_memory, Went}
-use Rattle.dbg_runner.specs.Reported.{Reported, IsKept, plain_report, counts_from, stopped, Carries}
-use Rattle.dbg_runner.specs.ReportFields.{IsReportWith}
-use Rattle.dbg_runner.specs.Retreating.{Retreating, IsRoomFor, summary_back}
-use Rattle.dbg_runner.specs.Courses.{IsOn, IsAt, retreating_of, IsRetreat}
 
 few_by : (n : ℕ) (d : Debugged) (again : ℕ) (w : Way) → IsOn n d again w → again ≤ 2 * n
 few_by n d again (Searches found) on = let before = on.1 in omega (arith, on.2)

@@ -1,22 +1,6 @@
 -- How far a run that goes back has come.
-use Rattle.std.proofs.Common.{◌≡◌, ◌≢◌, ℕ, zero, suc, ◌+◌, ◌-◌, ◌*◌, ◌<◌, ◌≤◌, ⊎_elim, Bool, true, false, nat_eq, nat_le, if◌then◌else◌, min, List, [], ◌∷◌, filter, Option, Some, None, is_some, ap, sym, ◌∙◌, refl, subst, arith, add-one}
-use Rattle.std.proofs.lemmas.Bool.{leb-true, eqb-false, cases_lt}
-use Rattle.std.proofs.Math.Nat.{min-le_left, min-le_right, min-eq_left, min-eq_right}
-use Rattle.pl0_tree.specs.Tree.{Block}
-use Rattle.dbg_plan.specs.Breakpoints.{Breakpoint}
-use Rattle.dbg_plan.specs.declared.mode.Mode.{Mode}
+use Rattle.dbg_runner.proofs.Common.{[], add-one, ap, arith, arrival, Block, Bool, Breakpoint, cases_lt, Debugged, due, due_now, eqb-false, false, filter, floor_of, goal_of, goes_back, gone_back, greatest, if◌then◌else◌, in_all, is_some, IsConsidered, IsOn, last_due, leads_to, leb-true, List, min, min-eq_left, min-eq_right, min-le_left, min-le_right, Mode, moved, nat_eq, nat_le, None, Option, program_of, RanAgain, Reason, refl, Returns, reversed, Searches, slice_limit, Some, standing, steps_again, steps_to, Stop, stop_at, subst, suc, sym, true, zero, ℕ, ⊎_elim, ◌+◌, ◌-◌, ◌<◌, ◌∙◌, ◌∷◌, ◌≡◌, ◌≢◌, ◌≤◌}
 use Rattle.dbg_plan.specs.declared.mode.Mode.TheVariants as mode
-use Rattle.dbg_plan.specs.declared.mode.Reason.{Reason}
-use Rattle.dbg_plan.specs.Due.{due}
-use Rattle.dbg_plan.specs.Debugged.{Debugged, program_of, IsConsidered, due_now}
-use Rattle.dbg_plan.specs.Trail.{greatest, floor_of}
-use Rattle.dbg_plan.specs.Retreat.{Stop, last_due, stop_at, reversed, goal_of}
-use Rattle.dbg_runner.specs.declared.retreat.Way.TheVariants.{Searches, Returns}
-use Rattle.dbg_runner.specs.Rooms.{slice_limit}
-use Rattle.dbg_runner.specs.Plain.{goes_back}
-use Rattle.dbg_runner.specs.Hops.{moved, standing, gone_back}
-use Rattle.dbg_runner.specs.Retreating.{steps_to, steps_again}
-use Rattle.dbg_runner.specs.Courses.{IsOn, leads_to, in_all, RanAgain, arrival}
 
 -- ---- checkpoints
 

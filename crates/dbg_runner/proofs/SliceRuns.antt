@@ -1,22 +1,8 @@
 -- How a slice begins: with a run, or with no step.
-use Rattle.std.proofs.Common.{◌≡◌, ℕ, zero, suc, ◌+◌, ◌-◌, ◌≤◌, List, [], ◌∷◌, Option, Some, None, ap, sym, ◌∙◌, refl, subst, arith, ℤ}
-use Rattle.std.specs.Prelude.{option_and_then}
-use Rattle.pl0_meaning.specs.Runs.{written, written_from, last_position}
-use Rattle.dbg_plan.specs.declared.mode.Mode.{Mode}
+use Rattle.dbg_runner.proofs.Common.{[], Advance, Advanced, ap, arith, Closes, Debugged, Done, ending, ending_by, Fault, forward, IsConsidered, IsOfSlice, IsRoomOf, IsWritten, last_position, List, Log, Mode, None, Option, option_and_then, program_of, RanFrom, RanOn, refl, Room, runs, slice_limit, sliced, SliceOutcome, Some, StandsAtEnd, stays, subst, suc, sym, To, TookSteps, written, written_before, written_from, zero, ℕ, ℤ, ◌+◌, ◌-◌, ◌∙◌, ◌∷◌, ◌≡◌, ◌≤◌}
 use Rattle.dbg_plan.specs.declared.mode.Mode.TheVariants.{Continue}
-use Rattle.dbg_plan.specs.declared.debuggee.Advance.{Advance}
-use Rattle.dbg_plan.specs.declared.debuggee.Advance.TheVariants.{To, Done, Fault}
-use Rattle.dbg_plan.specs.Logs.{Log}
-use Rattle.dbg_plan.specs.Debugged.{Debugged, program_of, IsConsidered}
-use Rattle.dbg_plan.specs.Advances.{Advanced}
-use Rattle.dbg_plan.specs.Running.{forward, Closes, RanFrom}
 use Rattle.dbg_plan.proofs.Unwatched.{not_due, nothing_logged}
-use Rattle.dbg_runner.specs.declared.outcome.SliceOutcome.{SliceOutcome}
 use Rattle.dbg_runner.specs.declared.outcome.SliceOutcome.TheVariants as out
-use Rattle.dbg_runner.specs.Slices.{IsOfSlice, TookSteps}
-use Rattle.dbg_runner.specs.Rooms.{Room, IsRoomOf, slice_limit}
-use Rattle.dbg_runner.specs.Steps.{IsWritten, RanOn, runs, stays, ending_by, ending}
-use Rattle.dbg_runner.specs.ReportFields.{written_before, sliced, StandsAtEnd}
 use Rattle.dbg_runner.proofs.SliceSteps.{Underway, nothing_more, goes, ended}
 
 -- a step ends no slice as one that was held, or had no memory
@@ -27,9 +13,7 @@ by_logs_of_slice (log ∷ logs) outcome is = (λ held. cc, λ lacking. cc)
 pub is_of_slice : (a : Advance) (logged : List Log) (outcome : SliceOutcome) → ending a logged ≡ Some outcome
     → IsOfSlice outcome
 is_of_slice (To None) logged outcome is = by_logs_of_slice logged outcome is
-is_of_slice (To (Some reason)) logged outcome is = (λ held. cc, λ lacking. cc)
-is_of_slice Done logged outcome is = (λ held. cc, λ lacking. cc)
-is_of_slice (Fault fault) logged outcome is = (λ held. cc, λ lacking. cc)
+is_of_slice _ logged outcome is = (λ held. cc, λ lacking. cc)
 
 module _ (limit : ℕ) (mode : Mode) (old : Debugged) (room : Room) (continues : mode ≡ Continue)
     (le : limit ≤ last_position) (new : Debugged) (more : Room)

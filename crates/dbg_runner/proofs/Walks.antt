@@ -1,5 +1,5 @@
 -- Steps that the walks of `src/ghost_list` share. Assumes `Logic`.
-use Rattle.std.proofs.Common.{List, [], ◌∷◌, refl}
+use Rattle.dbg_runner.proofs.Common.{[], List, refl, ◌∷◌}
 use seplogic.Ra.Ura.{Ura}
 use mir.Val.{Val, vstruct, vcons, vnil}
 use types.Logic.{Logic}

@@ -1,5 +1,4 @@
-use Rattle.std.proofs.Common.{sym, subst}
-use Rattle.dbg_runner.specs.Steps.{RanOn, stays}
+use Rattle.dbg_runner.proofs.Common.{RanOn, stays, subst, sym}
 use Rattle.dbg_runner.proofs.SliceRuns.{ran_out, ran_there}
 use Rattle.dbg_runner.proofs.advance.run_on.Goals as goal
 

@@ -1,8 +1,4 @@
-use Rattle.std.proofs.Common.{◌+◌, ◌-◌, sym, ◌∙◌, ap, subst, arith}
-use Rattle.std.proofs.Math.Nat.{min-le_right}
-use Rattle.pl0_machine.specs.Machine.{Standing}
-use Rattle.dbg_plan.specs.Debugged.{Debugged, program_of}
-use Rattle.dbg_runner.specs.Lawful.{RunsAt}
+use Rattle.dbg_runner.proofs.Common.{ap, arith, Debugged, min-le_right, program_of, RunsAt, Standing, subst, sym, ◌+◌, ◌-◌, ◌∙◌}
 use Rattle.dbg_runner.proofs.Alive.{runs_before}
 use Rattle.dbg_runner.proofs.hops.go_on.Goals as goal
 

@@ -1,6 +1,4 @@
-use Rattle.std.proofs.Common.{◌≡◌, ◌-◌, ◌≤◌}
-use Rattle.dbg_plan.specs.Debugged.{IsConsidered}
-use Rattle.dbg_runner.specs.Hops.{standing}
+use Rattle.dbg_runner.proofs.Common.{IsConsidered, standing, ◌-◌, ◌≡◌, ◌≤◌}
 use Rattle.dbg_runner.proofs.hops.go_on.Given as goal
 
 abbrev pub invariant-loop-debuggee : goal.invariant-loop-debuggee

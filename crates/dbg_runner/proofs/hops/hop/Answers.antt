@@ -1,8 +1,5 @@
-use Rattle.std.proofs.Common.{Some, subst}
-use Rattle.dbg_plan.specs.Running.{RanFrom}
-use Rattle.dbg_plan.specs.declared.debuggee.Advance.{Advance}
+use Rattle.dbg_runner.proofs.Common.{Advance, program_of, RanFrom, Some, subst}
 use Rattle.dbg_runner.proofs.Hopping.{hops_to_limit, hops, never_over, never_faults}
-use Rattle.dbg_plan.specs.Debugged.{program_of}
 use Rattle.dbg_runner.proofs.Alive.{runs_bounded}
 use Rattle.dbg_runner.proofs.hops.hop.Goals as goal
 

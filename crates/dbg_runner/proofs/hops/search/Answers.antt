@@ -1,6 +1,4 @@
-use Rattle.std.proofs.Common.{false, ◌∙◌, ap, subst}
-use Rattle.dbg_plan.specs.Debugged.{Debugged}
-use Rattle.dbg_runner.specs.Hops.{standing, Hopped}
+use Rattle.dbg_runner.proofs.Common.{ap, Debugged, false, Hopped, standing, subst, ◌∙◌}
 use Rattle.dbg_runner.proofs.Hopping.{finds}
 use Rattle.dbg_runner.proofs.hops.search.Goals as goal
 

@@ -1,7 +1,4 @@
-use Rattle.std.proofs.Common.{◌≡◌, ◌+◌, ◌-◌, ◌≤◌}
-use Rattle.dbg_plan.specs.Debugged.{program_of, IsConsidered}
-use Rattle.dbg_plan.specs.Retreat.{last_due}
-use Rattle.dbg_runner.specs.Hops.{standing}
+use Rattle.dbg_runner.proofs.Common.{IsConsidered, last_due, program_of, standing, ◌+◌, ◌-◌, ◌≡◌, ◌≤◌}
 use Rattle.dbg_runner.proofs.hops.search.Given as goal
 
 abbrev pub invariant-loop-debuggee : goal.invariant-loop-debuggee

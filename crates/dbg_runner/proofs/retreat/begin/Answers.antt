@@ -1,12 +1,6 @@
-use Rattle.std.proofs.Common.{◌≡◌, ℕ, ◌-◌, Bool, true, false, if◌then◌else◌, Option, Some, None, refl, ap, sym, ◌∙◌, subst, arith}
+use Rattle.dbg_runner.proofs.Common.{ap, arith, Bool, false, goal_of, if◌then◌else◌, IsCounted, Mode, None, Option, program_of, refl, Returns, reversed, Some, Standing, Stop, subst, sym, true, ℕ, ◌-◌, ◌∙◌, ◌≡◌}
 use Rattle.std.specs.Bool.{then_some}
-use Rattle.pl0_machine.specs.Machine.{Standing}
 use Rattle.dbg_plan.specs.declared.mode.Reason.TheVariants as reason
-use Rattle.dbg_plan.specs.Debugged.{program_of}
-use Rattle.dbg_plan.specs.Retreat.{Stop, reversed, goal_of}
-use Rattle.dbg_plan.specs.declared.mode.Mode.{Mode}
-use Rattle.dbg_runner.specs.declared.retreat.Way.TheVariants.{Returns}
-use Rattle.dbg_runner.specs.Courses.{IsCounted}
 use Rattle.dbg_runner.proofs.Returning.{on_return, on_search, search_leads, reverses, runs_through, from_checkpoint}
 use Rattle.dbg_runner.proofs.retreat.begin.Goals as goal
 

@@ -1,7 +1,5 @@
-use Rattle.std.proofs.Common.{subst}
-use Rattle.dbg_plan.specs.Debugged.{program_of}
+use Rattle.dbg_runner.proofs.Common.{IsOn, program_of, subst}
 use Rattle.dbg_runner.specs.declared.retreat.Way.{Way}
-use Rattle.dbg_runner.specs.Courses.{IsOn}
 use Rattle.dbg_runner.proofs.Alive.{runs_before}
 use Rattle.dbg_runner.proofs.retreat.run_again.Goals as goal
 

@@ -1,9 +1,4 @@
-use Rattle.std.proofs.Common.{◌+◌, ◌-◌, sym, ◌∙◌, ap, subst, arith}
-use Rattle.std.proofs.Math.Nat.{min-le_left}
-use Rattle.dbg_plan.specs.Debugged.{Debugged, program_of}
-use Rattle.dbg_runner.specs.Lawful.{RunsAt}
-use Rattle.dbg_runner.specs.Rooms.{slice_limit}
-use Rattle.dbg_runner.specs.Hops.{gone_back}
+use Rattle.dbg_runner.proofs.Common.{ap, arith, Debugged, gone_back, min-le_left, program_of, RunsAt, slice_limit, subst, sym, ◌+◌, ◌-◌, ◌∙◌}
 use Rattle.dbg_runner.proofs.Alive.{runs_before}
 use Rattle.dbg_runner.proofs.Returning.{floor_below, within_turn, turns}
 use Rattle.dbg_runner.proofs.retreat.search_on.Goals as goal

@@ -1,5 +1,4 @@
-use Rattle.std.proofs.Common.{sym, subst}
-use Rattle.dbg_runner.specs.Slices.{TookSteps}
+use Rattle.dbg_runner.proofs.Common.{subst, sym, TookSteps}
 use Rattle.dbg_runner.proofs.slicing.take_slice.Goals as goal
 
 pub returns-in-Continue : goal.returns-in-Continue

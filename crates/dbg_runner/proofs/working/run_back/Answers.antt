@@ -1,5 +1,4 @@
-use Rattle.std.proofs.Common.{◌+◌, ◌∙◌}
-use Rattle.dbg_runner.specs.Runner.{Slicing, Looking}
+use Rattle.dbg_runner.proofs.Common.{Looking, Slicing, ◌+◌}
 use Rattle.dbg_runner.proofs.Turning.{one, then, back_of, gate_back, sends_on_back, sends_last_back, is_lost_back}
 use Rattle.dbg_runner.proofs.working.run_back.Goals as goal
 

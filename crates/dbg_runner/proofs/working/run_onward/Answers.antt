@@ -1,7 +1,4 @@
-use Rattle.std.proofs.Common.{◌+◌, ◌∙◌, arith, ap, sym, subst, Some, None, option_map, box_value}
-use Rattle.dbg_plan.specs.Debugged.{Debugged}
-use Rattle.dbg_runner.specs.Slices.{IsNextOf}
-use Rattle.dbg_runner.specs.Runner.{Slicing, Looking}
+use Rattle.dbg_runner.proofs.Common.{ap, arith, box_value, Debugged, IsNextOf, Looking, option_map, Slicing, subst, sym, ◌+◌, ◌∙◌}
 use Rattle.dbg_runner.proofs.Turning.{one, then, run_of, gate, sends_on, sends_last, is_lost, took_some}
 use Rattle.dbg_runner.proofs.working.run_onward.Goals as goal
 

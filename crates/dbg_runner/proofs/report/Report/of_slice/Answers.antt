@@ -1,4 +1,4 @@
-use Rattle.dbg_runner.specs.ReportFields.{sliced}
+use Rattle.dbg_runner.proofs.Common.{sliced}
 use Rattle.dbg_runner.proofs.Keeping.{goes_on_considered}
 use Rattle.dbg_runner.proofs.report.Report.of_slice.Goals as goal
 use Rattle.dbg_runner.proofs.report.Report.of_slice.Goals.{in-More, in-Done, in-Due}

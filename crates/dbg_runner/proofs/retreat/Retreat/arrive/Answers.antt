@@ -1,9 +1,6 @@
-use Rattle.std.proofs.Common.{◌≡◌, ◌∙◌, Some, ap, sym, subst}
-use Rattle.pl0_machine.specs.Machine.{Standing, program_of}
-use Rattle.dbg_plan.specs.Debugged.{Debugged}
+use Rattle.dbg_runner.proofs.Common.{ap, Debugged, goal_of, IsRoomFor, Retreating, Some, Standing, subst, summary_back, sym, ◌∙◌, ◌≡◌}
+use Rattle.pl0_machine.specs.Machine.{program_of}
 use Rattle.dbg_runner.specs.declared.outcome.SliceOutcome.TheVariants as out
-use Rattle.dbg_plan.specs.Retreat.{goal_of}
-use Rattle.dbg_runner.specs.Retreating.{Retreating, IsRoomFor, summary_back}
 use Rattle.dbg_runner.proofs.Retreats.{arrives, room_is}
 use Rattle.dbg_runner.proofs.retreat.Retreat.arrive.Goals as goal
 

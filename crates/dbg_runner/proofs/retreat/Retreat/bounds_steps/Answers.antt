@@ -1,5 +1,4 @@
-use Rattle.std.proofs.Common.{ap, arith}
-use Rattle.dbg_runner.specs.Retreating.{Retreating}
+use Rattle.dbg_runner.proofs.Common.{ap, arith, Retreating}
 use Rattle.dbg_runner.proofs.Retreats.{few}
 use Rattle.dbg_runner.proofs.retreat.Retreat.bounds_steps.Goals as goal
 

@@ -1,9 +1,7 @@
-use Rattle.std.proofs.Common.{◌∙◌, ap, sym, refl, subst}
+use Rattle.dbg_runner.proofs.Common.{ap, IsReportWith, refl, Retreating, subst, summary_back, sym, ◌∙◌}
 use Rattle.dbg_runner.specs.declared.report.Summary.{Summary}
 use Rattle.dbg_runner.specs.declared.report.Cargo.TheVariants.{Unsliced}
 use Rattle.dbg_runner.specs.declared.outcome.SliceOutcome.TheVariants as out
-use Rattle.dbg_runner.specs.ReportFields.{IsReportWith}
-use Rattle.dbg_runner.specs.Retreating.{Retreating, summary_back}
 use Rattle.dbg_runner.proofs.Retreats.{gives_up}
 use Rattle.dbg_runner.proofs.retreat.Retreat.give_up.Goals as goal
 

@@ -1,7 +1,5 @@
-use Rattle.std.proofs.Common.{◌≡◌, ◌∙◌, [], ap, sym, refl, arith}
+use Rattle.dbg_runner.proofs.Common.{[], ap, arith, refl, Retreating, Room, summary_back, sym, ◌∙◌}
 use Rattle.dbg_runner.specs.declared.outcome.SliceOutcome.TheVariants as out
-use Rattle.dbg_runner.specs.Rooms.{Room}
-use Rattle.dbg_runner.specs.Retreating.{Retreating, summary_back}
 use Rattle.dbg_runner.proofs.Retreats.{goes_on, room_is}
 use Rattle.dbg_runner.proofs.retreat.Retreat.slice.Goals as goal
 
