@@ -1,22 +1,19 @@
 -- What was written of some bytes so far.
-use Rattle.std.proofs.Common.{◌≡◌, ◌<◌, ◌+◌, ℕ, List, [], ◌∷◌, ◌++◌, Option, refl, sym, ◌∙◌, ap, subst, append_assoc, append-nil, take, drop, length, get_or, add-one}
+use Rattle.std.proofs.Common.{◌≡◌, ◌<◌, ◌+◌, ℕ, List, [], ◌∷◌, ◌++◌, Option, sym, ◌∙◌, ap, subst, append_assoc, append-nil, take, drop, length, get_or, add-one}
 use Rattle.std.specs.Prelude.{map}
 use Rattle.std.specs.List.{concat}
-use Rattle.std.specs.Io.KnownBytes.{Keeps, Appends}
+use Rattle.std.specs.Io.KnownBytes.{Appends}
 use Rattle.std.proofs.Math.Seq.{take-suc}
 use Rattle.std.proofs.lemmas.List.{take-append-drop, map-append}
 use Rattle.std.proofs.lemmas.List.Folds.{concat-append}
 use Rattle.byte_streams.specs.Streams.{AppendsPart}
-use Rattle.std.proofs.KnownBytes.{Appends-nil as appends_none, Appends-trans as appends_both, Appends-kept as appends_keep}
+use Rattle.std.proofs.KnownBytes.{Appends-trans as appends_both}
 
 -- the front of these bytes was written, and this rest is left
 pub record Partly (whole rest : List ℕ) (old later : Option (List ℕ)) : Type 0 where
   pub front : List ℕ
   pub whole_is : whole ≡ front ++ rest
   pub written : Appends old later front
-
-pub partly_begins : (whole : List ℕ) (old : Option (List ℕ)) → Partly whole whole old old
-partly_begins whole old = record { front = []; whole_is = refl; written = appends_none old }
 
 pub partly_goes_on : (whole rest shorter : List ℕ) (old mid later : Option (List ℕ)) (n : ℕ) → Partly whole rest old mid
     → Appends mid later (take n rest) → shorter ≡ drop n rest → Partly whole shorter old later
@@ -27,20 +24,6 @@ partly_goes_on whole rest shorter old mid later n p wrote shorter_is = record {
       ∙ sym (append_assoc p.front (take n rest) shorter));
   written = appends_both old mid later p.front (take n rest) p.written wrote;
 }
-
-pub partly_keeps : (whole rest : List ℕ) (old mid later : Option (List ℕ)) → Partly whole rest old mid → Keeps mid later
-    → Partly whole rest old later
-partly_keeps whole rest old mid later p keeps =
-    record { front = p.front; whole_is = p.whole_is; written = appends_keep old mid later p.front p.written keeps }
-
-pub partly_stops : (whole rest : List ℕ) (old later : Option (List ℕ)) → Partly whole rest old later
-    → AppendsPart old later whole
-partly_stops whole rest old later p = (p.front, p.written, (rest, sym p.whole_is))
-
-pub partly_ends : (whole rest : List ℕ) (old later : Option (List ℕ)) → Partly whole rest old later → rest ≡ []
-    → Appends old later whole
-partly_ends whole rest old later p none =
-    subst (Appends old later) (sym (p.whole_is ∙ (ap (λ l. p.front ++ l) none ∙ append-nil p.front))) p.written
 
 -- one frame more after those before
 pub part_of_more : (old mid later : Option (List ℕ)) (before bytes behind : List ℕ) → Appends old mid before

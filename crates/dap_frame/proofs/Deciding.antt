@@ -1,15 +1,5 @@
 -- Each rest is one of the three: a frame, a fault, or neither yet.
-use Rattle.std.proofs.Common.{◌≡◌, ◌≢◌, ◌⊎◌, inl, inr, zero, suc, ◌+◌, ◌<◌, ◌≤◌, ℕ, Bool, true, false, List, [], ◌∷◌, ◌++◌, length, take, drop, refl, sym, ◌∙◌, ap, subst, arith, append_assoc, append-nil, length-append, length-take, take-append-drop}
-use Rattle.std.specs.Prelude.{decimal}
-use Rattle.std.specs.List.{list_all}
-use Rattle.std.specs.Str.Parse.{digits_value}
-use Rattle.std.proofs.lemmas.Bool.{cases_eq, cases_lt, false≢true}
-use Rattle.std.proofs.lemmas.List.{length-take-le, take_all}
-use Rattle.std.proofs.lemmas.Fmt.{decimal_is_IsNumeral}
-use Rattle.dap_frame.specs.declared.fault.FramingFault.{FramingFault}
-use Rattle.dap_frame.specs.declared.fault.FramingFault.TheVariants.{HeaderTooLong, BadField, NoLength, TwoLengths, BadLength, TooLarge}
-use Rattle.dap_frame.specs.Header.{Field, IsField, is_name_byte, is_value_byte, line_end, field_text, line_of, lines_of, is_length, length_values, IsLength, content_limit, header_limit, IsHeader, AreFaultless, HasNoLineEnd, LineFault}
-use Rattle.dap_frame.specs.Frame.{IsOpen}
+use Rattle.dap_frame.proofs.Common.{[], ap, append-nil, append_assoc, AreFaultless, arith, BadField, BadLength, cases_Bool, cases_eq, cases_lt, content_limit, decimal, decimal_is_IsNumeral, digits_value, drop, false, false≢true, Field, field_text, FramingFault, HasNoLineEnd, header_limit, HeaderTooLong, inl, inr, is_length, is_name_byte, is_value_byte, IsField, IsHeader, IsLength, IsOpen, length, length-append, length-take, length-take-le, length_values, line_end, line_of, LineFault, lines_of, List, list_all, NoLength, refl, subst, suc, sym, take, take-append-drop, take_all, TooLarge, true, TwoLengths, zero, ℕ, ◌++◌, ◌+◌, ◌<◌, ◌∙◌, ◌∷◌, ◌≡◌, ◌≢◌, ◌≤◌, ◌⊎◌}
 use Rattle.dap_frame.specs.Laws.{IsOneOfThree}
 use Rattle.dap_frame.proofs.Lines.{HasNo, name_no_colon, same_name, empty_one_line}
 use Rattle.dap_frame.proofs.Faults.{fault_from_line, length_values_at, length_values-append}
@@ -92,10 +82,6 @@ has_none_inside : (x : ℕ) (ys zs : List ℕ) → HasNo x (ys ++ (x ∷ zs)) �
 has_none_inside x [] zs h = h.0 refl
 has_none_inside x (y ∷ ys) zs h = has_none_inside x ys zs h.1
 
-cases_bool : (b : Bool) → (b ≡ true) ⊎ (b ≡ false)
-cases_bool true = inl refl
-cases_bool false = inr refl
-
 -- a line is a field, or none
 abbrev IsFieldOrNot : List ℕ → Type 0
 IsFieldOrNot line = ((f : Field) × IsField f × (line ≡ field_text f)) ⊎ ((f : Field) → IsField f → line ≢ field_text f)
@@ -108,9 +94,9 @@ parts_field line (x ∷ xs) value e none =
     let same =
     λ (f : Field) (is : IsField f) (so : line ≡ field_text f). same_name (x ∷ xs) f.name (32 ∷ value) (32 ∷ f.value)
     none (name_no_colon f is) (sym e ∙ so) in
-    elim (cases_bool (list_all is_name_byte (x ∷ xs))) [
+    elim (cases_Bool (list_all is_name_byte (x ∷ xs))) [
       | inr bad ↦ inr (λ f is so. false≢true (sym bad ∙ ap (list_all is_name_byte) (same f is so).0 ∙ is.name))
-      | inl name ↦ elim (cases_bool (list_all is_value_byte value)) [
+      | inl name ↦ elim (cases_Bool (list_all is_value_byte value)) [
         | inr bad ↦ inr (λ f is so. let t = (same f is so).1 in let v : value ≡ f.value = cc in false≢true
             (sym bad ∙ ap (list_all is_value_byte) v ∙ is.value))
         | inl shown ↦ inl (
@@ -217,7 +203,7 @@ judge : (fields : List Field) (line : List ℕ) → AreFaultless fields → IsJu
 judge fields [] ok = elim ok.lengths [ inl none ↦ inl (NoLength, (refl, none)) | inr one ↦ inr (inl (refl, one)) ]
 judge fields (x ∷ xs) ok = elim (field_or_not (x ∷ xs)) [
   | inr none ↦ inl (BadField, ((λ e. cc), none))
-  | inl found ↦ elim (cases_bool (is_length found.0)) [
+  | inl found ↦ elim (cases_Bool (is_length found.0)) [
     | inl named ↦ judge_length fields (x ∷ xs) found.0 ok found.1 found.2 named
     | inr other ↦ judge_other fields (x ∷ xs) found.0 ok found.1 found.2 other
   ]

@@ -1,9 +1,6 @@
 -- Where lines end, by places.
-use Rattle.std.proofs.Common.{◌≡◌, ◌≢◌, inl, inr, ◌+◌, ◌-◌, ◌<◌, ◌≤◌, ℕ, List, length, drop, get_or, sym, ◌∙◌, ap, subst, arith, length-drop}
-use Rattle.std.proofs.lemmas.List.{get_or-drop}
-use Rattle.std.proofs.lemmas.Bool.{eqb-true, cases_lt}
+use Rattle.dap_frame.proofs.Common.{ap, arith, cases_lt, drop, EndsAt, eqb-true, get_or, get_or-drop, HasNoEnd, inl, inr, length, length-drop, List, subst, sym, ℕ, ◌+◌, ◌-◌, ◌<◌, ◌∙◌, ◌≡◌, ◌≢◌, ◌≤◌}
 use Rattle.memchr.specs.Find.{Nowhere, Passes, is_byte}
-use Rattle.dap_frame.specs.Progress.{EndsAt, HasNoEnd}
 
 at_offset : (bytes : List ℕ) (i k : ℕ) → i ≤ k → get_or (drop i bytes) (k - i) 0 ≡ get_or bytes k 0
 at_offset bytes i k h =

@@ -1,14 +1,7 @@
 -- Where a fault stands: after faultless fields, in a line that is none of them.
-use Rattle.std.proofs.Common.{◌≡◌, ◌⊎◌, inl, inr, ◌+◌, ◌≤◌, ℕ, Bool, true, List, [], ◌∷◌, ◌++◌, length, take, refl, sym, ◌∙◌, ap, subst, arith, append_assoc, append-nil, length-append}
-use Rattle.std.specs.Prelude.{decimal, ◌-◌, map, filter}
-use Rattle.std.specs.List.{AllByRecursion}
+use Rattle.dap_frame.proofs.Common.{[], AllByRecursion, ap, append-nil, append_assoc, AreFaultless, arith, BadField, BadLength, Bool, content_limit, decimal, decimal_injective, FaultAt, Field, field_text, filter, FramingFault, HasFaultyLine, HasNoLineEnd, header_limit, HeaderTooLong, inl, inr, is_length, IsField, IsTooLong, length, length-append, length_values, line_end, line_of, LineFault, lines_of, List, map, map-append, NoLength, NoMemory, refl, subst, sym, take, TooLarge, true, TwoLengths, ℕ, ◌++◌, ◌+◌, ◌-◌, ◌∙◌, ◌∷◌, ◌≡◌, ◌≤◌, ◌⊎◌}
 use Rattle.std.proofs.Math.Seq.{take-append-add}
-use Rattle.std.proofs.lemmas.List.{map-append}
 use Rattle.std.proofs.lemmas.List.Elements.{filter-append}
-use Rattle.std.proofs.lemmas.Fmt.{decimal_injective}
-use Rattle.dap_frame.specs.declared.fault.FramingFault.{FramingFault}
-use Rattle.dap_frame.specs.declared.fault.FramingFault.TheVariants.{HeaderTooLong, BadField, NoLength, TwoLengths, BadLength, TooLarge, NoMemory}
-use Rattle.dap_frame.specs.Header.{Field, IsField, line_end, field_text, line_of, lines_of, is_length, length_values, content_limit, header_limit, AreFaultless, HasNoLineEnd, LineFault, HasFaultyLine, IsTooLong, FaultAt}
 use Rattle.dap_frame.proofs.Lines.{same_line, same_field, field_one_line, text_not_empty}
 use Rattle.dap_frame.proofs.Located.{line_then, located, none_inside, is_field_at}
 
@@ -48,7 +41,6 @@ length_field gs more f ok e = elim ok.lengths [
 -- a line that is one of faultless fields has no fault
 pub no_line_fault : (gs more : List Field) (f : Field) (k : FramingFault) → AreFaultless (gs ++ f ∷ more)
     → LineFault gs (field_text f) k → ⊥
-no_line_fault gs more f HeaderTooLong ok bad = bad
 no_line_fault gs more f BadField ok bad = bad.1 f (is_field_at gs more f ok.shaped) refl
 no_line_fault gs more f NoLength ok bad = text_not_empty f (is_field_at gs more f ok.shaped) (sym bad.0)
 no_line_fault gs more f TwoLengths ok (g, is, same, e, some) =
@@ -66,46 +58,41 @@ no_line_fault gs more f TooLarge ok (g, is, same, e, none, (n, long, large)) =
     decimal_injective n found.1.0 (omega (arith, w)) (omega (arith, h))
     (sym long.0 ∙ sym (ap (λ h. h.value) one) ∙ found.1.2) in
     omega (arith, number, h, large)
-no_line_fault gs more f NoMemory ok bad = bad
+no_line_fault gs more f _ ok bad = bad
 
 -- the empty line after fields that name a length has no fault
 pub no_end_fault : (fields : List Field) (d : List ℕ) (k : FramingFault) → length_values fields ≡ d ∷ []
     → LineFault fields [] k → ⊥
-no_end_fault fields d HeaderTooLong once bad = bad
 no_end_fault fields d BadField once bad = bad.0 refl
 no_end_fault fields d NoLength once bad = let none = bad.1 in absurd cc
 no_end_fault fields d TwoLengths once (g, is, same, e, some) = text_not_empty g is same
 no_end_fault fields d BadLength once (g, is, same, e, none, never) = text_not_empty g is same
 no_end_fault fields d TooLarge once (g, is, same, e, none, never) = text_not_empty g is same
-no_end_fault fields d NoMemory once bad = bad
+no_end_fault fields d _ once bad = bad
 
 -- a line after the same fields has one fault
 pub one_line_fault : (fields : List Field) (line : List ℕ) (j k : FramingFault) → LineFault fields line j
     → LineFault fields line k → j ≡ k
 one_line_fault fields line HeaderTooLong k h b = absurd h
 one_line_fault fields line NoMemory k h b = absurd h
-one_line_fault fields line BadField HeaderTooLong h b = absurd b
 one_line_fault fields line BadField NoMemory h b = absurd b
 one_line_fault fields line BadField BadField h b = refl
 one_line_fault fields line BadField NoLength h b = absurd (h.0 b.0)
 one_line_fault fields line BadField TwoLengths h b = absurd (h.1 b.0 b.1 b.2)
 one_line_fault fields line BadField BadLength h b = absurd (h.1 b.0 b.1 b.2)
 one_line_fault fields line BadField TooLarge h b = absurd (h.1 b.0 b.1 b.2)
-one_line_fault fields line NoLength HeaderTooLong h b = absurd b
 one_line_fault fields line NoLength NoMemory h b = absurd b
 one_line_fault fields line NoLength BadField h b = absurd (b.0 h.0)
 one_line_fault fields line NoLength NoLength h b = refl
 one_line_fault fields line NoLength TwoLengths h b = absurd (text_not_empty b.0 b.1 (sym h.0 ∙ b.2))
 one_line_fault fields line NoLength BadLength h b = absurd (text_not_empty b.0 b.1 (sym h.0 ∙ b.2))
 one_line_fault fields line NoLength TooLarge h b = absurd (text_not_empty b.0 b.1 (sym h.0 ∙ b.2))
-one_line_fault fields line TwoLengths HeaderTooLong h b = absurd b
 one_line_fault fields line TwoLengths NoMemory h b = absurd b
 one_line_fault fields line TwoLengths BadField h b = absurd (b.1 h.0 h.1 h.2)
 one_line_fault fields line TwoLengths NoLength h b = absurd (text_not_empty h.0 h.1 (sym b.0 ∙ h.2))
 one_line_fault fields line TwoLengths TwoLengths h b = refl
 one_line_fault fields line TwoLengths BadLength h b = absurd (h.4 b.4)
 one_line_fault fields line TwoLengths TooLarge h b = absurd (h.4 b.4)
-one_line_fault fields line BadLength HeaderTooLong h b = absurd b
 one_line_fault fields line BadLength NoMemory h b = absurd b
 one_line_fault fields line BadLength BadField h b = absurd (b.1 h.0 h.1 h.2)
 one_line_fault fields line BadLength NoLength h b = absurd (text_not_empty h.0 h.1 (sym b.0 ∙ h.2))
@@ -114,7 +101,6 @@ one_line_fault fields line BadLength BadLength h b = refl
 one_line_fault fields line BadLength TooLarge h b =
     let same : b.0 ≡ h.0 = same_field b.0 h.0 b.1 h.1 (sym b.2 ∙ h.2) in
     absurd (h.5 b.5.0 (sym (ap (λ f. f.value) same) ∙ b.5.1.0, b.5.1.1))
-one_line_fault fields line TooLarge HeaderTooLong h b = absurd b
 one_line_fault fields line TooLarge NoMemory h b = absurd b
 one_line_fault fields line TooLarge BadField h b = absurd (b.1 h.0 h.1 h.2)
 one_line_fault fields line TooLarge NoLength h b = absurd (text_not_empty h.0 h.1 (sym b.0 ∙ h.2))
@@ -123,6 +109,7 @@ one_line_fault fields line TooLarge BadLength h b =
     let same : h.0 ≡ b.0 = same_field h.0 b.0 h.1 b.1 (sym h.2 ∙ b.2) in
     absurd (b.5 h.5.0 (sym (ap (λ f. f.value) same) ∙ h.5.1.0, h.5.1.1))
 one_line_fault fields line TooLarge TooLarge h b = refl
+one_line_fault fields line _ HeaderTooLong h b = absurd b
 
 -- ---- faults of a header part
 

@@ -1,10 +1,7 @@
 -- A field's line is cut at its first colon.
-use Rattle.std.proofs.Common.{◌≡◌, ◌≢◌, inl, inr, zero, suc, ◌<◌, ℕ, false, List, [], ◌∷◌, length, take, drop, get_or, refl, sym, ◌∙◌, ap, subst, arith, length-append}
-use Rattle.std.proofs.lemmas.List.{get_or_at, get_or_append_left, take_at, drop_at}
-use Rattle.std.proofs.lemmas.Bool.{eqb-true, cases_lt}
+use Rattle.dap_frame.proofs.Common.{[], ap, arith, cases_lt, drop, drop_at, eqb-true, false, Field, field_text, get_or, get_or_append_left, get_or_at, inl, inr, IsField, length, length-append, List, refl, subst, suc, sym, take, take_at, zero, ℕ, ◌<◌, ◌∙◌, ◌∷◌, ◌≡◌, ◌≢◌}
 use Rattle.std.specs.Str.{bytes_eq}
 use Rattle.memchr.specs.Find.{Nowhere, NoneBefore, Passes, is_byte}
-use Rattle.dap_frame.specs.Header.{Field, IsField, field_text}
 use Rattle.dap_frame.proofs.Lines.{HasNo, name_no_colon}
 
 has_no_at : (x : ℕ) (ys : List ℕ) (i : ℕ) → HasNo x ys → i < length ys → get_or ys i 0 ≢ x

@@ -1,16 +1,8 @@
 -- At most one header part and one frame stand at the front of some bytes, and where a frame stands no fault does.
-use Rattle.std.proofs.Common.{◌≡◌, inl, inr, ◌+◌, ◌<◌, ◌≤◌, ℕ, List, [], ◌∷◌, ◌++◌, length, take, drop, refl, sym, ◌∙◌, ap, subst, arith, append_assoc, append-nil, length-append, length-drop, take-append-drop}
-use Rattle.std.proofs.lemmas.List.{length-take-le, drop-drop}
-use Rattle.std.specs.Prelude.{decimal, codes, ◌-◌, true}
-use Rattle.std.specs.List.{AllByRecursion, list_all}
+use Rattle.dap_frame.proofs.Common.{[], AllByRecursion, AllDigits, ap, append-nil, append_assoc, AreFaultless, arith, codes, content_limit, decimal, decimal_injective, decimal_is_IsNumeral, drop, drop-drop, FaultAt, Field, field_text, frame_of, Frames, FramingFault, HasFaultyLine, HasNoLineEnd, header_limit, inl, inr, is_value_byte, IsField, IsFrameInFront, IsHeader, IsOpen, IsTooLong, length, length-append, length-decimal-le, length-drop, length-take-le, length_values, line_end, line_of, LineFault, lines_of, List, list_all, refl, subst, sym, take, take-append-drop, true, ℕ, ◌++◌, ◌+◌, ◌-◌, ◌<◌, ◌∙◌, ◌∷◌, ◌≡◌, ◌≤◌}
 use Rattle.std.specs.Int.{IsInRange}
-use Rattle.std.specs.Str.Parse.{AllDigits}
 use Rattle.std.proofs.lemmas.Str.Parse.{digit_from_value}
 use Rattle.std.proofs.lemmas.Bool.Decides.{nat_tests}
-use Rattle.std.proofs.lemmas.Fmt.{decimal_injective, decimal_is_IsNumeral, length-decimal-le}
-use Rattle.dap_frame.specs.declared.fault.FramingFault.{FramingFault}
-use Rattle.dap_frame.specs.Header.{Field, IsField, is_value_byte, line_end, field_text, line_of, lines_of, length_values, header_limit, content_limit, IsHeader, AreFaultless, HasNoLineEnd, LineFault, HasFaultyLine, IsTooLong, FaultAt}
-use Rattle.dap_frame.specs.Frame.{IsFrameInFront, IsOpen, Frames, frame_of}
 use Rattle.dap_frame.proofs.Lines.{same_line, field_one_line, empty_one_line, text_not_empty}
 use Rattle.dap_frame.proofs.Located.{line_then, located, none_inside, is_field_at, same_fields}
 use Rattle.dap_frame.proofs.Faults.{no_line_fault, no_end_fault, no_faulty_line, take_after, fault_cases}

@@ -1,9 +1,6 @@
 -- Which length the judged lines give, with one line more.
-use Rattle.std.proofs.Common.{◌≡◌, ℕ, Bool, true, false, List, [], ◌∷◌, ◌++◌, Option, Some, None, refl, ◌∙◌, ap, subst, append-nil}
-use Rattle.std.specs.Prelude.{not, codes}
+use Rattle.dap_frame.proofs.Common.{[], ap, append-nil, Bool, codes, false, Field, is_length, length_values, List, Names, None, not, Option, refl, Some, subst, true, ℕ, ◌++◌, ◌∙◌, ◌∷◌, ◌≡◌}
 use Rattle.std.specs.Str.{bytes_eq}
-use Rattle.dap_frame.specs.Header.{Field, is_length, length_values}
-use Rattle.dap_frame.specs.Progress.{Names}
 use Rattle.dap_frame.proofs.Faults.{length_values-append}
 
 false_from_not : (b : Bool) → true ≡ not b → b ≡ false

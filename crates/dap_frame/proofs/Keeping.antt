@@ -1,7 +1,5 @@
 -- How many bytes are kept when the next piece comes.
-use Rattle.std.proofs.Common.{◌≡◌, inl, inr, ℕ, ◌+◌, ◌-◌, ◌<◌, ◌≤◌, refl, sym, arith}
-use Rattle.std.proofs.lemmas.Bool.{cases_lt, cond_above, cond_below}
-use Rattle.dap_frame.specs.Progress.{kept_of}
+use Rattle.dap_frame.proofs.Common.{arith, cases_lt, cond_above, cond_below, inl, inr, kept_of, refl, sym, ℕ, ◌+◌, ◌-◌, ◌<◌, ◌≡◌, ◌≤◌}
 
 -- all of them, where no more are of frames already read than are of the rest
 pub kept_whole : (front len : ℕ) → front ≤ len - front → kept_of front len ≡ len

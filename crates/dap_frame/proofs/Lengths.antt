@@ -1,14 +1,10 @@
 -- A length as it is written: 1 to 7 digits, without a leading zero unless it is `0`.
-use Rattle.std.proofs.Common.{◌≡◌, inl, inr, ◌+◌, ◌*◌, ◌-◌, ◌<◌, ◌≤◌, ◌^◌, ℕ, List, length, take, get_or, sym, ◌∙◌, ap, subst, arith, eq-zero-or-pos}
-use Rattle.std.specs.Prelude.{decimal}
+use Rattle.dap_frame.proofs.Common.{AllDigits, ap, arith, decimal, decimal-digits_value, decimal_digit, decimal_is_IsNumeral, decimal_nonempty, digits_value, eq-zero-or-pos, first_decimal, get_or, inl, inr, IsLength, length, length-decimal-le, List, subst, sym, take, ℕ, ◌*◌, ◌+◌, ◌-◌, ◌<◌, ◌^◌, ◌∙◌, ◌≡◌, ◌≤◌}
 use Rattle.std.specs.Int.{IsInRange}
 use Rattle.std.specs.Char.{digit_value}
-use Rattle.std.specs.Str.Parse.{AllDigits, digits_value}
-use Rattle.std.proofs.lemmas.Fmt.{decimal_digit, decimal_is_IsNumeral, decimal_nonempty, decimal-digits_value, first_decimal, length-decimal-le}
 use Rattle.std.proofs.lemmas.Int.Digits.{digits_value_more}
 use Rattle.std.proofs.lemmas.Str.{digit_value_digit}
 use Rattle.std.proofs.lemmas.Str.Parse.{IsNumeralModel, digit_at, digits_value_short, numerals_by_value, tells_digits}
-use Rattle.dap_frame.specs.Header.{IsLength}
 
 digits_model : IsNumeralModel (AllDigits 10) (digits_value 10)
 digits_model = numerals_by_value (AllDigits 10) tells_digits

@@ -1,3 +1,5 @@
+-- What several of the other files import, from one place.
+pub mod Common
 -- Bytes are cut into lines, and lines into fields, in one way only; for the functions of `decoder`, `field`, `header`
 -- and others.
 pub mod Lines

@@ -1,8 +1,5 @@
 -- Bytes cut into lines, and lines into fields: there is one way only.
-use Rattle.std.proofs.Common.{◌≡◌, ◌≢◌, ◌&&◌, ℕ, Bool, true, false, List, [], ◌∷◌, ◌++◌, length, refl, sym, ◌∙◌, ap, subst, arith, length-append}
-use Rattle.std.specs.List.{list_all}
-use Rattle.std.proofs.lemmas.Bool.{and_parts}
-use Rattle.dap_frame.specs.Header.{Field, IsField, line_end, is_name_byte, is_value_byte, field_text, HasNoLineEnd}
+use Rattle.dap_frame.proofs.Common.{[], and_parts, ap, arith, Bool, false, Field, field_text, HasNoLineEnd, is_name_byte, is_value_byte, IsField, length, length-append, line_end, List, list_all, refl, subst, sym, true, ℕ, ◌&&◌, ◌++◌, ◌∙◌, ◌∷◌, ◌≡◌, ◌≢◌}
 
 -- no byte is x
 abbrev pub HasNo : ℕ → List ℕ → Type 0
@@ -36,11 +33,11 @@ no_end_after : (x : ℕ) (xs : List ℕ) → HasNoLineEnd (x ∷ xs) → HasNoLi
 no_end_after x xs none before after e = none (x ∷ before) after (ap (λ l. x ∷ l) e)
 
 no_return_no_end : (xs : List ℕ) → HasNo 13 xs → HasNoLineEnd (xs ++ 13 ∷ [])
+no_return_no_end (x ∷ xs) h [] after e = absurd (h.0 cc)
+no_return_no_end (x ∷ xs) h (b ∷ before) after e = no_return_no_end xs h.1 before after cc
 no_return_no_end [] h [] after e = absurd cc
 no_return_no_end [] h (b ∷ []) after e = absurd cc
 no_return_no_end [] h (b ∷ c ∷ before) after e = absurd cc
-no_return_no_end (x ∷ xs) h [] after e = absurd (h.0 cc)
-no_return_no_end (x ∷ xs) h (b ∷ before) after e = no_return_no_end xs h.1 before after cc
 
 -- the line of a field ends nowhere before its end
 pub field_one_line : (f : Field) → IsField f → HasNoLineEnd (field_text f ++ 13 ∷ [])

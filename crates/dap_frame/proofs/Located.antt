@@ -1,7 +1,5 @@
 -- Two readings of the same bytes: a line of the one is a line of the other, or stands after it.
-use Rattle.std.proofs.Common.{◌≡◌, ◌⊎◌, inl, inr, ℕ, List, [], ◌∷◌, ◌++◌, refl, sym, ◌∙◌, ap, subst, append_assoc, append-nil}
-use Rattle.std.specs.List.{AllByRecursion}
-use Rattle.dap_frame.specs.Header.{Field, IsField, line_end, field_text, line_of, lines_of, HasNoLineEnd}
+use Rattle.dap_frame.proofs.Common.{[], AllByRecursion, ap, append-nil, append_assoc, Field, field_text, HasNoLineEnd, inl, inr, IsField, line_end, line_of, lines_of, List, refl, subst, sym, ℕ, ◌++◌, ◌∙◌, ◌∷◌, ◌≡◌, ◌⊎◌}
 use Rattle.dap_frame.proofs.Lines.{same_line, same_field, field_one_line, empty_one_line, text_not_empty}
 
 -- a line after the fields gs, where the bytes are also the fields fs and then part: it is the field of fs after gs, or

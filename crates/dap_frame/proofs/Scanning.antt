@@ -1,15 +1,8 @@
 -- One line more is read, or none is there: what is then known of the rest.
-use Rattle.std.proofs.Common.{◌≡◌, ◌≢◌, inl, inr, ◌+◌, ◌-◌, ◌<◌, ◌≤◌, ℕ, suc, List, [], ◌∷◌, ◌++◌, length, take, drop, get_or, Option, Some, None, sym, ◌∙◌, ap, subst, arith, append_assoc, append-nil, length-append, length-take, length-drop, take-append-drop, take-take}
-use Rattle.std.specs.Prelude.{min}
-use Rattle.std.specs.List.{AllByRecursion}
+use Rattle.dap_frame.proofs.Common.{[], AllByRecursion, ap, append-nil, append_assoc, AreFaultless, arith, drop, EndsAt, FaultAt, Field, field_text, FramingFault, get_or, get_or-append-add, get_or-drop, get_or-take, HasNoEnd, HasNoLineEnd, header_limit, inl, inr, IsField, IsOpen, IsScanned, IsTooLong, length, length-append, length-drop, length-take, line_end, line_of, LineFault, lines_of, List, min, Names, None, Option, Some, subst, suc, sym, take, take-append-drop, take-take, take_all, take_more, take_rest, ℕ, ◌++◌, ◌+◌, ◌-◌, ◌<◌, ◌∙◌, ◌∷◌, ◌≡◌, ◌≢◌, ◌≤◌}
 use Rattle.std.proofs.Math.Seq.{take-add}
-use Rattle.std.proofs.lemmas.List.{get_or-take, get_or-drop, get_or-append-add, take_more, take_all, take_rest}
 use Rattle.std.proofs.lemmas.Grind.{flat_map-append}
 use Rattle.dap_frame.specs.declared.header.Scan.{Scan}
-use Rattle.dap_frame.specs.declared.fault.FramingFault.{FramingFault}
-use Rattle.dap_frame.specs.Header.{Field, IsField, line_end, field_text, line_of, lines_of, header_limit, AreFaultless, HasNoLineEnd, LineFault, IsTooLong, FaultAt}
-use Rattle.dap_frame.specs.Frame.{IsOpen}
-use Rattle.dap_frame.specs.Progress.{EndsAt, HasNoEnd, Names, IsScanned}
 use Rattle.dap_frame.proofs.Faults.{fault_from_line}
 use Rattle.dap_frame.proofs.Frames.{open_part}
 
@@ -112,9 +105,6 @@ scan_more bytes scan is end next small at f shape line names =
       no_end = λ k low high ends. omega (arith, low, high);
     }
 
-take_front : (rest : List ℕ) (size n : ℕ) → n ≤ size → take n (take size rest) ≡ take n rest
-take_front rest size n h = take-take n size rest h
-
 -- the next line is faulty
 pub faulty_here : (rest : List ℕ) (size : ℕ) (scan : Scan) (is : IsScanned scan (take size rest)) (end : ℕ)
     (fault : FramingFault) → size ≤ header_limit → IsNextEnd (take size rest) scan.judged end
@@ -127,7 +117,7 @@ faulty_here rest size scan is end fault small at bad =
     let front : take (end + 2) bytes ≡ lines_of is.fields ++ line_of line =
     line_here bytes scan.judged end at.from at.there at.ends ∙ ap (λ x. x ++ line_of line) is.spelled in
     let whole : take (end + 2) rest ≡ lines_of is.fields ++ line_of line =
-    sym (take_front rest size (end + 2) (omega (arith, l, few))) ∙ front in
+    sym (take-take (end + 2) size rest (omega (arith, l, few))) ∙ front in
     let long : length (lines_of is.fields ++ line_of line) ≤ header_limit =
     subst (λ x. length x ≤ header_limit) front (omega (arith, length-take (end + 2) bytes, l, few, small)) in
     fault_from_line rest fault (record {

@@ -1,9 +1,5 @@
 -- A text is printable where each of its bytes is.
-use Rattle.std.proofs.Common.{◌≡◌, ℕ, true, List}
-use Rattle.std.specs.Prelude.{All}
-use Rattle.std.proofs.lemmas.Bool.{and_parts, and_from, leb-true, le-leb}
-use Rattle.std.proofs.lemmas.List.Sums.{AllPass-from_list_all, list_all-from_AllPass}
-use Rattle.dap_msg.specs.Asked.{IsPrintable}
+use Rattle.dap_msg.proofs.Common.{All, AllPass-from_list_all, and_from, and_parts, IsPrintable, le-leb, leb-true, List, list_all-from_AllPass, true, ℕ, ◌≡◌}
 use Rattle.dap_msg.specs.Printable.{is_printable_byte, is_printable}
 
 byte_is : (byte : ℕ) → is_printable_byte byte ≡ true → IsPrintable byte

@@ -1,27 +1,13 @@
 -- What a request asks is what its content says.
-use Rattle.std.proofs.Common.{◌≡◌, ℕ, ◌≤◌, nat_le, Bool, true, false, not, List, [], ◌∷◌, length, codes, Option, None, Some, option_map, option_and_then, refl, sym, ap, subst, ◌∙◌, arith}
-use Rattle.std.specs.Prelude.{All, unwrap_or, is_some}
+use Rattle.dap_msg.proofs.Common.{[], All, and_from, and_parts, ap, ArgumentsAreMembers, arith, array, as_array, as_bool, as_str, AsksBreakpoint, AsksEvaluate, AsksInitialize, AsksLaunch, AsksScopes, AsksSetBreakpoints, AsksStackTrace, AsksThread, AsksVariables, Bool, boolean, breakpoint_limit, breakpoint_of_object, codes, Command, command_of, command_text, Data, false, fitted_or_bad, from_four, from_three, from_two, get, is_some, IsAsked, IsCalled, IsGiven, IsPrintable, IsReadAs, item, Items, last_line, last_whole, le-leb, leb-true, length, List, Members, nat_le, no_items, no_members, None, not, not-true, number, object, object_or_empty, only_object, Option, option_and_then, option_map, optional, or_default, read_each, refl, required, scopes_arguments, set_breakpoints_arguments, Some, some_text, source_breakpoint, source_breakpoints, source_path, stack_trace_arguments, string, subst, supported_command, sym, text_limit, text_to, true, true≢false, unsigned, unwrap_or, variables_arguments, whole, whole_to, ℕ, ◌∙◌, ◌∷◌, ◌≡◌, ◌≤◌}
 use Rattle.std.specs.Option.{option_map_or}
-use Rattle.std.proofs.lemmas.Bool.{and_parts, and_from, true≢false, leb-true, le-leb}
 use Rattle.std.proofs.lemmas.Slice.Eq.{bytes_eq-Decides}
-use Rattle.serde_json.specs.Data.{Data, null, boolean, number, string, array, object, unsigned, Items, no_items, item, Members, no_members}
-use Rattle.serde_json.specs.Find.{get, as_bool, as_str, as_array}
-use Rattle.dap_msg.specs.Arguments.{object_or_empty, or_default, optional, required, from_two, from_three, from_four, whole, whole_to, last_whole, text_to}
-use Rattle.dap_msg.specs.Asked.{IsCalled, IsPrintable, AsksInitialize, AsksLaunch, AsksBreakpoint, AsksSetBreakpoints, AsksThread, AsksStackTrace, AsksScopes, AsksVariables, AsksEvaluate, IsGiven, IsAsked}
-use Rattle.dap_msg.specs.Commands.{command_text, supported_command}
 use Rattle.dap_msg.specs.Evaluate.{evaluate_arguments, expression_limit}
 use Rattle.dap_msg.specs.Initialize.{initialize_arguments}
 use Rattle.dap_msg.specs.Launch.{is_path, path, debugs, launch_arguments}
-use Rattle.dap_msg.specs.Laws.{ArgumentsAreMembers}
 use Rattle.dap_msg.specs.Members.{Has, HasOr, IsObjectOrAbsent, SayEach}
 use Rattle.dap_msg.specs.Questions.{question_text, question_kind, question_of}
-use Rattle.dap_msg.specs.Request.{IsReadAs, fitted_or_bad, command_of}
 use Rattle.dap_msg.specs.Resume.{resume_text, retreat_text, thread_arguments}
-use Rattle.dap_msg.specs.Scopes.{scopes_arguments}
-use Rattle.dap_msg.specs.SetBreakpoints.{last_line, text_limit, breakpoint_limit, some_text, only_object, breakpoint_of_object, read_each, source_breakpoint, source_breakpoints, source_path, set_breakpoints_arguments}
-use Rattle.dap_msg.specs.StackTrace.{stack_trace_arguments}
-use Rattle.dap_msg.specs.Variables.{variables_arguments}
-use Rattle.dap_msg.specs.declared.command.Command.{Command}
 use Rattle.dap_msg.specs.declared.command.Command.TheVariants as command
 use Rattle.dap_msg.specs.declared.command.Supported.{Supported}
 use Rattle.dap_msg.specs.declared.command.Supported.TheVariants as supported
@@ -57,19 +43,11 @@ record Reads (A : Type 0) (read : Data → Option A) (shown : A → Data) (P : A
 
 bool_is : (d : Data) (b : Bool) → as_bool d ≡ Some b → d ≡ boolean b
 bool_is (boolean c) b is = let same : c ≡ b = cc in ap boolean same
-bool_is null b is = absurd (cc)
-bool_is (number n) b is = absurd (cc)
-bool_is (string s) b is = absurd (cc)
-bool_is (array ds) b is = absurd (cc)
-bool_is (object ms) b is = absurd (cc)
+bool_is _ b is = absurd (cc)
 
 array_is : (d : Data) (ds : Items) → as_array d ≡ Some ds → d ≡ array ds
 array_is (array es) ds is = let same : es ≡ ds = cc in ap array same
-array_is null ds is = absurd (cc)
-array_is (boolean b) ds is = absurd (cc)
-array_is (number n) ds is = absurd (cc)
-array_is (string s) ds is = absurd (cc)
-array_is (object ms) ds is = absurd (cc)
+array_is _ ds is = absurd (cc)
 
 bools : Reads Bool as_bool boolean (λ b. Unit {0})
 bools = record {
@@ -118,17 +96,13 @@ paths = record {
   same = λ s t is. cc;
 }
 
-not_true : (b : Bool) → not b ≡ true → b ≡ false
-not_true true is = absurd (true≢false (sym is))
-not_true false is = refl
-
 read_false : (b : Bool) → b ≡ false → debugs (boolean b) ≡ Some b
 read_false true is = absurd (true≢false is)
 read_false false is = refl
 
 no_debugs : Reads Bool debugs boolean (λ b. b ≡ false)
 no_debugs = record {
-  turned = λ d b is. let kept = filter_is not (as_bool d) b is in (bool_is d b kept.0, not_true b kept.1);
+  turned = λ d b is. let kept = filter_is not (as_bool d) b is in (bool_is d b kept.0, not-true b kept.1);
   back = read_false;
   same = λ b c is. cc;
 }
@@ -146,24 +120,12 @@ object_of None d is =
     let same : object no_members ≡ d = cc in record { well = tt; is = is; same = λ key. ap (get key) (sym same) }
 object_of (Some (object ms)) d is =
     let same : object ms ≡ d = cc in record { well = tt; is = is; same = λ key. ap (get key) (sym same) }
-object_of (Some null) d is = absurd (cc)
-object_of (Some (boolean b)) d is = absurd (cc)
-object_of (Some (number n)) d is = absurd (cc)
-object_of (Some (string s)) d is = absurd (cc)
-object_of (Some (array ds)) d is = absurd (cc)
+object_of _ d is = absurd (cc)
 
 object_given : (given : Option Data) → IsObjectOrAbsent given → (d : Data) × IsObjectOf given d
 object_given None well = (object no_members, record { well = tt; is = refl; same = λ key. refl })
 object_given (Some (object ms)) well = (object ms, record { well = tt; is = refl; same = λ key. refl })
-object_given (Some null) well = absurd well
-object_given (Some (boolean b)) well = absurd well
-object_given (Some (number n)) well = absurd well
-object_given (Some (string s)) well = absurd well
-object_given (Some (array ds)) well = absurd well
-
--- an object of its own
-itself : (ms : Members) → IsObjectOf (Some (object ms)) (object ms)
-itself ms = record { well = tt; is = refl; same = λ key. refl }
+object_given _ well = absurd well
 
 default_is : {A : Type 0} {read : Data → Option A} {shown : A → Data} {P : A → Type 0} → Reads A read shown P
     → (default : A) → P default → (o : Option Data) (x : A) → or_default default read o ≡ Some x
@@ -497,11 +459,7 @@ record IsSource (m : Option Data) (p : Option (List ℕ)) : Type 0 where
 
 only_members : (d e : Data) → only_object d ≡ Some e → (ms : Members) × (d ≡ object ms) × (e ≡ object ms)
 only_members (object ms) e is = let same : object ms ≡ e = cc in (ms, refl, sym same)
-only_members null e is = absurd (cc)
-only_members (boolean b) e is = absurd (cc)
-only_members (number n) e is = absurd (cc)
-only_members (string s) e is = absurd (cc)
-only_members (array ds) e is = absurd (cc)
+only_members _ e is = absurd (cc)
 
 source_is : (m : Option Data) (p : Option (List ℕ)) → option_and_then source_path m ≡ Some p → IsSource m p
 source_is m p is =
@@ -644,8 +602,7 @@ asked_is_read (command.Inspect (question.Evaluate x)) name given called asks =
     (read_of given (question.Evaluate x) asks.given_well
     (λ d o. ap (option_map question.Evaluate) (evaluate_read given d x o asks)))
 asked_is_read command.Disconnect name given called asks = by_name supported.Disconnect name given called
-asked_is_read (command.Unsupported text) name given called asks = absurd called
-asked_is_read (command.BadArguments k) name given called asks = absurd called
+asked_is_read _ name given called asks = absurd called
 
 -- the name of a command is that of a supported one
 called_supported : (c : Command) (name : List ℕ) → IsCalled c name → is_some (supported_command name) ≡ true
@@ -728,8 +685,6 @@ read_is_asked supported.SetBreakpoints name given called is =
     asked_made command.SetBreakpoints supported.SetBreakpoints _ name given
     (command.SetBreakpoints (record { path = None; breakpoints = [] }), called) is
     (λ x read. (called, asked_of AsksSetBreakpoints given x (λ d o. asks_set_breakpoints given d x o) read))
-read_is_asked supported.ConfigurationDone name given called is = (called, tt)
-read_is_asked supported.Threads name given called is = (called, tt)
 read_is_asked (supported.Resume kind) name given called is =
     asked_made (command.Resume kind) (supported.Resume kind) _ name given
     (command.Resume kind any_thread, resume_called kind any_thread name called) is
@@ -744,7 +699,7 @@ read_is_asked supported.Pause name given called is =
 read_is_asked (supported.Inspect k) name given called is =
     asked_made command.Inspect (supported.Inspect k) _ name given (some_question k name called) is
     (question_asked k name given called)
-read_is_asked supported.Disconnect name given called is = (called, tt)
+read_is_asked _ name given called is = (called, tt)
 
 is_asked : (name : List ℕ) (given : Option Data) (o : Option Supported) → supported_command name ≡ o
     → IsAsked (option_map_or (fitted_or_bad given) o (command.Unsupported name)) name given

@@ -1,8 +1,5 @@
 -- What was read, by what came of it.
-use Rattle.std.proofs.Common.{◌≡◌, ℕ, Bool, true, false, List, Option, None, Some, option_map, option_and_then, refl, ap, subst, ◌∙◌, if◌then◌else◌}
-use Rattle.serde_json.specs.Data.{Data, null, boolean, number, string, array, object, unsigned, negative, float}
-use Rattle.serde_json.specs.Find.{as_str}
-use Rattle.dap_msg.specs.Arguments.{option_filter, whole}
+use Rattle.dap_msg.proofs.Common.{ap, as_str, Bool, Data, false, if◌then◌else◌, List, None, number, Option, option_and_then, option_filter, option_map, refl, Some, string, subst, true, unsigned, whole, ℕ, ◌∙◌, ◌≡◌}
 
 -- ---- options turned round
 
@@ -10,9 +7,6 @@ pub and_then_is : {A B : Type 0} (f : A → Option B) (o : Option A) (y : B) →
     × (o ≡ Some x) × (f x ≡ Some y)
 and_then_is f None y is = absurd (cc)
 and_then_is f (Some x) y is = (x, refl, is)
-
-pub some_is : {A : Type 0} (x y : A) → Some x ≡ Some y → x ≡ y
-some_is x y is = cc
 
 pub map_is : {A B : Type 0} (f : A → B) (o : Option A) (y : B) → option_map f o ≡ Some y → (x : A) × (o ≡ Some x)
     × (f x ≡ y)
@@ -36,21 +30,11 @@ kept_by test x is = rw is
 
 pub text_is : (d : Data) (s : List ℕ) → as_str d ≡ Some s → d ≡ string s
 text_is (string t) s is = let same : t ≡ s = cc in ap string same
-text_is null s is = absurd (cc)
-text_is (boolean b) s is = absurd (cc)
-text_is (number n) s is = absurd (cc)
-text_is (array ds) s is = absurd (cc)
-text_is (object ms) s is = absurd (cc)
+text_is _ s is = absurd (cc)
 
 pub whole_is : (d : Data) (n : ℕ) → whole d ≡ Some n → d ≡ number (unsigned n)
 whole_is (number (unsigned k)) n is = let same : k ≡ n = cc in ap (λ m. number (unsigned m)) same
-whole_is (number (negative z)) n is = absurd (cc)
-whole_is (number (float x)) n is = absurd (cc)
-whole_is null n is = absurd (cc)
-whole_is (boolean b) n is = absurd (cc)
-whole_is (string s) n is = absurd (cc)
-whole_is (array ds) n is = absurd (cc)
-whole_is (object ms) n is = absurd (cc)
+whole_is _ n is = absurd (cc)
 
 pub text_member : (o : Option Data) (s : List ℕ) → option_and_then as_str o ≡ Some s → o ≡ Some (string s)
 text_member o s is = let found = and_then_is as_str o s is in found.1 ∙ ap Some (text_is found.0 s found.2)

@@ -1,16 +1,9 @@
 -- What is written piece by piece is written whole.
-use Rattle.std.proofs.Common.{◌≡◌, ℕ, ◌+◌, ◌<◌, ◌≤◌, Option, None, Some, Result, Ok, OnOk, List, [], ◌∷◌, ◌++◌, length, map, take, get_or, flat_map, refl, sym, ap, ◌∙◌, append_assoc, append-nil}
-use Rattle.std.proofs.lemmas.List.{take_more, take_all, map-append, flat_map_more}
-use Rattle.std.proofs.lemmas.Result.{on_ok_weaker}
+use Rattle.dap_msg.proofs.Common.{[], ap, append-nil, append_assoc, Data, Fits, flat_map, flat_map_more, get_or, items_of, items_outline, ItemsFit, length, List, map, map-append, member, Members, members_outline, members_tokens_of, MembersFit, no_members, None, object, Ok, on_ok_weaker, OnOk, Option, refl, Result, Some, sym, take, take_all, take_more, tokens_of, with_body, WritesMembers, WritesValue, ℕ, ◌++◌, ◌+◌, ◌<◌, ◌∙◌, ◌∷◌, ◌≡◌, ◌≤◌}
 use Rattle.json.specs.Token.{Token, begin_object, end_object, begin_array, end_array, key}
 use Rattle.json.specs.Tree.{items_tokens, members_tokens}
 use Rattle.json.specs.Written.{Written, Writes}
-use Rattle.serde_json.specs.Data.{Data, object, Members, no_members, member}
-use Rattle.serde_json.specs.View.{items_of}
-use Rattle.serde_json.specs.Written.{items_outline, members_outline}
 use Rattle.dap_msg.specs.Lists.{array_of}
-use Rattle.dap_msg.specs.Outgoing.{with_body}
-use Rattle.dap_msg.specs.Writing.{Fits, ItemsFit, MembersFit, tokens_of, members_tokens_of, WritesValue, WritesMembers}
 
 between : (s begin ts end : List Token) → ((s ++ begin) ++ ts) ++ end ≡ s ++ (begin ++ (ts ++ end))
 between s begin ts end = simp append_assoc

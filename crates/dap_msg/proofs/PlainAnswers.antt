@@ -1,22 +1,8 @@
 -- What is put together from constant parts is the value's text.
-use Rattle.std.proofs.Common.{◌≡◌, ℕ, ℤ, pos, negsuc, zero, suc, ◌+◌, ◌/◌, ◌%◌, ◌^◌, ◌<◌, ◌≤◌, ◌==◌, Bool, true, false, List, [], ◌∷◌, ◌++◌, codes, length, map, take, get_or, decimal, Option, None, Some, Result, Ok, Err, IfOk, refl, sym, ap, ◌∙◌, arith, append_assoc, append-nil}
-use Rattle.std.specs.Prelude.{IsUtf8}
+use Rattle.dap_msg.proofs.Common.{[], agree_below_at, and_from, and_parts, ap, append-nil, append_assoc, arith, Bool, codes, comma_if, compact_text, cond_both, Data, decimal, eqb-false, Err, false, Fits, FrameFits, get_or, IfOk, is_plain, is_plain_byte, IsContent, IsUtf8, items_of, items_text, ItemsFit, joined_text, leb-true, length, List, map, map-append, member, negsuc, None, not-true, Ok, Option, pos, PutsItems, PutsMembers, PutsSome, PutsValue, refl, response_end, Result, Some, stack_frame, stack_trace_body, StackFrame, string, suc, success_value, sym, take, take_all, take_more, true, Variable, variable, variables_body, zero, ℕ, ℤ, ◌%◌, ◌++◌, ◌+◌, ◌/◌, ◌<◌, ◌==◌, ◌^◌, ◌∙◌, ◌∷◌, ◌≡◌, ◌≤◌}
 use Rattle.std.specs.Fmt.{signed_decimal, digits, digits_onto, digit_glyph}
-use Rattle.std.proofs.lemmas.Bool.{and_parts, and_from, not-true, eqb-false, leb-true, cond_both, agree_below_at}
-use Rattle.std.proofs.lemmas.List.{take_more, take_all, map-append}
 use Rattle.json.specs.Print.{escape, quoted, escape_byte}
 use Rattle.json.proofs.Printed.Strings.{escape_byte_plain}
-use Rattle.serde_json.specs.Data.{Data, string, member}
-use Rattle.serde_json.specs.View.{items_of}
-use Rattle.serde_json.specs.Written.{comma_if, compact_text, items_text}
-use Rattle.dap_msg.specs.Laws.{FrameFits}
-use Rattle.dap_msg.specs.Outgoing.{response_end, success_value}
-use Rattle.dap_msg.specs.PlainAnswers.{is_plain_byte, is_plain, PutsValue, PutsSome, PutsMembers, joined_text, PutsItems}
-use Rattle.dap_msg.specs.StackTrace.{stack_frame, stack_trace_body}
-use Rattle.dap_msg.specs.Variables.{variable, variables_body}
-use Rattle.dap_msg.specs.Writing.{Fits, ItemsFit, IsContent}
-use Rattle.dap_msg.specs.declared.outgoing.StackFrame.{StackFrame}
-use Rattle.dap_msg.specs.declared.outgoing.Variable.{Variable}
 
 -- ---- plain texts stand between quotes as they are
 

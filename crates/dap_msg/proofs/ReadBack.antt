@@ -1,9 +1,7 @@
 -- The text of a message is read back as its value.
-use Rattle.std.proofs.Common.{rules, ◌≡◌, ℕ, suc, ◌<◌, ◌≤◌, ◌^◌, ◌&&◌, Bool, true, false, List, [], ◌∷◌, map, Option, Some, Ok, Err, option_map, option_and_then, Ordering, Less, Equal, Greater, refl, sym, ap, ◌∙◌, arith, lit≤, append-nil}
-use Rattle.std.specs.Prelude.{All}
+use Rattle.dap_msg.proofs.Common.{[], All, and_parts, ap, append-nil, arith, array, Bool, breakpoint, compact_text, Data, depth, Err, false, Fits, float, FrameFits, Greater, IsContent, item, Items, items_depth, items_of, items_outline, ItemsFit, LineFits, List, lit≤, map, member, Members, members_depth, members_outline, MembersFit, MessagesAreReadBack, NamesItself, negative, no_items, no_members, number, NumbersFit, object, Ok, Option, option_and_then, option_map, Ordering, outline, put, ReferenceFits, refl, rules, scope, Some, stack_frame, StackFrame, suc, sym, text_of, true, unsigned, value_of, variable, ℕ, ◌&&◌, ◌<◌, ◌^◌, ◌∙◌, ◌∷◌, ◌≡◌, ◌≤◌}
 use Rattle.std.specs.Ordering.{nat_cmp, match_ordering}
 use Rattle.std.specs.Cmp.Lexicographic.{slice_cmp}
-use Rattle.std.proofs.lemmas.Bool.{and_parts}
 use Rattle.json.specs.Token.{Token}
 use Rattle.json.specs.Lex.{tokens}
 use Rattle.json.specs.Json as json
@@ -11,19 +9,9 @@ use Rattle.json.specs.Tree as tree
 use Rattle.json.proofs.Printed.Decimals.{IsNumber-decimal}
 use Rattle.json.proofs.Printed.Tokens.{tokens-print}
 use Rattle.json.proofs.Printed.Trees.{value-json_tokens, ArePrintable-json_tokens}
-use Rattle.serde_json.specs.Data.{Data, null, boolean, number, unsigned, negative, float, string, array, object, Items, no_items, item, Members, no_members, member, put, depth, items_depth, members_depth}
 use Rattle.serde_json.specs.Read.{of_json, of_items, of_members, max_depth, read}
-use Rattle.serde_json.specs.View.{items_of}
-use Rattle.serde_json.specs.Written.{outline, items_outline, members_outline, compact_text}
 use Rattle.serde_json.proofs.Numbers.{number_of-decimal}
 use Rattle.serde_json.proofs.Texts.{print-outline}
-use Rattle.dap_msg.specs.Laws.{NamesItself, NumbersFit, LineFits, FrameFits, ReferenceFits, MessagesAreReadBack}
-use Rattle.dap_msg.specs.Outgoing.{value_of, text_of}
-use Rattle.dap_msg.specs.Scopes.{scope}
-use Rattle.dap_msg.specs.SetBreakpoints.{breakpoint}
-use Rattle.dap_msg.specs.StackTrace.{stack_frame}
-use Rattle.dap_msg.specs.Variables.{variable}
-use Rattle.dap_msg.specs.Writing.{Fits, ItemsFit, MembersFit, IsContent}
 use Rattle.dap_msg.specs.declared.outgoing.BreakpointAnswer.{BreakpointAnswer}
 use Rattle.dap_msg.specs.declared.outgoing.BreakpointAnswer.TheVariants.{At, Unverified}
 use Rattle.dap_msg.specs.declared.outgoing.Outgoing.{Outgoing}
@@ -31,16 +19,14 @@ use Rattle.dap_msg.specs.declared.outgoing.Outgoing.TheVariants.{Answer, Event}
 use Rattle.dap_msg.specs.declared.outgoing.Body.TheVariants as body
 use Rattle.dap_msg.specs.declared.outgoing.EventBody.TheVariants as event
 use Rattle.dap_msg.specs.declared.outgoing.Scope.{Scope}
-use Rattle.dap_msg.specs.declared.outgoing.StackFrame.{StackFrame}
 use Rattle.dap_msg.specs.declared.outgoing.StopReason.TheVariants as reason
 use Rattle.dap_msg.proofs.Said.{says}
 
 -- ---- values with their keys in order
 
 abbrev is_greater : Ordering → Bool
-is_greater Less = false
-is_greater Equal = false
 is_greater Greater = true
+is_greater _ = false
 
 -- the key comes after those of the members
 abbrev is_after : List ℕ → Members → Bool
@@ -58,12 +44,9 @@ then_members found (member k d ms) = then_members (then_member found k d) ms
 
 abbrev mutual
   is_sorted : Data → Bool
-  is_sorted null = true
-  is_sorted (boolean b) = true
-  is_sorted (number n) = true
-  is_sorted (string s) = true
   is_sorted (array ds) = items_are_sorted ds
   is_sorted (object ms) = members_are_sorted ms no_members
+  is_sorted _ = true
 
   items_are_sorted : Items → Bool
   items_are_sorted no_items = true
@@ -79,9 +62,8 @@ abbrev mutual
 
 put_step : (k l : List ℕ) (d e : Data) (ms rest : Members) (o : Ordering) → is_greater o ≡ true → rest ≡ put k d ms
     → match_ordering o (member k d (member l e ms)) (member l d ms) (member l e (put k d ms)) ≡ member l e rest
-put_step k l d e ms rest Less is same = absurd cc
-put_step k l d e ms rest Equal is same = absurd cc
 put_step k l d e ms rest Greater is same = ap (member l e) (sym same)
+put_step k l d e ms rest _ is same = absurd cc
 
 put_after : (k : List ℕ) (d : Data) (found : Members) → is_after k found ≡ true → put k d found ≡ then_member found k d
 put_after k d no_members is = refl
@@ -101,15 +83,13 @@ all_members (member k d ms) = then_members_none k d ms no_members ∙ ap (member
 
 mutual
   read_as : (d : Data) → Fits d → is_sorted d ≡ true → of_json (outline d) ≡ Some d
-  read_as null fits sorted = refl
-  read_as (boolean b) fits sorted = refl
   read_as (number (unsigned n)) fits sorted = ap (option_map number) (number_of-decimal n fits)
   read_as (number (negative z)) fits sorted = absurd fits
   read_as (number (float x)) fits sorted = absurd fits
-  read_as (string s) fits sorted = refl
   read_as (array ds) fits sorted = ap (option_map array) (items_read ds fits sorted)
   read_as (object ms) fits sorted =
       ap (option_map object) (members_read ms no_members fits sorted ∙ ap Some (all_members ms))
+  read_as _ fits sorted = refl
 
   items_read : (ds : Items) → ItemsFit ds → items_are_sorted ds ≡ true → of_items (items_outline ds) ≡ Some ds
   items_read no_items fits sorted = refl
@@ -130,14 +110,12 @@ mutual
 
 mutual
   has_numbers : (d : Data) → Fits d → tree.HasNumbers (outline d)
-  has_numbers null fits = tt
-  has_numbers (boolean b) fits = tt
   has_numbers (number (unsigned n)) fits = IsNumber-decimal n fits
   has_numbers (number (negative z)) fits = absurd fits
   has_numbers (number (float x)) fits = absurd fits
-  has_numbers (string s) fits = tt
   has_numbers (array ds) fits = items_have_numbers ds fits
   has_numbers (object ms) fits = members_have_numbers ms fits
+  has_numbers _ fits = tt
 
   items_have_numbers : (ds : Items) → ItemsFit ds → tree.ItemsHaveNumbers (items_outline ds)
   items_have_numbers no_items fits = tt
@@ -149,12 +127,9 @@ mutual
 
 mutual
   as_deep : (d : Data) → tree.depth (outline d) ≤ depth d
-  as_deep null = omega arith
-  as_deep (boolean b) = omega arith
-  as_deep (number n) = omega arith
-  as_deep (string s) = omega arith
   as_deep (array ds) = omega (arith, items_as_deep ds)
   as_deep (object ms) = omega (arith, members_as_deep ms)
+  as_deep _ = omega arith
 
   items_as_deep : (ds : Items) → tree.items_depth (items_outline ds) ≤ items_depth ds
   items_as_deep no_items = omega arith

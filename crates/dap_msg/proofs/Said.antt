@@ -1,15 +1,7 @@
 -- A message's value says what it is.
-use Rattle.std.proofs.Common.{ℕ, List, [], ◌∷◌, map, Ok, Err, Option, None, Some, refl, append_assoc}
-use Rattle.serde_json.specs.Data.{Data}
-use Rattle.serde_json.specs.View.{items_of}
-use Rattle.dap_msg.specs.Commands.{name_text}
+use Rattle.dap_msg.proofs.Common.{[], append_assoc, body_data, breakpoint, breakpoint_refusal_text, Data, Err, items_of, List, map, name_text, None, Ok, Option, refl, refusal_text, scope, Some, stack_frame, StackFrame, success_value, value_of, Variable, variable, ℕ, ◌∷◌}
 use Rattle.dap_msg.specs.Members.{SayEach}
-use Rattle.dap_msg.specs.Outgoing.{value_of, body_data, refusal_text, success_value}
 use Rattle.dap_msg.specs.Said.{SaysRefusal, SaysUnset, SaysBreakpoint, SaysFrame, SaysScope, SaysVariable, SaysBody, Says}
-use Rattle.dap_msg.specs.Scopes.{scope}
-use Rattle.dap_msg.specs.SetBreakpoints.{breakpoint, breakpoint_refusal_text}
-use Rattle.dap_msg.specs.StackTrace.{stack_frame}
-use Rattle.dap_msg.specs.Variables.{variable}
 use Rattle.dap_msg.specs.declared.command.CommandName.{CommandName}
 use Rattle.dap_msg.specs.declared.outgoing.Outgoing.{Outgoing}
 use Rattle.dap_msg.specs.declared.outgoing.Outgoing.TheVariants.{Answer, Event}
@@ -24,9 +16,7 @@ use Rattle.dap_msg.specs.declared.outgoing.Exception.TheVariants as exception
 use Rattle.dap_msg.specs.declared.outgoing.Refusal.{Refusal}
 use Rattle.dap_msg.specs.declared.outgoing.Refusal.TheVariants as refusal
 use Rattle.dap_msg.specs.declared.outgoing.Scope.{Scope}
-use Rattle.dap_msg.specs.declared.outgoing.StackFrame.{StackFrame}
 use Rattle.dap_msg.specs.declared.outgoing.StopReason.TheVariants as reason
-use Rattle.dap_msg.specs.declared.outgoing.Variable.{Variable}
 
 -- ---- texts and lists
 
@@ -113,15 +103,11 @@ says (Event (event.Stopped reason.Breakpoint)) seq = (refl, refl, (refl, ((refl,
 says (Event (event.Stopped reason.Step)) seq = (refl, refl, (refl, ((refl, refl), refl, refl)))
 says (Event (event.Stopped reason.Entry)) seq = (refl, refl, (refl, ((refl, refl), refl, refl)))
 says (Event (event.Stopped reason.Pause)) seq = (refl, refl, (refl, ((refl, refl), refl, refl)))
-says (Event (event.Stopped (reason.Exception exception.Overflow))) seq =
-    (refl, refl, (refl, ((refl, refl, refl), refl, refl)))
-says (Event (event.Stopped (reason.Exception exception.DivideByZero))) seq =
-    (refl, refl, (refl, ((refl, refl, refl), refl, refl)))
-says (Event (event.Stopped (reason.Exception exception.Depth))) seq =
-    (refl, refl, (refl, ((refl, refl, refl), refl, refl)))
-says (Event (event.Stopped (reason.Exception exception.StepLimit))) seq =
-    (refl, refl, (refl, ((refl, refl, refl), refl, refl)))
 says (Event (event.Output v)) seq = (refl, refl, (refl, (refl, refl, refl)))
 says (Event (event.Log text)) seq = (refl, refl, (refl, (refl, refl, refl)))
 says (Event (event.Exited code)) seq = (refl, refl, (refl, refl, refl))
 says (Event event.Terminated) seq = (refl, refl, (refl, refl))
+says (Event (event.Stopped (reason.Exception exception.Overflow))) seq =
+    (refl, refl, (refl, ((refl, refl, refl), refl, refl)))
+says (Event (event.Stopped (reason.Exception _))) seq =
+    (refl, refl, (refl, ((refl, refl, refl), refl, refl)))

@@ -1,4 +1,4 @@
-use Rattle.std.proofs.Common.{◌≡◌, ◌-◌, sym, ◌∙◌, arith, vec_len}
+use Rattle.dap_frame.proofs.Common.{arith, sym, vec_len, ◌-◌, ◌∙◌, ◌≡◌}
 use Rattle.dap_frame.proofs.Keeping.{kept_whole, kept_rest}
 use Rattle.dap_frame.proofs.decoder.compact.Goals as goal
 use Rattle.dap_frame.proofs.decoder.compact.Goals.{then-front-left-via-then-front-left, then-front-left-via-else-front-left+then-front-left-2}

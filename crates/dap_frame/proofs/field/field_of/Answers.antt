@@ -1,7 +1,4 @@
-use Rattle.std.proofs.Common.{◌≡◌, ◌∙◌, sym, ap, true, false, List, ℕ, length, drop, arith}
-use Rattle.std.specs.List.{list_all}
-use Rattle.std.proofs.lemmas.Bool.{eqb-true}
-use Rattle.dap_frame.specs.Header.{is_name_byte, is_value_byte}
+use Rattle.dap_frame.proofs.Common.{ap, arith, drop, eqb-true, false, is_name_byte, is_value_byte, length, List, list_all, sym, true, ℕ, ◌∙◌, ◌≡◌}
 use Rattle.dap_frame.proofs.Fields.{no_colon, at_colon, no_prefix}
 use Rattle.dap_frame.proofs.field.field_of.Goals as goal
 use Rattle.dap_frame.proofs.field.field_of.Goals.{else-not-is_empty-via-then-not-is_empty+then-is_name+else-is_value, else-not-is_empty-via-then-not-is_empty+else-is_name, else-not-is_empty-via-else-not-is_empty}

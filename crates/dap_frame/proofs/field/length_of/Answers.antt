@@ -1,10 +1,6 @@
-use Rattle.std.proofs.Common.{◌≡◌, ◌∙◌, sym, ap, nat_eq, true, false, length-take, eq-eqb, ◌<◌, length, take, get_or, arith, subst}
-use Rattle.std.specs.Str.Parse.{AllDigits, digits_value}
-use Rattle.std.proofs.lemmas.Bool.{eqb-true, ltb-true}
+use Rattle.dap_frame.proofs.Common.{AllDigits, ap, arith, digits_value, eq-eqb, eqb-true, false, get_or, IsLength, length, length-take, ltb-true, nat_eq, subst, sym, take, take_all, true, ◌<◌, ◌∙◌, ◌≡◌}
 use Rattle.std.proofs.lemmas.Bool.Decides.{nat_tests}
-use Rattle.std.proofs.lemmas.List.{take_all}
 use Rattle.std.proofs.lemmas.Int.Digits.{digits_more}
-use Rattle.dap_frame.specs.Header.{IsLength}
 use Rattle.dap_frame.proofs.Lengths.{shaped, shaped_digit, length_from_digits, digits_small, number_more}
 use Rattle.dap_frame.proofs.field.length_of.Goals as goal
 use Rattle.dap_frame.proofs.field.length_of.Goals.{then-is_empty-via-then-is_empty, then-is_empty-via-else-is_empty+then-value-gt7, then-is_empty-via-else-is_empty+else-value-gt7+then-value-eq48, then-value-gt1, else-value-gt1}

@@ -1,5 +1,4 @@
-use Rattle.std.proofs.Common.{◌≡◌, take}
-use Rattle.std.specs.Str.Parse.{AllDigits, digits_value}
+use Rattle.dap_frame.proofs.Common.{AllDigits, digits_value, take, ◌≡◌}
 use Rattle.dap_frame.proofs.field.length_of.Given as goal
 
 -- so far there are digits alone, and n is their number

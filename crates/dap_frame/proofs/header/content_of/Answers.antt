@@ -1,5 +1,4 @@
-use Rattle.std.proofs.Common.{◌+◌, ◌≤◌, length, subst}
-use Rattle.dap_frame.specs.Progress.{IsReadOut}
+use Rattle.dap_frame.proofs.Common.{IsReadOut, length, subst, ◌+◌, ◌≤◌}
 use Rattle.dap_frame.proofs.Frames.{frame_here, short_here}
 use Rattle.dap_frame.proofs.header.content_of.Goals as goal
 

@@ -1,4 +1,4 @@
-use Rattle.dap_frame.specs.Header.{Field}
+use Rattle.dap_frame.proofs.Common.{Field}
 use Rattle.dap_frame.proofs.Judging.{names_as_before, other_name}
 use Rattle.dap_frame.proofs.header.judge_field.Goals as goal
 

@@ -1,5 +1,4 @@
-use Rattle.std.proofs.Common.{◌+◌, arith, length-drop}
-use Rattle.std.proofs.lemmas.List.{take_rest}
+use Rattle.dap_frame.proofs.Common.{arith, length-drop, take_rest, ◌+◌}
 use Rattle.dap_frame.proofs.Ends.{no_end_more, no_end_to_end, no_end_at, feed_at, first_end}
 use Rattle.dap_frame.proofs.header.line_end.Goals as goal
 use Rattle.dap_frame.proofs.header.line_end.Goals.{else-judged-feed-via-then-judged-feed+else-bytes-feed-eq13, else-judged-feed-via-else-judged-feed}

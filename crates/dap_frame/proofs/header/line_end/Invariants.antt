@@ -1,5 +1,4 @@
-use Rattle.std.proofs.Common.{◌-◌, ◌≤◌, length}
-use Rattle.dap_frame.specs.Progress.{HasNoEnd}
+use Rattle.dap_frame.proofs.Common.{HasNoEnd, length, ◌-◌, ◌≤◌}
 use Rattle.dap_frame.proofs.header.line_end.Given as goal
 
 abbrev pub invariant-loop-found : goal.invariant-loop-found

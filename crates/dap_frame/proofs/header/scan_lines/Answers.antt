@@ -1,9 +1,5 @@
-use Rattle.std.proofs.Common.{◌≡◌, ◌≢◌, ◌∙◌, sym, [], length, take, ap, subst, arith, eq-eqb, length-take}
-use Rattle.std.proofs.lemmas.Bool.{eqb-true, false≢true}
-use Rattle.std.proofs.lemmas.List.{nil_from_length}
+use Rattle.dap_frame.proofs.Common.{[], ap, arith, eq-eqb, eqb-true, false≢true, length, length-take, Names, nil_from_length, NoLength, subst, sym, take, ◌∙◌, ◌≡◌, ◌≢◌}
 use Rattle.std.proofs.lemmas.Result.{err_from_is_err_and}
-use Rattle.dap_frame.specs.declared.fault.FramingFault.TheVariants.{NoLength}
-use Rattle.dap_frame.specs.Progress.{Names}
 use Rattle.dap_frame.proofs.Scanning.{part, scan_more, faulty_here, too_long_here, open_here}
 use Rattle.dap_frame.proofs.header.scan_lines.Goals as goal
 

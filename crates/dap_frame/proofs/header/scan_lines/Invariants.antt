@@ -1,5 +1,4 @@
-use Rattle.std.proofs.Common.{◌-◌, length}
-use Rattle.dap_frame.specs.Progress.{IsScanned}
+use Rattle.dap_frame.proofs.Common.{IsScanned, length, ◌-◌}
 use Rattle.dap_frame.proofs.header.scan_lines.Given as goal
 
 abbrev pub invariant-loop-end : goal.invariant-loop-end

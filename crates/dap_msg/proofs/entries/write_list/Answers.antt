@@ -1,5 +1,4 @@
-use Rattle.std.proofs.Common.{subst}
-use Rattle.dap_msg.specs.Writing.{WritesValue}
+use Rattle.dap_msg.proofs.Common.{subst, WritesValue}
 use Rattle.dap_msg.proofs.Pieces.{item_written, each_written, array_written}
 use Rattle.dap_msg.proofs.entries.write_list.Goals as goal
 

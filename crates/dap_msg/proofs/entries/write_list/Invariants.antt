@@ -1,4 +1,4 @@
-use Rattle.std.proofs.Common.{map, take}
+use Rattle.dap_msg.proofs.Common.{map, take}
 use Rattle.dap_msg.proofs.Pieces.{WritesItems}
 use Rattle.dap_msg.proofs.entries.write_list.Given as goal
 

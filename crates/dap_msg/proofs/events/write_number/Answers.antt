@@ -1,7 +1,4 @@
-use Rattle.std.proofs.Common.{rules}
-use Rattle.std.proofs.lemmas.Int.{to_z-of_z}
-use mir.Syntax.{w64}
-use mir.Val.{SFits}
+use Rattle.dap_msg.proofs.Common.{rules, SFits, to_z-of_z, w64}
 use Rattle.dap_msg.proofs.events.write_number.Goals as goal
 
 pub returns : goal.returns

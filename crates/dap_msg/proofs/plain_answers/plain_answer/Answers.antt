@@ -1,5 +1,4 @@
-use Rattle.std.proofs.Common.{◌∙◌, ap, ◌++◌, codes}
-use Rattle.dap_msg.specs.Outgoing.{body_data}
+use Rattle.dap_msg.proofs.Common.{ap, body_data, codes, ◌++◌, ◌∙◌}
 use Rattle.dap_msg.proofs.PlainAnswers.{answer_put, both_ok}
 use Rattle.dap_msg.proofs.plain_answers.plain_answer.Goals as goal
 

@@ -1,6 +1,4 @@
-use Rattle.std.proofs.Common.{rules}
-use Rattle.std.proofs.lemmas.Result.{on_ok_weaker}
-use Rattle.dap_msg.specs.Laws.{FrameFits}
+use Rattle.dap_msg.proofs.Common.{FrameFits, on_ok_weaker, rules}
 use Rattle.dap_msg.proofs.PlainAnswers.{frame_put}
 use Rattle.dap_msg.proofs.plain_answers.put_frame.Goals as goal
 

@@ -1,8 +1,4 @@
-use Rattle.std.proofs.Common.{◌≡◌, true, subst, sym}
-use Rattle.std.proofs.lemmas.List.Sums.{AllPass-from_list_all}
-use Rattle.dap_msg.specs.PlainAnswers.{is_plain, PutsValue}
-use Rattle.dap_msg.specs.StackTrace.{stack_frame}
-use Rattle.dap_msg.specs.declared.outgoing.StackFrame.{StackFrame}
+use Rattle.dap_msg.proofs.Common.{AllPass-from_list_all, is_plain, PutsValue, stack_frame, StackFrame, subst, sym, true, ◌≡◌}
 use Rattle.dap_msg.proofs.PlainAnswers.{item_put, each_put}
 use Rattle.dap_msg.proofs.plain_answers.put_frames.Goals as goal
 

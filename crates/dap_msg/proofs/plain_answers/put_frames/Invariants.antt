@@ -1,5 +1,4 @@
-use Rattle.std.proofs.Common.{map, take}
-use Rattle.dap_msg.specs.StackTrace.{stack_frame}
+use Rattle.dap_msg.proofs.Common.{map, stack_frame, take}
 use Rattle.dap_msg.proofs.PlainAnswers.{PutsFront}
 use Rattle.dap_msg.proofs.plain_answers.put_frames.Given as goal
 

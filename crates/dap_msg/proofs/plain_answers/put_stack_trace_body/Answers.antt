@@ -1,5 +1,4 @@
-use Rattle.std.proofs.Common.{rules, ◌<◌, ◌^◌}
-use Rattle.std.proofs.lemmas.Result.{on_ok_weaker}
+use Rattle.dap_msg.proofs.Common.{on_ok_weaker, rules, ◌<◌, ◌^◌}
 use Rattle.dap_msg.proofs.PlainAnswers.{frames_put}
 use Rattle.dap_msg.proofs.plain_answers.put_stack_trace_body.Goals as goal
 

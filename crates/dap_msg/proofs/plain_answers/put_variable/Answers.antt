@@ -1,8 +1,4 @@
-use Rattle.std.proofs.Common.{rules}
-use Rattle.std.proofs.lemmas.Int.{to_z-of_z}
-use Rattle.std.proofs.lemmas.Result.{on_ok_weaker}
-use mir.Syntax.{w64}
-use mir.Val.{SFits}
+use Rattle.dap_msg.proofs.Common.{on_ok_weaker, rules, SFits, to_z-of_z, w64}
 use Rattle.dap_msg.proofs.PlainAnswers.{variable_put}
 use Rattle.dap_msg.proofs.plain_answers.put_variable.Goals as goal
 

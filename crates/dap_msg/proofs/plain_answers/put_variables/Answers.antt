@@ -1,8 +1,4 @@
-use Rattle.std.proofs.Common.{◌≡◌, true, subst, sym}
-use Rattle.std.proofs.lemmas.List.Sums.{AllPass-from_list_all}
-use Rattle.dap_msg.specs.PlainAnswers.{is_plain, PutsValue}
-use Rattle.dap_msg.specs.Variables.{variable}
-use Rattle.dap_msg.specs.declared.outgoing.Variable.{Variable}
+use Rattle.dap_msg.proofs.Common.{AllPass-from_list_all, is_plain, PutsValue, subst, sym, true, Variable, variable, ◌≡◌}
 use Rattle.dap_msg.proofs.PlainAnswers.{item_put, each_put}
 use Rattle.dap_msg.proofs.plain_answers.put_variables.Goals as goal
 

@@ -1,5 +1,4 @@
-use Rattle.std.proofs.Common.{map, take}
-use Rattle.dap_msg.specs.Variables.{variable}
+use Rattle.dap_msg.proofs.Common.{map, take, variable}
 use Rattle.dap_msg.proofs.PlainAnswers.{PutsFront}
 use Rattle.dap_msg.proofs.plain_answers.put_variables.Given as goal
 

@@ -1,4 +1,4 @@
-use Rattle.std.proofs.lemmas.Result.{on_ok_weaker}
+use Rattle.dap_msg.proofs.Common.{on_ok_weaker}
 use Rattle.dap_msg.proofs.PlainAnswers.{variables_put}
 use Rattle.dap_msg.proofs.plain_answers.put_variables_body.Goals as goal
 

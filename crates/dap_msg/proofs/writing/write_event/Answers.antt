@@ -1,4 +1,4 @@
-use Rattle.dap_msg.specs.Outgoing.{event_body}
+use Rattle.dap_msg.proofs.Common.{event_body}
 use Rattle.dap_msg.proofs.Pieces.{body_and_then, and_then, object_written}
 use Rattle.dap_msg.proofs.writing.write_event.Goals as goal
 

@@ -1,4 +1,4 @@
-use Rattle.std.proofs.lemmas.Result.{on_ok_weaker}
+use Rattle.dap_msg.proofs.Common.{on_ok_weaker}
 use Rattle.dap_msg.proofs.Pieces.{and_then}
 use Rattle.dap_msg.proofs.writing.write_response_end.Goals as goal
 

@@ -1,4 +1,4 @@
-use Rattle.dap_msg.specs.Outgoing.{body_data}
+use Rattle.dap_msg.proofs.Common.{body_data}
 use Rattle.dap_msg.proofs.Pieces.{body_and_then, and_then, object_written}
 use Rattle.dap_msg.proofs.writing.write_success.Goals as goal
 

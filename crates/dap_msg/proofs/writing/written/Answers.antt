@@ -1,6 +1,5 @@
-use Rattle.std.specs.Str.{IsUtf8}
+use Rattle.dap_msg.proofs.Common.{value_of}
 use Rattle.serde_json.proofs.Texts.{print-outline}
-use Rattle.dap_msg.specs.Outgoing.{value_of}
 use Rattle.dap_msg.proofs.writing.written.Goals as goal
 
 pub returns : goal.returns

@@ -1,6 +1,4 @@
-use Rattle.std.proofs.Common.{◌≡◌, ◌∙◌, ◌++◌, refl, sym, ap, subst, drop, arith, vec_len}
-use Rattle.std.proofs.lemmas.List.{drop-append-le}
-use Rattle.dap_frame.specs.Frame.{Frames}
+use Rattle.dap_frame.proofs.Common.{ap, arith, drop, drop-append-le, Frames, refl, subst, sym, vec_len, ◌++◌, ◌∙◌, ◌≡◌}
 use Rattle.dap_frame.proofs.Feeding.{frames_longer}
 use Rattle.dap_frame.proofs.Keeping.{kept_within}
 use Rattle.dap_frame.proofs.decoder.Decoder.feed.Goals as goal

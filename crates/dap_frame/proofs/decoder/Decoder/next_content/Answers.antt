@@ -1,5 +1,4 @@
-use Rattle.std.proofs.Common.{◌≡◌, ◌++◌, ◌∙◌, ap, subst}
-use Rattle.dap_frame.specs.Frame.{IsFrameInFront}
+use Rattle.dap_frame.proofs.Common.{ap, IsFrameInFront, subst, ◌++◌, ◌∙◌, ◌≡◌}
 use Rattle.dap_frame.specs.Stream.{Stream}
 use Rattle.dap_frame.proofs.Feeding.{frames_one_more, frame_passed}
 use Rattle.dap_frame.proofs.decoder.Decoder.next_content.Goals as goal

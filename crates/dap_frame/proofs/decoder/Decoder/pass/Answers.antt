@@ -1,4 +1,4 @@
-use Rattle.std.proofs.Common.{ap, arith, vec_len}
+use Rattle.dap_frame.proofs.Common.{ap, arith, vec_len}
 use Rattle.dap_frame.proofs.Keeping.{kept_passed}
 use Rattle.dap_frame.proofs.decoder.Decoder.pass.Goals as goal
 

@@ -1,6 +1,4 @@
-use Rattle.std.proofs.Common.{subst}
-use Rattle.dap_msg.specs.StackTrace.{stack_frame}
-use Rattle.dap_msg.specs.Writing.{WritesValue}
+use Rattle.dap_msg.proofs.Common.{stack_frame, subst, WritesValue}
 use Rattle.dap_msg.proofs.Pieces.{item_written, each_written, array_written}
 use Rattle.dap_msg.proofs.requests.stack_trace.write_frames.Goals as goal
 
