@@ -3,10 +3,10 @@
 
 usage: tools/dead_lemmas.py [--specs] [CRATE..]
 
-A name counts as used where a goal's answer, an invariant, a source or a worked example leads to it, through other lemmas and
-definitions; by the file that each import names, so that two lemmas of one name aren't taken for each other. Prints a line for each
-dead lemma (`--specs`: and each dead definition) of the crates, of all if none is given. Says the count on standard error. Ends with
-status 1 where there is one.
+A name is used where an answer to a goal, an invariant, a source or a worked example leads to it, through other lemmas
+and definitions. Names are followed through imports, so two lemmas of one name aren't taken for each other. Prints a
+line for each dead lemma of the crates, or of all if none is given; with --specs for each dead definition too. Says on
+standard error how many these are, and in how many lines. Ends with status 1 where there is one.
 """
 import re
 import sys
@@ -15,11 +15,12 @@ from typing import Iterator, NamedTuple
 
 TOP = Path(__file__).resolve().parent.parent
 # Lemma files and definitions that state what is checked by computing both sides: nothing has to name them.
-WORKED = re.compile(r"/(Worked\w*|ShownQ|Rows|RowsOfTrees|Refused)\.antt$")
+WORKED = re.compile(r"/(?:Worked\w*|ShownQ|pl0_tree/proofs/Rows(?:OfTrees)?|dbg_runner/proofs/Refused)\.antt$")
 # Files of which the prover itself reads all, or what is public.
 READ_WHOLE = ("Invariants.antt", "Proof.antt", "Send.antt")
 READ_IN_PART = READ_WHOLE + ("Answers.antt",)
-NAMED = re.compile(r"^ *(?:(?:pub|abbrev|unfoldable|mutual|data|record|ruleset) )*([^\s:(){}=]+)(?: [({][^:]*:.*)? :(?: |$)")
+MODIFIERS = r"(?:(?:pub|abbrev|unfoldable|mutual|data|record) )*"
+NAMED = re.compile(rf"^ *{MODIFIERS}([^\s:(){{}}=]+)(?: [({{][^:]*:.*)? :(?: |$)")
 LISTED = re.compile(r"^ *(?:pub )?ruleset ([^\s=]+) =")
 IMPORT = re.compile(r"^(?:unfoldable )?(pub )?use ([^\s{}]+?)(?:\.\{(.*)\}| as (\S+))?$")
 SOURCE_IMPORT = re.compile(r"ghost use ([^\s{};]+?)(?:\.\{([^}]*)\}| as (\w+))?;")
@@ -47,7 +48,7 @@ class Module:
         self.imported: dict[str, str] = {}
         self.paragraphs: list[Paragraph] = []
         self.declared: dict[str, list[int]] = {}
-        self.read(file.read_text().split("\n"))
+        self.read(file.read_text(encoding="utf-8").split("\n"))
 
     def read(self, lines: list[str]) -> None:
         start = 0
@@ -153,7 +154,7 @@ class Tree:
 
     def take_source(self, source: Path) -> None:
         """Marks what a source's clauses, imports and attributes name."""
-        text = source.read_text()
+        text = source.read_text(encoding="utf-8")
         crate = source.relative_to(TOP / "crates").parts[0]
         for path, items, alias in SOURCE_IMPORT.findall(text):
             for word, whole in imports(path, items or None, alias or None):

@@ -3,11 +3,10 @@
 
 usage: tools/known_lemmas.py [CRATE..]
 
-Compares statements, whatever their variables are called, in which order these are bound, and whether a caller gives them. Prints a
-line for each lemma of the crates (of all if none is given) with the library's name for it and the file that lists it. Says the count
-on standard error. Ends with status 1 where there is one, 2 where the kit isn't found.
-
-Types of variables aren't compared, so a line may be wrong: see `rt lemma NAME` before you replace one.
+Compares statements, whatever their variables are called, in which order they are bound, and whether a caller gives
+them. Prints a line for each such lemma of the crates, or of all if none is given, with the library's name for it and
+the page that lists it. Says on standard error how many these are. Ends with status 1 where there is one, and with 2
+where the kit isn't found. It doesn't compare the types of variables: look at `rt lemma NAME` before you replace one.
 """
 import re
 import shutil
@@ -22,9 +21,10 @@ WORD = re.compile(r"(?<![\w◌'-])[^\W\d][\w']*(?:-[\w']+)*(?![\w◌'-])")
 
 
 def normal(statement: str) -> str | None:
-    """A statement with its variables numbered as they come, or none where it binds none or has no premise or equation."""
+    """A statement with its variables numbered as they come; none where it binds none, or is no law of them."""
     text = re.sub(r"\s+", " ", statement).strip()
-    text = re.sub(r"◌≡◌ \{A = [^{}]*\} ", "◌≡◌ ", text)
+    text = re.sub(r"◌≡◌ (?:\{A = [^{}]*\} )?\(([^()]*)\) \(([^()]*)\)", r"\1 ≡ \2", text)
+    text = re.sub(r"\(([^()]*(?:&&|\|\|)[^()]*)\) ≡", r"\1 ≡", text)
     bound: list[str] = []
     while (found := BINDER.match(text)) is not None:
         bound += found[1].split()
@@ -37,7 +37,7 @@ def normal(statement: str) -> str | None:
 
 def statements(file: Path, is_list: bool) -> Iterator[tuple[int, str, str]]:
     """Each line's number, name and statement of a file, joined with the lines that go on with it."""
-    lines = file.read_text(errors="ignore").split("\n")
+    lines = file.read_text(encoding="utf-8").split("\n")
     for number, line in enumerate(lines):
         found = STATED.match(line)
         if found is None or is_list and not line.startswith("pub "):

@@ -54,7 +54,7 @@ STANDS_FOR = re.compile(r"NAME|MODULE|\bName\b|\bX\.|/F/|^\.")
 LAW = re.compile(r"^pub fn (\w+_laws)\(.*\)\n((?:    (?:ensures|//) .*\n)+)", re.MULTILINE)
 CLAUSE = re.compile(r"^    ensures (\w*) ?\{ (.*) \}$", re.MULTILINE)
 ANSWER = re.compile(r"^returns(?:-clause-(\w+))? c =(.*?)(?=^pub |\Z)", re.MULTILINE | re.DOTALL)
-LEMMAS = re.compile(r"^use Rattle\.(\w+)\.proofs\.([\w.]+)\.\{(.*)\}$", re.MULTILINE)
+LEMMAS = re.compile(r"^use Rattle\.(\w+)\.proofs\.(?!Common\.)([\w.]+)\.\{(.*)\}$", re.MULTILINE)
 HISTORY_LAWS = TOP / "crates" / "dap_history" / "src" / "laws.rt"
 VERSION = r"(\d+\.\d+\.\d+)"
 # Where the version stands, and what says it there: first where it is defined.

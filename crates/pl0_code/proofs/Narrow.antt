@@ -12,9 +12,9 @@ abbrev AllNarrow : ℕ → List Row → Type 0
 AllNarrow k [] = Unit {0}
 AllNarrow k (r ∷ rs) = Narrow k r.instruction × AllNarrow k rs
 
-both : (k : ℕ) (rs ts : List Row) → AllNarrow k rs → AllNarrow k ts → AllNarrow k (rs ++ ts)
-both k [] ts a b = b
-both k (r ∷ rs) ts a b = (a.0, both k rs ts a.1 b)
+narrow-++ : (k : ℕ) (rs ts : List Row) → AllNarrow k rs → AllNarrow k ts → AllNarrow k (rs ++ ts)
+narrow-++ k [] ts a b = b
+narrow-++ k (r ∷ rs) ts a b = (a.0, narrow-++ k rs ts a.1 b)
 
 read_one : (k n : ℕ) (d : Declared) → Narrow k (read_declared n d)
 read_one k n (Constant v) = tt
@@ -44,33 +44,34 @@ module _ (k : ℕ) (r : Resolver) where
   expression_narrow : (e : Expression) (begins : Option ℕ) → AllNarrow k (expression_rows r e begins)
   expression_narrow (Number n) begins = (tt, tt)
   expression_narrow (Named x) begins = (read_narrow k (r x.word), tt)
-  expression_narrow (Negate e) begins = both k (expression_rows r e begins) _ (expression_narrow e begins) (tt, tt)
+  expression_narrow (Negate e) begins = narrow-++ k (expression_rows r e begins) _ (expression_narrow e begins) (tt, tt)
   expression_narrow (Binary op left right) begins =
-      both k (expression_rows r left begins) _ (expression_narrow left begins)
-      (both k (expression_rows r right None) _ (expression_narrow right None) (tt, tt))
+      narrow-++ k (expression_rows r left begins) _ (expression_narrow left begins)
+      (narrow-++ k (expression_rows r right None) _ (expression_narrow right None) (tt, tt))
 
   condition_narrow : (c : Condition) (begins : Option ℕ) → AllNarrow k (condition_rows r c begins)
-  condition_narrow (Odd e) begins = both k (expression_rows r e begins) _ (expression_narrow e begins) (tt, tt)
+  condition_narrow (Odd e) begins = narrow-++ k (expression_rows r e begins) _ (expression_narrow e begins) (tt, tt)
   condition_narrow (Compare c left right) begins =
-      both k (expression_rows r left begins) _ (expression_narrow left begins)
-      (both k (expression_rows r right None) _ (expression_narrow right None) (tt, tt))
+      narrow-++ k (expression_rows r left begins) _ (expression_narrow left begins)
+      (narrow-++ k (expression_rows r right None) _ (expression_narrow right None) (tt, tt))
 
   statement_narrow : (s : Statement) (from n : ℕ) → AllNarrow k (statement_rows r s from n)
   statement_narrow Empty from n = tt
   statement_narrow (Then s t) from n =
-      both k (statement_rows r s from n) _ (statement_narrow s from n)
+      narrow-++ k (statement_rows r s from n) _ (statement_narrow s from n)
       (statement_narrow t (from + length (statement_rows r s from n)) (n + step_count s))
   statement_narrow (Assign x e) from n =
-      both k (expression_rows r e (Some n)) _ (expression_narrow e (Some n)) (store_narrow k (r x.word), tt)
+      narrow-++ k (expression_rows r e (Some n)) _ (expression_narrow e (Some n)) (store_narrow k (r x.word), tt)
   statement_narrow (Call p x) from n = (call_narrow k (r x.word), tt)
-  statement_narrow (Write p e) from n = both k (expression_rows r e (Some n)) _ (expression_narrow e (Some n)) (tt, tt)
+  statement_narrow (Write p e) from n =
+      narrow-++ k (expression_rows r e (Some n)) _ (expression_narrow e (Some n)) (tt, tt)
   statement_narrow (If p c s) from n =
-      both k (condition_rows r c (Some n)) _ (condition_narrow c (Some n))
+      narrow-++ k (condition_rows r c (Some n)) _ (condition_narrow c (Some n))
       (tt, statement_narrow s (from + length (condition_rows r c (Some n)) + 1) (n + 1))
   statement_narrow (While p c s) from n =
       let at = from + length (condition_rows r c (Some n)) + 1 in
-      both k (condition_rows r c (Some n)) _ (condition_narrow c (Some n))
-      (tt, both k (statement_rows r s at (n + 1)) _ (statement_narrow s at (n + 1)) (tt, tt))
+      narrow-++ k (condition_rows r c (Some n)) _ (condition_narrow c (Some n))
+      (tt, narrow-++ k (statement_rows r s at (n + 1)) _ (statement_narrow s at (n + 1)) (tt, tt))
 
 module _ (k : ℕ) (main : Block) where
   mutual
@@ -79,10 +80,10 @@ module _ (k : ℕ) (main : Block) where
     block_narrow q (ABlock cs xs ps s end) from n few =
         let at = n + length (procedures_steps ps 0 q) in (
           tt,
-          both k (procedures_rows main q 0 ps (from + 1) n) _
+          narrow-++ k (procedures_rows main q 0 ps (from + 1) n) _
               (procedures_narrow q 0 ps (from + 1) n (omega (arith, few))) (
                 omega (arith, few),
-                both k (statement_rows (resolver main q) s (from + 1 + procedures_length ps + 1) at)
+                narrow-++ k (statement_rows (resolver main q) s (from + 1 + procedures_length ps + 1) at)
                     _ (statement_narrow k (resolver main q) s (from + 1 + procedures_length ps + 1) at) (tt, tt),
               ),
         )
@@ -91,7 +92,7 @@ module _ (k : ℕ) (main : Block) where
         → AllNarrow k (procedures_rows main q i ps from n)
     procedures_narrow q i NoMore from n few = tt
     procedures_narrow q i (AndProcedure x b more) from n few =
-        both k (block_rows main (i ∷ q) b from n) _ (block_narrow (i ∷ q) b from n (omega (arith, few)))
+        narrow-++ k (block_rows main (i ∷ q) b from n) _ (block_narrow (i ∷ q) b from n (omega (arith, few)))
         (procedures_narrow q (i + 1) more (from + block_length b) (n + length (block_steps b (i ∷ q)))
         (omega (arith, few)))
 

@@ -124,8 +124,8 @@ module _ (main : Block) (ascend : Ascend (map (λ (s : StepAt). s.place) (steps 
     one : (a to : ℕ) → to ≡ a + 1 → Agrees a → Agree a to
     one a to is at b le lt = let same : a ≡ b = omega (arith, is, le, lt) in subst Agrees same at
 
-    both : (from mid to : ℕ) → Agree from mid → Agree mid to → Agree from to
-    both from mid to first second a le lt = go (side a mid)
+    agree_on : (from mid to : ℕ) → Agree from mid → Agree mid to → Agree from to
+    agree_on from mid to first second a le lt = go (side a mid)
       where
         go : (a < mid) ⊎ (mid ≤ a) → Agrees a
         go (inl before) = first a le before
@@ -171,7 +171,7 @@ module _ (main : Block) (ascend : Ascend (map (λ (s : StepAt). s.place) (steps 
     expression_same q (Negate e) b b' from from' to to' s p x y =
         let mids : x.0 ≡ y.0 =
         omega (arith, p, expression_long u q e b from x.0 x.1, expression_long v q e b' from' y.0 y.1) in
-        both from x.0 to (expression_same q e b b' from from' x.0 y.0 s p x.1 y.1)
+        agree_on from x.0 to (expression_same q e b b' from from' x.0 y.0 s p x.1 y.1)
         (one x.0 to x.3 (laid x.0 y.0 (Operate operation.Negate) (Operate operation.Negate) None None mids refl refl
         x.2 y.2))
     expression_same q (Binary op left right) b b' from from' to to' s p x y =
@@ -181,7 +181,7 @@ module _ (main : Block) (ascend : Ascend (map (λ (s : StepAt). s.place) (steps 
         omega (arith, mids, expression_long u q right None x.0 x.1 x.3, expression_long v q right None y.0 y.1 y.3)
         in
         let i = Operate (operator_operation op) in
-        both from x.1 to (both from x.0 x.1 (expression_same q left b b' from from' x.0 y.0 s p x.2 y.2)
+        agree_on from x.1 to (agree_on from x.0 x.1 (expression_same q left b b' from from' x.0 y.0 s p x.2 y.2)
         (expression_same q right None None x.0 y.0 x.1 y.1 refl mids x.3 y.3))
         (one x.1 to x.5 (laid x.1 y.1 i i None None ends refl refl x.4 y.4))
 
@@ -190,7 +190,7 @@ module _ (main : Block) (ascend : Ascend (map (λ (s : StepAt). s.place) (steps 
     condition_same q (Odd e) b b' from from' to to' s p x y =
         let mids : x.0 ≡ y.0 =
         omega (arith, p, expression_long u q e b from x.0 x.1, expression_long v q e b' from' y.0 y.1) in
-        both from x.0 to (expression_same q e b b' from from' x.0 y.0 s p x.1 y.1)
+        agree_on from x.0 to (expression_same q e b b' from from' x.0 y.0 s p x.1 y.1)
         (one x.0 to x.3 (laid x.0 y.0 (Operate operation.Odd) (Operate operation.Odd) None None mids refl refl x.2
         y.2))
     condition_same q (Compare r left right) b b' from from' to to' s p x y =
@@ -200,7 +200,7 @@ module _ (main : Block) (ascend : Ascend (map (λ (s : StepAt). s.place) (steps 
         omega (arith, mids, expression_long u q right None x.0 x.1 x.3, expression_long v q right None y.0 y.1 y.3)
         in
         let i = Operate (relation_operation r) in
-        both from x.1 to (both from x.0 x.1 (expression_same q left b b' from from' x.0 y.0 s p x.2 y.2)
+        agree_on from x.1 to (agree_on from x.0 x.1 (expression_same q left b b' from from' x.0 y.0 s p x.2 y.2)
         (expression_same q right None None x.0 y.0 x.1 y.1 refl mids x.3 y.3))
         (one x.1 to x.5 (laid x.1 y.1 i i None None ends refl refl x.4 y.4))
 
@@ -297,7 +297,7 @@ module _ (main : Block) (ascend : Ascend (map (λ (s : StepAt). s.place) (steps 
         statement_same q (Then s t) from from' to to' p x y =
             let mids : x.0 ≡ y.0 =
             omega (arith, p, statement_long u e q s from x.0 x.1, statement_long v f q s from' y.0 y.1) in
-            both from x.0 to (statement_same q s from from' x.0 y.0 p x.1 y.1)
+            agree_on from x.0 to (statement_same q s from from' x.0 y.0 p x.1 y.1)
             (statement_same q t x.0 y.0 to to' mids x.2 y.2)
         statement_same q (Assign w t) from from' to to' p x y =
             let steps = number_once x.step y.step _ x.numbered y.numbered in
@@ -309,7 +309,7 @@ module _ (main : Block) (ascend : Ascend (map (λ (s : StepAt). s.place) (steps 
               expression_long v q t
                   (Some y.step) from' y.last y.value,
             ) in
-            both from x.last to (expression_same q t (Some x.step) (Some y.step) from from' x.last y.last
+            agree_on from x.last to (expression_same q t (Some x.step) (Some y.step) from from' x.last y.last
             (ap Some steps) p x.value y.value)
             (one x.last to x.behind (store q (home main q w.word) x.last y.last lasts x.store y.store))
         statement_same q (Call r w) from from' to to' p x y =
@@ -326,7 +326,7 @@ module _ (main : Block) (ascend : Ascend (map (λ (s : StepAt). s.place) (steps 
                   (Some y.step) from' y.last y.value,
             ) in
             let i = Operate operation.Write in
-            both from x.last to (expression_same q t (Some x.step) (Some y.step) from from' x.last y.last
+            agree_on from x.last to (expression_same q t (Some x.step) (Some y.step) from from' x.last y.last
             (ap Some steps) p x.value y.value)
             (one x.last to x.behind (laid x.last y.last i i None None lasts refl refl x.write y.write))
         statement_same q (If r t s) from from' to to' p x y =
@@ -347,8 +347,8 @@ module _ (main : Block) (ascend : Ascend (map (λ (s : StepAt). s.place) (steps 
               statement_long v f q s (y.last + 1)
                   to' y.body,
             ) in
-            both from (x.last + 1) to
-            (both from x.last (x.last + 1)
+            agree_on from (x.last + 1) to
+            (agree_on from x.last (x.last + 1)
             (condition_same q t (Some x.step) (Some y.step) from from' x.last y.last (ap Some steps) p x.test
             y.test)
             (one x.last (x.last + 1) refl
@@ -374,9 +374,9 @@ module _ (main : Block) (ascend : Ascend (map (λ (s : StepAt). s.place) (steps 
                   (y.last + 1) y.back y.body,
             ) in
             let ends : to ≡ to' = omega (arith, backs, x.behind, y.behind) in
-            both from x.back to
-            (both from (x.last + 1) x.back
-            (both from x.last (x.last + 1)
+            agree_on from x.back to
+            (agree_on from (x.last + 1) x.back
+            (agree_on from x.last (x.last + 1)
             (condition_same q t (Some x.step) (Some y.step) from from' x.last y.last (ap Some steps) p x.test
             y.test)
             (one x.last (x.last + 1) refl
@@ -409,10 +409,10 @@ module _ (main : Block) (ascend : Ascend (map (λ (s : StepAt). s.place) (steps 
               let steps = number_once x.step y.step _ x.numbered y.numbered in
               let i = Enter (cell (length xs)) in
               let r = Operate operation.Return in
-              both from x.last to
-              (both from (x.start + 1) x.last
-              (both from x.start (x.start + 1)
-              (both from (from + 1) x.start
+              agree_on from x.last to
+              (agree_on from (x.start + 1) x.last
+              (agree_on from x.start (x.start + 1)
+              (agree_on from (from + 1) x.start
               (one from (from + 1) refl (laid from from' (Jump x.start) (Jump y.start) None None p (ap Jump starts) refl
               x.jump y.jump))
               (procedures_same q 0 ps (from + 1) (from' + 1) x.start y.start (omega (arith, p)) x.procedures
@@ -428,7 +428,7 @@ module _ (main : Block) (ascend : Ascend (map (λ (s : StepAt). s.place) (steps 
           procedures_same q i (AndProcedure w b more) from from' to to' p x y =
               let mids : x.0 ≡ y.0 =
               omega (arith, p, block_long u e (i ∷ q) b from x.0 x.1, block_long v f (i ∷ q) b from' y.0 y.1) in
-              both from x.0 to (block_same (i ∷ q) b from from' x.0 y.0 p x.1 y.1)
+              agree_on from x.0 to (block_same (i ∷ q) b from from' x.0 y.0 p x.1 y.1)
               (procedures_same q (i + 1) more x.0 y.0 to to' mids x.2 y.2)
 
     both_same : Coded u → Coded v → (c ≡ d) × (l ≡ m)

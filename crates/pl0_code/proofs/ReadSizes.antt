@@ -1,7 +1,8 @@
 -- The code of a program has no more instructions than the program has tokens, and one.
+use Rattle.pl0_tree.specs.SharedLemmas.{constant_part_shorter}
 use Rattle.pl0_code.proofs.Common.{ABlock, arith, Binary, Block, block_length, Condition, condition_length, Expression, expression_length, length, List, Name, Negate, NoMore, Procedures, procedures_length, Statement, statement_length, Token, ℕ, ◌+◌, ◌∷◌, ◌≤◌}
-use Rattle.pl0_tree.specs.Tree.{Constant, AProcedure}
-use Rattle.pl0_tree.specs.Reading.{ReadsExpression, unsigned, positive, negative, ReadsMoreTerms, no_term, one_term, ReadsTerm, factors, ReadsMoreFactors, no_factor, one_factor, ReadsFactor, nested, ReadsCondition, odd, comparison, ReadsStatement, empty, assignment, call, write, sequence, choice, loop, ReadsStatements, last_statement, one_statement, ReadsConstants, last_constant, one_constant, ReadsConstantPart, no_constants, constants, ReadsVariables, last_variable, one_variable, ReadsVariablePart, no_variables, variables, ReadsBlock, block, ReadsProcedures, no_procedure, one_procedure, ReadsProgram, program}
+use Rattle.pl0_tree.specs.Tree.{AProcedure}
+use Rattle.pl0_tree.specs.Reading.{ReadsExpression, unsigned, positive, negative, ReadsMoreTerms, no_term, one_term, ReadsTerm, factors, ReadsMoreFactors, no_factor, one_factor, ReadsFactor, nested, ReadsCondition, odd, comparison, ReadsStatement, empty, assignment, call, write, sequence, choice, loop, ReadsStatements, last_statement, one_statement, constants, ReadsVariables, last_variable, one_variable, ReadsVariablePart, no_variables, variables, ReadsBlock, block, ReadsProcedures, no_procedure, one_procedure, ReadsProgram, program}
 
 abbrev mutual
   -- how many variables a block declares, with those of the blocks in it
@@ -76,17 +77,6 @@ mutual
   statements_fits s _ rest (one_statement {t = t} {x = x} {more = more} statement statements) =
       let a = statement_fits s x _ statement in let b = statements_fits t more rest statements in omega (arith, a, b)
 
-constants_fits : (s : List Token) (cs : List Constant) (rest : List Token) → ReadsConstants s cs rest
-    → length rest ≤ length s
-constants_fits _ _ rest last_constant = omega arith
-constants_fits _ _ rest (one_constant {cs = cs} {s = s} more) =
-    let a = constants_fits s cs rest more in omega (arith, a)
-
-constant_part_fits : (s : List Token) (cs : List Constant) (rest : List Token) → ReadsConstantPart s cs rest
-    → length rest ≤ length s
-constant_part_fits s _ _ no_constants = omega arith
-constant_part_fits _ cs rest (constants {s = s} more) = let a = constants_fits s cs rest more in omega (arith, a)
-
 variables_fits : (s : List Token) (xs : List Name) (rest : List Token) → ReadsVariables s xs rest
     → length xs + length rest ≤ length s
 variables_fits _ _ rest last_variable = omega arith
@@ -103,7 +93,7 @@ mutual
       → block_length x + variable_count x + length rest ≤ length s + 3
   block_fits s _ _ (block {t = t} {u = u} {v = v} {rest = rest} {ending = ending} {constants = cs} {variables = xs}
       {procedures = ps} {body = body} constant_part variable_part procedures statement) =
-      let a = constant_part_fits s cs t constant_part in
+      let a = constant_part_shorter s cs t constant_part in
       let b = variable_part_fits t xs u variable_part in
       let c = procedures_fits u ps v procedures in
       let d = statement_fits v body (ending ∷ rest) statement in

@@ -2,7 +2,7 @@
 use Rattle.std.proofs.Common.{◌≡◌, ℕ, zero, suc, ◌<◌, List, [], ◌∷◌, ◌++◌, length, refl, sym, subst, arith}
 use Rattle.std.specs.Prelude.{Option, Some, None, slice_get}
 use Rattle.std.specs.Option.{option_map_or}
-use Rattle.pl0_tree.specs.Tree.{Statement, Empty, Then, Assign, Call, Write, If, While, Block}
+use Rattle.pl0_tree.specs.Tree.{Statement, Empty, Then, If, While, Block}
 use Rattle.pl0_tree.specs.Scope.{Path, block_at}
 use Rattle.pl0_tree.specs.Steps.{StepAt, steps, step_path, statement_steps}
 use Rattle.pl0_meaning.specs.Values.{Frame, StandsBefore, first_step, next_step, return_of}
@@ -24,11 +24,9 @@ statement_in : (q : Path) (s : Statement) → AllIn q (statement_steps s q)
 statement_in q Empty = tt
 statement_in q (Then s t) =
     all_joined q (statement_steps s q) (statement_steps t q) (statement_in q s) (statement_in q t)
-statement_in q (Assign x e) = (refl, tt)
-statement_in q (Call p x) = (refl, tt)
-statement_in q (Write p e) = (refl, tt)
 statement_in q (If p c s) = (refl, statement_in q s)
 statement_in q (While p c s) = (refl, statement_in q s)
+statement_in q _ = (refl, tt)
 
 first_in : (q : Path) (ss : List StepAt) → AllIn q ss → IsIn q (slice_get ss 0)
 first_in q [] a = tt

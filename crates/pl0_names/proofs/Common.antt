@@ -24,10 +24,10 @@ pub use Rattle.pl0_tree.specs.declared.step.Step.{Step}
 pub use Rattle.pl0_tree.specs.declared.tree.Block.{out-Block}
 pub use Rattle.pl0_tree.specs.declared.tree.Place.{Place}
 pub use Rattle.pl0_tree.specs.declared.tree.Procedure.{out-Procedure, Procedure}
-pub use Rattle.std.proofs.Common.{[], add-one, add-zero, ap, append-nil, append_assoc, arith, Bool, cond, drop, drop-cons, Err, false, get_or, inl, inr, length, length-append, List, map, Ok, refl, Result, reverse, rules, subst, suc, sym, take, true, vec_len, zero, ℕ, ◌++◌, ◌+◌, ◌-◌, ◌<◌, ◌^◌, ◌||◌, ◌∙◌, ◌∷◌, ◌≡◌, ◌≤◌, ◌⊎◌}
+pub use Rattle.std.proofs.Common.{[], add-one, add-zero, ap, append-nil, append_assoc, arith, Bool, cond, drop, Err, false, get_or, inl, inr, length, length-append, List, map, Ok, refl, Result, reverse, rules, subst, suc, sym, take, true, vec_len, zero, ℕ, ◌++◌, ◌+◌, ◌-◌, ◌<◌, ◌^◌, ◌||◌, ◌∙◌, ◌∷◌, ◌≡◌, ◌≤◌, ◌⊎◌}
 pub use Rattle.std.proofs.lemmas.Bool.{both_ways, cases_eq, eqb-true, false_from_ne_true}
-pub use Rattle.std.proofs.lemmas.List.{drop_all, get_or_append_left, get_or_at, length-map, length-reverse, reverse-append, reverse-reverse}
-pub use Rattle.std.proofs.lemmas.Option.{none-some, same_Some, slice_get-get_or, slice_get-map, slice_get_read, slice_get_within}
+pub use Rattle.std.proofs.lemmas.List.{drop_all, drop_more, get_or_append_left, get_or_at, length-map, length-reverse, reverse-append, reverse-reverse}
+pub use Rattle.std.proofs.lemmas.Option.{none-some, same_Some, slice_get-get_or, slice_get-map, slice_get_read, slice_get_within, some_pair_parts}
 pub use Rattle.std.proofs.lemmas.Slice.Eq.{bytes_eq-Decides}
 pub use Rattle.std.specs.Option.{option_map_or, option_or}
 pub use Rattle.std.specs.Prelude.{Box, find, IfErr, is_some, IsOk, IsSome, MatchOption, nat_eq, nat_lt, None, OnErr, OnOk, Option, option_and_then, option_map, position, slice_get, Some, string_bytes, Vec, ◌&&◌}

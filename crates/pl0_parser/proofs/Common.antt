@@ -19,6 +19,6 @@ pub use Rattle.pl0_tree.specs.declared.tree.Place.{Place}
 pub use Rattle.std.proofs.Common.{[], add-zero, ap, append_assoc, arith, Bool, cond, drop, eqb, false, get_or, inl, inr, length, List, lit<, map, pos, pred, refl, rules, subst, suc, sym, take, true, zero, ℕ, ℤ, ⊎_elim, ◌*◌, ◌++◌, ◌+◌, ◌-◌, ◌<◌, ◌^◌, ◌||◌, ◌∙◌, ◌∷◌, ◌≡◌, ◌≤◌}
 pub use Rattle.std.proofs.lemmas.Int.{to_z_pos}
 pub use Rattle.std.proofs.lemmas.List.{append-nil, map-append}
-pub use Rattle.std.specs.Prelude.{Box, Err, find, fold, IfErr, if◌then◌else◌, IsErrAnd, nat_eq, nat_le, nat_lt, not, Ok, Option, Result, slice_get, Some, take_while, ◌&&◌, ◌==◌, ◌⊎◌}
+pub use Rattle.std.specs.Prelude.{Box, Err, find, fold, if◌then◌else◌, IsErrAnd, nat_eq, nat_le, nat_lt, not, Ok, Option, replicate, Result, slice_get, Some, take_while, ◌&&◌, ◌==◌, ◌⊎◌}
 pub use mir.Syntax.{w64}
 pub use mir.Val.{of_z, to_z}

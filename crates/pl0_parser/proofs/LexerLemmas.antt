@@ -5,7 +5,7 @@ use Rattle.std.specs.List.{starts_with}
 use Rattle.std.specs.Str.{IsAscii}
 use Rattle.std.specs.Cmp.Lexicographic.{pointwise}
 use Rattle.std.specs.Char.{is_ascii_digit, is_ascii_alphabetic}
-use Rattle.std.proofs.lemmas.Bool.{cond-false, cond-true, eqb-true}
+use Rattle.std.proofs.lemmas.Bool.{cond-false, cond-true, eqb-true, and_parts}
 use Rattle.std.proofs.lemmas.Bool.Decides.{nat_tests}
 use Rattle.pl0_tree.specs.declared.token.Symbol.{Symbol as Seen}
 use Rattle.pl0_parser.specs.Cutting.{StaysOnLine, IsPiece, IsFront, IsSign, along}
@@ -201,20 +201,15 @@ is_visible (b ∷ c ∷ bytes) = not (b == 10) && is_visible (c ∷ bytes)
 not_line_feed : (b : ℕ) → not (b == 10) ≡ true → b ≡ 10 → ⊥
 not_line_feed b visible same = let other = ap (λ n. not (n == 10)) same in cc
 
-both : (x y : Bool) → x && y ≡ true → (x ≡ true) × (y ≡ true)
-both true true is = (refl, refl)
-both true false is = cc
-both false y is = cc
-
 -- bytes that begin with a visible text stay on the line as long as it goes
 begins_stays : (ys xs : List ℕ) → is_visible ys ≡ true → starts_with nat_eq xs ys ≡ true → StaysOnLine (length ys) xs
 begins_stays [] xs visible begins = tt
 begins_stays (y ∷ []) (x ∷ xs) visible begins =
-    let (first, rest) = both (nat_eq y x) (pointwise nat_eq [] []) begins in
+    let (first, rest) = and_parts (nat_eq y x) (pointwise nat_eq [] []) begins in
     (λ same. not_line_feed y visible (eqb-true y x first ∙ same), tt)
 begins_stays (y ∷ z ∷ ys) (x ∷ xs) visible begins =
-    let (first, rest) = both (nat_eq y x) (pointwise nat_eq (z ∷ ys) (take (length (z ∷ ys)) xs)) begins in
-    let (head, tail) = both (not (y == 10)) (is_visible (z ∷ ys)) visible in
+    let (first, rest) = and_parts (nat_eq y x) (pointwise nat_eq (z ∷ ys) (take (length (z ∷ ys)) xs)) begins in
+    let (head, tail) = and_parts (not (y == 10)) (is_visible (z ∷ ys)) visible in
     (λ same. not_line_feed y head (eqb-true y x first ∙ same), begins_stays (z ∷ ys) xs tail rest)
 begins_stays _ [] visible begins = cc
 
@@ -240,7 +235,7 @@ sign_fits : (entries : List (List ℕ × Mark)) (xs : List ℕ) → all_visible 
     → FitsOnLine xs (sign_piece (find (λ entry. starts_with nat_eq xs entry.0) entries)).1
 sign_fits [] xs visible one = one
 sign_fits (entry ∷ entries) xs visible one =
-    let (head, tail) = both (is_visible entry.0) (all_visible entries) visible in
+    let (head, tail) = and_parts (is_visible entry.0) (all_visible entries) visible in
     found_at (starts_with nat_eq xs entry.0) xs entry (find (λ e. starts_with nat_eq xs e.0) entries) head refl
     (sign_fits entries xs tail one)
 

@@ -1,5 +1,6 @@
 -- The tokens of a text stand in the order of their places.
 use Rattle.std.proofs.lemmas.Option.{same_Some}
+use Rattle.pl0_tree.specs.SharedLemmas.{before_trans}
 use Rattle.pl0_parser.proofs.Common.{[], arith, behind, Bool, cond, eqb, false, front_piece, inl, inr, is_space, length, List, lit<, map, Place, pred, refl, slice_get, Some, start, subst, suc, Token, tokens_from, tokens_of, true, zero, ℕ, ◌+◌, ◌∷◌, ◌≡◌, ◌≤◌}
 use Rattle.pl0_tree.specs.Scope.{IsBefore}
 use Rattle.pl0_tree.specs.Ascending.{Ascend}
@@ -8,12 +9,6 @@ use Rattle.pl0_tree.specs.Ascending.{Ascend}
 abbrev pub AscendBehind : Place → List Token → Type 0
 AscendBehind p [] = Unit {0}
 AscendBehind p (t ∷ ts) = IsBefore p t.place × AscendBehind t.place ts
-
-before_trans : (p q r : Place) → IsBefore p q → IsBefore q r → IsBefore p r
-before_trans p q r (inl a) (inl b) = inl (omega arith)
-before_trans p q r (inl a) (inr b) = inl (omega (arith, b.0))
-before_trans p q r (inr a) (inl b) = inl (omega (arith, a.0))
-before_trans p q r (inr a) (inr b) = inr (omega (arith, a.0, b.0), omega (arith, a.1, b.1))
 
 behind_at : (p : Place) (b : ℕ) (v : Bool) → IsBefore p
     (cond v (record { line = p.line + 1; column = 1 }) (record { line = p.line; column = p.column + 1 }))

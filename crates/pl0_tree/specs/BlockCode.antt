@@ -52,13 +52,6 @@ names_back (x ∷ xs) = ap (λ l. x ∷ l) (names_back xs)
 
 -- ---- a block and procedures as a statement
 
--- a block but for its procedures
-record Head : Type 0 where
-  constants : List Constant
-  variables : List Name
-  body : Statement
-  end : Place
-
 abbrev head_as : List Constant → List Name → Statement → Place → Statement
 head_as cs xs s p = Then (constants_as cs) (Then (names_as xs) (Then s (Call p nobody)))
 

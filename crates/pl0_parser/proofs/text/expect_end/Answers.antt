@@ -1,19 +1,19 @@
+use Rattle.pl0_tree.specs.SharedLemmas.{handed_on}
 use Rattle.pl0_parser.proofs.Common.{ap, at, ending, left_of, Marked, Period, RefusedAll, ◌∙◌, ◌∷◌}
 use Rattle.pl0_parser.proofs.Progress.{stays_all, fails}
 use Rattle.pl0_parser.proofs.Statements.{marked}
-use Rattle.pl0_parser.proofs.Whole.{text_exits}
 use Rattle.pl0_parser.proofs.text.expect_end.Goals as goal
 
 pub returns-in_err-rest-clause-fault : goal.returns-in_err-rest-clause-fault
 returns-in_err-rest-clause-fault c =
     let tokens = left_of c.args.tokens in
-    text_exits (RefusedAll ending tokens) c.from_residual.result c.in_err-rest.field-0.0 c.from_residual.ensures.1
+    handed_on (RefusedAll ending tokens) c.from_residual.result c.in_err-rest.field-0.0 c.from_residual.ensures.1
     (fails c.in_err-rest.field-0.0 (stays_all {wanted = ending} {tokens = tokens}) c.in_err-rest.ensures)
 
 pub returns-in_err-finish-clause-fault : goal.returns-in_err-finish-clause-fault
 returns-in_err-finish-clause-fault c =
     let tokens = left_of c.args.tokens in
-    text_exits (RefusedAll ending tokens) c.from_residual-in_err-finish.result c.in_err-finish.field-0.0
+    handed_on (RefusedAll ending tokens) c.from_residual-in_err-finish.result c.in_err-finish.field-0.0
     c.from_residual-in_err-finish.ensures.1
     (fails c.in_err-finish.field-0.0 (marked {rest = left_of c.in_ok-rest.rest}
     (stays_all {wanted = ending} {tokens = tokens}) c.in_ok-rest.ensures) c.in_err-finish.ensures)
