@@ -1,4 +1,4 @@
-use Rattle.pl0_tree.specs.Plain.{plain_block}
+use Rattle.pl0_syntax.proofs.Common.{plain_block}
 use Rattle.pl0_syntax.proofs.parsing.tree_of.Goals as goal
 
 pub invariant_of-result : goal.invariant_of-result
