@@ -239,8 +239,7 @@ decide_rest bytes fields left ok e none = elim (cases_lt (length bytes) header_l
       part = left;
       faultless = ok;
       there = long;
-      spelled =
-          e;
+      spelled = e;
       incomplete = none;
     },
   ))
@@ -281,8 +280,7 @@ decide_line bytes fields line after ok e one more =
             let empty : line_of line ≡ line_end = ap line_of end.0 in
             decide_whole bytes (lines_of fields ++ line_end) others end.1.0
             (record {
-              fields =
-                  fields;
+              fields = fields;
               shaped = ok.shaped;
               spelled = refl;
               once = end.1.2;

@@ -50,8 +50,7 @@ digits_small value h l = let small = digits_value_short digits_model value 7 h l
 
 -- one digit more
 pub number_more : (value : List ℕ) (i n : ℕ) → i < length value → 48 ≤ get_or value i 0 → get_or value i 0 ≤ 57
-    → n ≡ digits_value 10 (take i value)
-    → n * 10 + (get_or value i 0 - 48) ≡ digits_value 10 (take (i + 1) value)
+    → n ≡ digits_value 10 (take i value) → n * 10 + (get_or value i 0 - 48) ≡ digits_value 10 (take (i + 1) value)
 number_more value i n l low high e =
     let digit = digit_value_digit (get_or value i 0) (low, high) in
     let d : get_or value i 0 - 48 ≡ digit_value (get_or value i 0) = omega (arith, digit) in

@@ -158,8 +158,7 @@ has_or {shown = shown} {d = d} reads o key default fits x is =
 is_read : {A : Type 0} {read : Data → Option A} {shown : A → Data} {P : A → Type 0} {given : Option Data} {d : Data}
     → Reads A read shown P → IsObjectOf given d → (key : List ℕ) (x : A) → Has key (shown x) given → P x
     → required read key d ≡ Some x
-is_read {read = read} reads o key x found fits =
-    ap (option_and_then read) (o.same key ∙ found) ∙ reads.back x fits
+is_read {read = read} reads o key x found fits = ap (option_and_then read) (o.same key ∙ found) ∙ reads.back x fits
 
 is_read_or : {A : Type 0} {read : Data → Option A} {shown : A → Data} {P : A → Type 0} {given : Option Data} {d : Data}
     → Reads A read shown P → IsObjectOf given d → (key : List ℕ) (default x : A)
@@ -446,8 +445,7 @@ path_of_member (Some d) p is =
     let read = map_is Some (as_str d) p is in
     ap Some (text_is d read.0 read.1) ∙ ap (option_map string) read.2
 
-path_back_of : (m : Option Data) (p : Option (List ℕ)) → m ≡ option_map string p
-    → or_default None some_text m ≡ Some p
+path_back_of : (m : Option Data) (p : Option (List ℕ)) → m ≡ option_map string p → or_default None some_text m ≡ Some p
 path_back_of m None is = rw is
 path_back_of m (Some s) is = rw is
 
@@ -567,8 +565,7 @@ asked_is_read (command.Launch x) name given called asks =
 asked_is_read (command.SetBreakpoints x) name given called asks =
     by_name supported.SetBreakpoints name given called ∙ made command.SetBreakpoints supported.SetBreakpoints _ x
     (read_of given x asks.given_well (λ d o. set_breakpoints_read given d x o asks))
-asked_is_read command.ConfigurationDone name given called asks =
-    by_name supported.ConfigurationDone name given called
+asked_is_read command.ConfigurationDone name given called asks = by_name supported.ConfigurationDone name given called
 asked_is_read command.Threads name given called asks = by_name supported.Threads name given called
 asked_is_read (command.Resume kind x) name given called asks =
     by_name (supported.Resume kind) name given (resume_named kind x name called)
@@ -614,8 +611,7 @@ called_supported (command.Inspect (question.StackTrace x)) name called = ap (λ 
 called_supported _ name called = ap (λ t. is_some (supported_command t)) called
 
 not_called : (c : Command) (name : List ℕ) → supported_command name ≡ None → IsCalled c name → ⊥
-not_called c name none called =
-    true≢false (sym (called_supported c name called) ∙ ap is_some none)
+not_called c name none called = true≢false (sym (called_supported c name called) ∙ ap is_some none)
 
 -- arguments that can't be read are bad: none of the command are given
 bad : (k : Supported) (name : List ℕ) (given : Option Data) → command_of name given ≡ command.BadArguments k
@@ -624,8 +620,7 @@ bad k name given is c called asks =
     subst (λ e. IsGiven e given) (sym (asked_is_read c name given called asks) ∙ is) asks
 
 asked_made : {A : Type 0} (make : A → Command) (k : Supported) (o : Option A) (name : List ℕ) (given : Option Data)
-    → ((c : Command) × IsCalled c name)
-    → command_of name given ≡ unwrap_or (option_map make o) (command.BadArguments k)
+    → ((c : Command) × IsCalled c name) → command_of name given ≡ unwrap_or (option_map make o) (command.BadArguments k)
     → ((x : A) → o ≡ Some x → IsAsked (make x) name given)
     → IsAsked (unwrap_or (option_map make o) (command.BadArguments k)) name given
 asked_made make k None name given some is each = (some, bad k name given is)

@@ -1,5 +1,6 @@
 -- What is written piece by piece is written whole.
-use Rattle.dap_msg.proofs.Common.{[], ap, append-nil, append_assoc, Data, Fits, flat_map, flat_map_more, get_or, items_of, items_outline, ItemsFit, length, List, map, map-append, member, Members, members_outline, members_tokens_of, MembersFit, no_members, None, object, Ok, on_ok_weaker, OnOk, Option, refl, Result, Some, sym, take, take_all, take_more, tokens_of, with_body, WritesMembers, WritesValue, ℕ, ◌++◌, ◌+◌, ◌<◌, ◌∙◌, ◌∷◌, ◌≡◌, ◌≤◌}
+use Rattle.dap_msg.proofs.PlainAnswers.{items_more_fit}
+use Rattle.dap_msg.proofs.Common.{[], ap, append-nil, append_assoc, Data, flat_map, flat_map_more, get_or, items_of, items_outline, ItemsFit, length, List, map, map-append, member, Members, members_outline, members_tokens_of, MembersFit, no_members, None, object, Ok, on_ok_weaker, OnOk, Option, refl, Result, Some, sym, take, take_all, take_more, tokens_of, with_body, WritesMembers, WritesValue, ℕ, ◌++◌, ◌+◌, ◌<◌, ◌∙◌, ◌∷◌, ◌≡◌, ◌≤◌}
 use Rattle.json.specs.Token.{Token, begin_object, end_object, begin_array, end_array, key}
 use Rattle.json.specs.Tree.{items_tokens, members_tokens}
 use Rattle.json.specs.Written.{Written, Writes}
@@ -16,16 +17,12 @@ pub record WritesItems (ds : List Data) (old new : Written) : Type 0 where
   pub tokens : new.tokens ≡ old.tokens ++ flat_map tokens_of ds
   pub fits : ItemsFit (items_of ds)
 
-one_more_fits : (ds : List Data) (d : Data) → ItemsFit (items_of ds) → Fits d → ItemsFit (items_of (ds ++ d ∷ []))
-one_more_fits [] d all fits = (fits, tt)
-one_more_fits (e ∷ ds) d all fits = (all.0, one_more_fits ds d all.1 fits)
-
-one_more : (ds : List Data) (d : Data) (s0 s1 s2 : Written) → WritesItems ds s0 s1 → WritesValue d s1 s2
+writes_items-push : (ds : List Data) (d : Data) (s0 s1 s2 : Written) → WritesItems ds s0 s1 → WritesValue d s1 s2
     → WritesItems (ds ++ d ∷ []) s0 s2
-one_more ds d s0 s1 s2 old new = record {
+writes_items-push ds d s0 s1 s2 old new = record {
   before = new.before ∙ old.before;
   tokens = rw (new.tokens, old.tokens) (flat_map_more tokens_of s0.tokens ds d);
-  fits = one_more_fits ds d old.fits new.fits;
+  fits = items_more_fit ds d old.fits new.fits;
 }
 
 pub item_written : {X : Type 0} (f : X → Data) (xs : List X) (i : ℕ) (d : X) (s0 s1 s2 : Written) → i < length xs
@@ -33,7 +30,7 @@ pub item_written : {X : Type 0} (f : X → Data) (xs : List X) (i : ℕ) (d : X)
     → WritesItems (map f (take (i + 1) xs)) s0 s2
 item_written f xs i d s0 s1 s2 lt old new =
     rw (take_more xs i d lt, map-append f (take i xs) (get_or xs i d ∷ []))
-    (one_more (map f (take i xs)) (f (get_or xs i d)) s0 s1 s2 old new)
+    (writes_items-push (map f (take i xs)) (f (get_or xs i d)) s0 s1 s2 old new)
 
 items_end : (ds : List Data) → items_tokens (items_outline (items_of ds)) ≡ flat_map tokens_of ds ++ end_array ∷ []
 items_end [] = refl
@@ -57,8 +54,7 @@ array_written {r = r} {ds = ds} {s0 = s0} {s1 = s1} {s2 = s2} {s3 = s3} opened i
     on_ok_weaker r (array_closed ds s0 s1 s2 s3 opened items closed.room.0) closed.ok
 
 pub each_written : {X : Type 0} (f : X → Data) (xs : List X) (i : ℕ) (s0 s1 : Written) → length xs ≤ i
-    → WritesItems (map f (take i xs)) s0 s1
-    → WritesItems (map f xs) s0 s1
+    → WritesItems (map f (take i xs)) s0 s1 → WritesItems (map f xs) s0 s1
 each_written f xs i s0 s1 le items = rw (take_all i xs le) at items
 
 pub one_written : {d : Data} {s0 s1 : Written} → WritesValue d s0 s1 → WritesItems (d ∷ []) s0 s1
@@ -129,8 +125,7 @@ object_written {r = r} {ms = ms} {s0 = s0} {s1 = s1} {s2 = s2} {s3 = s3} opened 
 -- an object at a key
 pub object_member_written : {E : Type 0} {r : Result (Unit {0}) E} {k : List ℕ} {ms : Members} {s s0 s1 s2 s3 : Written}
     → Writes {E = E} (Ok tt) s s0 (key k) → Writes {E = E} (Ok tt) s0 s1 begin_object → WritesMembers ms s1 s2
-    → Writes r s2 s3 end_object
-    → OnOk r (WritesMembers (member k (object ms) no_members) s s3)
+    → Writes r s2 s3 end_object → OnOk r (WritesMembers (member k (object ms) no_members) s s3)
 object_member_written {E = E} {r = r} {k = k} {ms = ms} {s = s} {s0 = s0} {s1 = s1} {s2 = s2} {s3 = s3} named opened
     members closed =
     let value : s3.tokens ≡ s2.tokens ++ end_object ∷ [] → WritesMembers (member k (object ms) no_members) s s3 =
@@ -139,7 +134,6 @@ object_member_written {E = E} {r = r} {k = k} {ms = ms} {s = s} {s0 = s0} {s1 = 
 
 -- a body, if there is one, and other members
 pub body_and_then : (o : Option Data) {ns : Members} {s0 s1 s2 : Written} → WritesMembers (with_body o no_members) s0 s1
-    → WritesMembers ns s1 s2
-    → WritesMembers (with_body o ns) s0 s2
+    → WritesMembers ns s1 s2 → WritesMembers (with_body o ns) s0 s2
 body_and_then None body others = and_then body others
 body_and_then (Some d) body others = and_then body others

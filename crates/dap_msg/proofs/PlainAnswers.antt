@@ -67,8 +67,7 @@ five : (s a b c d e : List ℕ) → (((((s ++ a) ++ b) ++ c) ++ d) ++ e) ≡ s +
 five s a b c d e = simp append_assoc
 
 plain_digit : (n : ℕ) → is_plain_byte (digit_glyph false (n % 10)) ≡ true
-plain_digit n =
-    agree_below_at (λ d. is_plain_byte (digit_glyph false d)) (λ d. true) 10 (n % 10) refl (omega arith)
+plain_digit n = agree_below_at (λ d. is_plain_byte (digit_glyph false d)) (λ d. true) 10 (n % 10) refl (omega arith)
 
 plain_onto : (k n : ℕ) (after : List ℕ) → is_plain after ≡ true → is_plain (digits_onto k 10 false n after) ≡ true
 plain_onto zero n after is = is
@@ -98,8 +97,7 @@ no_parts_fit = omega arith
 pub variable_put : (v : Variable) (s0 s1 s2 s3 s4 s5 : List ℕ) → is_plain v.name ≡ true
     → s1 ≡ s0 ++ codes "{\"name\":\"" → s2 ≡ s1 ++ v.name
     → s3 ≡ s2 ++ codes "\",\"value\":\"" → s4 ≡ s3 ++ signed_decimal v.value
-    → s5 ≡ s4 ++ codes "\",\"variablesReference\":0}"
-    → PutsValue (variable v) s0 s5
+    → s5 ≡ s4 ++ codes "\",\"variablesReference\":0}" → PutsValue (variable v) s0 s5
 unfolding escape_byte digits
 variable_put v s0 s1 s2 s3 s4 s5 plain e1 e2 e3 e4 e5 = record {
   text = rw (e5, e4, e3, e2, e1)
@@ -139,7 +137,7 @@ items_closed later (d ∷ ds) =
     ap (λ t. comma_if later ++ (compact_text d ++ t)) (items_closed true ds)
     ∙ four (comma_if later) (compact_text d) (joined_text true ds) (93 ∷ [])
 
-items_more_fit : (ds : List Data) (d : Data) → ItemsFit (items_of ds) → Fits d → ItemsFit (items_of (ds ++ d ∷ []))
+pub items_more_fit : (ds : List Data) (d : Data) → ItemsFit (items_of ds) → Fits d → ItemsFit (items_of (ds ++ d ∷ []))
 items_more_fit [] d all fits = (fits, tt)
 items_more_fit (e ∷ ds) d all fits = (all.0, items_more_fit ds d all.1 fits)
 
@@ -214,8 +212,7 @@ seven : (s a b c d e f g : List ℕ)
 seven s a b c d e f g = simp append_assoc
 
 pub end_put : (command : List ℕ) (request_seq seq : ℕ) (s0 s1 s2 s3 s4 s5 s6 s7 : List ℕ) → is_plain command ≡ true
-    → request_seq < 2 ^ 64 → seq < 2 ^ 64
-    → s1 ≡ s0 ++ codes ",\"command\":\"" → s2 ≡ s1 ++ command
+    → request_seq < 2 ^ 64 → seq < 2 ^ 64 → s1 ≡ s0 ++ codes ",\"command\":\"" → s2 ≡ s1 ++ command
     → s3 ≡ s2 ++ codes "\",\"request_seq\":" → s4 ≡ s3 ++ decimal request_seq
     → s5 ≡ s4 ++ codes ",\"seq\":" → s6 ≡ s5 ++ decimal seq
     → s7 ≡ s6 ++ codes ",\"success\":true,\"type\":\"response\"}"
@@ -234,8 +231,7 @@ end_put command request_seq seq s0 s1 s2 s3 s4 s5 s6 s7 plain below next_below e
 pub answer_put : (body : Option Data) (request_seq : ℕ) (command : List ℕ) (seq : ℕ) (s1 s2 s3 bytes : List ℕ)
     → s1 ≡ codes "{\"body\":" → PutsSome body s1 s2
     → PutsMembers (member (codes "command") (string command) (response_end request_seq seq true)) s2 s3
-    → bytes ≡ s3 → IsUtf8 bytes
-    → IsContent (success_value body request_seq command seq) bytes
+    → bytes ≡ s3 → IsUtf8 bytes → IsContent (success_value body request_seq command seq) bytes
 unfolding escape_byte
 answer_put None request_seq command seq s1 s2 s3 bytes opened body others is utf8 = absurd body
 answer_put (Some d) request_seq command seq s1 s2 s3 bytes opened body others is utf8 = record {

@@ -193,8 +193,7 @@ regular _ seq = (refl, lit≤ tt)
 
 pub text_is_read : (message : Outgoing) (seq : ℕ) → Fits (value_of message seq)
     → read (text_of message seq) ≡ Some (value_of message seq)
-text_is_read message seq fits =
-    round_trip (value_of message seq) fits (regular message seq).0 (regular message seq).1
+text_is_read message seq fits = round_trip (value_of message seq) fits (regular message seq).0 (regular message seq).1
 
 each_fits : {A : Type 0} (f : A → Data) (P : A → Type 0) → ((x : A) → P x → Fits (f x)) → (xs : List A) → All P xs
     → ItemsFit (items_of (map f xs))

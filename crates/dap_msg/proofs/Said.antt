@@ -109,5 +109,4 @@ says (Event (event.Exited code)) seq = (refl, refl, (refl, refl, refl))
 says (Event event.Terminated) seq = (refl, refl, (refl, refl))
 says (Event (event.Stopped (reason.Exception exception.Overflow))) seq =
     (refl, refl, (refl, ((refl, refl, refl), refl, refl)))
-says (Event (event.Stopped (reason.Exception _))) seq =
-    (refl, refl, (refl, ((refl, refl, refl), refl, refl)))
+says (Event (event.Stopped (reason.Exception _))) seq = (refl, refl, (refl, ((refl, refl, refl), refl, refl)))

@@ -21,8 +21,7 @@ returns-clause-kept c =
     let len = c.len.ensures in
     let same = c.copy_within.ensures.len in
     let cut = c.truncate.ensures.len in
-    let left : vec_len c.truncate.new.self ≡ vec_len c.args.bytes.now - c.args.front =
-    omega (arith, len, same, cut) in
+    let left : vec_len c.truncate.new.self ≡ vec_len c.args.bytes.now - c.args.front = omega (arith, len, same, cut) in
     kept_whole 0 (vec_len c.truncate.new.self) (omega arith) ∙ left
     ∙ sym (kept_rest c.args.front (vec_len c.args.bytes.now) (omega (arith, len, many)))
 
