@@ -1,9 +1,15 @@
--- How many numbers are reported: no more than the steps that were taken.
-use Rattle.std.proofs.Common.{◌≡◌, ℕ, zero, suc, ◌+◌, ◌-◌, ◌<◌, ◌≤◌, Bool, true, false, None, Some, length, drop, ap, arith, length-append, length-drop}
+-- How many numbers are reported: no more than the steps that were taken, and none of a quiet report.
+use Rattle.std.proofs.Common.{◌≡◌, ℕ, zero, suc, ◌+◌, ◌-◌, ◌<◌, ◌≤◌, Bool, true, false, [], ◌++◌, map, None, Some, length, drop, ◌∙◌, ap, arith, length-append, length-drop}
+use Rattle.std.proofs.Math.Seq.{drop-nil}
 use Rattle.pl0_tree.specs.Tree.{Block}
 use Rattle.pl0_meaning.specs.Runs.{Outcome, Goes, Faults, Over, outcome, written_by, written_from, written}
 use Rattle.dbg_runner.specs.Lawful.{Went, IsLawful}
 use Rattle.dbg_runner.specs.Plain.{PlainReport, goes_back}
+use Rattle.dbg_runner.specs.Reported.{Reported, plain_report}
+use Rattle.dap_msg.specs.declared.outgoing.EventBody.TheVariants as event
+use Rattle.dap_history.specs.Replies.{log_events}
+use Rattle.dap_replies.specs.Replied.{IsQuiet}
+use Rattle.dap_replies.specs.Reporting.{fresh, outputs_after}
 
 -- a step writes at most one number
 written_by_few : (o : Outcome) → length (written_by o) ≤ 1
@@ -46,3 +52,13 @@ pub told_fits : (r : PlainReport) → IsLawful r → (told limit : ℕ) → told
     → told + length (drop (told - r.before) r.numbers) < limit
 told_fits r is told limit few ends =
     fits_by is.program r (goes_back r.mode) is.lawful.before is.lawful.went told limit few ends
+
+-- where a report has no numbers, none is fresh
+pub none_fresh : (told : ℕ) (r : Reported) → r.numbers ≡ [] → fresh told r ≡ []
+none_fresh told r none = ap (drop (told - r.before)) none ∙ drop-nil (told - r.before)
+
+-- a quiet report has no events
+pub quiet_outputs : (told : ℕ) (r : Reported) → IsQuiet (plain_report r) → outputs_after told r ≡ []
+quiet_outputs told r quiet =
+    ap (λ numbers. map event.Output numbers ++ log_events r.plan r.logs) (none_fresh told r quiet.no_numbers)
+    ∙ ap (log_events r.plan) quiet.no_logs

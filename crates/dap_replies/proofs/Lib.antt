@@ -15,7 +15,8 @@ pub mod Launched
 pub mod Begun
 -- After a report the phase represents the history with the report's step; for the functions of `reporting`.
 pub mod ReportSteps
--- Which requests are refused, by the situation; for `configuration_done` and `take_standing`.
+-- Which requests are refused, by the situation, and where none is; for `configuration_done`, `resume`, `retreat`,
+-- `set_breakpoints` and `take_standing`.
 pub mod Refused
 -- How runs begin, go on and end at a request; for the functions of `retreating` and `running` and for `take_standing`.
 pub mod Resumed
@@ -25,5 +26,6 @@ pub mod Lines
 -- What `setBreakpoints` is replied, and that the phase afterwards represents the longer history; for the functions of
 -- `breakpoints`.
 pub mod SetBreakpoints
--- The number of reported numbers stays below the bound on steps; for `fresh`.
+-- The number of reported numbers stays below the bound on steps, and a quiet report has none; for `fresh` and
+-- `keep_running`.
 pub mod Fresh

@@ -1,5 +1,5 @@
 -- Requests that are refused.
-use Rattle.std.proofs.Common.{◌≡◌, ℕ, false, nat_eq, if◌then◌else◌, refl, sym, ap}
+use Rattle.std.proofs.Common.{◌≡◌, inl, inr, ℕ, List, Option, true, false, nat_eq, if◌then◌else◌, refl, sym, ap, subst}
 use Rattle.dap_msg.specs.declared.command.Command.TheVariants as command
 use Rattle.dap_msg.specs.declared.outgoing.Refusal.{Refusal}
 use Rattle.dap_msg.specs.declared.outgoing.Refusal.TheVariants as refusal
@@ -18,6 +18,11 @@ use Rattle.dbg_plan.specs.declared.mode.Mode.{Mode}
 use Rattle.dap_phase.specs.Phases.{IsPhase, situation_of}
 use Rattle.dap_replies.specs.declared.effect.Reply.{Reply as Given}
 use Rattle.dap_replies.specs.Answering.{Refuses, RefusesToMove}
+use Rattle.dap_replies.specs.Going.{phase_at}
+use Rattle.dap_replies.specs.Lines.{is_other}
+use Rattle.dap_replies.specs.Replied.{HasNoProgram, NothingStands, NothingMoves}
+use Rattle.dap_replies.specs.declared.standing.StandsAt.{StandsAt}
+use Rattle.dap_replies.specs.declared.standing.StandsAt.TheVariants.{Stop, Fault}
 
 -- the configuration is over, or didn't begin
 pub not_configuring : (p : Phase) (past : History) → ((t : Target) (d : Debugged) → p ≡ phase.Configuring t d → ⊥)
@@ -55,3 +60,21 @@ nothing_moves _ past thread not_stopped not_faulted not_running = (λ kind. refl
 pub unknown_thread : (thread : ℕ) (reply : Reply) → nat_eq thread 1 ≡ false
     → refused refusal.UnknownThread ≡ on_thread thread reply
 unknown_thread thread reply other = ap (λ b. if b then reply else refused refusal.UnknownThread) (sym other)
+
+-- ---- phases in which a command isn't served
+
+stands_there : (s : StandsAt) (t : Target) (d : Debugged) → ¬ NothingStands (phase_at s t d)
+stands_there Stop t d none = none
+stands_there Fault t d none = none
+
+-- a program that stands is moved for its thread
+pub moves_there : (s : StandsAt) (t : Target) (d : Debugged) (p : Phase) (asked : ThreadArguments)
+    → phase_at s t d ≡ p → asked.thread_id ≡ 1 → ¬ NothingMoves p asked
+moves_there s t d p asked is known (inl none) = stands_there s t d (subst NothingStands (sym is) none)
+moves_there s t d p asked is known (inr other) = other known
+
+pub other_of_program : (p : Phase) (path : Option (List ℕ)) → is_other p path ≡ true → ¬ HasNoProgram p
+other_of_program phase.Fresh path other none = absurd cc
+other_of_program (phase.Ready settings) path other none = absurd cc
+other_of_program (phase.Launching settings launch) path other none = absurd cc
+other_of_program _ path other none = none

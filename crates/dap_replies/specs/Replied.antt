@@ -1,16 +1,19 @@
 -- Defines the contract of the functions that handle an item: the answer, the events and the order are those of the
 -- definitions, and the phase afterwards represents the history with the item's step.
-use Rattle.std.specs.Prelude.{◌≡◌, ◌++◌, ◌∷◌, [], ℕ, List, Option, None, Some, option_map}
+use Rattle.std.specs.Prelude.{◌≡◌, ◌≢◌, ◌⊎◌, ◌++◌, ◌∷◌, [], ℕ, List, Option, None, Some, option_map}
 use Rattle.std.specs.Option.{option_to_list}
 use Rattle.dap_msg.specs.Commands.{name_of}
 use Rattle.dap_msg.specs.declared.request.Request.{Request}
 use Rattle.dap_msg.specs.declared.command.Command.{Command}
+use Rattle.dap_msg.specs.declared.command.Command.TheVariants as command
 use Rattle.dap_msg.specs.declared.command.CommandName.TheVariants as name
 use Rattle.dap_msg.specs.declared.command.Supported.TheVariants as supported
+use Rattle.dap_msg.specs.declared.requests.resume.ThreadArguments.{ThreadArguments}
 use Rattle.dap_msg.specs.declared.outgoing.Outgoing.{Outgoing}
 use Rattle.dap_msg.specs.declared.outgoing.Outgoing.TheVariants.{Answer}
 use Rattle.dbg_runner.specs.Plain.{PlainReport}
 use Rattle.dbg_runner.specs.Orders.{plain_order}
+use Rattle.dbg_runner.specs.declared.outcome.SliceOutcome.TheVariants as slice
 use Rattle.dap_history.specs.declared.launch.Launch.{Launch}
 use Rattle.dap_history.specs.History.{Item, Content, Loaded, Accepted, Step, History, Effect}
 use Rattle.dap_history.specs.Readings.{situation}
@@ -19,6 +22,7 @@ use Rattle.dap_history.specs.Launching.{Launches}
 use Rattle.dap_history.specs.Reports.{report_effect}
 use Rattle.dap_history.specs.Emission.{RepliesIn}
 use Rattle.dap_phase.specs.declared.phase.Phase.{Phase}
+use Rattle.dap_phase.specs.declared.phase.Phase.TheVariants as phase
 use Rattle.dap_phase.specs.Phases.{IsPhase}
 use Rattle.dap_replies.specs.declared.effect.Effect.{Effect as Done}
 use Rattle.dap_replies.specs.declared.effect.Reply.{Reply as Given}
@@ -78,3 +82,42 @@ pub record HasLaunched (launch : Launch) (file : Option (List ℕ)) (past : Hist
 pub record HasReported (r : PlainReport) (past : History) (done : Done) : Type 0 where
   pub does : DoesEffect done (report_effect past r r.outcome)
   pub phase_is : IsPhase done.phase (past ++ report_step r (report_effect past r r.outcome) ∷ [])
+
+-- ---- what takes no memory
+
+-- no program was launched
+abbrev pub HasNoProgram : Phase → Type 0
+HasNoProgram phase.Fresh = Unit {0}
+HasNoProgram (phase.Ready settings) = Unit {0}
+HasNoProgram (phase.Launching settings launch) = Unit {0}
+HasNoProgram _ = ⊥
+
+-- no program waits for its configuration
+abbrev pub IsConfigured : Phase → Type 0
+IsConfigured (phase.Configuring t d) = ⊥
+IsConfigured _ = Unit {0}
+
+-- no program stands
+abbrev pub NothingStands : Phase → Type 0
+NothingStands (phase.Stopped t d) = ⊥
+NothingStands (phase.Faulted t d) = ⊥
+NothingStands _ = Unit {0}
+
+-- no program stands, or another thread is asked for than the only one
+abbrev pub NothingMoves : Phase → ThreadArguments → Type 0
+NothingMoves p asked = NothingStands p ⊎ (asked.thread_id ≢ 1)
+
+-- The reply takes no memory: there is nothing to make for it, or the command isn't served.
+abbrev pub TakesNoMemory : Phase → Command → Type 0
+TakesNoMemory p (command.SetBreakpoints asked) = HasNoProgram p
+TakesNoMemory p command.ConfigurationDone = IsConfigured p
+TakesNoMemory p (command.Resume kind asked) = NothingMoves p asked
+TakesNoMemory p (command.Retreat kind asked) = NothingMoves p asked
+TakesNoMemory p (command.Inspect question) = NothingStands p
+TakesNoMemory p _ = Unit {0}
+
+-- The report tells a client nothing: its run goes on, and it has no numbers and no logs.
+pub record IsQuiet (r : PlainReport) : Type 0 where
+  pub goes_on : r.outcome ≡ slice.More
+  pub no_numbers : r.numbers ≡ []
+  pub no_logs : r.logs ≡ []

@@ -1,6 +1,6 @@
 //! The reply to `setBreakpoints`.
 
-ghost use Rattle.std.specs.Prelude.{◌≡◌, ◌≤◌, ◌+◌, map, true, All, IfOk};
+ghost use Rattle.std.specs.Prelude.{◌≡◌, ◌≤◌, ◌+◌, map, true, All, IfOk, IsOk};
 ghost use Rattle.dap_msg.specs.Laws.{AreWithin, LineIsWithin};
 ghost use Rattle.dap_msg.specs.declared.command.Command.TheVariants as command;
 ghost use Rattle.dap_msg.specs.declared.outgoing.BreakpointAnswer.TheVariants as answer_is;
@@ -12,7 +12,7 @@ ghost use Rattle.dap_history.specs.Breakpoints.{offset, IsAskedAs, AreAskedAs, a
 ghost use Rattle.dap_phase.specs.declared.phase.Phase.TheVariants as phase_is;
 ghost use Rattle.dap_replies.specs.Going.{phase_at};
 ghost use Rattle.dap_replies.specs.Lines.{AreAnswered, IsAtStep, is_other, with_order};
-ghost use Rattle.dap_replies.specs.Replied.{Replies};
+ghost use Rattle.dap_replies.specs.Replied.{Replies, HasNoProgram};
 
 use crate::effect::{Effect, Reply};
 use crate::refusing::{answer, refuse};
@@ -40,7 +40,8 @@ pub(crate) fn set_breakpoints(
     asked: &SetBreakpointsArguments,
 ) -> Result<Reply, AllocError>
     requires { AreWithin asked.now }
-    ensures { IfOk result (Replies (command.SetBreakpoints asked.now) phase) }
+    ensures replies { IfOk result (Replies (command.SetBreakpoints asked.now) phase) }
+    ensures enough { HasNoProgram phase → IsOk result }
 {
     if is_of_other_source(&phase, &asked.path) {
         let answers = other_source(alloc, asked.breakpoints.as_slice())?;

@@ -1,6 +1,6 @@
 //! The replies to questions about the program where it stands: `stackTrace`, `scopes`, `variables`, `evaluate`.
 
-ghost use Rattle.std.specs.Prelude.{IfOk};
+ghost use Rattle.std.specs.Prelude.{IfOk, IsOk};
 ghost use Rattle.pl0_machine.specs.Machine.{frames};
 ghost use Rattle.dbg_plan.specs.Debugged.{machine_of, IsConsidered};
 ghost use Rattle.dap_msg.specs.declared.command.Command.TheVariants.{Inspect};
@@ -9,7 +9,7 @@ ghost use Rattle.dap_history.specs.Inspection.{RepliesFrom};
 ghost use Rattle.dap_history.specs.Emission.{RepliesIn};
 ghost use Rattle.dap_inspection.specs.Questions.{subject_of, replied};
 ghost use Rattle.dap_phase.specs.Phases.{IsPhase, situation_of};
-ghost use Rattle.dap_replies.specs.Replied.{Replies};
+ghost use Rattle.dap_replies.specs.Replied.{Replies, NothingStands};
 
 use crate::effect::Reply;
 use crate::refusing::conclude;
@@ -25,7 +25,8 @@ use std::alloc::{AllocError, Global};
 ///
 /// An allocation failed. The phase is dropped then.
 pub(crate) fn inspect(alloc: Global, phase: Phase, question: &Question) -> Result<Reply, AllocError>
-    ensures { IfOk result (Replies (Inspect question.now) phase) }
+    ensures replies { IfOk result (Replies (Inspect question.now) phase) }
+    ensures enough { NothingStands phase → IsOk result }
 {
     let result = result_in(alloc, &phase, question)?;
     Ok(conclude(alloc, phase, result))
@@ -37,7 +38,8 @@ fn result_in(
     phase: &Phase,
     question: &Question,
 ) -> Result<Result<Body, Refusal>, AllocError>
-    ensures { IfOk result (λ r. (past : History) → IsPhase phase.now past → RepliesIn (situation_of phase.now) past (Inspect question.now) (replied r)) }
+    ensures replies { IfOk result (λ r. (past : History) → IsPhase phase.now past → RepliesIn (situation_of phase.now) past (Inspect question.now) (replied r)) }
+    ensures enough { NothingStands phase.now → IsOk result }
 {
     match phase {
         Phase::Fresh

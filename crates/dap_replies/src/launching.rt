@@ -1,6 +1,6 @@
 //! The reply to a launch, once its file has come.
 
-ghost use Rattle.std.specs.Prelude.{◌≡◌, IfOk, option_map};
+ghost use Rattle.std.specs.Prelude.{◌≡◌, None, IfOk, IsOk, option_map};
 ghost use Rattle.dap_history.specs.History.{History};
 ghost use Rattle.dap_history.specs.Launching as launching;
 ghost use Rattle.dap_phase.specs.Phases.{IsPhase};
@@ -29,8 +29,10 @@ pub fn launch(
     launch: Launch,
     file: Option<Vec<u8>>,
 ) -> Result<Reply, AllocError>
-    ensures { IfOk result (λ given. (past : History) → IsPhase (phase_is.Launching settings launch) past →
+    ensures launches { IfOk result (λ given. (past : History) → IsPhase (phase_is.Launching settings launch) past →
         HasLaunched launch (option_map (λ bytes. bytes.items) file) past given) }
+    // The refusal of a file that can't be read needs no memory.
+    ensures enough { file ≡ None → IsOk result }
 {
     reading_laws();
     let Some(text) = file else {

@@ -1,6 +1,6 @@
 //! What positions log, as events.
 
-ghost use Rattle.std.specs.Prelude.{◌≡◌, ◌++◌, OnOk, option_map};
+ghost use Rattle.std.specs.Prelude.{◌≡◌, ◌++◌, [], OnOk, IsOk, option_map};
 ghost use Rattle.std.specs.Arc.{arc_value};
 ghost use Rattle.dbg_plan.specs.PlainParts.{plain_parts};
 ghost use Rattle.dbg_plan.specs.Plans.{breakpoints_of, parts_at};
@@ -22,7 +22,8 @@ pub(crate) fn push_logs(
     logs: &[Log],
     events: &mut Vec<EventBody>,
 ) -> Result<(), AllocError>
-    ensures { OnOk result (events.new.items ≡ events.old.items ++ log_events (breakpoints_of (option_map arc_value plan.now)) logs.now) }
+    ensures are { OnOk result (events.new.items ≡ events.old.items ++ log_events (breakpoints_of (option_map arc_value plan.now)) logs.now) }
+    ensures enough { logs.now ≡ [] → IsOk result }
 {
     for log in logs {
         let text = log_text(alloc, parts(plan, log.number()), log)?;

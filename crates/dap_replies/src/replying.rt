@@ -1,9 +1,9 @@
 //! The reply to a request, by its command.
 
-ghost use Rattle.std.specs.Prelude.{IfOk};
+ghost use Rattle.std.specs.Prelude.{IfOk, IsOk};
 ghost use Rattle.dap_msg.specs.Laws.{IsWithin};
 ghost use Rattle.dap_phase.specs.Phases.{WantsNoFile};
-ghost use Rattle.dap_replies.specs.Replied.{Replies};
+ghost use Rattle.dap_replies.specs.Replied.{Replies, TakesNoMemory};
 
 use crate::breakpoints::set_breakpoints;
 use crate::disconnect::disconnect;
@@ -27,7 +27,9 @@ use std::alloc::{AllocError, Global};
 pub fn reply(alloc: Global, phase: Phase, command: &Command) -> Result<Reply, AllocError>
     requires fits { IsWithin command.now }
     requires no_file { WantsNoFile phase command.now }
-    ensures { IfOk result (Replies command.now phase) }
+    ensures replies { IfOk result (Replies command.now phase) }
+    // Neither a command that has nothing to make nor one that isn't served needs memory.
+    ensures enough { TakesNoMemory phase command.now → IsOk result }
 {
     match command {
         Command::Initialize(asked) => Ok(initialize(alloc, phase, *asked)),

@@ -1,6 +1,6 @@
 //! What a session does at a report of the runner.
 
-ghost use Rattle.std.specs.Prelude.{◌≡◌, ◌≢◌, ◌+◌, ◌<◌, ◌^◌, ◌++◌, length, IfOk, OnOk};
+ghost use Rattle.std.specs.Prelude.{◌≡◌, ◌≢◌, ◌+◌, ◌<◌, ◌^◌, ◌++◌, [], length, IfOk, IsOkAnd, OnOk, IsOk};
 ghost use Rattle.dbg_runner.specs.declared.outcome.SliceOutcome.TheVariants as slice;
 ghost use Rattle.dbg_runner.specs.Plain.{heading_of};
 ghost use Rattle.dbg_runner.specs.Reported.{plain_report, stopped, text_of, trail_in};
@@ -11,7 +11,7 @@ ghost use Rattle.dap_history.specs.Reports.{continued_effect, held_effect, outpu
 ghost use Rattle.dap_phase.specs.Runs.{heading_in, with_waiting};
 ghost use Rattle.dap_phase.specs.Phases.{IsPhase};
 ghost use Rattle.dap_phase.specs.declared.phase.Phase.TheVariants as phase_is;
-ghost use Rattle.dap_replies.specs.Replied.{HasReported};
+ghost use Rattle.dap_replies.specs.Replied.{HasReported, IsQuiet};
 ghost use Rattle.dap_replies.specs.Reporting.{fresh, outputs_after, with_told, Stops, ContinuesRun, FollowsReport, standing};
 
 use crate::effect::Effect;
@@ -34,6 +34,8 @@ pub fn report(alloc: Global, target: Target, run: Run, report: Report) -> Result
     ensures follows { IfOk result (λ done. (past : History) → IsPhase (phase_is.Running target run) past →
         HasReported (plain_report report) past done) }
     ensures memory { OnOk result (report.outcome ≢ slice.NoMemory) }
+    // A report that tells a client nothing needs no memory, and no event follows it.
+    ensures enough { IsQuiet (plain_report report) → IsOkAnd result (λ done. done.events ≡ []) }
 {
     match report.summary().outcome {
         SliceOutcome::More => keep_running(alloc, target, run, &report),
@@ -55,8 +57,9 @@ fn keep_running(
     mut run: Run,
     report: &Report,
 ) -> Result<Effect, AllocError>
-    ensures { IfOk result (FollowsReport target run report.now
+    ensures follows { IfOk result (FollowsReport target run report.now
         (λ past. reporting (outputs past (plain_report report.now)))) }
+    ensures enough { IsQuiet (plain_report report.now) → IsOkAnd result (λ done. done.events ≡ []) }
 {
     reading_laws();
     let events = outputs(alloc, target.told, report)?;
@@ -182,7 +185,8 @@ fn fresh(told: u64, report: &Report) -> &[i64]
 
 /// Returns the new numbers and the logs of a report as events, where `told` numbers were reported before.
 fn outputs(alloc: Global, told: u64, report: &Report) -> Result<Vec<EventBody>, AllocError>
-    ensures { IfOk result (λ events. events.items ≡ outputs_after told report.now) }
+    ensures are { IfOk result (λ events. events.items ≡ outputs_after told report.now) }
+    ensures enough { report.now.numbers ≡ [] → report.now.logs ≡ [] → IsOk result }
 {
     let numbers = fresh(told, report);
     let mut events = Vec::with_capacity(alloc, numbers.len())?;

@@ -1,9 +1,9 @@
 //! The replies to the commands that go back: `stepBack` and `reverseContinue`.
 
-ghost use Rattle.std.specs.Prelude.{◌≡◌, IfOk};
+ghost use Rattle.std.specs.Prelude.{◌≡◌, IfOk, IsOk};
 ghost use Rattle.dap_msg.specs.declared.command.Command.TheVariants as command_is;
 ghost use Rattle.dap_history.specs.Running.{retreat_mode};
-ghost use Rattle.dap_replies.specs.Replied.{Replies};
+ghost use Rattle.dap_replies.specs.Replied.{Replies, NothingMoves};
 
 use crate::effect::Reply;
 use crate::running::go;
@@ -25,7 +25,8 @@ pub(crate) fn retreat(
     kind: RetreatKind,
     asked: ThreadArguments,
 ) -> Result<Reply, AllocError>
-    ensures { IfOk result (Replies (command_is.Retreat kind asked) phase) }
+    ensures replies { IfOk result (Replies (command_is.Retreat kind asked) phase) }
+    ensures enough { NothingMoves phase asked → IsOk result }
 {
     reading_laws();
     match take_standing(alloc, phase, asked) {

@@ -1,14 +1,14 @@
 //! The replies to the commands that start or resume the program: `configurationDone`, `continue`, `next`, `stepIn` and
 //! `stepOut`.
 
-ghost use Rattle.std.specs.Prelude.{◌≡◌, if◌then◌else◌, IfOk};
+ghost use Rattle.std.specs.Prelude.{◌≡◌, if◌then◌else◌, IfOk, IsOk};
 ghost use Rattle.dap_msg.specs.declared.command.Command.TheVariants as command_is;
 ghost use Rattle.dbg_plan.specs.declared.mode.Mode.TheVariants as mode_is;
 ghost use Rattle.dap_phase.specs.declared.phase.Phase.TheVariants as phase_is;
 ghost use Rattle.dap_history.specs.Replies.{log_events};
 ghost use Rattle.dap_history.specs.Running.{body_of, mode_of};
 ghost use Rattle.dap_replies.specs.Going.{HasGone, HasStopped, HasEnded};
-ghost use Rattle.dap_replies.specs.Replied.{Replies};
+ghost use Rattle.dap_replies.specs.Replied.{Replies, IsConfigured, NothingMoves};
 
 use crate::effect::{Effect, Reply};
 use crate::logging::push_logs;
@@ -29,7 +29,8 @@ use std::sync::Arc;
 ///
 /// An allocation failed, or no run number is left.
 pub(crate) fn configuration_done(alloc: Global, phase: Phase) -> Result<Reply, AllocError>
-    ensures { IfOk result (Replies command_is.ConfigurationDone phase) }
+    ensures replies { IfOk result (Replies command_is.ConfigurationDone phase) }
+    ensures enough { IsConfigured phase → IsOk result }
 {
     reading_laws();
     match phase {
@@ -112,7 +113,8 @@ pub(crate) fn resume(
     kind: ResumeKind,
     asked: ThreadArguments,
 ) -> Result<Reply, AllocError>
-    ensures { IfOk result (Replies (command_is.Resume kind asked) phase) }
+    ensures replies { IfOk result (Replies (command_is.Resume kind asked) phase) }
+    ensures enough { NothingMoves phase asked → IsOk result }
 {
     reading_laws();
     match take_standing(alloc, phase, asked) {

@@ -10,23 +10,23 @@ use Rattle.dap_replies.specs.Replied.{HasLaunched}
 use Rattle.dap_replies.proofs.Launched.{launch_refused, launch_begun}
 use Rattle.dap_replies.proofs.launching.launch.Goals as goal
 
-pub returns-in_default : goal.returns-in_default
-returns-in_default c = λ past waits.
+pub returns-in_default-clause-launches : goal.returns-in_default-clause-launches
+returns-in_default-clause-launches c = λ past waits.
     subst (λ file. HasLaunched c.args.launch (option_map (λ bytes. bytes.items) file) past c.refuse.result)
     (sym c.in_default.is)
     (launch_refused c.reading_laws.ensures c.args.settings c.args.launch None refusal.CannotRead refl c.refuse.result
     c.refuse.ensures.is past waits)
 
-pub returns-in-Ok : goal.returns-in-Ok
-returns-in-Ok c = IfOk-weaker c.begin.result _ _ (λ given begun past waits.
+pub returns-in-Ok-clause-launches : goal.returns-in-Ok-clause-launches
+returns-in-Ok-clause-launches c = IfOk-weaker c.begin.result _ _ (λ given begun past waits.
     subst (λ file. HasLaunched c.args.launch (option_map (λ bytes. bytes.items) file) past given) (sym c.in-Some.is)
     (launch_begun c.reading_laws.ensures c.args.settings c.args.launch c.in-Some.text.items c.in-Ok.tree
     (c.in-Ok.ensures.kept ∙ c.as_slice.ensures.value)
     (subst (λ text. IsTreeOf text (plain_block c.in-Ok.tree.program)) c.as_slice.ensures.value c.in-Ok.ensures.tree)
     given begun past waits)) c.begin.ensures
 
-pub returns-in-Err-InText : goal.returns-in-Err-InText
-returns-in-Err-InText c = λ past waits.
+pub returns-in-Err-InText-clause-launches : goal.returns-in-Err-InText-clause-launches
+returns-in-Err-InText-clause-launches c = λ past waits.
     subst (λ file. HasLaunched c.args.launch (option_map (λ bytes. bytes.items) file) past
     c.refuse-in-Err-InText.result) (sym c.in-Some.is)
     (launch_refused c.reading_laws.ensures c.args.settings c.args.launch (Some c.in-Some.text.items)

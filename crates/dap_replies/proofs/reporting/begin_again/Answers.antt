@@ -27,7 +27,7 @@ returns c = λ past is.
     record {
       does = record {
         events_are =
-            c.new.ensures ∙ c.in_ok-events.ensures ∙ outputs_as t c.args.run.unit c.args.report past is.keeps.0;
+            c.new.ensures ∙ c.in_ok-events.ensures.are ∙ outputs_as t c.args.run.unit c.args.report past is.keeps.0;
         orders_are =
             ap (λ o. o ∷ []) (c.in_ok-run.ensures.order ∙ ap Go
             (ordered ∙ back_heading t c.args.run c.args.report past c.requires.goes_on is));

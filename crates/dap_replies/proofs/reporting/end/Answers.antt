@@ -22,7 +22,7 @@ returns c = λ past is.
             ∙ c.in_ok-push-2.ensures.items
             ∙ ap (λ es. es ++ event.Terminated ∷ []) c.in_ok-push.ensures.items
             ∙ append_assoc c.in_ok-events.events.items (event.Exited 0 ∷ []) (event.Terminated ∷ [])
-            ∙ ap (λ es. es ++ exited_events 0) (c.in_ok-events.ensures
+            ∙ ap (λ es. es ++ exited_events 0) (c.in_ok-events.ensures.are
             ∙ outputs_as c.args.target c.args.run.unit c.args.report.now past is.keeps.0);
         orders_are = refl;
       };

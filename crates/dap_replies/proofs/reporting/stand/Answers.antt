@@ -17,7 +17,7 @@ returns c = λ past is.
             c.new.ensures
             ∙ c.in_ok-push.ensures.items
             ∙ ap (λ es. es ++ stopped_events c.args.reason)
-            (c.in_ok-events.ensures ∙ outputs_as c.args.target c.args.run.unit c.args.report past is.keeps.0);
+            (c.in_ok-events.ensures.are ∙ outputs_as c.args.target c.args.run.unit c.args.report past is.keeps.0);
         orders_are = refl;
       };
       phase_is =

@@ -6,11 +6,12 @@ use Rattle.dap_msg.specs.declared.outgoing.Body.TheVariants as body
 use Rattle.dap_phase.specs.Phases.{IsPhase}
 use Rattle.dap_replies.specs.Going.{HasGone}
 use Rattle.dap_replies.specs.Replied.{Replies}
+use Rattle.dap_replies.proofs.Refused.{moves_there}
 use Rattle.dap_replies.proofs.Resumed.{returns_there}
 use Rattle.dap_replies.proofs.retreating.retreat.Goals as goal
 
-pub returns-in-Ok : goal.returns-in-Ok
-returns-in-Ok c =
+pub returns-in-Ok-clause-replies : goal.returns-in-Ok-clause-replies
+returns-in-Ok-clause-replies c =
     let arm = c.in-Ok in
     let t = arm.target in
     let d = arm.debuggee in
@@ -24,5 +25,11 @@ returns-in-Ok c =
     (subst (λ p. IsPhase p past) (sym arm.ensures.stands) is))
     c.go.ensures
 
-pub returns-in-Err : goal.returns-in-Err
-returns-in-Err c = c.in-Err.ensures.refused.1 c.args.kind
+pub returns-in-Err-clause-replies : goal.returns-in-Err-clause-replies
+returns-in-Err-clause-replies c = c.in-Err.ensures.refused.1 c.args.kind
+
+pub returns-in-Ok-clause-enough : goal.returns-in-Ok-clause-enough
+returns-in-Ok-clause-enough c = λ none.
+    let arm = c.in-Ok in
+    absurd (moves_there arm.field-0-0 arm.target arm.debuggee c.args.phase c.args.asked arm.ensures.stands
+    arm.ensures.known none)

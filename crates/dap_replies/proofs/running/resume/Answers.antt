@@ -8,11 +8,12 @@ use Rattle.dap_msg.specs.declared.command.Command.TheVariants as command
 use Rattle.dap_phase.specs.Phases.{IsPhase}
 use Rattle.dap_replies.specs.Going.{HasGone, HasEnded, phase_at}
 use Rattle.dap_replies.specs.Replied.{Replies}
+use Rattle.dap_replies.proofs.Refused.{moves_there}
 use Rattle.dap_replies.proofs.Resumed.{depth_there, resumes_there, ends_faulted}
 use Rattle.dap_replies.proofs.running.resume.Goals as goal
 
-pub returns-in-Ok-Stop-default-default : goal.returns-in-Ok-Stop-default-default
-returns-in-Ok-Stop-default-default c =
+pub returns-in-Ok-Stop-default-default-clause-replies : goal.returns-in-Ok-Stop-default-default-clause-replies
+returns-in-Ok-Stop-default-default-clause-replies c =
     let arm = c.in-Ok-Stop-default-default in
     let t = arm.target in
     let d = arm.debuggee in
@@ -30,8 +31,8 @@ returns-in-Ok-Stop-default-default c =
     (subst (λ p. IsPhase p past) (sym stopped) is))
     c.go.ensures
 
-pub returns-in-Ok-Fault-default-default : goal.returns-in-Ok-Fault-default-default
-returns-in-Ok-Fault-default-default c =
+pub returns-in-Ok-Fault-default-default-clause-replies : goal.returns-in-Ok-Fault-default-default-clause-replies
+returns-in-Ok-Fault-default-default-clause-replies c =
     let arm = c.in-Ok-Fault-default-default in
     let t = arm.target in
     let d = arm.debuggee in
@@ -43,5 +44,17 @@ returns-in-Ok-Fault-default-default c =
     arm.ensures.known body.ensures ended (subst (λ p. IsPhase p past) (sym faulted) is))
     c.end.ensures
 
-pub returns-in-Err : goal.returns-in-Err
-returns-in-Err c = c.in-Err.ensures.refused.0 c.args.kind
+pub returns-in-Err-clause-replies : goal.returns-in-Err-clause-replies
+returns-in-Err-clause-replies c = c.in-Err.ensures.refused.0 c.args.kind
+
+pub returns-in-Ok-Stop-default-default-clause-enough : goal.returns-in-Ok-Stop-default-default-clause-enough
+returns-in-Ok-Stop-default-default-clause-enough c = λ none.
+    let arm = c.in-Ok-Stop-default-default in
+    absurd (moves_there arm.field-0-0 arm.target arm.debuggee c.args.phase c.args.asked arm.ensures.stands
+    arm.ensures.known none)
+
+pub returns-in-Ok-Fault-default-default-clause-enough : goal.returns-in-Ok-Fault-default-default-clause-enough
+returns-in-Ok-Fault-default-default-clause-enough c = λ none.
+    let arm = c.in-Ok-Fault-default-default in
+    absurd (moves_there arm.field-0-0 arm.target arm.debuggee c.args.phase c.args.asked arm.ensures.stands
+    arm.ensures.known none)

@@ -11,7 +11,7 @@ returns-in_default-clause-comes g c = λ past taking is_phase seq_is. fails_befo
 
 pub returns-in_err-send-clause-comes : goal.returns-in_err-send-clause-comes
 returns-in_err-send-clause-comes g c = λ past taking is_phase seq_is.
-    let h = c.in-Ok.ensures past is_phase in
+    let h = c.in-Ok.ensures.replies past is_phase in
     let step = request_step c.args.request h.reply in
     let p = err_from_is_err_and c.from_residual.result c.from_residual.ensures.1 in
     rw (p.1, p.2) (fails_at_step c.in_err-send.field-0.0 past step _ _
@@ -22,7 +22,7 @@ returns-in_err-send-clause-comes g c = λ past taking is_phase seq_is.
 
 pub returns-clause-comes : goal.returns-clause-comes
 returns-clause-comes g c = λ past taking is_phase seq_is.
-    let h = c.in-Ok.ensures past is_phase in
+    let h = c.in-Ok.ensures.replies past is_phase in
     let step = request_step c.args.request h.reply in
     let sent = c.in_ok-send.ensures.sent past step seq_is
     (is_answer_step step.item c.args.request.seq c.into_name.result (name_of c.args.request.body) c.in-Ok.field-0

@@ -13,7 +13,7 @@ returns-in_default-clause-comes g c = λ past taking is_phase seq_is. fails_befo
 
 pub returns-clause-comes : goal.returns-clause-comes
 returns-clause-comes g c = λ past taking is_phase seq_is.
-    let h = c.in-Ok.ensures past is_phase in
+    let h = c.in-Ok.ensures.launches past is_phase in
     let file = option_map (λ (bytes : Vec ℕ Global). bytes.items) c.args.file in
     let item = Loaded c.args.launch file in
     let step = launch_step c.args.launch file h.reply in
