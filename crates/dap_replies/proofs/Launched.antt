@@ -1,5 +1,5 @@
 -- How the history goes on after a launch with its file.
-use Rattle.std.proofs.Common.{◌≡◌, ℕ, List, [], ◌∷◌, ◌++◌, Option, Some, Err, inr, refl, sym, ◌∙◌, ap, subst, option_map}
+use Rattle.std.proofs.Common.{◌≡◌, ℕ, List, [], ◌∷◌, ◌++◌, Option, None, Some, Err, inr, refl, sym, ◌∙◌, ap, subst, option_map}
 use Rattle.std.specs.Option.{option_to_list}
 use Rattle.pl0_tree.specs.Faults.{IsTreeOf}
 use Rattle.pl0_tree.specs.Plain.{plain_block}
@@ -20,7 +20,7 @@ use Rattle.dap_history.specs.Launching.{Launches, launches}
 use Rattle.dap_phase.specs.declared.phase.Phase.TheVariants as phase
 use Rattle.dap_phase.specs.Phases.{IsPhase, IsUnlaunched, IsTarget, IsDebuggee}
 use Rattle.dap_replies.specs.declared.effect.Reply.{Reply as Given}
-use Rattle.dap_replies.specs.Answering.{without_effect}
+use Rattle.dap_replies.specs.Answering.{without_events}
 use Rattle.dap_replies.specs.Launched.{HasBegun, target_of, unstarted}
 use Rattle.dap_replies.specs.Replied.{HasLaunched, launch_step}
 use Rattle.dap_replies.proofs.Stays.{ChangesNoReading, phase_stays, settings_stay, runs_stay, position_stays, told_stays, plan_stays}
@@ -34,7 +34,7 @@ quiet_refusal launch file why =
 pub launch_refused :
     ReadingsGoOn → (settings : InitializeArguments) (launch : Launch) (file : Option (List ℕ)) (why : Refusal)
     → Launches launch.arguments file (refused why)
-    → (given : Given) → given ≡ without_effect (phase.Ready settings) (Err why)
+    → (given : Given) → given ≡ without_events (Err why) None (phase.Ready settings)
     → (past : History) → IsPhase (phase.Launching settings launch) past → HasLaunched launch file past given
 launch_refused laws settings launch file why refuses given is past waits =
     subst (HasLaunched launch file past) (sym is) (record {

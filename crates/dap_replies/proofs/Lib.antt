@@ -1,7 +1,7 @@
 -- A step that changes nothing that a phase keeps leaves it a phase of the longer history; for `phase_laws` and
 -- `refuse`, and through other lemmas for more.
 pub mod Stays
--- A reply that nothing follows, and whose step is quiet, leaves the phase as it is; for `conclude` and `refuse`.
+-- A reply that nothing follows, and whose step is quiet, leaves the phase as it is; for `answer` and `refuse`.
 pub mod Unmoved
 -- What is replied in the situation of a phase, and what a phase keeps of the launch; for `initialize` and `threads`,
 -- and through other lemmas for more.

@@ -1,5 +1,5 @@
 -- What `setBreakpoints` is replied, and the phase afterwards.
-use Rattle.std.proofs.Common.{◌≡◌, ℕ, ◌+◌, Bool, true, false, ◌||◌, List, [], ◌∷◌, ◌++◌, map, Option, None, Some, refl, sym, ◌∙◌, ap, subst}
+use Rattle.std.proofs.Common.{◌≡◌, ℕ, ◌+◌, Bool, true, false, ◌||◌, List, [], ◌∷◌, ◌++◌, map, Option, None, Some, Ok, refl, sym, ◌∙◌, ap, subst}
 use Rattle.std.specs.Prelude.{not, unwrap_or, option_map, if◌then◌else◌}
 use Rattle.std.specs.Option.{option_to_list, option_map_or}
 use Rattle.std.specs.List.{filter_map}
@@ -34,7 +34,8 @@ use Rattle.dap_replies.specs.Replied.{HasReplied, Replies, request_step}
 use Rattle.dap_replies.specs.declared.standing.StandsAt.{StandsAt}
 use Rattle.dap_replies.specs.declared.standing.StandsAt.TheVariants as stands_at
 use Rattle.dap_replies.specs.Going.{phase_at}
-use Rattle.dap_replies.specs.Lines.{AreAnswered, is_other, with_order}
+use Rattle.dap_replies.specs.Answering.{without_events}
+use Rattle.dap_replies.specs.Lines.{AreAnswered, is_other}
 use Rattle.dap_replies.proofs.Situations.{launched_as, replies_there}
 use Rattle.dap_replies.proofs.Stays.{situation_stays, target_stays, position_stays, plan_stays, last_run_stays, runs_stay, waiting_pause_stays, no_last}
 
@@ -133,7 +134,7 @@ put_in : ReadingsGoOn → (t : Target) (d : Debugged) (bs : List Breakpoint) (n 
     (answers : List BreakpointAnswer) (past : History) (old now : Phase) → IsPhase old past → Holds t d past
     → SetsIn (situation_of old) past asked (puts answers bs n)
     → ((new : History) → situation new ≡ situation_of old → Holds t (with_plan d bs n) new → IsPhase now new)
-    → HasReplied (command.SetBreakpoints asked) past (with_order answers None now)
+    → HasReplied (command.SetBreakpoints asked) past (without_events (Ok (body.Breakpoints answers)) None now)
 put_in laws t d bs n asked answers past old now is holds replies is_now = record {
   reply = puts answers bs n;
   replies = replies_there old past is (command.SetBreakpoints asked) (puts answers bs n) replies;
@@ -146,7 +147,7 @@ put_in laws t d bs n asked answers past old now is holds replies is_now = record
 pub put_in_before_start : ReadingsGoOn → (t : Target) (d now : Debugged) (asked : SetBreakpointsArguments)
     (answers : List BreakpointAnswer) (bs : List Breakpoint) → AreSet t d.unit asked answers bs
     → d.next ≡ d.position → now ≡ with_plan d bs d.next → Replies (command.SetBreakpoints asked) (phase.Configuring t d)
-    (with_order answers None (phase.Configuring t now))
+    (without_events (Ok (body.Breakpoints answers)) None (phase.Configuring t now))
 put_in_before_start laws t d now asked answers bs are next now_is past is =
     put_in laws t d bs 0 asked answers past (phase.Configuring t d) (phase.Configuring t now) is
     (is.keeps.0, is.keeps.1)
@@ -162,7 +163,7 @@ put_in_there : ReadingsGoOn → (t : Target) (d now : Debugged) (asked : SetBrea
     → (SetsIn (situation_of (make d)) past asked (puts answers now.breakpoints (position past + 1)))
     → now ≡ with_plan d now.breakpoints (d.position + 1)
     → ((x : Debugged) (new : History) → situation new ≡ situation_of (make d) → Holds t x new → IsPhase (make x) new)
-    → HasReplied (command.SetBreakpoints asked) past (with_order answers None (make now))
+    → HasReplied (command.SetBreakpoints asked) past (without_events (Ok (body.Breakpoints answers)) None (make now))
 put_in_there laws t d now asked answers past make is holds replies now_is is_then =
     put_in laws t d now.breakpoints (position past + 1) asked answers past (make d) (make now) is holds replies
     (λ new at after. subst (λ x. IsPhase (make x) new)
@@ -172,7 +173,7 @@ put_in_there laws t d now asked answers past make is holds replies now_is is_the
 pub put_in_standing : ReadingsGoOn → (s : StandsAt) (t : Target) (d now : Debugged) (asked : SetBreakpointsArguments)
     (answers : List BreakpointAnswer) → AreSet t d.unit asked answers now.breakpoints
     → now ≡ with_plan d now.breakpoints (d.position + 1)
-    → Replies (command.SetBreakpoints asked) (phase_at s t d) (with_order answers None (phase_at s t now))
+    → Replies (command.SetBreakpoints asked) (phase_at s t d) (without_events (Ok (body.Breakpoints answers)) None (phase_at s t now))
 put_in_standing laws stands_at.Stop t d now asked answers are now_is past is =
     put_in_there laws t d now asked answers past (phase.Stopped t) is is.keeps
     (sets_here past t d.unit asked answers now.breakpoints Stopped is.situation_is is.keeps.0 are) now_is
@@ -251,7 +252,7 @@ pub waits_in_run : ReadingsGoOn → (t : Target) (run now : OrderedRun) (asked :
     (answers : List BreakpointAnswer) (bs : List Breakpoint) (order : Option Order) → AreSet t run.unit asked answers bs
     → option_to_list (option_map plain_order order) ≡ once (run.held || goes_back run.mode) t.runs
     → now ≡ ordered_to_hold (record run { waiting_plan = Some bs })
-    → Replies (command.SetBreakpoints asked) (phase.Running t run) (with_order answers order (phase.Running t now))
+    → Replies (command.SetBreakpoints asked) (phase.Running t run) (without_events (Ok (body.Breakpoints answers)) order (phase.Running t now))
 waits_in_run laws t run now asked answers bs order are order_is now_is past is =
     let reply = causing (body.Breakpoints answers) (effect_in Running past bs) in record {
       reply = reply;

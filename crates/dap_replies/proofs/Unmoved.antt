@@ -14,7 +14,7 @@ use Rattle.dap_history.specs.Emission.{RepliesIn}
 use Rattle.dap_phase.specs.declared.phase.Phase.{Phase}
 use Rattle.dap_phase.specs.Phases.{IsPhase, situation_of}
 use Rattle.dap_replies.specs.Replied.{HasReplied, request_step}
-use Rattle.dap_replies.specs.Answering.{LeadsNowhere, without_effect}
+use Rattle.dap_replies.specs.Answering.{LeadsNowhere, without_events}
 use Rattle.dap_replies.proofs.Situations.{replies_there}
 use Rattle.dap_replies.proofs.Stays.{ChangesNoReading, phase_stays}
 
@@ -24,7 +24,7 @@ pub quiet_reply :
     (record { result = result; effect = nothing })))
     → (past : History) → IsPhase phase past → RepliesIn (situation_of phase) past command
     (record { result = result; effect = nothing })
-    → HasReplied command past (without_effect phase result)
+    → HasReplied command past (without_events result None phase)
 quiet_reply laws phase result command quiet past stands replies =
     let reply : Reply = record { result = result; effect = nothing } in
     record {

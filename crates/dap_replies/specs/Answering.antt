@@ -1,5 +1,5 @@
 -- Defines, for private contracts, replies after which the phase is as before.
-use Rattle.std.specs.Prelude.{[], None, Result}
+use Rattle.std.specs.Prelude.{[], Option, Result}
 use Rattle.dap_msg.specs.declared.command.Command.{Command}
 use Rattle.dap_msg.specs.declared.command.Command.TheVariants as command
 use Rattle.dap_msg.specs.declared.requests.resume.ResumeKind.{ResumeKind}
@@ -7,6 +7,7 @@ use Rattle.dap_msg.specs.declared.requests.resume.RetreatKind.{RetreatKind}
 use Rattle.dap_msg.specs.declared.requests.resume.ThreadArguments.{ThreadArguments}
 use Rattle.dap_msg.specs.declared.outgoing.Body.{Body}
 use Rattle.dap_msg.specs.declared.outgoing.Refusal.{Refusal}
+use Rattle.dbg_runner.specs.declared.order.Order.{Order}
 use Rattle.dap_history.specs.History.{History}
 use Rattle.dap_history.specs.Replies.{nothing, refused}
 use Rattle.dap_history.specs.Emission.{RepliesIn}
@@ -23,9 +24,10 @@ LeadsNowhere (command.Pause asked) = ⊥
 LeadsNowhere (command.BadArguments k) = ⊥
 LeadsNowhere _ = Unit {0}
 
--- the reply with this result, with no events and no order
-abbrev pub without_effect : Phase → Result Body Refusal → Given
-without_effect phase result = record { result = result; effect = record { events = []; order = None; phase = phase } }
+-- the reply with this result, this order or none, and no events
+abbrev pub without_events : Result Body Refusal → Option Order → Phase → Given
+without_events result order phase =
+    record { result = result; effect = record { events = []; order = order; phase = phase } }
 
 -- The reply is right for each command that is to be refused for this reason.
 abbrev pub Refuses : Refusal → Phase → Given → Type 0

@@ -1,18 +1,15 @@
 -- Defines, for private contracts, what the lines of `setBreakpoints` are answered with, and which source they are of.
-use Rattle.std.specs.Prelude.{◌≡◌, ℕ, ◌<◌, Bool, false, List, [], length, map, Option, Ok, not}
+use Rattle.std.specs.Prelude.{◌≡◌, ℕ, ◌<◌, Bool, false, List, length, map, Option, not}
 use Rattle.pl0_tree.specs.Tree.{Block}
 use Rattle.pl0_tree.specs.Steps.{steps}
 use Rattle.dap_msg.specs.declared.requests.set_breakpoints.SourceBreakpoint.{SourceBreakpoint}
 use Rattle.dap_msg.specs.declared.outgoing.BreakpointAnswer.{BreakpointAnswer}
-use Rattle.dap_msg.specs.declared.outgoing.Body.TheVariants as body
 use Rattle.dbg_plan.specs.Breakpoints.{Breakpoint}
 use Rattle.dbg_plan.specs.declared.resolving.Resolution.{Resolution}
 use Rattle.dbg_plan.specs.declared.resolving.Resolution.TheVariants.{At}
-use Rattle.dbg_runner.specs.declared.order.Order.{Order}
 use Rattle.dap_history.specs.Breakpoints.{IsResolved, answer_to_line, is_same_path}
 use Rattle.dap_phase.specs.declared.phase.Phase.{Phase}
 use Rattle.dap_phase.specs.declared.phase.Phase.TheVariants as phase
-use Rattle.dap_replies.specs.declared.effect.Reply.{Reply as Given}
 
 -- Lines of the program's source have these answers and these breakpoints.
 pub record AreAnswered (main : Block) (less : ℕ) (lines : List SourceBreakpoint) (answers : List BreakpointAnswer)
@@ -34,8 +31,3 @@ is_other (phase.Stopped t d) path = not (is_same_path path t.path)
 is_other (phase.Faulted t d) path = not (is_same_path path t.path)
 is_other (phase.Ended t u) path = not (is_same_path path t.path)
 is_other _ path = false
-
--- the reply with these answers, this order or none, and no events
-abbrev pub with_order : List BreakpointAnswer → Option Order → Phase → Given
-with_order answers order phase =
-    record { result = Ok (body.Breakpoints answers); effect = record { events = []; order = order; phase = phase } }

@@ -11,11 +11,11 @@ ghost use Rattle.dbg_plan.specs.Plans.{IsPlanOf};
 ghost use Rattle.dap_history.specs.Breakpoints.{offset, IsAskedAs, AreAskedAs, answer_to_line, is_same_path};
 ghost use Rattle.dap_phase.specs.declared.phase.Phase.TheVariants as phase_is;
 ghost use Rattle.dap_replies.specs.Going.{phase_at};
-ghost use Rattle.dap_replies.specs.Lines.{AreAnswered, IsAtStep, is_other, with_order};
+ghost use Rattle.dap_replies.specs.Lines.{AreAnswered, IsAtStep, is_other};
 ghost use Rattle.dap_replies.specs.Replied.{Replies, HasNoProgram};
 
-use crate::effect::{Effect, Reply};
-use crate::refusing::{answer, refuse};
+use crate::effect::Reply;
+use crate::refusing::{answer, refuse, without_events};
 use crate::standing::{StandsAt, phase_at};
 use dap_history::reading_laws;
 use dap_msg::{
@@ -24,7 +24,7 @@ use dap_msg::{
 };
 use dap_phase::{Phase, Run, Target, Unstarted};
 use dbg_plan::{Plan, Resolution, SourceBreakpoint as AskedLine, resolve};
-use dbg_runner::{Order, StoppedDebuggee};
+use dbg_runner::StoppedDebuggee;
 use pl0_unit::Unit;
 use std::alloc::{AllocError, Global};
 use std::sync::Arc;
@@ -45,7 +45,7 @@ pub(crate) fn set_breakpoints(
 {
     if is_of_other_source(&phase, &asked.path) {
         let answers = other_source(alloc, asked.breakpoints.as_slice())?;
-        return Ok(answer(alloc, phase, Body::Breakpoints(answers)));
+        return Ok(answer(alloc, phase, Ok(Body::Breakpoints(answers))));
     }
     let why = Refusal::WrongPhase;
     match phase {
@@ -118,7 +118,9 @@ fn before_start(
     reading_laws();
     let (answers, plan) = resolved(alloc, debuggee.unit(), target.settings, asked)?;
     debuggee.set_plan(plan);
-    Ok(answered(alloc, answers, None, Phase::Configuring(target, debuggee)))
+    let given = Ok(Body::Breakpoints(answers));
+    let phase = Phase::Configuring(target, debuggee);
+    Ok(without_events(alloc, given, None, phase))
 }
 
 /// Replies during a run: the plan waits, and the runner is ordered to return the debuggee.
@@ -136,7 +138,8 @@ fn in_run(
     let (answers, plan) = resolved(alloc, run.unit(), target.settings, asked)?;
     run.wait_for(plan);
     let order = run.hold(target.runs);
-    Ok(answered(alloc, answers, order, Phase::Running(target, run)))
+    let given = Ok(Body::Breakpoints(answers));
+    Ok(without_events(alloc, given, order, Phase::Running(target, run)))
 }
 
 /// Replies where the program stands: the plan is put in at once.
@@ -153,7 +156,8 @@ fn where_it_stands(
 {
     reading_laws();
     let (answers, debuggee) = put_in(alloc, debuggee, target.settings, asked)?;
-    Ok(answered(alloc, answers, None, phase_at(stands, target, debuggee)))
+    let given = Ok(Body::Breakpoints(answers));
+    Ok(without_events(alloc, given, None, phase_at(stands, target, debuggee)))
 }
 
 /// Resolves the lines, and puts the plan into a debuggee that stands.
@@ -188,7 +192,7 @@ fn after_end(
     Ok(answer(
         alloc,
         Phase::Ended(target, unit),
-        Body::Breakpoints(answers),
+        Ok(Body::Breakpoints(answers)),
     ))
 }
 
@@ -282,24 +286,5 @@ fn line_answer(unit: &Unit, less: u32, resolution: Resolution) -> BreakpointAnsw
             BreakpointRefusal::BadHitCondition,
         ),
         Resolution::BadLogMessage => BreakpointAnswer::Unverified(BreakpointRefusal::BadLogMessage),
-    }
-}
-
-/// Returns the reply with these answers, an order or none, and the phase after it.
-fn answered(
-    alloc: Global,
-    answers: Items<BreakpointAnswer>,
-    order: Option<Order>,
-    phase: Phase,
-) -> Reply
-    ensures { result ≡ with_order answers order phase }
-{
-    Reply {
-        result: Ok(Body::Breakpoints(answers)),
-        effect: Effect {
-            events: Items::new(Vec::new(alloc)),
-            order,
-            phase,
-        },
     }
 }

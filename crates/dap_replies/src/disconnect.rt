@@ -3,9 +3,10 @@
 ghost use Rattle.dap_msg.specs.declared.command.Command.TheVariants as command;
 ghost use Rattle.dap_replies.specs.Replied.{Replies};
 
-use crate::effect::{Effect, Reply};
+use crate::effect::Reply;
+use crate::refusing::without_events;
 use dap_history::reading_laws;
-use dap_msg::{Body, Items};
+use dap_msg::Body;
 use dap_phase::Phase;
 use dbg_runner::Order;
 use std::alloc::Global;
@@ -15,12 +16,5 @@ pub(crate) fn disconnect(alloc: Global, phase: Phase) -> Reply
     ensures { Replies command.Disconnect phase result }
 {
     reading_laws();
-    Reply {
-        result: Ok(Body::None),
-        effect: Effect {
-            events: Items::new(Vec::new(alloc)),
-            order: Some(Order::Quit),
-            phase,
-        },
-    }
+    without_events(alloc, Ok(Body::None), Some(Order::Quit), phase)
 }

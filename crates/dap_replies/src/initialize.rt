@@ -4,10 +4,10 @@ ghost use Rattle.dap_msg.specs.declared.command.Command.TheVariants as command;
 ghost use Rattle.dap_phase.specs.declared.phase.Phase.TheVariants as phase_is;
 ghost use Rattle.dap_replies.specs.Replied.{Replies};
 
-use crate::effect::{Effect, Reply};
-use crate::refusing::refuse;
+use crate::effect::Reply;
+use crate::refusing::{refuse, without_events};
 use dap_history::reading_laws;
-use dap_msg::{Body, InitializeArguments, Items, Refusal};
+use dap_msg::{Body, InitializeArguments, Refusal};
 use dap_phase::Phase;
 use std::alloc::Global;
 
@@ -26,12 +26,5 @@ fn begin(alloc: Global, asked: InitializeArguments) -> Reply
     ensures { Replies (command.Initialize asked) phase_is.Fresh result }
 {
     reading_laws();
-    Reply {
-        result: Ok(Body::Capabilities),
-        effect: Effect {
-            events: Items::new(Vec::new(alloc)),
-            order: None,
-            phase: Phase::Ready(asked),
-        },
-    }
+    without_events(alloc, Ok(Body::Capabilities), None, Phase::Ready(asked))
 }

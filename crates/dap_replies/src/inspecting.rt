@@ -12,7 +12,7 @@ ghost use Rattle.dap_phase.specs.Phases.{IsPhase, situation_of};
 ghost use Rattle.dap_replies.specs.Replied.{Replies, NothingStands};
 
 use crate::effect::Reply;
-use crate::refusing::conclude;
+use crate::refusing::answer;
 use dap_inspection::{evaluate, scopes, stack_trace, variables};
 use dap_msg::{Body, Question, Refusal};
 use dap_phase::{Phase, Target};
@@ -29,7 +29,7 @@ pub(crate) fn inspect(alloc: Global, phase: Phase, question: &Question) -> Resul
     ensures enough { NothingStands phase → IsOk result }
 {
     let result = result_in(alloc, &phase, question)?;
-    Ok(conclude(alloc, phase, result))
+    Ok(answer(alloc, phase, result))
 }
 
 /// Returns the result of a question, by the phase.

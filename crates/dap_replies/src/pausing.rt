@@ -5,11 +5,11 @@ ghost use Rattle.dap_phase.specs.declared.phase.Phase.TheVariants as phase_is;
 ghost use Rattle.dap_replies.specs.Going.{IsAtStop, WaitsToPause};
 ghost use Rattle.dap_replies.specs.Replied.{Replies};
 
-use crate::effect::{Effect, Reply};
-use crate::refusing::{refuse, without_effect};
+use crate::effect::Reply;
+use crate::refusing::{refuse, without_events};
 use crate::standing::is_main_thread;
 use dap_history::reading_laws;
-use dap_msg::{Body, Items, Refusal, ThreadArguments};
+use dap_msg::{Body, Refusal, ThreadArguments};
 use dap_phase::{Phase, Run, Target};
 use std::alloc::Global;
 
@@ -48,14 +48,7 @@ fn wait(alloc: Global, target: Target, mut run: Run) -> Reply
 {
     run.wait_to_pause();
     let order = run.hold(target.runs);
-    Reply {
-        result: Ok(Body::None),
-        effect: Effect {
-            events: Items::new(Vec::new(alloc)),
-            order,
-            phase: Phase::Running(target, run),
-        },
-    }
+    without_events(alloc, Ok(Body::None), order, Phase::Running(target, run))
 }
 
 /// Replies where the program is stopped already.
@@ -67,5 +60,5 @@ fn remain(alloc: Global, phase: Phase, asked: ThreadArguments) -> Reply
     if !is_main_thread(asked) {
         return refuse(alloc, phase, Refusal::UnknownThread);
     }
-    without_effect(alloc, phase, Ok(Body::None))
+    without_events(alloc, Ok(Body::None), None, phase)
 }

@@ -1,47 +1,46 @@
-//! Replies after which the phase is as before.
+//! Replies with no events, and those after which the phase is as before.
 
-ghost use Rattle.std.specs.Prelude.{◌≡◌, Ok, Err};
-ghost use Rattle.dap_replies.specs.Answering.{without_effect, Refuses, AnswersOnly};
+ghost use Rattle.std.specs.Prelude.{◌≡◌, None, Err};
+ghost use Rattle.dap_replies.specs.Answering.{without_events, Refuses, AnswersOnly};
 
 use crate::effect::{Effect, Reply};
 use dap_history::reading_laws;
 use dap_msg::{Body, Items, Refusal};
 use dap_phase::Phase;
+use dbg_runner::Order;
 use std::alloc::Global;
 
 /// Refuses a command.
 pub(crate) fn refuse(alloc: Global, phase: Phase, why: Refusal) -> Reply
-    ensures is { result ≡ without_effect phase (Err why) }
+    ensures is { result ≡ without_events (Err why) None phase }
     ensures refuses { Refuses why phase result }
 {
     reading_laws();
-    without_effect(alloc, phase, Err(why))
-}
-
-/// Answers a command with success.
-pub(crate) fn answer(alloc: Global, phase: Phase, body: Body) -> Reply
-    ensures { AnswersOnly (Ok body) phase result }
-{
-    conclude(alloc, phase, Ok(body))
+    without_events(alloc, Err(why), None, phase)
 }
 
 /// Answers a command with a result.
-pub(crate) fn conclude(alloc: Global, phase: Phase, given: Result<Body, Refusal>) -> Reply
+pub(crate) fn answer(alloc: Global, phase: Phase, given: Result<Body, Refusal>) -> Reply
     ensures { AnswersOnly given phase result }
 {
     reading_laws();
-    without_effect(alloc, phase, given)
+    without_events(alloc, given, None, phase)
 }
 
-/// Returns the reply with this result, with no events and no order.
-pub(crate) fn without_effect(alloc: Global, phase: Phase, given: Result<Body, Refusal>) -> Reply
-    ensures { result ≡ without_effect phase given }
+/// Returns the reply with this result, an order or none, and the phase after it, with no events.
+pub(crate) fn without_events(
+    alloc: Global,
+    given: Result<Body, Refusal>,
+    order: Option<Order>,
+    phase: Phase,
+) -> Reply
+    ensures { result ≡ without_events given order phase }
 {
     Reply {
         result: given,
         effect: Effect {
             events: Items::new(Vec::new(alloc)),
-            order: None,
+            order,
             phase,
         },
     }

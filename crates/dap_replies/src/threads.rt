@@ -15,6 +15,6 @@ pub(crate) fn threads(alloc: Global, phase: Phase) -> Reply
 {
     match phase {
         Phase::Fresh => refuse(alloc, Phase::Fresh, Refusal::WrongPhase),
-        begun => answer(alloc, begun, Body::Threads),
+        begun => answer(alloc, begun, Ok(Body::Threads)),
     }
 }

@@ -15,7 +15,7 @@ pub returns : goal.returns
 returns c =
     let plan = plain_breakpoints c.in_ok-answers.plan.value.breakpoints in
     subst (λ given. Replies (command.SetBreakpoints c.args.asked.now)
-    (phase_is.Configuring c.args.target c.args.debuggee) given) (sym c.answered.ensures)
+    (phase_is.Configuring c.args.target c.args.debuggee) given) (sym c.without_events.ensures)
     (put_in_before_start c.reading_laws.ensures c.args.target c.args.debuggee c.set_plan.new.self c.args.asked.now
     c.in_ok-answers.answers plan
     (record {

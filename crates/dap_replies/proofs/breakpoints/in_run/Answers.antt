@@ -16,7 +16,7 @@ pub returns : goal.returns
 returns c =
     let plan = plain_breakpoints c.in_ok-answers.plan.value.breakpoints in
     subst (λ given. Replies (command.SetBreakpoints c.args.asked.now) (phase_is.Running c.args.target c.args.run) given)
-    (sym c.answered.ensures)
+    (sym c.without_events.ensures)
     (waits_in_run c.reading_laws.ensures c.args.target c.args.run c.hold-order.new.self c.args.asked.now
     c.in_ok-answers.answers plan c.hold-order.result
     (record {

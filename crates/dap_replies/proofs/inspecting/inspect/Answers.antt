@@ -3,4 +3,4 @@ use Rattle.dap_replies.proofs.inspecting.inspect.Goals as goal
 
 pub returns-clause-replies : goal.returns-clause-replies
 returns-clause-replies c = λ past stands.
-    c.conclude.ensures (Inspect c.args.question.now) tt past stands (c.in_ok-result.ensures.replies past stands)
+    c.answer.ensures (Inspect c.args.question.now) tt past stands (c.in_ok-result.ensures.replies past stands)

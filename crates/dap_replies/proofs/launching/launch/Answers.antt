@@ -5,7 +5,7 @@ use Rattle.pl0_tree.specs.Plain.{plain_block}
 use Rattle.dap_history.specs.Launching.{syntax}
 use Rattle.dap_msg.specs.declared.outgoing.Refusal.TheVariants as refusal
 use Rattle.dap_phase.specs.declared.phase.Phase.TheVariants as phase
-use Rattle.dap_replies.specs.Answering.{without_effect}
+use Rattle.dap_replies.specs.Answering.{without_events}
 use Rattle.dap_replies.specs.Replied.{HasLaunched}
 use Rattle.dap_replies.proofs.Launched.{launch_refused, launch_begun}
 use Rattle.dap_replies.proofs.launching.launch.Goals as goal
@@ -39,5 +39,5 @@ returns-in-Err-InText-clause-launches c = λ past waits.
           c.in-Err-InText.ensures.fault);
       reply_is = refl;
     })) c.refuse-in-Err-InText.result
-    (c.refuse-in-Err-InText.ensures.is ∙ ap (λ why. without_effect (phase.Ready c.args.settings) (Err why))
+    (c.refuse-in-Err-InText.ensures.is ∙ ap (λ why. without_events (Err why) None (phase.Ready c.args.settings))
     c.syntax.ensures) past waits)

@@ -5,6 +5,6 @@ use Rattle.dap_replies.proofs.Unmoved.{quiet_reply}
 use Rattle.dap_replies.proofs.refusing.refuse.Goals as goal
 
 pub returns-clause-refuses : goal.returns-clause-refuses
-returns-clause-refuses c = subst (Refuses c.args.why c.args.phase) (sym c.without_effect.ensures)
+returns-clause-refuses c = subst (Refuses c.args.why c.args.phase) (sym c.without_events.ensures)
     (λ command. quiet_reply c.reading_laws.ensures c.args.phase (Err c.args.why) command
     (λ seq. refusal_is_quiet (record { seq = seq; body = command }) c.args.why))
