@@ -7,12 +7,13 @@ use Rattle.std.specs.Option.{option_map_or}
 use Rattle.std.specs.List.{filter_map}
 use Rattle.std.proofs.lemmas.List.Elements.{filter_map-append}
 use Rattle.dap_msg.specs.declared.requests.resume.ResumeKind.{ResumeKind}
+use Rattle.dap_msg.specs.declared.requests.resume.RetreatKind.{RetreatKind}
+use Rattle.dap_msg.specs.declared.requests.resume.ThreadArguments.{ThreadArguments}
 use Rattle.dap_msg.specs.declared.command.Command.{Command}
 use Rattle.dap_msg.specs.declared.command.Command.TheVariants as command
 use Rattle.pl0_meaning.specs.Laws.{WrittenJoins}
 use Rattle.dbg_plan.specs.Breakpoints.{Breakpoint}
 use Rattle.dbg_plan.specs.Due.{depth_at}
-use Rattle.dbg_plan.specs.declared.mode.Mode.{Mode}
 use Rattle.dbg_plan.specs.declared.mode.Mode.TheVariants as mode
 use Rattle.dbg_plan.specs.declared.mode.Reason.{Reason}
 use Rattle.dbg_runner.specs.declared.outcome.SliceOutcome.{SliceOutcome}
@@ -25,11 +26,11 @@ use Rattle.dap_history.specs.History.{Launched, Item, Content, Loaded, Accepted,
 use Rattle.dap_history.specs.Readings.{go, situation, runs, is_held, is_back, launched, last_run, position, waiting_pause}
 use Rattle.dap_history.specs.Replies.{Reply}
 use Rattle.dap_history.specs.Breakpoints.{hold_once, effect_in}
-use Rattle.dap_history.specs.Running.{mode_of, enters}
+use Rattle.dap_history.specs.Running.{due_first, mode_of, retreat_mode, enters}
+use Rattle.dap_history.specs.Reactions.{Reaction, reply_of}
 use Rattle.dap_history.specs.Reports.{Accepts, held_effect, report_effect}
 use Rattle.dap_history.specs.Considered.{all_runs}
 use Rattle.dap_history.specs.Emission.{Causes}
-use Rattle.dap_history.specs.GoingBack.{back_by}
 use Rattle.dap_history.specs.Stops.{run_in}
 use Rattle.dap_history.specs.Runs.{mode_by, held_mode, mode_asked, RunsCountFromOne, EachRunIsAsAsked}
 use Rattle.dap_history.specs.Events.{Incoming}
@@ -37,7 +38,7 @@ use Rattle.dap_history.proofs.Texts.{OneProgram}
 use Rattle.dap_history.proofs.Along.{IsTaken, IsKept, IsLawfulEvent, any_events, lawful_events, along}
 use Rattle.dap_history.proofs.Each.{WasTaken, EachTaken, each_kept, each_first}
 use Rattle.dap_history.proofs.Silent.{NextRuns, no_runs, next_run}
-use Rattle.dap_history.proofs.Shapes.{due_first, resume_kind_by, Shape, refuses, is_calm, sets, begins, resumes_by, is_over, retreats, interrupts, quits, shaped}
+use Rattle.dap_history.proofs.Reacted.{Reacted, by_refusing, by_answering, by_setting, by_starting, by_resuming, by_ending, by_retreating, by_interrupting, by_closing, by_reaction}
 use Rattle.dap_history.proofs.Passing.{Ran, loaded_orders}
 use Rattle.dap_history.proofs.Runs.{AreNumbered, numbered-snoc}
 use Rattle.dap_history.proofs.Counted.{all_runs-snoc, next_runs}
@@ -79,22 +80,17 @@ runs_count events past rest history front back run orders_are =
 
 -- ---- modes
 
-resume_kind_mode : (depth : ℕ) (asked : Command) (resume_kind : ResumeKind) → resume_kind_by asked ≡ Some resume_kind
-    → mode_by depth asked ≡ Some (mode_of resume_kind depth)
-resume_kind_mode depth (command.Resume k a) resume_kind is =
-    let same : k ≡ resume_kind = cc in spelled k ∙ ap (λ p. Some (mode_of p depth)) same
-  where
-    spelled : (k : ResumeKind) → mode_by depth (command.Resume k a) ≡ Some (mode_of k depth)
-    spelled resume.Continue = refl
-    spelled resume.Next = refl
-    spelled resume.StepIn = refl
-    spelled resume.StepOut = refl
-resume_kind_mode depth _ resume_kind is = absurd cc
+resume_kind_mode : (depth : ℕ) (kind : ResumeKind) (a : ThreadArguments)
+    → mode_by depth (command.Resume kind a) ≡ Some (mode_of kind depth)
+resume_kind_mode depth resume.Continue a = refl
+resume_kind_mode depth resume.Next a = refl
+resume_kind_mode depth resume.StepIn a = refl
+resume_kind_mode depth resume.StepOut a = refl
 
-back_mode : (depth : ℕ) (asked : Command) (m : Mode) → back_by asked ≡ Some m → mode_by depth asked ≡ Some m
-back_mode depth (command.Retreat retreat.StepBack a) m is = is
-back_mode depth (command.Retreat retreat.ReverseContinue a) m is = is
-back_mode depth _ m is = absurd cc
+back_mode : (depth : ℕ) (kind : RetreatKind) (a : ThreadArguments)
+    → mode_by depth (command.Retreat kind a) ≡ Some (retreat_mode kind)
+back_mode depth retreat.StepBack a = refl
+back_mode depth retreat.ReverseContinue a = refl
 
 -- the run is of the launched program, in the mode that the command asks for
 abbrev pub AsAsked : History → Command → Heading → Type 0
@@ -113,45 +109,38 @@ pub no_go_in : (s : Situation) (past : History) (bs : List Breakpoint)
 no_go_in Running past bs = no_go_held past
 no_go_in _ past bs = refl
 
-no_go_by : (past : History) (asked : Command) (run : Heading) (orders os : List PlainOrder) → orders ≡ os
-    → last_such go os ≡ None → last_such go orders ≡ Some run → AsAsked past asked run
-no_go_by past asked run orders os is none some = let e = sym some ∙ ap (last_such go) is ∙ none in absurd cc
+no_go_by : (past : History) (asked : Command) (run : Heading) (orders : List PlainOrder)
+    → last_such go orders ≡ None → last_such go orders ≡ Some run → AsAsked past asked run
+no_go_by past asked run orders none some = let e = sym some ∙ none in absurd cc
 
 begun_mode : (past : History) (l : Launched) (why : Option Reason) (run : Heading)
     → last_such go (enters past l why).orders ≡ Some run → run.mode ≡ mode.Continue
 begun_mode past l None run is = ap (λ o. option_map_or (λ (h : Heading). h.mode) o mode.Continue) (sym is)
 begun_mode past l (Some r) run is = absurd cc
 
-pub reply_mode : (past : History) (s : Situation) (asked : Command) (reply : Reply) → Shape past s asked reply
-    → (run : Heading) → last_such go reply.effect.orders ≡ Some run → AsAsked past asked run
-reply_mode past s asked reply (refuses why is) run goes =
-    no_go_by past asked run reply.effect.orders _ (ap (λ (r : Reply). r.effect.orders) is) refl goes
-reply_mode past s asked reply (is_calm calm is) run goes =
-    no_go_by past asked run reply.effect.orders _ (ap (λ (e : Effect). e.orders) is) refl goes
-reply_mode past s asked reply (sets a l by there same resolves) run goes =
-    no_go_by past asked run reply.effect.orders _ (ap (λ (r : Reply). r.effect.orders) resolves.reply_is)
-    (no_go_in (situation past) past resolves.breakpoints) goes
-reply_mode past s asked reply (begins l by here there is) run goes =
-    let m = begun_mode past l (due_first past l) run (ap (λ (r : Reply). last_such go r.effect.orders) (sym is) ∙ goes)
-    in
-    (l, there, ap (mode_by (depth_at l.program (position past))) by ∙ ap Some (sym m))
-reply_mode past s asked reply (resumes_by resume_kind l by here there is) run goes =
+pub reaction_mode : (past : History) {s : Situation} {asked : Command} {reaction : Reaction}
+    → Reacted past s asked reaction → (run : Heading)
+    → last_such go (reply_of past reaction).effect.orders ≡ Some run → AsAsked past asked run
+reaction_mode past (by_refusing s asked why) run goes = absurd cc
+reaction_mode past (by_answering s asked b calm) run goes = absurd cc
+reaction_mode past (by_setting s a l found bs there path_is resolved) run goes =
+    no_go_by past (command.SetBreakpoints a) run (effect_in (situation past) past bs).orders
+    (no_go_in (situation past) past bs) goes
+reaction_mode past (by_starting l there) run goes =
+    (l, there, ap Some (sym (begun_mode past l (due_first past l) run goes)))
+reaction_mode past (by_resuming kind a l there) run goes =
     let depth = depth_at l.program (position past) in
-    let same : mode_of resume_kind depth ≡ run.mode =
-    ap (λ o. option_map_or (λ (h : Heading). h.mode) o (mode_of resume_kind depth))
-    (ap (λ (r : Reply). last_such go r.effect.orders) (sym is) ∙ goes) in
-    (l, there, resume_kind_mode depth asked resume_kind by ∙ ap Some same)
-reply_mode past s asked reply (is_over resume_kind by here is) run goes =
-    no_go_by past asked run reply.effect.orders _ (ap (λ (r : Reply). r.effect.orders) is) refl goes
-reply_mode past s asked reply (retreats m l by back stands there is) run goes =
-    let same : m ≡ run.mode =
-    ap (λ o. option_map_or (λ (h : Heading). h.mode) o m)
-    (ap (λ (r : Reply). last_such go r.effect.orders) (sym is) ∙ goes) in
-    (l, there, back_mode (depth_at l.program (position past)) asked m by ∙ ap Some same)
-reply_mode past s asked reply (interrupts a by here is) run goes =
-    no_go_by past asked run reply.effect.orders _ (ap (λ (r : Reply). r.effect.orders) is) (no_go_held past) goes
-reply_mode past s asked reply (quits by is) run goes =
-    no_go_by past asked run reply.effect.orders _ (ap (λ (r : Reply). r.effect.orders) is) refl goes
+    let same : mode_of kind depth ≡ run.mode =
+    ap (λ o. option_map_or (λ (h : Heading). h.mode) o (mode_of kind depth)) goes in
+    (l, there, resume_kind_mode depth kind a ∙ ap Some same)
+reaction_mode past (by_ending kind a) run goes = absurd cc
+reaction_mode past (by_retreating s kind a l stands there) run goes =
+    let same : retreat_mode kind ≡ run.mode =
+    ap (λ o. option_map_or (λ (h : Heading). h.mode) o (retreat_mode kind)) goes in
+    (l, there, back_mode (depth_at l.program (position past)) kind a ∙ ap Some same)
+reaction_mode past (by_interrupting a) run goes =
+    no_go_by past (command.Pause a) run (hold_once past) (no_go_held past) goes
+reaction_mode past (by_closing s) run goes = absurd cc
 
 -- a run that a report orders is in the mode of the run that was held
 report_mode : (past : History) (r : PlainReport) (e : SliceOutcome) → Accepts past r → (run : Heading)
@@ -179,7 +168,8 @@ module _ (one : OneProgram) (joins : WrittenJoins) where
   pub item_mode : (past : History) (item : Item) (step : Step) → IsTaken IsLawfulEvent past item → Causes past item step
       → Ran one joins past → (run : Heading) → run_in step ≡ Some run → ModeIs past item run
   item_mode past (Content (Some request)) step taken is ran run goes =
-      reply_mode past (situation past) request.body is.0 (shaped past is.0 (situation past) request.body is.1) run
+      by_reaction (λ (r : Reply). last_such go r.effect.orders ≡ Some run → AsAsked past request.body run)
+      (λ reaction reacted goes. reaction_mode past reacted run goes) is.1
       (ap (λ (e : Effect). last_such go e.orders) (sym is.2.effect_is) ∙ goes)
   item_mode past (Loaded launch file) step taken is ran run goes =
       let e = sym goes ∙ ap (λ (e : Effect). last_such go e.orders) is.2.effect_is

@@ -3,7 +3,6 @@ use Rattle.std.proofs.Common.{◌≡◌, ◌⊎◌, inl, inr, ℕ, List, [], ◌
 use Rattle.std.specs.Prelude.{if◌then◌else◌}
 use Rattle.dap_msg.specs.declared.command.Command.{Command}
 use Rattle.dap_msg.specs.declared.command.Command.TheVariants as command
-use Rattle.dap_msg.specs.declared.outgoing.Body.TheVariants as body
 use Rattle.dbg_plan.specs.Breakpoints.{Breakpoint}
 use Rattle.dbg_plan.specs.declared.mode.Reason.{Reason}
 use Rattle.dbg_runner.specs.declared.outcome.SliceOutcome.{SliceOutcome}
@@ -19,18 +18,19 @@ use Rattle.dap_history.specs.declared.situation.Situation.TheVariants.{Running}
 use Rattle.dap_history.specs.Last.{or_else}
 use Rattle.dap_history.specs.History.{Launched, Item, Content, Loaded, Accepted, Fault, InputEnd, ReadFailure, MemoryFailure, Effect, Step, History, orders_of}
 use Rattle.dap_history.specs.Readings.{situation, runs, is_back, waiting_pause, is_held, closing_command, closing_report, closing, ending_of}
-use Rattle.dap_history.specs.Replies.{Reply, causing, ordering}
+use Rattle.dap_history.specs.Replies.{Reply}
 use Rattle.dap_history.specs.Reports.{report_effect, held_effect}
 use Rattle.dap_history.specs.Launching.{Launches}
 use Rattle.dap_history.specs.Breakpoints.{hold_once, effect_in}
-use Rattle.dap_history.specs.Running.{enters}
+use Rattle.dap_history.specs.Running.{due_first, enters}
+use Rattle.dap_history.specs.Reactions.{Reaction, Close, reply_of}
 use Rattle.dap_history.specs.Emission.{RepliesIn, Causes, IsAfter}
 use Rattle.dap_msg.specs.declared.request.FirstSeq.{FirstSeq}
 use Rattle.dap_history.specs.Interleaving.{Load, IsLoad, Interleaves}
 use Rattle.dap_history.specs.Events.{Incoming, End, ReadFailed, File, Rest, IsTaking, IsHistoryOf}
 use Rattle.dap_history.specs.Laws.{IsAmong, QuitIsLast, EndsWithQuit, QuitCloses}
 use Rattle.dap_history.proofs.Readings.{or_else-none, orders_of-snoc, ending_of-snoc}
-use Rattle.dap_history.proofs.Shapes.{due_first, Shape, refuses, is_calm, sets, begins, resumes_by, is_over, retreats, interrupts, quits, shaped}
+use Rattle.dap_history.proofs.Reacted.{Reacted, by_setting, by_starting, by_interrupting, by_closing, replied, by_reaction}
 use Rattle.dap_history.proofs.Along.{IsTaken, IsKept, AllEvents, any_events, along}
 
 -- a session that took the item goes on only where the item doesn't close
@@ -180,26 +180,21 @@ abbrev QuitsBy : List PlainOrder → Option Ending → Type 0
 QuitsBy orders (Some (ending.Closed by)) = orders ≡ Quit ∷ []
 QuitsBy orders _ = NoQuit orders
 
--- a reply to another command than `disconnect`
-shape_quiet : (past : History) (s : Situation) (asked : Command) (reply : Reply) → ¬ (asked ≡ command.Disconnect)
-    → Shape past s asked reply → OrdersNoQuit reply
-shape_quiet past s asked reply other (refuses why is) = quiet_if reply _ tt is
-shape_quiet past s asked reply other (is_calm calm is) = subst NoQuit (ap (λ (e : Effect). e.orders) (sym is)) tt
-shape_quiet past s asked reply other (sets a l asks there at_path is) =
-    quiet_if reply _ (effect_quiet (situation past) past is.breakpoints) is.reply_is
-shape_quiet past s asked reply other (begins l asks here there is) =
-    quiet_if reply _ (enters_quiet past l (due_first past l)) is
-shape_quiet past s asked reply other (resumes_by k l by here there is) = quiet_if reply _ tt is
-shape_quiet past s asked reply other (is_over k by here is) = quiet_if reply _ tt is
-shape_quiet past s asked reply other (retreats m l by back stands there is) = quiet_if reply _ tt is
-shape_quiet past s asked reply other (interrupts a asks here is) =
-    quiet_if reply (causing body.None (ordering (hold_once past))) (hold_quiet past) is
-shape_quiet past s asked reply other (quits asks is) = absurd (other asks)
+-- the reaction to another command than `disconnect`
+reaction_quiet : (past : History) {s : Situation} {asked : Command} {reaction : Reaction}
+    → Reacted past s asked reaction
+    → ¬ (asked ≡ command.Disconnect) → NoQuit (reply_of past reaction).effect.orders
+reaction_quiet past (by_setting s a l found bs there path_is resolved) other = effect_quiet (situation past) past bs
+reaction_quiet past (by_starting l there) other = enters_quiet past l (due_first past l)
+reaction_quiet past (by_interrupting a) other = hold_quiet past
+reaction_quiet past (by_closing s) other = absurd (other refl)
+reaction_quiet past _ other = tt
 
 replies_quit : (s : Situation) (past : History) (asked : Command) (reply : Reply) → RepliesIn s past asked reply
     → QuitsBy reply.effect.orders (closing_command asked)
-replies_quit s past command.Disconnect reply is = ap (λ (r : Reply). r.effect.orders) is
-replies_quit s past asked reply is = shape_quiet past s asked reply (λ same. absurd cc) (shaped past reply s asked is)
+replies_quit s past command.Disconnect reply is = ap (λ (r : Reply). r.effect.orders) (replied Close is is.reacts)
+replies_quit s past asked reply is =
+    by_reaction OrdersNoQuit (λ reaction reacted. reaction_quiet past reacted (λ same. absurd cc)) is
 
 launches_quiet : (launch : Launch) (file : Option (List ℕ)) (reply : Reply) → Launches launch.arguments file reply
     → OrdersNoQuit reply

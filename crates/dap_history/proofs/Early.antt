@@ -5,8 +5,6 @@ use Rattle.dap_msg.specs.Commands.{name_of}
 use Rattle.dap_msg.specs.declared.command.Command.{Command}
 use Rattle.dap_msg.specs.declared.command.Command.TheVariants as command
 use Rattle.dap_msg.specs.declared.command.CommandName.{CommandName}
-use Rattle.dap_msg.specs.declared.command.CommandName.TheVariants as name
-use Rattle.dap_msg.specs.declared.command.Supported.TheVariants as supported
 use Rattle.dap_msg.specs.declared.outgoing.Body.{Body}
 use Rattle.dap_msg.specs.declared.outgoing.Refusal.{Refusal}
 use Rattle.dap_msg.specs.declared.outgoing.Outgoing.TheVariants.{Event}
@@ -20,8 +18,9 @@ use Rattle.dbg_runner.specs.Plain.{PlainOrder, Go, Hold, Quit}
 use Rattle.dap_history.specs.History.{Step, History, with_answer}
 use Rattle.dap_history.specs.Readings.{command_mark, answer_mark, event_mark, message_mark, order_mark, step_mark}
 use Rattle.dap_history.specs.Replies.{Reply}
-use Rattle.dap_history.specs.Launching.{initialize_in}
+use Rattle.dap_history.specs.Reactions.{Reaction, reply_of}
 use Rattle.dap_history.specs.Emission.{RepliesIn, Answers}
+use Rattle.dap_history.proofs.Reacted.{IsCalm, Reacted, by_answering, by_reaction}
 
 abbrev pub IsEarly : Situation → Type 0
 IsEarly Fresh = Unit {0}
@@ -88,21 +87,27 @@ pub result_late : (command : CommandName) → ¬ IsEarlyMark (command_mark comma
 result_late command not (Ok b) is = not is
 result_late command not (Err r) is = is
 
-initialize_late : (s : Situation) → IsEarlyMark
-    (answer_mark (name.Supported supported.Initialize) (initialize_in s).result) → s ≡ Fresh
-initialize_late Fresh is = refl
-initialize_late _ is = absurd is
+calm_early : (past : History) (s : Situation) (asked : Command) (b : Body) → IsCalm past s asked b
+    → IsEarlyMark (answer_mark (name_of asked) (Ok b)) → s ≡ Fresh
+calm_early past s (command.Initialize a) b calm early = calm.0
+calm_early past s (command.SetBreakpoints a) b calm early = absurd early
+calm_early past s command.Threads b calm early = absurd early
+calm_early past s (command.Pause a) b calm early = absurd early
+calm_early past s (command.Inspect q) b calm early = absurd early
+calm_early past s _ b calm early = absurd calm
+
+reaction_early : (past : History) {s : Situation} {asked : Command} {reaction : Reaction}
+    → Reacted past s asked reaction
+    → IsEarlyMark (answer_mark (name_of asked) (reply_of past reaction).result) → s ≡ Fresh
+reaction_early past (by_answering s asked b calm) early = calm_early past s asked b calm early
+reaction_early past _ early = absurd early
 
 -- an answer that leads to Ready is given in Fresh
 pub early_reply : (s : Situation) (past : History) (asked : Command) (reply : Reply) → RepliesIn s past asked reply
     → IsEarlyMark (answer_mark (name_of asked) reply.result) → s ≡ Fresh
-early_reply s past (command.Initialize a) reply is early =
-    initialize_late s (subst (λ (r : Reply). IsEarlyMark (answer_mark (name.Supported supported.Initialize) r.result))
-    is early)
-early_reply s past (command.BadArguments k) reply is early =
-    absurd (subst (λ (r : Reply). IsEarlyMark (answer_mark (name.Supported k) r.result)) is early)
 early_reply s past asked reply is early =
-    absurd (result_late (name_of asked) (λ x. x) reply.result early)
+    by_reaction (λ (r : Reply). IsEarlyMark (answer_mark (name_of asked) r.result) → s ≡ Fresh)
+    (λ reaction reacted early. reaction_early past reacted early) is early
 
 pub early_unwrap : (o : Option Situation) (s : Situation) → IsEarly (unwrap_or o s) → IsEarlyMark o
     ⊎ ((o ≡ None) × IsEarly s)

@@ -3,7 +3,6 @@ use Rattle.std.proofs.Common.{◌≡◌, ℕ, [], Bool, true, false, Option, Non
 use Rattle.std.specs.Prelude.{if◌then◌else◌, option_map, is_some, is_none, unwrap_or}
 use Rattle.std.specs.List.{list_any}
 use Rattle.dap_msg.specs.declared.outgoing.Body.{Body}
-use Rattle.dap_msg.specs.declared.outgoing.Body.TheVariants as body
 use Rattle.dap_msg.specs.declared.outgoing.StopReason.TheVariants as stop
 use Rattle.pl0_meaning.specs.Laws.{WrittenJoins}
 use Rattle.dbg_plan.specs.Due.{stops as met, reason_of, due, depth_at}
@@ -15,24 +14,21 @@ use Rattle.dap_history.specs.declared.situation.Situation.TheVariants.{Configuri
 use Rattle.dap_history.specs.Last.{last_such}
 use Rattle.dap_history.specs.History.{Launched, Content, History, Effect}
 use Rattle.dap_history.specs.Readings.{go, situation, launched, plan}
-use Rattle.dap_history.specs.Replies.{Reply, OfProgram, causing, stopped_events, stop_of}
-use Rattle.dap_history.specs.Running.{first_mode, first_logs, enters, ConfiguresIn}
-use Rattle.dap_history.specs.Emission.{RepliesIn, Causes}
+use Rattle.dap_history.specs.Replies.{Reply, stopped_events, stop_of}
+use Rattle.dap_history.specs.Running.{due_first, first_mode, first_logs, enters}
+use Rattle.dap_history.specs.Reactions.{Reaction, reply_of}
+use Rattle.dap_history.specs.Emission.{Causes}
 use Rattle.dap_history.specs.Stops.{stop_of_event, stop_in, run_in}
 use Rattle.dap_history.specs.Moves.{first_stop, PositionZeroIsConsidered}
 use Rattle.dap_history.proofs.Texts.{OneProgram}
 use Rattle.dap_history.proofs.Told.{stop_of_logs}
 use Rattle.dap_history.proofs.Silent.{first_at}
-use Rattle.dap_history.proofs.Shapes.{due_first}
+use Rattle.dap_history.proofs.Reacted.{IsCalm, Reacted, by_answering, by_starting, by_reaction}
 use Rattle.dap_history.proofs.Holding.{result_of}
 use Rattle.dap_history.proofs.Judged.{was_taken}
 use Rattle.dap_history.proofs.Lines.{first_counts}
-
--- the program that is launched, of which this is said
-program_of : (o : Option Launched) (says : Launched → Type 0) → OfProgram o says
-    → (l : Launched) × (o ≡ Some l) × says l
-program_of None says is = absurd is
-program_of (Some l) says is = (l, refl, is)
+use Rattle.dap_msg.specs.declared.command.Command.{Command}
+use Rattle.dap_msg.specs.declared.command.Command.TheVariants as command
 
 -- where `configurationDone` is granted, the program enters
 record Enters (past : History) (s : Situation) (effect : Effect) : Type 0 where
@@ -41,13 +37,15 @@ record Enters (past : History) (s : Situation) (effect : Effect) : Type 0 where
   configuring : s ≡ Configuring
   effect_is : effect ≡ enters past l (due_first past l)
 
-granted_enters : (past : History) (s : Situation) (reply : Reply) (b : Body) → reply.result ≡ Ok b
-    → ConfiguresIn s past reply → Enters past s reply.effect
-granted_enters past Configuring reply b granted is =
-    let by = program_of (launched past) (λ l. reply ≡ causing body.None (enters past l (due_first past l))) is in
-    record { l = by.0; there = by.1; configuring = refl; effect_is = ap (λ (r : Reply). r.effect) by.2 }
-granted_enters past _ reply b granted is =
-    let e = sym (ap (λ (r : Reply). r.result) is) ∙ granted in absurd cc
+granted_enters : (past : History) {s : Situation} {asked : Command} {reaction : Reaction}
+    → Reacted past s asked reaction
+    → asked ≡ command.ConfigurationDone → (b : Body) → (reply_of past reaction).result ≡ Ok b
+    → Enters past s (reply_of past reaction).effect
+granted_enters past (by_starting l there) asks b granted =
+    record { l = l; there = there; configuring = refl; effect_is = refl }
+granted_enters past (by_answering s asked body calm) asks b granted =
+    absurd (subst (λ c. IsCalm past s c body) asks calm)
+granted_enters past _ asks b granted = absurd cc
 
 -- why the program stops at position 0, by whether a breakpoint stops it there and by `stopOnEntry`
 first_reason : (met_there entry : Bool) (depth : ℕ)
@@ -88,14 +86,13 @@ module _ (one : OneProgram) (joins : WrittenJoins) where
       is = subst (λ i. Causes before i step) grants.item_is
           (was_taken events past rest history before step after past_is).causes
 
-      configures : ConfiguresIn (situation before) before is.0
-      configures = subst (λ c. RepliesIn (situation before) before c is.0) asked_is is.1
-
       granted : is.0.result ≡ Ok grants.body
       granted = ap (λ a. unwrap_or (result_of a) (Ok grants.body)) (sym is.2.answer_is ∙ grants.answer_is)
 
       there : Enters before (situation before) is.0.effect
-      there = granted_enters before (situation before) is.0 grants.body granted configures
+      there =
+          by_reaction (λ (r : Reply). r.result ≡ Ok grants.body → Enters before (situation before) r.effect)
+          (λ reaction reacted granted. granted_enters before reacted asked_is grants.body granted) is.1 granted
 
       effect_is : step.effect ≡ enters before there.l (due_first before there.l)
       effect_is = is.2.effect_is ∙ there.effect_is

@@ -19,8 +19,6 @@ use Rattle.dap_msg.specs.declared.outgoing.EventBody.TheVariants as event
 use Rattle.dap_msg.specs.declared.outgoing.StackFrame.{StackFrame}
 use Rattle.dap_msg.specs.declared.outgoing.Scope.{Scope}
 use Rattle.dap_msg.specs.declared.requests.launch.LaunchArguments.{LaunchArguments}
-use Rattle.dap_msg.specs.declared.requests.set_breakpoints.SetBreakpointsArguments.{SetBreakpointsArguments}
-use Rattle.dap_msg.specs.declared.requests.set_breakpoints.SourceBreakpoint.{SourceBreakpoint}
 use Rattle.dap_msg.specs.declared.requests.stack_trace.StackTraceArguments.{StackTraceArguments}
 use Rattle.dap_msg.specs.Laws.{LineFits, FrameFits, ReferenceFits, BodyFits, ResultFits, NumbersFit}
 use Rattle.pl0_tree.specs.Tree.{Block}
@@ -30,7 +28,6 @@ use Rattle.pl0_meaning.specs.Runs.{at, frame_limit}
 use Rattle.pl0_meaning.specs.Laws.{FramesAreFew}
 use Rattle.dbg_plan.specs.Breakpoints.{Breakpoint}
 use Rattle.dbg_plan.specs.Logs.{Log}
-use Rattle.dbg_plan.specs.declared.mode.Mode.{Mode}
 use Rattle.dbg_plan.specs.declared.mode.Reason.{Reason}
 use Rattle.dbg_plan.specs.declared.evaluation.EvalFault.{EvalFault}
 use Rattle.dbg_plan.specs.declared.evaluation.EvalFault.TheVariants.{Overflow, DivideByZero}
@@ -40,24 +37,27 @@ use Rattle.dbg_runner.specs.Plain.{PlainReport}
 use Rattle.dbg_runner.specs.declared.outcome.SliceOutcome.{SliceOutcome}
 use Rattle.dbg_runner.specs.declared.outcome.SliceOutcome.TheVariants as slice
 use Rattle.dap_history.specs.declared.situation.Situation.{Situation}
-use Rattle.dap_history.specs.declared.situation.Situation.TheVariants.{Fresh, Ready, Configuring, Running, Stopped, Faulted}
+use Rattle.dap_history.specs.declared.situation.Situation.TheVariants.{Configuring}
 use Rattle.dap_history.specs.Last.{or_else}
 use Rattle.dap_history.specs.History.{Launched, Item, Content, Loaded, Accepted, InputEnd, ReadFailure, Step, History, Effect, with_answer, messages, messages_of}
 use Rattle.dap_history.specs.Readings.{situation, launched, position, waiting_pause}
-use Rattle.dap_history.specs.Replies.{Reply, nothing, ordering, refused, on_thread, OfProgram, stopped_events, exited_events, log_events}
-use Rattle.dap_history.specs.Launching.{initialize_in, Launches}
-use Rattle.dap_history.specs.Breakpoints.{answer_to_line, effect_in, SetsOf, SetsIn, is_same_path}
-use Rattle.dap_history.specs.Running.{body_of, resumes, first_logs, enters, ConfiguresIn, ResumesIn, RetreatsIn, pause_in}
+use Rattle.dap_history.specs.Replies.{Reply, nothing, ordering, answered, refused, on_thread, OfProgram, stopped_events, exited_events, log_events}
+use Rattle.dap_history.specs.Launching.{Launches}
+use Rattle.dap_history.specs.Breakpoints.{line_offset, answer_to_line, effect_in}
+use Rattle.dap_history.specs.Running.{due_first, body_of, first_logs, enters}
+use Rattle.dap_history.specs.Reactions.{Reaction, reply_of, other_source}
 use Rattle.dap_history.specs.Frames.{Counting, shown_line, shown_column, frame_name, shown_frame, shown_frames, at_most, scopes_from, frame_by_id}
-use Rattle.dap_history.specs.Inspection.{Subject, stack_trace, scopes, variables, result_reply, EvaluatesIn, RepliesFrom, RepliesAt, subject_in, InspectsIn}
+use Rattle.dap_history.specs.Inspection.{Subject, stack_trace, scopes, variables, result_reply, EvaluatesIn, RepliesFrom, RepliesAt, subject_in}
 use Rattle.dap_history.specs.Reports.{outputs, held_effect, report_effect}
-use Rattle.dap_history.specs.Emission.{threads_in, RepliesIn, Answers, HasEffect, Causes}
+use Rattle.dap_history.specs.Emission.{RepliesIn, Answers, HasEffect, Causes}
 use Rattle.dap_history.specs.Events.{Incoming, Rest, IsHistoryOf}
 use Rattle.dap_history.proofs.Readings.{launched-snoc, messages_of-snoc}
 use Rattle.dap_history.proofs.Along.{IsKept, any_events, along}
 use Rattle.dap_history.proofs.Silent.{all_silent}
 use Rattle.dap_history.proofs.Outputs.{report_launches}
 use Rattle.dap_history.proofs.Places.{most, BlockNear, read_near, MayBeNear, program_step_near, FramesNear, frames_near, next_step_near}
+use Rattle.dap_history.proofs.Reacted.{IsCalm, Reacted, by_refusing, by_answering, by_setting, by_starting, by_resuming, by_ending, by_retreating, by_interrupting, by_closing, by_reaction}
+use Rattle.dap_msg.specs.declared.outgoing.Body.{Body}
 
 -- ---- messages one after another
 
@@ -237,60 +237,13 @@ module _ (few : FramesAreFew) where
   inspects_fit (Some l) past question reply near says =
       replies_at_fit (subject_in past l) (position past) (at l.program (position past)) question reply near refl says
 
-  inspects_in_fit : (s : Situation) (past : History) (question : Question) (reply : Reply)
-      → LaunchedNear (launched past) → InspectsIn s past question reply → ReplyFits reply
-  inspects_in_fit Stopped past question reply near says = inspects_fit (launched past) past question reply near says
-  inspects_in_fit Faulted past question reply near says = inspects_fit (launched past) past question reply near says
-  inspects_in_fit _ past question reply near says = fits_if reply _ (refused_fits _) says
-
-  initialize_fits : (s : Situation) → ReplyFits (initialize_in s)
-  initialize_fits Fresh = record { result = tt; events = tt }
-  initialize_fits _ = refused_fits _
-
-  threads_fit : (s : Situation) → ReplyFits (threads_in s)
-  threads_fit Fresh = refused_fits _
-  threads_fit _ = record { result = tt; events = tt }
-
   effect_fits : (s : Situation) (past : History) (bs : List Breakpoint) → EventsFit (effect_in s past bs).events
   effect_fits Configuring past bs = tt
   effect_fits _ past bs = tt
 
-  sets_of_fit : (same : Bool) (past : History) (l : Launched) (lines : List SourceBreakpoint) (reply : Reply)
-      → BlockNear l.program → SetsOf same past l lines reply → ReplyFits reply
-  sets_of_fit true past l lines reply near says =
-      fits_if reply _ (record {
-        result = answers_fit l.program near _ says.answers;
-        events = effect_fits
-            (situation past) past says.breakpoints;
-      }) says.reply_is
-  sets_of_fit false past l lines reply near says =
-      fits_if reply _ (record { result = All-map LineFits _ lines (λ k d lt. tt); events = tt }) says
-
-  sets_fit : (l : Option Launched) (past : History) (a : SetBreakpointsArguments) (reply : Reply) → LaunchedNear l
-      → OfProgram l (λ l. SetsOf (is_same_path a.path l.path) past l a.breakpoints reply) → ReplyFits reply
-  sets_fit None past a reply near says = absurd says
-  sets_fit (Some l) past a reply near says = sets_of_fit
-      (is_same_path a.path l.path) past l a.breakpoints reply near says
-
-  sets_in_fit : (s : Situation) (past : History) (a : SetBreakpointsArguments) (reply : Reply)
-      → LaunchedNear (launched past) → SetsIn s past a reply → ReplyFits reply
-  sets_in_fit Fresh past a reply near says = fits_if reply _ (refused_fits _) says
-  sets_in_fit Ready past a reply near says = fits_if reply _ (refused_fits _) says
-  sets_in_fit _ past a reply near says = sets_fit (launched past) past a reply near says
-
   enters_fit : (past : History) (l : Launched) (why : Option Reason) → EventsFit (enters past l why).events
   enters_fit past l None = logs_fit _ _
   enters_fit past l (Some r) = events_fit-append (first_logs past l) (stopped_events _) (logs_fit _ _) (tt, tt)
-
-  configures_fit : (o : Option Launched) (past : History) (reply : Reply) (why : Launched → Option Reason)
-      → OfProgram o (λ l. reply ≡ record { result = Ok body.None; effect = enters past l (why l) }) → ReplyFits reply
-  configures_fit None past reply why says = absurd says
-  configures_fit (Some l) past reply why says =
-      fits_if reply _ (record { result = tt; events = enters_fit past l (why l) }) says
-
-  configures_in_fit : (s : Situation) (past : History) (reply : Reply) → ConfiguresIn s past reply → ReplyFits reply
-  configures_in_fit Configuring past reply says = configures_fit (launched past) past reply _ says
-  configures_in_fit _ past reply says = fits_if reply _ (refused_fits _) says
 
   resume_kind_fits : (resume_kind : ResumeKind) → BodyFits (body_of resume_kind)
   resume_kind_fits resume.Continue = tt
@@ -298,54 +251,44 @@ module _ (few : FramesAreFew) where
   resume_kind_fits resume.StepIn = tt
   resume_kind_fits resume.StepOut = tt
 
-  resumes_fit : (o : Option Launched) (reply : Reply) (resume_kind : ResumeKind) (thread : ℕ)
-      (effect : Launched → Effect) → ((l : Launched) → EventsFit (effect l).events)
-      → OfProgram o (λ l. reply ≡ on_thread thread (record { result = Ok (body_of resume_kind); effect = effect l }))
-      → ReplyFits reply
-  resumes_fit None reply resume_kind thread effect fit says = absurd says
-  resumes_fit (Some l) reply resume_kind thread effect fit says =
-      fits_if reply _ (thread_fits thread _ (record { result = resume_kind_fits resume_kind; events = fit l })) says
+  launched_near : (past : History) (l : Launched) → launched past ≡ Some l → LaunchedNear (launched past)
+      → BlockNear l.program
+  launched_near past l there near = subst LaunchedNear there near
 
-  resumes_in_fit : (s : Situation) (past : History) (resume_kind : ResumeKind) (thread : ℕ) (reply : Reply)
-      → ResumesIn s past resume_kind thread reply → ReplyFits reply
-  resumes_in_fit Stopped past resume_kind thread reply says =
-      resumes_fit (launched past) reply resume_kind thread _ (λ l. tt) says
-  resumes_in_fit Faulted past resume_kind thread reply says =
-      fits_if reply _ (thread_fits thread _
-      (record { result = resume_kind_fits resume_kind; events = (near_small 1 (lit≤ tt), (tt, tt)) })) says
-  resumes_in_fit _ past resume_kind thread reply says = fits_if reply _ (refused_fits _) says
+  calm_fits : (past : History) (s : Situation) (asked : Command) (b : Body) → LaunchedNear (launched past)
+      → IsCalm past s asked b → ReplyFits (answered b)
+  calm_fits past s (command.Initialize a) b near calm =
+      fits_if (answered b) (answered body.Capabilities) (record { result = tt; events = tt }) (ap answered calm.1)
+  calm_fits past s (command.SetBreakpoints a) b near calm =
+      fits_if (answered b) (answered (body.Breakpoints (other_source a.breakpoints)))
+      (record { result = All-map LineFits _ a.breakpoints (λ k d lt. tt); events = tt }) (ap answered calm.3)
+  calm_fits past s command.Threads b near calm =
+      fits_if (answered b) (answered body.Threads) (record { result = tt; events = tt }) (ap answered calm)
+  calm_fits past s (command.Pause a) b near calm =
+      fits_if (answered b) (answered body.None) (record { result = tt; events = tt }) (ap answered calm.1)
+  calm_fits past s (command.Inspect q) b near calm = inspects_fit (launched past) past q (answered b) near calm.1
+  calm_fits past s _ b near calm = absurd calm
 
-  retreats_fit : (o : Option Launched) (past : History) (m : Mode) (thread : ℕ) (reply : Reply)
-      → OfProgram o (λ l. reply ≡ on_thread thread
-      (record { result = Ok body.None; effect = ordering (resumes past l m) })) → ReplyFits reply
-  retreats_fit None past m thread reply says = absurd says
-  retreats_fit (Some l) past m thread reply says =
-      fits_if reply _ (thread_fits thread _ (record { result = tt; events = tt })) says
-
-  retreats_in_fit : (s : Situation) (past : History) (m : Mode) (thread : ℕ) (reply : Reply)
-      → RetreatsIn s past m thread reply → ReplyFits reply
-  retreats_in_fit Stopped past m thread reply says = retreats_fit (launched past) past m thread reply says
-  retreats_in_fit Faulted past m thread reply says = retreats_fit (launched past) past m thread reply says
-  retreats_in_fit _ past m thread reply says = fits_if reply _ (refused_fits _) says
-
-  pause_fits : (s : Situation) (past : History) (thread : ℕ) → ReplyFits (pause_in s past thread)
-  pause_fits Running past thread = thread_fits thread _ (record { result = tt; events = tt })
-  pause_fits Stopped past thread = thread_fits thread _ (record { result = tt; events = tt })
-  pause_fits Faulted past thread = thread_fits thread _ (record { result = tt; events = tt })
-  pause_fits _ past thread = refused_fits _
+  reaction_fits : (past : History) {s : Situation} {asked : Command} {reaction : Reaction}
+      → LaunchedNear (launched past) → Reacted past s asked reaction → ReplyFits (reply_of past reaction)
+  reaction_fits past near (by_refusing s asked why) = refused_fits why
+  reaction_fits past near (by_answering s asked b calm) = calm_fits past s asked b near calm
+  reaction_fits past near (by_setting s a l found bs there path_is resolved) = record {
+    result = answers_fit l.program (launched_near past l there near) (line_offset past) found;
+    events = effect_fits (situation past) past bs;
+  }
+  reaction_fits past near (by_starting l there) = record { result = tt; events = enters_fit past l (due_first past l) }
+  reaction_fits past near (by_resuming kind a l there) = record { result = resume_kind_fits kind; events = tt }
+  reaction_fits past near (by_ending kind a) =
+      record { result = resume_kind_fits kind; events = (near_small 1 (lit≤ tt), (tt, tt)) }
+  reaction_fits past near (by_retreating s kind a l stands there) = record { result = tt; events = tt }
+  reaction_fits past near (by_interrupting a) = record { result = tt; events = tt }
+  reaction_fits past near (by_closing s) = record { result = tt; events = tt }
 
   command_fits : (s : Situation) (past : History) (asked : Command) (reply : Reply) → LaunchedNear (launched past)
       → RepliesIn s past asked reply → ReplyFits reply
-  command_fits s past (command.Initialize a) reply near says = fits_if reply _ (initialize_fits s) says
-  command_fits s past (command.SetBreakpoints a) reply near says = sets_in_fit s past a reply near says
-  command_fits s past command.ConfigurationDone reply near says = configures_in_fit s past reply says
-  command_fits s past command.Threads reply near says = fits_if reply _ (threads_fit s) says
-  command_fits s past (command.Resume k a) reply near says = resumes_in_fit s past k a.thread_id reply says
-  command_fits s past (command.Retreat k a) reply near says = retreats_in_fit s past _ a.thread_id reply says
-  command_fits s past (command.Pause a) reply near says = fits_if reply _ (pause_fits s past a.thread_id) says
-  command_fits s past (command.Inspect q) reply near says = inspects_in_fit s past q reply near says
-  command_fits s past command.Disconnect reply near says = fits_if reply _ (record { result = tt; events = tt }) says
-  command_fits s past _ reply near says = fits_if reply _ (refused_fits _) says
+  command_fits s past asked reply near says =
+      by_reaction ReplyFits (λ reaction reacted. reaction_fits past near reacted) says
 
   launch_fits : (arguments : LaunchArguments) (file : Option (List ℕ)) (reply : Reply) → Launches arguments file reply
       → ReplyFits reply

@@ -2,23 +2,22 @@
 use Rattle.std.proofs.Common.{◌≡◌, ◌⊎◌, inl, inr, List, [], ◌∷◌, ◌++◌, Bool, true, false, Option, None, Some, Ok, refl, sym, ◌∙◌, ap, subst}
 use Rattle.std.specs.Prelude.{IsSome, is_some, unwrap_or}
 use Rattle.std.proofs.lemmas.List.Elements.{All-nil}
-use Rattle.dap_msg.specs.declared.requests.resume.ResumeKind.{ResumeKind}
 use Rattle.dap_msg.specs.declared.command.Command.{Command}
 use Rattle.dap_msg.specs.declared.command.Command.TheVariants as command
 use Rattle.dap_msg.specs.declared.outgoing.Body.{Body}
 use Rattle.dap_msg.specs.declared.outgoing.EventBody.{EventBody}
-use Rattle.dap_msg.specs.declared.outgoing.EventBody.TheVariants as event
 use Rattle.dbg_plan.specs.declared.mode.Reason.{Reason}
 use Rattle.dbg_runner.specs.declared.outcome.SliceOutcome.{SliceOutcome}
 use Rattle.dbg_runner.specs.declared.outcome.SliceOutcome.TheVariants as slice
 use Rattle.dbg_runner.specs.Plain.{PlainReport}
 use Rattle.dap_history.specs.declared.situation.Situation.{Situation}
-use Rattle.dap_history.specs.declared.situation.Situation.TheVariants.{Faulted}
+use Rattle.dap_history.specs.declared.situation.Situation.TheVariants.{Configuring}
 use Rattle.dap_history.specs.Last.{last_such}
 use Rattle.dap_history.specs.History.{Launched, Content, Accepted, Step, History, Effect}
 use Rattle.dap_history.specs.Readings.{go, situation, plan, waiting_pause}
 use Rattle.dap_history.specs.Replies.{Reply, stopped_events, stop_of}
-use Rattle.dap_history.specs.Running.{first_logs, enters}
+use Rattle.dap_history.specs.Running.{due_first, first_logs, enters}
+use Rattle.dap_history.specs.Reactions.{Reaction, reply_of}
 use Rattle.dap_history.specs.Reports.{held_effect, report_effect}
 use Rattle.dap_history.specs.Emission.{Causes}
 use Rattle.dap_history.specs.Stops.{IsOutput, TellsFirst, TellsBy, EachReplyIsTold}
@@ -28,7 +27,7 @@ use Rattle.dap_history.proofs.Along.{any_events, along}
 use Rattle.dap_history.proofs.Each.{EachTaken, each_kept, each_first}
 use Rattle.dap_history.proofs.Told.{stop_of_logs}
 use Rattle.dap_history.proofs.Silent.{first_at}
-use Rattle.dap_history.proofs.Shapes.{due_first, resume_kind_by, IsCalm, Shape, refuses, is_calm, sets, begins, resumes_by, is_over, retreats, interrupts, quits, shaped}
+use Rattle.dap_history.proofs.Reacted.{IsCalm, Reacted, by_refusing, by_answering, by_setting, by_starting, by_resuming, by_ending, by_retreating, by_interrupting, by_closing, by_reaction}
 use Rattle.dap_history.proofs.GoingBack.{Anything, anything_kept}
 use Rattle.dap_history.proofs.Once.{quiet_in}
 use Rattle.dap_history.proofs.Telling.{logs_output}
@@ -42,54 +41,37 @@ tells_nothing s command.ConfigurationDone events is = ([], All-nil IsOutput, inl
 tells_nothing s (command.Resume k a) events is = inl is
 tells_nothing s _ events is = is
 
-tells_end : (s : Situation) (asked : Command) (resume_kind : ResumeKind) (events : List EventBody)
-    → resume_kind_by asked ≡ Some resume_kind → s ≡ Faulted → events ≡ event.Exited 1 ∷ event.Terminated ∷ []
-    → TellsBy s asked events
-tells_end s (command.Resume k a) resume_kind events by here is = inr (here, is)
-tells_end s _ resume_kind events by here is = absurd cc
-
 enters_tells : (past : History) (l : Launched) (why : Option Reason) (events : List EventBody)
     → events ≡ (enters past l why).events → TellsFirst events
 enters_tells past l None events is = (first_logs past l, logs_output (plan past).breakpoints (first_at past l), inl is)
 enters_tells past l (Some r) events is =
     (first_logs past l, logs_output (plan past).breakpoints (first_at past l), inr (_, is))
 
-module _ (past : History) (s : Situation) (asked : Command) (reply : Reply) where
-  events_are : (other : Reply) → reply ≡ other → reply.effect.events ≡ other.effect.events
-  events_are other is = ap (λ (r : Reply). r.effect.events) is
-
-  reply_tells : Shape past s asked reply → TellsBy s asked reply.effect.events
-  reply_tells (refuses why is) = tells_nothing s asked reply.effect.events (events_are _ is)
-  reply_tells (is_calm calm is) = tells_nothing s asked reply.effect.events (ap (λ (e : Effect). e.events) is)
-  reply_tells (sets a l by there same resolves) =
-      tells_nothing s asked reply.effect.events
-      (events_are _ resolves.reply_is ∙ quiet_in (situation past) past resolves.breakpoints)
-  reply_tells (begins l by here there is) =
-      subst (λ c. TellsBy s c reply.effect.events) (sym by)
-      (enters_tells past l (due_first past l) reply.effect.events (events_are _ is))
-  reply_tells (resumes_by resume_kind l by here there is) = tells_nothing s asked reply.effect.events (events_are _ is)
-  reply_tells (is_over resume_kind by here is) =
-      tells_end s asked resume_kind reply.effect.events by here (events_are _ is)
-  reply_tells (retreats m l by back stands there is) = tells_nothing s asked reply.effect.events (events_are _ is)
-  reply_tells (interrupts a by here is) = tells_nothing s asked reply.effect.events (events_are _ is)
-  reply_tells (quits by is) = tells_nothing s asked reply.effect.events (events_are _ is)
+module _ (past : History) where
+  reaction_tells : {s : Situation} {asked : Command} {reaction : Reaction} → Reacted past s asked reaction
+      → TellsBy s asked (reply_of past reaction).effect.events
+  reaction_tells (by_refusing s asked why) = tells_nothing s asked [] refl
+  reaction_tells (by_answering s asked b calm) = tells_nothing s asked [] refl
+  reaction_tells (by_setting s a l found bs there path_is resolved) =
+      tells_nothing s (command.SetBreakpoints a) _ (quiet_in (situation past) past bs)
+  reaction_tells (by_starting l there) = enters_tells past l (due_first past l) _ refl
+  reaction_tells (by_resuming kind a l there) = inl refl
+  reaction_tells (by_ending kind a) = inr (refl, refl)
+  reaction_tells (by_retreating s kind a l stands there) = tells_nothing s (command.Retreat kind a) [] refl
+  reaction_tells (by_interrupting a) = refl
+  reaction_tells (by_closing s) = tells_nothing s command.Disconnect [] refl
 
 -- ---- a run that is granted
 
-resuming_excused : (s : Situation) (asked : Command) (resume_kind : ResumeKind) (events : List EventBody)
-    → resume_kind_by asked ≡ Some resume_kind → s ≡ Faulted → events ≡ event.Exited 1 ∷ event.Terminated ∷ []
-    → IsExcused s asked events
-resuming_excused s (command.Resume k a) resume_kind events by here is = (here, is)
-resuming_excused s _ resume_kind events by here is = absurd cc
-
 -- a command that asks for a run has an effect where it is granted
-calm_asks_none : (past : History) (s : Situation) (asked : Command) → IsCalm past s asked → ¬ IsSome (mode_by 0 asked)
-calm_asks_none past s (command.Initialize a) calm asks = absurd cc
-calm_asks_none past s (command.SetBreakpoints a) calm asks = absurd cc
-calm_asks_none past s command.Threads calm asks = absurd cc
-calm_asks_none past s (command.Pause a) calm asks = absurd cc
-calm_asks_none past s (command.Inspect q) calm asks = absurd cc
-calm_asks_none past s _ calm asks = calm
+calm_asks_none : (past : History) (s : Situation) (asked : Command) (b : Body) → IsCalm past s asked b
+    → ¬ IsSome (mode_by 0 asked)
+calm_asks_none past s (command.Initialize a) b calm asks = absurd cc
+calm_asks_none past s (command.SetBreakpoints a) b calm asks = absurd cc
+calm_asks_none past s command.Threads b calm asks = absurd cc
+calm_asks_none past s (command.Pause a) b calm asks = absurd cc
+calm_asks_none past s (command.Inspect q) b calm asks = absurd cc
+calm_asks_none past s _ b calm asks = calm
 
 -- the reply orders a run, or needn't
 abbrev IsDone : Situation → Command → Effect → Type 0
@@ -101,24 +83,18 @@ begins_done past s l None = inl refl
 begins_done past s l (Some r) =
     inr (ap is_some (stop_of_logs (plan past).breakpoints (first_at past l) (stopped_events (stop_of r))))
 
-module _ (past : History) (s : Situation) (asked : Command) (reply : Reply) (b : Body) (granted : reply.result ≡ Ok b)
-    (asks : IsSome (mode_by 0 asked)) where
-  reply_done : Shape past s asked reply → IsDone s asked reply.effect
-  reply_done (refuses why is) = let e = ap (λ (r : Reply). r.result) (sym is) ∙ granted in absurd cc
-  reply_done (is_calm calm is) = absurd (calm_asks_none past s asked calm asks)
-  reply_done (sets a l by there same resolves) = absurd (let e = subst (λ c. IsSome (mode_by 0 c)) by asks in cc)
-  reply_done (begins l by here there is) =
-      subst (λ c. IsDone s c reply.effect) (sym by)
-      (subst (λ (r : Reply). IsDone s command.ConfigurationDone r.effect) (sym is)
-      (begins_done past s l (due_first past l)))
-  reply_done (resumes_by resume_kind l by here there is) =
-      inl (ap (λ (r : Reply). is_some (last_such go r.effect.orders)) is)
-  reply_done (is_over resume_kind by here is) =
-      inr (resuming_excused s asked resume_kind reply.effect.events by here (ap (λ (r : Reply). r.effect.events) is))
-  reply_done (retreats m l by back stands there is) =
-      inl (ap (λ (r : Reply). is_some (last_such go r.effect.orders)) is)
-  reply_done (interrupts a by here is) = absurd (let e = subst (λ c. IsSome (mode_by 0 c)) by asks in cc)
-  reply_done (quits by is) = absurd (let e = subst (λ c. IsSome (mode_by 0 c)) by asks in cc)
+reaction_done : (past : History) {s : Situation} {asked : Command} {reaction : Reaction} → Reacted past s asked reaction
+    → (b : Body) → (reply_of past reaction).result ≡ Ok b → IsSome (mode_by 0 asked)
+    → IsDone s asked (reply_of past reaction).effect
+reaction_done past (by_refusing s asked why) b granted asks = absurd cc
+reaction_done past (by_answering s asked body calm) b granted asks = absurd (calm_asks_none past s asked body calm asks)
+reaction_done past (by_setting s a l found bs there path_is resolved) b granted asks = absurd cc
+reaction_done past (by_starting l there) b granted asks = begins_done past Configuring l (due_first past l)
+reaction_done past (by_resuming kind a l there) b granted asks = inl refl
+reaction_done past (by_ending kind a) b granted asks = inr (refl, refl)
+reaction_done past (by_retreating s kind a l stands there) b granted asks = inl refl
+reaction_done past (by_interrupting a) b granted asks = absurd cc
+reaction_done past (by_closing s) b granted asks = absurd cc
 
 held_run : (past : History) (r : PlainReport) (pauses : Bool) → pauses ≡ false
     → IsSome (last_such go (held_effect past r pauses).orders)
@@ -147,8 +123,8 @@ module _ (events : List Incoming) (past : History) (rest : Rest) (history : IsHi
 pub each_reply_told : EachReplyIsTold
 each_reply_told events past rest history before step after request past_is item_is =
     subst (λ (e : Effect). TellsBy (situation before) request.body e.events) (sym is.2.effect_is)
-    (reply_tells before (situation before) request.body is.0
-    (shaped before is.0 (situation before) request.body is.1))
+    (by_reaction (λ (r : Reply). TellsBy (situation before) request.body r.effect.events)
+    (λ reaction. reaction_tells before) is.1)
   where
     is : Causes before (Content (Some request)) step
     is = subst (λ i. Causes before i step) item_is (causes events past rest history before step after past_is)
@@ -156,8 +132,8 @@ each_reply_told events past rest history before step after request past_is item_
 pub granted_ordered : GrantedRunsAreOrdered
 granted_ordered events past rest history before step after request past_is grants asks =
     subst (IsDone (situation before) request.body) (sym is.2.effect_is)
-    (reply_done before (situation before) request.body is.0 grants.body granted asks
-    (shaped before is.0 (situation before) request.body is.1))
+    (by_reaction (λ (r : Reply). r.result ≡ Ok grants.body → IsDone (situation before) request.body r.effect)
+    (λ reaction reacted granted. reaction_done before reacted grants.body granted asks) is.1 granted)
   where
     is : Causes before (Content (Some request)) step
     is = subst (λ i. Causes before i step) grants.item_is (causes events past rest history before step after past_is)

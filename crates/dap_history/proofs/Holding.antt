@@ -4,7 +4,6 @@ use Rattle.std.specs.Prelude.{if◌then◌else◌, unwrap_or, Result}
 use Rattle.std.specs.Option.{option_map_or}
 use Rattle.std.specs.List.{filter_map}
 use Rattle.std.proofs.lemmas.List.{append_assoc}
-use Rattle.dap_msg.specs.declared.requests.resume.ResumeKind.{ResumeKind}
 use Rattle.dap_msg.specs.declared.request.Request.{Request}
 use Rattle.dap_msg.specs.Commands.{name_of}
 use Rattle.dap_msg.specs.declared.command.Command.{Command}
@@ -14,7 +13,6 @@ use Rattle.dap_msg.specs.declared.outgoing.Outgoing.TheVariants.{Answer}
 use Rattle.dap_msg.specs.declared.outgoing.Body.{Body}
 use Rattle.dap_msg.specs.declared.outgoing.Refusal.{Refusal}
 use Rattle.dbg_plan.specs.Breakpoints.{Breakpoint}
-use Rattle.dbg_plan.specs.declared.mode.Mode.{Mode}
 use Rattle.dbg_plan.specs.declared.mode.Reason.{Reason}
 use Rattle.dbg_runner.specs.declared.outcome.SliceOutcome.{SliceOutcome}
 use Rattle.dbg_runner.specs.declared.outcome.SliceOutcome.TheVariants as slice
@@ -29,17 +27,17 @@ use Rattle.dap_history.specs.Readings.{go, situation, step_mark, runs, is_held, 
 use Rattle.dap_history.specs.Replies.{Reply}
 use Rattle.dap_history.specs.Launching.{Launches}
 use Rattle.dap_history.specs.Breakpoints.{hold_once, effect_in, is_same_path}
-use Rattle.dap_history.specs.Running.{enters}
+use Rattle.dap_history.specs.Running.{due_first, enters}
+use Rattle.dap_history.specs.Reactions.{Reaction, reply_of}
 use Rattle.dap_history.specs.Reports.{held_effect, report_effect}
-use Rattle.dap_history.specs.Emission.{RepliesIn, Answers, Causes}
-use Rattle.dap_history.specs.GoingBack.{back_by}
+use Rattle.dap_history.specs.Emission.{Answers, Causes}
 use Rattle.dap_history.specs.Runs.{IsToWait, GrantsWait, HoldOnce, WaitsAreHeld}
 use Rattle.dap_history.specs.Events.{Incoming, IsTaking}
 use Rattle.dap_history.proofs.Readings.{situation-snoc, orders_of-snoc, last_run-snoc, runs-snoc, is_held-snoc, ending_of-snoc}
 use Rattle.dap_history.proofs.Along.{IsKept, any_events, along}
 use Rattle.dap_history.proofs.Each.{WasTaken, EachTaken, each_kept, each_first}
 use Rattle.dap_history.proofs.Paths.{at_path, at_path_so}
-use Rattle.dap_history.proofs.Shapes.{due_first, resume_kind_by, IsCalm, Shape, refuses, is_calm, sets, begins, resumes_by, is_over, retreats, interrupts, quits, shaped}
+use Rattle.dap_history.proofs.Reacted.{IsCalm, Reacted, by_refusing, by_answering, by_setting, by_starting, by_resuming, by_ending, by_retreating, by_interrupting, by_closing, reacted, by_reaction}
 use Rattle.dap_history.proofs.Standing.{MarkIs, mark_unwrap, answers_only}
 use Rattle.dap_history.proofs.Passing.{IsRunning, runs_not}
 use Rattle.dap_history.proofs.Once.{none_within, rest_of}
@@ -101,25 +99,25 @@ module _ (past : History) (request : Request) (reply : Reply) (step : Step)
     begins_by l None is = orders_go _ refl (orders_are ∙ is)
     begins_by l (Some r) is = orders_none (orders_are ∙ is)
 
-    reply_orders : Shape past (situation past) request.body reply → OrdersBy past step
-    reply_orders (refuses why is) = orders_none (orders_are ∙ ap (λ (r : Reply). r.effect.orders) is)
-    reply_orders (is_calm calm is) = orders_none (orders_are ∙ ap (λ (e : Effect). e.orders) is)
-    reply_orders (sets a l by there same resolves) =
-        sets_by (situation past) resolves.breakpoints _ refl (ap (λ (r : Reply). r.result) resolves.reply_is)
-        (subst (IsToWait past) (sym by) (l, there, at_path a.path l.path same)) (ap (λ
-        (r : Reply). r.effect.orders) resolves.reply_is)
-    reply_orders (begins l by here there is) = begins_by l (due_first past l) (ap (λ (r : Reply). r.effect.orders) is)
-    reply_orders (resumes_by resume_kind l by here there is) =
-        orders_go _ refl (orders_are ∙ ap (λ (r : Reply). r.effect.orders) is)
-    reply_orders (is_over resume_kind by here is) = orders_none (orders_are ∙ ap (λ (r : Reply). r.effect.orders) is)
-    reply_orders (retreats m l by back stands there is) =
-        orders_go _ refl (orders_are ∙ ap (λ (r : Reply). r.effect.orders) is)
-    reply_orders (interrupts a by here is) =
-        holds_by _ (ap (λ (r : Reply). r.result) is) (subst (IsToWait past) (sym by) tt) here
+    reply_orders : {s : Situation} {asked : Command} {reaction : Reaction} → Reacted past s asked reaction
+        → s ≡ situation past → request.body ≡ asked → reply ≡ reply_of past reaction → OrdersBy past step
+    reply_orders (by_setting s a l found bs there path_is resolved) here by is =
+        sets_by (situation past) bs _ refl (ap (λ (r : Reply). r.result) is)
+        (subst (IsToWait past) (sym by) (l, there, at_path a.path l.path path_is))
         (ap (λ (r : Reply). r.effect.orders) is)
-    reply_orders (quits by is) =
+    reply_orders (by_starting l there) here by is =
+        begins_by l (due_first past l) (ap (λ (r : Reply). r.effect.orders) is)
+    reply_orders (by_resuming kind a l there) here by is =
+        orders_go _ refl (orders_are ∙ ap (λ (r : Reply). r.effect.orders) is)
+    reply_orders (by_retreating s kind a l stands there) here by is =
+        orders_go _ refl (orders_are ∙ ap (λ (r : Reply). r.effect.orders) is)
+    reply_orders (by_interrupting a) here by is =
+        holds_by _ (ap (λ (r : Reply). r.result) is) (subst (IsToWait past) (sym by) tt) (sym here)
+        (ap (λ (r : Reply). r.effect.orders) is)
+    reply_orders (by_closing s) here by is =
         orders_quit _ (ap closing item_is ∙ ap (λ c. closing (Content (Some (record { seq = request.seq; body = c }))))
         by) (orders_are ∙ ap (λ (r : Reply). r.effect.orders) is)
+    reply_orders _ here by is = orders_none (orders_are ∙ ap (λ (r : Reply). r.effect.orders) is)
 
 loaded_orders_none : (launch : Launch) (file : Option (List ℕ)) (reply : Reply) → Launches launch.arguments file reply
     → reply.effect.orders ≡ []
@@ -143,7 +141,8 @@ report_orders past r slice.Held step is = by_pause (waiting_pause past) is
 item_orders : (past : History) (item : Item) (step : Step) → step.item ≡ item → Causes past item step
     → OrdersBy past step
 item_orders past (Content (Some request)) step item_is is =
-    reply_orders past request is.0 step item_is is.2 (shaped past is.0 (situation past) request.body is.1)
+    reply_orders past request is.0 step item_is is.2
+    (reacted past (situation past) request.body is.1.reaction is.1.reacts) refl refl is.1.reply_is
 item_orders past (Loaded launch file) step item_is is =
     orders_none (ap (λ (e : Effect). e.orders) is.2.effect_is ∙ loaded_orders_none launch file is.0 is.1)
 item_orders past (Accepted r) step item_is is =
@@ -333,44 +332,34 @@ hold_once_law events past rest history before step after past_is front back n ho
 
 -- ---- what waits is held
 
-not_resuming : (past : History) (asked : Command) (resume_kind : ResumeKind) → resume_kind_by asked ≡ Some resume_kind
-    → ¬ IsToWait past asked
-not_resuming past (command.Pause a) resume_kind by to_wait = absurd cc
-not_resuming past (command.SetBreakpoints a) resume_kind by to_wait = absurd cc
-not_resuming past _ resume_kind by to_wait = to_wait
-
-not_back : (past : History) (asked : Command) (m : Mode) → back_by asked ≡ Some m → ¬ IsToWait past asked
-not_back past (command.Pause a) m by to_wait = absurd cc
-not_back past (command.SetBreakpoints a) m by to_wait = absurd cc
-not_back past _ m by to_wait = to_wait
-
 -- while a program runs, what waits is not answered without an effect
-not_calm : (past : History) (asked : Command) → IsCalm past Running asked → ¬ IsToWait past asked
-not_calm past (command.Pause a) calm to_wait = calm
-not_calm past (command.SetBreakpoints a) calm to_wait =
+not_calm : (past : History) (asked : Command) (b : Body) → IsCalm past Running asked b → ¬ IsToWait past asked
+not_calm past (command.Pause a) b calm to_wait = calm.0
+not_calm past (command.SetBreakpoints a) b calm to_wait =
     let same : calm.0 ≡ to_wait.0 = let e = sym calm.1 ∙ to_wait.1 in cc in
     let e = sym calm.2 ∙ ap (λ (l : Launched). is_same_path a.path l.path) same
     ∙ at_path_so a.path to_wait.0.path to_wait.2 in absurd cc
-not_calm past _ calm to_wait = to_wait
+not_calm past _ b calm to_wait = to_wait
 
-module _ (past : History) (asked : Command) (reply : Reply) (b : Body) (granted : reply.result ≡ Ok b)
-    (to_wait : IsToWait past asked) where
+module _ (past : History) where
   sets_hold : (s : Situation) (bs : List Breakpoint) → s ≡ Running → (effect_in s past bs).orders ≡ hold_once past
   sets_hold Running bs is = refl
   sets_hold _ bs is = absurd cc
 
-  reply_holds : situation past ≡ Running → Shape past Running asked reply → reply.effect.orders ≡ hold_once past
-  reply_holds here (refuses why is) = let e = ap (λ (r : Reply). r.result) (sym is) ∙ granted in absurd cc
-  reply_holds here (is_calm calm is) = absurd (not_calm past asked calm to_wait)
-  reply_holds here (sets a l by there same resolves) =
-      ap (λ (r : Reply). r.effect.orders) resolves.reply_is ∙ sets_hold (situation past) resolves.breakpoints here
-  reply_holds here (begins l by running there is) = absurd (subst (IsToWait past) by to_wait)
-  reply_holds here (resumes_by resume_kind l by running there is) =
-      absurd (not_resuming past asked resume_kind by to_wait)
-  reply_holds here (is_over resume_kind by running is) = absurd (not_resuming past asked resume_kind by to_wait)
-  reply_holds here (retreats m l by back stands there is) = absurd (not_back past asked m by to_wait)
-  reply_holds here (interrupts a by running is) = ap (λ (r : Reply). r.effect.orders) is
-  reply_holds here (quits by is) = absurd (subst (IsToWait past) by to_wait)
+  reaction_holds : {s : Situation} {asked : Command} {reaction : Reaction} → Reacted past s asked reaction
+      → s ≡ Running → situation past ≡ Running → (b : Body) → (reply_of past reaction).result ≡ Ok b
+      → IsToWait past asked → (reply_of past reaction).effect.orders ≡ hold_once past
+  reaction_holds (by_refusing s asked why) running here b granted to_wait = absurd cc
+  reaction_holds (by_answering s asked body calm) running here b granted to_wait =
+      absurd (not_calm past asked body (subst (λ t. IsCalm past t asked body) running calm) to_wait)
+  reaction_holds (by_setting s a l found bs there path_is resolved) running here b granted to_wait =
+      sets_hold (situation past) bs here
+  reaction_holds (by_starting l there) running here b granted to_wait = absurd to_wait
+  reaction_holds (by_resuming kind a l there) running here b granted to_wait = absurd to_wait
+  reaction_holds (by_ending kind a) running here b granted to_wait = absurd to_wait
+  reaction_holds (by_retreating s kind a l stands there) running here b granted to_wait = absurd to_wait
+  reaction_holds (by_interrupting a) running here b granted to_wait = refl
+  reaction_holds (by_closing s) running here b granted to_wait = absurd to_wait
 
 abbrev pub result_of : Option Outgoing → Option (Result Body Refusal)
 result_of (Some (Answer seq c result)) = Some result
@@ -380,8 +369,9 @@ granted_orders : (past : History) (step : Step) → Causes past step.item step �
     → (wait : GrantsWait past step) → step.effect.orders ≡ hold_once past
 granted_orders past step causes here wait =
     ap (λ (e : Effect). e.orders) is.2.effect_is
-    ∙ reply_holds past wait.request.body is.0 wait.granted.body granted wait.to_wait here
-    (shaped past is.0 Running wait.request.body (subst (λ s. RepliesIn s past wait.request.body is.0) here is.1))
+    ∙ by_reaction (λ (r : Reply). r.result ≡ Ok wait.granted.body → r.effect.orders ≡ hold_once past)
+    (λ reaction reacted granted. reaction_holds past reacted here here wait.granted.body granted wait.to_wait) is.1
+    granted
   where
     is : Causes past (Content (Some wait.request)) step
     is = subst (λ i. Causes past i step) wait.granted.item_is causes

@@ -12,7 +12,9 @@ use Rattle.dap_history.specs.Readings.{closing, ending_of}
 use Rattle.dap_history.specs.Replies.{Reply}
 use Rattle.dap_history.specs.Emission.{Causes}
 use Rattle.dap_history.specs.Events.{Incoming, IsTaking}
+use Rattle.dap_history.specs.Reactions.{Close}
 use Rattle.dap_history.specs.Laws.{DisconnectIsLast}
+use Rattle.dap_history.proofs.Reacted.{replied}
 use Rattle.dap_history.proofs.Readings.{last_such-append, messages_of-snoc}
 use Rattle.dap_history.proofs.Along.{IsKept, any_events, along}
 use Rattle.dap_history.proofs.Each.{splits, none_first, WasTaken, EachTaken, each_kept, each_first}
@@ -61,7 +63,8 @@ answers_it : (past : History) (step : Step) (seq : ℕ) → Causes past
 answers_it past step seq is =
     ap (λ a. with_answer a (map Event step.effect.events)) is.2.answer_is
     ∙ ap (λ e. Answer seq (name.Supported Disconnect) is.0.result ∷ map Event e.events) is.2.effect_is
-    ∙ ap (λ (r : Reply). Answer seq (name.Supported Disconnect) r.result ∷ map Event r.effect.events) is.1
+    ∙ ap (λ (r : Reply). Answer seq (name.Supported Disconnect) r.result ∷ map Event r.effect.events)
+    (replied Close is.1 is.1.reacts)
 
 pub disconnect_last : DisconnectIsLast
 disconnect_last events past rest history before step after seq past_is item_is = (

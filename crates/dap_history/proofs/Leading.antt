@@ -1,10 +1,9 @@
 -- Each item that reads no text leads from a history to another.
-use Rattle.std.proofs.Common.{◌≡◌, ◌⊎◌, inl, inr, ℕ, zero, suc, ◌-◌, ◌<◌, ◌≤◌, length, List, [], ◌∷◌, ◌++◌, Bool, true, false, Option, None, Some, Result, Ok, Err, refl, sym, ◌∙◌, ap, subst, arith}
+use Rattle.std.proofs.Common.{◌≡◌, ◌⊎◌, inl, inr, ℕ, zero, suc, ◌-◌, ◌<◌, ◌≤◌, length, List, [], ◌∷◌, ◌++◌, Bool, true, false, Option, None, Some, Ok, Err, refl, sym, ◌∙◌, ap, subst, arith}
 use Rattle.std.specs.Prelude.{if◌then◌else◌, is_some, IsSome, unwrap_or}
 use Rattle.std.specs.Option.{option_map_or}
 use Rattle.dap_msg.specs.declared.question.Question.TheVariants as question
 use Rattle.dap_msg.specs.declared.question.Question.{Question}
-use Rattle.dap_msg.specs.declared.requests.resume.ResumeKind.{ResumeKind}
 use Rattle.dap_msg.specs.Commands.{name_of}
 use Rattle.dap_msg.specs.declared.command.Command.{Command}
 use Rattle.dap_msg.specs.declared.command.Command.TheVariants as command
@@ -13,8 +12,6 @@ use Rattle.dap_msg.specs.declared.command.Supported.TheVariants as supported
 use Rattle.dap_msg.specs.declared.outgoing.Outgoing.{Outgoing}
 use Rattle.dap_msg.specs.declared.outgoing.Outgoing.TheVariants.{Answer}
 use Rattle.dap_msg.specs.declared.outgoing.Body.{Body}
-use Rattle.dap_msg.specs.declared.outgoing.Body.TheVariants as body
-use Rattle.dap_msg.specs.declared.outgoing.Refusal.{Refusal}
 use Rattle.dap_msg.specs.declared.outgoing.Refusal.TheVariants as refusal
 use Rattle.pl0_tree.specs.Tree.{Block}
 use Rattle.pl0_meaning.specs.Values.{Configuration}
@@ -37,10 +34,10 @@ use Rattle.dap_history.specs.declared.situation.Situation.TheVariants.{Fresh, Re
 use Rattle.dap_history.specs.Last.{or_else}
 use Rattle.dap_history.specs.History.{Launched, Item, Content, Loaded, Accepted, Fault, InputEnd, ReadFailure, MemoryFailure, Step, History, Effect}
 use Rattle.dap_history.specs.Readings.{situation, step_mark, launched, end_of, position}
-use Rattle.dap_history.specs.Replies.{Reply, nothing, ordering, refused, causing, OfProgram, on_thread}
+use Rattle.dap_history.specs.Replies.{Reply, nothing, ordering, refused, OfProgram}
 use Rattle.dap_history.specs.Launching.{Launches}
-use Rattle.dap_history.specs.Running.{resumes, enters, ConfiguresIn, ResumesIn, RetreatsIn}
-use Rattle.dap_history.specs.Inspection.{RepliesFrom, RepliesAt, subject_in, InspectsIn}
+use Rattle.dap_history.specs.Reactions.{Reaction, Start, Resume, Retreat, reply_of, for_thread, Inspects, Reacts}
+use Rattle.dap_history.specs.Inspection.{RepliesFrom, RepliesAt, subject_in}
 use Rattle.dap_history.specs.Reports.{report_effect}
 use Rattle.dap_history.specs.Emission.{RepliesIn, Causes, IsAfter}
 use Rattle.dap_history.specs.Laws.{IsPlain, IsPlainItem, EachItemLeads}
@@ -50,7 +47,8 @@ use Rattle.dap_history.proofs.Texts.{OneProgram}
 use Rattle.dap_history.proofs.Along.{IsTaken, IsKept, IsLawfulEvent, lawful_events, along}
 use Rattle.dap_history.proofs.Early.{IsEarly}
 use Rattle.dap_history.proofs.Silent.{all_silent}
-use Rattle.dap_history.proofs.Shapes.{resuming, due_first, IsCalm, Shape, refuses, is_calm, sets, begins, resumes_by, is_over, retreats, interrupts, quits, shaped}
+use Rattle.dap_history.proofs.Questions.{reaction_there}
+use Rattle.dap_history.proofs.Reacted.{IsCalm, Reacted, by_refusing, by_answering, by_setting, by_retreating, by_closing, by_reaction}
 use Rattle.dap_history.proofs.Outputs.{report_launches}
 use Rattle.dap_history.proofs.Progress.{report_program}
 use Rattle.dap_history.proofs.Passing.{Ran}
@@ -117,8 +115,8 @@ module _ (main : Block) (r : PlainReport) (no_gaps : RunsHaveNoGaps) where
 abbrev EarlyOr : Situation → Step → Type 0
 EarlyOr s step = IsEarly (unwrap_or (step_mark step) s) ⊎ ((l : Launched) × (step.effect.launched ≡ Some l))
 
-calm_early : (past : History) (s : Situation) (seq : ℕ) (asked : Command) (b : Body) → IsEarly s → IsCalm past s asked
-    → EarlyOr s (answering seq asked (Ok b) nothing)
+calm_early : (past : History) (s : Situation) (seq : ℕ) (asked : Command) (b : Body) → IsEarly s
+    → IsCalm past s asked b → EarlyOr s (answering seq asked (Ok b) nothing)
 calm_early past s seq (command.Initialize a) b early calm = inl tt
 calm_early past s seq (command.SetBreakpoints a) b early calm = inl early
 calm_early past s seq command.Threads b early calm = inl early
@@ -126,35 +124,21 @@ calm_early past s seq (command.Pause a) b early calm = inl early
 calm_early past s seq (command.Inspect q) b early calm = inl early
 calm_early past s seq _ b early calm = absurd calm
 
-calm_early_result : (past : History) (s : Situation) (seq : ℕ) (asked : Command) (result : Result Body Refusal)
-    → IsEarly s → IsCalm past s asked → EarlyOr s (answering seq asked result nothing)
-calm_early_result past s seq asked (Ok b) early calm = calm_early past s seq asked b early calm
-calm_early_result past s seq asked (Err why) early calm = inl early
-
 standing_late : (s : Situation) → IsStopped s → ¬ IsEarly s
 standing_late Stopped stands early = early
 standing_late Faulted stands early = early
 standing_late _ stands early = stands
 
-reply_early : (past : History) (s : Situation) (seq : ℕ) (asked : Command) (reply : Reply) → launched past ≡ None
-    → IsEarly s → Shape past s asked reply → EarlyOr s (answering seq asked reply.result reply.effect)
-reply_early past s seq asked reply none early (refuses why is) =
-    subst (λ (r : Reply). EarlyOr s (answering seq asked r.result r.effect)) (sym is) (inl early)
-reply_early past s seq asked reply none early (is_calm calm is) =
-    subst (λ e. EarlyOr s (answering seq asked reply.result e)) (sym is)
-    (calm_early_result past s seq asked reply.result early calm)
-reply_early past s seq asked reply none early (sets a l by there same resolves) =
+reaction_early : (past : History) (seq : ℕ) → launched past ≡ None → {s : Situation} {asked : Command}
+    {reaction : Reaction} → IsEarly s → Reacted past s asked reaction
+    → EarlyOr s (answering seq asked (reply_of past reaction).result (reply_of past reaction).effect)
+reaction_early past seq none early (by_refusing s asked why) = inl early
+reaction_early past seq none early (by_answering s asked b calm) = calm_early past s seq asked b early calm
+reaction_early past seq none early (by_setting s a l found bs there path_is resolved) =
     absurd (let e = sym none ∙ there in cc)
-reply_early past s seq asked reply none early (begins l by here there is) = absurd (let e = sym none ∙ there in cc)
-reply_early past s seq asked reply none early (resumes_by resume_kind l by here there is) =
-    absurd (let e = sym none ∙ there in cc)
-reply_early past s seq asked reply none early (is_over resume_kind by here is) = absurd (subst IsEarly here early)
-reply_early past s seq asked reply none early (retreats m l by back stands there is) =
-    absurd (standing_late s stands early)
-reply_early past s seq asked reply none early (interrupts a by here is) = absurd (subst IsEarly here early)
-reply_early past s seq asked reply none early (quits by is) =
-    subst (λ (r : Reply). EarlyOr s (answering seq asked r.result r.effect)) (sym is)
-    (subst (λ c. EarlyOr s (answering seq c (Ok body.None) (ordering (Quit ∷ [])))) (sym by) (inl early))
+reaction_early past seq none early (by_retreating s kind a l stands there) = absurd (standing_late s stands early)
+reaction_early past seq none early (by_closing s) = inl early
+reaction_early past seq none early _ = absurd early
 
 launch_early : (s : Situation) (launch : Launch) (file : Option (List ℕ)) (reply : Reply) → IsEarly s
     → Launches launch.arguments file reply → EarlyOr s (launching launch file reply)
@@ -173,8 +157,8 @@ item_early past (Content (Some request)) step item_is taken is none early =
     subst (EarlyOr (situation past)) (sym
     (same_step step (Content (Some request)) (Some (Answer request.seq (name_of request.body) is.0.result))
     is.0.effect item_is is.2.answer_is is.2.effect_is))
-    (reply_early past (situation past) request.seq request.body is.0 none early
-    (shaped past is.0 (situation past) request.body is.1))
+    (by_reaction (λ (r : Reply). EarlyOr (situation past) (answering request.seq request.body r.result r.effect))
+    (λ reaction reacted. reaction_early past request.seq none early reacted) is.1)
 item_early past (Loaded launch file) step item_is taken is none early =
     subst (EarlyOr (situation past)) (sym
     (same_step step (Loaded launch file) (Some (Answer launch.seq (name.Supported supported.Launch) is.0.result))
@@ -290,39 +274,17 @@ module _ (one : OneProgram) (joins : WrittenJoins) (no_gaps : RunsHaveNoGaps) wh
     abbrev Answered : (Reply → Type 0) → Type 0
     Answered says = (reply : Reply) × says reply
 
-    with_program : (says : Launched → Reply → Type 0) → IsLaunched past
-        → ((l : Launched) → launched past ≡ Some l → Answered (says l))
-        → Answered (λ reply. OfProgram (launched past) (λ l. says l reply))
-    with_program says l answer = let a = answer l.0 l.1 in (a.0, of_program l.0 l.1 (λ k. says k a.0) a.1)
+    with_program : (says : Launched → Reaction → Type 0) → IsLaunched past
+        → ((l : Launched) → launched past ≡ Some l → (reaction : Reaction) × says l reaction)
+        → (reaction : Reaction) × OfProgram (launched past) (λ l. says l reaction)
+    with_program says l some = let a = some l.0 l.1 in (a.0, of_program l.0 l.1 (λ k. says k a.0) a.1)
 
     is_late : (s : Situation) → situation past ≡ s → ¬ IsEarly s → IsLaunched past
     is_late s is late = here.late (λ early. late (subst IsEarly is early))
 
-    configures : (s : Situation) → situation past ≡ s → Answered (ConfiguresIn s past)
-    configures Configuring is =
-        with_program (λ l reply. reply ≡ causing body.None (enters past l (due_first past l)))
-        (is_late Configuring is (λ x. x)) (λ l there. (_, refl))
-    configures Fresh is = (_, refl)
-    configures _ is = (_, refl)
-
-    goes_on : (s : Situation) → situation past ≡ s → (resume_kind : ResumeKind) (thread : ℕ)
-        → Answered (ResumesIn s past resume_kind thread)
-    goes_on Stopped is resume_kind thread =
-        with_program (λ l reply. reply ≡ resuming past resume_kind thread l) (is_late Stopped is (λ x. x))
-        (λ l there. (_, refl))
-    goes_on Fresh is resume_kind thread = (_, refl)
-    goes_on _ is resume_kind thread = (_, refl)
-
-    goes_back_by : (s : Situation) → situation past ≡ s → (m : Mode) (thread : ℕ)
-        → Answered (RetreatsIn s past m thread)
-    goes_back_by Stopped is m thread =
-        with_program (λ l reply. reply ≡ on_thread thread (causing body.None (ordering (resumes past l m))))
-        (is_late Stopped is (λ x. x)) (λ l there. (_, refl))
-    goes_back_by Faulted is m thread =
-        with_program (λ l reply. reply ≡ on_thread thread (causing body.None (ordering (resumes past l m))))
-        (is_late Faulted is (λ x. x)) (λ l there. (_, refl))
-    goes_back_by Fresh is m thread = (_, refl)
-    goes_back_by _ is m thread = (_, refl)
+    -- the table has a reaction
+    abbrev Reacting : Situation → Command → Type 0
+    Reacting s asked = (reaction : Reaction) × Reacts s past asked reaction
 
     -- a question that every configuration answers
     module _ (asked : Question) (answers : (l : Launched) (c : Configuration)
@@ -331,32 +293,41 @@ module _ (one : OneProgram) (joins : WrittenJoins) (no_gaps : RunsHaveNoGaps) wh
       at_some l (Some c) is = answers l c
       at_some l None is = absurd cc
 
-      at_program : IsLaunched past → Answered
-          (λ reply. OfProgram (launched past)
-          (λ l. RepliesAt (subject_in past l) (at l.program (position past)) asked reply))
+      at_program : IsLaunched past → (reaction : Reaction) × Inspects past asked reaction
       at_program there =
-          with_program (λ l reply. RepliesAt (subject_in past l) (at l.program (position past)) asked reply) there
-          (λ l is. at_some l (at l.program (position past)) (here.alive l is))
+          let a = at_some there.0 (at there.0.program (position past)) (here.alive there.0 there.1) in
+          let made =
+          reaction_there past asked a.0
+          (of_program there.0 there.1 (λ l. RepliesAt (subject_in past l) (at l.program (position past)) asked a.0) a.1)
+          in
+          (made.0, made.1)
 
-      inspects : (s : Situation) → situation past ≡ s → Answered (InspectsIn s past asked)
-      inspects Stopped is = at_program (is_late Stopped is (λ x. x))
-      inspects Faulted is = at_program (is_late Faulted is (λ x. x))
-      inspects _ is = (_, refl)
+    asked_there : (q : Question) → IsPlain (command.Inspect q) → IsLaunched past
+        → (reaction : Reaction) × Inspects past q reaction
+    asked_there (question.Evaluate a) plain there = absurd plain
+    asked_there q plain there = at_program q (λ l c. (_, refl)) there
+
+    reacts : (s : Situation) → situation past ≡ s → (asked : Command) → IsPlain asked → Reacting s asked
+    reacts Configuring is command.ConfigurationDone plain =
+        with_program (λ l reaction. reaction ≡ Start l) (is_late Configuring is (λ x. x)) (λ l there. (_, refl))
+    reacts Stopped is (command.Resume k a) plain =
+        with_program (λ l reaction. reaction ≡ for_thread a (Resume l k)) (is_late Stopped is (λ x. x))
+        (λ l there. (_, refl))
+    reacts Stopped is (command.Retreat k a) plain =
+        with_program (λ l reaction. reaction ≡ for_thread a (Retreat l k)) (is_late Stopped is (λ x. x))
+        (λ l there. (_, refl))
+    reacts Faulted is (command.Retreat k a) plain =
+        with_program (λ l reaction. reaction ≡ for_thread a (Retreat l k)) (is_late Faulted is (λ x. x))
+        (λ l there. (_, refl))
+    reacts Stopped is (command.Inspect q) plain = asked_there q plain (is_late Stopped is (λ x. x))
+    reacts Faulted is (command.Inspect q) plain = asked_there q plain (is_late Faulted is (λ x. x))
+    reacts s is (command.SetBreakpoints a) plain = absurd plain
+    reacts s is asked plain = (_, refl)
 
     replies : (asked : Command) → IsPlain asked → Answered (RepliesIn (situation past) past asked)
-    replies (command.Initialize a) plain = (_, refl)
-    replies (command.Launch a) plain = (_, refl)
-    replies command.ConfigurationDone plain = configures (situation past) refl
-    replies command.Threads plain = (_, refl)
-    replies (command.Resume k a) plain = goes_on (situation past) refl _ a.thread_id
-    replies (command.Retreat k a) plain = goes_back_by (situation past) refl _ a.thread_id
-    replies (command.Pause a) plain = (_, refl)
-    replies (command.Inspect (question.Evaluate a)) plain = absurd plain
-    replies (command.Inspect q) plain = inspects q (λ l c. (_, refl)) (situation past) refl
-    replies command.Disconnect plain = (_, refl)
-    replies (command.Unsupported text) plain = (_, refl)
-    replies (command.BadArguments k) plain = (_, refl)
-    replies _ plain = absurd plain
+    replies asked plain =
+        let r = reacts (situation past) refl asked plain in
+        (reply_of past r.0, record { reaction = r.0; reacts = r.1; reply_is = refl })
 
     abbrev LeadsOn : Item → Type 0
     LeadsOn item = (new : History) × IsAfter past item new

@@ -14,7 +14,7 @@ pub mod Numbered
 pub mod Last
 -- What numbers and logs say among events, and to which situation a stop leads; for `history_laws` and `run_laws`.
 pub mod Told
--- The reply to a question has no effect; for `history_laws` and `run_laws`.
+-- The reply to a question has no effect, so it is that of a reaction; for `history_laws` and `run_laws`.
 pub mod Questions
 -- No reply reports a number or launches a program but that of a launch, and each Go of a reply is of the launched text;
 -- for `history_laws` and `run_laws`.
@@ -84,8 +84,8 @@ pub mod Ordering
 -- A run goes back as asked and is not held, and counts begin anew after it; for the clauses `back`, `anew` and
 -- `not_held` of `history_laws`.
 pub mod GoingBack
--- What a reply does, in eight cases, whatever the command and the situation; for `history_laws` and `run_laws`.
-pub mod Shapes
+-- The table of reactions read by reactions; for `history_laws` and `run_laws`.
+pub mod Reacted
 -- A step orders at most one run and reports at most one stop, so what is so of the last is so of each; for
 -- `history_laws` and `run_laws`.
 pub mod Once

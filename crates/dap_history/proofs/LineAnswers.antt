@@ -26,11 +26,12 @@ use Rattle.dbg_plan.specs.declared.resolving.SourceBreakpoint.{SourceBreakpoint 
 use Rattle.dbg_plan.specs.declared.resolving.Resolution.{Resolution}
 use Rattle.dbg_plan.specs.declared.resolving.Resolution.TheVariants.{At, NoStep, BadCondition, BadHitCondition, BadLogMessage}
 use Rattle.dap_history.specs.declared.situation.Situation.{Situation}
-use Rattle.dap_history.specs.declared.situation.Situation.TheVariants.{Fresh, Ready}
+use Rattle.dap_history.specs.declared.situation.Situation.TheVariants.{Fresh}
 use Rattle.dap_history.specs.History.{Launched, Item, Content, Loaded, Accepted, Step, History}
 use Rattle.dap_history.specs.Readings.{situation, settings_by, settings, launched}
-use Rattle.dap_history.specs.Replies.{Reply, OfProgram}
-use Rattle.dap_history.specs.Breakpoints.{offset, line_offset, IsAskedAs, AreAskedAs, step_line, answer_to_line, is_same_path, SetsOf, SetsIn}
+use Rattle.dap_history.specs.Replies.{Reply, causing}
+use Rattle.dap_history.specs.Reactions.{Reaction, reply_of, other_source}
+use Rattle.dap_history.specs.Breakpoints.{offset, line_offset, IsAskedAs, AreAskedAs, step_line, answer_to_line, effect_in}
 use Rattle.dap_history.specs.Emission.{RepliesIn, Causes}
 use Rattle.dap_history.specs.Events.{Incoming, Rest, IsHistoryOf}
 use Rattle.dap_history.specs.Stops.{stop_in}
@@ -44,6 +45,7 @@ use Rattle.dap_history.proofs.Transitions.{step_leads}
 use Rattle.dap_history.proofs.Holding.{result_of}
 use Rattle.dap_history.proofs.Paths.{at_path, at_path_so}
 use Rattle.dap_history.proofs.Since.{longer}
+use Rattle.dap_history.proofs.Reacted.{IsCalm, Reacted, by_setting, by_answering, replied, by_reaction}
 
 abbrev pub Any : Incoming → Type 0
 Any e = Unit {0}
@@ -283,38 +285,38 @@ record AnswersSet (past : History) (asked : SetBreakpointsArguments) (reply : Re
   ours : asked.path ≡ Some l.path → AnswersLines l.program (line_offset past) asked.breakpoints answers
   others : (¬ (asked.path ≡ Some l.path)) → answers ≡ map (λ b. answer.Unverified why.OtherSource) asked.breakpoints
 
-module _ (past : History) (asked : SetBreakpointsArguments) (reply : Reply) where
-  sets_of : (l : Launched) → launched past ≡ Some l → (same : Bool) → is_same_path asked.path l.path ≡ same
-      → SetsOf same past l asked.breakpoints reply → AnswersSet past asked reply
-  sets_of l there true at_ is = record {
-    l = l;
-    answers = map (answer_to_line l.program (line_offset past)) is.answers;
-    there = there;
-    result_is = ap (λ (r : Reply). r.result) is.reply_is;
-    ours = λ path_is. answers_lines l.program (line_offset past) asked.breakpoints is.resolved.asked is.answers
-        is.breakpoints is.resolved.as_asked is.resolved.resolved;
-    others = λ not. absurd (not (at_path asked.path l.path at_));
-  }
-  sets_of l there false at_ is = record {
-    l = l;
-    answers = map (λ b. answer.Unverified why.OtherSource) asked.breakpoints;
-    there = there;
-    result_is = ap (λ (r : Reply). r.result) is;
-    ours = λ path_is. absurd (let e = sym (at_path_so asked.path l.path path_is) ∙ at_ in cc);
-    others = λ not. refl;
-  }
+reaction_answers : (past : History) {s : Situation} {asked : Command} {reaction : Reaction}
+    → Reacted past s asked reaction
+    → (a : SetBreakpointsArguments) (b : Body) → asked ≡ command.SetBreakpoints a
+    → (reply_of past reaction).result ≡ Ok b → AnswersSet past a (reply_of past reaction)
+reaction_answers past (by_setting s c l found bs there path_is resolved) a b asks granted =
+    subst (λ x. AnswersSet past x (causing (body.Breakpoints (map (answer_to_line l.program (line_offset past)) found))
+    (effect_in (situation past) past bs))) (let e : c ≡ a = cc in e) (record {
+      l = l;
+      answers = map (answer_to_line l.program (line_offset past)) found;
+      there = there;
+      result_is = refl;
+      ours = λ same. answers_lines l.program (line_offset past) c.breakpoints resolved.asked found bs
+          resolved.as_asked resolved.resolved;
+      others = λ not. absurd (not (at_path c.path l.path path_is));
+    })
+reaction_answers past (by_answering s asked body calm) a b asks granted =
+    let here = subst (λ c. IsCalm past s c body) asks calm in record {
+      l = here.0;
+      answers = other_source a.breakpoints;
+      there = here.1;
+      result_is = ap Ok here.3;
+      ours = λ same. absurd (let e = sym (at_path_so a.path here.0.path same) ∙ here.2 in cc);
+      others = λ not. refl;
+    }
+reaction_answers past _ a b asks granted = absurd cc
 
-  program_of : (o : Option Launched) → launched past ≡ o
-      → OfProgram o (λ l. SetsOf (is_same_path asked.path l.path) past l asked.breakpoints reply)
-      → AnswersSet past asked reply
-  program_of None none is = absurd is
-  program_of (Some l) there is = sets_of l there (is_same_path asked.path l.path) refl is
-
-  sets_answered : (s : Situation) (b : Body) → reply.result ≡ Ok b → SetsIn s past asked reply
-      → (¬ (s ≡ Fresh)) × AnswersSet past asked reply
-  sets_answered Fresh b granted is = let e = sym (ap (λ (r : Reply). r.result) is) ∙ granted in absurd cc
-  sets_answered Ready b granted is = let e = sym (ap (λ (r : Reply). r.result) is) ∙ granted in absurd cc
-  sets_answered _ b granted is = (λ fresh. absurd cc, program_of (launched past) refl is)
+-- lines are set after `initialize`
+not_fresh : (s : Situation) (past : History) (a : SetBreakpointsArguments) (reply : Reply) (b : Body)
+    → RepliesIn s past (command.SetBreakpoints a) reply → reply.result ≡ Ok b → ¬ (s ≡ Fresh)
+not_fresh Fresh past a reply b is granted fresh =
+    let e = sym (ap (λ (r : Reply). r.result) (replied _ is is.reacts)) ∙ granted in absurd cc
+not_fresh _ past a reply b is granted fresh = absurd cc
 
 -- ---- the law
 
@@ -337,15 +339,18 @@ counts_so past not (inr is) = is
 
 pub lines_answered : LinesAreAnswered
 lines_answered events past rest history before step after request asked past_is granted asked_is = (
-  there.1.l,
+  there.l,
   settings before,
-  there.1.answers,
-  there.1.there,
-  counts_so before there.0 was.held,
-  (let e = sym result_is ∙ there.1.result_is in cc),
-  λ path_is. subst (λ n. AnswersLines there.1.l.program n asked.breakpoints there.1.answers)
-      (offset_is (settings before).lines_start_at_1) (there.1.ours path_is),
-  there.1.others,
+  there.answers,
+  there.there,
+  counts_so before
+      (not_fresh (situation before) before asked is.0 granted.body
+      (subst (λ c. RepliesIn (situation before) before c is.0) asked_is is.1) result_is)
+      was.held,
+  (let e = sym result_is ∙ there.result_is in cc),
+  λ path_is. subst (λ n. AnswersLines there.l.program n asked.breakpoints there.answers)
+      (offset_is (settings before).lines_start_at_1) (there.ours path_is),
+  there.others,
 )
   where
     was : WasTaken Any IsCounted before step
@@ -356,11 +361,11 @@ lines_answered events past rest history before step after request asked past_is 
     is : Causes before (Content (Some request)) step
     is = subst (λ i. Causes before i step) granted.item_is was.causes
 
-    sets : SetsIn (situation before) before asked is.0
-    sets = subst (λ c. RepliesIn (situation before) before c is.0) asked_is is.1
-
     result_is : is.0.result ≡ Ok granted.body
     result_is = ap (λ a. unwrap_or (result_of a) (Ok granted.body)) (sym is.2.answer_is ∙ granted.answer_is)
 
-    there : (¬ (situation before ≡ Fresh)) × AnswersSet before asked is.0
-    there = sets_answered before asked is.0 (situation before) granted.body result_is sets
+    there : AnswersSet before asked is.0
+    there =
+        by_reaction (λ (r : Reply). r.result ≡ Ok granted.body → AnswersSet before asked r)
+        (λ reaction reacted result_is. reaction_answers before reacted asked granted.body asked_is result_is) is.1
+        result_is

@@ -1,8 +1,7 @@
 -- Each run is under the breakpoints of the lines that were set last, and counts from where they were set.
-use Rattle.std.proofs.Common.{◌≡◌, inl, inr, ℕ, ◌+◌, List, [], ◌∷◌, ◌++◌, Bool, true, false, ◌||◌, Option, None, Some, Result, Ok, Err, refl, sym, ◌∙◌, ap, subst}
+use Rattle.std.proofs.Common.{◌≡◌, inl, inr, ℕ, ◌+◌, List, [], ◌∷◌, ◌++◌, Bool, true, false, ◌||◌, Option, None, Some, Result, Ok, refl, sym, ◌∙◌, ap, subst}
 use Rattle.std.specs.Prelude.{if◌then◌else◌, is_some, map, option_map, unwrap_or}
 use Rattle.std.specs.Option.{option_map_or}
-use Rattle.dap_msg.specs.declared.requests.resume.ResumeKind.{ResumeKind}
 use Rattle.dap_msg.specs.Commands.{name_of}
 use Rattle.dap_msg.specs.declared.command.Command.{Command}
 use Rattle.dap_msg.specs.declared.command.Command.TheVariants as command
@@ -34,12 +33,12 @@ use Rattle.dap_history.specs.History.{Launched, Item, Content, Loaded, Accepted,
 use Rattle.dap_history.specs.Readings.{go, situation, step_mark, message_mark, order_mark, settings_by, settings, launched, runs, is_held, is_back, last_run, end_of, position, plan, waits_by, waiting_plan, waiting_pause}
 use Rattle.dap_history.specs.Replies.{Reply, nothing, ordering, refused, causing, stopped_events, exited_events, stop_of, exception_of}
 use Rattle.dap_history.specs.Launching.{Launches, launches}
-use Rattle.dap_history.specs.Breakpoints.{offset, line_offset, IsResolved, answer_to_line, effect_in, is_same_path}
-use Rattle.dap_history.specs.Running.{body_of, resumes, enters}
+use Rattle.dap_history.specs.Breakpoints.{hold_once, offset, line_offset, IsResolved, answer_to_line, effect_in, is_same_path}
+use Rattle.dap_history.specs.Running.{due_first, body_of, resumes, enters}
+use Rattle.dap_history.specs.Reactions.{Reaction, reply_of}
 use Rattle.dap_history.specs.Reports.{Accepts, from_next, put_in_at, put_in_by, held_effect, report_effect}
 use Rattle.dap_history.specs.Considered.{starts_by}
 use Rattle.dap_history.specs.Emission.{Causes}
-use Rattle.dap_history.specs.GoingBack.{back_by}
 use Rattle.dap_history.specs.Stops.{run_in, Orders, IsStopped}
 use Rattle.dap_history.specs.Lines.{lines_at, lines_by, lines_set, AreOfLines as AreSpelled, anew_mark, are_anew, next_counted, first_counted, HasDebuggee, PlanIsOfLines, EachRunHasItsLines, EachRunCountsFrom}
 use Rattle.dap_history.specs.Events.{Incoming, Rest, AreLawful, IsHistoryOf}
@@ -53,7 +52,7 @@ use Rattle.dap_history.proofs.Each.{WasTaken, EachTaken, each_kept, each_first}
 use Rattle.dap_history.proofs.Early.{IsEarly}
 use Rattle.dap_history.proofs.Told.{mark_of_logs, stop_marks}
 use Rattle.dap_history.proofs.Silent.{all_silent, first_at}
-use Rattle.dap_history.proofs.Shapes.{due_first, resume_kind_by, IsCalm, Shape, refuses, is_calm, sets, begins, resumes_by, is_over, retreats, interrupts, quits, shaped}
+use Rattle.dap_history.proofs.Reacted.{IsCalm, Reacted, by_refusing, by_answering, by_setting, by_starting, by_resuming, by_ending, by_retreating, by_interrupting, by_closing, by_reaction}
 use Rattle.dap_history.proofs.Outputs.{outputs_mark, report_launches, outputs_unmarked}
 use Rattle.dap_history.proofs.Passing.{Ran, loaded_orders}
 use Rattle.dap_history.proofs.Stopping.{ran_more, ran_first}
@@ -185,14 +184,6 @@ IsGoing (command.Resume k asked) = Unit {0}
 IsGoing (command.Retreat k asked) = Unit {0}
 IsGoing _ = ⊥
 
-resuming_goes : (asked : Command) (resume_kind : ResumeKind) → resume_kind_by asked ≡ Some resume_kind → IsGoing asked
-resuming_goes (command.Resume k a) resume_kind is = tt
-resuming_goes _ resume_kind is = absurd cc
-
-back_goes : (asked : Command) (m : Mode) → back_by asked ≡ Some m → IsGoing asked
-back_goes (command.Retreat k a) m is = tt
-back_goes _ m is = absurd cc
-
 module _ (l : Launched) (v : View) where
   stands_there : (s : Situation) → IsStopped s → Planned l s v → Stands l v
   stands_there Stopped stands here = here
@@ -215,7 +206,7 @@ module _ (l : Launched) (v : View) where
 
   -- a command that has no effect
   calm_planned : (past : History) (seq : ℕ) (s : Situation) (asked : Command) (b : Body) → launched past ≡ Some l
-      → IsCalm past s asked → Planned l s v → After l s (answering seq asked (Ok b) nothing) v
+      → IsCalm past s asked b → Planned l s v → After l s (answering seq asked (Ok b) nothing) v
   calm_planned past seq s (command.Initialize a) b there calm here = tt
   calm_planned past seq s (command.SetBreakpoints a) b there calm here =
       let same : calm.0 ≡ l = let e = sym calm.1 ∙ there in cc in
@@ -226,11 +217,6 @@ module _ (l : Launched) (v : View) where
   calm_planned past seq s (command.Pause a) b there calm here = here
   calm_planned past seq s (command.Inspect q) b there calm here = here
   calm_planned past seq s _ b there calm here = absurd calm
-
-  calm_result : (past : History) (seq : ℕ) (s : Situation) (asked : Command) (result : Result Body Refusal)
-      → launched past ≡ Some l → IsCalm past s asked → Planned l s v → After l s (answering seq asked result nothing) v
-  calm_result past seq s asked (Ok b) there calm here = calm_planned past seq s asked b there calm here
-  calm_result past seq s asked (Err why) there calm here = here
 
   -- a pause, which may hold the run
   pause_planned : (seq n : ℕ) (a : ThreadArguments) (t : Bool) → Planned l Running v
@@ -291,59 +277,40 @@ module _ (l : Launched) (v : View) where
       (here.0, here.1 ∙ ap (λ o. next_counted (goes_back_last o) o v.here) (sym here.2))
 
 -- what holds where the program l is launched, after a reply
-module _ (past : History) (l : Launched) (there : launched past ≡ Some l) (seq : ℕ) (asked : Command) where
-  abbrev Replied : Situation → Reply → Type 0
-  Replied s reply = After l s (answering seq asked reply.result reply.effect) (view l past)
+module _ (past : History) (l : Launched) (there : launched past ≡ Some l) (seq : ℕ) where
+  abbrev Replied : Situation → Command → Reply → Type 0
+  Replied s asked reply = After l s (answering seq asked reply.result reply.effect) (view l past)
 
-  reply_planned : (reply : Reply) → Shape past (situation past) asked reply → Planned l (situation past) (view l past)
-      → Replied (situation past) reply
-  reply_planned reply (refuses why is) here = subst (Replied (situation past)) (sym is) here
-  reply_planned reply (is_calm calm is) here =
-      subst (λ e. After l (situation past) (answering seq asked reply.result e) (view l past)) (sym is)
-      (calm_result l (view l past) past seq (situation past) asked reply.result there calm here)
-  reply_planned reply (sets a l' by there' same resolves) here =
-      let one : l' ≡ l = let e = sym there' ∙ there in cc in
-      let at_path = ap (λ (k : Launched). is_same_path a.path k.path) (sym one) ∙ same in
-      let are =
-      subst (λ (k : Launched). IsResolved k.program (line_offset past) a.breakpoints resolves.answers
-      resolves.breakpoints) one resolves.resolved in
-      let b = body.Breakpoints (map (answer_to_line l'.program (line_offset past)) resolves.answers) in
-      subst (Replied (situation past)) (sym resolves.reply_is)
-      (subst (λ c. After l (situation past)
-      (answering seq c (Ok b) (effect_in (situation past) past resolves.breakpoints)) (view l past)) (sym by)
-      (sets_planned l (view l past) seq a at_path b resolves.breakpoints (resolves.answers, are) past (situation past)
-      refl here))
-  reply_planned reply (begins l' by here_is there' is) here =
-      subst (Replied (situation past)) (sym is)
-      (subst (λ c. After l (situation past) (answering seq c (Ok body.None) (enters past l' (due_first past l')))
-      (view l past)) (sym by)
-      (subst (λ s. After l s (answering seq command.ConfigurationDone (Ok body.None)
-      (enters past l' (due_first past l'))) (view l past)) (sym here_is)
-      (begins_planned l (view l past) past seq l' (due_first past l') refl
-      (subst (λ s. Planned l s (view l past)) here_is here))))
-  reply_planned reply (resumes_by resume_kind l' by here_is there' is) here =
-      subst (Replied (situation past)) (sym is)
-      (goes_planned l (view l past) seq asked (resuming_goes asked resume_kind by) (body_of resume_kind)
-      (situation past) _ refl (stands_there l (view l past) (situation past) (subst IsStopped (sym here_is) tt)
-      here))
-  reply_planned reply (is_over resume_kind by here_is is) here = subst (Replied (situation past)) (sym is) tt
-  reply_planned reply (retreats m l' by back stands there' is) here =
-      subst (Replied (situation past)) (sym is)
-      (goes_planned l (view l past) seq asked (back_goes asked m by) body.None (situation past) _ refl
-      (stands_there l (view l past) (situation past) stands here))
-  reply_planned reply (interrupts a by here_is is) here =
-      subst (Replied (situation past)) (sym is)
-      (subst (λ c. After l (situation past)
-      (answering seq c (Ok body.None)
-      (ordering (if is_held past || is_back past then [] else Hold (runs past) ∷ []))) (view l past)) (sym by)
-      (subst (λ s. After l s (answering seq (command.Pause a) (Ok body.None)
-      (ordering (if is_held past || is_back past then [] else Hold (runs past) ∷ []))) (view l past)) (sym here_is)
-      (pause_planned l (view l past) seq (runs past) a (is_held past || is_back past)
-      (subst (λ s. Planned l s (view l past)) here_is here))))
-  reply_planned reply (quits by is) here =
-      subst (Replied (situation past)) (sym is)
-      (subst (λ c. After l (situation past) (answering seq c (Ok body.None) (ordering (Quit ∷ []))) (view l past))
-      (sym by) here)
+  -- the program that is launched is this one
+  same_program : (k : Launched) → launched past ≡ Some k → k ≡ l
+  same_program k is = let e = sym is ∙ there in cc
+
+  reaction_planned : {s : Situation} {asked : Command} {reaction : Reaction} → Reacted past s asked reaction
+      → s ≡ situation past → Planned l s (view l past) → Replied s asked (reply_of past reaction)
+  reaction_planned (by_refusing s asked why) is here = here
+  reaction_planned (by_answering s asked b calm) is here =
+      calm_planned l (view l past) past seq s asked b there calm here
+  reaction_planned (by_setting s a k found bs there' path_is resolved) is here =
+      let one = same_program k there' in
+      subst (λ t. After l t (answering seq (command.SetBreakpoints a)
+      (Ok (body.Breakpoints (map (answer_to_line k.program (line_offset past)) found)))
+      (effect_in (situation past) past bs)) (view l past)) (sym is)
+      (sets_planned l (view l past) seq a
+      (ap (λ (k : Launched). is_same_path a.path k.path) (sym one) ∙ path_is)
+      (body.Breakpoints (map (answer_to_line k.program (line_offset past)) found)) bs
+      (found, subst (λ (k : Launched). IsResolved k.program (line_offset past) a.breakpoints found bs) one resolved)
+      past (situation past) refl (subst (λ t. Planned l t (view l past)) is here))
+  reaction_planned (by_starting k there') is here =
+      begins_planned l (view l past) past seq k (due_first past k) refl here
+  reaction_planned (by_resuming kind a k there') is here =
+      goes_planned l (view l past) seq (command.Resume kind a) tt (body_of kind) Stopped _ refl here
+  reaction_planned (by_ending kind a) is here = tt
+  reaction_planned (by_retreating s kind a k stands there') is here =
+      goes_planned l (view l past) seq (command.Retreat kind a) tt body.None s _ refl
+      (stands_there l (view l past) s stands here)
+  reaction_planned (by_interrupting a) is here =
+      pause_planned l (view l past) seq (runs past) a (is_held past || is_back past) here
+  reaction_planned (by_closing s) is here = here
 
 -- ---- reports
 
@@ -437,53 +404,31 @@ sets_none : (item : Item) (answer : Option Outgoing) (effect : Effect)
     → SetsNone (step_of item answer effect)
 sets_none item answer effect lines put = record { lines = lines; put_in = put }
 
-going_none : (path : List ℕ) (asked : Command) → IsGoing asked → lines_at path asked ≡ None
-going_none path (command.Resume k a) going = refl
-going_none path (command.Retreat k a) going = refl
-going_none path _ going = absurd going
-
 module _ (past : History) (none : launched past ≡ None) where
   not_launched : (l : Launched) → ¬ (launched past ≡ Some l)
   not_launched l there = let e = sym none ∙ there in absurd cc
 
-  calm_none : (path : List ℕ) (s : Situation) (asked : Command) → IsCalm past s asked → lines_at path asked ≡ None
-  calm_none path s (command.SetBreakpoints a) calm = absurd (not_launched calm.0 calm.1)
-  calm_none path s (command.Pause a) calm = refl
-  calm_none path s (command.Initialize a) calm = refl
-  calm_none path s command.Threads calm = refl
-  calm_none path s (command.Inspect q) calm = refl
-  calm_none path s _ calm = absurd calm
+  calm_none : (path : List ℕ) (s : Situation) (asked : Command) (b : Body) → IsCalm past s asked b
+      → lines_at path asked ≡ None
+  calm_none path s (command.SetBreakpoints a) b calm = absurd (not_launched calm.0 calm.1)
+  calm_none path s (command.Pause a) b calm = refl
+  calm_none path s (command.Initialize a) b calm = refl
+  calm_none path s command.Threads b calm = refl
+  calm_none path s (command.Inspect q) b calm = refl
+  calm_none path s _ b calm = absurd calm
 
-  by_result : (path : List ℕ) (seq : ℕ) (asked : Command) (result : Result Body Refusal) → lines_at path asked ≡ None
-      → lines_by path (Content (Some (record { seq = seq; body = asked })))
-      (Some (Answer seq (name_of asked) result)) ≡ None
-  by_result path seq asked (Ok b) is = is
-  by_result path seq asked (Err why) is = refl
-
-  reply_none : (seq : ℕ) (s : Situation) (asked : Command) (reply : Reply) → Shape past s asked reply
-      → SetsNone (answering seq asked reply.result reply.effect)
-  reply_none seq s asked reply (refuses why is) =
-      subst (λ (r : Reply). SetsNone (answering seq asked r.result r.effect)) (sym is)
-      (record { lines = λ path. refl; put_in = refl })
-  reply_none seq s asked reply (is_calm calm is) =
-      subst (λ e. SetsNone (answering seq asked reply.result e)) (sym is)
-      (record {
-        lines = λ path. by_result path seq asked reply.result (calm_none path s asked calm);
-        put_in = refl;
-      })
-  reply_none seq s asked reply (sets a l by there same resolves) = absurd (not_launched l there)
-  reply_none seq s asked reply (begins l by here there is) = absurd (not_launched l there)
-  reply_none seq s asked reply (resumes_by resume_kind l by here there is) = absurd (not_launched l there)
-  reply_none seq s asked reply (is_over resume_kind by here is) =
-      subst (λ (r : Reply). SetsNone (answering seq asked r.result r.effect)) (sym is)
-      (record { lines = λ path. going_none path asked (resuming_goes asked resume_kind by); put_in = refl })
-  reply_none seq s asked reply (retreats m l by back stands there is) = absurd (not_launched l there)
-  reply_none seq s asked reply (interrupts a by here is) =
-      subst (λ (r : Reply). SetsNone (answering seq asked r.result r.effect)) (sym is)
-      (record { lines = λ path. ap (lines_at path) by; put_in = refl })
-  reply_none seq s asked reply (quits by is) =
-      subst (λ (r : Reply). SetsNone (answering seq asked r.result r.effect)) (sym is)
-      (record { lines = λ path. ap (lines_at path) by; put_in = refl })
+  reaction_none : (seq : ℕ) {s : Situation} {asked : Command} {reaction : Reaction} → Reacted past s asked reaction
+      → SetsNone (answering seq asked (reply_of past reaction).result (reply_of past reaction).effect)
+  reaction_none seq (by_refusing s asked why) = record { lines = λ path. refl; put_in = refl }
+  reaction_none seq (by_answering s asked b calm) =
+      record { lines = λ path. calm_none path s asked b calm; put_in = refl }
+  reaction_none seq (by_setting s a l found bs there path_is resolved) = absurd (not_launched l there)
+  reaction_none seq (by_starting l there) = absurd (not_launched l there)
+  reaction_none seq (by_resuming kind a l there) = absurd (not_launched l there)
+  reaction_none seq (by_ending kind a) = record { lines = λ path. refl; put_in = refl }
+  reaction_none seq (by_retreating s kind a l stands there) = absurd (not_launched l there)
+  reaction_none seq (by_interrupting a) = record { lines = λ path. refl; put_in = refl }
+  reaction_none seq (by_closing s) = record { lines = λ path. refl; put_in = refl }
 
 -- ---- along a history
 
@@ -576,11 +521,10 @@ module _ (one : OneProgram) (joins : WrittenJoins) where
       is.0.effect item_is is.2.answer_is is.2.effect_is))
       (still past (answering request.seq request.body is.0.result is.0.effect)
       (all_silent (situation past) past request.body is.0 is.1).no_launch
-      (λ none. reply_none past none request.seq (situation past) request.body is.0 shape)
-      (λ l there. reply_planned past l there request.seq request.body is.0 shape (here.planned l there)) here)
-    where
-      shape : Shape past (situation past) request.body is.0
-      shape = shaped past is.0 (situation past) request.body is.1
+      (λ none. by_reaction (λ (r : Reply). SetsNone (answering request.seq request.body r.result r.effect))
+      (λ reaction. reaction_none past none request.seq) is.1)
+      (λ l there. by_reaction (Replied past l there request.seq (situation past) request.body)
+      (λ reaction reacted. reaction_planned past l there request.seq reacted refl (here.planned l there)) is.1) here)
   both_more past (Loaded launch file) step item_is taken is here =
       subst (λ s. Both (past ++ s ∷ [])) (sym
       (same_step step (Loaded launch file) (Some (Answer launch.seq (name.Supported supported.Launch) is.0.result))
@@ -677,44 +621,28 @@ module _ (one : OneProgram) (joins : WrittenJoins) where
       → last_such go os ≡ None → last_such go orders ≡ Some run → RunsSo past answer run
   none_so past answer run orders os is none some = let e = sym some ∙ ap (last_such go) is ∙ none in absurd cc
 
-  reply_so : (past : History) → Kept past → (seq : ℕ) (asked : Command) (reply : Reply)
-      → Shape past (situation past) asked reply → (run : Heading) → last_such go reply.effect.orders ≡ Some run
-      → RunsSo past (Some (Answer seq (name_of asked) reply.result)) run
-  reply_so past here seq asked reply (refuses why is) run goes =
-      none_so past (Some (Answer seq (name_of asked) reply.result)) run reply.effect.orders _
-      (ap (λ (r : Reply). r.effect.orders) is) refl goes
-  reply_so past here seq asked reply (is_calm calm is) run goes =
-      none_so past (Some (Answer seq (name_of asked) reply.result)) run reply.effect.orders _
-      (ap (λ (e : Effect). e.orders) is) refl goes
-  reply_so past here seq asked reply (sets a l by there same resolves) run goes =
-      none_so past (Some (Answer seq (name_of asked) reply.result)) run reply.effect.orders _
-      (ap (λ (r : Reply). r.effect.orders) resolves.reply_is) (no_go_in (situation past) past resolves.breakpoints)
-      goes
-  reply_so past here seq asked reply (begins l by here_is there is) run goes =
-      subst (λ (r : Reply). RunsSo past (Some (Answer seq (name_of asked) r.result)) run) (sym is)
-      (subst (λ c. RunsSo past (Some (Answer seq (name_of c) (Ok body.None))) run) (sym by)
-      (begins_so past l seq (due_first past l) there
-      (subst (λ s. Planned l s (view l past)) here_is (here.planned l there)) run
-      (ap (λ (r : Reply). last_such go r.effect.orders) (sym is) ∙ goes)))
-  reply_so past here seq asked reply (resumes_by resume_kind l by here_is there is) run goes =
-      subst (λ (r : Reply). RunsSo past (Some (Answer seq (name_of asked) r.result)) run) (sym is)
-      (from_there past l seq asked (body_of resume_kind) _ there (resuming_goes asked resume_kind by)
-      (subst (λ s. Planned l s (view l past)) here_is (here.planned l there)) run
-      (ap (λ (r : Reply). last_such go r.effect.orders) (sym is) ∙ goes))
-  reply_so past here seq asked reply (is_over resume_kind by here_is is) run goes =
-      none_so past (Some (Answer seq (name_of asked) reply.result)) run reply.effect.orders _
-      (ap (λ (r : Reply). r.effect.orders) is) refl goes
-  reply_so past here seq asked reply (retreats m l by back stands there is) run goes =
-      subst (λ (r : Reply). RunsSo past (Some (Answer seq (name_of asked) r.result)) run) (sym is)
-      (from_there past l seq asked body.None _ there (back_goes asked m by)
-      (stands_there l (view l past) (situation past) stands (here.planned l there)) run
-      (ap (λ (r : Reply). last_such go r.effect.orders) (sym is) ∙ goes))
-  reply_so past here seq asked reply (interrupts a by here_is is) run goes =
-      none_so past (Some (Answer seq (name_of asked) reply.result)) run reply.effect.orders _
-      (ap (λ (r : Reply). r.effect.orders) is) (no_go_held past) goes
-  reply_so past here seq asked reply (quits by is) run goes =
-      none_so past (Some (Answer seq (name_of asked) reply.result)) run reply.effect.orders _
-      (ap (λ (r : Reply). r.effect.orders) is) refl goes
+  reaction_so : (past : History) → Kept past → (seq : ℕ) {s : Situation} {asked : Command} {reaction : Reaction}
+      → Reacted past s asked reaction → s ≡ situation past → (run : Heading)
+      → last_such go (reply_of past reaction).effect.orders ≡ Some run
+      → RunsSo past (Some (Answer seq (name_of asked) (reply_of past reaction).result)) run
+  reaction_so past here seq (by_setting s a l found bs there path_is resolved) is run goes =
+      none_so past (Some (Answer seq (name_of (command.SetBreakpoints a))
+      (Ok (body.Breakpoints (map (answer_to_line l.program (line_offset past)) found))))) run
+      (effect_in (situation past) past bs).orders _ refl (no_go_in (situation past) past bs) goes
+  reaction_so past here seq (by_starting l there) is run goes =
+      begins_so past l seq (due_first past l) there
+      (subst (λ s. Planned l s (view l past)) (sym is) (here.planned l there)) run goes
+  reaction_so past here seq (by_resuming kind a l there) is run goes =
+      from_there past l seq (command.Resume kind a) (body_of kind) _ there tt
+      (subst (λ s. Planned l s (view l past)) (sym is) (here.planned l there)) run goes
+  reaction_so past here seq (by_retreating s kind a l stands there) is run goes =
+      from_there past l seq (command.Retreat kind a) body.None _ there tt
+      (stands_there l (view l past) s stands (subst (λ s. Planned l s (view l past)) (sym is) (here.planned l there)))
+      run goes
+  reaction_so past here seq (by_interrupting a) is run goes =
+      none_so past (Some (Answer seq (name_of (command.Pause a)) (Ok body.None))) run (hold_once past) _ refl
+      (no_go_held past) goes
+  reaction_so past here seq _ is run goes = absurd cc
 
   -- a run that follows one that was held
   held_so : (past : History) (r : PlainReport) → Accepts past r → (l : Launched) → launched past ≡ Some l
@@ -750,7 +678,9 @@ module _ (one : OneProgram) (joins : WrittenJoins) where
       → Kept past → (run : Heading) → run_in step ≡ Some run → RunsSo past step.answer run
   item_so past (Content (Some request)) step taken is here run goes =
       subst (λ a. RunsSo past a run) (sym is.2.answer_is)
-      (reply_so past here request.seq request.body is.0 (shaped past is.0 (situation past) request.body is.1) run
+      (by_reaction (λ (r : Reply). last_such go r.effect.orders ≡ Some run
+      → RunsSo past (Some (Answer request.seq (name_of request.body) r.result)) run)
+      (λ reaction reacted goes. reaction_so past here request.seq reacted refl run goes) is.1
       (ap (λ (e : Effect). last_such go e.orders) (sym is.2.effect_is) ∙ goes))
   item_so past (Loaded launch file) step taken is here run goes =
       none_so past step.answer run step.effect.orders _ (ap (λ (e : Effect). e.orders) is.2.effect_is)

@@ -23,13 +23,14 @@ use Rattle.dap_history.specs.Readings.{go, situation, plan, waiting_pause}
 use Rattle.dap_history.specs.Replies.{Reply, stopped_events, exited_events, stop_of, exception_of, log_events}
 use Rattle.dap_history.specs.Launching.{Launches}
 use Rattle.dap_history.specs.Breakpoints.{effect_in}
-use Rattle.dap_history.specs.Running.{first_logs, enters}
+use Rattle.dap_history.specs.Running.{due_first, first_logs, enters}
+use Rattle.dap_history.specs.Reactions.{Reaction, reply_of}
 use Rattle.dap_history.specs.Reports.{outputs, held_effect, report_effect}
 use Rattle.dap_history.specs.Emission.{Causes}
 use Rattle.dap_history.specs.Stops.{stop_of_event, stop_in, run_in, Orders}
 use Rattle.dap_history.proofs.Readings.{or_else-none}
 use Rattle.dap_history.proofs.Silent.{NextRuns, no_runs, next_run, first_at}
-use Rattle.dap_history.proofs.Shapes.{due_first, Shape, refuses, is_calm, sets, begins, resumes_by, is_over, retreats, interrupts, quits, shaped}
+use Rattle.dap_history.proofs.Reacted.{Reacted, by_setting, by_starting, by_reaction}
 use Rattle.dap_history.proofs.Outputs.{told_numbers, outputs_apart}
 use Rattle.dap_history.proofs.Counted.{next_runs}
 
@@ -141,25 +142,12 @@ quiet_in _ past bs = refl
 if_events : (effect : Effect) (es : List EventBody) → effect.events ≡ es → AtMostOne (stops_in es) → StopsOnce effect
 if_events effect es is once = subst (λ l. AtMostOne (stops_in l)) (sym is) once
 
-reply_stops_once : (past : History) (s : Situation) (asked : Command) (reply : Reply) → Shape past s asked reply
-    → StopsOnce reply.effect
-reply_stops_once past s asked reply (refuses why is) =
-    if_events reply.effect _ (ap (λ (r : Reply). r.effect.events) is) tt
-reply_stops_once past s asked reply (is_calm calm is) = if_events reply.effect _ (ap (λ (e : Effect). e.events) is) tt
-reply_stops_once past s asked reply (sets a l by there same resolves) =
-    if_events reply.effect _ (ap (λ (r : Reply). r.effect.events) resolves.reply_is
-    ∙ quiet_in (situation past) past resolves.breakpoints) tt
-reply_stops_once past s asked reply (begins l by here there is) =
-    if_events reply.effect _ (ap (λ (r : Reply). r.effect.events) is) (enters_stop_once past l (due_first past l))
-reply_stops_once past s asked reply (resumes_by resume_kind l by here there is) =
-    if_events reply.effect _ (ap (λ (r : Reply). r.effect.events) is) tt
-reply_stops_once past s asked reply (is_over resume_kind by here is) =
-    if_events reply.effect _ (ap (λ (r : Reply). r.effect.events) is) tt
-reply_stops_once past s asked reply (retreats m l by back stands there is) =
-    if_events reply.effect _ (ap (λ (r : Reply). r.effect.events) is) tt
-reply_stops_once past s asked reply (interrupts a by here is) =
-    if_events reply.effect _ (ap (λ (r : Reply). r.effect.events) is) tt
-reply_stops_once past s asked reply (quits by is) = if_events reply.effect _ (ap (λ (r : Reply). r.effect.events) is) tt
+reaction_stops_once : (past : History) {s : Situation} {asked : Command} {reaction : Reaction}
+    → Reacted past s asked reaction → StopsOnce (reply_of past reaction).effect
+reaction_stops_once past (by_setting s a l found bs there path_is resolved) =
+    if_events (effect_in (situation past) past bs) [] (quiet_in (situation past) past bs) tt
+reaction_stops_once past (by_starting l there) = enters_stop_once past l (due_first past l)
+reaction_stops_once past _ = tt
 
 launch_stops_once : (launch : Launch) (file : Option (List ℕ)) (reply : Reply) → Launches launch.arguments file reply
     → StopsOnce reply.effect
@@ -172,8 +160,8 @@ launch_stops_once launch (Some text) reply (inr is) =
 step_stops_once : (past : History) (item : Item) (step : Step) → Causes past item step → StopsOnce step.effect
 step_stops_once past (Content None) step is = subst StopsOnce (sym is.effect_is) tt
 step_stops_once past (Content (Some request)) step is =
-    subst StopsOnce (sym is.2.effect_is) (reply_stops_once past (situation past) request.body is.0
-    (shaped past is.0 (situation past) request.body is.1))
+    subst StopsOnce (sym is.2.effect_is)
+    (by_reaction (λ (r : Reply). StopsOnce r.effect) (λ reaction. reaction_stops_once past) is.1)
 step_stops_once past (Loaded launch file) step is =
     subst StopsOnce (sym is.2.effect_is) (launch_stops_once launch file is.0 is.1)
 step_stops_once past (Accepted r) step is = subst StopsOnce (sym is.effect_is) (report_stops_once past r r.outcome)

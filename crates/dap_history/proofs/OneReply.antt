@@ -6,7 +6,6 @@ use Rattle.std.proofs.Math.Logic.{∥∥₁_elim}
 use Rattle.std.proofs.lemmas.Fmt.{decimal_injective, first_decimal}
 use Rattle.dap_msg.specs.declared.question.Question.TheVariants as question
 use Rattle.dap_msg.specs.declared.question.Question.{Question}
-use Rattle.dap_msg.specs.declared.requests.resume.ResumeKind.{ResumeKind}
 use Rattle.dap_msg.specs.declared.command.Command.{Command}
 use Rattle.dap_msg.specs.declared.command.Command.TheVariants as command
 use Rattle.dap_msg.specs.declared.command.CommandName.{CommandName}
@@ -30,24 +29,23 @@ use Rattle.dbg_plan.specs.declared.resolving.SourceBreakpoint.{SourceBreakpoint 
 use Rattle.dbg_plan.specs.declared.resolving.Resolution.{Resolution}
 use Rattle.dbg_plan.specs.declared.resolving.Resolution.TheVariants.{At, NoStep, BadCondition, BadHitCondition, BadLogMessage}
 use Rattle.dbg_plan.specs.Messages.{Message}
-use Rattle.dbg_plan.specs.declared.mode.Mode.{Mode}
 use Rattle.dbg_plan.specs.Resolutions.{step_from, ReadsRule, ReadsConditionAt, ReadsMessageAt, HasRule, HasConditionAt, IsBreakpointOf, IsResolvedTo, AreResolved}
 use Rattle.dbg_plan.specs.Values.{answered as evaluated}
 use Rattle.dbg_plan.specs.Breakpoints.{Breakpoint, TextCondition}
 use Rattle.dap_history.specs.declared.situation.Situation.{Situation}
-use Rattle.dap_history.specs.declared.situation.Situation.TheVariants.{Fresh, Ready, Configuring, Running, Stopped, Faulted}
+use Rattle.dap_history.specs.declared.situation.Situation.TheVariants.{Fresh, Ready, Configuring, Stopped, Faulted}
 use Rattle.dap_history.specs.History.{Launched, Item, Content, Loaded, Accepted, Step, History, Effect}
 use Rattle.dap_history.specs.Readings.{situation, launched, position}
-use Rattle.dap_history.specs.Replies.{Reply, refused, ordering, causing, OfProgram, on_thread}
+use Rattle.dap_history.specs.Replies.{Reply, refused, causing, OfProgram}
 use Rattle.dap_history.specs.Launching.{Launches, launches, syntax}
-use Rattle.dap_history.specs.Breakpoints.{IsAskedAs, AreAskedAs, answer_to_line, effect_in, line_offset, Resolves, SetsOf, Sets, SetsIn, is_same_path}
-use Rattle.dap_history.specs.Running.{enters, resumes, ConfiguresIn, ResumesIn, RetreatsIn}
+use Rattle.dap_history.specs.Breakpoints.{IsAskedAs, AreAskedAs, answer_to_line, line_offset, is_same_path}
 use Rattle.dap_history.specs.Frames.{frame_by_id}
-use Rattle.dap_history.specs.Inspection.{Subject, subject_in, result_reply, EvaluatesIn, RepliesFrom, RepliesAt, Inspects, InspectsIn}
+use Rattle.dap_history.specs.Inspection.{Subject, subject_in, result_reply, EvaluatesIn, RepliesFrom, RepliesAt}
+use Rattle.dap_history.specs.Reactions.{Reaction, SetBreakpoints, Start, Resume, Retreat, reply_of, for_thread, Resolves, SetsOf, Sets, InspectsAs, Inspects, Reacts}
 use Rattle.dap_history.specs.Emission.{RepliesIn, Answers, HasEffect, Causes, IsAfter}
 use Rattle.dap_history.proofs.Texts.{one_program}
 use Rattle.dap_history.proofs.MessageParts.{one_parts}
-use Rattle.dap_history.proofs.Shapes.{due_first, resuming}
+use Rattle.dap_history.proofs.Questions.{inspects_there}
 
 -- a text reads in one way, or has one first fault; so does an editor's
 pub record IsTextOnce : Type 0 where
@@ -300,74 +298,41 @@ module _ (once : IsTextOnce) where
         here.2 ∙ ap (λ m. m ++ here.1) first.1 ∙ ap (λ m. there.0 ++ m) rest.1 ∙ sym there.2,
       )
 
-  one_resolves : (past : History) (l : Launched) (lines : List SourceBreakpoint) (r s : Reply) → Resolves past l lines r
-      → Resolves past l lines s → r ≡ s
+  one_resolves : (past : History) (l : Launched) (lines : List SourceBreakpoint) (r s : Reaction)
+      → Resolves past l lines r → Resolves past l lines s → r ≡ s
   one_resolves past l lines r s a b =
       let same =
       one_lines l.program (line_offset past) lines a.resolved.asked b.resolved.asked a.answers b.answers
       a.breakpoints b.breakpoints a.resolved.as_asked b.resolved.as_asked a.resolved.resolved b.resolved.resolved in
-      a.reply_is
-      ∙ ap (λ answers. causing (body.Breakpoints (map (answer_to_line l.program (line_offset past)) answers))
-      (effect_in (situation past) past a.breakpoints)) same.0
-      ∙ ap (λ bs. causing (body.Breakpoints (map (answer_to_line l.program (line_offset past)) b.answers))
-      (effect_in (situation past) past bs)) same.1
-      ∙ sym b.reply_is
+      a.reaction_is
+      ∙ ap (λ answers. SetBreakpoints (map (answer_to_line l.program (line_offset past)) answers) a.breakpoints) same.0
+      ∙ ap (λ bs. SetBreakpoints (map (answer_to_line l.program (line_offset past)) b.answers) bs) same.1
+      ∙ sym b.reaction_is
 
-  one_sets_of : (here : Bool) (past : History) (l : Launched) (lines : List SourceBreakpoint) (r s : Reply)
+  one_sets_of : (here : Bool) (past : History) (l : Launched) (lines : List SourceBreakpoint) (r s : Reaction)
       → SetsOf here past l lines r → SetsOf here past l lines s → r ≡ s
   one_sets_of true past l lines r s a b = one_resolves past l lines r s a b
   one_sets_of false past l lines r s a b = a ∙ sym b
 
   -- of the launched program one thing is said
-  one_of_program : (o : Option Launched) (says : Launched → Reply → Type 0) (r s : Reply)
+  one_of_program : {A : Type 0} (o : Option Launched) (says : Launched → A → Type 0) (r s : A)
       → ((l : Launched) → says l r → says l s → r ≡ s)
       → OfProgram o (λ l. says l r) → OfProgram o (λ l. says l s) → r ≡ s
   one_of_program None says r s one a b = absurd a
   one_of_program (Some l) says r s one a b = one l a b
 
-  one_sets : (past : History) (asked : SetBreakpointsArguments) (r s : Reply) → Sets past asked r → Sets past asked s
-      → r ≡ s
+  one_sets : (past : History) (asked : SetBreakpointsArguments) (r s : Reaction) → Sets past asked r
+      → Sets past asked s → r ≡ s
   one_sets past asked r s a b =
-      one_of_program (launched past) (λ l reply. SetsOf
-      (is_same_path asked.path l.path) past l asked.breakpoints reply) r s
+      one_of_program (launched past) (λ l reaction. SetsOf
+      (is_same_path asked.path l.path) past l asked.breakpoints reaction) r s
       (λ l x y. one_sets_of (is_same_path asked.path l.path) past l asked.breakpoints r s x y) a b
 
-  one_sets_in : (s : Situation) (past : History) (asked : SetBreakpointsArguments) (r t : Reply) → SetsIn s past asked r
-      → SetsIn s past asked t → r ≡ t
-  one_sets_in Fresh past asked r t a b = a ∙ sym b
-  one_sets_in Ready past asked r t a b = a ∙ sym b
-  one_sets_in _ past asked r t a b = one_sets past asked r t a b
-
-  -- ---- runs
-
-  -- the reply is determined by the program
-  one_as : (o : Option Launched) (f : Launched → Reply) (r s : Reply) → OfProgram o (λ l. r ≡ f l)
+  -- the reaction is determined by the program
+  one_as : (o : Option Launched) (f : Launched → Reaction) (r s : Reaction) → OfProgram o (λ l. r ≡ f l)
       → OfProgram o (λ l. s ≡ f l) → r ≡ s
   one_as None f r s a b = absurd a
   one_as (Some l) f r s a b = a ∙ sym b
-
-  one_configures_in : (s : Situation) (past : History) (r t : Reply) → ConfiguresIn s past r → ConfiguresIn s past t
-      → r ≡ t
-  one_configures_in Configuring past r t a b =
-      one_as (launched past) (λ l. causing body.None (enters past l (due_first past l))) r t a b
-  one_configures_in Fresh past r t a b = a ∙ sym b
-  one_configures_in _ past r t a b = a ∙ sym b
-
-  one_resumes_in : (s : Situation) (past : History) (resume_kind : ResumeKind) (thread : ℕ) (r t : Reply)
-      → ResumesIn s past resume_kind thread r → ResumesIn s past resume_kind thread t → r ≡ t
-  one_resumes_in Stopped past resume_kind thread r t a b =
-      one_as (launched past) (resuming past resume_kind thread) r t a b
-  one_resumes_in Running past resume_kind thread r t a b = a ∙ sym b
-  one_resumes_in _ past resume_kind thread r t a b = a ∙ sym b
-
-  one_retreats_in : (s : Situation) (past : History) (m : Mode) (thread : ℕ) (r t : Reply)
-      → RetreatsIn s past m thread r → RetreatsIn s past m thread t → r ≡ t
-  one_retreats_in Stopped past m thread r t a b =
-      one_as (launched past) (λ l. on_thread thread (causing body.None (ordering (resumes past l m)))) r t a b
-  one_retreats_in Faulted past m thread r t a b =
-      one_as (launched past) (λ l. on_thread thread (causing body.None (ordering (resumes past l m)))) r t a b
-  one_retreats_in Running past m thread r t a b = a ∙ sym b
-  one_retreats_in _ past m thread r t a b = a ∙ sym b
 
   -- ---- questions
 
@@ -404,29 +369,42 @@ module _ (once : IsTextOnce) where
   one_at of None question r s a b = absurd a
   one_at of (Some c) question r s a b = one_from of c question r s a b
 
-  one_inspects : (past : History) (question : Question) (r s : Reply) → Inspects past question r
-      → Inspects past question s → r ≡ s
+  one_inspects : (past : History) (question : Question) (r s : Reply) → InspectsAs past question r
+      → InspectsAs past question s → r ≡ s
   one_inspects past question r s a b =
       one_of_program (launched past) (λ l reply. RepliesAt (subject_in past l) (at l.program (position past)) question
       reply) r s
       (λ l x y. one_at (subject_in past l) (at l.program (position past)) question r s x y) a b
 
-  one_inspects_in : (s : Situation) (past : History) (question : Question) (r t : Reply) → InspectsIn s past question r
-      → InspectsIn s past question t → r ≡ t
-  one_inspects_in Stopped past question r t a b = one_inspects past question r t a b
-  one_inspects_in Faulted past question r t a b = one_inspects past question r t a b
-  one_inspects_in _ past question r t a b = a ∙ sym b
-
   -- ---- commands and launches
+
+  one_answer : (past : History) (q : Question) (a b : Reaction) → Inspects past q a → Inspects past q b
+      → reply_of past a ≡ reply_of past b
+  one_answer past q a b x y =
+      one_inspects past q (reply_of past a) (reply_of past b) (inspects_there past q a x) (inspects_there past q b y)
+
+  -- the table has one reaction, or those that it has have one reply
+  one_reaction : (past : History) (s : Situation) (asked : Command) (a b : Reaction) → Reacts s past asked a
+      → Reacts s past asked b → reply_of past a ≡ reply_of past b
+  one_reaction past Fresh (command.SetBreakpoints q) a b x y = ap (reply_of past) (x ∙ sym y)
+  one_reaction past Ready (command.SetBreakpoints q) a b x y = ap (reply_of past) (x ∙ sym y)
+  one_reaction past s (command.SetBreakpoints q) a b x y = ap (reply_of past) (one_sets past q a b x y)
+  one_reaction past Configuring command.ConfigurationDone a b x y =
+      ap (reply_of past) (one_as (launched past) Start a b x y)
+  one_reaction past Stopped (command.Resume k q) a b x y =
+      ap (reply_of past) (one_as (launched past) (λ l. for_thread q (Resume l k)) a b x y)
+  one_reaction past Stopped (command.Retreat k q) a b x y =
+      ap (reply_of past) (one_as (launched past) (λ l. for_thread q (Retreat l k)) a b x y)
+  one_reaction past Faulted (command.Retreat k q) a b x y =
+      ap (reply_of past) (one_as (launched past) (λ l. for_thread q (Retreat l k)) a b x y)
+  one_reaction past Stopped (command.Inspect q) a b x y = one_answer past q a b x y
+  one_reaction past Faulted (command.Inspect q) a b x y = one_answer past q a b x y
+  one_reaction past s asked a b x y = ap (reply_of past) (x ∙ sym y)
 
   one_reply : (s : Situation) (past : History) (asked : Command) (r t : Reply) → RepliesIn s past asked r
       → RepliesIn s past asked t → r ≡ t
-  one_reply s past (command.SetBreakpoints a) r t x y = one_sets_in s past a r t x y
-  one_reply s past command.ConfigurationDone r t x y = one_configures_in s past r t x y
-  one_reply s past (command.Resume k a) r t x y = one_resumes_in s past _ a.thread_id r t x y
-  one_reply s past (command.Retreat k a) r t x y = one_retreats_in s past _ a.thread_id r t x y
-  one_reply s past (command.Inspect q) r t x y = one_inspects_in s past q r t x y
-  one_reply s past _ r t x y = x ∙ sym y
+  one_reply s past asked r t x y =
+      x.reply_is ∙ one_reaction past s asked x.reaction y.reaction x.reacts y.reacts ∙ sym y.reply_is
 
   one_launch : (arguments : LaunchArguments) (file : Option (List ℕ)) (r s : Reply) → Launches arguments file r
       → Launches arguments file s → r ≡ s

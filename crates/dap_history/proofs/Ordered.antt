@@ -1,29 +1,33 @@
 -- Which run a reply orders, which plan it puts in, and that it holds none that goes back.
-use Rattle.std.proofs.Common.{◌≡◌, ◌⊎◌, inl, inr, ℕ, ◌+◌, List, [], ◌∷◌, Bool, true, false, ◌||◌, Option, None, Some, Ok, refl, sym, ◌∙◌, ap, subst}
+use Rattle.std.proofs.Common.{◌≡◌, ◌⊎◌, inl, inr, ℕ, ◌+◌, List, [], ◌∷◌, Bool, true, false, ◌||◌, Option, None, Some, Ok, refl, sym, ap, subst}
 use Rattle.std.specs.Prelude.{if◌then◌else◌, IsSome}
 use Rattle.dap_msg.specs.declared.command.Command.{Command}
 use Rattle.dap_msg.specs.declared.command.Command.TheVariants as command
 use Rattle.dap_msg.specs.declared.outgoing.Body.{Body}
 use Rattle.dap_msg.specs.declared.requests.resume.ResumeKind.{ResumeKind}
 use Rattle.dap_msg.specs.declared.requests.resume.ResumeKind.TheVariants as resume
+use Rattle.dap_msg.specs.declared.requests.resume.RetreatKind.{RetreatKind}
+use Rattle.dap_msg.specs.declared.requests.resume.RetreatKind.TheVariants as retreat
+use Rattle.dap_msg.specs.declared.requests.resume.ThreadArguments.{ThreadArguments}
 use Rattle.dbg_plan.specs.Breakpoints.{Breakpoint}
 use Rattle.dbg_plan.specs.Due.{depth_at}
 use Rattle.dbg_plan.specs.declared.mode.Mode.{Mode}
 use Rattle.dbg_plan.specs.declared.mode.Reason.{Reason}
-use Rattle.dbg_runner.specs.Plain.{Heading, Hold, Quit, goes_back}
+use Rattle.dbg_runner.specs.Plain.{Heading, Hold, goes_back}
 use Rattle.dap_history.specs.declared.situation.Situation.{Situation}
 use Rattle.dap_history.specs.declared.situation.Situation.TheVariants.{Fresh, Ready, Configuring, Running, Stopped, Faulted, Ended}
 use Rattle.dap_history.specs.Plans.{Plan}
 use Rattle.dap_history.specs.Last.{last_such}
 use Rattle.dap_history.specs.History.{Launched, History, Effect}
 use Rattle.dap_history.specs.Readings.{go, runs, is_back, is_held, plan, situation, position}
-use Rattle.dap_history.specs.Replies.{Reply, nothing, reporting, ordering, exited_events}
-use Rattle.dap_history.specs.Breakpoints.{hold_once, effect_in}
-use Rattle.dap_history.specs.Running.{mode_of, resumes, enters}
+use Rattle.dap_history.specs.Replies.{Reply, nothing}
+use Rattle.dap_history.specs.Breakpoints.{effect_in}
+use Rattle.dap_history.specs.Running.{due_first, mode_of, retreat_mode, enters}
+use Rattle.dap_history.specs.Reactions.{Reaction, reply_of}
 use Rattle.dap_history.specs.Emission.{RepliesIn}
 use Rattle.dap_history.specs.GoingBack.{back_by, back_of, held_by}
 use Rattle.dap_history.specs.Stops.{IsStopped}
-use Rattle.dap_history.proofs.Shapes.{resume_kind_by, due_first, IsCalm, Shape, refuses, is_calm, sets, begins, resumes_by, is_over, retreats, interrupts, quits, shaped}
+use Rattle.dap_history.proofs.Reacted.{IsCalm, Reacted, by_refusing, by_answering, by_setting, by_starting, by_resuming, by_ending, by_retreating, by_interrupting, by_closing, by_reaction}
 
 -- where a reply may order a run
 abbrev pub CanRun : Situation → Type 0
@@ -55,7 +59,7 @@ pub record OrdersAs (back : Option Mode) (s : Situation) (past : History) (effec
 orders_nothing : (back : Option Mode) (s : Situation) (past : History) → OrdersAs back s past nothing
 orders_nothing back s past = record { run = runs_none; put = tt; hold = λ goes. refl }
 
--- ---- by shape
+-- ---- by reaction
 
 hold_runs : {back : Option Mode} (s : Situation) (past : History) (put : Option Plan) (held : Bool)
     → RunsAs s past back put (last_such go (if held then [] else Hold (runs past) ∷ []))
@@ -100,82 +104,65 @@ can_stand Stopped stands = tt
 can_stand Faulted stands = tt
 can_stand _ stands = absurd stands
 
-resumes_no_back : (asked : Command) (k : ResumeKind) → resume_kind_by asked ≡ Some k → back_by asked ≡ None
-resumes_no_back (command.Resume kind a) k by = refl
-resumes_no_back _ k by = absurd cc
+back_as : (kind : RetreatKind) (a : ThreadArguments)
+    → back_by (command.Retreat kind a) ≡ (if goes_back (retreat_mode kind) then Some (retreat_mode kind) else None)
+back_as retreat.StepBack a = refl
+back_as retreat.ReverseContinue a = refl
 
-module _ (s : Situation) (past : History) (asked : Command) (reply : Reply) where
-  orders_if : (back : Option Mode) (effect : Effect) → back_by asked ≡ back → reply.effect ≡ effect
-      → OrdersAs back s past effect → OrdersAs (back_by asked) s past reply.effect
-  orders_if back effect by is orders =
-      subst (λ b. OrdersAs b s past reply.effect) (sym by) (subst (OrdersAs back s past) (sym is) orders)
-
-  pub by_shape : s ≡ situation past → Shape past s asked reply → OrdersAs (back_by asked) s past reply.effect
-  by_shape here (refuses why is) =
-      orders_if _ nothing refl (ap (λ (r : Reply). r.effect) is) (orders_nothing _ s past)
-  by_shape here (is_calm calm is) = orders_if _ nothing refl is (orders_nothing _ s past)
-  by_shape here (sets a l asks there at_path resolves) =
-      orders_if None _ (ap back_by asks) (ap (λ (r : Reply). r.effect) resolves.reply_is)
-      (subst (λ t. OrdersAs None t past (effect_in (situation past) past resolves.breakpoints)) (sym here)
-      (effect_orders (situation past) past resolves.breakpoints))
-  by_shape here (begins l asks configuring there is) =
-      orders_if None _ (ap back_by asks) (ap (λ (r : Reply). r.effect) is)
-      (subst (λ t. OrdersAs None t past (enters past l (due_first past l))) (sym configuring)
-      (enters_orders past l (due_first past l)))
-  by_shape here (resumes_by k l by stopped there is) =
-      let m = mode_of k (depth_at l.program (position past)) in
+module _ (past : History) where
+  reaction_orders : {s : Situation} {asked : Command} {reaction : Reaction} → Reacted past s asked reaction
+      → s ≡ situation past → OrdersAs (back_by asked) s past (reply_of past reaction).effect
+  reaction_orders (by_refusing s asked why) here = orders_nothing (back_by asked) s past
+  reaction_orders (by_answering s asked b calm) here = orders_nothing (back_by asked) s past
+  reaction_orders (by_setting s a l found bs there path_is resolved) here =
+      subst (λ t. OrdersAs None t past (effect_in (situation past) past bs)) (sym here)
+      (effect_orders (situation past) past bs)
+  reaction_orders (by_starting l there) here = enters_orders past l (due_first past l)
+  reaction_orders (by_resuming kind a l there) here =
+      let m = mode_of kind (depth_at l.program (position past)) in
       let none : (if goes_back m then Some m else None) ≡ None =
-      ap (λ b. if b then Some m else None) (forward k (depth_at l.program (position past))) in
-      orders_if None (ordering (resumes past l m)) (resumes_no_back asked k by) (ap (λ (r : Reply). r.effect) is)
-      (record {
-        run = runs_one _ none refl refl refl refl (subst CanRun
-            (sym stopped) tt);
-        put = tt;
-        hold = λ goes. refl;
-      })
-  by_shape here (is_over k by faulted is) =
-      orders_if None (reporting (exited_events 1)) (resumes_no_back asked k by) (ap (λ (r : Reply). r.effect) is)
-      (record { run = runs_none; put = tt; hold = λ goes. refl })
-  by_shape here (retreats m l by goes stands there is) =
-      let back : (if goes_back m then Some m else None) ≡ Some m = ap (λ b. if b then Some m else None) goes in
-      orders_if (Some m) (ordering (resumes past l m)) by (ap (λ (r : Reply). r.effect) is)
-      (record { run = runs_one _ back refl refl refl refl (can_stand s stands); put = tt; hold = λ goes. refl })
-  by_shape here (interrupts a asks running is) =
-      orders_if None (ordering (hold_once past)) (ap back_by asks) (ap (λ (r : Reply). r.effect) is)
-      (record {
-        run = hold_runs s past None (is_held past || is_back past);
-        put = tt;
-        hold = holds_none past (is_held past) (is_back past);
-      })
-  by_shape here (quits asks is) =
-      orders_if None (ordering (Quit ∷ [])) (ap back_by asks) (ap (λ (r : Reply). r.effect) is)
-      (record { run = runs_none; put = tt; hold = λ goes. refl })
+      ap (λ b. if b then Some m else None) (forward kind (depth_at l.program (position past))) in
+      record { run = runs_one _ none refl refl refl refl tt; put = tt; hold = λ goes. refl }
+  reaction_orders (by_ending kind a) here = record { run = runs_none; put = tt; hold = λ goes. refl }
+  reaction_orders (by_retreating s kind a l stands there) here = record {
+    run = runs_one _ (sym (back_as kind a)) refl refl refl refl (can_stand s stands);
+    put = tt;
+    hold = λ goes. refl;
+  }
+  reaction_orders (by_interrupting a) here = record {
+    run = hold_runs Running past None (is_held past || is_back past);
+    put = tt;
+    hold = holds_none past (is_held past) (is_back past);
+  }
+  reaction_orders (by_closing s) here = record { run = runs_none; put = tt; hold = λ goes. refl }
 
   -- where going back is granted, a run is ordered
-  granted_shape : (m : Mode) (b : Body) → back_by asked ≡ Some m → reply.result ≡ Ok b → Shape past s asked reply
-      → IsSome (last_such go reply.effect.orders)
-  granted_shape m b asks granted (refuses why is) = let e = ap (λ (r : Reply). r.result) (sym is) ∙ granted in absurd cc
-  granted_shape m b asks granted (is_calm calm is) = absurd (calm_not asked calm asks)
+  granted_run : {s : Situation} {asked : Command} {reaction : Reaction} → Reacted past s asked reaction
+      → (m : Mode) (b : Body) → back_by asked ≡ Some m → (reply_of past reaction).result ≡ Ok b
+      → IsSome (last_such go (reply_of past reaction).effect.orders)
+  granted_run (by_refusing s asked why) m b asks granted = absurd cc
+  granted_run (by_answering s asked body calm) m b asks granted = absurd (calm_not s asked body calm asks)
     where
-      calm_not : (c : Command) → IsCalm past s c → ¬ (back_by c ≡ Some m)
-      calm_not (command.Retreat k a) calm by = calm
-      calm_not _ calm by = absurd cc
-  granted_shape m b asks granted (sets a l by there at_path is) = let e = sym (ap back_by by) ∙ asks in absurd cc
-  granted_shape m b asks granted (begins l by here there is) = let e = sym (ap back_by by) ∙ asks in absurd cc
-  granted_shape m b asks granted (resumes_by k l by here there is) =
-      let e = sym (resumes_no_back asked k by) ∙ asks in absurd cc
-  granted_shape m b asks granted (is_over k by here is) = let e = sym (resumes_no_back asked k by) ∙ asks in absurd cc
-  granted_shape m b asks granted (retreats n l by back stands there is) =
-      subst (λ (r : Reply). IsSome (last_such go r.effect.orders)) (sym is) refl
-  granted_shape m b asks granted (interrupts a by here is) = let e = sym (ap back_by by) ∙ asks in absurd cc
-  granted_shape m b asks granted (quits by is) = let e = sym (ap back_by by) ∙ asks in absurd cc
+      calm_not : (s : Situation) (c : Command) (b : Body) → IsCalm past s c b → ¬ (back_by c ≡ Some m)
+      calm_not s (command.Retreat k a) b calm by = calm
+      calm_not s _ b calm by = absurd cc
+  granted_run (by_retreating s kind a l stands there) m b asks granted = refl
+  granted_run (by_setting s a l found bs there path_is resolved) m b asks granted = absurd cc
+  granted_run (by_starting l there) m b asks granted = absurd cc
+  granted_run (by_resuming kind a l there) m b asks granted = absurd cc
+  granted_run (by_ending kind a) m b asks granted = absurd cc
+  granted_run (by_interrupting a) m b asks granted = absurd cc
+  granted_run (by_closing s) m b asks granted = absurd cc
 
 pub granted_back : (s : Situation) (past : History) (asked : Command) (reply : Reply) (m : Mode) (b : Body)
     → RepliesIn s past asked reply → back_by asked ≡ Some m → reply.result ≡ Ok b
     → IsSome (last_such go reply.effect.orders)
 granted_back s past asked reply m b is asks granted =
-    granted_shape s past asked reply m b asks granted (shaped past reply s asked is)
+    by_reaction (λ (r : Reply). r.result ≡ Ok b → IsSome (last_such go r.effect.orders))
+    (λ reaction reacted granted. granted_run past reacted m b asks granted) is granted
 
 pub all_orders : (s : Situation) (past : History) (asked : Command) (reply : Reply) → s ≡ situation past
     → RepliesIn s past asked reply → OrdersAs (back_by asked) s past reply.effect
-all_orders s past asked reply here is = by_shape s past asked reply here (shaped past reply s asked is)
+all_orders s past asked reply here is =
+    by_reaction (λ (r : Reply). OrdersAs (back_by asked) s past r.effect)
+    (λ reaction reacted. reaction_orders past reacted here) is

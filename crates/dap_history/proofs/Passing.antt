@@ -41,6 +41,7 @@ use Rattle.dap_history.proofs.Silent.{GoesBy, no_go, of_text, all_silent}
 use Rattle.dap_history.proofs.Outputs.{outputs_mark, GoesAs, no_run, as_text, report_goes, report_launches}
 use Rattle.dap_history.proofs.Standing.{MarkIs, mark_else, IsAnswer}
 use Rattle.dap_history.proofs.Progress.{Progress, report_program}
+use Rattle.dap_history.proofs.Reacted.{replied}
 
 -- ---- who leads to Configuring, and to Running
 
@@ -129,9 +130,10 @@ result_not c not (Err r) is = is
 reply_not : (s : Situation) (past : History) (asked : Command) (reply : Reply) → RepliesIn s past asked reply
     → ¬ MarkIs IsConfiguring (answer_mark (name_of asked) reply.result)
 reply_not s past (command.Launch a) reply is mark =
-    subst (λ (r : Reply). MarkIs IsConfiguring (answer_mark (name.Supported supported.Launch) r.result)) is mark
+    subst (λ (r : Reply). MarkIs IsConfiguring (answer_mark (name.Supported supported.Launch) r.result))
+    (replied _ is is.reacts) mark
 reply_not s past (command.BadArguments k) reply is mark =
-    subst (λ (r : Reply). MarkIs IsConfiguring (answer_mark (name.Supported k) r.result)) is mark
+    subst (λ (r : Reply). MarkIs IsConfiguring (answer_mark (name.Supported k) r.result)) (replied _ is is.reacts) mark
 reply_not s past asked reply is mark = result_not (name_of asked) (λ x. x) reply.result mark
 
 abbrev pub IsLoaded : Item → Type 0

@@ -38,8 +38,8 @@ use Rattle.dap_history.proofs.Along.{IsKept, any_events, along}
 use Rattle.dap_history.proofs.Each.{none_first, WasTaken, EachTaken, each_kept, each_first}
 use Rattle.dap_history.proofs.Silent.{StopsBy, no_stop, at_first, all_silent}
 use Rattle.dap_history.proofs.Outputs.{outputs_stop, outputs_stop_not}
-use Rattle.dap_history.proofs.Shapes.{shaped}
-use Rattle.dap_history.proofs.Asked.{reply_mode}
+use Rattle.dap_history.proofs.Reacted.{replied, by_reaction}
+use Rattle.dap_history.proofs.Asked.{AsAsked, reaction_mode}
 use Rattle.dap_history.proofs.Since.{SplitsAt, splits_last, longer, none_since, one_more_since, one_less_since}
 
 -- ---- a granted pause
@@ -64,7 +64,7 @@ paused_by s past seq (command.Pause a) reply is pauses = by_result reply.result 
     by_result (Ok b) same pauses = (a, refl, b, same)
     by_result (Err why) same pauses = absurd cc
 paused_by s past seq (command.BadArguments k) reply is pauses =
-    let e = sym (ap (λ (r : Reply). is_pause (Some (Answer seq (name.Supported k) r.result))) is
+    let e = sym (ap (λ (r : Reply). is_pause (Some (Answer seq (name.Supported k) r.result))) (replied _ is is.reacts)
     ∙ refusal_not seq k _) ∙ pauses in absurd cc
 paused_by s past seq _ reply is pauses = absurd cc
 
@@ -114,8 +114,9 @@ pause_goes_not past step request a causes granted is = by_run (run_in step) refl
     by_run : (o : Option Heading) → run_in step ≡ o → run_in step ≡ None
     by_run None none = none
     by_run (Some run) goes =
-        let asks = reply_mode past (situation past) (command.Pause a) here.0
-        (shaped past here.0 (situation past) (command.Pause a) paused) run
+        let asks =
+        by_reaction (λ (r : Reply). last_such go r.effect.orders ≡ Some run → AsAsked past (command.Pause a) run)
+        (λ reaction reacted goes. reaction_mode past reacted run goes) paused
         (ap (λ (e : Effect). last_such go e.orders) (sym here.2.effect_is) ∙ goes) in
         let e = asks.2 in absurd cc
 

@@ -1,20 +1,21 @@
--- The reply to a question has no effect, whatever the question and the situation.
-use Rattle.std.proofs.Common.{◌≡◌, inl, inr, ℕ, List, Bool, true, false, Option, None, Some, Ok, Err, refl, ◌∙◌, ap}
+-- The reply to a question has no effect, so it is that of a reaction which answers or refuses.
+use Rattle.std.proofs.Common.{◌≡◌, inl, inr, ℕ, List, Bool, true, false, Option, None, Some, Ok, Err, refl, ◌∙◌, ap, subst}
 use Rattle.std.specs.Prelude.{nat_eq, if◌then◌else◌, ℤ, Result}
 use Rattle.dap_msg.specs.declared.question.Question.{Question}
 use Rattle.dap_msg.specs.declared.question.Question.TheVariants as question
+use Rattle.dap_msg.specs.declared.outgoing.Body.{Body}
+use Rattle.dap_msg.specs.declared.outgoing.Refusal.{Refusal}
 use Rattle.dap_msg.specs.declared.outgoing.Refusal.TheVariants as refusal
 use Rattle.pl0_meaning.specs.Values.{Configuration, Frame}
 use Rattle.pl0_meaning.specs.Runs.{at}
 use Rattle.dbg_plan.specs.declared.evaluation.EvalFault.{EvalFault}
 use Rattle.dbg_plan.specs.declared.evaluation.EvalFault.TheVariants.{Overflow, DivideByZero}
-use Rattle.dap_history.specs.declared.situation.Situation.{Situation}
-use Rattle.dap_history.specs.declared.situation.Situation.TheVariants.{Stopped, Faulted}
 use Rattle.dap_history.specs.History.{Launched, History}
 use Rattle.dap_history.specs.Readings.{launched, position}
-use Rattle.dap_history.specs.Replies.{Reply, nothing, refused, OfProgram}
+use Rattle.dap_history.specs.Replies.{Reply, nothing, answered, refused, OfProgram}
 use Rattle.dap_history.specs.Frames.{frame_by_id}
-use Rattle.dap_history.specs.Inspection.{Subject, subject_in, scopes, variables, result_reply, EvaluatesIn, RepliesFrom, RepliesAt, InspectsIn}
+use Rattle.dap_history.specs.Inspection.{Subject, subject_in, scopes, variables, result_reply, EvaluatesIn, RepliesFrom, RepliesAt}
+use Rattle.dap_history.specs.Reactions.{Reaction, Refuse, Answer, reply_of, InspectsAs, Inspects}
 
 thread_nothing : (reply : Reply) (same : Bool) → reply.effect ≡ nothing
     → (if same then reply else refused refusal.UnknownThread).effect ≡ nothing
@@ -34,7 +35,7 @@ result_nothing (Ok v) = refl
 result_nothing (Err Overflow) = refl
 result_nothing (Err DivideByZero) = refl
 
-pub effect_is : (reply other : Reply) → reply ≡ other → other.effect ≡ nothing → reply.effect ≡ nothing
+effect_is : (reply other : Reply) → reply ≡ other → other.effect ≡ nothing → reply.effect ≡ nothing
 effect_is reply other is none = ap (λ (r : Reply). r.effect) is ∙ none
 
 evaluates_nothing : (of : Subject) (c : Configuration) (id : ℕ) (f : Option Frame) (text : List ℕ) (reply : Reply)
@@ -54,18 +55,44 @@ replies_nothing of c (question.Variables a) reply is =
 replies_nothing of c (question.Evaluate a) reply is =
     evaluates_nothing of c a.frame_id (frame_by_id c a.frame_id) a.expression reply is
 
-inspects_nothing : (l : Option Launched) (past : History) (question : Question) (reply : Reply)
-    → OfProgram l (λ l. RepliesAt (subject_in past l) (at l.program (position past)) question reply)
-    → reply.effect ≡ nothing
-inspects_nothing None past question reply is = absurd is
-inspects_nothing (Some l) past question reply is = by_place (at l.program (position past)) is
-  where
-    by_place : (c : Option Configuration) → RepliesAt (subject_in past l) c question reply → reply.effect ≡ nothing
-    by_place None is = absurd is
-    by_place (Some c) is = replies_nothing (subject_in past l) c question reply is
+-- ---- as a reaction
 
-pub no_effect : (s : Situation) (past : History) (question : Question) (reply : Reply)
-    → InspectsIn s past question reply → reply.effect ≡ nothing
-no_effect Stopped past question reply is = inspects_nothing (launched past) past question reply is
-no_effect Faulted past question reply is = inspects_nothing (launched past) past question reply is
-no_effect _ past question reply is = effect_is reply _ is refl
+-- the reaction to a question has the reply of the place where the program stands
+pub inspects_there : (past : History) (q : Question) (reaction : Reaction) → Inspects past q reaction
+    → InspectsAs past q (reply_of past reaction)
+inspects_there past q (Refuse why) is = is
+inspects_there past q (Answer b) is = is
+inspects_there past q _ is = absurd is
+
+-- a reaction with this reply
+abbrev pub HasReaction : History → Question → Reply → Type 0
+HasReaction past q reply = (reaction : Reaction) × Inspects past q reaction × (reply ≡ reply_of past reaction)
+
+reply_parts : (r s : Reply) → r.result ≡ s.result → r.effect ≡ s.effect → r ≡ s
+reply_parts r s result effect =
+    ap (λ x. record { result = x; effect = r.effect }) result
+    ∙ ap (λ e. record { result = s.result; effect = e }) effect
+
+by_result : (past : History) (q : Question) (reply : Reply) (result : Result Body Refusal) → reply.result ≡ result
+    → reply.effect ≡ nothing → InspectsAs past q reply → HasReaction past q reply
+by_result past q reply (Ok b) result none is =
+    let same : reply ≡ answered b = reply_parts reply (answered b) result none in
+    (Answer b, subst (InspectsAs past q) same is, same)
+by_result past q reply (Err why) result none is =
+    let same : reply ≡ refused why = reply_parts reply (refused why) result none in
+    (Refuse why, subst (InspectsAs past q) same is, same)
+
+no_effect : (past : History) (q : Question) (reply : Reply) (l : Option Launched)
+    → OfProgram l (λ l. RepliesAt (subject_in past l) (at l.program (position past)) q reply)
+    → reply.effect ≡ nothing
+no_effect past q reply None is = absurd is
+no_effect past q reply (Some l) is = by_place (at l.program (position past)) is
+  where
+    by_place : (c : Option Configuration) → RepliesAt (subject_in past l) c q reply → reply.effect ≡ nothing
+    by_place None is = absurd is
+    by_place (Some c) is = replies_nothing (subject_in past l) c q reply is
+
+-- each reply to a question is that of a reaction
+pub reaction_there : (past : History) (q : Question) (reply : Reply) → InspectsAs past q reply
+    → HasReaction past q reply
+reaction_there past q reply is = by_result past q reply reply.result refl (no_effect past q reply (launched past) is) is

@@ -1,8 +1,7 @@
 -- No reply reports a number or launches a program but that of a launch, and each Go of a reply is of the launched text.
-use Rattle.std.proofs.Common.{◌≡◌, ◌+◌, List, [], ◌∷◌, ◌++◌, Bool, true, false, ◌||◌, Option, None, Some, Ok, Err, refl, sym, ◌∙◌, ap, subst, append-nil}
-use Rattle.std.specs.Prelude.{map, if◌then◌else◌, Result}
+use Rattle.std.proofs.Common.{◌≡◌, ◌+◌, List, [], ◌∷◌, ◌++◌, Bool, true, false, ◌||◌, Option, None, Some, refl, sym, ◌∙◌, ap, subst, append-nil}
+use Rattle.std.specs.Prelude.{map, if◌then◌else◌}
 use Rattle.std.specs.List.{filter_map}
-use Rattle.dap_msg.specs.declared.requests.resume.ResumeKind.{ResumeKind}
 use Rattle.dap_msg.specs.declared.command.Command.{Command}
 use Rattle.dap_msg.specs.declared.command.Command.TheVariants as command
 use Rattle.dap_msg.specs.Commands.{name_of}
@@ -10,7 +9,6 @@ use Rattle.dap_msg.specs.declared.command.CommandName.{CommandName}
 use Rattle.dap_msg.specs.declared.outgoing.Outgoing.TheVariants.{Answer, Event}
 use Rattle.dap_msg.specs.declared.outgoing.Body.{Body}
 use Rattle.dap_msg.specs.declared.outgoing.EventBody.{EventBody}
-use Rattle.dap_msg.specs.declared.outgoing.Refusal.{Refusal}
 use Rattle.dbg_plan.specs.Breakpoints.{Breakpoint}
 use Rattle.dbg_runner.specs.Plain.{Heading, Hold, Quit}
 use Rattle.dbg_plan.specs.Logs.{Log, logs as position_logs}
@@ -20,16 +18,16 @@ use Rattle.dap_history.specs.declared.situation.Situation.{Situation}
 use Rattle.dap_history.specs.declared.situation.Situation.TheVariants.{Fresh, Ready, Configuring, Running, Ended}
 use Rattle.dap_history.specs.Last.{last_such}
 use Rattle.dap_history.specs.History.{Launched, History, Effect}
-use Rattle.dap_history.specs.Considered.{is_start, starts_by}
+use Rattle.dap_history.specs.Considered.{starts_by}
 use Rattle.dap_history.specs.Readings.{go, launched, runs, is_back, is_held, plan, situation, position, output}
-use Rattle.dap_history.specs.Replies.{Reply, nothing, reporting, ordering, exited_events, stop_of, stopped_events}
+use Rattle.dap_history.specs.Replies.{Reply, nothing, answered, reporting, ordering, exited_events, stop_of, stopped_events}
 use Rattle.dap_history.specs.Breakpoints.{effect_in}
-use Rattle.dap_history.specs.Running.{resumes, first_logs, enters}
+use Rattle.dap_history.specs.Running.{resumes, due_first, first_logs, enters}
+use Rattle.dap_history.specs.Reactions.{Reaction, reply_of}
 use Rattle.dap_history.specs.Emission.{RepliesIn}
 use Rattle.dap_history.specs.Stops.{stop_of_event}
 use Rattle.dap_msg.specs.declared.outgoing.StopReason.{StopReason}
-use Rattle.dap_history.proofs.Shapes.{resume_kind_by, due_first, IsCalm, Shape, refuses, is_calm, sets, begins, resumes_by, is_over, retreats, interrupts, quits, shaped}
-use Rattle.dap_history.specs.GoingBack.{back_by}
+use Rattle.dap_history.proofs.Reacted.{IsCalm, Reacted, by_refusing, by_answering, by_setting, by_starting, by_resuming, by_ending, by_retreating, by_interrupting, by_closing, by_reaction}
 use Rattle.dap_history.proofs.Told.{numbers_in, texts_in, numbers_of_logs, stop_of_logs}
 
 -- the runs ordered are of the launched text
@@ -179,64 +177,32 @@ enters_silent past l (Some r) is due_is =
       logs = logs_first l (stopped_events (stop_of r)) refl is refl refl;
     }
 
--- whether a command starts the program
-abbrev pub starting_command : Command → Bool
-starting_command asked = is_start (name_of asked)
-
-calm_not : (past : History) (s : Situation) (asked : Command) → IsCalm past s asked → starting_command asked ≡ false
-calm_not past s (command.Pause a) calm = refl
-calm_not past s (command.SetBreakpoints a) calm = refl
-calm_not past s (command.Initialize a) calm = refl
-calm_not past s command.Threads calm = refl
-calm_not past s (command.Inspect q) calm = refl
-calm_not past s _ calm = absurd calm
-
-resume_not : (asked : Command) (k : ResumeKind) → resume_kind_by asked ≡ Some k → starting_command asked ≡ false
-resume_not (command.Resume kind a) k by = refl
-resume_not _ k by = absurd cc
-
-retreat_not : (asked : Command) (m : Mode) → back_by asked ≡ Some m → starting_command asked ≡ false
-retreat_not (command.Retreat kind a) m by = refl
-retreat_not _ m by = absurd cc
-
 -- of a reply to `configurationDone` or to another command
 abbrev SilentReply : CommandName → Situation → History → Reply → Type 0
 SilentReply command s past reply = IsSilent (starts_by (Some (Answer 0 command reply.result))) s past reply.effect
 
-module _ (s : Situation) (past : History) (asked : Command) (reply : Reply) where
-  -- a reply to another command, by its effect
-  as_other : (effect : Effect) → starting_command asked ≡ false → IsSilent false s past effect → reply.effect ≡ effect
-      → SilentReply (name_of asked) s past reply
-  as_other effect other silent is =
-      subst (λ b. IsSilent b s past reply.effect) (sym (starts_not reply.result))
-      (subst (IsSilent false s past) (sym is) silent)
-    where
-      starts_not : (result : Result Body Refusal) → starts_by (Some (Answer 0 (name_of asked) result)) ≡ false
-      starts_not (Ok b) = other
-      starts_not (Err why) = refl
+calm_silent : (past : History) (s : Situation) (asked : Command) (b : Body) → IsCalm past s asked b
+    → SilentReply (name_of asked) s past (answered b)
+calm_silent past s (command.Pause a) b calm = nothing_silent past
+calm_silent past s (command.SetBreakpoints a) b calm = nothing_silent past
+calm_silent past s (command.Initialize a) b calm = nothing_silent past
+calm_silent past s command.Threads b calm = nothing_silent past
+calm_silent past s (command.Inspect q) b calm = nothing_silent past
+calm_silent past s _ b calm = absurd calm
 
-  by_shape : Shape past s asked reply → SilentReply (name_of asked) s past reply
-  by_shape (refuses why is) = subst (SilentReply (name_of asked) s past) (sym is) (nothing_silent past)
-  by_shape (is_calm calm is) = as_other _ (calm_not past s asked calm) (nothing_silent past) is
-  by_shape (sets a l asks there at_path resolves) =
-      as_other _ (ap starting_command asks) (effect_silent (situation past) past resolves.breakpoints)
-      (ap (λ (r : Reply). r.effect) resolves.reply_is)
-  by_shape (begins l asks here there is) =
-      subst (λ (c : Command). SilentReply (name_of c) s past reply) (sym asks)
-      (subst (λ s. SilentReply (name_of command.ConfigurationDone) s past reply) (sym here)
-      (subst (SilentReply (name_of command.ConfigurationDone) Configuring past) (sym is)
-      (enters_silent past l _ there refl)))
-  by_shape (resumes_by k l by here there is) =
-      as_other _ (resume_not asked k by) (resumes_silent past l _ there) (ap (λ (r : Reply). r.effect) is)
-  by_shape (is_over k by here is) =
-      as_other _ (resume_not asked k by) (over_silent past) (ap (λ (r : Reply). r.effect) is)
-  by_shape (retreats m l by back stands there is) =
-      as_other _ (retreat_not asked m by) (resumes_silent past l m there) (ap (λ (r : Reply). r.effect) is)
-  by_shape (interrupts a asks here is) =
-      as_other _ (ap starting_command asks) (hold_silent past (is_held past || is_back past)) (ap (λ
-      (r : Reply). r.effect) is)
-  by_shape (quits asks is) = as_other _ (ap starting_command asks) (quit_silent past) (ap (λ (r : Reply). r.effect) is)
+reaction_silent : (past : History) {s : Situation} {asked : Command} {reaction : Reaction}
+    → Reacted past s asked reaction → SilentReply (name_of asked) s past (reply_of past reaction)
+reaction_silent past (by_refusing s asked why) = nothing_silent past
+reaction_silent past (by_answering s asked b calm) = calm_silent past s asked b calm
+reaction_silent past (by_setting s a l found bs there path_is resolved) = effect_silent (situation past) past bs
+reaction_silent past (by_starting l there) = enters_silent past l (due_first past l) there refl
+reaction_silent past (by_resuming kind a l there) = resumes_silent past l _ there
+reaction_silent past (by_ending kind a) = over_silent past
+reaction_silent past (by_retreating s kind a l stands there) = resumes_silent past l _ there
+reaction_silent past (by_interrupting a) = hold_silent past (is_held past || is_back past)
+reaction_silent past (by_closing s) = quit_silent past
 
 pub all_silent : (s : Situation) (past : History) (asked : Command) (reply : Reply) → RepliesIn s past asked reply
     → SilentReply (name_of asked) s past reply
-all_silent s past asked reply is = by_shape s past asked reply (shaped past reply s asked is)
+all_silent s past asked reply is =
+    by_reaction (SilentReply (name_of asked) s past) (λ reaction. reaction_silent past) is

@@ -23,14 +23,19 @@ use Rattle.dap_history.specs.declared.situation.Situation.TheVariants.{Stopped, 
 use Rattle.dap_history.specs.Last.{or_else, last_such}
 use Rattle.dap_history.specs.History.{Launched, Item, Content, Loaded, Accepted, Step, History, with_answer, messages}
 use Rattle.dap_history.specs.Readings.{situation, position, launched, end_of, command_mark, answer_mark, event_mark, message_mark, order_mark, step_mark}
-use Rattle.dap_history.specs.Replies.{Reply, OfProgram, refused}
-use Rattle.dap_history.specs.Inspection.{RepliesAt, subject_in, Inspects, InspectsIn}
+use Rattle.dap_history.specs.Replies.{Reply, OfProgram}
+use Rattle.dap_history.specs.Inspection.{RepliesAt, subject_in}
+use Rattle.dap_history.specs.Reactions.{Reaction, reply_of, InspectsAs}
 use Rattle.dap_history.specs.Emission.{RepliesIn, Answers, Causes}
 use Rattle.dap_history.specs.Stops.{stop_of_event, stop_in, IsStopped, StoppedLastAt, AnswersFrom, QuestionsAreAnsweredThere}
 use Rattle.dap_history.specs.Events.{Incoming}
 use Rattle.dap_history.proofs.Readings.{situation-snoc, position-snoc}
 use Rattle.dap_history.proofs.Along.{IsTaken, IsKept, any_events, along}
 use Rattle.dap_history.proofs.Each.{WasTaken, EachTaken, each_kept, each_first}
+use Rattle.dap_history.proofs.Questions.{inspects_there}
+use Rattle.dap_history.proofs.Reacted.{IsCalm, Reacted, by_answering, by_reaction}
+use Rattle.dap_msg.specs.declared.command.Command.{Command}
+use Rattle.dap_msg.specs.declared.command.Command.TheVariants as command
 
 -- ---- marks of a kind
 
@@ -217,21 +222,21 @@ stood_kept Q = record {
 
 -- ---- questions
 
+-- a question is answered as it is where the program stands; elsewhere it is refused
 inspects_here : (s : Situation) (past : History) (q : Question) (reply : Reply) → IsStopped s
-    → InspectsIn s past q reply → Inspects past q reply
-inspects_here Stopped past q reply is inspects = inspects
-inspects_here Faulted past q reply is inspects = inspects
-inspects_here _ past q reply is inspects = absurd is
+    → RepliesIn s past (command.Inspect q) reply → InspectsAs past q reply
+inspects_here Stopped past q reply stands is =
+    subst (InspectsAs past q) (sym is.reply_is) (inspects_there past q is.reaction is.reacts)
+inspects_here Faulted past q reply stands is =
+    subst (InspectsAs past q) (sym is.reply_is) (inspects_there past q is.reaction is.reacts)
+inspects_here _ past q reply stands is = absurd stands
 
--- a refusal is no body
-no_body : (reply : Reply) (why : Refusal) (b : Body) → reply ≡ refused why → ¬ (reply.result ≡ Ok b)
-no_body reply why b is body = let e = ap (λ (r : Reply). r.result) (sym is) ∙ body in absurd cc
-
-standing_of : (s : Situation) (past : History) (q : Question) (reply : Reply) (b : Body) → InspectsIn s past q reply
-    → reply.result ≡ Ok b → IsStopped s
-standing_of Stopped past q reply b is body = tt
-standing_of Faulted past q reply b is body = tt
-standing_of _ past q reply b is body = absurd (no_body reply _ b is body)
+reaction_stands : (past : History) {s : Situation} {asked : Command} {reaction : Reaction}
+    → Reacted past s asked reaction
+    → (q : Question) (b : Body) → asked ≡ command.Inspect q → (reply_of past reaction).result ≡ Ok b → IsStopped s
+reaction_stands past (by_answering s asked body calm) q b asks granted =
+    (subst (λ c. IsCalm past s c body) asks calm).0
+reaction_stands past _ q b asks granted = absurd cc
 
 -- the program that is inspected, shown where it stopped last
 shown : (before : History) (request : Request) (question : Question) (step : Step) (reply : Reply) (l : Option Launched)
@@ -258,7 +263,8 @@ pub questions_answered : QuestionsAreAnsweredThere
 questions_answered events past rest history before request question step asks = (
   λ standing. shown before request question step causes.0 (launched before) refl
       (inspects_here (situation before) before question causes.0 standing inspects) causes.2 (was.held standing),
-  λ b answer. standing_of (situation before) before question causes.0 b inspects
+  λ b answer. by_reaction (λ (r : Reply). r.result ≡ Ok b → IsStopped (situation before))
+      (λ reaction reacted granted. reaction_stands before reacted question b asks.question_is granted) causes.1
       (let e = sym causes.2.answer_is ∙ answer in cc),
 )
   where
@@ -274,5 +280,5 @@ questions_answered events past rest history before request question step asks = 
         × Answers request.seq (name_of request.body) reply step
     causes = subst (λ i. Causes before i step) asks.item_is was.causes
 
-    inspects : InspectsIn (situation before) before question causes.0
+    inspects : RepliesIn (situation before) before (command.Inspect question) causes.0
     inspects = subst (λ c. RepliesIn (situation before) before c causes.0) asks.question_is causes.1

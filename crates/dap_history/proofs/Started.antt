@@ -8,7 +8,6 @@ use Rattle.dap_msg.specs.declared.command.CommandName.{CommandName}
 use Rattle.dap_msg.specs.declared.command.CommandName.TheVariants as name
 use Rattle.dap_msg.specs.declared.command.Supported.TheVariants as supported
 use Rattle.dap_msg.specs.declared.outgoing.Body.{Body}
-use Rattle.dap_msg.specs.declared.outgoing.Body.TheVariants as body
 use Rattle.dap_msg.specs.declared.outgoing.Refusal.{Refusal}
 use Rattle.dap_msg.specs.declared.outgoing.Outgoing.TheVariants.{Answer, Event}
 use Rattle.dbg_plan.specs.declared.mode.Reason.{Reason}
@@ -18,16 +17,17 @@ use Rattle.dap_history.specs.Last.{or_else, last_such}
 use Rattle.dap_history.specs.History.{Launched, Item, Content, Loaded, Accepted, Step, History, with_answer}
 use Rattle.dbg_plan.specs.Logs.{logs as position_logs}
 use Rattle.dap_history.specs.Readings.{situation, launched, plan, answer_mark, message_mark, order_mark, step_mark}
-use Rattle.dap_history.specs.Replies.{Reply, OfProgram, stopped_events, stop_of}
-use Rattle.dap_history.specs.Running.{enters, ConfiguresIn}
-use Rattle.dap_history.specs.Considered.{is_start, starts_by, before_start}
+use Rattle.dap_history.specs.Replies.{Reply, stopped_events, stop_of}
+use Rattle.dap_history.specs.Running.{due_first, enters}
+use Rattle.dap_history.specs.Reactions.{Reaction, reply_of}
+use Rattle.dap_history.specs.Considered.{starts_by, before_start}
 use Rattle.dap_history.specs.Emission.{RepliesIn, Answers, Causes}
 use Rattle.dap_history.specs.Events.{Incoming}
 use Rattle.dap_history.proofs.Readings.{situation-snoc}
 use Rattle.dap_history.proofs.Along.{IsTaken}
 use Rattle.dap_history.proofs.Early.{IsEarlyMark, unanswered_late, answered_late, result_late, early_reply}
 use Rattle.dap_history.proofs.Told.{mark_of_logs, stop_marks}
-use Rattle.dap_history.proofs.Shapes.{due_first}
+use Rattle.dap_history.proofs.Reacted.{IsCalm, Reacted, by_answering, by_starting, by_reaction}
 use Rattle.dap_history.proofs.Standing.{MarkIs, mark_unwrap}
 use Rattle.dap_history.proofs.Passing.{IsConfiguring, IsLoaded, loaded_there, mark_of_effect}
 use Rattle.dap_history.proofs.Progress.{decided}
@@ -120,34 +120,28 @@ abbrev Starts : Situation → History → Reply → Type 0
 Starts s past reply =
     (s ≡ Configuring) × ((l : Launched) × (launched past ≡ Some l) × (reply.effect ≡ enters past l (due_first past l)))
 
-never : {A : Type 0} (command : CommandName) (result : Result Body Refusal) → is_start command ≡ false
-    → starts_by (Some (Answer 0 command result)) ≡ true → A
-never command (Ok b) other is = let e = sym other ∙ is in absurd cc
-never command (Err why) other is = absurd cc
+calm_never : (past : History) (s : Situation) (asked : Command) (b : Body) → IsCalm past s asked b
+    → ¬ (starts_by (Some (Answer 0 (name_of asked) (Ok b))) ≡ true)
+calm_never past s (command.Initialize a) b calm starts = absurd cc
+calm_never past s (command.SetBreakpoints a) b calm starts = absurd cc
+calm_never past s command.Threads b calm starts = absurd cc
+calm_never past s (command.Pause a) b calm starts = absurd cc
+calm_never past s (command.Inspect q) b calm starts = absurd cc
+calm_never past s _ b calm starts = calm
 
-refused_not : {A : Type 0} (command : CommandName) (reply : Reply) (why : Refusal) → reply.result ≡ Err why
-    → starts_by (Some (Answer 0 command reply.result)) ≡ true → A
-refused_not command reply why is starts =
-    let e = sym (ap (λ r. starts_by (Some (Answer 0 command r))) is) ∙ starts in absurd cc
-
-enters_so : (l : Option Launched) (past : History) (reply : Reply) → launched past ≡ l
-    → OfProgram l (λ l. reply ≡ record { result = Ok body.None; effect = enters past l (due_first past l) })
-    → Starts Configuring past reply
-enters_so None past reply is says = absurd says
-enters_so (Some l) past reply is says = (refl, (l, is, ap (λ (r : Reply). r.effect) says))
-
-configures_so : (s : Situation) (past : History) (reply : Reply) → ConfiguresIn s past reply
-    → starts_by (Some (Answer 0 (name.Supported supported.ConfigurationDone) reply.result)) ≡ true → Starts s past reply
-configures_so Configuring past reply is starts = enters_so (launched past) past reply refl is
-configures_so _ past reply is starts =
-    refused_not (name.Supported supported.ConfigurationDone) reply _ (ap (λ (r : Reply). r.result) is) starts
+reaction_starts : (past : History) {s : Situation} {asked : Command} {reaction : Reaction}
+    → Reacted past s asked reaction
+    → starts_by (Some (Answer 0 (name_of asked) (reply_of past reaction).result)) ≡ true
+    → Starts s past (reply_of past reaction)
+reaction_starts past (by_starting l there) started = (refl, (l, there, refl))
+reaction_starts past (by_answering s asked b calm) started = absurd (calm_never past s asked b calm started)
+reaction_starts past _ started = absurd cc
 
 starts_so : (s : Situation) (past : History) (asked : Command) (reply : Reply) → RepliesIn s past asked reply
     → starts_by (Some (Answer 0 (name_of asked) reply.result)) ≡ true → Starts s past reply
-starts_so s past command.ConfigurationDone reply is starts = configures_so s past reply is starts
-starts_so s past (command.BadArguments k) reply is starts =
-    refused_not (name.Supported k) reply _ (ap (λ (r : Reply). r.result) is) starts
-starts_so s past asked reply is starts = never (name_of asked) reply.result refl starts
+starts_so s past asked reply is =
+    by_reaction (λ (r : Reply). starts_by (Some (Answer 0 (name_of asked) r.result)) ≡ true → Starts s past r)
+    (λ reaction. reaction_starts past) is
 
 -- an answer leads nowhere where what follows it does
 mark_through : (orders events answer : Option Situation) (s : Situation) → or_else orders events ≡ Some s

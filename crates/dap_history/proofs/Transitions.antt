@@ -1,5 +1,5 @@
 -- Each step leads where the table of transitions says, so the situation is where the steps lead from Fresh.
-use Rattle.std.proofs.Common.{◌≡◌, inl, inr, ℕ, List, [], ◌∷◌, ◌++◌, Bool, true, false, Option, None, Some, Result, Ok, Err, refl, sym, ◌∙◌, ap, subst, append-nil}
+use Rattle.std.proofs.Common.{◌≡◌, inl, inr, ℕ, List, [], ◌∷◌, ◌++◌, Bool, true, false, Option, None, Some, Result, Ok, refl, sym, ◌∙◌, ap, subst, append-nil}
 use Rattle.std.specs.Prelude.{map, unwrap_or, option_map}
 use Rattle.dap_msg.specs.Commands.{name_of}
 use Rattle.dap_msg.specs.declared.command.Command.{Command}
@@ -7,9 +7,9 @@ use Rattle.dap_msg.specs.declared.command.Command.TheVariants as command
 use Rattle.dap_msg.specs.declared.command.CommandName.{CommandName}
 use Rattle.dap_msg.specs.declared.command.CommandName.TheVariants as name
 use Rattle.dap_msg.specs.declared.command.Supported.TheVariants as supported
-use Rattle.dap_msg.specs.declared.requests.resume.ResumeKind.{ResumeKind}
+use Rattle.dap_msg.specs.declared.requests.resume.RetreatKind.{RetreatKind}
+use Rattle.dap_msg.specs.declared.requests.resume.ThreadArguments.{ThreadArguments}
 use Rattle.dap_msg.specs.declared.requests.set_breakpoints.SetBreakpointsArguments.{SetBreakpointsArguments}
-use Rattle.dap_msg.specs.declared.requests.initialize.InitializeArguments.{InitializeArguments}
 use Rattle.dap_msg.specs.declared.outgoing.Body.{Body}
 use Rattle.dap_msg.specs.declared.outgoing.Body.TheVariants as body
 use Rattle.dap_msg.specs.declared.outgoing.Refusal.{Refusal}
@@ -17,7 +17,6 @@ use Rattle.dap_msg.specs.declared.outgoing.Outgoing.{Outgoing}
 use Rattle.dap_msg.specs.declared.outgoing.Outgoing.TheVariants.{Answer, Event}
 use Rattle.dap_msg.specs.declared.outgoing.StopReason.TheVariants as stop
 use Rattle.dbg_plan.specs.Breakpoints.{Breakpoint}
-use Rattle.dbg_plan.specs.Due.{depth_at}
 use Rattle.dbg_plan.specs.declared.mode.Mode.{Mode}
 use Rattle.dbg_plan.specs.declared.mode.Reason.{Reason}
 use Rattle.dbg_runner.specs.declared.outcome.SliceOutcome.{SliceOutcome}
@@ -28,15 +27,15 @@ use Rattle.dap_history.specs.declared.situation.Situation.{Situation}
 use Rattle.dap_history.specs.declared.situation.Situation.TheVariants.{Fresh, Ready, Configuring, Running, Stopped, Faulted}
 use Rattle.dap_history.specs.Last.{or_else, last_such}
 use Rattle.dap_history.specs.History.{Launched, Item, Content, Loaded, Accepted, Fault, InputEnd, ReadFailure, MemoryFailure, Step, History, Effect, with_answer}
-use Rattle.dap_history.specs.Readings.{order_mark, message_mark, situation, position, plan, waiting_pause}
-use Rattle.dap_history.specs.Replies.{Reply, nothing, reporting, ordering, stopped_events, stop_of, exception_of, exited_events}
-use Rattle.dap_history.specs.Launching.{initialize_in, Launches}
+use Rattle.dap_history.specs.Readings.{order_mark, message_mark, situation, plan, waiting_pause}
+use Rattle.dap_history.specs.Replies.{Reply, nothing, ordering, stopped_events, stop_of, exception_of, exited_events}
+use Rattle.dap_history.specs.Launching.{Launches}
 use Rattle.dap_history.specs.Breakpoints.{effect_in, hold_once}
-use Rattle.dap_history.specs.Running.{resumes, first_logs, enters, mode_of}
+use Rattle.dap_history.specs.Running.{resumes, retreat_mode, due_first, first_logs, enters}
+use Rattle.dap_history.specs.Reactions.{Reaction, reply_of}
 use Rattle.dap_history.specs.Reports.{held_effect, report_effect}
 use Rattle.dap_history.specs.Emission.{RepliesIn, Answers, HasEffect, Causes}
 use Rattle.dap_history.specs.Events.{Incoming, Rest, IsHistoryOf}
-use Rattle.dap_history.specs.GoingBack.{back_by}
 use Rattle.dap_history.specs.Stops.{stop_of_event, IsStopped}
 use Rattle.dap_history.specs.Transitions.{runs_unless, report_leads, item_leads, after_step, after_steps, EachStepLeads, SituationIsAfterSteps}
 use Rattle.dap_history.proofs.Readings.{situation-snoc}
@@ -44,7 +43,7 @@ use Rattle.dap_history.proofs.Along.{IsTaken, IsKept, any_events, along}
 use Rattle.dap_history.proofs.Each.{WasTaken, EachTaken, each_kept, each_first}
 use Rattle.dap_history.proofs.Told.{stop_of_logs, mark_of_logs, stop_marks}
 use Rattle.dap_history.proofs.Silent.{first_at}
-use Rattle.dap_history.proofs.Shapes.{due_first, resume_kind_by, IsCalm, Shape, refuses, is_calm, sets, begins, resumes_by, is_over, retreats, interrupts, quits, shaped}
+use Rattle.dap_history.proofs.Reacted.{IsCalm, Reacted, by_refusing, by_answering, by_setting, by_starting, by_resuming, by_ending, by_retreating, by_interrupting, by_closing, by_reaction}
 use Rattle.dap_history.proofs.Outputs.{outputs_stop, outputs_mark, outputs_stop_not, outputs_unmarked}
 use Rattle.dap_history.proofs.Passing.{mark_of_effect}
 use Rattle.dap_history.proofs.GoingBack.{marks_are}
@@ -63,11 +62,6 @@ Fits s item answer effect =
 hold_unmarked : (past : History) → last_such order_mark (hold_once past) ≡ None
 hold_unmarked past = marks_are (hold_once past) ∙ ap (option_map (λ (run : Heading). Running)) (no_go_held past)
 
--- any command but `initialize`
-abbrev IsOther : Command → Type 0
-IsOther (command.Initialize a) = ⊥
-IsOther _ = Unit {0}
-
 module _ (seq : ℕ) (past : History) where
   -- the same for a request
   abbrev Leads : Situation → Command → Result Body Refusal → Effect → Type 0
@@ -77,20 +71,14 @@ module _ (seq : ℕ) (past : History) where
   abbrev ReplyLeads : Situation → Command → Reply → Type 0
   ReplyLeads s asked reply = Leads s asked reply.result reply.effect
 
-  initialize_leads : (s : Situation) (a : InitializeArguments) → ReplyLeads s (command.Initialize a) (initialize_in s)
-  initialize_leads Fresh a = refl
-  initialize_leads _ a = refl
-
-  calm_leads : (s : Situation) (asked : Command) (result : Result Body Refusal) → IsOther asked → IsCalm past s asked
-      → Leads s asked result nothing
-  calm_leads s (command.Initialize a) result other calm = absurd other
-  calm_leads s (command.Launch a) result other calm = absurd calm
-  calm_leads s command.ConfigurationDone result other calm = absurd calm
-  calm_leads s (command.Resume k a) result other calm = absurd calm
-  calm_leads s (command.Retreat k a) result other calm = absurd calm
-  calm_leads s (command.BadArguments k) result other calm = absurd calm
-  calm_leads s _ (Ok b) other calm = refl
-  calm_leads s _ (Err why) other calm = refl
+  calm_leads : (s : Situation) (asked : Command) (b : Body) → IsCalm past s asked b → Leads s asked (Ok b) nothing
+  calm_leads s (command.Initialize a) b calm =
+      subst (λ t. Leads t (command.Initialize a) (Ok b) nothing) (sym calm.0) refl
+  calm_leads s (command.SetBreakpoints a) b calm = refl
+  calm_leads s command.Threads b calm = refl
+  calm_leads s (command.Pause a) b calm = refl
+  calm_leads s (command.Inspect q) b calm = refl
+  calm_leads s _ b calm = absurd calm
 
   -- where the request is granted; the body of the answer doesn't matter
   abbrev Granted : Situation → Command → Effect → Type 0
@@ -112,61 +100,27 @@ module _ (seq : ℕ) (past : History) where
       (mark_of_logs (plan past).breakpoints (first_at past l) (stopped_events (stop_of r)) ∙ stop_marks r)
       ∙ sym (ap runs_unless (stop_of_logs (plan past).breakpoints (first_at past l) (stopped_events (stop_of r))))
 
-  forward_leads : (asked : Command) (resume_kind : ResumeKind) (l : Launched) (m : Mode)
-      → resume_kind_by asked ≡ Some resume_kind → Granted Stopped asked (ordering (resumes past l m))
-  forward_leads (command.Resume k a) resume_kind l m by = refl
-  forward_leads _ resume_kind l m by = absurd cc
+  back_leads : (s : Situation) (kind : RetreatKind) (a : ThreadArguments) (l : Launched) (m : Mode) → IsStopped s
+      → Granted s (command.Retreat kind a) (ordering (resumes past l m))
+  back_leads Stopped kind a l m stands = refl
+  back_leads Faulted kind a l m stands = refl
+  back_leads _ kind a l m stands = absurd stands
 
-  over_leads : (asked : Command) (resume_kind : ResumeKind) → resume_kind_by asked ≡ Some resume_kind
-      → Granted Faulted asked (reporting (exited_events 1))
-  over_leads (command.Resume k a) resume_kind by = refl
-  over_leads _ resume_kind by = absurd cc
-
-  back_leads : (s : Situation) (asked : Command) (m : Mode) (l : Launched) → IsStopped s → back_by asked ≡ Some m
-      → Granted s asked (ordering (resumes past l m))
-  back_leads Stopped (command.Retreat k a) m l stands by = refl
-  back_leads Faulted (command.Retreat k a) m l stands by = refl
-  back_leads Stopped _ m l stands by = absurd cc
-  back_leads Faulted _ m l stands by = absurd cc
-  back_leads _ asked m l stands by = absurd stands
-
-  module _ (reply : Reply) (s : Situation) (asked : Command) (other : IsOther asked) where
-    -- it leads as this reply does
-    as_reply : (known : Reply) → reply ≡ known → ReplyLeads s asked known → ReplyLeads s asked reply
-    as_reply known is leads = subst (ReplyLeads s asked) (sym is) leads
-
-    shape_leads : Shape past s asked reply → ReplyLeads s asked reply
-    shape_leads (refuses why is) = as_reply _ is refl
-    shape_leads (is_calm calm is) =
-        subst (Leads s asked reply.result) (sym is) (calm_leads s asked reply.result other calm)
-    shape_leads (sets a l by there same resolves) =
-        as_reply _ resolves.reply_is
-        (subst (λ c. Granted s c (effect_in (situation past) past resolves.breakpoints)) (sym by)
-        (sets_lead s (situation past) a resolves.breakpoints))
-    shape_leads (begins l by here there is) =
-        as_reply _ is
-        (subst (λ c. Granted s c (enters past l (due_first past l))) (sym by)
-        (subst (λ t. Granted t command.ConfigurationDone (enters past l (due_first past l))) (sym here)
-        (enters_leads l (due_first past l))))
-    shape_leads (resumes_by resume_kind l by here there is) =
-        let m = mode_of resume_kind (depth_at l.program (position past)) in
-        as_reply _ is
-        (subst (λ t. Granted t asked (ordering (resumes past l m))) (sym here) (forward_leads asked resume_kind l m by))
-    shape_leads (is_over resume_kind by here is) =
-        as_reply _ is
-        (subst (λ t. Granted t asked (reporting (exited_events 1))) (sym here) (over_leads asked resume_kind by))
-    shape_leads (retreats m l by back stands there is) = as_reply _ is (back_leads s asked m l stands by)
-    shape_leads (interrupts a by here is) =
-        as_reply _ is
-        (subst (λ c. Granted s c (ordering (hold_once past))) (sym by)
-        (ap (λ m. unwrap_or (or_else m None) s) (hold_unmarked past)))
-    shape_leads (quits by is) = as_reply _ is (subst (λ c. Granted s c (ordering (Quit ∷ []))) (sym by) refl)
+  reaction_leads : {s : Situation} {asked : Command} {reaction : Reaction} → Reacted past s asked reaction
+      → ReplyLeads s asked (reply_of past reaction)
+  reaction_leads (by_refusing s asked why) = refl
+  reaction_leads (by_answering s asked b calm) = calm_leads s asked b calm
+  reaction_leads (by_setting s a l found bs there path_is resolved) = sets_lead s (situation past) a bs
+  reaction_leads (by_starting l there) = enters_leads l (due_first past l)
+  reaction_leads (by_resuming kind a l there) = refl
+  reaction_leads (by_ending kind a) = refl
+  reaction_leads (by_retreating s kind a l stands there) = back_leads s kind a l (retreat_mode kind) stands
+  reaction_leads (by_interrupting a) = ap (λ m. unwrap_or (or_else m None) Running) (hold_unmarked past)
+  reaction_leads (by_closing s) = refl
 
   reply_leads : (reply : Reply) (s : Situation) (asked : Command) → RepliesIn s past asked reply
       → ReplyLeads s asked reply
-  reply_leads reply s (command.Initialize a) is =
-      subst (ReplyLeads s (command.Initialize a)) (sym is) (initialize_leads s a)
-  reply_leads reply s asked is = shape_leads reply s asked tt (shaped past reply s asked is)
+  reply_leads reply s asked is = by_reaction (ReplyLeads s asked) (λ reaction. reaction_leads) is
 
 -- ---- items
 

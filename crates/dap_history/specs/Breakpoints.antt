@@ -1,11 +1,8 @@
--- Defines `setBreakpoints`: how its lines are resolved, and what it is answered with and causes.
-use Rattle.std.specs.Prelude.{◌≡◌, ℕ, ◌+◌, ◌-◌, Bool, true, false, ◌||◌, List, [], ◌∷◌, map, slice_get, if◌then◌else◌, Option, Some, string_bytes}
+-- Defines `setBreakpoints`: how its lines are resolved, what they are answered with, and what they cause.
+use Rattle.std.specs.Prelude.{◌≡◌, ℕ, ◌+◌, ◌-◌, Bool, true, false, ◌||◌, List, [], ◌∷◌, slice_get, if◌then◌else◌, Option, Some, string_bytes}
 use Rattle.std.specs.Option.{option_map_or}
 use Rattle.std.specs.Str.{bytes_eq}
-use Rattle.dap_msg.specs.declared.requests.set_breakpoints.SetBreakpointsArguments.{SetBreakpointsArguments}
 use Rattle.dap_msg.specs.declared.requests.set_breakpoints.SourceBreakpoint.{SourceBreakpoint}
-use Rattle.dap_msg.specs.declared.outgoing.Body.TheVariants as body
-use Rattle.dap_msg.specs.declared.outgoing.Refusal.TheVariants as refusal
 use Rattle.dap_msg.specs.declared.outgoing.BreakpointAnswer.{BreakpointAnswer}
 use Rattle.dap_msg.specs.declared.outgoing.BreakpointAnswer.TheVariants as answer
 use Rattle.dap_msg.specs.declared.outgoing.BreakpointRefusal.TheVariants as why
@@ -19,9 +16,9 @@ use Rattle.dbg_plan.specs.declared.resolving.Resolution.{Resolution}
 use Rattle.dbg_plan.specs.declared.resolving.Resolution.TheVariants.{At, NoStep, BadCondition, BadHitCondition, BadLogMessage}
 use Rattle.dap_history.specs.declared.situation.Situation.{Situation}
 use Rattle.dap_history.specs.declared.situation.Situation.TheVariants.{Fresh, Ready, Configuring, Running, Stopped, Faulted, Ended}
-use Rattle.dap_history.specs.History.{Launched, History, Effect}
-use Rattle.dap_history.specs.Readings.{situation, settings, launched, runs, is_back, position, is_held}
-use Rattle.dap_history.specs.Replies.{Reply, nothing, answered, refused, causing, OfProgram}
+use Rattle.dap_history.specs.History.{History, Effect}
+use Rattle.dap_history.specs.Readings.{settings, runs, is_back, position, is_held}
+use Rattle.dap_history.specs.Replies.{nothing}
 
 -- ---- lines and columns, as the client counts them
 
@@ -75,11 +72,7 @@ answer_to_line main less BadCondition = answer.Unverified why.BadCondition
 answer_to_line main less BadHitCondition = answer.Unverified why.BadHitCondition
 answer_to_line main less BadLogMessage = answer.Unverified why.BadLogMessage
 
--- ---- the answer
-
--- the reply to lines of a source that isn't the launched one
-abbrev pub other_source : List SourceBreakpoint → Reply
-other_source lines = answered (body.Breakpoints (map (λ b. answer.Unverified why.OtherSource) lines))
+-- ---- what they cause
 
 -- The order to hold the current run, unless that was ordered before. A run that goes back isn't held.
 abbrev pub hold_once : History → List PlainOrder
@@ -98,30 +91,6 @@ effect_in Ended past bs = nothing
 effect_in Fresh past bs = nothing
 effect_in Ready past bs = nothing
 
--- the lines are those of the launched source
-pub record Resolves (past : History) (l : Launched) (lines : List SourceBreakpoint) (reply : Reply) : Type 0 where
-  pub answers : List Resolution
-  pub breakpoints : List Breakpoint
-  pub resolved : IsResolved l.program (line_offset past) lines answers breakpoints
-  pub reply_is : reply ≡ causing (body.Breakpoints (map (answer_to_line l.program (line_offset past)) answers))
-      (effect_in (situation past) past breakpoints)
-
 -- the source is at this path
 abbrev pub is_same_path : Option (List ℕ) → List ℕ → Bool
 is_same_path path other = option_map_or (λ p. bytes_eq p other) path false
-
--- the reply where a program is launched, by whether the source is the launched one
-abbrev pub SetsOf : Bool → History → Launched → List SourceBreakpoint → Reply → Type 0
-SetsOf true past l lines reply = Resolves past l lines reply
-SetsOf false past l lines reply = reply ≡ other_source lines
-
--- the reply where a program is launched
-abbrev pub Sets : History → SetBreakpointsArguments → Reply → Type 0
-Sets past arguments reply =
-    OfProgram (launched past) (λ l. SetsOf (is_same_path arguments.path l.path) past l arguments.breakpoints reply)
-
--- the reply to `setBreakpoints`
-abbrev pub SetsIn : Situation → History → SetBreakpointsArguments → Reply → Type 0
-SetsIn Fresh past arguments reply = reply ≡ refused refusal.WrongPhase
-SetsIn Ready past arguments reply = reply ≡ refused refusal.WrongPhase
-SetsIn _ past arguments reply = Sets past arguments reply

@@ -8,17 +8,13 @@ use Rattle.dap_msg.specs.declared.outgoing.Refusal.TheVariants as refusal
 use Rattle.pl0_tree.specs.Tree.{Block, Expression}
 use Rattle.pl0_tree.specs.Faults.{IsExpressionOf}
 use Rattle.pl0_meaning.specs.Values.{Frame, Configuration, value}
-use Rattle.pl0_meaning.specs.Runs.{at}
 use Rattle.dbg_plan.specs.Values.{answered as evaluated}
 use Rattle.dbg_plan.specs.declared.evaluation.EvalFault.{EvalFault}
 use Rattle.dbg_plan.specs.declared.evaluation.EvalFault.TheVariants.{Overflow, DivideByZero}
-use Rattle.dap_history.specs.declared.situation.Situation.{Situation}
-use Rattle.dap_history.specs.declared.situation.Situation.TheVariants.{Running, Stopped, Faulted}
 use Rattle.dap_history.specs.History.{Launched, History}
-use Rattle.dap_history.specs.Readings.{launched, position}
 use Rattle.dap_history.specs.Breakpoints.{line_offset, column_offset}
 use Rattle.dap_history.specs.Frames.{Counting, frames_asked, scopes_from, variables_of, frame_by_id}
-use Rattle.dap_history.specs.Replies.{Reply, answered, refused, OfProgram, on_thread}
+use Rattle.dap_history.specs.Replies.{Reply, answered, refused, on_thread}
 
 -- What a question is asked of: a program, its path, and how the client counts lines and columns.
 pub record Subject : Type 0 where
@@ -95,15 +91,3 @@ subject_in past l =
       counting =
           record { lines = line_offset past; columns = column_offset past };
     }
-
--- the reply where the program stands
-abbrev pub Inspects : History → Question → Reply → Type 0
-Inspects past question reply =
-    OfProgram (launched past) (λ l. RepliesAt (subject_in past l) (at l.program (position past)) question reply)
-
--- the reply to a question
-abbrev pub InspectsIn : Situation → History → Question → Reply → Type 0
-InspectsIn Running past question reply = reply ≡ refused refusal.NotStopped
-InspectsIn Stopped past question reply = Inspects past question reply
-InspectsIn Faulted past question reply = Inspects past question reply
-InspectsIn _ past question reply = reply ≡ refused refusal.WrongPhase

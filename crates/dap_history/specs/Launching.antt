@@ -1,5 +1,4 @@
--- Defines `initialize` and `launch`.
--- Profile: a session is initialized once, and launches one program, whose text has no fault.
+-- Defines `launch`. Profile: a session launches one program, whose text has no fault.
 use Rattle.std.specs.Prelude.{◌≡◌, ℕ, ◌⊎◌, List, [], ◌∷◌, Option, None, Some}
 use Rattle.dap_msg.specs.declared.requests.launch.LaunchArguments.{LaunchArguments}
 use Rattle.dap_msg.specs.declared.request.Request.{Request}
@@ -14,17 +13,10 @@ use Rattle.pl0_tree.specs.declared.tree.Place.{Place}
 use Rattle.pl0_tree.specs.declared.fault.FaultKind.{FaultKind}
 use Rattle.pl0_tree.specs.Faults.{fault_number, IsFirstFault, IsTreeOf}
 use Rattle.dap_history.specs.declared.situation.Situation.{Situation}
-use Rattle.dap_history.specs.declared.situation.Situation.TheVariants.{Fresh, Ready}
+use Rattle.dap_history.specs.declared.situation.Situation.TheVariants.{Ready}
 use Rattle.dap_history.specs.declared.launch.Launch.{Launch}
 use Rattle.dap_history.specs.History.{Effect}
-use Rattle.dap_history.specs.Replies.{Reply, nothing, answered, refused, causing}
-
--- the reply to `initialize`
-abbrev pub initialize_in : Situation → Reply
-initialize_in Fresh = answered body.Capabilities
-initialize_in _ = refused refusal.WrongPhase
-
--- ---- launching
+use Rattle.dap_history.specs.Replies.{Reply, nothing, refused, causing}
 
 -- the launch that a request asks for, which waits for its file, if it asks for one
 abbrev pub wanted_by : ℕ → Command → Option Launch

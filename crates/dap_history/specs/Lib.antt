@@ -11,16 +11,18 @@ pub mod History
 pub mod Readings
 -- what a command is answered with and causes
 pub mod Replies
--- `initialize` and `launch`
+-- `launch`
 pub mod Launching
 -- `setBreakpoints`
 pub mod Breakpoints
--- the commands that start, resume, go back and interrupt
+-- which runs the commands that start, resume and go back order
 pub mod Running
 -- what a client is shown of a configuration
 pub mod Frames
 -- the questions about the program where it stands
 pub mod Inspection
+-- which reaction a command has, and the reply of each
+pub mod Reactions
 -- which reports are accepted, and what they cause
 pub mod Reports
 -- what each item causes

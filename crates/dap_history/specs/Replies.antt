@@ -1,5 +1,5 @@
 -- Defines what a command is answered with, and what it causes after the answer.
-use Rattle.std.specs.Prelude.{ℕ, nat_eq, if◌then◌else◌, List, [], ◌∷◌, map, Option, None, Some, Result, Ok, Err}
+use Rattle.std.specs.Prelude.{ℕ, Bool, nat_eq, if◌then◌else◌, List, [], ◌∷◌, map, Option, None, Some, Result, Ok, Err}
 use Rattle.dap_msg.specs.declared.outgoing.Body.{Body}
 use Rattle.dap_msg.specs.declared.outgoing.Refusal.{Refusal}
 use Rattle.dap_msg.specs.declared.outgoing.Refusal.TheVariants as refusal
@@ -88,6 +88,10 @@ log_events breakpoints logs = map (λ log. event.Log (text_of_log breakpoints lo
 
 -- ---- the thread
 
--- the reply, if the thread is 1, the only one; otherwise a refusal
+-- the thread is 1, the only one
+abbrev pub is_main_thread : ℕ → Bool
+is_main_thread thread = nat_eq thread 1
+
+-- the reply, if the thread is the only one; otherwise a refusal
 abbrev pub on_thread : ℕ → Reply → Reply
-on_thread thread reply = if nat_eq thread 1 then reply else refused refusal.UnknownThread
+on_thread thread reply = if is_main_thread thread then reply else refused refusal.UnknownThread

@@ -27,6 +27,7 @@ use Rattle.dbg_plan.specs.declared.mode.Reason.TheVariants as reason
 use Rattle.dbg_runner.specs.Plain.{PlainReport, Go, Hold, Quit}
 use Rattle.dbg_runner.specs.declared.outcome.SliceOutcome.{SliceOutcome}
 use Rattle.dbg_runner.specs.declared.outcome.SliceOutcome.TheVariants as slice
+use Rattle.dap_history.specs.declared.situation.Situation.{Situation}
 use Rattle.dap_history.specs.declared.situation.Situation.TheVariants.{Fresh, Ready, Configuring, Running, Stopped, Faulted, Ended}
 use Rattle.dap_history.specs.History.{Content, Loaded, Accepted, InputEnd, Step, History, Effect}
 use Rattle.dap_history.specs.Readings.{from_one, situation, runs, position, reached, numbers_told, plan, waiting_plan, waiting_pause, is_held}
@@ -34,6 +35,7 @@ use Rattle.dap_history.specs.Replies.{Reply, nothing, ordering, answered, refuse
 use Rattle.dap_history.specs.Launching.{Launches, launches, syntax}
 use Rattle.dap_history.specs.Breakpoints.{effect_in}
 use Rattle.dap_history.specs.Reports.{Accepts, report_effect}
+use Rattle.dap_history.specs.Reactions.{Reaction, reply_of}
 use Rattle.dap_history.specs.Emission.{RepliesIn, Causes}
 use Rattle.dap_history.specs.Transitions.{after_step, after_steps}
 use Rattle.dap_history.specs.ShownQ.{main as text_q}
@@ -41,6 +43,11 @@ use Rattle.dap_history.specs.ShownQ.{main as text_q}
 abbrev IsZero : ℕ → Type 0
 IsZero zero = Unit {0}
 IsZero (suc n) = ⊥
+
+-- the reply, where the table has this reaction alone
+replied : {s : Situation} {past : History} {asked : Command} {reply : Reply} {this : Reaction}
+    → (is : RepliesIn s past asked reply) → is.reaction ≡ this → reply ≡ reply_of past this
+replied {past = past} {reply = reply} is only = subst (λ r. reply ≡ reply_of past r) only is.reply_is
 
 abbrev taken : ℕ → Command → Reply → Step
 taken seq asked reply =
@@ -83,7 +90,7 @@ module _ (text : List ℕ) (program : Block) (path : List ℕ) (bs : List Breakp
               ∷ [];
         };
       }
-  configures reply is = is
+  configures reply is = replied is is.reacts
 
   abbrev running : History
   running =
@@ -136,7 +143,7 @@ module _ (text : List ℕ) (program : Block) (path : List ℕ) (bs : List Breakp
 
   pauses : (reply : Reply) → RepliesIn (situation further) further (command.Pause (record { thread_id = 1 })) reply
       → reply ≡ record { result = Ok body.None; effect = record nothing { orders = Hold 1 ∷ [] } }
-  pauses reply is = is
+  pauses reply is = replied is is.reacts
 
   abbrev paused : History
   paused = further ++ taken 4 (command.Pause (record { thread_id = 1 }))
@@ -145,7 +152,7 @@ module _ (text : List ℕ) (program : Block) (path : List ℕ) (bs : List Breakp
   -- a second pause holds no more
   pauses_again : (reply : Reply) → RepliesIn (situation paused) paused (command.Pause (record { thread_id = 1 })) reply
       → reply ≡ answered body.None
-  pauses_again reply is = is
+  pauses_again reply is = replied is is.reacts
 
   stops_paused : report_effect paused (report 256 256 slice.Held) slice.Held ≡ record nothing
       { events = event.Stopped stop.Pause ∷ [] }
@@ -215,7 +222,7 @@ module _ (text : List ℕ) (program : Block) (path : List ℕ) (bs : List Breakp
               ∷ [];
         };
       }
-  reverses reply is = is
+  reverses reply is = replied is is.reacts
 
   abbrev going_back : History
   going_back =
@@ -231,7 +238,7 @@ module _ (text : List ℕ) (program : Block) (path : List ℕ) (bs : List Breakp
   -- a pause and breakpoints hold nothing there
   pauses_not : (reply : Reply) → RepliesIn (situation going_back) going_back (command.Pause (record { thread_id = 1 }))
       reply → reply ≡ answered body.None
-  pauses_not reply is = is
+  pauses_not reply is = replied is is.reacts
 
   waits_alone : effect_in (situation going_back) going_back bs ≡ record nothing { waits = Some bs }
   waits_alone = refl
@@ -314,11 +321,11 @@ module _ (text : List ℕ) (program : Block) (path : List ℕ) (bs : List Breakp
   -- `continue` is refused in Running, and before a fault it ends the program
   refused_there : (reply : Reply) → RepliesIn Running again continues reply
       → after_step Running (taken 6 continues reply) ≡ Running
-  refused_there reply is = ap (λ (r : Reply). after_step Running (taken 6 continues r)) is
+  refused_there reply is = ap (λ (r : Reply). after_step Running (taken 6 continues r)) (replied is is.reacts)
 
   ends_there : (reply : Reply) → RepliesIn Faulted again continues reply
       → after_step Faulted (taken 6 continues reply) ≡ Ended
-  ends_there reply is = ap (λ (r : Reply). after_step Faulted (taken 6 continues r)) is
+  ends_there reply is = ap (λ (r : Reply). after_step Faulted (taken 6 continues r)) (replied is is.reacts)
 
   -- ---- while the program runs
 
@@ -326,7 +333,7 @@ module _ (text : List ℕ) (program : Block) (path : List ℕ) (bs : List Breakp
   refused_running : (reply : Reply) → RepliesIn (situation running) running
       (command.Inspect (question.StackTrace (record { thread_id = 1; start_frame = 0; levels = 0 }))) reply
       → reply ≡ refused refusal.NotStopped
-  refused_running reply is = is
+  refused_running reply is = replied is is.reacts
 
   -- a report that comes twice is not accepted again: the next one is expected where the first ended
   not_twice : ¬ Accepts further (report 0 256 slice.More)
@@ -358,7 +365,7 @@ module _ (text path : List ℕ) where
   -- the program stops at position 0, and no run is ordered
   enters : (reply : Reply) → RepliesIn (situation on_entry) on_entry command.ConfigurationDone reply
       → reply ≡ entering
-  enters reply is = is
+  enters reply is = replied is is.reacts
 
   abbrev entered : History
   entered = on_entry ++ taken 3 command.ConfigurationDone entering ∷ []
@@ -373,7 +380,7 @@ module _ (text path : List ℕ) where
               ∷ [];
         };
       }
-  steps reply is = is
+  steps reply is = replied is is.reacts
 
 -- it stops at position 1, where one frame is live
 steps_once : due text_q [] 0 (mode.Over 1) 1 ≡ Some reason.Step

@@ -10,9 +10,11 @@ use Rattle.dap_msg.specs.declared.outgoing.Body.{Body}
 use Rattle.dap_msg.specs.declared.outgoing.Refusal.{Refusal}
 use Rattle.dap_history.specs.History.{History, Launched}
 use Rattle.dap_history.specs.Readings.{position}
-use Rattle.dap_history.specs.Inspection.{RepliesFrom, RepliesAt, subject_in, Inspects}
+use Rattle.dap_history.specs.Inspection.{RepliesFrom, RepliesAt, subject_in}
+use Rattle.dap_history.specs.Reactions.{InspectsAs}
 use Rattle.dap_history.specs.Replies.{Reply, OfProgram}
 use Rattle.dap_history.specs.Emission.{RepliesIn}
+use Rattle.dap_history.proofs.Questions.{HasReaction, reaction_there}
 use Rattle.dap_inspection.specs.Questions.{subject_of, replied}
 use Rattle.dap_phase.specs.declared.phase.Target.{Target}
 use Rattle.dap_phase.specs.declared.phase.Phase.{Phase}
@@ -28,7 +30,7 @@ there (Some c) alive = refl
 pub inspected :
     (t : Target) (d : Debugged) (past : History) → IsTarget t d.unit past → IsDebuggee d past → IsConsidered d
     → (question : Question) (reply : Reply) → RepliesFrom (subject_of d t.path t.settings) (frames (machine_of d))
-    question reply → Inspects past question reply
+    question reply → InspectsAs past question reply
 inspected t d past target stands considered question reply from =
     let l : Launched =
     record {
@@ -55,12 +57,15 @@ pub answers_there :
 answers_there p t kept d stands same considered question result from past phase_is =
     elim stands [
       | inl stopped ↦ subst (λ p. RepliesIn (situation_of p) past (Inspect question) (replied result)) (sym stopped)
-          (inspects (subst (λ p. IsPhase p past) stopped phase_is).keeps)
+          (let made = inspects (subst (λ p. IsPhase p past) stopped phase_is).keeps in
+          record { reaction = made.0; reacts = made.1; reply_is = made.2 })
       | inr faulted ↦ subst (λ p. RepliesIn (situation_of p) past (Inspect question) (replied result)) (sym faulted)
-          (inspects (subst (λ p. IsPhase p past) faulted phase_is).keeps)
+          (let made = inspects (subst (λ p. IsPhase p past) faulted phase_is).keeps in
+          record { reaction = made.0; reacts = made.1; reply_is = made.2 })
     ]
   where
-    inspects : IsTarget t kept.unit past × IsDebuggee kept past → Inspects past question (replied result)
+    inspects : IsTarget t kept.unit past × IsDebuggee kept past → HasReaction past question (replied result)
     inspects there =
-        inspected t d past (subst (λ d. IsTarget t d.unit past) (sym same) there.0)
-        (subst (λ d. IsDebuggee d past) (sym same) there.1) considered question (replied result) from
+        reaction_there past question (replied result)
+        (inspected t d past (subst (λ d. IsTarget t d.unit past) (sym same) there.0)
+        (subst (λ d. IsDebuggee d past) (sym same) there.1) considered question (replied result) from)

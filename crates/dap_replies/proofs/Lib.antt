@@ -26,6 +26,9 @@ pub mod Lines
 -- What `setBreakpoints` is replied, and that the phase afterwards represents the longer history; for the functions of
 -- `breakpoints`.
 pub mod SetBreakpoints
+-- What a granted `pause` is replied, and that the phase afterwards represents the longer history; for `interrupt` and
+-- `remain`.
+pub mod Paused
 -- The number of reported numbers stays below the bound on steps, and a quiet report has none; for `fresh` and
 -- `keep_running`.
 pub mod Fresh

@@ -4,17 +4,16 @@ use Rattle.dap_msg.specs.declared.command.Command.TheVariants as command
 use Rattle.dap_msg.specs.declared.outgoing.Refusal.{Refusal}
 use Rattle.dap_msg.specs.declared.outgoing.Refusal.TheVariants as refusal
 use Rattle.dap_msg.specs.declared.requests.resume.ResumeKind.{ResumeKind}
+use Rattle.dap_msg.specs.declared.requests.resume.RetreatKind.{RetreatKind}
 use Rattle.dap_msg.specs.declared.requests.resume.ThreadArguments.{ThreadArguments}
 use Rattle.dap_history.specs.declared.situation.Situation.{Situation}
 use Rattle.dap_history.specs.History.{History}
-use Rattle.dap_history.specs.Replies.{Reply, refused, on_thread}
-use Rattle.dap_history.specs.Running.{ConfiguresIn, ResumesIn, RetreatsIn, retreat_mode}
+use Rattle.dap_history.specs.Reactions.{Reaction, Refuse, for_thread, Reacts}
 use Rattle.dap_phase.specs.declared.phase.Phase.{Phase}
 use Rattle.dap_phase.specs.declared.phase.Phase.TheVariants as phase
 use Rattle.dap_phase.specs.declared.phase.Target.{Target}
 use Rattle.dap_phase.specs.Runs.{OrderedRun}
 use Rattle.dbg_plan.specs.Debugged.{Debugged}
-use Rattle.dbg_plan.specs.declared.mode.Mode.{Mode}
 use Rattle.dap_phase.specs.Phases.{IsPhase, situation_of}
 use Rattle.dap_replies.specs.declared.effect.Reply.{Reply as Given}
 use Rattle.dap_replies.specs.Answering.{Refuses, RefusesToMove}
@@ -26,40 +25,46 @@ use Rattle.dap_replies.specs.declared.standing.StandsAt.TheVariants.{Stop, Fault
 
 -- the configuration is over, or didn't begin
 pub not_configuring : (p : Phase) (past : History) → ((t : Target) (d : Debugged) → p ≡ phase.Configuring t d → ⊥)
-    → ConfiguresIn (situation_of p) past (refused refusal.WrongPhase)
+    → Reacts (situation_of p) past command.ConfigurationDone (Refuse refusal.WrongPhase)
 not_configuring (phase.Configuring t d) past not = absurd (not t d refl)
 not_configuring _ past not = refl
 
 -- Commands to this thread that resume the program or go back are refused for this reason.
-abbrev pub AreRefused : Situation → History → ℕ → Refusal → Type 0
-AreRefused s past thread why =
-    ((kind : ResumeKind) → ResumesIn s past kind thread (refused why))
-    × ((m : Mode) → RetreatsIn s past m thread (refused why))
+abbrev pub AreRefused : Situation → History → ThreadArguments → Refusal → Type 0
+AreRefused s past asked why =
+    ((kind : ResumeKind) → Reacts s past (command.Resume kind asked) (Refuse why))
+    × ((kind : RetreatKind) → Reacts s past (command.Retreat kind asked) (Refuse why))
 
 -- then a reply that refuses for this reason is right for them
 pub refuses_moves : (p : Phase) (asked : ThreadArguments) (why : Refusal) (given : Given) → Refuses why p given
-    → ((past : History) → IsPhase p past → AreRefused (situation_of p) past asked.thread_id why)
+    → ((past : History) → IsPhase p past → AreRefused (situation_of p) past asked why)
     → RefusesToMove asked p given
 refuses_moves p asked why given refuses are = (
   λ kind past is. refuses (command.Resume kind asked) past is ((are past is).0 kind),
-  λ kind past is. refuses (command.Retreat kind asked) past is ((are past is).1 (retreat_mode kind)),
+  λ kind past is. refuses (command.Retreat kind asked) past is ((are past is).1 kind),
 )
 
 -- no program has begun, or it is over
-pub nothing_moves : (p : Phase) (past : History) (thread : ℕ)
+pub nothing_moves : (p : Phase) (past : History) (asked : ThreadArguments)
     → ((t : Target) (d : Debugged) → p ≡ phase.Stopped t d → ⊥)
     → ((t : Target) (d : Debugged) → p ≡ phase.Faulted t d → ⊥)
     → ((t : Target) (run : OrderedRun) → p ≡ phase.Running t run → ⊥)
-    → AreRefused (situation_of p) past thread refusal.WrongPhase
-nothing_moves (phase.Stopped t d) past thread not_stopped not_faulted not_running = absurd (not_stopped t d refl)
-nothing_moves (phase.Faulted t d) past thread not_stopped not_faulted not_running = absurd (not_faulted t d refl)
-nothing_moves (phase.Running t run) past thread not_stopped not_faulted not_running = absurd (not_running t run refl)
-nothing_moves _ past thread not_stopped not_faulted not_running = (λ kind. refl, λ m. refl)
+    → AreRefused (situation_of p) past asked refusal.WrongPhase
+nothing_moves (phase.Stopped t d) past asked not_stopped not_faulted not_running = absurd (not_stopped t d refl)
+nothing_moves (phase.Faulted t d) past asked not_stopped not_faulted not_running = absurd (not_faulted t d refl)
+nothing_moves (phase.Running t run) past asked not_stopped not_faulted not_running = absurd (not_running t run refl)
+nothing_moves _ past asked not_stopped not_faulted not_running = (λ kind. refl, λ kind. refl)
 
--- no thread but number 1 is known
-pub unknown_thread : (thread : ℕ) (reply : Reply) → nat_eq thread 1 ≡ false
-    → refused refusal.UnknownThread ≡ on_thread thread reply
-unknown_thread thread reply other = ap (λ b. if b then reply else refused refusal.UnknownThread) (sym other)
+-- the only thread is known
+pub known_thread : (asked : ThreadArguments) (reaction : Reaction) → asked.thread_id ≡ 1
+    → reaction ≡ for_thread asked reaction
+known_thread asked reaction one =
+    ap (λ n. if nat_eq n 1 then reaction else Refuse refusal.UnknownThread) (sym one)
+
+-- no other is
+pub unknown_thread : (asked : ThreadArguments) (reaction : Reaction) → nat_eq asked.thread_id 1 ≡ false
+    → Refuse refusal.UnknownThread ≡ for_thread asked reaction
+unknown_thread asked reaction other = ap (λ b. if b then reaction else Refuse refusal.UnknownThread) (sym other)
 
 -- ---- phases in which a command isn't served
 

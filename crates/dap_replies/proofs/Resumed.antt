@@ -27,8 +27,9 @@ use Rattle.dap_history.specs.Last.{or_else, last_such}
 use Rattle.dap_history.specs.History.{Launched, History, Effect}
 use Rattle.dap_history.specs.Readings.{situation, launched, runs, position, plan, settings_of, answer_mark, message_mark}
 use Rattle.dap_history.specs.ReadingLaws.{ReadingsGoOn}
-use Rattle.dap_history.specs.Replies.{Reply, nothing, reporting, ordering, causing, stop_of, stopped_events, exited_events, log_events, OfProgram, on_thread}
-use Rattle.dap_history.specs.Running.{goes, resumes, first_mode, first_logs, enters, ConfiguresIn, ResumesIn, Retreats, RetreatsIn, retreat_mode, mode_of, body_of}
+use Rattle.dap_history.specs.Replies.{nothing, reporting, ordering, causing, stop_of, stopped_events, exited_events, log_events, OfProgram}
+use Rattle.dap_history.specs.Running.{goes, resumes, first_mode, first_logs, enters, retreat_mode, mode_of, body_of}
+use Rattle.dap_history.specs.Reactions.{Start, Resume, End, Retreat, for_thread, Retreats, Reacts}
 use Rattle.dap_history.proofs.Told.{numbers_in, numbers_of_logs, mark_of_logs}
 use Rattle.dap_history.specs.Emission.{RepliesIn}
 use Rattle.dap_phase.specs.declared.phase.Phase.{Phase}
@@ -42,10 +43,10 @@ use Rattle.dap_replies.specs.Replied.{request_step, HasReplied}
 use Rattle.dap_replies.specs.declared.standing.StandsAt.{StandsAt}
 use Rattle.dap_replies.specs.declared.standing.StandsAt.TheVariants as stands_at
 use Rattle.dap_replies.specs.Going.{HasGone, HasStopped, HasEnded, IsOver, phase_at}
-use Rattle.dap_replies.proofs.Situations.{launched_as, replies_there}
+use Rattle.dap_replies.proofs.Situations.{launched_as, replies_by}
 use Rattle.dap_replies.proofs.Begun.{run_begins}
 use Rattle.dap_msg.specs.declared.outgoing.Refusal.TheVariants as refusal
-use Rattle.dap_replies.proofs.Refused.{AreRefused, unknown_thread}
+use Rattle.dap_replies.proofs.Refused.{AreRefused, known_thread, unknown_thread}
 use Rattle.dap_replies.proofs.Stays.{told_stays, target_stays, debuggee_stays}
 
 -- ---- the definitions
@@ -72,16 +73,15 @@ pub configures : (t : Target) (d : Debugged) (m : Mode) (why : Option Reason) (p
 configures t d m why past m_is why_is is =
     let is_d = is.keeps.1 in
     let l = launched_as t d.unit in
-    subst (λ s. ConfiguresIn s past (causing body.None (enters past l why))) (sym is.situation_is)
-    (of_program (launched past) l (λ k. causing body.None (enters past l why) ≡ causing body.None
-    (enters past k (due k.program (plan past).breakpoints (plan past).counted_from (first_mode k) 0)))
-    is.keeps.0.launched_is
+    replies_by (phase.Configuring t d) past is command.ConfigurationDone (Start l)
+    (of_program (launched past) l (λ k. Start l ≡ Start k) is.keeps.0.launched_is refl)
+    (causing body.None (enters past l why))
     (ap (λ r. causing body.None (enters past l r))
     (why_is
     ∙ ap (λ m. due l.program d.breakpoints d.counted_from m d.position) m_is
     ∙ ap (λ bs. due l.program bs d.counted_from (first_mode l) d.position) is_d.breakpoints_are
     ∙ ap (λ n. due l.program (plan past).breakpoints n (first_mode l) d.position) is_d.counted_from_is
-    ∙ ap (λ n. due l.program (plan past).breakpoints (plan past).counted_from (first_mode l) n) is.keeps.2)))
+    ∙ ap (λ n. due l.program (plan past).breakpoints (plan past).counted_from (first_mode l) n) is.keeps.2))
 
 -- ---- what follows an answer
 
@@ -261,16 +261,13 @@ pub resumes_there : ReadingsGoOn → (t : Target) (d : Debugged) (m : Mode) (bod
 resumes_there laws t d m body kind asked past given one body_is m_is gone is =
     let l = launched_as t d.unit in
     goes_on laws (command.Resume kind asked) t d m body [] past given refl refl is.keeps.0 is.keeps.1 gone
-    (subst (λ s. ResumesIn s past kind asked.thread_id (causing body (ordering (resumes past l m))))
-    (sym is.situation_is)
-    (of_program (launched past) l (λ k. causing body (ordering (resumes past l m)) ≡ on_thread asked.thread_id
-    (causing (body_of kind) (ordering (resumes past k (mode_of kind (depth_at k.program (position past)))))))
-    is.keeps.0.launched_is
+    (replies_by (phase.Stopped t d) past is (command.Resume kind asked) (Resume l kind)
+    (of_program (launched past) l (λ k. Resume l kind ≡ for_thread asked (Resume k kind)) is.keeps.0.launched_is
+    (known_thread asked (Resume l kind) one))
+    (causing body (ordering (resumes past l m)))
     (ap (λ b. causing b (ordering (resumes past l m))) body_is
     ∙ ap (λ m. causing (body_of kind) (ordering (resumes past l m)))
-    (m_is ∙ ap (λ n. mode_of kind (depth_at l.program n)) is.keeps.1.position_is)
-    ∙ ap (λ n. on_thread n (causing (body_of kind)
-    (ordering (resumes past l (mode_of kind (depth_at l.program (position past))))))) (sym one))))
+    (m_is ∙ ap (λ n. mode_of kind (depth_at l.program n)) is.keeps.1.position_is)))
 
 -- a program that faulted is over
 pub ends_faulted : ReadingsGoOn → (t : Target) (d : Debugged) (body : Body) (kind : ResumeKind)
@@ -279,21 +276,19 @@ pub ends_faulted : ReadingsGoOn → (t : Target) (d : Debugged) (body : Body) (k
     → HasReplied (command.Resume kind asked) past given
 ends_faulted laws t d body kind asked past given one body_is ended is =
     ends_there laws (command.Resume kind asked) t d.unit body past given refl is.keeps.0 ended
-    (subst (λ s. ResumesIn s past kind asked.thread_id (causing body (reporting (exited_events 1))))
-    (sym is.situation_is)
-    (ap (λ b. causing b (reporting (exited_events 1)))
-    body_is ∙ ap (λ n. on_thread n (causing (body_of kind) (reporting (exited_events 1)))) (sym one)))
+    (replies_by (phase.Faulted t d) past is (command.Resume kind asked) (End kind)
+    (known_thread asked (End kind) one) (causing body (reporting (exited_events 1)))
+    (ap (λ b. causing b (reporting (exited_events 1))) body_is))
 
 -- ---- `stepBack` and `reverseContinue`
 
--- the reply of the definitions
-retreats : (t : Target) (d : Debugged) (m : Mode) (thread : ℕ) (past : History) → thread ≡ 1 → IsTarget t d.unit past
-    → Retreats past m thread (causing body.None (goes_after [] (resumes past (launched_as t d.unit) m)))
-retreats t d m thread past one is_t =
+-- the reaction of the definitions
+retreats : (t : Target) (d : Debugged) (kind : RetreatKind) (asked : ThreadArguments) (past : History)
+    → asked.thread_id ≡ 1 → IsTarget t d.unit past → Retreats past kind asked (Retreat (launched_as t d.unit) kind)
+retreats t d kind asked past one is_t =
     let l = launched_as t d.unit in
-    of_program (launched past) l (λ k. causing body.None (goes_after [] (resumes past l m)) ≡ on_thread thread
-    (causing body.None (ordering (resumes past k m)))) is_t.launched_is
-    (ap (λ n. on_thread n (causing body.None (ordering (resumes past l m)))) (sym one))
+    of_program (launched past) l (λ k. Retreat l kind ≡ for_thread asked (Retreat k kind)) is_t.launched_is
+    (known_thread asked (Retreat l kind) one)
 
 -- the program goes back from a stop or from a fault
 pub returns_there : ReadingsGoOn → (s : StandsAt) (t : Target) (d : Debugged) (kind : RetreatKind)
@@ -304,31 +299,32 @@ returns_there laws s t d kind asked past given one gone is =
     let there = keeps_there s t d past is in
     let m = retreat_mode kind in
     goes_on laws (command.Retreat kind asked) t d m body.None [] past given refl refl there.0 there.1 gone
-    (replies_there (phase_at s t d) past is (command.Retreat kind asked)
-    (causing body.None (goes_after [] (resumes past (launched_as t d.unit) m)))
-    (retreats_there s t d past m asked.thread_id _ (retreats t d m asked.thread_id past one there.0)))
+    (replies_by (phase_at s t d) past is (command.Retreat kind asked) (Retreat (launched_as t d.unit) kind)
+    (retreats_there s t d past (retreats t d kind asked past one there.0))
+    (causing body.None (goes_after [] (resumes past (launched_as t d.unit) m))) refl)
   where
     keeps_there : (s : StandsAt) (t : Target) (d : Debugged) (past : History) → IsPhase (phase_at s t d) past
         → IsTarget t d.unit past × IsDebuggee d past
     keeps_there stands_at.Stop t d past is = is.keeps
     keeps_there stands_at.Fault t d past is = is.keeps
 
-    retreats_there : (s : StandsAt) (t : Target) (d : Debugged) (past : History) (m : Mode) (thread : ℕ)
-        (reply : Reply) → Retreats past m thread reply
-        → RetreatsIn (situation_of (phase_at s t d)) past m thread reply
-    retreats_there stands_at.Stop t d past m thread reply is = is
-    retreats_there stands_at.Fault t d past m thread reply is = is
+    retreats_there : (s : StandsAt) (t : Target) (d : Debugged) (past : History)
+        → Retreats past kind asked (Retreat (launched_as t d.unit) kind)
+        → Reacts (situation_of (phase_at s t d)) past (command.Retreat kind asked) (Retreat (launched_as t d.unit) kind)
+    retreats_there stands_at.Stop t d past is = is
+    retreats_there stands_at.Fault t d past is = is
 
 -- ---- refusals
 
 -- another thread is asked for, where the program stands
-pub unknown_there : (s : StandsAt) (t : Target) (d : Debugged) (thread : ℕ) (past : History) → nat_eq thread 1 ≡ false
-    → IsPhase (phase_at s t d) past → AreRefused (situation_of (phase_at s t d)) past thread refusal.UnknownThread
-unknown_there stands_at.Stop t d thread past other is = (
-  λ kind. of_program (launched past) (launched_as t d.unit) _ is.keeps.0.launched_is (unknown_thread thread _ other),
-  λ m. of_program (launched past) (launched_as t d.unit) _ is.keeps.0.launched_is (unknown_thread thread _ other),
+pub unknown_there : (s : StandsAt) (t : Target) (d : Debugged) (asked : ThreadArguments) (past : History)
+    → nat_eq asked.thread_id 1 ≡ false → IsPhase (phase_at s t d) past
+    → AreRefused (situation_of (phase_at s t d)) past asked refusal.UnknownThread
+unknown_there stands_at.Stop t d asked past other is = (
+  λ kind. of_program (launched past) (launched_as t d.unit) _ is.keeps.0.launched_is (unknown_thread asked _ other),
+  λ kind. of_program (launched past) (launched_as t d.unit) _ is.keeps.0.launched_is (unknown_thread asked _ other),
 )
-unknown_there stands_at.Fault t d thread past other is = (
-  λ kind. unknown_thread thread _ other,
-  λ m. of_program (launched past) (launched_as t d.unit) _ is.keeps.0.launched_is (unknown_thread thread _ other),
+unknown_there stands_at.Fault t d asked past other is = (
+  λ kind. unknown_thread asked _ other,
+  λ kind. of_program (launched past) (launched_as t d.unit) _ is.keeps.0.launched_is (unknown_thread asked _ other),
 )

@@ -18,13 +18,14 @@ use Rattle.dbg_runner.specs.Orders.{plain_order}
 use Rattle.dbg_runner.specs.declared.order.Order.{Order}
 use Rattle.dap_history.specs.Last.{or_else, last_such}
 use Rattle.dap_history.specs.Plans.{Plan}
-use Rattle.dap_history.specs.declared.situation.Situation.{Situation}
-use Rattle.dap_history.specs.declared.situation.Situation.TheVariants.{Configuring, Running, Stopped, Faulted}
+use Rattle.dap_history.specs.declared.situation.Situation.TheVariants.{Running}
 use Rattle.dap_history.specs.History.{Step, History}
 use Rattle.dap_history.specs.ReadingLaws.{ReadingsGoOn}
-use Rattle.dap_history.specs.Readings.{order_mark, situation, settings, go, runs, is_back, position, waiting_plan, hold_mark, is_held}
-use Rattle.dap_history.specs.Replies.{Reply, nothing, causing, OfProgram}
-use Rattle.dap_history.specs.Breakpoints.{offset, IsResolved, answer_to_line, other_source, effect_in, is_same_path, SetsOf, Sets, SetsIn}
+use Rattle.dap_history.specs.Readings.{order_mark, situation, go, runs, is_back, position, waiting_plan, hold_mark, is_held}
+use Rattle.dap_history.specs.Replies.{Reply, nothing, answered, causing, OfProgram}
+use Rattle.dap_history.specs.Breakpoints.{offset, IsResolved, answer_to_line, effect_in, is_same_path}
+use Rattle.dap_history.specs.Reactions.{Reaction, Answer, SetBreakpoints, other_source, SetsOf, Sets, Reacts}
+use Rattle.dap_history.specs.Emission.{RepliesIn}
 use Rattle.dap_phase.specs.declared.phase.Phase.{Phase}
 use Rattle.dap_phase.specs.declared.phase.Phase.TheVariants as phase
 use Rattle.dap_phase.specs.declared.phase.Target.{Target}
@@ -41,31 +42,42 @@ use Rattle.dap_replies.proofs.Stays.{situation_stays, target_stays, position_sta
 
 -- ---- the reply
 
-sets : (past : History) (t : Target) (u : Compiled) (asked : SetBreakpointsArguments) (reply : Reply)
+sets : (past : History) (t : Target) (u : Compiled) (asked : SetBreakpointsArguments) (reaction : Reaction)
     → IsTarget t u past
-    → SetsOf (is_same_path asked.path t.path) past (launched_as t u) asked.breakpoints reply → Sets past asked reply
-sets past t u asked reply target of =
-    subst (λ o. OfProgram o (λ l. SetsOf (is_same_path asked.path l.path) past l asked.breakpoints reply))
+    → SetsOf (is_same_path asked.path t.path) past (launched_as t u) asked.breakpoints reaction
+    → Sets past asked reaction
+sets past t u asked reaction target of =
+    subst (λ o. OfProgram o (λ l. SetsOf (is_same_path asked.path l.path) past l asked.breakpoints reaction))
     (sym target.launched_is) of
+
+-- lines of another source are answered alone
+abbrev answers_other : SetBreakpointsArguments → Reaction
+answers_other asked = Answer (body.Breakpoints (other_source asked.breakpoints))
 
 -- lines of another source
 sets_other : (past : History) (t : Target) (u : Compiled) (asked : SetBreakpointsArguments) → IsTarget t u past
-    → not (is_same_path asked.path t.path) ≡ true → Sets past asked (other_source asked.breakpoints)
+    → not (is_same_path asked.path t.path) ≡ true → Sets past asked (answers_other asked)
 sets_other past t u asked target other =
-    let reply = other_source asked.breakpoints in
-    sets past t u asked reply target (subst (λ b. SetsOf b past (launched_as t u) asked.breakpoints reply)
+    let reaction = answers_other asked in
+    sets past t u asked reaction target (subst (λ b. SetsOf b past (launched_as t u) asked.breakpoints reaction)
     (sym (not-true (is_same_path asked.path t.path) other)) refl)
 
+reacts_other : (p : Phase) (past : History) (asked : SetBreakpointsArguments) → is_other p asked.path ≡ true
+    → IsPhase p past → Reacts (situation_of p) past (command.SetBreakpoints asked) (answers_other asked)
+reacts_other phase.Fresh past asked other is = absurd cc
+reacts_other (phase.Ready s) past asked other is = absurd cc
+reacts_other (phase.Launching s launch) past asked other is = absurd cc
+reacts_other (phase.Configuring t d) past asked other is = sets_other past t d.unit asked is.keeps.0 other
+reacts_other (phase.Running t run) past asked other is = sets_other past t run.unit asked is.keeps.0 other
+reacts_other (phase.Stopped t d) past asked other is = sets_other past t d.unit asked is.keeps.0 other
+reacts_other (phase.Faulted t d) past asked other is = sets_other past t d.unit asked is.keeps.0 other
+reacts_other (phase.Ended t u) past asked other is = sets_other past t u.value asked is.keeps other
+
 pub replies_other : (p : Phase) (past : History) (asked : SetBreakpointsArguments) → is_other p asked.path ≡ true
-    → IsPhase p past → SetsIn (situation_of p) past asked (other_source asked.breakpoints)
-replies_other phase.Fresh past asked other is = absurd cc
-replies_other (phase.Ready s) past asked other is = absurd cc
-replies_other (phase.Launching s launch) past asked other is = absurd cc
-replies_other (phase.Configuring t d) past asked other is = sets_other past t d.unit asked is.keeps.0 other
-replies_other (phase.Running t run) past asked other is = sets_other past t run.unit asked is.keeps.0 other
-replies_other (phase.Stopped t d) past asked other is = sets_other past t d.unit asked is.keeps.0 other
-replies_other (phase.Faulted t d) past asked other is = sets_other past t d.unit asked is.keeps.0 other
-replies_other (phase.Ended t u) past asked other is = sets_other past t u.value asked is.keeps other
+    → IsPhase p past → RepliesIn (situation_of p) past (command.SetBreakpoints asked)
+    (answered (body.Breakpoints (other_source asked.breakpoints)))
+replies_other p past asked other is =
+    record { reaction = answers_other asked; reacts = reacts_other p past asked other is; reply_is = refl }
 
 -- The path is the launched program's, and its lines are answered so.
 pub record AreSet (t : Target) (u : Compiled) (asked : SetBreakpointsArguments) (answers : List BreakpointAnswer)
@@ -74,28 +86,42 @@ pub record AreSet (t : Target) (u : Compiled) (asked : SetBreakpointsArguments) 
   pub answered : AreAnswered (program_of u) (offset t.settings.lines_start_at_1) asked.breakpoints answers bs
 
 pub sets_here : (past : History) (t : Target) (u : Compiled) (asked : SetBreakpointsArguments)
-    (answers : List BreakpointAnswer) (bs : List Breakpoint) (s : Situation) → situation past ≡ s → IsTarget t u past
-    → AreSet t u asked answers bs → Sets past asked (causing (body.Breakpoints answers) (effect_in s past bs))
-sets_here past t u asked answers bs s is target are =
-    let reply = causing (body.Breakpoints answers) (effect_in s past bs) in
+    (answers : List BreakpointAnswer) (bs : List Breakpoint) → IsTarget t u past
+    → AreSet t u asked answers bs → Sets past asked (SetBreakpoints answers bs)
+sets_here past t u asked answers bs target are =
+    let reaction = SetBreakpoints answers bs in
     let main = program_of u in
     let found = are.answered.resolutions in
-    sets past t u asked reply target (subst (λ b. SetsOf b past (launched_as t u) asked.breakpoints reply)
+    sets past t u asked reaction target (subst (λ b. SetsOf b past (launched_as t u) asked.breakpoints reaction)
     (sym are.same) (record {
       answers = found;
       breakpoints = bs;
       resolved =
           subst (λ (i : InitializeArguments). IsResolved main (offset i.lines_start_at_1) asked.breakpoints found bs)
           target.settings_are are.answered.resolved;
-      reply_is =
-          ap (λ l. causing (body.Breakpoints l) (effect_in s past bs))
+      reaction_is =
+          ap (λ l. SetBreakpoints l bs)
           (are.answered.answers_are ∙ ap (λ (i : InitializeArguments). map
           (answer_to_line main (offset i.lines_start_at_1))
-          found) target.settings_are)
-          ∙ ap (λ x. causing (body.Breakpoints (map
-          (answer_to_line main (offset (settings past).lines_start_at_1)) found))
-          (effect_in x past bs)) (sym is);
+          found) target.settings_are);
     }))
+
+-- where the table has this reaction, its reply is that of the phase
+module _ (p : Phase) (past : History) (asked : SetBreakpointsArguments) (answers : List BreakpointAnswer)
+    (bs : List Breakpoint) (is : IsPhase p past)
+    (reacts : Reacts (situation_of p) past (command.SetBreakpoints asked) (SetBreakpoints answers bs)) where
+  abbrev set_reply : Reply
+  set_reply = causing (body.Breakpoints answers) (effect_in (situation_of p) past bs)
+
+  pub replies_set : RepliesIn (situation_of p) past (command.SetBreakpoints asked) set_reply
+  replies_set = record {
+    reaction = SetBreakpoints answers bs;
+    reacts = reacts;
+    reply_is = ap (λ s. causing (body.Breakpoints answers) (effect_in s past bs)) (sym is.situation_is);
+  }
+
+  set_replies : RepliesIn (situation past) past (command.SetBreakpoints asked) set_reply
+  set_replies = replies_there p past is (command.SetBreakpoints asked) set_reply replies_set
 
 -- ---- a plan that is put in
 
@@ -132,12 +158,12 @@ holds_after laws t d bs n asked answers past seq is =
 -- The phase now is one of every history in which the debuggee stands so under the new plan, in the same situation.
 put_in : ReadingsGoOn → (t : Target) (d : Debugged) (bs : List Breakpoint) (n : ℕ) (asked : SetBreakpointsArguments)
     (answers : List BreakpointAnswer) (past : History) (old now : Phase) → IsPhase old past → Holds t d past
-    → SetsIn (situation_of old) past asked (puts answers bs n)
+    → RepliesIn (situation past) past (command.SetBreakpoints asked) (puts answers bs n)
     → ((new : History) → situation new ≡ situation_of old → Holds t (with_plan d bs n) new → IsPhase now new)
     → HasReplied (command.SetBreakpoints asked) past (without_events (Ok (body.Breakpoints answers)) None now)
 put_in laws t d bs n asked answers past old now is holds replies is_now = record {
   reply = puts answers bs n;
-  replies = replies_there old past is (command.SetBreakpoints asked) (puts answers bs n) replies;
+  replies = replies;
   gives = record { result_is = refl; effect_is = record { events_are = refl; orders_are = refl } };
   phase_is = λ seq. let step = set_step seq asked (puts answers bs n) in
       is_now (past ++ step ∷ []) (situation_stays laws past step refl ∙ is.situation_is)
@@ -151,7 +177,8 @@ pub put_in_before_start : ReadingsGoOn → (t : Target) (d now : Debugged) (aske
 put_in_before_start laws t d now asked answers bs are next now_is past is =
     put_in laws t d bs 0 asked answers past (phase.Configuring t d) (phase.Configuring t now) is
     (is.keeps.0, is.keeps.1)
-    (sets_here past t d.unit asked answers bs Configuring is.situation_is is.keeps.0 are)
+    (set_replies (phase.Configuring t d) past asked answers bs is
+    (sets_here past t d.unit asked answers bs is.keeps.0 are))
     (λ new at holds. subst (λ x. IsPhase (phase.Configuring t x) new)
     (sym (now_is ∙ ap (λ n. with_plan d bs n) (next ∙ is.keeps.2)))
     (record { situation_is = at; keeps = (holds.0, holds.1, is.keeps.2) }))
@@ -160,7 +187,8 @@ put_in_before_start laws t d now asked answers bs are next now_is past is =
 put_in_there : ReadingsGoOn → (t : Target) (d now : Debugged) (asked : SetBreakpointsArguments)
     (answers : List BreakpointAnswer) (past : History) (make : Debugged → Phase) → IsPhase (make d) past
     → Holds t d past
-    → (SetsIn (situation_of (make d)) past asked (puts answers now.breakpoints (position past + 1)))
+    → RepliesIn (situation past) past (command.SetBreakpoints asked)
+    (puts answers now.breakpoints (position past + 1))
     → now ≡ with_plan d now.breakpoints (d.position + 1)
     → ((x : Debugged) (new : History) → situation new ≡ situation_of (make d) → Holds t x new → IsPhase (make x) new)
     → HasReplied (command.SetBreakpoints asked) past (without_events (Ok (body.Breakpoints answers)) None (make now))
@@ -176,11 +204,13 @@ pub put_in_standing : ReadingsGoOn → (s : StandsAt) (t : Target) (d now : Debu
     → Replies (command.SetBreakpoints asked) (phase_at s t d) (without_events (Ok (body.Breakpoints answers)) None (phase_at s t now))
 put_in_standing laws stands_at.Stop t d now asked answers are now_is past is =
     put_in_there laws t d now asked answers past (phase.Stopped t) is is.keeps
-    (sets_here past t d.unit asked answers now.breakpoints Stopped is.situation_is is.keeps.0 are) now_is
+    (set_replies (phase.Stopped t d) past asked answers now.breakpoints is
+    (sets_here past t d.unit asked answers now.breakpoints is.keeps.0 are)) now_is
     (λ x new at holds. record { situation_is = at; keeps = holds })
 put_in_standing laws stands_at.Fault t d now asked answers are now_is past is =
     put_in_there laws t d now asked answers past (phase.Faulted t) is is.keeps
-    (sets_here past t d.unit asked answers now.breakpoints Faulted is.situation_is is.keeps.0 are) now_is
+    (set_replies (phase.Faulted t d) past asked answers now.breakpoints is
+    (sets_here past t d.unit asked answers now.breakpoints is.keeps.0 are)) now_is
     (λ x new at holds. record { situation_is = at; keeps = holds })
 
 -- ---- a plan that waits
@@ -189,11 +219,11 @@ put_in_standing laws stands_at.Fault t d now asked answers are now_is past is =
 abbrev pub once : Bool → ℕ → List PlainOrder
 once held number = if held then [] else Hold number ∷ []
 
-once_no_mark : (held : Bool) (n : ℕ) → last_such order_mark (once held n) ≡ None
+pub once_no_mark : (held : Bool) (n : ℕ) → last_such order_mark (once held n) ≡ None
 once_no_mark true n = refl
 once_no_mark false n = refl
 
-once_no_go : (held : Bool) (n : ℕ) → filter_map go (once held n) ≡ []
+pub once_no_go : (held : Bool) (n : ℕ) → filter_map go (once held n) ≡ []
 once_no_go true n = refl
 once_no_go false n = refl
 
@@ -257,8 +287,8 @@ waits_in_run laws t run now asked answers bs order are order_is now_is past is =
     let reply = causing (body.Breakpoints answers) (effect_in Running past bs) in record {
       reply = reply;
       replies =
-          replies_there (phase.Running t run) past is (command.SetBreakpoints asked) reply
-          (sets_here past t run.unit asked answers bs Running is.situation_is is.keeps.0 are);
+          set_replies (phase.Running t run) past asked answers bs is
+          (sets_here past t run.unit asked answers bs is.keeps.0 are);
       gives = record {
         result_is = refl;
         effect_is = record {

@@ -9,7 +9,8 @@ use Rattle.dap_msg.specs.declared.outgoing.Body.{Body}
 use Rattle.dap_msg.specs.declared.outgoing.Refusal.{Refusal}
 use Rattle.dbg_runner.specs.declared.order.Order.{Order}
 use Rattle.dap_history.specs.History.{History}
-use Rattle.dap_history.specs.Replies.{nothing, refused}
+use Rattle.dap_history.specs.Replies.{nothing}
+use Rattle.dap_history.specs.Reactions.{Refuse, Reacts}
 use Rattle.dap_history.specs.Emission.{RepliesIn}
 use Rattle.dap_phase.specs.declared.phase.Phase.{Phase}
 use Rattle.dap_phase.specs.Phases.{IsPhase, situation_of}
@@ -33,7 +34,7 @@ without_events result order phase =
 abbrev pub Refuses : Refusal → Phase → Given → Type 0
 Refuses why phase given =
     (command : Command) (past : History) → IsPhase phase past
-    → RepliesIn (situation_of phase) past command (refused why) → HasReplied command past given
+    → Reacts (situation_of phase) past command (Refuse why) → HasReplied command past given
 
 -- The reply is right for each command that is to be answered with this result and has no effect.
 abbrev pub AnswersOnly : Result Body Refusal → Phase → Given → Type 0

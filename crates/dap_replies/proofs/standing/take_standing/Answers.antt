@@ -20,7 +20,7 @@ returns-in-Running-clause-refused c = (
 pub returns-in_default-clause-refused : goal.returns-in_default-clause-refused
 returns-in_default-clause-refused c =
     refuses_moves c.args.phase c.args.asked refusal.WrongPhase c.refuse-in_default.result
-    c.refuse-in_default.ensures.refuses (λ past is. nothing_moves c.args.phase past c.args.asked.thread_id
+    c.refuse-in_default.ensures.refuses (λ past is. nothing_moves c.args.phase past c.args.asked
     c.in_default.not-Stopped c.in_default.not-Faulted c.in_default.not-Running)
 
 pub returns-else-is_main_thread-clause-refused : goal.returns-else-is_main_thread-clause-refused
@@ -35,5 +35,5 @@ returns-else-is_main_thread-clause-refused c =
     (refuses_moves (phase_at at.0 at.1 at.2) c.args.asked refusal.UnknownThread given
     (subst (λ p. Refuses refusal.UnknownThread p given) c.phase_at-phase.ensures
     c.refuse-else-is_main_thread.ensures.refuses)
-    (λ past is. unknown_there at.0 at.1 at.2 c.args.asked.thread_id past
+    (λ past is. unknown_there at.0 at.1 at.2 c.args.asked past
     (sym c.is_main_thread.ensures ∙ c.if-is_main_thread.false) is))
