@@ -201,7 +201,8 @@ put_in_there laws t d now asked answers past make is holds replies now_is is_the
 pub put_in_standing : ReadingsGoOn → (s : StandsAt) (t : Target) (d now : Debugged) (asked : SetBreakpointsArguments)
     (answers : List BreakpointAnswer) → AreSet t d.unit asked answers now.breakpoints
     → now ≡ with_plan d now.breakpoints (d.position + 1)
-    → Replies (command.SetBreakpoints asked) (phase_at s t d) (without_events (Ok (body.Breakpoints answers)) None (phase_at s t now))
+    → Replies (command.SetBreakpoints asked) (phase_at s t d)
+    (without_events (Ok (body.Breakpoints answers)) None (phase_at s t now))
 put_in_standing laws stands_at.Stop t d now asked answers are now_is past is =
     put_in_there laws t d now asked answers past (phase.Stopped t) is is.keeps
     (set_replies (phase.Stopped t d) past asked answers now.breakpoints is
@@ -282,7 +283,8 @@ pub waits_in_run : ReadingsGoOn → (t : Target) (run now : OrderedRun) (asked :
     (answers : List BreakpointAnswer) (bs : List Breakpoint) (order : Option Order) → AreSet t run.unit asked answers bs
     → option_to_list (option_map plain_order order) ≡ once (run.held || goes_back run.mode) t.runs
     → now ≡ ordered_to_hold (record run { waiting_plan = Some bs })
-    → Replies (command.SetBreakpoints asked) (phase.Running t run) (without_events (Ok (body.Breakpoints answers)) order (phase.Running t now))
+    → Replies (command.SetBreakpoints asked) (phase.Running t run)
+    (without_events (Ok (body.Breakpoints answers)) order (phase.Running t now))
 waits_in_run laws t run now asked answers bs order are order_is now_is past is =
     let reply = causing (body.Breakpoints answers) (effect_in Running past bs) in record {
       reply = reply;
