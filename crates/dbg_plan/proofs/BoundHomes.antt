@@ -1,5 +1,5 @@
 -- What a name stands for, by the home that a look-up answers.
-use Rattle.std.proofs.Common.{◌≡◌, ℕ, ◌+◌, ◌<◌, List, length, slice_get, Option, Some, None, pos, refl, sym, ap, ◌∙◌, subst, arith}
+use Rattle.std.proofs.Common.{◌≡◌, ℕ, ◌+◌, ◌<◌, List, length, slice_get, Option, Some, None, refl, sym, ap, ◌∙◌, subst, arith}
 use Rattle.std.specs.Prelude.{option_map}
 use Rattle.std.proofs.lemmas.List.{length-map}
 use Rattle.std.proofs.lemmas.Option.{slice_get-map}
@@ -8,7 +8,7 @@ use Rattle.pl0_tree.specs.declared.tree.Constant.{Constant as DeclaredConstant}
 use Rattle.pl0_tree.specs.Tree.{Block, Constant, constants}
 use Rattle.pl0_tree.specs.Plain.{plain_block, plain_constant}
 use Rattle.pl0_tree.specs.PlainParts.{plain_constants}
-use Rattle.pl0_tree.specs.Scope.{Path, block_at, Meaning, AConstant, AVariable, AProcedure, Home, home}
+use Rattle.pl0_tree.specs.Scope.{Path, block_at, Meaning, AConstant, Home, home}
 use Rattle.pl0_meaning.specs.Values.{constant_of}
 use Rattle.pl0_meaning.specs.Homes.{IsDeclaredBy, home_is}
 use Rattle.pl0_names.specs.declared.names.Home.{Home as Answer}

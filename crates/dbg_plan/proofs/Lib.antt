@@ -67,9 +67,11 @@ pub mod ValuesMet
 pub mod BoundHomes
 -- A name that was looked up for a frame's block has its number in that frame; for `name_value`.
 pub mod ValuesNamed
--- Where there is no arrival, none is counted and nothing is due or logged; for `has_arrival`, `is_unwatched` and
+-- Where there is no arrival, none is counted and nothing is due or logged; for `has_arrival` and
 -- others.
 pub mod Unwatched
+-- What the machine asks at a mark is the condition of the breakpoint there; for `run_quietly`.
+pub mod Asked
 -- Steps that write nothing and lead to no breakpoint, turn by turn; for `run_quietly`.
 pub mod Quiet
 -- The counts of a debuggee are right after quiet steps of its machine, and perhaps one more; for

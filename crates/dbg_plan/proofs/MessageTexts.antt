@@ -1,5 +1,5 @@
 -- Messages that an editor asks for.
-use Rattle.std.proofs.Common.{◌≡◌, ◌≢◌, ℕ, ◌+◌, ◌<◌, ◌≤◌, List, [], ◌∷◌, ◌++◌, length, get_or, append_assoc, Option, Some, None, refl, sym, ap, ◌∙◌, subst, arith}
+use Rattle.std.proofs.Common.{◌≡◌, ◌≢◌, ℕ, ◌+◌, ◌<◌, ◌≤◌, List, [], ◌∷◌, ◌++◌, length, get_or, append_assoc, refl, sym, ap, ◌∙◌, subst, arith}
 use Rattle.std.proofs.lemmas.List.{get_or_default, map-append}
 use Rattle.pl0_tree.specs.Unique.{expression_text_once}
 use Rattle.std.specs.Str.{IsUtf8}
@@ -9,7 +9,6 @@ use Rattle.pl0_tree.specs.declared.tree.Place.{Place}
 use Rattle.pl0_tree.specs.declared.fault.FaultKind.{FaultKind}
 use Rattle.pl0_tree.specs.declared.fault.SyntaxFault.{SyntaxFault}
 use Rattle.pl0_tree.specs.declared.fault.SyntaxFault.TheVariants.{InText}
-use Rattle.pl0_tree.specs.Steps.{step_path}
 use Rattle.pl0_tree.specs.Faults.{IsExpressionOf, IsFirstExpressionFault, FaultIs}
 use Rattle.pl0_syntax.specs.Laws.{FaultExcludesExpressions}
 use Rattle.dbg_plan.specs.declared.message.Part.{Part as DeclaredPart}
@@ -17,10 +16,9 @@ use Rattle.dbg_plan.specs.declared.message.Part.TheVariants as part
 use Rattle.dbg_plan.specs.declared.messages.MessageFault.{MessageFault}
 use Rattle.dbg_plan.specs.declared.messages.MessageFault.TheVariants.{Bad, NoMemory}
 use Rattle.dbg_plan.specs.MessageFaults.{UnlessNoMemory}
-use Rattle.dbg_plan.specs.Messages.{Part, Text, Value, Message, expressions, expression_limit, Lacks, braced, ReadsParts, IsMessageOf, ReadsAsExpression, ReadsAsParts}
+use Rattle.dbg_plan.specs.Messages.{Part, Text, Value, expressions, expression_limit, Lacks, braced, ReadsParts, IsMessageOf, ReadsAsExpression, ReadsAsParts}
 use Rattle.dbg_plan.specs.PlainParts.{plain_part, plain_parts}
 use Rattle.dbg_plan.specs.Bound.{ArePartsBound}
-use Rattle.dbg_plan.specs.Resolutions.{ReadsMessageAt, HasMessageAt}
 use Rattle.dbg_plan.proofs.MessageParts.{IsReadTo, begins, one_further, continues, unclosed, some_value, reads_more, count-append}
 
 -- a text with a fault is no expression's

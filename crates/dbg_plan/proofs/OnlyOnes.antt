@@ -1,9 +1,9 @@
 -- A table of the comparisons that stand alone at their steps, made step by step.
-use Rattle.std.proofs.Common.{◌≡◌, ◌⊎◌, inl, inr, ℕ, zero, suc, ◌+◌, List, [], ◌∷◌, ◌++◌, length, slice_get, Option, Some, refl, sym, ap, ◌∙◌, subst, arith}
+use Rattle.std.proofs.Common.{◌≡◌, ◌⊎◌, inl, inr, ℕ, zero, suc, ◌+◌, List, [], ◌∷◌, ◌++◌, length, slice_get, slice_index_or, Option, Some, None, refl, sym, ap, ◌∙◌, subst, arith}
 use Rattle.std.specs.Prelude.{IfSome}
 use Rattle.std.proofs.lemmas.List.{length-append}
 use Rattle.dbg_plan.specs.declared.breakpoint.Breakpoint.{Breakpoint}
-use Rattle.dbg_plan.specs.declared.comparison.Comparison.{Comparison}
+use Rattle.pl0_machine.specs.declared.mark.Comparison.{Comparison}
 use Rattle.dbg_plan.specs.Comparisons.{IsOnlyOne}
 use Rattle.dbg_plan.specs.Plans.{those_of}
 use Rattle.dbg_plan.specs.Table.{AreOnlyOnes}
@@ -42,3 +42,19 @@ module _ (ordered : List Breakpoint) (step : ℕ) (old : List (Option Comparison
     where
       longer : (xs : List (Option Comparison)) → length xs ≡ step → length (xs ++ x ∷ []) ≡ step + 1
       longer xs l = let one = length-append xs (x ∷ []) in omega (arith, l, one)
+
+-- the table of other breakpoints that are the same at each step
+pub of_all : (ordered bs : List Breakpoint) (steps : ℕ) (comparisons : List (Option Comparison))
+    → ((s : ℕ) → those_of s ordered ≡ those_of s bs) → AreOnlyOnes ordered steps comparisons
+    → AreOnlyOnes bs steps comparisons
+of_all ordered bs steps comparisons same are = record {
+  long = are.long;
+  each = λ s c e. subst (λ l. IsOnlyOne l c) (same s) (are.each s c e);
+}
+
+-- what is read of the table, with nothing beyond its end
+pub read_is : (xs : List (Option Comparison)) (s : ℕ) (c : Comparison) → slice_index_or xs s None ≡ Some c
+    → slice_get xs s ≡ Some (Some c)
+read_is [] s c e = cc
+read_is (x ∷ xs) zero c e = ap Some e
+read_is (x ∷ xs) (suc s) c e = read_is xs s c e

@@ -1,23 +1,29 @@
 -- Quiet steps of a machine.
-use Rattle.std.proofs.Common.{◌≡◌, ⊎_elim, ℕ, ◌+◌, ◌-◌, ◌<◌, ◌≤◌, Bool, false, List, [], ◌∷◌, length, Option, Some, None, ℤ, refl, sym, ap, ◌∙◌, subst, arith}
+use Rattle.std.proofs.Common.{◌≡◌, ⊎_elim, ℕ, ◌+◌, ◌-◌, ◌<◌, ◌≤◌, Bool, true, false, List, [], ◌∷◌, length, slice_get, slice_index_or, Option, Some, None, ℤ, refl, sym, ap, ◌∙◌, subst, arith}
 use Rattle.std.proofs.lemmas.Bool.{cases_eq, cases_lt}
 use Rattle.std.proofs.lemmas.List.{length-map}
 use Rattle.pl0_unit.specs.declared.unit.Unit.{Unit as Compiled}
 use Rattle.pl0_meaning.specs.Values.{Configuration}
 use Rattle.pl0_meaning.specs.Runs.{Outcome, Goes, Faults, Over, at, led_to, written_by}
+use Rattle.pl0_meaning.specs.Laws.{FramesAreLinked}
 use Rattle.pl0_meaning.specs.Linking.{at_next}
 use Rattle.pl0_machine.specs.declared.outcome.StepOutcome.{StepOutcome}
 use Rattle.pl0_machine.specs.declared.outcome.StepOutcome.TheVariants.{Went, Done}
-use Rattle.pl0_machine.specs.Machine.{Standing, program, frames_of, outcome_of, Stepped}
-use Rattle.dbg_plan.specs.Breakpoints.{Breakpoint}
-use Rattle.dbg_plan.specs.Plans.{Listed, watched_lines, has_breakpoint, breakpoints_of}
+use Rattle.pl0_machine.specs.declared.mark.Comparison.{Comparison}
+use Rattle.pl0_machine.specs.declared.mark.Marks.{Marks}
+use Rattle.pl0_machine.specs.Machine.{Standing, program, frames, frames_of, top_of, outcome_of, Stepped, IsNext, BeginsNext}
+use Rattle.dbg_plan.specs.Breakpoints.{Breakpoint, plain_breakpoints}
+use Rattle.dbg_plan.specs.Plans.{Listed, IsPlanOf, watched_lines, has_breakpoint, breakpoints_of}
+use Rattle.dbg_plan.specs.Table.{AreMarksOf}
 use Rattle.dbg_plan.specs.Debugged.{IsRunning}
-use Rattle.pl0_machine.specs.Stretches.{ahead, IsTable, HasMark, IsPassed, Stretches}
+use Rattle.pl0_machine.specs.Stretches.{ahead, IsMet, CanAsk, IsTable, HasMark, IsPassed, Stretches}
 use Rattle.dbg_plan.specs.Running.{has_arrival, IsQuiet, RanQuietly}
-use Rattle.dbg_plan.specs.Quiet.{watched_of, Ends, RanByMachine}
+use Rattle.dbg_plan.specs.Quiet.{Watches, RanByMachine}
 use Rattle.dbg_plan.specs.Counting.{MayBePlanOf}
 use Rattle.dbg_plan.proofs.Watching.{there}
-use Rattle.dbg_plan.proofs.Unwatched.{none_by_step}
+use Rattle.dbg_plan.proofs.Unwatched.{fits_of, none_by_step}
+use Rattle.dbg_plan.proofs.OnlyOnes.{read_is}
+use Rattle.dbg_plan.proofs.Asked.{can_ask, unmet}
 use Rattle.dbg_plan.proofs.Stepping.{went_on}
 
 -- a step that wrote nothing and led to a position without a breakpoint
@@ -86,63 +92,81 @@ none_yet limit breakpoints start running within =
       ends = (here, running, within);
     }
 
--- ---- steps that lead to no address in the table
+-- ---- steps that lead to no mark where the machine ends a run
 
-pub has_table : (u : Compiled) (plan : Option Listed) → MayBePlanOf u plan → IsTable u (watched_of plan)
-unfolding watched_lines
-has_table u None fits = tt
-has_table u (Some asked) fits =
-    ap length fits.watched ∙ length-map u.begun_steps.items (has_breakpoint asked.breakpoints)
+module _ (laws : FramesAreLinked) (plan : Option Listed) where
+  pub has_table : (u : Compiled) (marks : Option Marks) → MayBePlanOf u plan → Watches plan marks → IsTable u marks
+  unfolding watched_lines
+  has_table u None fits watches = tt
+  has_table u (Some marks) fits watches =
+      let asked = watches.0 in
+      let are = watches.2 in
+      let is = fits_of u plan asked watches.1 fits in (
+        ap length are.marked ∙ ap length is.watched
+            ∙ length-map u.begun_steps.items (has_breakpoint asked.breakpoints),
+        λ m n same next. can_all asked are m (subst (λ v. IsPlanOf v asked) (sym same) is) n next
+            (slice_index_or marks.asked.items n None) refl,
+      )
+    where
+      can_all : (asked : Listed) (are : AreMarksOf asked marks) (m : Standing) → IsPlanOf m.unit asked → (n : ℕ)
+          → IsNext (program m) (top_of (frames m)) n → (o : Option Comparison)
+          → slice_index_or marks.asked.items n None ≡ o → CanAsk (top_of (frames m)) o
+      can_all asked are m is n next None e = tt
+      can_all asked are m is n next (Some q) e =
+          can_ask laws m asked is n next q (are.asked.each n q (read_is marks.asked.items n q e))
 
-no_arrival : (plan : Option Listed) (m : Standing) → MayBePlanOf m.unit plan → HasMark (watched_of plan) m false
-    → has_arrival (breakpoints_of plan) m ≡ false
-no_arrival None m fits unmarked = refl
-no_arrival (Some asked) m fits unmarked =
-    let next = unmarked.1 in
-    let has_one =
-    there asked.breakpoints m.unit.begun_steps.items asked.watched unmarked.0 next.step fits.watched next.begins in
-    none_by_step m next.step next.next asked.breakpoints (same_entry _ _ (sym has_one ∙ unmarked.2))
-  where
-    same_entry : (a b : Bool) → ◌≡◌ {A = Option Bool} (Some a) (Some b) → a ≡ b
-    same_entry a b e = cc
+  no_arrival : (marks : Option Marks) (m : Standing) → MayBePlanOf m.unit plan → Watches plan marks
+      → HasMark marks m false → has_arrival (breakpoints_of plan) m ≡ false
+  no_arrival None m fits watches unmarked = ap (λ bs. has_arrival (plain_breakpoints bs) m) watches
+  no_arrival (Some marks) m fits watches unmarked =
+      ap (λ p. has_arrival (breakpoints_of p) m) watches.1 ∙ by_mark unmarked.2 unmarked.3 unmarked.4
+    where
+      asked : Listed
+      asked = watches.0
 
-module _ (limit : ℕ) (plan : Option Listed) where
-  quiet_passed : (m : Standing) → MayBePlanOf m.unit plan → IsPassed (watched_of plan) m
-      → IsQuiet (breakpoints_of plan) m
+      is : IsPlanOf m.unit asked
+      is = fits_of m.unit plan asked watches.1 fits
+
+      next : BeginsNext m unmarked.0
+      next = unmarked.1
+
+      same_entry : (a b : Bool) → ◌≡◌ {A = Option Bool} (Some a) (Some b) → a ≡ b
+      same_entry a b e = cc
+
+      by_asked : (o : Option Comparison) → slice_index_or marks.asked.items next.step None ≡ o
+          → IsMet (top_of (frames m)) true o false → has_arrival (plain_breakpoints asked.breakpoints) m ≡ false
+      by_asked None e met = let other : false ≡ true = met in cc
+      by_asked (Some q) e met =
+          unmet laws m asked is next.step next.next q
+          (watches.2.asked.each next.step q (read_is marks.asked.items next.step q e)) met
+
+      by_mark : (marked : Bool) → slice_get marks.marked.items unmarked.0 ≡ Some marked
+          → IsMet (top_of (frames m)) marked (slice_index_or marks.asked.items next.step None) false
+          → has_arrival (plain_breakpoints asked.breakpoints) m ≡ false
+      by_mark false at met =
+          let has_one =
+          there asked.breakpoints m.unit.begun_steps.items asked.watched unmarked.0 next.step is.watched next.begins in
+          none_by_step m next.step next.next asked.breakpoints
+          (same_entry _ _ (sym has_one ∙ sym (ap (λ l. slice_get l unmarked.0) watches.2.marked) ∙ at))
+      by_mark true at met = by_asked (slice_index_or marks.asked.items next.step None) refl met
+
+module _ (laws : FramesAreLinked) (limit : ℕ) (plan : Option Listed) (marks : Option Marks)
+    (watches : Watches plan marks) where
+  quiet_passed : (m : Standing) → MayBePlanOf m.unit plan → IsPassed marks m → IsQuiet (breakpoints_of plan) m
   quiet_passed m fits p =
-      record { silent = p.silent; running = p.running; unmet = no_arrival plan (ahead m 1) fits p.unmarked }
+      record {
+        silent = p.silent;
+        running = p.running;
+        unmet = no_arrival laws plan marks (ahead m 1) fits watches p.unmarked;
+      }
 
   further_on : (m : Standing) (a b : ℕ) → ahead (ahead m a) b ≡ ahead m (a + b)
   further_on m a b =
       let e : m.position + a + b ≡ m.position + (a + b) = omega arith in
       ap (λ (p : ℕ). record m { position = p }) e
 
-  -- a run that went on from where quiet steps led
-  pub resumed : (start m new : Standing) (outcome : Option StepOutcome)
-      → Quietly limit (breakpoints_of plan) start m → RanByMachine limit plan m outcome new
-      → RanByMachine limit plan start outcome new
-  resumed start m new outcome q ran =
-      let there = ap (λ x. ahead x ran.steps) q.ends.0 ∙ further_on start q.steps ran.steps in
-      let place = ap (λ (x : Standing). x.position) q.ends.0 in
-      let within = ran.within in
-      record {
-        steps = q.steps + ran.steps;
-        quiet = λ k lt.
-            ⊎_elim (λ before. q.quiet k before)
-            (λ after.
-            let rest : k - q.steps < ran.steps = omega (arith, after, lt) in
-            let same : q.steps + (k - q.steps) ≡ k = omega (arith, after) in
-            subst (λ x. IsQuiet (breakpoints_of plan) x)
-            (ap (λ x. ahead x (k - q.steps)) q.ends.0 ∙ further_on start q.steps (k - q.steps)
-            ∙ ap (λ n. ahead start n) same) (ran.quiet (k - q.steps) rest))
-            (cases_lt k q.steps);
-        running = subst (λ x. IsRunning x) there ran.running;
-        within = omega (arith, place, within);
-        ends = subst (λ x. Ends limit (breakpoints_of plan) x outcome new) there ran.ends;
-      }
-
   pub stretched : (start m new : Standing) → MayBePlanOf start.unit plan
-      → Quietly limit (breakpoints_of plan) start m → Stretches (watched_of plan) m new → new.position ≤ limit
+      → Quietly limit (breakpoints_of plan) start m → Stretches marks m new → new.position ≤ limit
       → Quietly limit (breakpoints_of plan) start new
   stretched start m new fits q s within =
       let led = s.led ∙ ap (λ x. ahead x s.steps) q.ends.0 ∙ further_on start q.steps s.steps in
@@ -157,7 +181,7 @@ module _ (limit : ℕ) (plan : Option Listed) where
             let there = further_on start q.steps (k - q.steps) ∙ ap (λ n. ahead start n) same in
             subst (λ x. IsQuiet (breakpoints_of plan) x) there
             (quiet_passed (ahead (ahead start q.steps) (k - q.steps)) fits
-            (subst (λ x. IsPassed (watched_of plan) (ahead x (k - q.steps))) q.ends.0
+            (subst (λ x. IsPassed marks (ahead x (k - q.steps))) q.ends.0
             (s.passed (k - q.steps) rest))))
             (cases_lt k q.steps);
         running = subst (λ x. IsRunning x) led s.running;

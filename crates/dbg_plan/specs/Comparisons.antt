@@ -1,10 +1,10 @@
--- The conditions that a run evaluates in its loop, as conditions with located names.
+-- The conditions that the machine evaluates in its loop, as conditions with located names.
 use Rattle.std.specs.Prelude.{◌≡◌, List, [], ◌∷◌, Some}
 use Rattle.dbg_plan.specs.declared.breakpoint.BoundCondition.{BoundCondition}
 use Rattle.dbg_plan.specs.declared.breakpoint.Breakpoint.{Breakpoint}
-use Rattle.dbg_plan.specs.declared.comparison.Comparison.{Comparison}
-use Rattle.dbg_plan.specs.declared.comparison.Operand.{Operand}
-use Rattle.dbg_plan.specs.declared.comparison.Operand.TheVariants as operand
+use Rattle.pl0_machine.specs.declared.mark.Comparison.{Comparison}
+use Rattle.pl0_machine.specs.declared.mark.Operand.{Operand}
+use Rattle.pl0_machine.specs.declared.mark.Operand.TheVariants as operand
 use Rattle.dbg_plan.specs.declared.located.LocatedExpression.{LocatedExpression}
 use Rattle.dbg_plan.specs.declared.located.LocatedExpression.TheVariants.{Number, Variable}
 use Rattle.dbg_plan.specs.declared.located.LocatedCondition.{LocatedCondition}

@@ -1,23 +1,20 @@
 -- How the quiet steps of a run are taken: first by the machine, and then of the debuggee that has it.
-use Rattle.std.specs.Prelude.{◌≡◌, ℕ, ◌<◌, ◌≤◌, Bool, true, false, List, [], Option, Some, None, option_map}
+use Rattle.std.specs.Prelude.{◌≡◌, ℕ, ◌<◌, ◌≤◌, Bool, true, false, List, [], Option, Some, None}
 use Rattle.pl0_machine.specs.declared.outcome.StepOutcome.{StepOutcome}
 use Rattle.pl0_machine.specs.declared.outcome.StepOutcome.TheVariants.{Went, Done, Fault}
+use Rattle.pl0_machine.specs.declared.mark.Marks.{Marks}
 use Rattle.pl0_machine.specs.Machine.{Standing, outcome_of, Stepped}
 use Rattle.dbg_plan.specs.Breakpoints.{Breakpoint}
-use Rattle.dbg_plan.specs.Plans.{Listed, IsNumbered, listed_of, breakpoints_of}
+use Rattle.dbg_plan.specs.Plans.{Listed, listed_of, breakpoints_of}
+use Rattle.dbg_plan.specs.Table.{AreMarksOf}
 use Rattle.dbg_plan.specs.Debugged.{Debugged, machine_of}
 use Rattle.pl0_machine.specs.Stretches.{ahead}
 use Rattle.dbg_plan.specs.Running.{forward, IsQuiet, RanQuietly}
 
--- the table of a plan's breakpoints; none, where there is no plan
-abbrev pub watched_of : Option Listed → Option (List Bool)
-watched_of plan = option_map (λ listed. listed.watched) plan
-
--- a table of the plan's breakpoints; none, where it has none
-abbrev pub Watches : Option Listed → Option (List Bool) → Type 0
+-- the marks of a plan; none, where there is no plan
+abbrev pub Watches : Option Listed → Option Marks → Type 0
 Watches plan None = listed_of plan ≡ []
-Watches plan (Some watched) =
-    (asked : Listed) × (plan ≡ Some asked) × (watched ≡ asked.watched) × IsNumbered asked.breakpoints
+Watches plan (Some marks) = (asked : Listed) × (plan ≡ Some asked) × AreMarksOf asked marks
 
 -- nothing more at the limit, or the first step that isn't quiet
 abbrev pub Ends : ℕ → List Breakpoint → Standing → Option StepOutcome → Standing → Type 0

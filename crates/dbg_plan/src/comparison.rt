@@ -1,26 +1,11 @@
-//! The conditions that a run evaluates in its loop: comparisons of numbers and of variables of the newest frame.
+//! The conditions that the machine evaluates in its loop: comparisons of numbers and of variables of the newest frame.
 
 ghost use Rattle.std.specs.Prelude.{◌≡◌, IfSome};
 ghost use Rattle.dbg_plan.specs.Comparisons.{expression_of, condition_of, IsOnlyOne};
 
 use crate::breakpoint::Breakpoint;
 use crate::located::{LocatedCondition, LocatedExpression};
-use pl0_tree::Relation;
-
-/// A number, or a variable of the newest frame by its index there.
-#[derive(Clone, Copy)]
-pub enum Operand {
-    Number(i64),
-    Variable(usize),
-}
-
-/// A comparison of two operands.
-#[derive(Clone, Copy)]
-pub struct Comparison {
-    pub relation: Relation,
-    pub left: Operand,
-    pub right: Operand,
-}
+use pl0_machine::{Comparison, Operand};
 
 /// Returns the condition of the only one of these breakpoints; `None` if there isn't just one, or if it has no condition of
 /// this kind.

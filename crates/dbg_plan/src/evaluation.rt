@@ -13,7 +13,6 @@ ghost use Rattle.dbg_plan.specs.Counting.{holds_now, IsMetHere};
 
 use crate::binding::{Located, locate};
 use crate::breakpoint::Breakpoint;
-use crate::comparison::{Comparison, Operand};
 use crate::located::{LocatedCondition, LocatedExpression};
 use pl0_machine::Machine;
 use pl0_meaning::{RunFault, apply, compare, is_odd, negate};
@@ -100,30 +99,6 @@ fn truth_of(
             Ok(compare(*relation, x, y))
         }
     }
-}
-
-/// The value of an operand in a frame of its block.
-#[inline(always)]
-fn operand_value(machine: &Machine, frame: usize, operand: Operand) -> i64
-    requires { CanRead (frames machine.now) frame (expression_of operand) }
-    ensures { bound_value (frames machine.now) frame (expression_of operand) ≡ Ok result }
-{
-    match operand {
-        Operand::Number(number) => number,
-        Operand::Variable(index) => machine.value(frame, index),
-    }
-}
-
-/// Whether a comparison holds in a frame of its block. It is inlined, so that a loop that asks for it keeps the machine's
-/// registers in the processor's.
-#[inline(always)]
-pub fn compares(machine: &Machine, frame: usize, comparison: Comparison) -> bool
-    requires { CanTest (frames machine.now) frame (condition_of comparison) }
-    ensures { bound_truth (frames machine.now) frame (condition_of comparison) ≡ Ok result }
-{
-    let x = operand_value(machine, frame, comparison.left);
-    let y = operand_value(machine, frame, comparison.right);
-    compare(comparison.relation, x, y)
 }
 
 /// Whether the condition of a breakpoint at the machine's step holds, or has none or faults.

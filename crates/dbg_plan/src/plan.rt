@@ -8,10 +8,10 @@ ghost use Rattle.dbg_plan.specs.PlainParts.{plain_parts};
 ghost use Rattle.dbg_plan.specs.Plans.{breakpoints_of};
 
 use crate::breakpoint::Breakpoint;
-use crate::comparison::Comparison;
 use crate::message::Part;
 use crate::same::same_breakpoints;
 use crate::table::{comparisons_of, starts_of, watched_of};
+use pl0_machine::Marks;
 use pl0_tree::StepNumber;
 use std::alloc::{AllocError, Global};
 use std::marker::Model;
@@ -22,10 +22,9 @@ use std::sync::Arc;
 pub struct Plan {
     ordered: Vec<Breakpoint>,
     starts: Vec<usize>,
-    // For each address of the code, whether the step that begins there has a breakpoint.
-    watched: Vec<bool>,
-    // For each step the condition of its breakpoint, if that is one and a comparison.
-    comparisons: Vec<Option<Comparison>>,
+    // The addresses at which a step with a breakpoint begins. The condition of a step's breakpoint is asked there, if the
+    // step has just one, whose condition is a comparison.
+    marks: Marks,
 }
 
 impl Model for Plan {
@@ -45,11 +44,11 @@ impl Model for Plan {
 }
 
 impl Plan {
-    ghost use Rattle.std.specs.Prelude.{Decides, IfSome};
+    ghost use Rattle.std.specs.Prelude.{Decides};
     ghost use Rattle.dbg_plan.specs.Breakpoints.{plain_breakpoints};
     ghost use Rattle.dbg_plan.specs.PlainParts.{plain_parts};
-    ghost use Rattle.dbg_plan.specs.Comparisons.{IsOnlyOne};
     ghost use Rattle.dbg_plan.specs.Plans.{those_of, watched_lines, parts_at, IsNumbered};
+    ghost use Rattle.dbg_plan.specs.Table.{AreMarksOf};
 
     /// Returns the plan of these breakpoints, for a program of `steps` steps. `lines` says for each address of its code
     /// which step begins there.
@@ -72,8 +71,10 @@ impl Plan {
         Ok(Plan {
             ordered,
             starts,
-            watched,
-            comparisons,
+            marks: Marks {
+                marked: watched,
+                asked: comparisons,
+            },
         })
     }
 
@@ -99,16 +100,15 @@ impl Plan {
         ensures watched { slice_get self.now.watched address ≡ Some result }
         ensures numbered { IsNumbered self.now.breakpoints }
     {
-        self.watched[address]
+        self.marks.marked[address]
     }
 
-    /// Returns for each address of the code whether the step that begins there has a breakpoint.
+    /// Returns the marks of the addresses at which a step with a breakpoint begins.
     #[inline(always)]
-    pub(crate) fn watched(&self) -> &[bool]
-        ensures watched { result.now ≡ self.now.watched }
-        ensures numbered { IsNumbered self.now.breakpoints }
+    pub(crate) fn marks(&self) -> &Marks
+        ensures { AreMarksOf self.now result.now }
     {
-        self.watched.as_slice()
+        &self.marks
     }
 
     /// Returns the breakpoints of a step, in the order asked.
@@ -119,15 +119,6 @@ impl Plan {
         ensures numbered { IsNumbered self.now.breakpoints }
     {
         &self.ordered[self.starts[step]..self.starts[step + 1]]
-    }
-
-    /// Returns the condition of a step's breakpoint, if the step has one breakpoint whose condition is a comparison.
-    #[inline(always)]
-    pub(crate) fn comparison(&self, step: StepNumber) -> Option<Comparison>
-        requires { step < self.now.steps }
-        ensures { IfSome result (IsOnlyOne (those_of step self.now.breakpoints)) }
-    {
-        self.comparisons[step]
     }
 
     /// Returns the parts of the message of the breakpoint with this number, from 0; no parts if it has no message.

@@ -7,7 +7,8 @@ ghost use Rattle.dbg_plan.specs.Plans.{is_of, those_of};
 ghost use Rattle.dbg_plan.specs.Table.{AreOnlyOnes, IsPart, has_part};
 
 use crate::breakpoint::Breakpoint;
-use crate::comparison::{Comparison, only_comparison};
+use crate::comparison::only_comparison;
+use pl0_machine::Comparison;
 use pl0_tree::StepNumber;
 use std::alloc::{AllocError, Global};
 

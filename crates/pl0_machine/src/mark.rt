@@ -1,0 +1,94 @@
+//! Where a run of many steps ends.
+
+ghost use Rattle.std.specs.Prelude.{◌≡◌, ◌<◌, ◌+◌, ℕ, None, Some, length, slice_get, slice_index_or, option_map};
+ghost use Rattle.pl0_meaning.specs.Values.{comparison};
+ghost use Rattle.pl0_machine.specs.Room.{BeginsStep};
+ghost use Rattle.pl0_machine.specs.Asking.{IsInFrame, AreInFrame, MayBeInFrame, IsAnswer, IsWithin, IsMark, number_there};
+
+use pl0_meaning::compare;
+use pl0_tree::{Relation, StepNumber};
+use pl0_unit::FRAME_HEAD;
+
+/// A number, or a variable of the newest frame by its index there.
+#[derive(Clone, Copy)]
+pub enum Operand {
+    Number(i64),
+    Variable(usize),
+}
+
+/// A comparison of two operands.
+#[derive(Clone, Copy)]
+pub struct Comparison {
+    pub relation: Relation,
+    pub left: Operand,
+    pub right: Operand,
+}
+
+/// The marks of a program: a run ends where a step leads to a marked address, unless what is asked there doesn't hold.
+#[derive(Drop)]
+pub struct Marks {
+    /// For each address of the code, whether it is marked.
+    pub marked: Vec<bool>,
+    /// For each step, what is asked where it comes next and its address is marked. If nothing is, the run ends there.
+    pub asked: Vec<Option<Comparison>>,
+}
+
+/// Whether an address is marked.
+#[inline(always)]
+pub fn is_marked(marks: Option<&Marks>, at: usize) -> bool
+    requires { IsWithin (option_map (λ table. table.now) marks) at }
+    ensures { IsMark (option_map (λ table. table.now) marks.entry) at result }
+{
+    match marks {
+        None => false,
+        Some(marks) => marks.marked[at],
+    }
+}
+
+/// Returns the number that an operand stands for in a frame that begins at `base`.
+#[inline(always)]
+fn number_of(cells: &[i64], base: usize, operand: Operand) -> i64
+    requires { IsInFrame cells.now base operand }
+    ensures { result ≡ number_there cells.now base operand }
+{
+    match operand {
+        Operand::Number(number) => number,
+        Operand::Variable(index) => cells[base + FRAME_HEAD + index],
+    }
+}
+
+/// Whether a comparison holds in a frame that begins at `base`.
+#[inline(always)]
+fn holds(cells: &[i64], base: usize, asked: &Comparison) -> bool
+    requires { AreInFrame cells.now base asked.now }
+    ensures { result ≡ comparison asked.now.relation (number_there cells.now base asked.now.left)
+        (number_there cells.now base asked.now.right) }
+{
+    let x = number_of(cells, base, asked.left);
+    let y = number_of(cells, base, asked.right);
+    compare(asked.relation, x, y)
+}
+
+/// Whether a run ends at a marked address, where the newest frame begins at `base`.
+#[inline(always)]
+pub fn is_met(
+    asked: &[Option<Comparison>],
+    begun_steps: &[Option<StepNumber>],
+    at: usize,
+    cells: &[i64],
+    base: usize,
+) -> bool
+    requires begins { BeginsStep (slice_get begun_steps.now at) }
+    requires asked { (n : ℕ) → slice_get begun_steps.now at ≡ Some (Some n)
+        → MayBeInFrame cells.now base (slice_index_or asked.now n None) }
+    ensures { (n : ℕ) → slice_get begun_steps.now at ≡ Some (Some n)
+        → IsAnswer cells.now base (slice_index_or asked.now n None) result }
+{
+    let Some(step) = begun_steps[at] else {
+        return true;
+    };
+    match asked.get(step) {
+        Some(Some(comparison)) => holds(cells, base, comparison),
+        _ => true,
+    }
+}
