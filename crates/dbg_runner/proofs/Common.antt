@@ -15,7 +15,7 @@ pub use Rattle.dbg_runner.specs.Courses.{arrival, in_all, IsAt, IsCounted, IsOn,
 pub use Rattle.dbg_runner.specs.Hops.{gone_back, Hopped, moved, standing}
 pub use Rattle.dbg_runner.specs.Lawful.{due_in, EndsBy, faults, GoesBackBy, has_come, has_no_memory, is_due, is_held, is_over, is_spent, IsLawful, IsPassed, IsReportOf, IsSpent, lacks_memory, logs_in, logs_told, RunsAt, takes_all, Went, WentBack, WentOn}
 pub use Rattle.dbg_runner.specs.Laws.{AllButLastGoOn, AreCountedOn, AreReportsOf, by_go, by_quit, by_refusal, finding_hold, finding_none, HasLast, IsCut, KeepsOn, later, logs_between, logs_from, logs_of, LogsJoin, NothingDueIsPassed, numbers_of, NumbersJoin, passing, reports_of_run, RetreatsAreSilent, RetreatsHaveGoals, RetreatsLead, sending, taken_by, up_to_go}
-pub use Rattle.dbg_runner.specs.Plain.{Go, goes_back, Heading, heading_after, heading_of, Hold, PlainOrder, PlainReport, Quit}
+pub use Rattle.dbg_runner.specs.Plain.{Go, goes_back, Heading, heading_after, heading_of, Hold, PlainOrder, PlainReport}
 pub use Rattle.dbg_runner.specs.ReportFields.{IsReportWith, sliced, StandsAtEnd, unsliced, written_before}
 pub use Rattle.dbg_runner.specs.Reported.{beside_report, carried, Carries, counts_from, heading, in_report, IsKept, plain_report, Reported, stopped, trail_in, whereabouts}
 pub use Rattle.dbg_runner.specs.Retreating.{GoesOnBack, heading_back, IsRoomFor, Retreating, steps_again, steps_to, summary_back}
@@ -27,10 +27,10 @@ pub use Rattle.dbg_runner.specs.Turns.{going, heading_of_course, held_at, held_i
 pub use Rattle.dbg_runner.specs.declared.outcome.SliceOutcome.{SliceOutcome}
 pub use Rattle.dbg_runner.specs.declared.retreat.Way.TheVariants.{Returns, Searches}
 pub use Rattle.pl0_machine.specs.Machine.{frames_of, outcome_of, program, Standing}
-pub use Rattle.pl0_meaning.specs.Runs.{at, Faults, Goes, last_position, led_to, Outcome, outcome, Over, step_at, written, written_by, written_from}
+pub use Rattle.pl0_meaning.specs.Runs.{at, Faults, last_position, led_to, Outcome, outcome, Over, step_at, written, written_by, written_from}
 pub use Rattle.pl0_meaning.specs.declared.RunFault.{RunFault}
 pub use Rattle.pl0_tree.specs.Tree.{Block}
-pub use Rattle.std.proofs.Common.{[], add-one, ap, append-nil, append_assoc, arith, Bool, Box, box_value, false, filter, Global, IfSome, if◌then◌else◌, inl, inr, is_some, length, length-append, List, min, nat_eq, nat_le, None, Option, option_map, refl, Some, subst, suc, sym, true, zero, ℕ, ℤ, ⊎_elim, ◌*◌, ◌++◌, ◌+◌, ◌-◌, ◌<◌, ◌∙◌, ◌∷◌, ◌≡◌, ◌≢◌, ◌≤◌, ◌⊎◌}
+pub use Rattle.std.proofs.Common.{[], add-one, ap, append-nil, append_assoc, arith, Bool, Box, box_value, false, filter, Global, IfSome, if◌then◌else◌, inl, inr, is_some, length, List, min, nat_eq, nat_le, None, Option, option_map, refl, Some, subst, suc, sym, true, zero, ℕ, ℤ, ⊎_elim, ◌*◌, ◌++◌, ◌+◌, ◌-◌, ◌<◌, ◌∙◌, ◌∷◌, ◌≡◌, ◌≢◌, ◌≤◌, ◌⊎◌}
 pub use Rattle.std.proofs.Math.Nat.{min-eq_left, min-eq_right, min-le_left, min-le_right}
 pub use Rattle.std.proofs.lemmas.Bool.{cases_eq, cases_lt, eqb-false, leb-true, true≢false}
 pub use Rattle.std.specs.Prelude.{option_and_then, ◌&&◌}

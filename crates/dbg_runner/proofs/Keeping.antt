@@ -70,8 +70,7 @@ pub stopped_considered : (r : Reported) (trail : Trail) → IsKept r → ¬ (r.o
     → IsConsidered (stopped r trail)
 stopped_considered r trail kept not_over =
     record {
-      behind =
-          refl;
+      behind = refl;
       running = runs_there (program_of r.unit) (plain_report r) (goes_back r.mode) kept.went not_over;
     }
 

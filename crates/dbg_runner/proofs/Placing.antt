@@ -27,8 +27,7 @@ module _ (run : ℕ) (mode : Mode) (d new : Debugged) (room : Room) (e : SliceOu
           run = run;
           text = (took.unit i).tree.text.items;
           plan = took.breakpoints i;
-          counted_from =
-              took.counted_from i;
+          counted_from = took.counted_from i;
           mode = mode;
           start = d.position;
         };

@@ -41,8 +41,7 @@ module _ (r : Inside) (inv : IsRetreat r) where
     abbrev report_with : SliceOutcome → Option Debugged → Reported
     report_with outcome d =
         record {
-          run =
-              run;
+          run = run;
           unit = r.debuggee.value.unit;
           plan = r.debuggee.value.breakpoints;
           counted_from = r.counted_from;
@@ -54,8 +53,7 @@ module _ (r : Inside) (inv : IsRetreat r) where
           again = r.again;
           numbers = [];
           logs = [];
-          outcome =
-              outcome;
+          outcome = outcome;
           debuggee = d;
         }
 
@@ -80,8 +78,7 @@ module _ (r : Inside) (inv : IsRetreat r) where
               unit = refl;
               breakpoints = refl;
               before = stands_before;
-              considered =
-                  inv.considered;
+              considered = inv.considered;
             },
           );
     }
@@ -119,12 +116,10 @@ module _ (r : Inside) (inv : IsRetreat r) where
           ∙ (λ i. record {
             unit = r.debuggee.value.unit;
             position = sym there i;
-            breakpoints =
-                r.debuggee.value.breakpoints;
+            breakpoints = r.debuggee.value.breakpoints;
             counted_from = counts i;
             next = next_is i;
-            trail =
-                ap (λ (d : Debugged). d.trail) (sym box_is) i;
+            trail = ap (λ (d : Debugged). d.trail) (sym box_is) i;
           })
 
       pub arrives : IsReportWith (of (out.Due why)) (Sliced room (Some box))

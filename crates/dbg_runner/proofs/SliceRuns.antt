@@ -89,8 +89,7 @@ module _ (start : Debugged) (room : Room) (was : IsConsidered start) (of : IsRoo
         unit = room.unit;
         breakpoints = room.breakpoints;
         numbers = (sym closes.1) i;
-        logs =
-            (of.logs ∙ sym closes.3) i;
+        logs = (of.logs ∙ sym closes.3) i;
       }
 
   pub on_its_way : option_and_then (λ a. ending a logged) advance ≡ None → Underway Continue start new more
@@ -132,8 +131,7 @@ module _ (start : Debugged) (room : Room) (was : IsConsidered start) (of : IsRoo
         unit = room.unit;
         position = new.position;
         breakpoints = room.breakpoints;
-        counted_from =
-            new.counted_from;
+        counted_from = new.counted_from;
         next = new.position + 1;
         trail = new.trail;
       }
