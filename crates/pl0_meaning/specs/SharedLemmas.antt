@@ -1,5 +1,5 @@
 -- What proofs of several crates use: the numbers that steps write.
-use Rattle.std.specs.Prelude.{◌≡◌, ℕ, zero, suc, ◌+◌, ◌-◌, ◌≤◌, ◌++◌, Some, None, length}
+use Rattle.std.specs.Prelude.{◌≡◌, ℕ, zero, suc, ◌+◌, ◌-◌, ◌≤◌, ◌++◌, None, length}
 use Rattle.std.proofs.Common.{ap, sym, ◌∙◌, arith, add-one, append-nil, append_assoc, length-append}
 use Rattle.pl0_tree.specs.Tree.{Block}
 use Rattle.pl0_meaning.specs.Runs.{Outcome, Goes, outcome, written_by, written_from, written}
