@@ -270,7 +270,12 @@ needs_none f session events past stands open_ (File answer) needs =
     (stands.goes_on (sym stands.ending_is ∙ open_)).launch_is ∙ needs
 needs_none f session events past stands open_ (Report r) needs =
     let on = stands.goes_on (sym stands.ending_is ∙ open_) in
-    (on.launch_is ∙ needs.0, λ expects. needs.1 (accepts_expected session.phase past r on.knows.phase_is expects))
+    let launch_is = on.launch_is ∙ needs.0 in
+    elim needs.1 [
+      | inl stranger ↦
+          (launch_is, inl (λ expects. stranger (accepts_expected session.phase past r on.knows.phase_is expects)))
+      | inr quiet ↦ (launch_is, inr quiet)
+    ]
 needs_none f session events past stands open_ (Piece piece) needs = absurd needs
 needs_none f session events past stands open_ NoMemoryCame needs = absurd needs
 

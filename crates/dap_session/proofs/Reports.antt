@@ -1,9 +1,11 @@
 -- A report that a session takes.
 use Rattle.std.proofs.Common.{◌≡◌, inl, inr, None, Some, Result, Ok, Err, refl, sym, ◌∙◌, ap, subst}
+use Rattle.std.specs.Prelude.{OnOk}
 use Rattle.dbg_runner.specs.declared.outcome.SliceOutcome.{SliceOutcome}
 use Rattle.dbg_runner.specs.declared.outcome.SliceOutcome.TheVariants as slice
 use Rattle.dbg_runner.specs.Plain.{PlainReport, Heading, heading_of}
 use Rattle.dap_history.specs.declared.fault.SessionFault.{SessionFault}
+use Rattle.dap_history.specs.declared.fault.SessionFault.TheVariants.{NoMemory}
 use Rattle.dap_history.specs.History.{Accepted, History}
 use Rattle.dap_history.specs.Readings.{closing_report, last_run, position}
 use Rattle.dap_history.specs.Reports.{Accepts}
@@ -16,13 +18,19 @@ use Rattle.dap_phase.specs.Phases.{launch_of, IsPhase}
 use Rattle.dap_session.specs.Ports.{Ports}
 use Rattle.dap_session.specs.State.{State, GoesOn}
 use Rattle.dap_session.specs.Taking.{Expects, Toward}
-use Rattle.dap_session.specs.Handling.{HandlesItem, Handles}
+use Rattle.dap_session.specs.Handling.{NeededNoMemory, HandlesItem, Handles}
 use Rattle.dap_session.proofs.Going.{stops_at_item, arrives_at_once}
 
 -- only a report of a failed allocation ends the session
 pub ends_nothing : (outcome : SliceOutcome) → ¬ (outcome ≡ slice.NoMemory) → closing_report outcome ≡ None
 ends_nothing slice.NoMemory other = absurd (other refl)
 ends_nothing _ other = refl
+
+-- no memory was needed where sending needed none
+pub needed_none : (result : Result (Unit {0}) SessionFault) (session : State)
+    → OnOk result (launch_of session.phase ≡ None) → ¬ (result ≡ Err NoMemory) → NeededNoMemory result session
+needed_none (Ok u) session free enough = λ open_. free
+needed_none (Err fault) session free enough = λ lost. enough (ap Err lost)
 
 -- ---- a report that is passed over
 

@@ -21,6 +21,7 @@ use Rattle.dap_phase.specs.declared.phase.Phase.{Phase}
 use Rattle.dap_phase.specs.declared.phase.Phase.TheVariants as phase
 use Rattle.dap_phase.specs.Phases.{launch_of}
 use Rattle.dap_phase.specs.Runs.{heading_in}
+use Rattle.dap_replies.specs.Replied.{IsQuiet}
 use Rattle.dap_session.specs.declared.want.Want.{Want}
 use Rattle.dap_session.specs.Ports.{Ports}
 use Rattle.dap_session.specs.Sending.{Sends, RefusesNothing, BreaksOff}
@@ -76,13 +77,13 @@ abbrev pub Expects : Phase → PlainReport → Type 0
 Expects (phase.Running t run) r = heading_of r ≡ heading_in t.runs run
 Expects _ r = ⊥
 
--- The event needs no memory: it is the end of the input or a failed read, or a file that no launch waits for, or a
--- report that isn't accepted while no launch waits.
+-- The event needs no memory: it is the end of the input or a failed read, or, while no launch waits, a file, or a
+-- report that isn't accepted or tells a client nothing.
 abbrev pub NeedsNoMemory : Option Launch → (PlainReport → Type 0) → Incoming → Type 0
 NeedsNoMemory launch accepts End = Unit {0}
 NeedsNoMemory launch accepts ReadFailed = Unit {0}
 NeedsNoMemory launch accepts (File answer) = launch ≡ None
-NeedsNoMemory launch accepts (Report r) = (launch ≡ None) × (¬ accepts r)
+NeedsNoMemory launch accepts (Report r) = (launch ≡ None) × ((¬ accepts r) ⊎ IsQuiet r)
 NeedsNoMemory launch accepts _ = ⊥
 
 -- The event says that memory was lacking, for a piece or for the file that a launch waits for.

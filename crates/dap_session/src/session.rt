@@ -94,7 +94,8 @@ impl Session {
     ///
     /// At a framing fault, all was sent that the contents before it cause. At any other fault, what was sent is a prefix of
     /// what the event causes. Either way the session has given up: every later call sends nothing and returns the same
-    /// fault. `NoMemory` is returned only at an event that needs memory; the end of the input and a failed read need none.
+    /// fault. `NoMemory` is returned only at an event that needs memory: the end of the input, a failed read and a report
+    /// that tells a client nothing need none.
     pub fn take<O: Out, D: Orders>(
         &mut self,
         event: Event,

@@ -8,7 +8,7 @@ use dbg_runner::Report;
 use std::mem;
 
 impl Session {
-    ghost use Rattle.std.specs.Prelude.{◌≡◌, None, IfSome, IfNone, OnOk};
+    ghost use Rattle.std.specs.Prelude.{◌≡◌, ◌⊎◌, None, IfSome, IfNone, OnOk};
     ghost use Rattle.dbg_runner.specs.Plain.{heading_of};
     ghost use Rattle.dbg_runner.specs.Reported.{plain_report};
     ghost use Rattle.dap_history.specs.History.{Accepted, History, next_seq};
@@ -16,6 +16,7 @@ impl Session {
     ghost use Rattle.dap_phase.specs.Runs.{heading_in};
     ghost use Rattle.dap_phase.specs.Phases.{IsPhase, launch_of};
     ghost use Rattle.dap_phase.specs.declared.phase.Phase.TheVariants as phase_is;
+    ghost use Rattle.dap_replies.specs.Replied.{IsQuiet};
     ghost use Rattle.dap_session.specs.Ports.{ports};
     ghost use Rattle.dap_session.specs.State.{GoesOn};
     ghost use Rattle.dap_session.specs.Taking.{Expects};
@@ -33,7 +34,9 @@ impl Session {
             Handles result past rest (Reports (plain_report report)) self.new
             (ports (O.seen out.old) (D.seen orders.old))
             (ports (O.seen out.new) (D.seen orders.new)) }
-        ensures enough { launch_of self.old.phase ≡ None → (¬ Expects self.old.phase (plain_report report)) → NeededNoMemory result self.new }
+        ensures enough { launch_of self.old.phase ≡ None →
+            (¬ Expects self.old.phase (plain_report report)) ⊎ IsQuiet (plain_report report) →
+            NeededNoMemory result self.new }
         ensures well { OnOk result (IsWell self.new.ending) }
         ensures out { O.origin out.new ≡ O.origin out.old }
         ensures orders { D.origin orders.new ≡ D.origin orders.old }
@@ -79,6 +82,7 @@ impl Session {
             HandlesItem result past (Accepted (plain_report report)) self.new
             (ports (O.seen out.old) (D.seen orders.old))
             (ports (O.seen out.new) (D.seen orders.new)) }
+        ensures enough { IsQuiet (plain_report report) → NeededNoMemory result self.new }
         ensures stream { self.new.stream ≡ self.old.stream }
         ensures ending { self.new.ending ≡ None }
         ensures out { O.origin out.new ≡ O.origin out.old }

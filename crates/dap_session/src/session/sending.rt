@@ -1,6 +1,6 @@
 //! Sending: all frames of an item are built first, then its order is pushed, and then the frames are put.
 
-ghost use Rattle.std.specs.Prelude.{◌≡◌, ◌++◌, ◌∷◌, [], ◌⊎◌, ◌+◌, ◌≤◌, ◌<◌, ◌^◌, map, length, option_map, IfOk, IfErr, OnOk, None};
+ghost use Rattle.std.specs.Prelude.{◌≡◌, ◌++◌, ◌∷◌, [], ◌⊎◌, ◌+◌, ◌≤◌, ◌<◌, ◌^◌, map, length, option_map, IfOk, IfErr, OnOk, IsOk, None};
 ghost use Rattle.std.specs.Option.{option_to_list};
 ghost use Rattle.dap_frame.specs.Frame.{frame_of};
 ghost use Rattle.dap_msg.specs.Outgoing.{text_of};
@@ -36,7 +36,8 @@ struct Frames {
 }
 
 impl Session {
-    ghost use Rattle.std.specs.Prelude.{◌≡◌, None, OnOk};
+    ghost use Rattle.std.specs.Prelude.{◌≡◌, ◌≢◌, [], None, Err, OnOk};
+    ghost use Rattle.dap_history.specs.declared.fault.SessionFault.TheVariants.{NoMemory};
     ghost use Rattle.dap_history.specs.History.{Step, History, next_seq};
     ghost use Rattle.dap_phase.specs.Phases.{IsPhase, launch_of};
     ghost use Rattle.dap_session.specs.Ports.{ports};
@@ -56,6 +57,8 @@ impl Session {
             (ports (O.seen out.new) (D.seen orders.new)) }
         ensures phase { OnOk result ((past : History) → IsPhase effect.phase past → IsPhase self.new.phase past) }
         ensures free { OnOk result (launch_of self.new.phase ≡ None) }
+        // Where there is no message, no memory is needed.
+        ensures enough { answer ≡ None → effect.events ≡ [] → result ≢ Err NoMemory }
         ensures stream { self.new.stream ≡ self.old.stream }
         ensures ending { self.new.ending ≡ self.old.ending }
         ensures out { O.origin out.new ≡ O.origin out.old }
@@ -101,6 +104,7 @@ impl Frames {
         ensures seq { IfOk result (λ all. all.next_seq ≡ seq + length (with_answer answer (map Event events))) }
         ensures fits { IfOk result (λ all. seq ≤ 2 ^ 53 → all.next_seq ≤ 2 ^ 53) }
         ensures err { IfErr result (λ fault. IsNotBuilt fault seq (with_answer answer (map Event events))) }
+        ensures enough { answer ≡ None → events ≡ [] → IsOk result }
     {
         let mut all = Frames {
             frames: Vec::new(alloc),
@@ -119,6 +123,7 @@ impl Frames {
     ) -> Result<(), SessionFault>
         ensures ok { OnOk result (AddsFrames (option_to_list answer) self.old self.new) }
         ensures err { IfErr result (λ fault. IsNotBuilt fault self.old.next_seq (option_to_list answer)) }
+        ensures enough { answer ≡ None → IsOk result }
     {
         match answer {
             Some(answer) => self.add(content, &answer),
@@ -134,6 +139,7 @@ impl Frames {
     ) -> Result<(), SessionFault>
         ensures ok { OnOk result (AddsFrames (map Event events.items) self.old self.new) }
         ensures err { IfErr result (λ fault. IsNotBuilt fault self.old.next_seq (map Event events.items)) }
+        ensures enough { events.items ≡ [] → IsOk result }
     {
         for event in events {
             self.add(content, &Outgoing::Event(event))?;

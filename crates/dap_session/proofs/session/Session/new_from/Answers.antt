@@ -1,4 +1,4 @@
-use Rattle.std.proofs.Common.{[], refl, ap, ◌∙◌, rules}
+use Rattle.std.proofs.Common.{[], refl, ap, rules}
 use Rattle.dap_history.specs.Events.{only_bytes}
 use Rattle.dap_session.proofs.session.Session.new_from.Goals as goal
 

@@ -1,4 +1,4 @@
-use Rattle.std.proofs.Common.{sym, ◌∙◌, ap, subst}
+use Rattle.std.proofs.Common.{inl, inr, sym, ◌∙◌, ap, subst}
 use Rattle.dbg_runner.specs.Reported.{plain_report}
 use Rattle.dap_phase.specs.Phases.{IsPhase, launch_of}
 use Rattle.dap_session.specs.Taking.{Expects}
@@ -26,6 +26,9 @@ returns-in_default-clause-enough g c = λ free other open_. ap (λ s. launch_of 
 
 pub returns-clause-enough : goal.returns-clause-enough
 returns-clause-enough g c = λ free other.
-    let found =
-    c.in-Some.ensures.found in absurd
-    (other (subst (λ p. Expects p (plain_report c.args.report)) (sym found.0) found.1))
+    let found = c.in-Some.ensures.found in
+    elim other [
+      | inl stranger ↦
+          absurd (stranger (subst (λ p. Expects p (plain_report c.args.report)) (sym found.0) found.1))
+      | inr quiet ↦ c.accept.ensures.enough quiet
+    ]
