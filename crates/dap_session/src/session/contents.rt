@@ -1,25 +1,20 @@
 //! How a session takes pieces of the input, and the contents in them.
 
-ghost use Rattle.std.specs.Prelude.{◌≡◌, ◌⊎◌, IfOk, IfErr, OnOk, MatchOption, None};
-ghost use Rattle.dap_frame.specs.Frame.{IsFrameInFront, IsOpen};
-ghost use Rattle.dap_frame.specs.Header.{FaultAt};
-ghost use Rattle.dap_frame.specs.declared.fault.FramingFault.{FramingFault};
-ghost use Rattle.dap_history.specs.declared.fault.SessionFault.TheVariants.{Frame, NoMemory};
-
 use super::Session;
 use crate::ports::{Orders, Out};
-use dap_frame::{Decoder, FramingFault};
+use dap_frame::frame_laws;
 use dap_history::{SessionFault, reading_laws};
-use dap_msg::{message_laws, read_from};
+use dap_msg::{Request, message_laws, read_from};
 use dap_phase::Phase;
 use dap_replies::phase_laws;
 
 impl Session {
-    ghost use Rattle.std.specs.Prelude.{◌≡◌, Option, None, OnOk, is_some};
-    ghost use Rattle.dap_msg.specs.declared.request.Request.{Request};
-    ghost use Rattle.dap_msg.specs.Request.{IsRequestFrom};
+    ghost use Rattle.std.specs.Prelude.{◌≡◌, ◌<◌, length, Option, None, OnOk, IfOk, IfErr, IfSome, is_some};
+    ghost use Rattle.dap_frame.specs.Frame.{HasFrame};
+    ghost use Rattle.dap_msg.specs.Laws.{IsWithin};
+    ghost use Rattle.dap_history.specs.declared.fault.SessionFault.TheVariants.{NoMemory};
     ghost use Rattle.dap_history.specs.History.{History};
-    ghost use Rattle.dap_history.specs.Events.{Rest, IsTaking, Piece};
+    ghost use Rattle.dap_history.specs.Events.{Rest, IsTaking, IsInFront, Piece};
     ghost use Rattle.dap_phase.specs.Phases.{launch_of};
     ghost use Rattle.dap_session.specs.Ports.{ports};
     ghost use Rattle.dap_session.specs.State.{GoesOn};
@@ -74,26 +69,49 @@ impl Session {
     {
         reading_laws();
         while self.ending.is_none() && !self.waits() {
-            let Some(content) = next_content(&mut self.decoder)? else {
-                return Ok(());
-            };
-            self.take_content(content.as_slice(), out, orders)?;
+            match self.decoder.has_frame() {
+                Ok(true) => {}
+                Ok(false) => return Ok(()),
+                Err(fault) => return Err(SessionFault::Frame(fault)),
+            }
+            let request = self.read_front()?;
+            self.take_content(request, out, orders)?;
         }
         Ok(())
     }
 
-    /// Takes a content, which may be no request.
+    /// Reads the content in front where it stands, and passes it. It is `None` where it is no request.
+    fn read_front(&mut self) -> Result<Option<Request>, SessionFault>
+        requires { HasFrame self.old.stream.rest }
+        ensures ok { IfOk result (λ request.
+            IsInFront self.old.stream.first self.old.stream.rest request self.new.stream.rest) }
+        ensures fits { IfOk result (λ request. IfSome request (λ r. IsWithin r.body)) }
+        ensures err { IfErr result (λ fault. fault ≡ NoMemory) }
+        ensures shorter { length self.new.stream.rest < length self.old.stream.rest }
+        ensures rest { self.new ≡ record self.old { stream = record self.old.stream { rest = self.new.stream.rest } } }
+    {
+        frame_laws();
+        message_laws();
+        let read = read_from(self.alloc, self.first, self.decoder.content());
+        self.decoder.pass();
+        let Ok(request) = read else {
+            return Err(SessionFault::NoMemory);
+        };
+        Ok(request)
+    }
+
+    /// Takes what a content was read as: a request, or none.
     fn take_content<O: Out, D: Orders>(
         &mut self,
-        content: &[u8],
+        request: Option<Request>,
         out: &mut O,
         orders: &mut D,
     ) -> Result<(), SessionFault>
         requires taking { self.old.ending ≡ None }
+        requires fits { IfSome request (λ r. IsWithin r.body) }
         requires free { launch_of self.old.phase ≡ None }
         ensures comes { (past : History) → HasHistory self.old past →
-            (request : Option Request) × IsRequestFrom self.old.stream.first content.now request
-            × HandlesContent result past request self.new
+            HandlesContent result past request self.new
             (ports (O.seen out.old) (D.seen orders.old))
             (ports (O.seen out.new) (D.seen orders.new)) }
         ensures stream { self.new.stream ≡ self.old.stream }
@@ -101,30 +119,13 @@ impl Session {
         ensures out { O.origin out.new ≡ O.origin out.old }
         ensures orders { D.origin orders.new ≡ D.origin orders.old }
     {
-        message_laws();
-        match read_from(self.alloc, self.first, content) {
-            Ok(Some(request)) => self.take_request(request, out, orders),
-            Ok(None) => {
+        match request {
+            Some(request) => self.take_request(request, out, orders),
+            None => {
                 reading_laws();
                 phase_laws();
                 Ok(())
             }
-            Err(_) => Err(SessionFault::NoMemory),
         }
-    }
-}
-
-/// Returns the next content of a stream, or `None` where no whole frame has come yet.
-fn next_content(decoder: &mut Decoder) -> Result<Option<Vec<u8>>, SessionFault>
-    ensures content { IfOk result (λ next. MatchOption next
-        (IsOpen decoder.old.rest × (decoder.new ≡ decoder.old))
-        (λ content. IsFrameInFront decoder.old.rest content.items decoder.new.rest × (decoder.new.fault ≡ None))) }
-    ensures fault { IfErr result (λ fault. decoder.old.fault ≡ None → (fault ≡ NoMemory)
-        ⊎ ((k : FramingFault) × (fault ≡ Frame k) × FaultAt decoder.old.rest k)) }
-{
-    match decoder.next_content() {
-        Ok(next) => Ok(next),
-        Err(FramingFault::NoMemory) => Err(SessionFault::NoMemory),
-        Err(fault) => Err(SessionFault::Frame(fault)),
     }
 }
