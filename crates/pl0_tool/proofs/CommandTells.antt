@@ -11,6 +11,7 @@ use Rattle.pl0_tool.specs.declared.report.Report.{Report}
 use Rattle.pl0_tool.specs.declared.running.RunEnd.{RunEnd}
 use Rattle.pl0_tool.specs.Loading.{IsProgramOf}
 use Rattle.pl0_tool.specs.Running.{HasRun}
+use Rattle.pl0_tool.specs.Listing.{listing}
 use Rattle.pl0_tool.specs.Commands.{IsReport, RunTells, ProgramTells, Tells, start_of, end_errors, end_ending}
 
 pub run_told : (end : RunEnd) (file : List ℕ) (start last : Standing) (report : Report) (before after : Output)
@@ -49,10 +50,10 @@ checked_program task file unit report out is told =
 
 pub listed_program : {E : Type 0} (task : Task) (file : List ℕ) (unit : Compiled) (r : Result Report E) (out : Output)
     → task ≡ Listing
-    → IfOk r (λ report. (report.errors.items ≡ []) × (report.ending ≡ Success))
+    → IfOk r (IsReport (listing unit) [] Success)
     → IfOk r (λ report. ProgramTells task file unit report out out)
 listed_program task file unit (Ok report) out is told =
-    subst (λ (t : Task). ProgramTells t file unit report out out) (sym is) (told.0, told.1, refl)
+    subst (λ (t : Task). ProgramTells t file unit report out out) (sym is) (told, refl)
 listed_program task file unit (Err e) out is told = tt
 
 pub run_program : {E : Type 0} (task : Task) (file : List ℕ) (unit : Compiled) (r : Result Report E)

@@ -17,6 +17,7 @@ use Rattle.pl0_tool.specs.declared.running.RunEnd.TheVariants.{Ended, Faulted, W
 use Rattle.pl0_tool.specs.Loading.{IsProgramOf}
 use Rattle.pl0_tool.specs.Running.{HasRun}
 use Rattle.pl0_tool.specs.Faulting.{fault_report}
+use Rattle.pl0_tool.specs.Listing.{listing}
 
 -- a report of these bytes, and of a command that ends so
 abbrev pub IsReport : List ℕ → List ℕ → Ending → Report → Type 0
@@ -57,8 +58,7 @@ abbrev pub ProgramTells : Task → List ℕ → Compiled → Report → Output �
 ProgramTells Run file unit report before after = RunTells file (start_of unit) report before after
 ProgramTells (Trace from steps drawn) file unit report before after = after ≡ before
 ProgramTells Check file unit report before after = IsReport [] [] Success report × (after ≡ before)
-ProgramTells Listing file unit report before after =
-    (report.errors.items ≡ []) × (report.ending ≡ Success) × (after ≡ before)
+ProgramTells Listing file unit report before after = IsReport (listing unit) [] Success report × (after ≡ before)
 
 -- a text's first mistake is told; or, where it is a program's, what the task tells of that
 abbrev pub Tells : Task → List ℕ → List ℕ → Report → Output → Output → Type 0

@@ -9,6 +9,16 @@ pub mod Tracing
 pub mod Drawing
 -- what is told of a fault
 pub mod Faulting
+-- the lines of a text
+pub mod TextLines
+-- columns of a page
+pub mod Columns
+-- how an instruction is written
+pub mod Instructions
+-- the listing of a program
+pub mod Listing
+-- the table of a trace
+pub mod Table
 -- how commands end
 pub mod Reporting
 -- what each command tells of a text

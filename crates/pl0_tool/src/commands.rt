@@ -4,6 +4,7 @@ ghost use Rattle.std.specs.Prelude.{◌≡◌, ◌<◌, ◌≤◌, [], IfOk};
 ghost use Rattle.pl0_machine.specs.Machine.{depth_of};
 ghost use Rattle.byte_streams.specs.Streams.{output as output_at};
 ghost use Rattle.pl0_tool.specs.Commands.{Tells, ProgramTells, RunTells, IsReport, start_of};
+ghost use Rattle.pl0_tool.specs.Listing.{listing};
 ghost use Rattle.pl0_tool.specs.declared.report.Ending.TheVariants.{Success};
 
 use crate::arguments::Task;
@@ -84,7 +85,7 @@ fn nothing_told(alloc: Global) -> Report
 
 /// Lists a program.
 fn list_program(alloc: Global, unit: &Unit) -> Result<Report, AllocError>
-    ensures { IfOk result (λ report. (report.errors.items ≡ []) × (report.ending ≡ Success)) }
+    ensures { IfOk result (IsReport (listing unit.now) [] Success) }
 {
     let listed = listing(alloc, unit)?;
     Ok(Report::new(listed, Vec::new(alloc), Ending::Success))

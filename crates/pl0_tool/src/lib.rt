@@ -10,9 +10,11 @@
 
 mod arguments;
 mod blocks;
+mod columns;
 mod commands;
 mod drawing;
 mod fault;
+mod lines;
 mod listing;
 mod output;
 mod program;

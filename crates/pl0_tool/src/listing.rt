@@ -1,5 +1,13 @@
 //! The listing of a program: the code under each line of its text.
 
+ghost use Rattle.std.specs.Prelude.{◌≡◌, ◌++◌, IfOk, OnOk, string_bytes, take, drop};
+ghost use Rattle.pl0_tool.specs.Instructions.{instruction_text, operation_text};
+ghost use Rattle.pl0_tool.specs.Listing.{listing, line_of, step_of, step_at, first_begun, enters, instruction_line, mark};
+ghost use Rattle.pl0_tool.specs.TextLines.{text_lines, with_feeds};
+
+use crate::columns::put_right;
+use crate::lines::first_line;
+use pl0_tree::StepNumber;
 use pl0_unit::{Instruction, Operation, Unit};
 use std::alloc::{AllocError, Global};
 
@@ -9,52 +17,107 @@ use std::alloc::{AllocError, Global};
 /// # Errors
 ///
 /// `AllocError`, where an allocation failed.
-pub fn listing(alloc: Global, unit: &Unit) -> Result<Vec<u8>, AllocError> {
+pub fn listing(alloc: Global, unit: &Unit) -> Result<Vec<u8>, AllocError>
+    ensures { IfOk result (λ listed. listed.items ≡ listing unit.now) }
+{
     let mut listed = Vec::new(alloc);
     let mut left = unit.tree.text.as_slice();
     let mut line = 0;
     for (address, instruction) in unit.code.iter().enumerate() {
         let wanted = line_of(unit, address, *instruction).max(line);
-        for _ in line..wanted {
-            left = put_line(&mut listed, left)?;
-        }
+        left = put_lines(&mut listed, left, (wanted - line) as usize)?;
         line = wanted;
         put_instruction(alloc, &mut listed, unit, address, *instruction)?;
     }
-    listed.extend_from_slice(left)?;
+    // There are no more lines than bytes.
+    put_lines(&mut listed, left, left.len())?;
     Ok(listed)
 }
 
-/// Appends the first line of a text, and returns what follows it.
-fn put_line<'a>(listed: &mut Vec<u8>, text: &'a [u8]) -> Result<&'a [u8], AllocError> {
-    let end = match text.iter().position(|byte| *byte == b'\n') {
-        Some(at) => at + 1,
-        None => text.len(),
-    };
-    listed.extend_from_slice(&text[..end])?;
-    Ok(&text[end..])
+/// Appends the first lines of a text, as many as it has of this `count`, and returns what follows them.
+fn put_lines<'a>(listed: &mut Vec<u8>, text: &'a [u8], count: usize) -> Result<&'a [u8], AllocError>
+    ensures left { IfOk result (λ left. text_lines left.now ≡ drop count (text_lines text.now)) }
+    ensures listed { OnOk result (listed.new.items ≡ listed.old.items
+        ++ with_feeds (take count (text_lines text.now))) }
+{
+    let mut left = text;
+    for put in 0..count {
+        left = put_line(listed, left)?;
+    }
+    Ok(left)
 }
 
-/// The line under which an instruction stands, by its number: that of the step which it begins. What enters a block
-/// stands with the step that follows; 0 stands for the line of the instruction before.
-fn line_of(unit: &Unit, address: usize, instruction: Instruction) -> u32 {
-    let enters = match instruction {
+/// Appends the first line of a text that has one, and returns what follows it.
+fn put_line<'a>(listed: &mut Vec<u8>, text: &'a [u8]) -> Result<&'a [u8], AllocError>
+    ensures left { IfOk result (λ left. text_lines left.now ≡ drop 1 (text_lines text.now)) }
+    ensures listed { OnOk result (listed.new.items ≡ listed.old.items ++ with_feeds (take 1 (text_lines text.now))) }
+{
+    match first_line(text) {
+        None => Ok(text),
+        Some((line, left)) => {
+            listed.extend_from_slice(line)?;
+            listed.push(b'\n')?;
+            Ok(left)
+        }
+    }
+}
+
+/// Returns the line under which an instruction stands, by its number: that of its step, and 0 where it has none.
+fn line_of(unit: &Unit, address: usize, instruction: Instruction) -> u32
+    ensures { result ≡ line_of unit.now address instruction }
+{
+    let Some(number) = step_of(unit, address, instruction) else {
+        return 0;
+    };
+    match unit.steps.get(number) {
+        Some(step) => step.place.line,
+        None => 0,
+    }
+}
+
+/// Returns the step with which an instruction stands: the one that it begins. What enters a block stands with the step
+/// that follows.
+fn step_of(unit: &Unit, address: usize, instruction: Instruction) -> Option<StepNumber>
+    ensures { result ≡ step_of unit.now address instruction }
+{
+    if enters(address, instruction) {
+        first_begun(unit.begun_steps.as_slice(), address)
+    } else {
+        step_at(unit, address)
+    }
+}
+
+/// Whether an instruction enters a block.
+fn enters(address: usize, instruction: Instruction) -> bool
+    ensures { result ≡ enters address instruction }
+{
+    match instruction {
         Instruction::Enter(_) => true,
         Instruction::Jump(target) => address < target,
         _ => false,
-    };
-    for begun in unit.begun_steps.iter().skip(address) {
-        if let Some(number) = *begun {
-            return match unit.steps.get(number) {
-                Some(step) => step.place.line,
-                None => 0,
-            };
-        }
-        if !enters {
-            return 0;
+    }
+}
+
+/// Returns the first step that is begun at an address or behind it.
+fn first_begun(begun: &[Option<StepNumber>], address: usize) -> Option<StepNumber>
+    ensures { result ≡ first_begun (drop address begun.now) }
+{
+    for index in address..begun.len() {
+        if let Some(step) = begun[index] {
+            return Some(step);
         }
     }
-    0
+    None
+}
+
+/// Returns the step that the instruction at an address begins, if it begins one.
+fn step_at(unit: &Unit, address: usize) -> Option<StepNumber>
+    ensures { result ≡ step_at unit.now address }
+{
+    match unit.begun_steps.get(address) {
+        Some(step) => *step,
+        None => None,
+    }
 }
 
 /// Appends an instruction.
@@ -64,26 +127,39 @@ fn put_instruction(
     unit: &Unit,
     address: usize,
     instruction: Instruction,
-) -> Result<(), AllocError> {
-    let mark = match unit.begun_steps.get(address) {
-        Some(Some(step)) => format!(in alloc; "@{step}")?,
-        _ => String::new(alloc),
-    };
+) -> Result<(), AllocError>
+    ensures { OnOk result (listed.new.items ≡ listed.old.items ++ instruction_line unit.now address instruction) }
+{
+    let mark = mark(alloc, step_at(unit, address))?;
+    put_right(listed, 10, mark.as_bytes())?;
+    listed.push(b' ')?;
+    let number = format!(in alloc; "{address}")?;
+    put_right(listed, 5, number.as_bytes())?;
     let text = instruction_text(alloc, instruction)?;
-    let mark = mark.as_str();
     let text = text.as_str();
-    let line = format!(in alloc; "{mark:>10} {address:>5} {text}\n")?;
-    listed.extend_from_slice(line.as_bytes())
+    let rest = format!(in alloc; " {text}\n")?;
+    listed.extend_from_slice(rest.as_bytes())
 }
 
-/// An instruction's name, level and address, and the name of its operation.
-fn instruction_text(alloc: Global, instruction: Instruction) -> Result<String, AllocError> {
+/// Returns the mark of a step that is begun, if one is.
+fn mark(alloc: Global, begun: Option<StepNumber>) -> Result<String, AllocError>
+    ensures { IfOk result (λ text. string_bytes text ≡ mark begun) }
+{
+    match begun {
+        Some(step) => format!(in alloc; "@{step}"),
+        None => Ok(String::new(alloc)),
+    }
+}
+
+/// Returns an instruction's name, level and address.
+fn instruction_text(alloc: Global, instruction: Instruction) -> Result<String, AllocError>
+    ensures { IfOk result (λ text. string_bytes text ≡ instruction_text instruction) }
+{
     match instruction {
         Instruction::Literal(value) => format!(in alloc; "LIT 0 {value}"),
         Instruction::Operate(operation) => {
-            let number = operation as u8;
-            let name = operation_name(operation);
-            format!(in alloc; "OPR 0 {number:<2}  {name}")
+            let operation = operation_text(operation);
+            format!(in alloc; "OPR 0 {operation}")
         }
         Instruction::Load { level, address } => format!(in alloc; "LOD {level} {address}"),
         Instruction::Store { level, address } => format!(in alloc; "STO {level} {address}"),
@@ -94,22 +170,24 @@ fn instruction_text(alloc: Global, instruction: Instruction) -> Result<String, A
     }
 }
 
-/// What an operation is called.
-fn operation_name(operation: Operation) -> &'static str {
+/// Returns an operation's number, and what it is called.
+fn operation_text(operation: Operation) -> &'static str
+    ensures { result.now ≡ operation_text operation }
+{
     match operation {
-        Operation::Return => "return",
-        Operation::Negate => "negate",
-        Operation::Add => "add",
-        Operation::Subtract => "subtract",
-        Operation::Multiply => "multiply",
-        Operation::Divide => "divide",
-        Operation::Odd => "odd",
-        Operation::Equal => "equal",
-        Operation::Unequal => "not equal",
-        Operation::Less => "less",
-        Operation::AtLeast => "not less",
-        Operation::Greater => "greater",
-        Operation::AtMost => "not greater",
-        Operation::Write => "write",
+        Operation::Return => "0   return",
+        Operation::Negate => "1   negate",
+        Operation::Add => "2   add",
+        Operation::Subtract => "3   subtract",
+        Operation::Multiply => "4   multiply",
+        Operation::Divide => "5   divide",
+        Operation::Odd => "6   odd",
+        Operation::Equal => "8   equal",
+        Operation::Unequal => "9   not equal",
+        Operation::Less => "10  less",
+        Operation::AtLeast => "11  not less",
+        Operation::Greater => "12  greater",
+        Operation::AtMost => "13  not greater",
+        Operation::Write => "14  write",
     }
 }

@@ -1,11 +1,22 @@
 //! The table of a trace: a line for each position.
 
+ghost use Rattle.std.specs.Prelude.{◌≡◌, ◌++◌, ◌||◌, ◌==◌, [], Some, map, codes, decimal, IfOk, OnOk, string_bytes, slice_index_or, position};
+ghost use Rattle.std.specs.List.{before_first, position_or_len};
+ghost use Rattle.std.specs.Fmt.{signed_decimal};
+ghost use Rattle.pl0_tree.specs.Plain.{plain_name};
+ghost use Rattle.pl0_machine.specs.Machine.{program_of};
+ghost use Rattle.pl0_tool.specs.Columns.{column, left, right};
+ghost use Rattle.pl0_tool.specs.TextLines.{text_lines};
+ghost use Rattle.pl0_tool.specs.Table.{table, head, row_text, step_text, place_text, source, ends_source, written_text, state_text, frames_line, more_before, barred, registers_line, frame_lines, frame_line, frame_text, variables_text, more_below};
+
 use crate::blocks::frame_name;
-use crate::drawing::Drawing;
+use crate::columns::{put_left, put_right, put_spaces};
+use crate::drawing::{Drawing, FrameHead};
+use crate::lines::first_line;
 use crate::tracing::{FrameRow, Row};
 use pl0_machine::StepOutcome;
 use pl0_syntax::block;
-use pl0_tree::{Place, StepKind};
+use pl0_tree::{Name, Place, StepKind};
 use pl0_unit::Unit;
 use std::alloc::{AllocError, Global};
 
@@ -24,98 +35,201 @@ const MACHINE_HEAD: &str =
 /// # Errors
 ///
 /// `AllocError`, where an allocation failed.
-pub fn table(alloc: Global, unit: &Unit, rows: &[Row], drawn: bool) -> Result<Vec<u8>, AllocError> {
-    let head = if drawn { MACHINE_HEAD } else { HEAD };
-    let mut table = Vec::from_slice(alloc, head.as_bytes())?;
+pub fn table(alloc: Global, unit: &Unit, rows: &[Row], drawn: bool) -> Result<Vec<u8>, AllocError>
+    ensures { IfOk result (λ page. page.items ≡ table unit.now drawn rows.now) }
+{
+    let mut page = Vec::from_slice(alloc, head(drawn).as_bytes())?;
     for row in rows {
-        put_step(alloc, &mut table, unit.tree.text.as_slice(), row)?;
-        match &row.drawing {
-            Some(drawing) => put_machine(alloc, &mut table, unit, row, drawing)?,
-            None => put_frames(alloc, &mut table, unit, row)?,
-        }
+        put_row(alloc, &mut page, unit, row)?;
     }
-    Ok(table)
+    Ok(page)
 }
+
+/// Returns the head of the table.
+fn head(drawn: bool) -> &'static str
+    ensures { result.now ≡ head drawn }
+{
+    if drawn { MACHINE_HEAD } else { HEAD }
+}
+
+/// Appends what is told of a position.
+fn put_row(alloc: Global, page: &mut Vec<u8>, unit: &Unit, row: &Row) -> Result<(), AllocError>
+    ensures { OnOk result (page.new.items ≡ page.old.items ++ row_text unit.now row.now) }
+{
+    put_step(alloc, page, unit.tree.text.as_slice(), row)?;
+    match &row.drawing {
+        Some(drawing) => put_machine(alloc, page, unit, row, drawing),
+        None => put_frames(alloc, page, unit, row),
+    }
+}
+
+/// Appends a number at the right of a column of this width.
+fn put_number(
+    alloc: Global,
+    page: &mut Vec<u8>,
+    width: usize,
+    number: u64,
+) -> Result<(), AllocError>
+    ensures { OnOk result (page.new.items ≡ page.old.items ++ right width (decimal number)) }
+{
+    let number = format!(in alloc; "{number}")?;
+    put_right(page, width, number.as_bytes())
+}
+
+/// Appends a number as `put_number` does, and the space to the next column.
+fn put_column(
+    alloc: Global,
+    page: &mut Vec<u8>,
+    width: usize,
+    number: u64,
+) -> Result<(), AllocError>
+    ensures { OnOk result (page.new.items ≡ page.old.items ++ column (right width (decimal number))) }
+{
+    put_number(alloc, page, width, number)?;
+    put_spaces(page, 2)
+}
+
+// ---- the step
 
 /// Appends what is told of the step of a row, in a program of this text.
-fn put_step(alloc: Global, table: &mut Vec<u8>, text: &[u8], row: &Row) -> Result<(), AllocError> {
-    let position = row.position;
-    let line = row.place.line;
-    let column = row.place.column;
-    let place = format!(in alloc; "{line}:{column}")?;
-    let place = place.as_str();
-    let source = match row.kind {
-        StepKind::Return => "return",
-        _ => str::from_utf8(source_at(text, row.place)).unwrap_or(""),
-    };
-    let written = match row.outcome {
-        StepOutcome::Went(Some(number)) => format!(in alloc; "{number}")?,
-        _ => String::new(alloc),
-    };
-    let written = written.as_str();
-    let step = format!(in alloc; "{position:>8}  {place:<7}  {source:<30}  {written:>6}  ")?;
-    table.extend_from_slice(step.as_bytes())
+fn put_step(alloc: Global, page: &mut Vec<u8>, text: &[u8], row: &Row) -> Result<(), AllocError>
+    ensures { OnOk result (page.new.items ≡ page.old.items ++ step_text text.now row.now) }
+{
+    put_column(alloc, page, 8, row.position)?;
+    put_place(alloc, page, row.place)?;
+    put_left(page, 30, source(text, row.kind, row.place))?;
+    put_spaces(page, 2)?;
+    put_written(alloc, page, row.outcome)
 }
 
-/// Returns what stands in a text from a place on, up to a semicolon or the end of the line.
-fn source_at(text: &[u8], place: Place) -> &[u8] {
-    let before = place.line.saturating_sub(1) as usize;
-    let line = text.split(|byte| *byte == b'\n').nth(before).unwrap_or(&[]);
-    let rest = line
-        .get(place.column.saturating_sub(1) as usize..)
-        .unwrap_or(&[]);
-    let end = rest.iter().position(|byte| matches!(*byte, b';' | b'\r'));
-    &rest[..end.unwrap_or(rest.len())]
+/// Appends a place, and the space to the next column.
+fn put_place(alloc: Global, page: &mut Vec<u8>, place: Place) -> Result<(), AllocError>
+    ensures { OnOk result (page.new.items ≡ page.old.items ++ column (left 7 (place_text place))) }
+{
+    let place = place_text(alloc, place)?;
+    put_left(page, 7, place.as_bytes())?;
+    put_spaces(page, 2)
 }
+
+/// Appends the number that a step writes, if it writes one, and the space to the next column.
+fn put_written(alloc: Global, page: &mut Vec<u8>, outcome: StepOutcome) -> Result<(), AllocError>
+    ensures { OnOk result (page.new.items ≡ page.old.items ++ column (right 6 (written_text outcome))) }
+{
+    let written = written_text(alloc, outcome)?;
+    put_right(page, 6, written.as_bytes())?;
+    put_spaces(page, 2)
+}
+
+/// Returns a place: its line and column.
+fn place_text(alloc: Global, place: Place) -> Result<String, AllocError>
+    ensures { IfOk result (λ text. string_bytes text ≡ place_text place) }
+{
+    let line = place.line;
+    let column = place.column;
+    format!(in alloc; "{line}:{column}")
+}
+
+/// Returns the number that a step writes, if it writes one.
+fn written_text(alloc: Global, outcome: StepOutcome) -> Result<String, AllocError>
+    ensures { IfOk result (λ text. string_bytes text ≡ written_text outcome) }
+{
+    match outcome {
+        StepOutcome::Went(Some(number)) => format!(in alloc; "{number}"),
+        _ => Ok(String::new(alloc)),
+    }
+}
+
+/// Returns the source of a step: what stands in a text from its place on, up to a semicolon or the end of the line.
+fn source(text: &[u8], kind: StepKind, place: Place) -> &[u8]
+    ensures { result.now ≡ source text.now kind place }
+{
+    if let StepKind::Return = kind {
+        return b"return";
+    }
+    let line = line_at(text, place.line.saturating_sub(1) as usize);
+    let before = (place.column.saturating_sub(1) as usize).min(line.len());
+    let rest = &line[before..];
+    &rest[..source_length(rest)]
+}
+
+/// Returns the line of a text with this index, and nothing where there is none.
+fn line_at(text: &[u8], index: usize) -> &[u8]
+    ensures { result.now ≡ slice_index_or (text_lines text.now) index [] }
+{
+    let mut left = text;
+    for passed in 0..index {
+        match first_line(left) {
+            None => return &[],
+            Some((_, behind)) => left = behind,
+        }
+    }
+    match first_line(left) {
+        None => &[],
+        Some((line, _)) => line,
+    }
+}
+
+/// Returns the length of the source at the beginning of a line.
+fn source_length(line: &[u8]) -> usize
+    ensures { result ≡ position_or_len ends_source line.now }
+{
+    source_end(line).unwrap_or(line.len())
+}
+
+/// Returns where a line has its first semicolon or carriage return.
+fn source_end(line: &[u8]) -> Option<usize>
+    ensures { result ≡ position ends_source line.now }
+{
+    line.iter().position(|byte| ends_source(*byte))
+}
+
+/// Whether a byte ends a source: a semicolon or a carriage return.
+fn ends_source(byte: u8) -> bool
+    ensures { result ≡ ends_source byte }
+{
+    byte == b';' || byte == b'\r'
+}
+
+// ---- frames
 
 /// Appends the frames of a row, and ends the line.
-fn put_frames(
-    alloc: Global,
-    table: &mut Vec<u8>,
-    unit: &Unit,
-    row: &Row,
-) -> Result<(), AllocError> {
-    let hidden = row.hidden;
-    if hidden > 0 {
-        let more = format!(in alloc; "{hidden} more | ")?;
-        table.extend_from_slice(more.as_bytes())?;
-    }
-    for (index, frame) in row.frames.iter().enumerate() {
-        if index > 0 {
-            table.extend_from_slice(b" | ")?;
-        }
-        put_frame(alloc, table, unit, frame)?;
-    }
-    table.extend_from_slice(b"\n")
+fn put_frames(alloc: Global, page: &mut Vec<u8>, unit: &Unit, row: &Row) -> Result<(), AllocError>
+    ensures { OnOk result (page.new.items ≡ page.old.items ++ frames_line (program_of unit.now) row.now) }
+{
+    let more = more_before(alloc, row.hidden)?;
+    page.extend_from_slice(more.as_bytes())?;
+    put_barred(alloc, page, unit, row.frames.as_slice())?;
+    page.extend_from_slice(b"\n")?;
+    Ok(())
 }
 
-/// Appends the registers, ends the line, and appends a line for each frame, the newest first.
-fn put_machine(
-    alloc: Global,
-    table: &mut Vec<u8>,
-    unit: &Unit,
-    row: &Row,
-    drawing: &Drawing,
-) -> Result<(), AllocError> {
-    let address = drawing.address;
-    let base = drawing.base;
-    let top = drawing.top;
-    let registers = format!(in alloc; "{address:>6}  {base:>6}  {top:>6}\n")?;
-    table.extend_from_slice(registers.as_bytes())?;
-    for (frame, head) in row.frames.iter().zip(drawing.heads.iter()).rev() {
-        let cell = head.base;
-        let outer = head.static_link;
-        let caller = head.dynamic_link;
-        let back = head.return_address;
-        let links = format!(in alloc; "{cell:>18}  {outer:>11}  {caller:>12}  {back:>14}  ")?;
-        table.extend_from_slice(links.as_bytes())?;
-        put_frame(alloc, table, unit, frame)?;
-        table.extend_from_slice(b"\n")?;
+/// Returns what says how many frames are left out, and nothing where none is.
+fn more_before(alloc: Global, hidden: usize) -> Result<String, AllocError>
+    ensures { IfOk result (λ text. string_bytes text ≡ more_before hidden) }
+{
+    if hidden == 0 {
+        return Ok(String::new(alloc));
     }
-    let hidden = row.hidden;
-    if hidden > 0 {
-        let more = format!(in alloc; "{hidden:>18} more\n")?;
-        table.extend_from_slice(more.as_bytes())?;
+    format!(in alloc; "{hidden} more | ")
+}
+
+/// Appends frames with a bar between them.
+fn put_barred(
+    alloc: Global,
+    page: &mut Vec<u8>,
+    unit: &Unit,
+    frames: &[FrameRow],
+) -> Result<(), AllocError>
+    ensures { OnOk result (page.new.items ≡ page.old.items
+        ++ barred (map (frame_text (program_of unit.now)) frames.now)) }
+{
+    let Some((oldest, others)) = frames.split_first() else {
+        return Ok(());
+    };
+    put_frame(alloc, page, unit, oldest)?;
+    for frame in others {
+        page.extend_from_slice(b" | ")?;
+        put_frame(alloc, page, unit, frame)?;
     }
     Ok(())
 }
@@ -123,18 +237,128 @@ fn put_machine(
 /// Appends a frame: the name of its block, and its variables.
 fn put_frame(
     alloc: Global,
-    table: &mut Vec<u8>,
+    page: &mut Vec<u8>,
     unit: &Unit,
     frame: &FrameRow,
-) -> Result<(), AllocError> {
-    if (frame.block as usize) < unit.nestings.len() {
-        table.extend_from_slice(frame_name(unit, frame.block).as_bytes())?;
-        let declaring = block(&unit.tree.program, &unit.nestings, frame.block);
-        for (name, number) in declaring.variables.iter().zip(frame.numbers.iter()) {
-            let name = name.text.as_str();
-            let variable = format!(in alloc; " {name}={number}")?;
-            table.extend_from_slice(variable.as_bytes())?;
-        }
+) -> Result<(), AllocError>
+    ensures { OnOk result (page.new.items ≡ page.old.items ++ frame_text (program_of unit.now) frame.now) }
+{
+    if frame.block as usize >= unit.nestings.len() {
+        return Ok(());
+    }
+    page.extend_from_slice(frame_name(unit, frame.block).as_bytes())?;
+    let declaring = block(&unit.tree.program, &unit.nestings, frame.block);
+    put_variables(
+        alloc,
+        page,
+        declaring.variables.as_slice(),
+        frame.numbers.as_slice(),
+    )
+}
+
+/// Appends variables, each with its number.
+fn put_variables(
+    alloc: Global,
+    page: &mut Vec<u8>,
+    names: &[Name],
+    numbers: &[i64],
+) -> Result<(), AllocError>
+    ensures { OnOk result (page.new.items ≡ page.old.items ++ variables_text (map plain_name names.now) numbers.now) }
+{
+    for index in 0..names.len().min(numbers.len()) {
+        let variable = variable_text(alloc, names[index].text.as_str(), numbers[index])?;
+        page.extend_from_slice(variable.as_bytes())?;
     }
     Ok(())
+}
+
+/// Returns a variable with its number, and a space before it.
+fn variable_text(alloc: Global, name: &str, number: i64) -> Result<String, AllocError>
+    ensures { IfOk result (λ text.
+        string_bytes text ≡ codes " " ++ (name.now ++ (codes "=" ++ signed_decimal number))) }
+{
+    format!(in alloc; " {name}={number}")
+}
+
+// ---- the machine
+
+/// Appends the registers, ends the line, and appends a line for each frame, the newest first.
+fn put_machine(
+    alloc: Global,
+    page: &mut Vec<u8>,
+    unit: &Unit,
+    row: &Row,
+    drawing: &Drawing,
+) -> Result<(), AllocError>
+    ensures { OnOk result (page.new.items ≡ page.old.items
+        ++ state_text (program_of unit.now) row.now (Some drawing.now)) }
+{
+    put_registers(alloc, page, drawing)?;
+    put_frame_lines(
+        alloc,
+        page,
+        unit,
+        row.frames.as_slice(),
+        drawing.heads.as_slice(),
+    )?;
+    put_more(alloc, page, row.hidden)
+}
+
+/// Appends the registers, and ends the line.
+fn put_registers(alloc: Global, page: &mut Vec<u8>, drawing: &Drawing) -> Result<(), AllocError>
+    ensures { OnOk result (page.new.items ≡ page.old.items ++ registers_line drawing.now) }
+{
+    put_column(alloc, page, 6, drawing.address as u64)?;
+    put_column(alloc, page, 6, drawing.base as u64)?;
+    put_number(alloc, page, 6, drawing.top as u64)?;
+    page.extend_from_slice(b"\n")?;
+    Ok(())
+}
+
+/// Appends a line for each frame, the newest first.
+fn put_frame_lines(
+    alloc: Global,
+    page: &mut Vec<u8>,
+    unit: &Unit,
+    frames: &[FrameRow],
+    heads: &[FrameHead],
+) -> Result<(), AllocError>
+    ensures { OnOk result (page.new.items ≡ page.old.items ++ frame_lines (program_of unit.now) frames.now heads.now) }
+{
+    let count = frames.len().min(heads.len());
+    for put in 0..count {
+        let frame = count - 1 - put;
+        put_frame_line(alloc, page, unit, &frames[frame], &heads[frame])?;
+    }
+    Ok(())
+}
+
+/// Appends the line of a frame.
+fn put_frame_line(
+    alloc: Global,
+    page: &mut Vec<u8>,
+    unit: &Unit,
+    frame: &FrameRow,
+    head: &FrameHead,
+) -> Result<(), AllocError>
+    ensures { OnOk result (page.new.items ≡ page.old.items ++ frame_line (program_of unit.now) frame.now head.now) }
+{
+    put_column(alloc, page, 18, head.base as u64)?;
+    put_column(alloc, page, 11, head.static_link as u64)?;
+    put_column(alloc, page, 12, head.dynamic_link as u64)?;
+    put_column(alloc, page, 14, head.return_address as u64)?;
+    put_frame(alloc, page, unit, frame)?;
+    page.extend_from_slice(b"\n")?;
+    Ok(())
+}
+
+/// Appends a line that says how many frames are left out, and nothing where none is.
+fn put_more(alloc: Global, page: &mut Vec<u8>, hidden: usize) -> Result<(), AllocError>
+    ensures { OnOk result (page.new.items ≡ page.old.items ++ more_below hidden) }
+{
+    if hidden == 0 {
+        return Ok(());
+    }
+    put_number(alloc, page, 18, hidden as u64)?;
+    page.extend_from_slice(b" more\n")
 }

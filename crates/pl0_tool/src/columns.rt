@@ -1,0 +1,32 @@
+//! Columns: what stands in one is filled up with spaces.
+
+ghost use Rattle.std.specs.Prelude.{◌≡◌, ◌++◌, OnOk};
+ghost use Rattle.pl0_tool.specs.Columns.{left, right, spaces};
+
+use std::alloc::AllocError;
+
+/// Appends a text at the right of a column of this width.
+pub fn put_right(page: &mut Vec<u8>, width: usize, text: &[u8]) -> Result<(), AllocError>
+    ensures { OnOk result (page.new.items ≡ page.old.items ++ right width text.now) }
+{
+    put_spaces(page, width.saturating_sub(text.len()))?;
+    page.extend_from_slice(text)
+}
+
+/// Appends a text at the left of a column of this width.
+pub fn put_left(page: &mut Vec<u8>, width: usize, text: &[u8]) -> Result<(), AllocError>
+    ensures { OnOk result (page.new.items ≡ page.old.items ++ left width text.now) }
+{
+    page.extend_from_slice(text)?;
+    put_spaces(page, width.saturating_sub(text.len()))
+}
+
+/// Appends this many spaces.
+pub fn put_spaces(page: &mut Vec<u8>, count: usize) -> Result<(), AllocError>
+    ensures { OnOk result (page.new.items ≡ page.old.items ++ spaces count) }
+{
+    for put in 0..count {
+        page.push(b' ')?;
+    }
+    Ok(())
+}
