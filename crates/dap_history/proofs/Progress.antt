@@ -224,8 +224,7 @@ module _ (one : OneProgram) (joins : WrittenJoins) where
         goes = no_go;
         runs_are = no_runs;
         stops = no_stop;
-        logs =
-            no_logs refl;
+        logs = no_logs refl;
       }) answers so_far
   launch_keeps past launch (Some text) step is ready reply (inl refuses) answers so_far =
       launch_aside past launch (Some text) step is reply nothing (ap (λ (r : Reply). r.effect) refuses.reply_is)
@@ -235,8 +234,7 @@ module _ (one : OneProgram) (joins : WrittenJoins) where
         goes = no_go;
         runs_are = no_runs;
         stops = no_stop;
-        logs =
-            no_logs refl;
+        logs = no_logs refl;
       }) answers so_far
   launch_keeps past launch (Some text) step is ready reply (inr launched_) answers so_far =
       let effect : step.effect ≡ launches launch.arguments text launched_.program =

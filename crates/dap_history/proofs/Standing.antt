@@ -159,8 +159,7 @@ stops_here : (past : History) (step : Step) (r : StopReason) → stop_in step �
 stops_here past step r is standing = (
   position (past ++ step ∷ []),
   record {
-    early =
-        past;
+    early = past;
     step = step;
     later = [];
     past_is = refl;
@@ -252,8 +251,7 @@ shown before request question step reply (Some l) is inspects answers stood = (
   is,
   stood.1,
   record {
-    reply =
-        reply;
+    reply = reply;
     shown = subst (λ n. RepliesAt (subject_in before l) (at l.program n) question reply) (sym stood.2) inspects;
     answer_is = answers.answer_is;
   },

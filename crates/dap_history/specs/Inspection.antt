@@ -88,6 +88,5 @@ subject_in past l =
     record {
       program = l.program;
       path = l.path;
-      counting =
-          record { lines = line_offset past; columns = column_offset past };
+      counting = record { lines = line_offset past; columns = column_offset past };
     }

@@ -39,8 +39,7 @@ launches arguments text program =
       events = event.Initialized ∷ [];
       launched = Some
           (record {
-            path =
-                arguments.program;
+            path = arguments.program;
             stop_on_entry = arguments.stop_on_entry;
             text = text;
             program = program;

@@ -60,8 +60,7 @@ continued_effect past r =
             text = r.text;
             plan = now.breakpoints;
             counted_from = now.counted_from;
-            mode =
-                r.mode;
+            mode = r.mode;
             start = r.end;
           }) ∷ [];
     }

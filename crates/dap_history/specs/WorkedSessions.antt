@@ -52,8 +52,7 @@ replied {past = past} {reply = reply} is only = subst (λ r. reply ≡ reply_of 
 abbrev taken : ℕ → Command → Reply → Step
 taken seq asked reply =
     record {
-      item =
-          Content (Some (record { seq = seq; body = asked }));
+      item = Content (Some (record { seq = seq; body = asked }));
       answer = Some (Answer seq (name_of asked) reply.result);
       effect = reply.effect;
     }
@@ -70,8 +69,7 @@ module _ (text : List ℕ) (program : Block) (path : List ℕ) (bs : List Breakp
   begun =
       taken 1 (command.Initialize from_one) (answered body.Capabilities)
       ∷ record {
-        item =
-            Loaded (record { seq = 2; arguments = arguments }) (Some text);
+        item = Loaded (record { seq = 2; arguments = arguments }) (Some text);
         answer = Some
             (Answer 2 (name.Supported supported.Launch) (Ok body.None));
         effect = launches arguments text program;
@@ -111,8 +109,7 @@ module _ (text : List ℕ) (program : Block) (path : List ℕ) (bs : List Breakp
   abbrev report : ℕ → ℕ → SliceOutcome → PlainReport
   report from to outcome =
       record {
-        run =
-            1;
+        run = 1;
         text = text;
         plan = [];
         counted_from = 0;
@@ -120,8 +117,7 @@ module _ (text : List ℕ) (program : Block) (path : List ℕ) (bs : List Breakp
         start = from;
         end = to;
         before = 0;
-        again =
-            0;
+        again = 0;
         numbers = [];
         logs = [];
         outcome = outcome;
@@ -190,8 +186,7 @@ module _ (text : List ℕ) (program : Block) (path : List ℕ) (bs : List Breakp
   abbrev forward : PlainReport
   forward =
       record {
-        run =
-            1;
+        run = 1;
         text = text;
         plan = [];
         counted_from = 0;
@@ -246,8 +241,7 @@ module _ (text : List ℕ) (program : Block) (path : List ℕ) (bs : List Breakp
   abbrev backward : ℕ → ℕ → SliceOutcome → PlainReport
   backward to again outcome =
       record {
-        run =
-            2;
+        run = 2;
         text = text;
         plan = [];
         counted_from = 0;
@@ -255,8 +249,7 @@ module _ (text : List ℕ) (program : Block) (path : List ℕ) (bs : List Breakp
         start = 15;
         end = to;
         before = 1;
-        again =
-            again;
+        again = again;
         numbers = [];
         logs = [];
         outcome = outcome;
@@ -283,8 +276,7 @@ module _ (text : List ℕ) (program : Block) (path : List ℕ) (bs : List Breakp
   abbrev once_more : PlainReport
   once_more =
       record {
-        run =
-            3;
+        run = 3;
         text = text;
         plan = [];
         counted_from = 11;
@@ -292,8 +284,7 @@ module _ (text : List ℕ) (program : Block) (path : List ℕ) (bs : List Breakp
         start = 10;
         end = 20;
         before = 0;
-        again =
-            0;
+        again = 0;
         numbers = pos 7 ∷ pos 8 ∷ [];
         logs = [];
         outcome = slice.Done;
@@ -351,8 +342,7 @@ module _ (text path : List ℕ) where
   on_entry =
       taken 1 (command.Initialize from_one) (answered body.Capabilities)
       ∷ record {
-        item =
-            Loaded (record { seq = 2; arguments = record { program = path; stop_on_entry = true } }) (Some text);
+        item = Loaded (record { seq = 2; arguments = record { program = path; stop_on_entry = true } }) (Some text);
         answer = Some
             (Answer 2 (name.Supported supported.Launch) (Ok body.None));
         effect = launches (record { program = path; stop_on_entry = true }) text text_q;

@@ -75,7 +75,6 @@ module _ (main : Block) (c : Configuration) (id i : ℕ) (text : List ℕ) (aliv
             expression = plain_expression e;
             reads = read;
             result = result;
-            result_is =
-                ap (λ k. value main c k (plain_expression e)) number ∙ is;
+            result_is = ap (λ k. value main c k (plain_expression e)) number ∙ is;
             reply_is = same;
           })

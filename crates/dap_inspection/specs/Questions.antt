@@ -12,11 +12,9 @@ use Rattle.dap_history.specs.Replies.{Reply, nothing}
 abbrev pub subject_of : Debugged → List ℕ → InitializeArguments → Subject
 subject_of d path settings =
     record {
-      program =
-          program_of d;
+      program = program_of d;
       path = path;
-      counting =
-          record { lines = offset settings.lines_start_at_1; columns = offset settings.columns_start_at_1 };
+      counting = record { lines = offset settings.lines_start_at_1; columns = offset settings.columns_start_at_1 };
     }
 
 -- the reply with this result and no effect

@@ -11,8 +11,7 @@ use Rattle.dap_phase.specs.Runs.{OrderedRun}
 abbrev pub ordered_of : Inside → OrderedRun
 ordered_of r =
     record {
-      unit =
-          r.unit.value;
+      unit = r.unit.value;
       mode = r.mode;
       position = r.position;
       breakpoints = breakpoints_of (option_map arc_value r.plan);

@@ -24,8 +24,7 @@ pub record OrderedRun : Type 0 where
 abbrev pub begun_run : Debugged → Mode → OrderedRun
 begun_run d mode =
     record {
-      unit =
-          d.unit;
+      unit = d.unit;
       mode = mode;
       position = d.position;
       breakpoints = d.breakpoints;
@@ -39,8 +38,7 @@ begun_run d mode =
 abbrev pub heading_in : ℕ → OrderedRun → Heading
 heading_in number run =
     record {
-      run =
-          number;
+      run = number;
       text = text_of run.unit;
       plan = run.breakpoints;
       counted_from = run.counted_from;

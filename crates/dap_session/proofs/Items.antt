@@ -69,8 +69,7 @@ pub fails_at_step : (fault : SessionFault) (past : History) (step : Step) (old l
     → FailsAtItem fault past step.item old later
 fails_at_step fault past step old later causes breaks =
     record {
-      next =
-          past ++ step ∷ [];
+      next = past ++ step ∷ [];
       next_is = inr (record { step = step; item_is = refl; causes = causes; new_is = refl });
       breaks = breaks;
     }

@@ -105,8 +105,7 @@ alone : (f : FirstSeq) (bytes : List ℕ) (request : Option Request) (more : Lis
 alone f bytes request more front = (
   front.framed.header ++ (front.content ++ []),
   record {
-    content =
-        front.content;
+    content = front.content;
     framed = record { header = front.framed.header; lawful = front.framed.lawful; spelled = refl };
     read = front.read;
   },

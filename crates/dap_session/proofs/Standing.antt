@@ -84,8 +84,7 @@ toward_by_loads : ReadingsGoOn → (past : History) (rest : Rest) (launch : Laun
 toward_by_loads laws past rest launch answer file new left is file_is loads still =
     let taken = toward_by_contents laws loads.after still in
     record {
-      launch =
-          launch;
+      launch = launch;
       waits = is;
       file = file;
       file_is = file_is;
@@ -173,8 +172,7 @@ comes_of_fault f fault events past e start session last old later stands (inr en
       new = ends.2.new;
       rest = ends.2.rest;
       first_is = first_by_event past stands.rest e ends.2.new ends.2.rest ends.2.way ∙ stands.first_is;
-      history =
-          history_one_more events past stands.rest e ends.2.new ends.2.rest stands.history ends.2.way;
+      history = history_one_more events past stands.rest e ends.2.new ends.2.rest stands.history ends.2.way;
       ending_is = ends.2.ending_is;
       sends = ends.2.sends;
       refuses_nothing = ends.2.refuses_nothing;
@@ -196,8 +194,7 @@ comes_of_want laws f (Ok want) events past e start session last old later stands
       stands = record {
         rest = came.rest;
         first_is = first_by_event past stands.rest e came.new came.rest came.way ∙ stands.first_is;
-        history =
-            history_one_more events past stands.rest e came.new came.rest stands.history came.way;
+        history = history_one_more events past stands.rest e came.new came.rest stands.history came.way;
         ending_is = came.ending_is;
         goes_on = came.goes_on;
       };

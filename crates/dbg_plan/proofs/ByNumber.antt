@@ -54,8 +54,7 @@ found_here n x xs e =
       found = ap (λ v. cond v (Some x) (find (has n) xs)) e;
       at = 0;
       within = omega arith;
-      there =
-          refl;
+      there = refl;
       number = has_number n x e;
     }
 
@@ -63,8 +62,7 @@ found_later : (n : ℕ) (x : Breakpoint) (xs : List Breakpoint) → has n x ≡ 
 found_later n x xs e more =
     let lt = more.within in
     record {
-      first =
-          more.first;
+      first = more.first;
       found = ap (λ v. cond v (Some x) (find (has n) xs)) e
           ∙ more.found;
       at = suc more.at;

@@ -124,8 +124,7 @@ met_here m p next b bs bound message rest = by_step (eqb_tells p b.step)
         (record {
           next = subst (λ n. IsNext (program m) (top_of (frames m)) n) same.1 next;
           bound = bound;
-          message =
-              message;
+          message = message;
         }) rest)
     by_step (inr other) = subst (λ v. All (IsMetHere m) (cond v (b ∷ those_of p bs) (those_of p bs))) (sym other.0) rest
 

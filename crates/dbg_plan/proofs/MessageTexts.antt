@@ -48,8 +48,7 @@ module _ (main : Block) (q : Path) (text : List ℕ) where
         count = refl;
         few = omega arith;
         bound = tt;
-        is_text =
-            is_text;
+        is_text = is_text;
       } in
       subst (λ l. IsRead main q text 0 l text) (sym none) empty
 

@@ -200,8 +200,7 @@ module _ (limit : ℕ) (plan : Option Listed) (start m : Standing) (q : Quietly 
         quiet = q.quiet;
         running = q.running;
         within = q.within;
-        ends =
-            (q.ends.0, subst (λ (s : Standing). limit ≤ s.position) q.ends.0 reached);
+        ends = (q.ends.0, subst (λ (s : Standing). limit ≤ s.position) q.ends.0 reached);
       }
 
   module _ (result : StepOutcome) (new : Standing) (stepped : Stepped (outcome_of m) m result new)

@@ -78,8 +78,7 @@ module _ (d : Inside) (was : IsCounting d) (behind : next_of d ≡ d.machine.pos
         unit = u;
         position = new.position;
         breakpoints = breakpoints_of (plan_of d);
-        counted_from =
-            d.counted_from;
+        counted_from = d.counted_from;
         next = n;
         trail = trail_of d.trail;
       }
@@ -132,8 +131,7 @@ module _ (d : Inside) (was : IsCounting d) (behind : next_of d ≡ d.machine.pos
       subst (λ o. IsNext (after o)) (sym is)
       (record {
         here = refl;
-        running =
-            (went_on (ahead d.machine ran.steps) new (Went written) ends.2 written refl).1;
+        running = (went_on (ahead d.machine ran.steps) new (Went written) ends.2 written refl).1;
       })
 
 -- ---- a run whose last step faults

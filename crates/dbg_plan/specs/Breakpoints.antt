@@ -36,8 +36,7 @@ plain_message m = record { text = string_bytes m.text; parts = plain_parts m.par
 abbrev pub plain_breakpoint : DeclaredBreakpoint → Breakpoint
 plain_breakpoint b =
     record {
-      step =
-          b.step;
+      step = b.step;
       condition = option_map text_condition b.condition;
       rule = b.rule;
       message = option_map plain_message

@@ -66,8 +66,7 @@ IsAt mode n d again (Some way) =
 abbrev pub retreating_of : Inside → Retreating
 retreating_of r =
     record {
-      unit =
-          r.debuggee.value.unit;
+      unit = r.debuggee.value.unit;
       breakpoints = r.debuggee.value.breakpoints;
       counted_from = r.counted_from;
       mode = r.mode;

@@ -35,8 +35,7 @@ text_of u = u.tree.text.items
 abbrev pub plain_report : Reported → PlainReport
 plain_report r =
     record {
-      run =
-          r.run;
+      run = r.run;
       text = text_of r.unit;
       plan = r.plan;
       counted_from = r.counted_from;
@@ -77,8 +76,7 @@ heading run d mode =
       plan = d.breakpoints;
       counted_from = d.counted_from;
       mode = mode;
-      start =
-          d.position;
+      start = d.position;
     }
 
 -- ---- the debuggee after a report
@@ -92,13 +90,11 @@ counts_from true r = r.end + 1
 abbrev pub stopped : Reported → Trail → Debugged
 stopped r trail =
     record {
-      unit =
-          r.unit;
+      unit = r.unit;
       position = r.end;
       breakpoints = r.plan;
       counted_from = counts_from (goes_back r.mode) r;
-      next =
-          r.end + 1;
+      next = r.end + 1;
       trail = trail;
     }
 

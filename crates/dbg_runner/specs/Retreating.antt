@@ -53,8 +53,7 @@ steps_again kept (Out d) n to = 0
 abbrev pub turned : Debugged → Mode → Retreating
 turned d mode =
     record {
-      unit =
-          d.unit;
+      unit = d.unit;
       breakpoints = d.breakpoints;
       counted_from = d.counted_from;
       mode = mode;
@@ -68,22 +67,19 @@ turned d mode =
 abbrev pub heading_back : ℕ → Retreating → Heading
 heading_back run b =
     record {
-      run =
-          run;
+      run = run;
       text = text_of b.unit;
       plan = b.breakpoints;
       counted_from = b.counted_from;
       mode = b.mode;
-      start =
-          b.start;
+      start = b.start;
     }
 
 -- the summary of its report where it ends so
 abbrev pub summary_back : ℕ → Retreating → ℕ → SliceOutcome → Summary
 summary_back run b end outcome =
     record {
-      run =
-          run;
+      run = run;
       counted_from = b.counted_from;
       mode = b.mode;
       start = b.start;

@@ -22,15 +22,13 @@ returns-in-End-clause-handles g c = record {
       rw c.in-End.is (closes c.reading_laws.ensures c.close.result past rest End InputEnd closed.InputEnded _ _ _ _
       taking
       (record {
-        closing_is =
-            refl;
+        closing_is = refl;
         here = inl refl;
         toward = λ new after. inr after;
         leads = λ new after. (inr (taking, after), refl);
       })
       (record {
-        step =
-            closing_step InputEnd;
+        step = closing_step InputEnd;
         item_is = refl;
         causes = record { answer_is = refl; effect_is = refl };
         new_is = refl;
@@ -48,15 +46,13 @@ returns-in-ReadFailed-clause-handles g c = record {
       rw c.in-ReadFailed.is (closes c.reading_laws.ensures close.result past rest ReadFailed ReadFailure
       closed.ReadFailed _ _ _ _ taking
       (record {
-        closing_is =
-            refl;
+        closing_is = refl;
         here = inl refl;
         toward = λ new after. inr after;
         leads = λ new after. (inr (taking, after), refl);
       })
       (record {
-        step =
-            closing_step ReadFailure;
+        step = closing_step ReadFailure;
         item_is = refl;
         causes = record { answer_is = refl; effect_is = refl };
         new_is = refl;
