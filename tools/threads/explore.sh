@@ -52,7 +52,7 @@ runs() {
     echo "no-unpark|assertion violated served|threads|-DNO_UNPARK|$(safe)"
     echo "unparks-first|assertion violated served|threads|-DUNPARKS_FIRST|$(safe)"
     echo "loses-hold|acceptance cycle|threads|-DKEPT=0 -DNO_WRITER -DCLOSES -DFAIR=1 -DLOSES_HOLD|$(live pause)"
-    echo "three-orders|order==QUIT|threads|-DORDERS=3|$(safe)"
+    echo "three-orders|&&quitting|threads|-DORDERS=3|$(safe)"
     echo "no-try-quit|assertion violated served|threads|-DNO_TRY_QUIT|$(safe)"
     # The inbox and the outbox.
     echo "keeps-at-end|assertion violated|threads|-DKEEPS_AT_END|$(safe)"

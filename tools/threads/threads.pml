@@ -225,7 +225,7 @@ waits:
 #endif
     goto waits;
 
-    /* A slice, and its report. A quiet one is kept where there is room, and memory, for it.
+    /* A slice, and its report. A quiet one is kept where there is room for it.
      * @ dbg_runner/src/working.rt: run_onward, run_back
      * @ dap_wires/src/events.rt: ReportSender::send
      */
@@ -234,7 +234,7 @@ runs:
         reports_open = reports_open + !session_left;
         if
         :: kept < KEPT && (!back || slices < BACK) -> kept++; slices = slices + back; goto looks
-        :: !back || slices < BACK -> report = QUIET; slices = slices + back
+        :: kept == KEPT && (!back || slices < BACK) -> report = QUIET; slices = slices + back
         :: !back -> report = TELLS; outputs = (MOST > 1 -> 1 : MOST)
         :: !back && MOST > 1 -> report = TELLS; outputs = MOST
         :: report = LAST
@@ -242,7 +242,9 @@ runs:
         fi
     }
 
-    /* @ dap_wires/src/events.rt: ReportSender::put, ReportSender::put_kept */
+    /* Those that are kept go first, together, or each by itself where there is no memory. Then a quiet one is kept.
+     * @ dap_wires/src/events.rt: ReportSender::put, ReportSender::put_kept, ReportSender::put_each, ReportSender::keep
+     */
 puts:
     if
 #ifdef KEEPS_AT_END
@@ -250,13 +252,22 @@ puts:
     :: kept > 0 && report == QUIET ->
 #else
     :: kept == 0 -> goto enters
+    :: kept > 1 ->
+        atomic {
+            send(RUNNER, QUIET, number, 1, 0, ok); kept--;
+            if
+            :: !ok -> goto over
+            :: else -> ok = false; goto puts
+            fi
+        }
     :: kept > 0 ->
 #endif
         atomic {
             send(RUNNER, QUIET, number, kept, 0, ok); kept = 0;
             if
             :: !ok -> goto over
-            :: else -> ok = false
+            :: ok && report == QUIET -> kept = 1; report = NONE; ok = false; goto looks
+            :: ok && report != QUIET -> ok = false
             fi
         }
     fi;

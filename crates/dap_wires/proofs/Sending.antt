@@ -168,7 +168,15 @@ pub client_put : (old new : List Arrival) (e : Event) → new ≡ old ++ of_firs
     → came new ≡ came old ++ incoming_of e ∷ []
 client_put old new e is of_client = ap came (is ∙ ap (λ l. old ++ l) of_client) ∙ came_append old (arrival.Event e ∷ [])
 
--- one more report was put, where none is kept
+-- one more report was put
+report_came : (old new : List Arrival) (r : Reported) → new ≡ old ++ arrival.Event (event.Report r) ∷ []
+    → reports_among (came new) ≡ reports_among (came old) ++ plain_report r ∷ []
+report_came old new r is =
+    ap (λ l. reports_among (came l)) is
+    ∙ ap reports_among (came_append old (arrival.Event (event.Report r) ∷ []))
+    ∙ reports_append (came old) (Report (plain_report r) ∷ [])
+
+-- where none is kept
 pub report_put : (old new : List Arrival) (kept : List Reported) (r : Reported) → new ≡ old
     ++ arrival.Event (event.Report r) ∷ [] → kept ≡ []
     → reports_among (came new) ++ map plain_report kept ≡ (reports_among (came old) ++ map plain_report kept)
@@ -176,11 +184,18 @@ pub report_put : (old new : List Arrival) (kept : List Reported) (r : Reported) 
 report_put old new kept r is none =
     ap (λ k. reports_among (came new) ++ map plain_report k) none
     ∙ append-nil (reports_among (came new))
-    ∙ ap (λ l. reports_among (came l)) is
-    ∙ ap reports_among (came_append old (arrival.Event (event.Report r) ∷ []))
-    ∙ reports_append (came old) (Report (plain_report r) ∷ [])
+    ∙ report_came old new r is
     ∙ ap (λ l. l ++ plain_report r ∷ []) (sym (append-nil (reports_among (came old)))
     ∙ ap (λ k. reports_among (came old) ++ map plain_report k) (sym none))
+
+-- the oldest of those that were kept
+pub oldest_put : (old new : List Arrival) (was now : List Reported) (r : Reported) → new ≡ old
+    ++ arrival.Event (event.Report r) ∷ [] → was ≡ r ∷ now
+    → reports_among (came new) ++ map plain_report now ≡ reports_among (came old) ++ map plain_report was
+oldest_put old new was now r is first =
+    ap (λ l. l ++ map plain_report now) (report_came old new r is)
+    ∙ append_assoc (reports_among (came old)) (plain_report r ∷ []) (map plain_report now)
+    ∙ ap (λ l. reports_among (came old) ++ map plain_report l) (sym first)
 
 -- what was kept was put
 pub kept_put : (old new : List Arrival) (kept : _) (was now : List Reported) → new ≡ old ++ arrival.Quiet kept ∷ []
@@ -213,6 +228,10 @@ quiet_kept [] r all one = ap (λ b. b && true) one
 quiet_kept (x ∷ old) r all one =
     let each = both (is_quiet x) (are_quiet old) all in
     ap (λ b. b && are_quiet (old ++ r ∷ [])) each.0 ∙ quiet_kept old r each.1 one
+
+pub quiet_rest : (was now : List Reported) (r : Reported) → are_quiet was ≡ true → was ≡ r ∷ now
+    → are_quiet now ≡ true
+quiet_rest was now r all first = (both (is_quiet r) (are_quiet now) (ap are_quiet (sym first) ∙ all)).1
 
 -- ---- messages
 

@@ -1,6 +1,7 @@
 -- Defines what went through an inbox, as plain data.
-use Rattle.std.specs.Prelude.{List, map, ◌++◌}
+use Rattle.std.specs.Prelude.{ℕ, List, map, ◌++◌}
 use Rattle.std.specs.List.{flat_map}
+use Rattle.std.specs.VecDeque.{deque_len}
 use Rattle.dap_session.specs.Incoming.{incoming_of}
 use Rattle.dap_history.specs.Events.{Incoming}
 use Rattle.dbg_runner.specs.Plain.{PlainReport}
@@ -33,6 +34,10 @@ module _ {R : Type 0} where
   -- the reports that the runner sent: those that it put into the queue, and then those that are kept
   abbrev pub sent_reports : ReportSender R → List PlainReport
   sent_reports e = put_reports e ++ map plain_report e.kept.items
+
+  -- how many of them are kept
+  abbrev pub kept_count : ReportSender R → ℕ
+  kept_count e = deque_len e.kept
 
   -- the reports that were handed back to the runner
   abbrev pub refused_reports : ReportSender R → List PlainReport

@@ -2,7 +2,7 @@
 
 ghost use Rattle.std.specs.Prelude.{◌≡◌, ◌≤◌, ◌++◌, map, true, false};
 ghost use Rattle.std.specs.List.{flat_map};
-ghost use Rattle.std.specs.VecDeque.{deque_len};
+ghost use Rattle.std.specs.VecDeque.{deque_len, deque_capacity};
 ghost use Rattle.std.specs.Coded.{Coded-set, coded_list};
 ghost use Rattle.dap_session.specs.contracts.ports.Event as event_row;
 ghost use Rattle.dap_session.specs.declared.ports.Event.TheVariants as event;
@@ -35,7 +35,7 @@ pub struct ReportSender<R: Wait + Drop> {
     pub(crate) end: SendEnd<Arrival, R>,
     // Where the outputs of each report are counted.
     pub(crate) window: WindowEntry,
-    // What was sent and isn't in the queue yet: at most 16 reports, all of them quiet.
+    // What was sent and isn't in the queue yet: at most 16 reports, all of them quiet. It has room for as many.
     pub(crate) kept: VecDeque<Report>,
     // What was returned as an error.
     pub(crate) handed_back: GhostList<Report>,
@@ -43,6 +43,7 @@ pub struct ReportSender<R: Wait + Drop> {
     ghost room: { sender_room end ≡ 64 },
     ghost quiet: { are_quiet kept.items ≡ true },
     ghost few: { deque_len kept ≤ 16 },
+    ghost reserved: { 16 ≤ deque_capacity kept },
 }
 
 /// The end of the session, which receives events.

@@ -1,11 +1,11 @@
 //! The inbox of a session: a queue of what a client sends and of the runner's reports.
 
-ghost use Rattle.std.specs.Prelude.{◌≡◌, ◌++◌, ◌∷◌, [], true, false, IfOk, IfErr, OnOk, OnErr, IsTrue};
+ghost use Rattle.std.specs.Prelude.{◌≡◌, ◌<◌, ◌++◌, ◌∷◌, [], true, false, Ok, IfOk, IfErr, OnOk, OnErr, IsTrue};
 ghost use Rattle.dap_session.specs.Incoming.{incoming_of};
 ghost use Rattle.dap_session.specs.Sending.{IsPrefixOf};
 ghost use Rattle.dbg_runner.specs.Reported.{plain_report};
-ghost use Rattle.dap_wires.specs.Inbox.{client_events, returned_events, put_reports, sent_reports, refused_reports, taken_events, client_queue, report_queue, event_queue, left_queue, received};
-ghost use Rattle.dap_wires.specs.Senders.{is_report, from_client, reports_among};
+ghost use Rattle.dap_wires.specs.Inbox.{client_events, returned_events, put_reports, sent_reports, kept_count, refused_reports, taken_events, client_queue, report_queue, event_queue, left_queue, received};
+ghost use Rattle.dap_wires.specs.Senders.{is_report, is_quiet, from_client, reports_among};
 
 use crate::arrival::{Arrival, is_quiet, outputs_of};
 use crate::channels::{channel, reconcile};
@@ -50,7 +50,7 @@ pub fn inbox<R: Wait + Copy + Drop>(
             alloc,
             end: reports,
             window: entry,
-            kept: VecDeque::new(alloc),
+            kept: VecDeque::with_capacity(alloc, QUIET_LIMIT)?,
             handed_back: GhostList::new(),
         },
         EventReceiver {
@@ -103,7 +103,7 @@ impl<R: Wait + Drop> ClientSender<R> {
     }
 }
 
-/// A quiet report is kept until one is sent that isn't quiet, or one more than QUIET_LIMIT were sent.
+/// A quiet report is kept, which takes no memory, until one is sent that isn't quiet, or one more than QUIET_LIMIT.
 impl<R: Wait + Drop> Reports for ReportSender<R> {
     ghost use Rattle.dap_wires.specs.declared.arrival.Arrival.{Arrival};
     ghost use Rattle.dap_wires.specs.Ends.{QueueId};
@@ -117,19 +117,42 @@ impl<R: Wait + Drop> Reports for ReportSender<R> {
 
     ghost origin = { report_queue };
 
-    #[tactic(auto, using(crate::proofs::Sending::report_kept, crate::proofs::Sending::quiet_kept))]
-    fn send(&mut self, report: Report) -> Result<(), Report> {
-        if self.kept.len() == QUIET_LIMIT || !is_quiet(&report) {
+    fn send(&mut self, report: Report) -> Result<(), Report>
+        ensures sends { OnOk result (sent_reports self.new ≡ sent_reports self.old ++ plain_report report ∷ []) }
+        ensures keeps_refused { OnOk result (refused_reports self.new ≡ refused_reports self.old) }
+        ensures refuses { OnErr result
+            (refused_reports self.new ≡ refused_reports self.old ++ plain_report report ∷ []) }
+        ensures keeps_sent { OnErr result (sent_reports self.new ≡ sent_reports self.old) }
+        ensures back { IfErr result (λ back. back ≡ report) }
+        ensures quiet { is_quiet report ≡ true → kept_count self.old < 16
+            → (result ≡ Ok tt) × (put_reports self.new ≡ put_reports self.old) }
+        ensures origin { report_queue self.new ≡ report_queue self.old }
+    {
+        if !is_quiet(&report) {
             return self.put(report);
         }
-        match self.kept.push_back(report) {
-            Ok(()) => Ok(()),
-            Err(refused) => self.put(refused.value),
+        if self.kept.len() == QUIET_LIMIT && !self.put_kept() {
+            return Err(self.hand_back(report));
         }
+        self.keep(report);
+        Ok(())
     }
 }
 
 impl<R: Wait + Drop> ReportSender<R> {
+    /// Keeps a quiet report, for which there is room.
+    #[tactic(auto, using(crate::proofs::Sending::report_kept, crate::proofs::Sending::quiet_kept))]
+    fn keep(&mut self, report: Report)
+        requires quiet { is_quiet report ≡ true }
+        requires few { kept_count self.old < 16 }
+        ensures sent { sent_reports self.new ≡ sent_reports self.old ++ plain_report report ∷ [] }
+        ensures put { put_reports self.new ≡ put_reports self.old }
+        ensures refused { self.new.handed_back ≡ self.old.handed_back }
+        ensures queue { report_queue self.new ≡ report_queue self.old }
+    {
+        self.kept.push_back_reserved(report);
+    }
+
     /// Puts a report into the queue after those that were kept. Blocks while the inbox is full, or the window has no room
     /// for its outputs.
     ///
@@ -156,18 +179,22 @@ impl<R: Wait + Drop> ReportSender<R> {
         }
     }
 
-    /// Puts the reports that were kept into the queue. Returns `true` where none is kept any more, and `false` where the
-    /// session has left the inbox.
+    /// Puts the reports that were kept into the queue, in one message where there is memory for it. Returns `true` where none
+    /// is kept any more, and `false` where the session has left the inbox.
     fn put_kept(&mut self) -> bool
         ensures sent { sent_reports self.new ≡ sent_reports self.old }
         ensures refused { self.new.handed_back ≡ self.old.handed_back }
         ensures queue { report_queue self.new ≡ report_queue self.old }
         ensures none { IsTrue result → self.new.kept.items ≡ [] }
+        ensures count { IsTrue result → kept_count self.new ≡ 0 }
     {
         if self.kept.is_empty() {
             return true;
         }
-        let kept = mem::replace(&mut self.kept, VecDeque::new(self.alloc));
+        let Ok(empty) = VecDeque::with_capacity(self.alloc, QUIET_LIMIT) else {
+            return self.put_each();
+        };
+        let kept = mem::replace(&mut self.kept, empty);
         match self.end.send(Arrival::Quiet(kept)) {
             Ok(()) => true,
             Err(Arrival::Quiet(back)) => {
@@ -175,6 +202,42 @@ impl<R: Wait + Drop> ReportSender<R> {
                 false
             }
             Err(Arrival::Event(_)) => unreachable!(),
+        }
+    }
+
+    /// Puts the reports that were kept into the queue, each by itself, which takes no memory. Returns what `put_kept` does.
+    fn put_each(&mut self) -> bool
+        ensures sent { sent_reports self.new ≡ sent_reports self.old }
+        ensures refused { self.new.handed_back ≡ self.old.handed_back }
+        ensures queue { report_queue self.new ≡ report_queue self.old }
+        ensures none { IsTrue result → self.new.kept.items ≡ [] }
+        ensures count { IsTrue result → kept_count self.new ≡ 0 }
+    {
+        for _ in 0..QUIET_LIMIT {
+            if !self.put_oldest() {
+                return false;
+            }
+        }
+        self.kept.is_empty()
+    }
+
+    /// Puts the oldest report that was kept into the queue. Returns `false` where the session has left the inbox.
+    #[tactic(auto, using(crate::proofs::Sending::oldest_put, crate::proofs::Sending::quiet_rest))]
+    fn put_oldest(&mut self) -> bool
+        ensures sent { sent_reports self.new ≡ sent_reports self.old }
+        ensures refused { self.new.handed_back ≡ self.old.handed_back }
+        ensures queue { report_queue self.new ≡ report_queue self.old }
+    {
+        let Some(oldest) = self.kept.pop_front() else {
+            return true;
+        };
+        match self.end.send(Arrival::Event(Event::Report(oldest))) {
+            Ok(()) => true,
+            Err(Arrival::Event(Event::Report(back))) => {
+                self.kept.push_front_reserved(back);
+                false
+            }
+            Err(_) => unreachable!(),
         }
     }
 
