@@ -27,7 +27,7 @@ outcome_is_of_session f outcome by before after (tasks_ended wrote result is dri
     subst (λ w. TasksEnd f w (Ok by) before after) c.0 (subst (λ r. TasksEnd f wrote r before after) c.1 driven)
 outcome_is_of_session f outcome by before after (had_no_memory is same) closes =
     let e = ap closed_of (sym is) ∙ closes in absurd cc
-outcome_is_of_session f outcome by before after (had_no_thread is) closes =
+outcome_is_of_session f outcome by before after (had_no_thread is same) closes =
     let e = ap closed_of (sym is) ∙ closes in absurd cc
 
 -- the session's fault is answered only where it ended so, and nothing failed to be written
@@ -55,7 +55,7 @@ nobody_is_gone f outcome before after (tasks_ended wrote result is driven) = (
 )
 nobody_is_gone f outcome before after (had_no_memory is same) =
     (λ gone. let e = sym is ∙ gone in absurd cc, λ gone. let e = sym is ∙ gone in absurd cc)
-nobody_is_gone f outcome before after (had_no_thread is) =
+nobody_is_gone f outcome before after (had_no_thread is same) =
     (λ gone. let e = sym is ∙ gone in absurd cc, λ gone. let e = sym is ∙ gone in absurd cc)
 
 pub full_after_four : FullAfterFour
@@ -65,4 +65,4 @@ full_after_four f before after (tasks_ended wrote result is driven) =
     subst (λ r. TasksEnd f wrote r before after) a.1 driven in
     record { wrote = wrote; driven = four; four = four.session.full refl }
 full_after_four f before after (had_no_memory is same) = absurd cc
-full_after_four f before after (had_no_thread is) = absurd cc
+full_after_four f before after (had_no_thread is same) = absurd cc

@@ -139,10 +139,10 @@ outcome_of (Ok done) (Ok closed.ReadFailed) = Err fault.ReadFailed
 outcome_of (Ok done) (Err f) = Err (fault.Session f)
 
 -- Serving ended with this outcome. Where there was no memory for the queues, nothing was done. Where a thread can't be
--- started, nothing more is known.
+-- started, the loader was asked for nothing; of the streams and the gate nothing is known.
 pub data IsServed (first : FirstSeq) (outcome : Result Served ServeFault) (before after : World) : Type 0 where
   tasks_ended : (wrote : Result (Unit {0}) WriteFailed) (result : Result Closed SessionFault)
       → outcome ≡ outcome_of wrote result → TasksEnd first wrote result before after
       → IsServed first outcome before after
   had_no_memory : outcome ≡ Err (fault.Session NoMemory) → after ≡ before → IsServed first outcome before after
-  had_no_thread : outcome ≡ Err fault.NoThread → IsServed first outcome before after
+  had_no_thread : outcome ≡ Err fault.NoThread → after.loads ≡ before.loads → IsServed first outcome before after

@@ -274,14 +274,21 @@ impl<'a, L: Loader, R: Wait + Drop> Task for SessionTask<'a, L, R> {
     }
 }
 
+/// Where the session isn't driven, the loader is asked for nothing.
 impl<'a, L: Loader, R: Wait + Drop> LastTask for SessionTask<'a, L, R> {
-    fn give_up(self) {
+    type Rest = &'a mut L;
+
+    ghost leaves = { λ t r. (r.ghost_name ≡ t.loader.ghost_name) × (L.loaded r.now ≡ L.loaded t.loader.now) };
+
+    fn give_up(self) -> &'a mut L {
         let SessionTask {
+            loader,
             outbox,
             mut orders,
             ..
         } = self;
         outbox.finish();
         let _ = orders.push(Order::Quit);
+        loader
     }
 }

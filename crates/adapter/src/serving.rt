@@ -155,7 +155,8 @@ where
             reconcile(client, reports, written, taken, ends);
             outcome(&wrote, &closed)
         }
-        Err(telling) => {
+        Err((telling, loader)) => {
+            end_loan(loader);
             let listener = telling.into_listener();
             let outcome = tell(listener, Err(ServeFault::NoThread));
             end_loan(listener);

@@ -27,9 +27,16 @@ pub trait Task: Drop {
 
 /// A task that can let others who wait for it know that it will not be done.
 pub trait LastTask: Task {
-    /// Lets those others know, and drops the task.
-    fn give_up(self)
-        requires { Self.can_run self };
+    /// What is left of it then.
+    type Rest: Drop;
+
+    /// What holds of the task and what is left of it.
+    ghost leaves: { Self → Self.Rest → Type 0 };
+
+    /// Lets those others know, and returns what is left of the task.
+    fn give_up(self) -> Self::Rest
+        requires { Self.can_run self }
+        ensures { leaves self result };
 }
 
 /// Sees what the first task and the last one returned, as soon as both have ended: the others may go on.
@@ -59,45 +66,43 @@ impl<T: Task> Promise<T::Output> for Ran<T> {
 /// # Errors
 ///
 /// Where a thread can't be started, the last task is given up, the threads that were started are joined, and the witness
-/// is returned.
+/// is returned, with what is left of the last task.
 pub fn run_beside<
     R: Threads + Wait,
     S: Task<Output = A> + Send,
     T: Task<Output = B> + Send,
     U: Task<Output = C> + Send,
-    V: LastTask<Output = D>,
+    V: LastTask<Output = D, Rest = Y>,
     W: Witness<A, D, Output = X>,
     A: Send + Drop,
     B: Send + Drop,
     C: Send + Drop,
     D: Drop,
     X: Drop,
->(rt: &R, first: S, second: T, third: U, last: V, witness: W) -> Result<(A, B, C, D, X), W>
+    Y: Drop,
+>(rt: &R, first: S, second: T, third: U, last: V, witness: W) -> Result<(A, B, C, D, X), (W, Y)>
     requires { S.can_run first × T.can_run second × U.can_run third × V.can_run last }
     ensures ok { IfOk result (λ r. S.gives first r.0 × T.gives second r.1 × U.gives third r.2 × V.gives last r.3
         × W.sees witness r.0 r.3 r.4) }
-    ensures err { IfErr result (λ w. w ≡ witness) }
+    ensures err { IfErr result (λ r. (r.0 ≡ witness) × V.leaves last r.1) }
 {
     thread::scope(
         thread::scope_env(),
         rt,
-        |scope| -> Result<(A, B, C, D, X), W>
+        |scope| -> Result<(A, B, C, D, X), (W, Y)>
             requires { S.can_run first × T.can_run second × U.can_run third × V.can_run last }
             ensures ok { IfOk result (λ r. S.gives first r.0 × T.gives second r.1 × U.gives third r.2 × V.gives last r.3
                 × W.sees witness r.0 r.3 r.4) }
-            ensures err { IfErr result (λ w. w ≡ witness) }
+            ensures err { IfErr result (λ r. (r.0 ≡ witness) × V.leaves last r.1) }
         {
             let Some(one) = start(scope, first) else {
-                last.give_up();
-                return Err(witness);
+                return Err((witness, last.give_up()));
             };
             let Some(two) = start(scope, second) else {
-                last.give_up();
-                return Err(witness);
+                return Err((witness, last.give_up()));
             };
             let Some(three) = start(scope, third) else {
-                last.give_up();
-                return Err(witness);
+                return Err((witness, last.give_up()));
             };
             let d = last.run();
             let a = one.join(rt);
