@@ -1,5 +1,5 @@
 -- What of the input a session took, by what closed it.
-use Rattle.std.proofs.Common.{◌≡◌, inl, inr, ℕ, true, false, Bool, true≢false, List, [], ◌∷◌, ◌++◌, Option, None, Some, Ok, refl, sym, ap, ◌∙◌, subst, append_assoc, append-nil}
+use Rattle.std.proofs.Common.{◌≡◌, inl, inr, ℕ, List, [], ◌∷◌, ◌++◌, Option, None, Some, Ok, refl, sym, ap, ◌∙◌, subst, append_assoc, append-nil, rules}
 use Rattle.std.specs.Prelude.{map}
 use Rattle.std.specs.Io.KnownBytes.{Consumes, IsAtEnd}
 use Rattle.std.proofs.KnownBytes.{Consumes-nil as consumes_none, Consumes-trans as consumes_both}
@@ -17,7 +17,7 @@ use Rattle.dap_history.specs.Events.{Incoming, Piece, End, ReadFailed, File, Rep
 use Rattle.dap_history.specs.Events.{NoMemory as NoMemoryCame}
 use Rattle.dap_history.specs.Interleaving.{Load, IsLoad, Interleaves}
 use Rattle.dap_history.specs.Laws.{stream_of, DisconnectIsLast}
-use Rattle.dap_history.proofs.Closings.{closed_by_end}
+use Rattle.dap_history.proofs.Closings.{IsFile, closed_by_end}
 use Rattle.dap_session.specs.Sending.{IsPrefixOf}
 use Rattle.dap_session.specs.Serving.{SessionOutcome, closes}
 use Rattle.dap_wires.specs.declared.reading.ReadEnd.{ReadEnd}
@@ -29,7 +29,7 @@ use Rattle.dap_wires.proofs.Sending.{client_append}
 use Rattle.byte_streams.specs.Streams.{Supply}
 use Rattle.adapter.specs.Laws.{TakesWholeInput, InputIsTakenWhole, AsksToDisconnect, TakesFirstDisconnect, FirstDisconnectCloses}
 use Rattle.adapter.specs.Serving.{nothing_sent, input_of, SessionSends}
-use Rattle.adapter.proofs.Gathered.{last_one, last_sent}
+use Rattle.adapter.proofs.Gathered.{IsPiece, last_one, last_sent}
 
 -- ---- bytes left
 
@@ -82,7 +82,7 @@ read_stream (e ∷ events) old later read =
     (reads_stream e old read.0 read.1) (read_stream events read.0 later read.2))
 
 -- an input of which the end was read is at its end
-read_to_end : (events : List Incoming) (old later : Supply) → AreRead (events ++ End ∷ []) old later
+pub read_to_end : (events : List Incoming) (old later : Supply) → AreRead (events ++ End ∷ []) old later
     → IsAtEnd later.left
 read_to_end [] old later read = subst (λ (s : Supply). IsAtEnd s.left) (sym read.2) read.1.1
 read_to_end (e ∷ events) old later read = read_to_end events read.0 later read.2
@@ -99,46 +99,69 @@ lost_stream ends.Failed lost mid later loses =
 lost_stream ends.NoMemory lost mid later loses =
     subst (λ l. Consumes mid.left later.left (stream_of l)) (sym loses.0) (consumed_at mid later loses.1)
 
--- ---- the reader came to the end
+-- ---- the reader came to an end
 
-abbrev has_end : List Incoming → Bool
-has_end [] = false
-has_end (End ∷ events) = true
-has_end (e ∷ events) = has_end events
-
-has_this_end : (xs ys : List Incoming) → has_end (xs ++ End ∷ ys) ≡ true
-has_this_end [] ys = refl
-has_this_end (Piece p ∷ xs) ys = has_this_end xs ys
-has_this_end (End ∷ xs) ys = refl
-has_this_end (ReadFailed ∷ xs) ys = has_this_end xs ys
-has_this_end (NoMemoryCame ∷ xs) ys = has_this_end xs ys
-has_this_end (File file ∷ xs) ys = has_this_end xs ys
-has_this_end (Report r ∷ xs) ys = has_this_end xs ys
-
-end_is_last : (pieces : List (List ℕ)) (last : List Incoming) → has_end (map Piece pieces ++ last) ≡ has_end last
-end_is_last [] last = refl
-end_is_last (p ∷ pieces) last = end_is_last pieces last
-
-has_ended : (end : ReadEnd) → has_end (last_of end) ≡ true → end ≡ ends.Ended
-has_ended ends.Ended is = refl
-has_ended ends.Failed is = absurd (true≢false (sym is))
-has_ended ends.NoMemory is = absurd (true≢false (sym is))
-has_ended ends.HandedBack is = absurd (true≢false (sym is))
-
--- ---- what the inbox gave
-
-abbrev first_event : Incoming → List Incoming → Incoming
+abbrev pub first_event : Incoming → List Incoming → Incoming
 first_event other [] = other
 first_event other (e ∷ events) = e
 
-abbrev later_events : List Incoming → List Incoming
+abbrev pub later_events : List Incoming → List Incoming
 later_events [] = []
 later_events (e ∷ events) = events
 
-no_end_loads : (f : FirstSeq) (before : List Incoming) (e : Incoming) (load : Load) → IsLoad f before e load
-    → ¬ (e ≡ End)
-no_end_loads f before (File file) load is same = absurd cc
-no_end_loads f before _ load is same = absurd is
+-- the input's end or a failed read, which a reader sends last
+abbrev pub IsLast : Incoming → Type 0
+IsLast End = Unit {0}
+IsLast ReadFailed = Unit {0}
+IsLast _ = ⊥
+
+no_piece : (own : Incoming) → IsLast own → ¬ IsPiece own
+no_piece End last piece = piece
+no_piece ReadFailed last piece = piece
+no_piece _ last piece = absurd last
+
+no_file : (own : Incoming) → IsLast own → ¬ IsFile own
+no_file End last file = file
+no_file ReadFailed last file = file
+no_file _ last file = absurd last
+
+client_last : (own : Incoming) → IsLast own → (events : List Incoming) → from_client (own ∷ events) ≡ own
+    ∷ from_client events
+client_last End last events = refl
+client_last ReadFailed last events = refl
+client_last _ last events = absurd last
+
+stream_last : (own : Incoming) → IsLast own → stream_of (own ∷ []) ≡ []
+stream_last End last = refl
+stream_last ReadFailed last = refl
+stream_last _ last = absurd last
+
+-- pieces alone have no such event
+not_in_pieces : (pieces : List (List ℕ)) (xs ys : List Incoming) (own : Incoming) → ¬ IsPiece own
+    → ¬ (xs ++ own ∷ ys ≡ map Piece pieces ++ [])
+not_in_pieces [] [] ys own other e = absurd (search (e, rules))
+not_in_pieces [] (x ∷ xs) ys own other e = absurd (search (e, rules))
+not_in_pieces (p ∷ pieces) [] ys own other e =
+    let same : Piece p ≡ own = search (e, rules) in
+    other (subst IsPiece same tt)
+not_in_pieces (p ∷ pieces) (x ∷ xs) ys own other e = not_in_pieces pieces xs ys own other (ap later_events e)
+
+-- where one was sent, nothing was lost
+loses_none : (pieces : List (List ℕ)) (end : ReadEnd) (lost : List Incoming) (mid later : Supply)
+    → Loses end lost mid later → (xs ys : List Incoming) (own : Incoming) → ¬ IsPiece own
+    → xs ++ own ∷ ys ≡ map Piece pieces ++ last_of end → later ≡ mid
+loses_none pieces ends.Ended lost mid later loses xs ys own other e = loses.1
+loses_none pieces ends.Failed lost mid later loses xs ys own other e = loses.1
+loses_none pieces ends.NoMemory lost mid later loses xs ys own other e = loses.1
+loses_none pieces ends.HandedBack lost mid later loses xs ys own other e =
+    absurd (not_in_pieces pieces xs ys own other e)
+
+-- ---- what the inbox gave
+
+pub no_last_loads : (f : FirstSeq) (before : List Incoming) (e : Incoming) (load : Load) (own : Incoming)
+    → IsLast own → IsLoad f before e load → ¬ (e ≡ own)
+no_last_loads f before (File file) load own last is same = no_file own last (subst IsFile same tt)
+no_last_loads f before _ load own last is same = absurd is
 
 load_stream : (f : FirstSeq) (before : List Incoming) (e : Incoming) (load : Load) (events : List Incoming)
     → IsLoad f before e load
@@ -155,25 +178,25 @@ inbox_stream f before (e ∷ events) given loads (inl from) =
 inbox_stream f before (e ∷ events) given loads (inr from) =
     ap stream_of from.1 ∙ stream_more e from.0 events (inbox_stream f (before ++ e ∷ []) events from.0 loads from.3)
 
--- an end among the events is among those that the inbox gave, with the same pieces before it and after it
-record IsSplit (front back given : List Incoming) : Type 0 where
+-- such an event is among those that the inbox gave, with the same pieces before it and after it
+record IsSplit (own : Incoming) (front back given : List Incoming) : Type 0 where
   pub first : List Incoming
   pub last : List Incoming
-  pub given_are : given ≡ first ++ End ∷ last
+  pub given_are : given ≡ first ++ own ∷ last
   pub before : stream_of first ≡ stream_of front
   pub after : stream_of last ≡ stream_of back
 
-split : (f : FirstSeq) (so_far events given : List Incoming) (loads : List Load)
+split : (f : FirstSeq) (own : Incoming) → IsLast own → (so_far events given : List Incoming) (loads : List Load)
     → Interleaves f so_far events given loads
-    → (front back : List Incoming) → events ≡ front ++ End ∷ back → IsSplit front back given
-split f so_far [] given loads from [] back is = absurd cc
-split f so_far [] given loads from (x ∷ front) back is = absurd cc
-split f so_far (e ∷ events) given loads (inl from) [] back is =
-    absurd (no_end_loads f so_far e from.0 from.3 (ap (first_event End) is))
-split f so_far (e ∷ events) given loads (inl from) (x ∷ front) back is =
-    let there = split f (so_far ++ e ∷ []) events given from.1 from.4 front back (ap later_events is) in
+    → (front back : List Incoming) → events ≡ front ++ own ∷ back → IsSplit own front back given
+split f own ends so_far [] given loads from [] back is = absurd cc
+split f own ends so_far [] given loads from (x ∷ front) back is = absurd cc
+split f own ends so_far (e ∷ events) given loads (inl from) [] back is =
+    absurd (no_last_loads f so_far e from.0 own ends from.3 (ap (first_event own) is))
+split f own ends so_far (e ∷ events) given loads (inl from) (x ∷ front) back is =
+    let there = split f own ends (so_far ++ e ∷ []) events given from.1 from.4 front back (ap later_events is) in
     let kept : stream_of (x ∷ front) ≡ stream_of front =
-    subst (λ y. stream_of (y ∷ front) ≡ stream_of front) (ap (first_event End) is)
+    subst (λ y. stream_of (y ∷ front) ≡ stream_of front) (ap (first_event own) is)
     (load_stream f so_far e from.0 front from.3) in
     record {
       first =
@@ -184,69 +207,74 @@ split f so_far (e ∷ events) given loads (inl from) (x ∷ front) back is =
           ∙ sym kept;
       after = there.after;
     }
-split f so_far (e ∷ events) given loads (inr from) [] back is = record {
+split f own ends so_far (e ∷ events) given loads (inr from) [] back is = record {
   first = [];
   last = from.0;
-  given_are = from.1 ∙ ap (λ x. x ∷ from.0) (ap (first_event End) is);
+  given_are = from.1 ∙ ap (λ x. x ∷ from.0) (ap (first_event own) is);
   before = refl;
   after = inbox_stream f (so_far ++ e ∷ []) events from.0 loads from.3 ∙ ap stream_of (ap later_events is);
 }
-split f so_far (e ∷ events) given loads (inr from) (x ∷ front) back is =
-    let there = split f (so_far ++ e ∷ []) events from.0 loads from.3 front back (ap later_events is) in
+split f own ends so_far (e ∷ events) given loads (inr from) (x ∷ front) back is =
+    let there = split f own ends (so_far ++ e ∷ []) events from.0 loads from.3 front back (ap later_events is) in
     record {
       first = e ∷ there.first;
       last = there.last;
       given_are = from.1 ∙ ap (λ l. e ∷ l) there.given_are;
-      before = stream_more e there.first front there.before ∙ ap (λ y. stream_of (y ∷ front)) (ap (first_event End) is);
+      before = stream_more e there.first front there.before ∙ ap (λ y. stream_of (y ∷ front)) (ap (first_event own) is);
       after = there.after;
     }
 
--- ---- closed by the input's end
+-- ---- closed by the input's end or a failed read
+
+-- All that was read of the input stands before the event that closed the session: pieces were read, and then that.
+pub record TakesAll (own : Incoming) (front back : List Incoming) (old later : Supply) : Type 0 where
+  pub whole : Consumes old.left later.left (stream_of front)
+  pub nothing_after : stream_of back ≡ []
+  pub pieces : List Incoming
+  pub read : AreRead (pieces ++ own ∷ []) old later
 
 module _ (f : FirstSeq) (events given client : List Incoming) (loads : List Load) (end : ReadEnd) (old later : Supply)
     (from : Interleaves f [] events given loads) (read : IsReadUntil end client old later)
-    (taken : from_client given ≡ client) where
-  whole_input : (front back : List Incoming) → events ≡ front ++ End ∷ back → TakesWholeInput events old later
-  whole_input front back is = record {
-    front = front;
-    back = back;
-    events_are = is;
+    (taken : from_client given ≡ client) (own : Incoming) (last : IsLast own) where
+  pub takes_all : (front back : List Incoming) → events ≡ front ++ own ∷ back → TakesAll own front back old later
+  takes_all front back is = record {
     whole = subst (λ l. Consumes old.left later.left l) all
         (subst (λ (s : Supply). Consumes old.left s.left (stream_of client)) (sym same)
         (read_stream client old read.mid read.read));
-    at_end = subst (λ (s : Supply). IsAtEnd s.left) (sym same)
-        (read_to_end (from_client parts.first) old read.mid (subst (λ l. AreRead l old read.mid) last_is read.read));
     nothing_after = sym parts.after ∙ none_after;
+    pieces = from_client parts.first;
+    read = subst (λ s. AreRead (from_client parts.first ++ own ∷ []) old s) (sym same)
+        (subst (λ l. AreRead l old read.mid) last_is read.read);
   }
     where
-      parts : IsSplit front back given
-      parts = split f [] events given loads from front back is
+      parts : IsSplit own front back given
+      parts = split f own last [] events given loads from front back is
 
-      client_is : client ≡ from_client parts.first ++ End ∷ from_client parts.last
-      client_is = sym taken ∙ ap from_client parts.given_are ∙ client_append parts.first (End ∷ parts.last)
+      client_is : client ≡ from_client parts.first ++ own ∷ from_client parts.last
+      client_is =
+          sym taken ∙ ap from_client parts.given_are ∙ client_append parts.first (own ∷ parts.last)
+          ∙ ap (λ l. from_client parts.first ++ l) (client_last own last parts.last)
 
-      sent : from_client parts.first ++ End ∷ from_client parts.last ≡ map Piece read.pieces ++ last_of end
+      sent : from_client parts.first ++ own ∷ from_client parts.last ≡ map Piece read.pieces ++ last_of end
       sent = sym client_is ∙ read.sent_are
 
       none : from_client parts.last ≡ []
-      none = last_sent read.pieces (last_of end) (from_client parts.first) (from_client parts.last) End (last_one end)
-          (λ p. p) sent
+      none = last_sent read.pieces (last_of end) (from_client parts.first) (from_client parts.last) own (last_one end)
+          (no_piece own last) sent
 
       none_after : stream_of parts.last ≡ []
       none_after = sym (client_stream parts.last) ∙ ap stream_of none
 
-      last_is : client ≡ from_client parts.first ++ End ∷ []
-      last_is = client_is ∙ ap (λ l. from_client parts.first ++ End ∷ l) none
-
-      ended : end ≡ ends.Ended
-      ended = has_ended end (sym (end_is_last read.pieces (last_of end)) ∙ ap has_end (sym sent)
-          ∙ has_this_end (from_client parts.first) (from_client parts.last))
+      last_is : client ≡ from_client parts.first ++ own ∷ []
+      last_is = client_is ∙ ap (λ l. from_client parts.first ++ own ∷ l) none
 
       same : later ≡ read.mid
-      same = (subst (λ e. Loses e read.lost read.mid later) ended read.loses).1
+      same = loses_none read.pieces end read.lost read.mid later read.loses (from_client parts.first)
+          (from_client parts.last) own (no_piece own last) sent
 
       all : stream_of client ≡ stream_of front
-      all = ap stream_of last_is ∙ stream_append (from_client parts.first) (End ∷ [])
+      all = ap stream_of last_is ∙ stream_append (from_client parts.first) (own ∷ [])
+          ∙ ap (λ l. stream_of (from_client parts.first) ++ l) (stream_last own last)
           ∙ append-nil (stream_of (from_client parts.first))
           ∙ client_stream parts.first ∙ parts.before
 
@@ -261,9 +289,18 @@ input_taken_whole f wrote before after driven = by_drives session.drives
         → TakesWholeInput session.events (input_of before.streams) (input_of after.streams)
     by_drives (closes from serves) =
         let by = closed_by_end session.events serves.past serves.rest serves.history serves.ending_is in
-        whole_input f session.events driven.given driven.reader.client session.loaded driven.reader.end
-        (input_of before.streams) (input_of after.streams)
-        from driven.reader.read driven.reader.client_taken by.0 by.1 by.2
+        let all =
+        takes_all f session.events driven.given driven.reader.client session.loaded driven.reader.end
+        (input_of before.streams) (input_of after.streams) from driven.reader.read driven.reader.client_taken End tt
+        by.0 by.1 by.2 in
+        record {
+          front = by.0;
+          back = by.1;
+          events_are = by.2;
+          whole = all.whole;
+          at_end = read_to_end all.pieces (input_of before.streams) (input_of after.streams) all.read;
+          nothing_after = all.nothing_after;
+        }
 
 -- ---- closed by a `disconnect`
 

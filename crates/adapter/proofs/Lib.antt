@@ -4,9 +4,13 @@ pub mod ListingLines
 mod ArgumentKinds
 -- What each thread knows at its end gives together what `serve` promises; for `serve` and `serving_laws`.
 mod Gathered
--- How much of the input a session took, by what closed it; for the clauses `input` and `disconnect` of `serving_laws`.
+-- How much of the input a session took, by what closed it; for the clauses `input`, `disconnect` and `answered` of
+-- `serving_laws`.
 mod InputTaken
--- `serve` never reports that its runner or its writer is gone, and `OrdersFull` only where four orders were inside; for
+-- All that was read is answered, where the input's end or a failed read closed the session; for the clause `answered`
+-- of `serving_laws`.
+mod AllRead
+-- `serve` never reports that its runner or its writer is gone, and `OrdersFull` only where four orders were pushed; for
 -- the clauses `gone` and `full` of `serving_laws`.
 mod SessionFaults
 -- Which runs the runner reports, by the number of the run that it took last; for `serving_laws`.

@@ -3,6 +3,8 @@
 pub mod Serving
 -- The laws of a whole run.
 pub mod Laws
+-- What is answered where the input ends or a read fails.
+pub mod AllRead
 -- The exit status and the last line on standard error.
 pub mod ExitReasons
 -- What a loader of files was asked for and returned.

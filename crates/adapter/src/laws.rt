@@ -1,8 +1,9 @@
 //! The laws of serving.
 
+ghost use Rattle.adapter.specs.AllRead.{AllReadIsAnswered};
 ghost use Rattle.adapter.specs.Laws.{OutcomeIsOfSession, InputIsTakenWhole, FirstDisconnectCloses, RunsEndOnce, NobodyIsGone, FullAfterFour};
 
-use dap_history::history_laws;
+use dap_history::{command_laws, history_laws};
 use dbg_runner::runner_laws;
 
 /// Says what holds of every call of [`serve`](crate::serve), however its threads take turns. It does nothing: its contract
@@ -10,11 +11,13 @@ use dbg_runner::runner_laws;
 pub fn serving_laws()
     ensures outcome { OutcomeIsOfSession }
     ensures input { InputIsTakenWhole }
+    ensures answered { AllReadIsAnswered }
     ensures disconnect { FirstDisconnectCloses }
     ensures runs { RunsEndOnce }
     ensures gone { NobodyIsGone }
     ensures full { FullAfterFour }
 {
     history_laws();
+    command_laws();
     runner_laws();
 }

@@ -1,3 +1,4 @@
+use Rattle.adapter.proofs.AllRead.{all_read_is_answered}
 use Rattle.adapter.proofs.InputTaken.{input_taken_whole, first_disconnect_closes}
 use Rattle.adapter.proofs.RunsEnd.{runs_end_once}
 use Rattle.adapter.proofs.SessionFaults.{outcome_is_of_session, nobody_is_gone, full_after_four}
@@ -8,6 +9,17 @@ returns-clause-outcome c = outcome_is_of_session
 
 pub returns-clause-input : goal.returns-clause-input
 returns-clause-input c = input_taken_whole
+
+pub returns-clause-answered : goal.returns-clause-answered
+returns-clause-answered c = all_read_is_answered (record {
+  one = c.history_laws.ensures.one;
+  contents = c.history_laws.ensures.contents;
+  answered = c.history_laws.ensures.answered;
+  unread = c.history_laws.ensures.unread;
+  closed_by = c.history_laws.ensures.closed_by;
+  taken = c.command_laws.ensures.taken;
+  ends = c.command_laws.ensures.ends;
+})
 
 pub returns-clause-disconnect : goal.returns-clause-disconnect
 returns-clause-disconnect c = first_disconnect_closes c.history_laws.ensures.last

@@ -1,0 +1,380 @@
+-- All that was read is answered, where the input's end or a failed read closed the session.
+use Rattle.std.proofs.Common.{◌≡◌, ◌⊎◌, inl, inr, ◌<◌, ◌≤◌, ℕ, arith, List, [], ◌∷◌, ◌++◌, Option, None, Some, Ok, refl, sym, ap, ◌∙◌, subst, append_assoc, append-nil}
+use Rattle.std.specs.Prelude.{map}
+use Rattle.std.specs.List.{concat, filter_map, cons_option}
+use Rattle.std.proofs.lemmas.List.{map-append}
+use Rattle.std.proofs.lemmas.List.Elements.{filter_map-append}
+use Rattle.dap_frame.specs.Frame.{Frames}
+use Rattle.dap_msg.specs.declared.request.Request.{Request}
+use Rattle.dap_msg.specs.declared.request.FirstSeq.{FirstSeq}
+use Rattle.dap_history.specs.declared.ending.Closed.{Closed}
+use Rattle.dap_history.specs.declared.ending.Closed.TheVariants as closed
+use Rattle.dap_history.specs.declared.ending.Ending.TheVariants as ending
+use Rattle.dap_history.specs.Events.{Incoming, Piece, End, ReadFailed, File, Report, Rest, only_bytes, IsTaking, MayTake, LeadsByEvent, LeadsByEvents, IsHistoryOf}
+use Rattle.dap_history.specs.Events.{NoMemory as NoMemoryCame}
+use Rattle.dap_history.specs.History.{Item, Content, Loaded, Accepted, Fault, InputEnd, ReadFailure, MemoryFailure, Step, History, messages_of}
+use Rattle.dap_history.specs.Emission.{IsAfter}
+use Rattle.dap_history.specs.Readings.{ending_of}
+use Rattle.dap_history.specs.Interleaving.{Load, AwaitsNone, Interleaves}
+use Rattle.dap_history.specs.Laws.{stream_of, HistoryIsOne, ContentsAreOfTheStream, EachIsAnsweredOnce, RestIsOpen, ClosedByItsEvent, IsAmong, AreReadAs, contents_read, read_as, waiting, request_of_item}
+use Rattle.dap_history.specs.Taken.{EventsAreTaken, EachItemEndsOrNot, ends_by}
+use Rattle.dap_history.proofs.FirstKept.{first_by_event, first_kept}
+use Rattle.dap_session.proofs.Standing.{history_one_more}
+use Rattle.dap_session.specs.Serving.{SessionOutcome, closes}
+use Rattle.dap_wires.specs.Senders.{from_client}
+use Rattle.dap_wires.specs.Transfer.{IsRead, AreRead}
+use Rattle.byte_streams.specs.Streams.{Supply, WritesAll}
+use Rattle.adapter.specs.AllRead.{asked, AnswersAll, EndsBy, AnswersAllRead, AllReadIsAnswered}
+use Rattle.adapter.specs.Serving.{World, input_of, output_of, nothing_sent, TasksEnd}
+use Rattle.adapter.proofs.InputTaken.{first_event, later_events, IsLast, no_last_loads, takes_all, read_to_end}
+use Rattle.adapter.proofs.SessionFaults.{outcome_is_of_session}
+
+-- the laws of the histories of sessions that the law follows from
+pub record HistoryLaws : Type 0 where
+  pub one : HistoryIsOne
+  pub contents : ContentsAreOfTheStream
+  pub answered : EachIsAnsweredOnce
+  pub unread : RestIsOpen
+  pub closed_by : ClosedByItsEvent
+  pub taken : EventsAreTaken
+  pub ends : EachItemEndsOrNot
+
+-- ---- the first such event
+
+pub record FirstSuch (own : Incoming) (events : List Incoming) : Type 0 where
+  pub front : List Incoming
+  pub back : List Incoming
+  pub are : events ≡ front ++ own ∷ back
+  pub first : ¬ IsAmong own front
+
+none_in_none : (own : Incoming) → ¬ IsAmong own []
+none_in_none own ([], back, is) = absurd cc
+none_in_none own (x ∷ front, back, is) = absurd cc
+
+none_before : (own e : Incoming) (events : List Incoming) → ¬ (own ≡ e) → ¬ IsAmong own events
+    → ¬ IsAmong own (e ∷ events)
+none_before own e events other none ([], back, is) = other (sym (ap (first_event own) is))
+none_before own e events other none (x ∷ front, back, is) = none (front, back, ap later_events is)
+
+first_such : (own : Incoming) → ((e : Incoming) → (own ≡ e) ⊎ ¬ (own ≡ e)) → (events front back : List Incoming)
+    → events ≡ front ++ own ∷ back → FirstSuch own events
+first_such own known [] [] back is = absurd cc
+first_such own known [] (x ∷ front) back is = absurd cc
+first_such own known (e ∷ events) front back is =
+    by_head (known e) front is (λ front back is. first_such own known events front back is)
+  where
+    by_head : (own ≡ e) ⊎ ¬ (own ≡ e) → (front : List Incoming) → e ∷ events ≡ front ++ own ∷ back
+        → ((front back : List Incoming) → events ≡ front ++ own ∷ back → FirstSuch own events)
+        → FirstSuch own (e ∷ events)
+    by_head (inl same) front is later = record {
+      front = [];
+      back = events;
+      are = ap (λ x. x ∷ events) (sym same);
+      first = none_in_none own;
+    }
+    by_head (inr other) [] is later = absurd (other (sym (ap (first_event own) is)))
+    by_head (inr other) (x ∷ front) is later =
+        let more = later front back (ap later_events is) in
+        record {
+          front = e ∷ more.front;
+          back = more.back;
+          are = ap (λ l. e ∷ l) more.are;
+          first = none_before own e more.front other more.first;
+        }
+
+-- ---- where the event came, no launch waited
+
+one_further : (f : FirstSeq) (so_far : List Incoming) (e x : Incoming) (front : List Incoming) → e ≡ x
+    → AwaitsNone f ((so_far ++ e ∷ []) ++ front) → AwaitsNone f (so_far ++ x ∷ front)
+one_further f so_far e x front same none =
+    subst (λ y. AwaitsNone f (so_far ++ y ∷ front)) same
+    (subst (AwaitsNone f) (append_assoc so_far (e ∷ []) front) none)
+
+awaits_none : (f : FirstSeq) (own : Incoming) → IsLast own → (so_far events given : List Incoming) (loads : List Load)
+    → Interleaves f so_far events given loads
+    → (front back : List Incoming) → events ≡ front ++ own ∷ back → AwaitsNone f (so_far ++ front)
+awaits_none f own last so_far [] given loads from [] back is = absurd cc
+awaits_none f own last so_far [] given loads from (x ∷ front) back is = absurd cc
+awaits_none f own last so_far (e ∷ events) given loads (inl from) [] back is =
+    absurd (no_last_loads f so_far e from.0 own last from.3 (ap (first_event own) is))
+awaits_none f own last so_far (e ∷ events) given loads (inl from) (x ∷ front) back is =
+    one_further f so_far e x front (ap (first_event own) is)
+    (awaits_none f own last (so_far ++ e ∷ []) events given from.1 from.4 front back (ap later_events is))
+awaits_none f own last so_far (e ∷ events) given loads (inr from) [] back is =
+    subst (AwaitsNone f) (sym (append-nil so_far)) from.2
+awaits_none f own last so_far (e ∷ events) given loads (inr from) (x ∷ front) back is =
+    one_further f so_far e x front (ap (first_event own) is)
+    (awaits_none f own last (so_far ++ e ∷ []) events from.0 loads from.3 front back (ap later_events is))
+
+-- ---- the history up to the event, and after it
+
+record IsParted (past : History) (rest : Rest) (front : List Incoming) (own : Incoming) (back : List Incoming)
+    (new : History) (left : Rest) : Type 0 where
+  pub mid : History
+  pub between : Rest
+  pub next : History
+  pub after : Rest
+  pub before : LeadsByEvents past rest front mid between
+  pub at : LeadsByEvent mid between own next after
+  pub later : LeadsByEvents next after back new left
+
+parted : (past : History) (rest : Rest) (front : List Incoming) (own : Incoming) (back : List Incoming) (new : History)
+    (left : Rest) → LeadsByEvents past rest (front ++ own ∷ back) new left
+    → IsParted past rest front own back new left
+parted past rest [] own back new left all = record {
+  mid = past;
+  between = rest;
+  next = all.0;
+  after = all.1;
+  before = (refl, refl);
+  at = all.2;
+  later = all.3;
+}
+parted past rest (e ∷ front) own back new left all =
+    let more = parted all.0 all.1 front own back new left all.3 in
+    record {
+      mid = more.mid;
+      between = more.between;
+      next = more.next;
+      after = more.after;
+      before = (all.0, all.1, all.2, more.before);
+      at = more.at;
+      later = more.later;
+    }
+
+-- a session that is over takes nothing more
+stays : EventsAreTaken → (events back : List Incoming) (mid : History) (between : Rest) (new : History) (left : Rest)
+    → IsHistoryOf events mid between → ¬ IsTaking mid → LeadsByEvents mid between back new left → new ≡ mid
+stays taken events [] mid between new left history over all = all.0
+stays taken events (e ∷ back) mid between new left history over all =
+    let next = history_one_more events mid between e all.0 all.1 history all.2 in
+    let same : all.0 ≡ mid =
+    (taken events e mid all.0 between all.1 history next
+    (sym (first_by_event mid between e all.0 all.1 all.2))).1 over in
+    stays taken (events ++ e ∷ []) back all.0 all.1 new left next (subst (λ h. ¬ IsTaking h) (sym same) over) all.3
+    ∙ same
+
+-- ---- requests
+
+asked_are : (items : List Item) → filter_map asked (filter_map read_as items) ≡ filter_map request_of_item items
+asked_are [] = refl
+asked_are (Content None ∷ items) = asked_are items
+asked_are (Content (Some request) ∷ items) =
+    ap (cons_option (request_of_item (Content (Some request)))) (asked_are items)
+asked_are (Loaded launch file ∷ items) =
+    ap (cons_option (request_of_item (Loaded launch file))) (asked_are items)
+asked_are (Accepted r ∷ items) = asked_are items
+asked_are (Fault k ∷ items) = asked_are items
+asked_are (InputEnd ∷ items) = asked_are items
+asked_are (ReadFailure ∷ items) = asked_are items
+asked_are (MemoryFailure ∷ items) = asked_are items
+
+abbrev items_of : History → List Item
+items_of past = map (λ (step : Step). step.item) past
+
+-- one more item that is no request
+none_asked : (past : History) (step : Step) → request_of_item step.item ≡ None
+    → filter_map request_of_item (items_of (past ++ step ∷ [])) ≡ filter_map request_of_item (items_of past)
+none_asked past step none =
+    ap (filter_map request_of_item) (map-append (λ (s : Step). s.item) past (step ∷ []))
+    ∙ filter_map-append request_of_item (items_of past) (step.item ∷ [])
+    ∙ ap (λ o. filter_map request_of_item (items_of past) ++ cons_option o []) none
+    ∙ append-nil (filter_map request_of_item (items_of past))
+
+-- ---- what is answered
+
+-- an event that closes a session, and the item that it is
+pub record Closing (by : Closed) (own : Incoming) (item : Item) : Type 0 where
+  pub last : IsLast own
+  pub known : (e : Incoming) → (own ≡ e) ⊎ ¬ (own ≡ e)
+  pub takes : (past : History) (rest : Rest) (new : History) (left : Rest) → LeadsByEvent past rest own new left
+      → MayTake past item new
+  pub unasked : request_of_item item ≡ None
+  pub ends : ends_by item ≡ Some (ending.Closed by)
+  pub among : (events : List Incoming) (past : History) (rest : Rest) → IsHistoryOf events past rest
+      → ending_of past ≡ Some (ending.Closed by) → IsAmong own events
+
+pub record AnswersUpTo (own : Incoming) (f : FirstSeq) (events : List Incoming) (past : History) : Type 0 where
+  pub front : List Incoming
+  pub back : List Incoming
+  pub events_are : events ≡ front ++ own ∷ back
+  pub answers : AnswersAll f (stream_of front) (messages_of past)
+
+module _ (laws : HistoryLaws) (f : FirstSeq) (events given : List Incoming) (loads : List Load)
+    (from : Interleaves f [] events given loads) (past : History) (rest : Rest) (first_is : rest.first ≡ f)
+    (history : IsHistoryOf events past rest) (by : Closed) (own : Incoming) (item : Item)
+    (closing : Closing by own item) (ending_is : ending_of past ≡ Some (ending.Closed by)) where
+  pub answers_up_to : AnswersUpTo own f events past
+  answers_up_to = record {
+    front = such.front;
+    back = such.back;
+    events_are = such.are;
+    answers = record {
+      contents = told.0;
+      rest = parts.between.bytes;
+      frames = told.1;
+      unfinished = (laws.unread such.front parts.mid parts.between before way.0).0 none_waits;
+      requests = requests;
+      read = subst (λ n. AreReadAs n told.0 requests) (first_same ∙ first_is)
+          (subst (λ l. AreReadAs parts.between.first told.0 l)
+          (ap (λ o. requests ++ waiting o) none_waits ∙ append-nil requests) told.2);
+      answers = laws.answered events past rest history
+          ∙ ap (λ h. filter_map request_of_item (items_of h)) past_is
+          ∙ none_asked parts.mid step (ap request_of_item way.1.item_is ∙ closing.unasked)
+          ∙ sym (asked_are (items_of parts.mid));
+    };
+  }
+    where
+      there : IsAmong own events
+      there = closing.among events past rest history ending_is
+
+      such : FirstSuch own events
+      such = first_such own closing.known events there.0 there.1 there.2
+
+      parts : IsParted [] (only_bytes rest.first []) such.front own such.back past rest
+      parts = parted [] (only_bytes rest.first []) such.front own such.back past rest
+          (subst (λ l. LeadsByEvents [] (only_bytes rest.first []) l past rest) such.are history)
+
+      first_same : parts.between.first ≡ rest.first
+      first_same = first_kept [] (only_bytes rest.first []) such.front parts.mid parts.between parts.before
+
+      before : IsHistoryOf such.front parts.mid parts.between
+      before = subst (λ n. LeadsByEvents [] (only_bytes n []) such.front parts.mid parts.between) (sym first_same)
+          parts.before
+
+      up_to : IsHistoryOf (such.front ++ own ∷ []) parts.next parts.after
+      up_to = history_one_more such.front parts.mid parts.between own parts.next parts.after before parts.at
+
+      -- it was not over before
+      was_taken : MayTake parts.mid item parts.next → IsTaking parts.mid × IsAfter parts.mid item parts.next
+      was_taken (inr is) = is
+      was_taken (inl is) =
+          let same : past ≡ parts.mid =
+          stays laws.taken such.front (own ∷ such.back) parts.mid parts.between past rest before is.0
+          (parts.next, parts.after, parts.at, parts.later) in
+          absurd (such.first (closing.among such.front parts.mid parts.between before
+          (ap ending_of (sym same) ∙ ending_is)))
+
+      way : IsTaking parts.mid × IsAfter parts.mid item parts.next
+      way = was_taken (closing.takes parts.mid parts.between parts.next parts.after parts.at)
+
+      step : Step
+      step = way.1.step
+
+      over : ¬ IsTaking parts.next
+      over still =
+          let ends = (laws.ends (such.front ++ own ∷ []) parts.next parts.after up_to parts.mid step []
+          way.1.new_is).1 in
+          let e : None ≡ Some (ending.Closed by) =
+          sym still ∙ ap ending_of way.1.new_is ∙ ends ∙ ap ends_by way.1.item_is ∙ closing.ends in
+          absurd cc
+
+      past_is : past ≡ parts.mid ++ step ∷ []
+      past_is =
+          stays laws.taken (such.front ++ own ∷ []) such.back parts.next parts.after past rest up_to over parts.later
+          ∙ way.1.new_is
+
+      awaits : AwaitsNone f such.front
+      awaits = awaits_none f own closing.last [] events given loads from such.front such.back such.are
+
+      same_there : (parts.mid ≡ awaits.past) × (parts.between ≡ awaits.rest)
+      same_there = laws.one such.front parts.mid awaits.past parts.between awaits.rest before awaits.history
+          (first_same ∙ first_is ∙ sym awaits.first_is)
+
+      by_waits : (¬ IsTaking awaits.past) ⊎ (awaits.rest.launch ≡ None) → parts.between.launch ≡ None
+      by_waits (inl over) = absurd (over (subst (λ h. IsTaking h) same_there.0 way.0))
+      by_waits (inr none) = ap (λ (r : Rest). r.launch) same_there.1 ∙ none
+
+      none_waits : parts.between.launch ≡ None
+      none_waits = by_waits awaits.waits
+
+      requests : List (Option Request)
+      requests = filter_map read_as (items_of parts.mid)
+
+      told : (contents : List (List ℕ)) × Frames (stream_of such.front) contents parts.between.bytes
+          × AreReadAs parts.between.first contents (contents_read parts.mid parts.between.launch)
+      told = laws.contents such.front parts.mid parts.between before
+
+-- ---- all together
+
+known_end : (e : Incoming) → (End ≡ e) ⊎ ¬ (End ≡ e)
+known_end End = inl refl
+known_end _ = inr (λ same. absurd cc)
+
+known_failure : (e : Incoming) → (ReadFailed ≡ e) ⊎ ¬ (ReadFailed ≡ e)
+known_failure ReadFailed = inl refl
+known_failure _ = inr (λ same. absurd cc)
+
+by_end : HistoryLaws → Closing closed.InputEnded End InputEnd
+by_end laws = record {
+  last = tt;
+  known = known_end;
+  takes = λ past rest new left leads. leads.0;
+  unasked = refl;
+  ends = refl;
+  among = λ events past rest history is. (laws.closed_by events past rest history).0 is;
+}
+
+by_failure : HistoryLaws → Closing closed.ReadFailed ReadFailed ReadFailure
+by_failure laws = record {
+  last = tt;
+  known = known_failure;
+  takes = λ past rest new left leads. leads.0;
+  unasked = refl;
+  ends = refl;
+  among = λ events past rest history is. (laws.closed_by events past rest history).1 is;
+}
+
+failures_grow : (e : Incoming) (old later : Supply) → IsRead e old later → old.failures ≤ later.failures
+failures_grow (Piece p) old later read = let same = read.2 in omega (arith, same)
+failures_grow End old later read = let same = read.2 in omega (arith, same)
+failures_grow ReadFailed old later read = let more = read.1 in omega (arith, more)
+failures_grow NoMemoryCame old later read = let same = read.1 in omega (arith, same)
+failures_grow (File file) old later read = absurd read
+failures_grow (Report r) old later same =
+    subst (λ (s : Supply). old.failures ≤ s.failures) (sym same) (omega arith)
+
+-- a read that failed is counted
+read_fails : (events : List Incoming) (old later : Supply) → AreRead (events ++ ReadFailed ∷ []) old later
+    → old.failures < later.failures
+read_fails [] old later read =
+    subst (λ (s : Supply). old.failures < s.failures) (sym read.2) read.1.1
+read_fails (e ∷ events) old later read =
+    let a = failures_grow e old read.0 read.1 in let b = read_fails events read.0 later read.2 in omega (arith, a, b)
+
+answers_all_read : HistoryLaws → (f : FirstSeq) (before after : World) (by : Closed) (own : Incoming) (item : Item)
+    → Closing by own item → (driven : TasksEnd f (Ok tt) (Ok by) before after)
+    → from_client driven.given ≡ driven.reader.client
+    → ((pieces : List Incoming) → AreRead (pieces ++ own ∷ []) (input_of before.streams) (input_of after.streams)
+    → EndsBy by (input_of before.streams) (input_of after.streams))
+    → SessionOutcome f driven.session.events driven.given driven.session.loaded nothing_sent driven.sent (Ok by)
+    → AnswersAllRead f by before after
+answers_all_read laws f before after by own item closing driven taken ends (closes from serves) =
+    let told =
+    answers_up_to laws f driven.session.events driven.given driven.session.loaded from serves.past serves.rest
+    serves.first_is serves.history by own item closing serves.ending_is in
+    let all =
+    takes_all f driven.session.events driven.given driven.reader.client driven.session.loaded driven.reader.end
+    (input_of before.streams) (input_of after.streams) from driven.reader.read taken own closing.last told.front
+    told.back told.events_are in
+    record {
+      read = stream_of told.front;
+      consumed = all.whole;
+      ends = ends all.pieces all.read;
+      messages = messages_of serves.past;
+      answers = told.answers;
+      written = subst (λ frames. WritesAll (concat frames) (output_of before.streams) (output_of after.streams))
+          serves.frames_are driven.writer.written;
+    }
+
+pub all_read_is_answered : HistoryLaws → AllReadIsAnswered
+all_read_is_answered laws f outcome closed.Disconnected before after served is other = absurd (other refl)
+all_read_is_answered laws f outcome closed.InputEnded before after served is other =
+    let driven = outcome_is_of_session f outcome closed.InputEnded before after served is in
+    answers_all_read laws f before after closed.InputEnded End InputEnd (by_end laws) driven driven.reader.client_taken
+    (λ pieces read. read_to_end pieces (input_of before.streams) (input_of after.streams) read) driven.session.drives
+all_read_is_answered laws f outcome closed.ReadFailed before after served is other =
+    let driven = outcome_is_of_session f outcome closed.ReadFailed before after served is in
+    answers_all_read laws f before after closed.ReadFailed ReadFailed ReadFailure (by_failure laws) driven
+    driven.reader.client_taken
+    (λ pieces read. read_fails pieces (input_of before.streams) (input_of after.streams) read) driven.session.drives

@@ -1,0 +1,57 @@
+-- States what a client gets where its input ends or a read of it fails, in terms of bytes and messages alone.
+use Rattle.std.specs.Prelude.{◌≡◌, ◌≢◌, ◌<◌, ℕ, List, Option, None, Some, Result}
+use Rattle.std.specs.List.{concat, filter_map}
+use Rattle.std.specs.Io.KnownBytes.{Consumes, IsAtEnd}
+use Rattle.dap_frame.specs.Frame.{Frames, IsOpen}
+use Rattle.dap_msg.specs.Commands.{name_of}
+use Rattle.dap_msg.specs.declared.command.CommandName.{CommandName}
+use Rattle.dap_msg.specs.declared.outgoing.Outgoing.{Outgoing}
+use Rattle.dap_msg.specs.declared.request.FirstSeq.{FirstSeq}
+use Rattle.dap_msg.specs.declared.request.Request.{Request}
+use Rattle.dap_history.specs.declared.ending.Closed.{Closed}
+use Rattle.dap_history.specs.declared.ending.Closed.TheVariants as closed
+use Rattle.dap_history.specs.Laws.{AreReadAs, answered_request}
+use Rattle.dap_history.specs.Output.{frames_from}
+use Rattle.byte_streams.specs.Streams.{Supply, WritesAll}
+use Rattle.adapter.specs.declared.serving.Served.{Served}
+use Rattle.adapter.specs.declared.serving.ServeFault.{ServeFault}
+use Rattle.adapter.specs.Laws.{closed_of}
+use Rattle.adapter.specs.Serving.{World, input_of, output_of, IsServed}
+
+-- the seq and the command of a content, if it is a request
+abbrev pub asked : Option Request → Option (ℕ × CommandName)
+asked None = None
+asked (Some request) = Some (request.seq, name_of request.body)
+
+-- The bytes are whole frames, and then less than one. The answers among the messages are, in order, one for each
+-- request among the contents of these frames, under its own seq and command.
+pub record AnswersAll (first : FirstSeq) (bytes : List ℕ) (messages : List Outgoing) : Type 0 where
+  pub contents : List (List ℕ)
+  pub rest : List ℕ
+  pub frames : Frames bytes contents rest
+  pub unfinished : IsOpen rest
+  pub requests : List (Option Request)
+  pub read : AreReadAs first contents requests
+  pub answers : filter_map answered_request messages ≡ filter_map asked requests
+
+-- no byte is left, or a read failed
+abbrev pub EndsBy : Closed → Supply → Supply → Type 0
+EndsBy closed.Disconnected old later = ⊥
+EndsBy closed.InputEnded old later = IsAtEnd later.left
+EndsBy closed.ReadFailed old later = old.failures < later.failures
+
+-- All that was read of the input, up to what closed the session, was answered, and all messages were written whole.
+pub record AnswersAllRead (first : FirstSeq) (by : Closed) (before after : World) : Type 0 where
+  pub read : List ℕ
+  pub consumed : Consumes (input_of before.streams).left (input_of after.streams).left read
+  pub ends : EndsBy by (input_of before.streams) (input_of after.streams)
+  pub messages : List Outgoing
+  pub answers : AnswersAll first read messages
+  pub written : WritesAll (concat (frames_from 1 messages)) (output_of before.streams) (output_of after.streams)
+
+-- Where `serve` returns that the input ended or a read failed, all that was read before was answered.
+abbrev pub AllReadIsAnswered : Type 0
+AllReadIsAnswered =
+    (first : FirstSeq) (outcome : Result Served ServeFault) (by : Closed) (before after : World)
+    → IsServed first outcome before after → closed_of outcome ≡ Some by → by ≢ closed.Disconnected
+    → AnswersAllRead first by before after
