@@ -178,5 +178,6 @@ pub listed_end : (u : Compiled) (code : List Instruction) (line a k : ℕ) (line
     → new ≡ whole
 listed_end u code line a k lines listed new whole past all put before =
     put ∙ ap (λ ls. listed ++ with_feeds ls) (take_all k lines all)
-    ∙ ap (λ r. listed ++ r) (sym (ap (λ c. rest (placed u line a c) line lines) (drop_all a code past) ∙ rest_end line lines))
+    ∙ ap (λ r. listed ++ r)
+    (sym (ap (λ c. rest (placed u line a c) line lines) (drop_all a code past) ∙ rest_end line lines))
     ∙ before

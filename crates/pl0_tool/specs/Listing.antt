@@ -1,4 +1,4 @@
--- The listing of a program: the lines of its text, and under each line the code that stands there.
+-- Defines the listing of a program: the lines of its text, and under each line the code that stands there.
 use Rattle.std.specs.Prelude.{ℕ, ◌+◌, Bool, true, false, nat_eq, nat_le, nat_lt, max, if◌then◌else◌, List, [], ◌∷◌, ◌++◌, codes, decimal, drop, map, slice_get, Option, Some, None, unwrap_or, option_and_then}
 use Rattle.std.specs.List.{concat, filter}
 use Rattle.std.specs.Option.{option_map_or}

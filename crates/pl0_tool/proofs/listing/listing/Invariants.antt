@@ -7,5 +7,6 @@ use Rattle.pl0_tool.proofs.listing.listing.Given as goal
 -- what was listed, and what is left, are the whole listing
 abbrev pub invariant-loop-address : goal.invariant-loop-address
 invariant-loop-address l =
-    l.listed.items ++ rest (placed l.unit l.line l.address (drop l.address l.instruction-items)) l.line (text_lines l.left)
+    l.listed.items
+    ++ rest (placed l.unit l.line l.address (drop l.address l.instruction-items)) l.line (text_lines l.left)
     ≡ listing l.unit
