@@ -56,7 +56,7 @@ use Rattle.dap_history.proofs.Along.{IsKept, any_events, along}
 use Rattle.dap_history.proofs.Silent.{all_silent}
 use Rattle.dap_history.proofs.Outputs.{report_launches}
 use Rattle.dap_history.proofs.Places.{most, BlockNear, read_near, MayBeNear, program_step_near, FramesNear, frames_near, next_step_near}
-use Rattle.dap_history.proofs.Reacted.{IsCalm, Reacted, by_refusing, by_answering, by_setting, by_starting, by_resuming, by_ending, by_retreating, by_interrupting, by_closing, by_reaction}
+use Rattle.dap_history.proofs.Reacted.{IsCalm, Reacted, by_refusing, by_answering, by_setting, by_starting, by_resuming, by_ending, by_reaction}
 use Rattle.dap_msg.specs.declared.outgoing.Body.{Body}
 
 -- ---- messages one after another
@@ -281,9 +281,7 @@ module _ (few : FramesAreFew) where
   reaction_fits past near (by_resuming kind a l there) = record { result = resume_kind_fits kind; events = tt }
   reaction_fits past near (by_ending kind a) =
       record { result = resume_kind_fits kind; events = (near_small 1 (lit≤ tt), (tt, tt)) }
-  reaction_fits past near (by_retreating s kind a l stands there) = record { result = tt; events = tt }
-  reaction_fits past near (by_interrupting a) = record { result = tt; events = tt }
-  reaction_fits past near (by_closing s) = record { result = tt; events = tt }
+  reaction_fits past near _ = record { result = tt; events = tt }
 
   command_fits : (s : Situation) (past : History) (asked : Command) (reply : Reply) → LaunchedNear (launched past)
       → RepliesIn s past asked reply → ReplyFits reply

@@ -86,15 +86,12 @@ begins_done past s l (Some r) =
 reaction_done : (past : History) {s : Situation} {asked : Command} {reaction : Reaction} → Reacted past s asked reaction
     → (b : Body) → (reply_of past reaction).result ≡ Ok b → IsSome (mode_by 0 asked)
     → IsDone s asked (reply_of past reaction).effect
-reaction_done past (by_refusing s asked why) b granted asks = absurd cc
 reaction_done past (by_answering s asked body calm) b granted asks = absurd (calm_asks_none past s asked body calm asks)
-reaction_done past (by_setting s a l found bs there path_is resolved) b granted asks = absurd cc
 reaction_done past (by_starting l there) b granted asks = begins_done past Configuring l (due_first past l)
 reaction_done past (by_resuming kind a l there) b granted asks = inl refl
 reaction_done past (by_ending kind a) b granted asks = inr (refl, refl)
 reaction_done past (by_retreating s kind a l stands there) b granted asks = inl refl
-reaction_done past (by_interrupting a) b granted asks = absurd cc
-reaction_done past (by_closing s) b granted asks = absurd cc
+reaction_done past _ b granted asks = absurd cc
 
 held_run : (past : History) (r : PlainReport) (pauses : Bool) → pauses ≡ false
     → IsSome (last_such go (held_effect past r pauses).orders)

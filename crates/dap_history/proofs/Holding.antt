@@ -37,7 +37,7 @@ use Rattle.dap_history.proofs.Readings.{situation-snoc, orders_of-snoc, last_run
 use Rattle.dap_history.proofs.Along.{IsKept, any_events, along}
 use Rattle.dap_history.proofs.Each.{WasTaken, EachTaken, each_kept, each_first}
 use Rattle.dap_history.proofs.Paths.{at_path, at_path_so}
-use Rattle.dap_history.proofs.Reacted.{IsCalm, Reacted, by_refusing, by_answering, by_setting, by_starting, by_resuming, by_ending, by_retreating, by_interrupting, by_closing, reacted, by_reaction}
+use Rattle.dap_history.proofs.Reacted.{IsCalm, Reacted, by_refusing, by_answering, by_setting, by_starting, by_resuming, by_retreating, by_interrupting, by_closing, reacted, by_reaction}
 use Rattle.dap_history.proofs.Standing.{MarkIs, mark_unwrap, answers_only}
 use Rattle.dap_history.proofs.Passing.{IsRunning, runs_not}
 use Rattle.dap_history.proofs.Once.{none_within, rest_of}
@@ -354,12 +354,8 @@ module _ (past : History) where
       absurd (not_calm past asked body (subst (λ t. IsCalm past t asked body) running calm) to_wait)
   reaction_holds (by_setting s a l found bs there path_is resolved) running here b granted to_wait =
       sets_hold (situation past) bs here
-  reaction_holds (by_starting l there) running here b granted to_wait = absurd to_wait
-  reaction_holds (by_resuming kind a l there) running here b granted to_wait = absurd to_wait
-  reaction_holds (by_ending kind a) running here b granted to_wait = absurd to_wait
-  reaction_holds (by_retreating s kind a l stands there) running here b granted to_wait = absurd to_wait
   reaction_holds (by_interrupting a) running here b granted to_wait = refl
-  reaction_holds (by_closing s) running here b granted to_wait = absurd to_wait
+  reaction_holds _ running here b granted to_wait = absurd to_wait
 
 abbrev pub result_of : Option Outgoing → Option (Result Body Refusal)
 result_of (Some (Answer seq c result)) = Some result

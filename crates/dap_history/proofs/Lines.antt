@@ -419,16 +419,13 @@ module _ (past : History) (none : launched past ≡ None) where
 
   reaction_none : (seq : ℕ) {s : Situation} {asked : Command} {reaction : Reaction} → Reacted past s asked reaction
       → SetsNone (answering seq asked (reply_of past reaction).result (reply_of past reaction).effect)
-  reaction_none seq (by_refusing s asked why) = record { lines = λ path. refl; put_in = refl }
   reaction_none seq (by_answering s asked b calm) =
       record { lines = λ path. calm_none path s asked b calm; put_in = refl }
   reaction_none seq (by_setting s a l found bs there path_is resolved) = absurd (not_launched l there)
   reaction_none seq (by_starting l there) = absurd (not_launched l there)
   reaction_none seq (by_resuming kind a l there) = absurd (not_launched l there)
-  reaction_none seq (by_ending kind a) = record { lines = λ path. refl; put_in = refl }
   reaction_none seq (by_retreating s kind a l stands there) = absurd (not_launched l there)
-  reaction_none seq (by_interrupting a) = record { lines = λ path. refl; put_in = refl }
-  reaction_none seq (by_closing s) = record { lines = λ path. refl; put_in = refl }
+  reaction_none seq _ = record { lines = λ path. refl; put_in = refl }
 
 -- ---- along a history
 

@@ -140,19 +140,13 @@ module _ (past : History) where
   granted_run : {s : Situation} {asked : Command} {reaction : Reaction} → Reacted past s asked reaction
       → (m : Mode) (b : Body) → back_by asked ≡ Some m → (reply_of past reaction).result ≡ Ok b
       → IsSome (last_such go (reply_of past reaction).effect.orders)
-  granted_run (by_refusing s asked why) m b asks granted = absurd cc
   granted_run (by_answering s asked body calm) m b asks granted = absurd (calm_not s asked body calm asks)
     where
       calm_not : (s : Situation) (c : Command) (b : Body) → IsCalm past s c b → ¬ (back_by c ≡ Some m)
       calm_not s (command.Retreat k a) b calm by = calm
       calm_not s _ b calm by = absurd cc
   granted_run (by_retreating s kind a l stands there) m b asks granted = refl
-  granted_run (by_setting s a l found bs there path_is resolved) m b asks granted = absurd cc
-  granted_run (by_starting l there) m b asks granted = absurd cc
-  granted_run (by_resuming kind a l there) m b asks granted = absurd cc
-  granted_run (by_ending kind a) m b asks granted = absurd cc
-  granted_run (by_interrupting a) m b asks granted = absurd cc
-  granted_run (by_closing s) m b asks granted = absurd cc
+  granted_run _ m b asks granted = absurd cc
 
 pub granted_back : (s : Situation) (past : History) (asked : Command) (reply : Reply) (m : Mode) (b : Body)
     → RepliesIn s past asked reply → back_by asked ≡ Some m → reply.result ≡ Ok b

@@ -57,8 +57,7 @@ begun_step launch text unit = launch_step launch (Some text) (begins launch text
 abbrev launched_program : Launch → Compiled → List ℕ → Launched
 launched_program launch unit text =
     record {
-      path =
-          launch.arguments.program;
+      path = launch.arguments.program;
       stop_on_entry = launch.arguments.stop_on_entry;
       text = text;
       program = program_of

@@ -153,8 +153,7 @@ same_target t u v past same is = record {
         path = t.path;
         stop_on_entry = t.stop_on_entry;
         text = text_of v;
-        program =
-            program;
+        program = program;
       }))
       (one_program u v same);
   settings_are = is.settings_are;
@@ -178,14 +177,12 @@ put_in_of back waits finish now =
 abbrev stopped_by : Bool → Reported → Trail → Debugged
 stopped_by back r trail =
     record {
-      unit =
-          r.unit;
+      unit = r.unit;
       position = r.end;
       breakpoints = r.plan;
       counted_from = counts_from back r;
       next = r.end + 1;
-      trail =
-          trail;
+      trail = trail;
     }
 
 put_in_stands : (back : Bool) (waits : Option (List Breakpoint)) (r : Reported) (trail : Trail) (now : Plan)
@@ -269,8 +266,7 @@ abbrev pub next_run : History → Reported → Heading
 next_run past r =
     let now = plan_then past r in
     record {
-      run =
-          runs past + 1;
+      run = runs past + 1;
       text = text_of r.unit;
       plan = now.breakpoints;
       counted_from = now.counted_from;
@@ -300,8 +296,7 @@ report_begins_again laws t run r past goes is =
     run_begins laws t (back run r) run.mode past step (back_target t run r past goes is)
     (back_debuggee laws (back run r) r past step (back_stands t run r past goes is.keeps.1) refl refl)
     (record {
-      orders_are =
-          ap (λ h. Go h ∷ []) (sym (back_heading t run r past goes is));
+      orders_are = ap (λ h. Go h ∷ []) (sym (back_heading t run r past goes is));
       launches_nothing = refl;
       sets_nothing = refl;
     })

@@ -101,8 +101,7 @@ goes_on laws command t d m body events past given sets_none tells_none is_t is_d
       replies = replies;
       gives = record {
         result_is = gone.result_is;
-        effect_is =
-            record { events_are = gone.events_are; orders_are = gone.orders_are ∙ sym next };
+        effect_is = record { events_are = gone.events_are; orders_are = gone.orders_are ∙ sym next };
       };
       phase_is = λ seq.
           let step =

@@ -16,8 +16,7 @@ use Rattle.dap_replies.specs.declared.effect.Reply.{Reply as Given}
 abbrev pub target_of : InitializeArguments → LaunchArguments → Target
 target_of settings arguments =
     record {
-      settings =
-          settings;
+      settings = settings;
       path = arguments.program;
       stop_on_entry = arguments.stop_on_entry;
       runs = 0;
