@@ -12,7 +12,7 @@ use Rattle.pl0_tool.specs.declared.running.RunEnd.{RunEnd}
 use Rattle.pl0_tool.specs.Loading.{IsProgramOf}
 use Rattle.pl0_tool.specs.Running.{HasRun}
 use Rattle.pl0_tool.specs.Listing.{listing}
-use Rattle.pl0_tool.specs.Commands.{IsReport, RunTells, ProgramTells, Tells, start_of, end_errors, end_ending}
+use Rattle.pl0_tool.specs.Commands.{IsReport, RunTells, TraceTells, ProgramTells, Tells, start_of, end_errors, end_ending}
 
 pub run_told : (end : RunEnd) (file : List ℕ) (start last : Standing) (report : Report) (before after : Output)
     → HasRun end start last before after
@@ -68,10 +68,11 @@ run_program task file unit (Err e) before after is tells = tt
 pub traced_program : {E : Type 0} (task : Task) (from steps : ℕ) (drawn : Bool) (file : List ℕ) (unit : Compiled)
     (r : Result Report E) (out : Output)
     → task ≡ Trace from steps drawn
+    → IfOk r (TraceTells drawn (start_of unit) from steps)
     → IfOk r (λ report. ProgramTells task file unit report out out)
-traced_program task from steps drawn file unit (Ok report) out is =
-    subst (λ (t : Task). ProgramTells t file unit report out out) (sym is) refl
-traced_program task from steps drawn file unit (Err e) out is = tt
+traced_program task from steps drawn file unit (Ok report) out is told =
+    subst (λ (t : Task). ProgramTells t file unit report out out) (sym is) (told, refl)
+traced_program task from steps drawn file unit (Err e) out is told = tt
 
 -- all bytes were written, or a prefix of them
 pub said : (b : Bool) (bytes : List ℕ) (before after : Output)

@@ -1,5 +1,5 @@
 -- What each command writes and tells of a text.
-use Rattle.std.specs.Prelude.{◌≡◌, ◌⊎◌, ℕ, List, []}
+use Rattle.std.specs.Prelude.{◌≡◌, ◌⊎◌, ℕ, Bool, List, []}
 use Rattle.pl0_tree.specs.declared.tree.Place.{Place}
 use Rattle.pl0_tree.specs.declared.fault.FaultKind.{FaultKind}
 use Rattle.pl0_tree.specs.Faults.{IsFirstFault}
@@ -18,6 +18,9 @@ use Rattle.pl0_tool.specs.Loading.{IsProgramOf}
 use Rattle.pl0_tool.specs.Running.{HasRun}
 use Rattle.pl0_tool.specs.Faulting.{fault_report}
 use Rattle.pl0_tool.specs.Listing.{listing}
+use Rattle.pl0_tool.specs.Table.{table}
+use Rattle.pl0_tool.specs.Tracing.{AreRows}
+use Rattle.pl0_tool.specs.declared.tracing.Row.{Row}
 
 -- a report of these bytes, and of a command that ends so
 abbrev pub IsReport : List ℕ → List ℕ → Ending → Report → Type 0
@@ -43,6 +46,13 @@ RunTells file start report before after =
     (end : RunEnd) × (last : Standing) × HasRun end start last before after
     × IsReport [] (end_errors file last end) (end_ending end) report
 
+-- ---- a trace
+
+-- the table of positions of the run is the output
+abbrev pub TraceTells : Bool → Standing → ℕ → ℕ → Report → Type 0
+TraceTells drawn start from steps report =
+    (rows : List Row) × AreRows drawn start from steps rows × (report.output.items ≡ table start.unit drawn rows)
+
 -- ---- a text
 
 -- a machine before the first step of a program
@@ -56,7 +66,8 @@ MistakeTells file text report =
 
 abbrev pub ProgramTells : Task → List ℕ → Compiled → Report → Output → Output → Type 0
 ProgramTells Run file unit report before after = RunTells file (start_of unit) report before after
-ProgramTells (Trace from steps drawn) file unit report before after = after ≡ before
+ProgramTells (Trace from steps drawn) file unit report before after =
+    TraceTells drawn (start_of unit) from steps report × (after ≡ before)
 ProgramTells Check file unit report before after = IsReport [] [] Success report × (after ≡ before)
 ProgramTells Listing file unit report before after = IsReport (listing unit) [] Success report × (after ≡ before)
 

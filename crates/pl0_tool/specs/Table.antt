@@ -1,5 +1,5 @@
--- Defines the table of a trace: its head, and under it what is told of each position. Where the machine is drawn, each
--- frame has a line of its own.
+-- The table of a trace: its head, and under it what is told of each position. Where the machine is drawn, each frame
+-- has a line of its own.
 use Rattle.std.specs.Prelude.{ℕ, zero, suc, ◌-◌, ℤ, Bool, true, false, ◌||◌, ◌==◌, List, [], ◌∷◌, ◌++◌, codes, decimal, drop, map, slice_get, slice_index_or, Option, Some, None}
 use Rattle.std.specs.List.{concat, before_first}
 use Rattle.std.specs.Option.{option_map_or}

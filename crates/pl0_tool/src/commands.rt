@@ -3,7 +3,7 @@
 ghost use Rattle.std.specs.Prelude.{◌≡◌, ◌<◌, ◌≤◌, [], IfOk};
 ghost use Rattle.pl0_machine.specs.Machine.{depth_of};
 ghost use Rattle.byte_streams.specs.Streams.{output as output_at};
-ghost use Rattle.pl0_tool.specs.Commands.{Tells, ProgramTells, RunTells, IsReport, start_of};
+ghost use Rattle.pl0_tool.specs.Commands.{Tells, ProgramTells, RunTells, TraceTells, IsReport, start_of};
 ghost use Rattle.pl0_tool.specs.Listing.{listing};
 ghost use Rattle.pl0_tool.specs.declared.report.Ending.TheVariants.{Success};
 
@@ -117,9 +117,15 @@ fn trace_program(
     from: u64,
     steps: usize,
     drawn: bool,
-) -> Result<Report, AllocError> {
-    let mut machine = first_machine(alloc, unit)?;
-    trace_part(rt, alloc, file, &mut machine, from, steps, drawn)
+) -> Result<Report, AllocError>
+    ensures { IfOk result (TraceTells drawn (start_of unit) from steps) }
+{
+    let unit = Arc::new(alloc, unit)?;
+    let mut machine = Machine::new(alloc, unit.clone()?)?;
+    let rows = trace(rt, alloc, &mut machine, from, steps, drawn)?;
+    let told = table(alloc, &unit, rows.as_slice(), drawn)?;
+    let last = rows.last().map(|row| row.outcome);
+    trace_report(alloc, file, &mut machine, last, told)
 }
 
 /// Returns a machine before the first step of a program.
@@ -156,23 +162,19 @@ fn run_whole<O: Sink>(
     }
 }
 
-/// Tells some positions of a machine's run, and where the run stopped if it did.
-fn trace_part(
-    rt: &impl Wait,
+/// Returns a report of what was told of a run, and of where it stopped if it did. `last` is what the last step that was
+/// told did.
+fn trace_report(
     alloc: Global,
     file: &str,
     machine: &mut Machine,
-    from: u64,
-    steps: usize,
-    drawn: bool,
+    last: Option<StepOutcome>,
+    told: Vec<u8>,
 ) -> Result<Report, AllocError>
-    requires alive { 0 < depth_of machine.old }
-    requires within { machine.old.position ≤ from }
+    ensures { IfOk result (λ report. report.output.items ≡ told.items) }
 {
-    let rows = trace(rt, alloc, machine, from, steps, drawn)?;
-    let told = table(alloc, machine.unit(), rows.as_slice(), drawn)?;
-    let outcome = match rows.last() {
-        Some(row) => row.outcome,
+    let outcome = match last {
+        Some(outcome) => outcome,
         None if machine.depth() > 0 => machine.step(),
         None => {
             let end = machine.position();

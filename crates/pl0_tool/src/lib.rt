@@ -4,8 +4,8 @@
 //! first mistake. A run writes the numbers that the program writes by its meaning, each on a line of its own, up to its
 //! end or to the step that faults, or a prefix of them, where the output fails ([`run_machine`]); of a fault the newest
 //! frames are told. [`trace`] tells positions of a run in order, each with the frames, the step and the number that the
-//! meaning has there, and draws the machine, if it is to, as the meaning's frames lie in its cells. [`run`] is all of
-//! the program `pl0` but its `main`.
+//! meaning has there, and draws the machine, if it is to, as the meaning's frames lie in its cells. The table of a trace,
+//! and a listing, are as defined. [`run`] is all of the program `pl0` but its `main`.
 #![tactic(auto)]
 
 mod arguments;

@@ -12,5 +12,5 @@ loop-put-preserved c =
     put_next (program_of c.args.unit.now) c.args.frames.now c.args.heads.now c.loop-put.put
     (c.min-count.result - 1 - c.loop-put.put) c.index-frames-frame.result _ c.args.page.now.items
     c.loop-put.page.items c.put_frame_line.new.page.items
-    (omega (arith, c.loop-put-test.true, c.min-count.ensures)) c.index-frames-frame.is c.loop-put.invariant
-    c.in_ok-put_frame_line.ensures
+    (omega (arith, c.loop-put-test.true, c.min-count.ensures)) c.index-frames-frame.is
+    c.loop-put.invariant c.in_ok-put_frame_line.ensures
