@@ -94,7 +94,7 @@ pub record SessionSends (first : FirstSeq) (result : Result Closed SessionFault)
   pub never_gone : sent.runner_gone ≡ 0
   pub full : result ≡ Err OrdersFull → FourWerePushed sent.orders
 
--- The reader sent to the inbox what it read. Of that the session took all, or a prefix, by the way in which it ended.
+-- The reader sent to the inbox what it read. The session took all of that, or a prefix, by the way in which it ended.
 pub record ReaderSends (result : Result Closed SessionFault) (given : List Incoming)
     (old later : Supply) : Type 0 where
   pub end : ReadEnd
@@ -102,8 +102,8 @@ pub record ReaderSends (result : Result Closed SessionFault) (given : List Incom
   pub read : IsReadUntil end client old later
   pub client_taken : TakenOfSent result (from_client given) client
 
--- The runner did these acts, from its start to its end. Of the orders it took all, or a prefix, by the way in which the
--- session ended; of the reports that it sent, the session took a prefix. The slices that passed the gate are its own.
+-- The runner did these acts, from its start to its end. It took all of the orders, or a prefix, by the way in which the
+-- session ended; the session took a prefix of the reports that it sent. The slices that passed the gate are its own.
 pub record RunnerActs (result : Result Closed SessionFault) (given : List Incoming) (orders : List PlainOrder)
     (passed later_passed : List (ℕ × ℕ)) : Type 0 where
   pub acts : List Act

@@ -3,7 +3,7 @@ use Rattle.std.specs.Prelude.{◌≡◌, ℕ, List, ◌++◌}
 use Rattle.std.specs.Io.KnownBytes.{Appends}
 use Rattle.byte_streams.specs.Streams.{Output}
 
--- Of a text the first part was written to an output since it was as before, and the rest is pending.
+-- The first part of a text was written to an output since it was as before, and the rest is pending.
 pub record Holds (before now : Output) (pending text : List ℕ) : Type 0 where
   pub flushed : List ℕ
   pub appended : Appends before.written now.written flushed
