@@ -3,7 +3,7 @@
 ghost use Rattle.std.specs.Prelude.{◌≡◌, ◌<◌, ◌+◌, ℕ, None, Some, length, slice_get, slice_index_or, option_map};
 ghost use Rattle.pl0_meaning.specs.Values.{comparison};
 ghost use Rattle.pl0_machine.specs.Room.{BeginsStep};
-ghost use Rattle.pl0_machine.specs.Asking.{IsInFrame, AreInFrame, MayBeInFrame, IsAnswer, IsWithin, IsMark, number_there};
+ghost use Rattle.pl0_machine.specs.Asking.{IsInFrame, AreInFrame, MayBeInFrame, IsAnswer, IsWithin, IsMark, marked_in, number_there};
 
 use pl0_meaning::compare;
 use pl0_tree::{Relation, StepNumber};
@@ -33,15 +33,26 @@ pub struct Marks {
     pub asked: Vec<Option<Comparison>>,
 }
 
-/// Whether an address is marked.
+/// Returns the table of the marked addresses, if there is one.
 #[inline(always)]
-pub fn is_marked(marks: Option<&Marks>, at: usize) -> bool
-    requires { IsWithin (option_map (λ table. table.now) marks) at }
-    ensures { IsMark (option_map (λ table. table.now) marks.entry) at result }
+pub fn marked_in(marks: Option<&Marks>) -> Option<&[bool]>
+    ensures { option_map (λ table. table.now) result ≡ marked_in (option_map (λ table. table.now) marks.entry) }
 {
     match marks {
+        None => None,
+        Some(marks) => Some(marks.marked.as_slice()),
+    }
+}
+
+/// Whether an address is marked.
+#[inline(always)]
+pub fn is_marked(marked: Option<&[bool]>, at: usize) -> bool
+    requires { IsWithin (option_map (λ table. table.now) marked) at }
+    ensures { IsMark (option_map (λ table. table.now) marked.entry) at result }
+{
+    match marked {
         None => false,
-        Some(marks) => marks.marked[at],
+        Some(marked) => marked[at],
     }
 }
 
