@@ -28,8 +28,9 @@ pub record IsListingOf (file text : List ℕ) : Type 0 where
 abbrev pub Gives : List ℕ → List ℕ → List Load → List Load → Type 0
 Gives path file old new = new ≡ old ++ load_of path (Ok file) ∷ []
 
--- The file's listing was written; or the file can't be read, or it has this fault first, or there was no memory, and
--- nothing was written; or the output failed after a prefix of the listing.
+-- The loader was asked once, for this path. The file's listing was written; or the file can't be read, it has this
+-- fault first, or there was no memory, for the loader or after it, and nothing was written; or the output failed after
+-- a prefix of the listing.
 abbrev pub IsChecked : List ℕ → Result (Unit {0}) CheckFault → List Load → List Load → Output → Output → Type 0
 IsChecked path (Ok done) old new before after =
     (file : List ℕ) × (text : List ℕ) × Gives path file old new × IsListingOf file text × WritesAll text before after
@@ -40,4 +41,5 @@ IsChecked path (Err (Syntax kind place)) old new before after =
 IsChecked path (Err WriteFailed) old new before after =
     (file : List ℕ) × (text : List ℕ) × Gives path file old new × IsListingOf file text × FailsIn text before after
 IsChecked path (Err NoMemory) old new before after =
-    ((new ≡ old) ⊎ ((file : List ℕ) × Gives path file old new)) × (after ≡ before)
+    ((new ≡ old ++ load_of path (Err load.NoMemory) ∷ []) ⊎ ((file : List ℕ) × Gives path file old new))
+    × (after ≡ before)

@@ -7,7 +7,7 @@ pub mod Laws
 pub mod AllRead
 -- The exit status and the last line on standard error.
 pub mod ExitReasons
--- What a loader of files was asked for and returned.
+-- What a loader of files reads.
 pub mod Loading
 -- What the arguments ask for.
 pub mod Arguments

@@ -1,10 +1,10 @@
 //! Loading program files.
 
 ghost use Rattle.std.specs.Prelude.{◌≡◌, []};
-ghost use Rattle.adapter.specs.Loading.{loads};
+ghost use Rattle.dap_session.specs.Loads.{logged};
 
 use byte_streams::Reading;
-use dap_session::{LoadFault, Loader};
+use dap_session::{LoadFault, LoadLog, Loader};
 use dap_wires::read_beginning;
 use std::alloc::Global;
 use std::fs;
@@ -13,86 +13,56 @@ use std::rt::Files;
 use std::sync::Wait;
 use std::time::Clock;
 
-/// Loads files of the system, and keeps each path that it was asked for with the answer.
+/// Loads files of the system.
 #[derive(Drop)]
 pub struct FileLoader<'a, R: Files + Wait + Clock> {
     rt: &'a R,
     alloc: Global,
     // Whether what isn't a regular file is refused.
     only_regular: bool,
-    given: Vec<Given>,
-}
-
-/// A path that was asked for, and the answer.
-#[derive(Drop)]
-struct Given {
-    path: String,
-    answer: Result<Vec<u8>, LoadFault>,
+    log: LoadLog,
 }
 
 impl<'a, R: Files + Wait + Clock> FileLoader<'a, R> {
     /// A loader that was asked for no file yet. It also reads a named pipe or a terminal, and blocks until that ends.
     pub fn new(rt: &'a R, alloc: Global) -> FileLoader<'a, R>
-        ensures { loads result.given.items ≡ [] }
+        ensures { logged result.log ≡ [] }
     {
         FileLoader {
             rt,
             alloc,
             only_regular: false,
-            given: Vec::new(alloc),
+            log: LoadLog::new(),
         }
     }
 
     /// A loader that was asked for no file yet. It refuses what isn't a regular file, such as a directory, a named pipe or a
     /// terminal, with `CannotRead`, and never waits for it.
     pub fn of_regular_files(rt: &'a R, alloc: Global) -> FileLoader<'a, R>
-        ensures { loads result.given.items ≡ [] }
+        ensures { logged result.log ≡ [] }
     {
         FileLoader {
             rt,
             alloc,
             only_regular: true,
-            given: Vec::new(alloc),
+            log: LoadLog::new(),
         }
     }
 }
 
 impl<R: Files + Wait + Clock> Loader for FileLoader<'_, R> {
-    ghost use Rattle.adapter.specs.Loading.{loads};
+    ghost use Rattle.dap_session.specs.Loads.{logged};
 
-    ghost loaded = { λ loader. loads loader.given.items };
+    ghost loaded = { λ loader. logged loader.log };
 
     fn load(&mut self, path: &str) -> Result<Vec<u8>, LoadFault> {
-        let Ok(asked) = String::from_str(self.alloc, path) else {
-            return Err(LoadFault::NoMemory);
-        };
         let opened = if self.only_regular {
             open_regular(self.rt, path)
         } else {
             fs::open(self.rt, path)
         };
-        match read_file(self.rt, self.alloc, opened) {
-            Ok(bytes) => {
-                let Ok(copy) = Vec::from_slice(self.alloc, bytes.as_slice()) else {
-                    return Err(LoadFault::NoMemory);
-                };
-                match self.given.push(Given {
-                    path: asked,
-                    answer: Ok(copy),
-                }) {
-                    Ok(()) => Ok(bytes),
-                    Err(_) => Err(LoadFault::NoMemory),
-                }
-            }
-            Err(LoadFault::CannotRead) => match self.given.push(Given {
-                path: asked,
-                answer: Err(LoadFault::CannotRead),
-            }) {
-                Ok(()) => Err(LoadFault::CannotRead),
-                Err(_) => Err(LoadFault::NoMemory),
-            },
-            Err(LoadFault::NoMemory) => Err(LoadFault::NoMemory),
-        }
+        let answer = read_file(self.rt, self.alloc, opened);
+        self.log.note(path, answer)
     }
 }
 

@@ -6,7 +6,6 @@ use Rattle.dap_history.specs.declared.ending.Closed.{Closed}
 use Rattle.dap_history.specs.declared.ending.Ending.{Ending}
 use Rattle.dap_history.specs.declared.ending.Ending.TheVariants as ending
 use Rattle.dap_history.specs.declared.fault.LoadFault.{LoadFault}
-use Rattle.dap_history.specs.declared.fault.LoadFault.TheVariants.{CannotRead, NoMemory}
 use Rattle.dap_history.specs.declared.fault.SessionFault.{SessionFault}
 use Rattle.dap_history.specs.declared.fault.SessionFault.TheVariants as faults
 use Rattle.dap_history.specs.declared.launch.Launch.{Launch}
@@ -24,9 +23,9 @@ use Rattle.dap_session.specs.declared.want.Want.TheVariants as want_is
 use Rattle.dap_session.specs.Ports.{Ports, load_of}
 use Rattle.dap_session.specs.Sending.{Sends, RefusesNothing, TriesQuit}
 use Rattle.dap_session.specs.State.{State, Represents, Wants, WantsHere, IsOpenEnded}
-use Rattle.dap_session.specs.Taking.{LacksMemory, Expects, NeedsNoMemory, EventGivesUp, Comes, TakesEvent}
+use Rattle.dap_session.specs.Taking.{Expects, NeedsNoMemory, EventGivesUp, Comes, TakesEvent}
 use Rattle.dap_session.specs.Serving.{Serves, StopsShort, no_seq_is_left, orders_are_full, runner_is_gone, writer_is_gone, SessionOutcome, closes, ends_at_fault, runs_out_of_memory, gives_up, Driven}
-use Rattle.dap_session.specs.Coming.{Sources, stored, ComesFrom}
+use Rattle.dap_session.specs.Coming.{Sources, ComesFrom}
 use Rattle.dap_session.proofs.Reports.{accepts_expected}
 use Rattle.dap_session.proofs.Joining.{sends_both, refuses_both, sends_nothing}
 
@@ -141,14 +140,6 @@ record Adds (f : FirstSeq) (events : List Incoming) (event : Incoming) (now next
   loads_are : next.loaded ≡ now.loaded ++ loads
   one : Interleaves f events (event ∷ []) given loads
 
--- or it says that there was no memory for the file that is wanted
-record AddsNothing (f : FirstSeq) (events : List Incoming) (event : Incoming) (now next : Sources) : Type 0 where
-  path : List ℕ
-  event_is : event ≡ File (Err NoMemory)
-  given_are : next.given ≡ now.given
-  loads_are : next.loaded ≡ now.loaded
-  awaited : Awaits f events path
-
 awaits : (f : FirstSeq) (session : State) (events : List Incoming) (past : History) (launch : Launch) (path : List ℕ)
     → Represents f session events past → session.ending ≡ None
     → launch_of session.phase ≡ Some launch → path ≡ launch.arguments.program → Awaits f events path
@@ -180,54 +171,30 @@ awaits_none f session events past stands open_ is =
 adds_file : (f : FirstSeq) (events : List Incoming) (path : List ℕ) (answer : Result (List ℕ) LoadFault)
     (now next : Sources)
     → Awaits f events path
-    → next.given ≡ now.given → next.loaded ≡ now.loaded ++ stored path answer
-    → Adds f events (File answer) now next ⊎ AddsNothing f events (File answer) now next
-adds_file f events path (Ok file) now next awaited given loaded =
-    inl (record {
-      given = [];
-      loads = load_of path (Ok file) ∷ [];
-      given_are = given
-          ∙ sym (append-nil now.given);
-      loads_are = loaded;
-      one = inl
-          (load_of path (Ok file), [], refl, (refl, awaited), (refl, refl));
-    })
-adds_file f events path (Err CannotRead) now next awaited given loaded =
-    inl (record {
-      given = [];
-      loads = load_of path (Err CannotRead) ∷ [];
-      given_are = given
-          ∙ sym (append-nil now.given);
-      loads_are = loaded;
-      one = inl
-          (load_of path (Err CannotRead), [], refl, (refl, awaited), (refl, refl));
-    })
-adds_file f events path (Err NoMemory) now next awaited given loaded =
-    inr (record {
-      path = path;
-      event_is = refl;
-      given_are = given;
-      loads_are = loaded
-          ∙ append-nil now.loaded;
-      awaited = awaited;
-    })
+    → next.given ≡ now.given → next.loaded ≡ now.loaded ++ load_of path answer ∷ []
+    → Adds f events (File answer) now next
+adds_file f events path answer now next awaited given loaded = record {
+  given = [];
+  loads = load_of path answer ∷ [];
+  given_are = given ∙ sym (append-nil now.given);
+  loads_are = loaded;
+  one = inl (load_of path answer, [], refl, (refl, awaited), (refl, refl));
+}
 
 adds_event : (f : FirstSeq) (session : State) (events : List Incoming) (past : History) (wanted : Option (List ℕ))
     (launch : Option Launch) (event : Incoming) (now next : Sources)
     → Represents f session events past → session.ending ≡ None → launch_of session.phase ≡ launch
     → wanted ≡ option_map (λ l. l.arguments.program) launch
     → ComesFrom wanted event now next
-    → Adds f events event now next ⊎ AddsNothing f events event now next
+    → Adds f events event now next
 adds_event f session events past None None event now next stands open_ is same from =
-    inl (record {
+    record {
       given = event ∷ [];
       loads = [];
       given_are = from.0;
-      loads_are = from.1
-          ∙ sym (append-nil now.loaded);
-      one = inr
-          ([], refl, awaits_none f session events past stands open_ is, (refl, refl));
-    })
+      loads_are = from.1 ∙ sym (append-nil now.loaded);
+      one = inr ([], refl, awaits_none f session events past stands open_ is, (refl, refl));
+    }
 adds_event f session events past None (Some launch) event now next stands open_ is same from = absurd cc
 adds_event f session events past (Some path) None event now next stands open_ is same from = absurd cc
 adds_event f session events past (Some path) (Some launch) (File answer) now next stands open_ is same from =
@@ -287,19 +254,6 @@ needs_some : (f : FirstSeq) (session after : State) (fault : SessionFault) (even
 needs_some f session after fault event mid later events past stands open_ step lost needs =
     step.enough (needs_none f session events past stands open_ event needs) (ap Err lost)
 
--- the event that comes says that there is no memory only where a launch waits
-lacking : (session : State) (wanted : Option (List ℕ)) (launch : Option Launch) (event : Incoming) (now next : Sources)
-    → wanted ≡ option_map (λ l. l.arguments.program) launch
-    → ComesFrom wanted event now next → event ≡ File (Err NoMemory) → next.given ≡ now.given → LacksMemory event launch
-lacking session None launch event now next same from is given = absurd (impossible now.given (sym given ∙ from.0))
-  where
-    impossible : (l : List Incoming) → l ≡ l ++ event ∷ [] → ⊥
-    impossible [] e = absurd cc
-    impossible (x ∷ l) e = impossible l cc
-lacking session (Some path) None event now next same from is given = absurd cc
-lacking session (Some path) (Some launch) event now next same from is given =
-    subst (λ e. LacksMemory e (Some launch)) (sym is) tt
-
 -- the way goes on where the event went well
 pub way_goes_on : (f : FirstSeq) (session after : State) (wanted : Option (List ℕ)) (want : Want) (event : Incoming)
     (begin now next : Sources) (old mid later : Ports)
@@ -308,36 +262,28 @@ pub way_goes_on : (f : FirstSeq) (session after : State) (wanted : Option (List 
     → (want ≡ want_is.Closed → ⊥)
     → Way f after (wanted_by want) begin next old later
 way_goes_on f session after wanted want event begin now next old mid later way from law step not =
-    elim (adds_event f session way.events way.past wanted (launch_of session.phase) event now next way.stands
-    way.open_ended refl way.wanted_is from) [
-      | inl adds ↦
-          let well = step.comes f way.events way.past way.stands in
-          let on = goes_on want after after.ending refl well.wants not in record {
-            events = way.events ++ event ∷ [];
-            past = well.new;
-            given = way.given ++ adds.given;
-            loads = way.loads ++ adds.loads;
-            given_are =
-                adds.given_are ∙ ap (λ l. l ++ adds.given) way.given_are
-                ∙ append_assoc begin.given way.given adds.given;
-            loads_are =
-                adds.loads_are ∙ ap (λ l. l ++ adds.loads) way.loads_are
-                ∙ append_assoc begin.loaded way.loads adds.loads;
-            lawful = lawful_both way.events (event ∷ []) way.lawful law;
-            interleaves =
-                interleaves_both f [] way.events (event ∷ []) way.given adds.given way.loads adds.loads way.interleaves
-                adds.one;
-            stands = well.stands;
-            sent = sends_both [] way.past well.new old mid later way.sent well.sends;
-            sure = refuses_both old mid later way.sure well.refuses_nothing;
-            open_ended = on.0;
-            wanted_is = on.1;
-          }
-      | inr none ↦
-          absurd (let e : Ok want ≡ Err faults.NoMemory =
-          step.no_memory (lacking session wanted (launch_of session.phase) event now next way.wanted_is from
-          none.event_is none.given_are) in cc)
-    ]
+    let adds = adds_event f session way.events way.past wanted (launch_of session.phase) event now next way.stands
+    way.open_ended refl way.wanted_is from in
+    let well = step.comes f way.events way.past way.stands in
+    let on = goes_on want after after.ending refl well.wants not in record {
+      events = way.events ++ event ∷ [];
+      past = well.new;
+      given = way.given ++ adds.given;
+      loads = way.loads ++ adds.loads;
+      given_are =
+          adds.given_are ∙ ap (λ l. l ++ adds.given) way.given_are ∙ append_assoc begin.given way.given adds.given;
+      loads_are =
+          adds.loads_are ∙ ap (λ l. l ++ adds.loads) way.loads_are ∙ append_assoc begin.loaded way.loads adds.loads;
+      lawful = lawful_both way.events (event ∷ []) way.lawful law;
+      interleaves =
+          interleaves_both f [] way.events (event ∷ []) way.given adds.given way.loads adds.loads way.interleaves
+          adds.one;
+      stands = well.stands;
+      sent = sends_both [] way.past well.new old mid later way.sent well.sends;
+      sure = refuses_both old mid later way.sure well.refuses_nothing;
+      open_ended = on.0;
+      wanted_is = on.1;
+    }
 
 -- ---- the end
 
@@ -403,7 +349,7 @@ ends f events past rest event after old mid later last given loads (faults.Frame
 ends f events past rest event after old mid later last given loads faults.NoMemory first history taking needs sent sure
     quit
     comes from =
-    runs_out_of_memory (inl from) (stops_short f events past rest event old mid later last faults.NoMemory
+    runs_out_of_memory from (stops_short f events past rest event old mid later last faults.NoMemory
     first history taking
     needs sent sure comes quit)
 ends f events past rest event after old mid later last given loads faults.SeqExhausted first history taking needs sent
@@ -439,33 +385,25 @@ pub way_closes : (f : FirstSeq) (session after : State) (wanted : Option (List �
     → after.ending ≡ Some (ending.Closed by)
     → Driven f (Ok by) begin.given next.given begin.loaded next.loaded old later
 way_closes f session after wanted want event begin now next old mid later by way from law step is =
-    elim (adds_event f session way.events way.past wanted (launch_of session.phase) event now next way.stands
-    way.open_ended refl way.wanted_is from) [
-      | inl adds ↦
-          let well = step.comes f way.events way.past way.stands in record {
-            events = way.events ++ event ∷ [];
-            given = way.given ++ adds.given;
-            loads = way.loads ++ adds.loads;
-            given_are =
-                adds.given_are ∙ ap (λ l. l ++ adds.given) way.given_are
-                ∙ append_assoc begin.given way.given adds.given;
-            loads_are =
-                adds.loads_are ∙ ap (λ l. l ++ adds.loads) way.loads_are
-                ∙ append_assoc begin.loaded way.loads adds.loads;
-            lawful = lawful_both way.events (event ∷ []) way.lawful law;
-            drives = closes
-                (interleaves_both f [] way.events (event ∷ []) way.given adds.given way.loads adds.loads way.interleaves
-                adds.one)
-                (serves f (way.events ++ event ∷ []) well.new well.stands.rest (ending.Closed by) old later
-                well.stands.first_is well.stands.history (sym well.stands.ending_is ∙ is)
-                (sends_both [] way.past well.new old mid later way.sent well.sends)
-                (refuses_both old mid later way.sure well.refuses_nothing));
-          }
-      | inr none ↦
-          absurd (let e : Ok want ≡ Err faults.NoMemory =
-          step.no_memory (lacking session wanted (launch_of session.phase) event now next way.wanted_is from
-          none.event_is none.given_are) in cc)
-    ]
+    let adds = adds_event f session way.events way.past wanted (launch_of session.phase) event now next way.stands
+    way.open_ended refl way.wanted_is from in
+    let well = step.comes f way.events way.past way.stands in record {
+      events = way.events ++ event ∷ [];
+      given = way.given ++ adds.given;
+      loads = way.loads ++ adds.loads;
+      given_are =
+          adds.given_are ∙ ap (λ l. l ++ adds.given) way.given_are ∙ append_assoc begin.given way.given adds.given;
+      loads_are =
+          adds.loads_are ∙ ap (λ l. l ++ adds.loads) way.loads_are ∙ append_assoc begin.loaded way.loads adds.loads;
+      lawful = lawful_both way.events (event ∷ []) way.lawful law;
+      drives = closes
+          (interleaves_both f [] way.events (event ∷ []) way.given adds.given way.loads adds.loads way.interleaves
+          adds.one)
+          (serves f (way.events ++ event ∷ []) well.new well.stands.rest (ending.Closed by) old later
+          well.stands.first_is well.stands.history (sym well.stands.ending_is ∙ is)
+          (sends_both [] way.past well.new old mid later way.sent well.sends)
+          (refuses_both old mid later way.sure well.refuses_nothing));
+    }
 
 -- it gave up
 pub way_fails : (f : FirstSeq) (session after : State) (wanted : Option (List ℕ)) (fault : SessionFault)
@@ -477,54 +415,24 @@ pub way_fails : (f : FirstSeq) (session after : State) (wanted : Option (List �
     → Driven f (Err fault) begin.given next.given begin.loaded next.loaded old last
 way_fails f session after wanted fault event begin now next old mid later last way from law step quit =
     let needs = needs_some f session after fault event mid later way.events way.past way.stands way.open_ended step in
-    elim (adds_event f session way.events way.past wanted (launch_of session.phase) event now next way.stands
-    way.open_ended refl way.wanted_is from) [
-      | inl adds ↦ record {
-        events = way.events ++ event ∷ [];
-        given = way.given ++ adds.given;
-        loads = way.loads ++ adds.loads;
-        given_are =
-            adds.given_are ∙ ap (λ l. l ++ adds.given) way.given_are ∙ append_assoc begin.given way.given adds.given;
-        loads_are =
-            adds.loads_are ∙ ap (λ l. l ++ adds.loads) way.loads_are ∙ append_assoc begin.loaded way.loads adds.loads;
-        lawful = lawful_both way.events (event ∷ []) way.lawful law;
-        drives = ends f way.events way.past way.stands.rest event after old mid later last (way.given ++ adds.given)
-            (way.loads ++ adds.loads) fault way.stands.first_is way.stands.history
-            (sym way.stands.ending_is ∙ way.open_ended) needs
-            way.sent way.sure quit
-            (step.comes f way.events way.past way.stands)
-            (interleaves_both f [] way.events (event ∷ []) way.given adds.given way.loads adds.loads way.interleaves
-            adds.one);
-      }
-      | inr none ↦
-          let e : Err fault ≡ Err faults.NoMemory =
-          step.no_memory (lacking session wanted (launch_of session.phase) event now next way.wanted_is from
-          none.event_is none.given_are) in
-          let same : fault ≡ faults.NoMemory = cc in record {
-            events = way.events ++ event ∷ [];
-            given = way.given;
-            loads = way.loads;
-            given_are = none.given_are ∙ way.given_are;
-            loads_are = none.loads_are ∙ way.loads_are;
-            lawful = lawful_both way.events (event ∷ []) way.lawful law;
-            drives = subst (λ e. SessionOutcome f (way.events ++ event ∷ []) way.given way.loads old last (Err e))
-                (sym same)
-                (runs_out_of_memory
-                (inr (record {
-                  before = way.events;
-                  path = none.path;
-                  events_are = ap (λ x. way.events ++ x ∷ [])
-                      none.event_is;
-                  awaited = none.awaited;
-                  interleaves = way.interleaves;
-                }))
-                (stops_short f way.events way.past way.stands.rest event old mid later last faults.NoMemory
-                way.stands.first_is way.stands.history (sym way.stands.ending_is ∙ way.open_ended) (λ _. needs same)
-                way.sent way.sure
-                (subst (λ e. Comes f (Err e) way.events way.past way.stands.rest event after mid later) same
-                (step.comes f way.events way.past way.stands)) quit));
-          }
-    ]
+    let adds = adds_event f session way.events way.past wanted (launch_of session.phase) event now next way.stands
+    way.open_ended refl way.wanted_is from in record {
+      events = way.events ++ event ∷ [];
+      given = way.given ++ adds.given;
+      loads = way.loads ++ adds.loads;
+      given_are =
+          adds.given_are ∙ ap (λ l. l ++ adds.given) way.given_are ∙ append_assoc begin.given way.given adds.given;
+      loads_are =
+          adds.loads_are ∙ ap (λ l. l ++ adds.loads) way.loads_are ∙ append_assoc begin.loaded way.loads adds.loads;
+      lawful = lawful_both way.events (event ∷ []) way.lawful law;
+      drives = ends f way.events way.past way.stands.rest event after old mid later last (way.given ++ adds.given)
+          (way.loads ++ adds.loads) fault way.stands.first_is way.stands.history
+          (sym way.stands.ending_is ∙ way.open_ended) needs
+          way.sent way.sure quit
+          (step.comes f way.events way.past way.stands)
+          (interleaves_both f [] way.events (event ∷ []) way.given adds.given way.loads adds.loads way.interleaves
+          adds.one);
+    }
 
 -- a session that says it is closed was closed by something
 pub not_open_ended : (session : State) (e : Option Ending) (want : Want) → session.ending ≡ e → want ≡ want_is.Closed

@@ -16,7 +16,8 @@ use Rattle.dap_session.specs.Incoming.{incoming_of}
 use Rattle.dap_session.specs.Ports.{Ports}
 use Rattle.dap_session.specs.State.{State, GoesOn}
 use Rattle.dap_session.specs.Taking.{no_content, TowardByPiece, file_of, Toward, LacksMemory}
-use Rattle.dap_session.specs.Handling.{HasHistory, TakesItem, FailsAtItem, HandlesContents, Handles, plain_file}
+use Rattle.dap_session.specs.Handling.{HasHistory, TakesItem, FailsAtItem, HandlesContents, Handles}
+use Rattle.dap_session.specs.Ports.{plain_file}
 use Rattle.dap_session.proofs.Going.{goes_after, stops_at_once, stops_at_item, arrives_at_once}
 
 pub incoming_file : (file : Result (Vec ℕ Global) LoadFault) → incoming_of (event.File file) ≡ File (plain_file file)

@@ -1,16 +1,8 @@
 -- Defines where the next event of a session comes from.
-use Rattle.std.specs.Prelude.{◌≡◌, ◌++◌, ◌∷◌, [], ℕ, List, Option, None, Some, Result, Ok, Err}
-use Rattle.dap_history.specs.declared.fault.LoadFault.{LoadFault}
-use Rattle.dap_history.specs.declared.fault.LoadFault.TheVariants.{CannotRead, NoMemory}
+use Rattle.std.specs.Prelude.{◌≡◌, ◌++◌, ◌∷◌, [], ℕ, List, Option, None, Some}
 use Rattle.dap_history.specs.Events.{Incoming, File}
 use Rattle.dap_history.specs.Interleaving.{Load}
 use Rattle.dap_session.specs.Ports.{load_of}
-
--- what a loader stores of an answer
-abbrev pub stored : List ℕ → Result (List ℕ) LoadFault → List Load
-stored path (Ok file) = load_of path (Ok file) ∷ []
-stored path (Err CannotRead) = load_of path (Err CannotRead) ∷ []
-stored path (Err NoMemory) = []
 
 -- what an inbox and a loader returned so far
 pub record Sources : Type 0 where
@@ -25,5 +17,5 @@ sources given loaded = record { given = given; loaded = loaded }
 abbrev pub ComesFrom : Option (List ℕ) → Incoming → Sources → Sources → Type 0
 ComesFrom None event old later = (later.given ≡ old.given ++ event ∷ []) × (later.loaded ≡ old.loaded)
 ComesFrom (Some path) (File answer) old later =
-    (later.given ≡ old.given) × (later.loaded ≡ old.loaded ++ stored path answer)
+    (later.given ≡ old.given) × (later.loaded ≡ old.loaded ++ load_of path answer ∷ [])
 ComesFrom (Some path) event old later = ⊥

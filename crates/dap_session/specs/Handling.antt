@@ -1,13 +1,11 @@
 -- Defines, for private contracts, how far a session came from the history it represented, by the parts of an event.
-use Rattle.std.specs.Prelude.{◌≡◌, ◌≢◌, ◌⊎◌, ◌++◌, ◌∷◌, [], ℕ, List, Vec, Option, None, Some, Result, Ok, Err}
-use Rattle.std.specs.declared.alloc.Global.{Global}
+use Rattle.std.specs.Prelude.{◌≡◌, ◌≢◌, ◌⊎◌, ◌++◌, ◌∷◌, [], ℕ, List, Option, None, Some, Result, Ok, Err}
 use Rattle.dap_frame.specs.declared.fault.FramingFault.{FramingFault}
 use Rattle.dap_msg.specs.declared.request.FirstSeq.{FirstSeq}
 use Rattle.dap_msg.specs.declared.request.Request.{Request}
 use Rattle.dbg_runner.specs.Plain.{Quit}
 use Rattle.dap_history.specs.declared.fault.SessionFault.{SessionFault}
 use Rattle.dap_history.specs.declared.fault.SessionFault.TheVariants.{Frame, NoMemory}
-use Rattle.dap_history.specs.declared.fault.LoadFault.{LoadFault}
 use Rattle.dap_history.specs.declared.ending.Ending.{Ending}
 use Rattle.dap_history.specs.declared.ending.Ending.TheVariants as ending
 use Rattle.dap_history.specs.declared.launch.Launch.{Launch}
@@ -150,11 +148,6 @@ pub record HandlesEvent (session : State) (event : Incoming) (result : Result (U
       → Handles result past rest event after old later
   pub no_memory : LacksMemory event (launch_of session.phase) → result ≡ Err NoMemory
   pub enough : NeedsNoMemory (launch_of session.phase) (Expects session.phase) event → NeededNoMemory result after
-
--- a file as plain data
-abbrev pub plain_file : Result (Vec ℕ Global) LoadFault → Result (List ℕ) LoadFault
-plain_file (Ok file) = Ok file.items
-plain_file (Err fault) = Err fault
 
 -- ---- closing
 

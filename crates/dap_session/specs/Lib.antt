@@ -3,6 +3,8 @@
 pub mod Incoming
 -- what the ports have done so far
 pub mod Ports
+-- what the log of a loader shows
+pub mod Loads
 -- which part of a history was sent
 pub mod Sending
 -- what a session keeps

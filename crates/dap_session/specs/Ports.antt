@@ -1,5 +1,6 @@
 -- Defines what the ports of a session have done so far.
-use Rattle.std.specs.Prelude.{ℕ, List, Result}
+use Rattle.std.specs.Prelude.{ℕ, List, Result, Ok, Err, Vec}
+use Rattle.std.specs.declared.alloc.Global.{Global}
 use Rattle.dap_history.specs.declared.fault.LoadFault.{LoadFault}
 use Rattle.dap_history.specs.Interleaving.{Load}
 use Rattle.dbg_runner.specs.Plain.{PlainOrder}
@@ -15,6 +16,11 @@ pub record PushedOrders : Type 0 where
   pub orders : List PlainOrder
   pub fulls : ℕ
   pub refusals : ℕ
+
+-- a loader's answer as plain data
+abbrev pub plain_file : Result (Vec ℕ Global) LoadFault → Result (List ℕ) LoadFault
+plain_file (Ok file) = Ok file.items
+plain_file (Err fault) = Err fault
 
 -- an answer of a loader, with the path that it was asked for
 abbrev pub load_of : List ℕ → Result (List ℕ) LoadFault → Load

@@ -12,7 +12,7 @@ use Rattle.dap_history.specs.Readings.{ending_of}
 use Rattle.dap_history.specs.Reports.{Accepts}
 use Rattle.dap_history.specs.Events.{Incoming, Rest, IsTaking, AreLawful, IsHistoryOf}
 use Rattle.dap_history.specs.Output.{frames_from}
-use Rattle.dap_history.specs.Interleaving.{Load, Interleaves, InterleavesUpTo}
+use Rattle.dap_history.specs.Interleaving.{Load, Interleaves}
 use Rattle.dap_session.specs.Ports.{Ports}
 use Rattle.dap_session.specs.Sending.{Sends, RefusesNothing, TriesQuit}
 use Rattle.dap_session.specs.Taking.{NeedsNoMemory, EventGivesUp}
@@ -79,8 +79,8 @@ pub data SessionOutcome (first : FirstSeq) (events given : List Incoming) (loads
   ends_at_fault : {fault : FramingFault} → Interleaves first [] events given loads
       → ServesUntilFault first events fault old later
       → SessionOutcome first events given loads old later (Err (Frame fault))
-  -- it ran out of memory; the loader's last answer may be missing then
-  runs_out_of_memory : InterleavesUpTo first events given loads → StopsShort first events NoMemory old later
+  -- it ran out of memory
+  runs_out_of_memory : Interleaves first [] events given loads → StopsShort first events NoMemory old later
       → SessionOutcome first events given loads old later (Err NoMemory)
   -- it couldn't send what the last event gives
   gives_up : {fault : SessionFault} → CannotSend fault → Interleaves first [] events given loads

@@ -11,6 +11,7 @@
 
 mod driving;
 mod laws;
+mod load_log;
 mod ports;
 mod session;
 mod want;
@@ -20,6 +21,7 @@ pub use dap_msg::FirstSeq;
 pub use dbg_runner::{Order, Report};
 pub use driving::{drive, drive_from};
 pub use laws::session_laws;
+pub use load_log::LoadLog;
 pub use ports::{Event, Inbox, Loader, OrderFault, Orders, Out};
 pub use session::Session;
 pub use want::Want;

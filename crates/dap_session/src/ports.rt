@@ -120,17 +120,14 @@ pub trait Inbox {
 /// Where files come from.
 pub trait Loader {
     ghost use Rattle.dap_history.specs.Interleaving.{Load};
-    ghost use Rattle.dap_session.specs.Ports.{load_of};
-    ghost use Rattle.dap_history.specs.declared.fault.LoadFault.TheVariants.{CannotRead, NoMemory};
-    ghost use Rattle.std.specs.Prelude.{◌≡◌, ◌++◌, ◌∷◌, [], ◌≤◌, List, Ok, Err, length, IfOk};
+    ghost use Rattle.dap_session.specs.Ports.{load_of, plain_file};
+    ghost use Rattle.std.specs.Prelude.{◌≡◌, ◌++◌, ◌∷◌, [], ◌≤◌, List, length, IfOk};
 
-    /// The paths asked for and the answers returned so far, the oldest first. An answer `NoMemory` isn't among them.
+    /// The paths asked for and the answers returned so far, the oldest first: a file, `CannotRead` or `NoMemory`.
     ghost loaded: { Self → List Load };
 
     /// Returns the bytes of the file at a path, or the first 65,537 of them where it has more.
     fn load(&mut self, path: &str) -> Result<Vec<u8>, LoadFault>
-        ensures ok { IfOk result (λ file. loaded self.new ≡ loaded self.old ++ load_of path.now (Ok file.items) ∷ []) }
-        ensures short { IfOk result (λ file. length file.items ≤ 65537) }
-        ensures cannot_read { result ≡ Err CannotRead → loaded self.new ≡ loaded self.old ++ load_of path.now (Err CannotRead) ∷ [] }
-        ensures no_memory { result ≡ Err NoMemory → loaded self.new ≡ loaded self.old };
+        ensures loaded { loaded self.new ≡ loaded self.old ++ load_of path.now (plain_file result) ∷ [] }
+        ensures short { IfOk result (λ file. length file.items ≤ 65537) };
 }

@@ -1,7 +1,6 @@
 //! The files of a session.
 
-use dap_session::{LoadFault, Loader};
-use dbg_runner::GhostList;
+use dap_session::{LoadFault, LoadLog, Loader};
 use std::alloc::Global;
 use std::process::Abort;
 
@@ -11,7 +10,7 @@ pub struct Files<'a, R: Abort> {
     rt: &'a R,
     alloc: Global,
     program: &'a str,
-    loads: GhostList<(String, Result<Vec<u8>, LoadFault>)>,
+    log: LoadLog,
 }
 
 impl<'a, R: Abort> Files<'a, R> {
@@ -20,17 +19,15 @@ impl<'a, R: Abort> Files<'a, R> {
             rt,
             alloc,
             program,
-            loads: GhostList::new(),
+            log: LoadLog::new(),
         }
     }
 }
 
 impl<R: Abort> Loader for Files<'_, R> {
-    ghost use Rattle.std.specs.Prelude.{map, string_bytes, Ok, Err, Result};
-    ghost use Rattle.dap_session.specs.Ports.{load_of};
-    ghost use Rattle.dap_session.specs.Handling.{plain_file};
+    ghost use Rattle.dap_session.specs.Loads.{logged};
 
-    ghost loaded = { λ s. map (λ load. load_of (string_bytes load.0) (plain_file load.1)) s.loads.entries };
+    ghost loaded = { λ files. logged files.log };
 
     fn load(&mut self, path: &str) -> Result<Vec<u8>, LoadFault> {
         let text = match path {
@@ -44,9 +41,6 @@ impl<R: Abort> Loader for Files<'_, R> {
             }
             _ => Err(LoadFault::CannotRead),
         };
-        let path = String::from_str(self.alloc, path).expect(self.rt, "memory");
-        let load = (path, file);
-        self.loads = self.loads.and(&load);
-        load.1
+        self.log.note(path, file)
     }
 }

@@ -1,8 +1,7 @@
 //! A session over memory, in one thread: what a client sends byte by byte, and a run before the next byte.
 
 use anyhow::{Context, Result, anyhow};
-use dap_session::{Event, LoadFault, Loader};
-use dbg_runner::GhostList;
+use dap_session::{Event, LoadFault, LoadLog, Loader};
 use std::alloc::Global;
 use std::fs;
 use std::rt::Files;
@@ -22,7 +21,7 @@ pub fn run<R: Wait + Files + AllocGlobal>(rt: &R, alloc: Global, sent: &[u8]) ->
     };
     let mut loader = Disk {
         rt,
-        loads: GhostList::new(),
+        log: LoadLog::new(),
     };
     let outcome = run_session(rt, alloc, &shared, client, &mut loader, Room::AMPLE);
     if let Err(fault) = outcome.end {
@@ -59,25 +58,22 @@ impl Events for Client<'_> {
 #[derive(Drop)]
 struct Disk<'a, R: Files + AllocGlobal> {
     rt: &'a R,
-    loads: GhostList<(String, Vec<u8>)>,
+    log: LoadLog,
 }
 
 impl<R: Files + AllocGlobal> Loader for Disk<'_, R> {
-    ghost use Rattle.std.specs.Prelude.{map, string_bytes, Ok};
-    ghost use Rattle.dap_session.specs.Ports.{load_of};
+    ghost use Rattle.dap_session.specs.Loads.{logged};
 
-    ghost loaded = { λ s. map (λ load. load_of (string_bytes load.0) (Ok load.1.items)) s.loads.entries };
+    ghost loaded = { λ disk. logged disk.log };
 
     fn load(&mut self, path: &str) -> Result<Vec<u8>, LoadFault> {
-        let Ok(mut text) = fs::read(self.rt, path) else {
-            return Err(LoadFault::NoMemory);
+        let answer = match fs::read(self.rt, path) {
+            Ok(mut text) => {
+                text.truncate(MOST);
+                Ok(text)
+            }
+            Err(_) => Err(LoadFault::NoMemory),
         };
-        text.truncate(MOST);
-        let Ok(path) = String::from_str(self.rt.alloc(), path) else {
-            return Err(LoadFault::NoMemory);
-        };
-        let load = (path, text);
-        self.loads = self.loads.and(&load);
-        Ok(load.1)
+        self.log.note(path, answer)
     }
 }

@@ -1,7 +1,9 @@
 //! The ports of a session, in memory.
 
+ghost use Rattle.std.specs.Prelude.{◌≤◌, length, IfOk};
+
 use crate::runner::Runner;
-use dap_session::{Event, Inbox, LoadFault, Loader, Order, OrderFault, Orders, Out};
+use dap_session::{Event, Inbox, LoadFault, LoadLog, Loader, Order, OrderFault, Orders, Out};
 use dbg_runner::GhostList;
 use std::alloc::{AllocError, Global};
 use std::cell::Cell;
@@ -195,7 +197,7 @@ pub struct Files<'a> {
     alloc: Global,
     named: &'a [(&'a str, &'a [u8])],
     other: Option<&'a [u8]>,
-    loads: GhostList<(String, Result<Vec<u8>, LoadFault>)>,
+    log: LoadLog,
 }
 
 impl<'a> Files<'a> {
@@ -205,7 +207,7 @@ impl<'a> Files<'a> {
             alloc,
             named,
             other: None,
-            loads: GhostList::new(),
+            log: LoadLog::new(),
         }
     }
 
@@ -215,7 +217,7 @@ impl<'a> Files<'a> {
             alloc,
             named: &[],
             other: Some(file),
-            loads: GhostList::new(),
+            log: LoadLog::new(),
         }
     }
 
@@ -236,28 +238,26 @@ impl<'a> Files<'a> {
 }
 
 impl Loader for Files<'_> {
-    ghost use Rattle.std.specs.Prelude.{map, string_bytes, Ok, Err, Result};
-    ghost use Rattle.dap_session.specs.Ports.{load_of};
-    ghost use Rattle.dap_session.specs.Handling.{plain_file};
+    ghost use Rattle.dap_session.specs.Loads.{logged};
 
-    ghost loaded = { λ s. map (λ load. load_of (string_bytes load.0) (plain_file load.1)) s.loads.entries };
+    ghost loaded = { λ files. logged files.log };
 
     fn load(&mut self, path: &str) -> Result<Vec<u8>, LoadFault> {
-        let file = self.at(path);
-        let Ok(path) = String::from_str(self.alloc, path) else {
-            return Err(LoadFault::NoMemory);
+        let answer = match self.at(path) {
+            Some(bytes) => beginning(self.alloc, bytes),
+            None => Err(LoadFault::CannotRead),
         };
-        let Some(bytes) = file else {
-            let load = (path, Err(LoadFault::CannotRead));
-            self.loads = self.loads.and(&load);
-            return load.1;
-        };
-        let Ok(mut bytes) = Vec::from_slice(self.alloc, bytes) else {
-            return Err(LoadFault::NoMemory);
-        };
-        bytes.truncate(MOST);
-        let load = (path, Ok(bytes));
-        self.loads = self.loads.and(&load);
-        load.1
+        self.log.note(path, answer)
     }
+}
+
+/// Returns the first 65,537 bytes of a file, or all where it has fewer.
+fn beginning(alloc: Global, file: &[u8]) -> Result<Vec<u8>, LoadFault>
+    ensures { IfOk result (λ bytes. length bytes.items ≤ 65537) }
+{
+    let Ok(mut bytes) = Vec::from_slice(alloc, file) else {
+        return Err(LoadFault::NoMemory);
+    };
+    bytes.truncate(MOST);
+    Ok(bytes)
 }

@@ -4,7 +4,7 @@ ghost use Rattle.std.specs.Prelude.{◌≡◌, ℕ, Some, Vec, option_map, IfOk,
 ghost use Rattle.std.specs.declared.alloc.Global.{Global};
 ghost use Rattle.dap_history.specs.declared.fault.SessionFault.TheVariants as faults;
 ghost use Rattle.dap_session.specs.Taking.{file_of};
-ghost use Rattle.dap_session.specs.Handling.{plain_file};
+ghost use Rattle.dap_session.specs.Ports.{plain_file};
 
 use super::Session;
 use crate::ports::{Orders, Out};
@@ -24,7 +24,8 @@ impl Session {
     ghost use Rattle.dap_phase.specs.Phases.{IsPhase, launch_of};
     ghost use Rattle.dap_session.specs.Ports.{ports};
     ghost use Rattle.dap_session.specs.State.{GoesOn};
-    ghost use Rattle.dap_session.specs.Handling.{IsWell, NeededNoMemory, HandlesItem, Handles, plain_file};
+    ghost use Rattle.dap_session.specs.Handling.{IsWell, NeededNoMemory, HandlesItem, Handles};
+    ghost use Rattle.dap_session.specs.Ports.{plain_file};
 
     /// Takes a file. One that no launch waits for is ignored.
     pub(super) fn take_file<O: Out, D: Orders>(

@@ -4,7 +4,7 @@ use Rattle.std.specs.Prelude.{Vec, option_map, ℕ}
 use Rattle.std.specs.declared.alloc.Global.{Global}
 use Rattle.dap_phase.specs.Phases.{IsPhase, launch_of}
 use Rattle.dap_session.proofs.Files.{file_lost, load_fails, file_taken, file_passed, lacking, not_lacking}
-use Rattle.dap_session.specs.Handling.{plain_file}
+use Rattle.dap_session.specs.Ports.{plain_file}
 use Rattle.dap_session.proofs.session.Session.take_file.Goals as goal
 
 pub returns-in_default-clause-comes : goal.returns-in_default-clause-comes
