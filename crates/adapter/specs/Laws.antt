@@ -108,13 +108,14 @@ NobodyIsGone =
     (first : FirstSeq) (outcome : Result Served ServeFault) (before after : World) → IsServed first outcome before after
     → (outcome ≢ Err (Session WriterGone)) × (outcome ≢ Err (Session RunnerGone))
 
--- The session gave up since the queue of orders was full, and had pushed four orders at least.
+-- The session gave up since the queue of orders was full, and pushed four orders at least, of which the last may be the
+-- Quit that it tried then.
 pub record FoundFull (first : FirstSeq) (before after : World) : Type 0 where
   pub wrote : Result (Unit {0}) WriteFailed
   pub driven : TasksEnd first wrote (Err OrdersFull) before after
   pub four : FourWerePushed driven.sent.orders
 
--- `serve` returns the fault that the queue of orders was full only where four orders at least had been pushed.
+-- `serve` returns the fault that the queue of orders was full only where four orders at least were pushed.
 abbrev pub FullAfterFour : Type 0
 FullAfterFour =
     (first : FirstSeq) (before after : World) → IsServed first (Err (Session OrdersFull)) before after

@@ -83,7 +83,8 @@ TakenOfPushed (Err fault) acts pushed = IsPrefixOf (flat_map order_in acts) push
 
 -- The session took what the inbox gave, and the files that the loader returned for its launches: these are the events.
 -- It sent what they lead to, by the way in which it ended, and the loader was asked for nothing else. It was never
--- answered that the runner is gone, and found the queue of orders full only where it had pushed four at least.
+-- answered that the runner is gone, and found the queue of orders full only where it pushed four at least, of which the
+-- last may be the Quit that it tried then.
 pub record SessionSends (first : FirstSeq) (result : Result Closed SessionFault) (given : List Incoming) (sent : Ports)
     (loads later_loads : List Load) : Type 0 where
   pub events : List Incoming
