@@ -1,25 +1,17 @@
 -- Where frames begin, as a drawing adds it up.
-use Rattle.std.proofs.Common.{◌≡◌, ◌≢◌, ℕ, zero, suc, ◌+◌, ◌-◌, ◌<◌, List, [], ◌∷◌, length, slice_get, ◌++◌, nat_eq, refl, subst, Option, None, Some, sym, ◌∙◌, ap, arith, ⊎_elim}
+use Rattle.pl0_tool.proofs.TracedRows.{each-push}
+use Rattle.pl0_tool.proofs.Common.{[], ap, arith, behind, Block, Configuration, Frame, frame_at, frame_at-below, frame_at-top, frame_of, frame_within, FrameView, IsHead, IsNext, IsReturn, length, List, nat_eq, None, Option, parent_of, Path, program, refl, same_Some, Shows, slice_get, Some, Standing, subst, suc, sym, variables_of, zero, ℕ, ⊎_elim, ◌++◌, ◌+◌, ◌-◌, ◌<◌, ◌∙◌, ◌∷◌, ◌≡◌, ◌≢◌}
 use Rattle.std.proofs.Math.Logic.{∥∥₁_elim}
 use Rattle.std.specs.Coded.{le_prop}
 use Rattle.std.proofs.lemmas.Bool.{cond-true, cond-false, eq-eqb, ne_eqb, cases_eq}
-use Rattle.pl0_tree.specs.Tree.{Block}
-use Rattle.pl0_tree.specs.Scope.{Path}
-use Rattle.pl0_meaning.specs.Values.{Frame, Configuration, frame_at}
 use Rattle.pl0_meaning.specs.Frames.{IsLinkedTo, AreLinked}
-use Rattle.pl0_meaning.specs.Linking.{frame_at-top, frame_at-below, frame_within}
 use Rattle.pl0_machine.specs.Frames.{size, base_of}
-use Rattle.pl0_machine.specs.declared.outcome.FrameView.{FrameView}
-use Rattle.pl0_machine.specs.Machine.{Standing, program, frame_of, IsNext, Shows, parent_of, variables_of}
 use Rattle.pl0_tool.specs.declared.drawing.FrameHead.{FrameHead}
-use Rattle.pl0_tool.specs.Drawing.{IsHead, IsReturn, behind}
-use Rattle.pl0_tool.proofs.TracedRows.{one_more}
 
 base_of-top : (f : Frame) (below : Configuration) (i : ℕ) → length below ≡ i → base_of (f ∷ below) i ≡ size below
 base_of-top f below i e = cond-true (nat_eq (length below) i) (size below) (base_of below i) (eq-eqb (length below) i e)
 
-base_of-below : (f : Frame) (below : Configuration) (i : ℕ) → length below ≢ i
-    → base_of (f ∷ below) i ≡ base_of below i
+base_of-below : (f : Frame) (below : Configuration) (i : ℕ) → length below ≢ i → base_of (f ∷ below) i ≡ base_of below i
 base_of-below f below i ne =
     cond-false (nat_eq (length below) i) (size below) (base_of below i) (ne_eqb (length below) i ne)
 
@@ -32,8 +24,6 @@ first_base (f ∷ g ∷ below) = base_of-below f (g ∷ below) 0 (λ e. absurd (
 -- each other frame begins where the one below it ends
 pub next_base : (c : Configuration) (i : ℕ) → i + 1 < length c
     → base_of c (i + 1) ≡ base_of c i + (3 + variables_of (frame_at c i))
-next_base [] i lt = absurd (omega (arith, lt))
-next_base (f ∷ []) i lt = absurd (omega (arith, lt))
 next_base (f ∷ g ∷ below) i lt =
     let ne : length (g ∷ below) ≢ i = λ e. absurd (omega (arith, e, lt)) in
     ⊎_elim
@@ -53,14 +43,7 @@ next_base (f ∷ g ∷ below) i lt =
       next_base (g ∷ below) i (omega (arith, lt, other)),
     ))
     (cases_eq (length (g ∷ below)) (i + 1))
-
--- all frames take the cells up to where the newest ends
-pub whole_size : (c : Configuration) (i : ℕ) → length c ≡ i + 1
-    → size c ≡ base_of c i + (3 + variables_of (frame_at c i))
-whole_size [] i e = absurd (omega (arith, e))
-whole_size (f ∷ below) i e =
-    let top : length below ≡ i = omega (arith, e) in
-    omega (arith, base_of-top f below i top, ap variables_of (frame_at-top f below i top))
+next_base _ i lt = absurd (omega (arith, lt))
 
 -- ---- static links
 
@@ -69,16 +52,12 @@ link_within : (q : Path) (link : ℕ) (below : Configuration) (i : ℕ) → leng
 link_within [] link below i e is = absurd (omega (arith, e, ap length is))
 link_within (k ∷ q) link below i e is = frame_within below link is.0 is.1
 
-same_link : (a b : ℕ) → ◌≡◌ {A = Option ℕ} (Some a) (Some b) → a ≡ b
-same_link a b e = cc
-
 top_parent : (i p : ℕ) (f : Frame) (below : Configuration) → length below ≡ i → IsLinkedTo f.block f.link below
-    → parent_of i (Some f) ≡ Some p
-    → p < length below
+    → parent_of i (Some f) ≡ Some p → p < length below
 top_parent zero p f below e is at = cc
 top_parent (suc i) p f below e is at =
     let w = link_within f.block f.link below i e is in
-    let same = same_link f.link p at in
+    let same = same_Some f.link p at in
     omega (arith, w, same)
 
 links_within : (main : Block) (c : Configuration) (i p : ℕ) → AreLinked main c
@@ -107,8 +86,7 @@ shown_next main None view shows = absurd shows
 shown_next main (Some f) view shows = shows.1
 
 pub returned : (m : Standing) (i call address : ℕ) → i ≢ 0 → IsNext (program m) (frame_of m (i - 1)) call
-    → address ≡ behind m.unit call
-    → IsReturn m i address
+    → address ≡ behind m.unit call → IsReturn m i address
 returned m zero call address some next is = absurd (some refl)
 returned m (suc caller) call address some next is =
     let below : suc caller - 1 ≡ caller = omega arith in
@@ -118,12 +96,9 @@ returned m (suc caller) call address some next is =
 
 -- heads are those of frames, from one on
 abbrev pub TellHeads : Standing → ℕ → List FrameHead → Type 0
-TellHeads m hidden heads =
-    (i : ℕ) (head : FrameHead) → slice_get heads i ≡ Some head → IsHead m (hidden + i) head
+TellHeads m hidden heads = (i : ℕ) (head : FrameHead) → slice_get heads i ≡ Some head → IsHead m (hidden + i) head
 
 pub head_more : (m : Standing) (hidden n : ℕ) (heads : List FrameHead) (head : FrameHead) → length heads ≡ n
-    → TellHeads m hidden heads
-    → IsHead m (hidden + n) head
-    → TellHeads m hidden (heads ++ head ∷ [])
+    → TellHeads m hidden heads → IsHead m (hidden + n) head → TellHeads m hidden (heads ++ head ∷ [])
 head_more m hidden n heads head is h here =
-    one_more (λ i x. IsHead m (hidden + i) x) heads head h (subst (λ k. IsHead m (hidden + k) head) (sym is) here)
+    each-push (λ i x. IsHead m (hidden + i) x) heads head h (subst (λ k. IsHead m (hidden + k) head) (sym is) here)

@@ -1,30 +1,17 @@
 -- What is told of a fault: lines that are added one by one, and the places of steps.
-use Rattle.std.proofs.Common.{◌≡◌, ℕ, ◌+◌, ◌-◌, ◌<◌, List, [], ◌∷◌, ◌++◌, length, get_or, slice_get, Option, None, Some, refl, sym, ◌∙◌, ap, arith, append_assoc, add-one}
-use Rattle.std.specs.Prelude.{min, option_map, option_and_then}
-use Rattle.std.specs.Option.{option_map_or}
+use Rattle.pl0_tool.proofs.Common.{[], add-one, ap, append_assoc, blocks, depth_of, fault_report, first_line, Frame, frame_line, frame_lines, frame_name, frame_of, FrameView, get_or, length, List, min, more_line, next_step, None, Option, option_map, option_map_or, Path, place_line, program, program_of, same_Some, shown, Shows, slice_get, Some, Standing, StepAt, sym, ℕ, ◌++◌, ◌+◌, ◌-◌, ◌<◌, ◌∙◌, ◌≡◌}
 use Rattle.pl0_tree.specs.declared.tree.Place.{Place}
 use Rattle.pl0_tree.specs.declared.step.Step.{Step}
-use Rattle.pl0_tree.specs.Scope.{Path}
-use Rattle.pl0_tree.specs.Steps.{StepAt, blocks}
 use Rattle.pl0_unit.specs.declared.unit.Unit.{Unit as Compiled}
-use Rattle.pl0_machine.specs.declared.outcome.FrameView.{FrameView}
-use Rattle.pl0_machine.specs.Machine.{Standing, program_of, program, frames, frame_of, depth_of, top_of, Shows}
-use Rattle.pl0_meaning.specs.Values.{Frame, Configuration, next_step}
 use Rattle.pl0_meaning.specs.declared.RunFault.{RunFault}
-use Rattle.pl0_mistakes.specs.Lines.{fault_line}
-use Rattle.pl0_tool.specs.Faulting.{first_line, frame_name, place_line, frame_line, frame_lines, shown, more_line, fault_report}
 use Rattle.pl0_tool.proofs.TracedFrames.{next_within, next_place}
 use Rattle.pl0_tool.proofs.DrawnCells.{shown_next}
 
 -- what is said of a step's place
 pub of_place : (o : Option StepAt) (place : Place) (say : Place → List ℕ)
-    → option_map (λ (s : StepAt). s.place) o ≡ Some place
-    → option_map_or (λ (s : StepAt). say s.place) o [] ≡ say place
+    → option_map (λ (s : StepAt). s.place) o ≡ Some place → option_map_or (λ (s : StepAt). say s.place) o [] ≡ say place
 of_place None place say is = cc
-of_place (Some s) place say is = ap say (same s.place place is)
-  where
-    same : (a b : Place) → ◌≡◌ {A = Option Place} (Some a) (Some b) → a ≡ b
-    same a b e = cc
+of_place (Some s) place say is = ap say (same_Some s.place place is)
 
 -- what a frame's view says of the tables of its unit
 pub shown_within : (u : Compiled) (o : Option Frame) (view : FrameView) → Shows (program_of u) o view
@@ -33,8 +20,7 @@ shown_within u o view shows = next_within u o view.next_step (shown_next (progra
 
 -- the line of a frame that has this view
 pub said_frame : (u : Compiled) (o : Option Frame) (view : FrameView) (s : Step) (name file : List ℕ)
-    → Shows (program_of u) o view
-    → s ≡ get_or u.steps.items view.next_step s
+    → Shows (program_of u) o view → s ≡ get_or u.steps.items view.next_step s
     → ((q : Path) → slice_get (blocks (program_of u)) view.block ≡ Some q → name ≡ frame_name (program_of u) q)
     → frame_line file (program_of u) o ≡ place_line name file s.place
 said_frame u None view s name file shows at named = absurd shows
@@ -44,20 +30,9 @@ said_frame u (Some f) view s name file shows at named =
     (next_place u (Some f) view.next_step s (shown_next main (Some f) view shows) at)
     ∙ ap (λ n. place_line n file s.place) (sym (named f.block shows.0))
 
--- where no frame is alive, no step comes next
-pub none_first : (file : List ℕ) (m : Standing) (fault : RunFault) → depth_of m ≡ 0 → first_line file m fault ≡ []
-none_first file m fault none = by_frames (frames m) none
-  where
-    by_frames : (c : Configuration) → length c ≡ 0
-        → option_map_or (λ (s : StepAt). fault_line file fault s.place)
-        (option_and_then (next_step (program m)) (top_of c)) [] ≡ []
-    by_frames [] e = refl
-    by_frames (f ∷ below) e = absurd (omega (arith, e))
-
 -- the line of one frame more
 pub lines_more : (file : List ℕ) (m : Standing) (first report line : List ℕ) (n frame : ℕ) → frame ≡ depth_of m - 1 - n
-    → report ≡ first ++ frame_lines file m n
-    → line ≡ frame_line file (program m) (frame_of m frame)
+    → report ≡ first ++ frame_lines file m n → line ≡ frame_line file (program m) (frame_of m frame)
     → report ++ line ≡ first ++ frame_lines file m (n + 1)
 lines_more file m first report line n frame at told is =
     let next = frame_line file (program m) (frame_of m (depth_of m - 1 - n)) in
@@ -69,11 +44,8 @@ lines_more file m first report line n frame at told is =
 
 -- all lines: that of the fault, those of the frames that are told, and that of the rest
 pub all_lines : (file : List ℕ) (m : Standing) (fault : RunFault) (report line : List ℕ) (n more : ℕ)
-    → n ≡ min (depth_of m) shown
-    → more ≡ depth_of m - shown
-    → report ≡ first_line file m fault ++ frame_lines file m n
-    → line ≡ more_line more
-    → report ++ line ≡ fault_report file m fault
+    → n ≡ min (depth_of m) shown → more ≡ depth_of m - shown → report ≡ first_line file m fault ++ frame_lines file m n
+    → line ≡ more_line more → report ++ line ≡ fault_report file m fault
 all_lines file m fault report line n more at left told is =
     let first = first_line file m fault in
     let lines = frame_lines file m (min (depth_of m) shown) in

@@ -1,3 +1,5 @@
+-- What several of the other files import, from one place.
+pub mod Common
 -- lines that are written in blocks
 pub mod PendingBytes
 -- what a run of a machine writes

@@ -1,31 +1,11 @@
 -- Bytes that are pending while more are put to them, and when they are written.
-use Rattle.std.proofs.Common.{◌≡◌, ℕ, ◌<◌, Bool, true, false, MatchBool, List, [], ◌++◌, refl, sym, ◌∙◌, ap, subst, arith, append_assoc, append-nil}
+use Rattle.pl0_tool.proofs.Common.{[], ap, append-nil, append_assoc, AppendsPart, arith, Bool, FailsIn, false, Holds, List, MatchBool, Output, refl, subst, sym, true, WritesAll, ℕ, ◌++◌, ◌<◌, ◌∙◌, ◌≡◌}
 use Rattle.std.specs.Io.KnownBytes.{Appends}
-use Rattle.std.proofs.KnownBytes.{Appends-nil, Appends-trans}
-use Rattle.byte_streams.specs.Streams.{Output, AppendsPart, WritesAll, FailsIn}
-use Rattle.pl0_tool.specs.Pending.{Holds}
-
--- nothing was written, and nothing is pending
-pub holds_none : (now : Output) (pending : List ℕ) → pending ≡ [] → Holds now now pending []
-holds_none now pending empty =
-    record { flushed = []; appended = Appends-nil now.written; joined = empty; kept = refl }
-
--- more is pending
-pub holds_more : (before now : Output) (pending more text bytes : List ℕ) → Holds before now pending text
-    → more ≡ pending ++ bytes
-    → Holds before now more (text ++ bytes)
-holds_more before now pending more text bytes held is = record {
-  flushed = held.flushed;
-  appended = held.appended;
-  joined =
-      ap (λ l. held.flushed ++ l) is ∙ sym (append_assoc held.flushed pending bytes) ∙ ap (λ l. l ++ bytes) held.joined;
-  kept = held.kept;
-}
+use Rattle.std.proofs.KnownBytes.{Appends-trans}
 
 -- what was pending is written
 pub holds_flushed : (before now later : Output) (pending left text : List ℕ) → Holds before now pending text
-    → WritesAll pending now later → left ≡ []
-    → Holds before later left text
+    → WritesAll pending now later → left ≡ [] → Holds before later left text
 holds_flushed before now later pending left text held wrote empty = record {
   flushed = text;
   appended = subst (Appends before.written later.written) held.joined
@@ -36,8 +16,7 @@ holds_flushed before now later pending left text held wrote empty = record {
 
 -- what was pending is written, and more after it
 pub holds_written : (before now mid later : Output) (pending left text bytes : List ℕ) → Holds before now pending text
-    → WritesAll pending now mid → WritesAll bytes mid later → left ≡ []
-    → Holds before later left (text ++ bytes)
+    → WritesAll pending now mid → WritesAll bytes mid later → left ≡ [] → Holds before later left (text ++ bytes)
 holds_written before now mid later pending left text bytes held first next empty =
     let flushed = holds_flushed before now mid pending [] text held first refl in record {
       flushed = text ++ bytes;
@@ -50,8 +29,7 @@ holds_written before now mid later pending left text bytes held first next empty
 
 -- the output failed while what was pending was written
 pub holds_failed : (before now later : Output) (pending text bytes : List ℕ) → Holds before now pending text
-    → FailsIn pending now later
-    → FailsIn (text ++ bytes) before later
+    → FailsIn pending now later → FailsIn (text ++ bytes) before later
 holds_failed before now later pending text bytes held fails =
     let part = fails.0 in
     let rest = part.2 in (
@@ -71,8 +49,7 @@ holds_failed before now later pending text bytes held fails =
 
 -- the output failed while more was written
 pub holds_failed_later : (before now mid later : Output) (pending text bytes : List ℕ) → Holds before now pending text
-    → WritesAll pending now mid → FailsIn bytes mid later
-    → FailsIn (text ++ bytes) before later
+    → WritesAll pending now mid → FailsIn bytes mid later → FailsIn (text ++ bytes) before later
 holds_failed_later before now mid later pending text bytes held first fails =
     let flushed = holds_flushed before now mid pending [] text held first refl in
     let all : flushed.flushed ≡ text = sym (append-nil flushed.flushed) ∙ flushed.joined in
@@ -93,34 +70,19 @@ pub fails_before : (before later : Output) (text bytes : List ℕ) → FailsIn t
 fails_before before later text bytes fails =
     let part = fails.0 in
     let rest = part.2 in (
-      (
-        part.0,
-        part.1,
-        (rest.0 ++ bytes, sym (append_assoc part.0 rest.0 bytes) ∙ ap (λ l. l ++ bytes) rest.1),
-      ),
+      (part.0, part.1, (rest.0 ++ bytes, sym (append_assoc part.0 rest.0 bytes) ∙ ap (λ l. l ++ bytes) rest.1)),
       fails.1,
     )
 
--- all is written
-pub holds_all : (before now later : Output) (pending text : List ℕ) → Holds before now pending text
-    → WritesAll pending now later
-    → WritesAll text before later
-holds_all before now later pending text held wrote =
-    let flushed = holds_flushed before now later pending [] text held wrote refl in
-    let all : flushed.flushed ≡ text = sym (append-nil flushed.flushed) ∙ flushed.joined in
-    (subst (Appends before.written later.written) all flushed.appended, flushed.kept)
-
 -- the output failed in what was pending
 pub holds_failed_last : (before now later : Output) (pending text : List ℕ) → Holds before now pending text
-    → FailsIn pending now later
-    → FailsIn text before later
+    → FailsIn pending now later → FailsIn text before later
 holds_failed_last before now later pending text held fails =
     subst (λ l. FailsIn l before later) (append-nil text) (holds_failed before now later pending text [] held fails)
 
 -- bytes are written after what was pending, or the output fails in them
 pub put_last : (b : Bool) (before now mid later : Output) (pending left text bytes : List ℕ)
-    → Holds before now pending text
-    → WritesAll pending now mid → left ≡ []
+    → Holds before now pending text → WritesAll pending now mid → left ≡ []
     → MatchBool b (Appends mid.written later.written bytes) (AppendsPart mid.written later.written bytes)
     → MatchBool b (later.failures ≡ mid.failures) (mid.failures < later.failures)
     → MatchBool b (Holds before later left (text ++ bytes)) (FailsIn (text ++ bytes) before later)
@@ -128,11 +90,3 @@ put_last true before now mid later pending left text bytes held first empty wrot
     holds_written before now mid later pending left text bytes held first (wrote, count) empty
 put_last false before now mid later pending left text bytes held first empty wrote count =
     holds_failed_later before now mid later pending text bytes held first (wrote, count)
-
-pub at_true : (b : Bool) (P Q : Type 0) → b ≡ true → MatchBool b P Q → P
-at_true true P Q e m = m
-at_true false P Q e m = cc
-
-pub at_false : (b : Bool) (P Q : Type 0) → b ≡ false → MatchBool b P Q → Q
-at_false true P Q e m = cc
-at_false false P Q e m = m

@@ -1,23 +1,11 @@
 -- What a run of a machine writes, up to a step that writes a number, faults or ends the program.
-use Rattle.std.proofs.Common.{◌≡◌, ℕ, zero, suc, ◌+◌, ◌-◌, ◌<◌, ◌≤◌, Bool, true, false, cond, List, [], ◌∷◌, ◌++◌, length, Option, None, Some, ℤ, Result, Ok, Err, refl, sym, ◌∙◌, ap, subst, arith, append_assoc, append-nil, add-one}
-use Rattle.std.specs.Prelude.{nat_eq, nat_lt, option_and_then, option_to_list}
-use Rattle.std.specs.Option.{option_map_or}
-use Rattle.std.specs.Fmt.{signed_decimal}
-use Rattle.pl0_tree.specs.Tree.{Statement, Empty, Then, Assign, Call, Write, If, While, Block}
+use Rattle.pl0_tool.proofs.Common.{[], ahead, ap, append-nil, append_assoc, arith, Assign, at_next, Block, Bool, Call, cond, Configuration, depth_of, Done, Err, FailsIn, false, Fault, Frame, frames_of, HasRun, Holds, home, If, IsLast, length, lines_between, List, nat_eq, nat_lt, None, number_lines, Ok, Option, option_and_then, option_map_or, option_to_list, outcome_of, Output, program, Ran, RanOn, refl, Result, signed_decimal, Some, Standing, Statement, Stepped, Stretches, subst, suc, sym, told, told_numbers, true, truth, value, Went, While, Write, WritesAll, zero, ℕ, ℤ, ◌++◌, ◌+◌, ◌-◌, ◌<◌, ◌∙◌, ◌∷◌, ◌≡◌, ◌≤◌}
+use Rattle.pl0_meaning.specs.SharedLemmas.{written-next}
 use Rattle.pl0_meaning.specs.declared.RunFault.{RunFault}
-use Rattle.pl0_tree.specs.Scope.{home}
 use Rattle.pl0_meaning.specs.declared.RunFault.TheVariants.{Depth, StepLimit}
-use Rattle.pl0_meaning.specs.Values.{Frame, Configuration, value, truth}
-use Rattle.pl0_meaning.specs.Linking.{at_next}
-use Rattle.pl0_meaning.specs.Runs.{Outcome, Goes, Faults, Over, at, led_to, outcome, step_at, step, frame_step, statement_step, on_value, entered, callee, assigned, doing, opened, frame_limit, last_position, written, written_by, written_from}
+use Rattle.pl0_meaning.specs.Runs.{Outcome, Goes, Faults, Over, at, led_to, outcome, step_at, step, frame_step, statement_step, on_value, entered, callee, assigned, doing, opened, frame_limit, last_position, written, written_by}
 use Rattle.pl0_machine.specs.declared.outcome.StepOutcome.{StepOutcome}
-use Rattle.pl0_machine.specs.declared.outcome.StepOutcome.TheVariants.{Went, Done, Fault}
-use Rattle.pl0_machine.specs.Machine.{Standing, program, frames_of, depth_of, outcome_of, told, Stepped}
-use Rattle.pl0_machine.specs.Stretches.{ahead, Stretches, RanOn}
-use Rattle.pl0_tool.specs.Running.{number_lines, lines_between, told_numbers, Ran, IsLast, HasRun}
-use Rattle.pl0_tool.specs.Pending.{Holds}
 use Rattle.pl0_tool.specs.declared.running.RunEnd.TheVariants.{Ended, Faulted, WriteFailed}
-use Rattle.byte_streams.specs.Streams.{Output, WritesAll, FailsIn}
 
 -- ---- lines
 
@@ -29,29 +17,8 @@ lines-append (x ∷ xs) ys =
 
 -- ---- numbers
 
-written_from-suc : (main : Block) (a n : ℕ) → written_from main a (suc n) ≡ written_from main a n
-    ++ written_by (outcome main (a + n))
-written_from-suc main a zero =
-    let e : a ≡ a + 0 = omega arith in
-    append-nil (written_by (outcome main a)) ∙ ap (λ k. written_by (outcome main k)) e
-written_from-suc main a (suc n) =
-    let e : a + 1 + n ≡ a + suc n = omega arith in
-    let here = written_by (outcome main a) in
-    ap (λ ws. here ++ ws) (written_from-suc main (a + 1)
-    n ∙ ap (λ k. written_from main (a + 1) n ++ written_by (outcome main k)) e)
-    ∙ sym (append_assoc here (written_from main (a + 1) n) (written_by (outcome main (a + suc n))))
-
-written-next : (main : Block) (a b : ℕ) → a ≤ b → written main a (b + 1) ≡ written main a b
-    ++ written_by (outcome main b)
-written-next main a b le =
-    let more : b + 1 - a ≡ (b - a) + 1 = omega arith in
-    let there : a + (b - a) ≡ b = omega arith in
-    ap (λ n. written_from main a n) more ∙ rw add-one (written_from-suc main a (b - a))
-    ∙ ap (λ k. written_from main a (b - a) ++ written_by (outcome main k)) there
-
 -- steps that write nothing
-pub silent_steps : (main : Block) (a b n : ℕ) → a ≤ b
-    → ((k : ℕ) → k < n → written_by (outcome main (b + k)) ≡ [])
+pub silent_steps : (main : Block) (a b n : ℕ) → a ≤ b → ((k : ℕ) → k < n → written_by (outcome main (b + k)) ≡ [])
     → written main a (b + n) ≡ written main a b
 silent_steps main a b zero le silent = let e : b + 0 ≡ b = omega arith in ap (λ k. written main a k) e
 silent_steps main a b (suc n) le silent =
@@ -68,18 +35,14 @@ silent_steps main a b (suc n) le silent =
 
 abbrev WritesFirst : Outcome → Type 0
 WritesFirst (Goes (Some v) []) = ⊥
-WritesFirst (Goes (Some v) (f ∷ below)) = Unit {0}
-WritesFirst (Goes None c) = Unit {0}
-WritesFirst (Faults fault) = Unit {0}
-WritesFirst Over = Unit {0}
+WritesFirst _ = Unit {0}
 
 on_some : (r : Result ℤ RunFault) (f : Frame) (below : Configuration)
     → WritesFirst (on_value r (λ v. Goes (Some v) (f ∷ below)))
 on_some (Err fault) f below = tt
 on_some (Ok v) f below = tt
 
-on_none : {A : Type 0} (r : Result A RunFault) (g : A → Configuration)
-    → WritesFirst (on_value r (λ v. Goes None (g v)))
+on_none : {A : Type 0} (r : Result A RunFault) (g : A → Configuration) → WritesFirst (on_value r (λ v. Goes None (g v)))
 on_none (Err fault) g = tt
 on_none (Ok v) g = tt
 
@@ -106,8 +69,7 @@ of_statement main f below (While p test s) rest =
 of_statement main f below (Call p x) rest =
     calls (option_and_then (λ h. callee main (f ∷ below) h.path h.declaration.meaning) (home main f.block x.word))
     (f ∷ below)
-of_statement main f below Empty rest = tt
-of_statement main f below (Then s t) rest = tt
+of_statement main f below _ rest = tt
 
 of_frame : (main : Block) (f : Frame) (below : Configuration) (todo : List Statement)
     → WritesFirst (frame_step main f below todo)
@@ -184,8 +146,7 @@ ahead-ahead m i j =
 -- steps that write nothing, and one more
 ran_after : (old new : Standing) (told : StepOutcome) (n : ℕ)
     → ((k : ℕ) → k < n → written_by (outcome (program old) (old.position + k)) ≡ [])
-    → Stepped (outcome_of (ahead old n)) (ahead old n) told new
-    → Ran old new told
+    → Stepped (outcome_of (ahead old n)) (ahead old n) told new → Ran old new told
 ran_after old new told n silent stepped =
     let more = step_ahead (ahead old n) new told stepped in record {
       wrote = λ a le.
@@ -198,16 +159,8 @@ ran_after old new told n silent stepped =
       led = more.1 ∙ ahead-ahead old n more.0;
     }
 
-pub ran_step : (old new : Standing) (told : StepOutcome) → Stepped (outcome_of old) old told new → Ran old new told
-ran_step old new told stepped =
-    let e : old.position ≡ old.position + 0 = omega arith in
-    let here : old ≡ ahead old 0 = ap (λ p. record old { position = p }) e in
-    ran_after old new told 0 (λ k lt. absurd (omega arith))
-    (subst (λ (m : Standing). Stepped (outcome_of m) m told new) here stepped)
-
 pub ran_stretch : (old mid new : Standing) (told : StepOutcome) → Stretches None old mid
-    → Stepped (outcome_of mid) mid told new
-    → Ran old new told
+    → Stepped (outcome_of mid) mid told new → Ran old new told
 ran_stretch old mid new told s stepped =
     ran_after old new told s.steps (λ k lt. (s.passed k lt).silent)
     (subst (λ (m : Standing). Stepped (outcome_of m) m told new) s.led stepped)
@@ -286,17 +239,11 @@ wrote_on start now new told came r = subst (WroteOn start new told) (sym came.1)
         ap number_lines (ran.wrote start.position le)
         ∙ lines-append (written (program start) start.position (start.position + came.0)) (told_numbers told)
 
-pub wrote_none : (start : Standing) → lines_between start start ≡ []
-wrote_none start =
-    let e : start.position - start.position ≡ 0 = omega arith in
-    ap (λ n. number_lines (written_from (program start) start.position n)) e
-
 abbrev EndsSo : Standing → Standing → Output → Output → Standing → Type 0
 EndsSo start new before after m = Ran m new Done → HasRun Ended start new before after
 
 pub ended_so : (start now new : Standing) (before after : Output) → Came start now → Ran now new Done
-    → WritesAll (lines_between start new) before after
-    → HasRun Ended start new before after
+    → WritesAll (lines_between start new) before after → HasRun Ended start new before after
 ended_so start now new before after came r wrote = subst (EndsSo start new before after) (sym came.1) at r
   where
     at : EndsSo start new before after (ahead start came.0)
@@ -311,8 +258,7 @@ ended_so start now new before after came r wrote = subst (EndsSo start new befor
         )
 
 pub faulted_so : (start now new : Standing) (fault : RunFault) (before after : Output) → Came start now
-    → Ran now new (Fault fault)
-    → WritesAll (lines_between start new) before after
+    → Ran now new (Fault fault) → WritesAll (lines_between start new) before after
     → HasRun (Faulted fault) start new before after
 faulted_so start now new fault before after came r wrote =
     let more = came_on start now new (Fault fault) came r in (
@@ -323,9 +269,7 @@ faulted_so start now new fault before after came r wrote =
     )
 
 pub failed_so : (start now new : Standing) (told : StepOutcome) (before after : Output) → Came start now
-    → Ran now new told
-    → FailsIn (lines_between start new) before after
-    → HasRun WriteFailed start new before after
+    → Ran now new told → FailsIn (lines_between start new) before after → HasRun WriteFailed start new before after
 failed_so start now new told before after came r failed =
     let more = came_on start now new told came r in (more.0, more.1, failed)
 
@@ -333,15 +277,9 @@ failed_so start now new told before after came r failed =
 pub running_on : (now new : Standing) (number : Option ℤ) → Ran now new (Went number) → 0 < depth_of new
 running_on now new number r = runs_on (ahead now r.before) new number r.last
 
--- the lines of one number
-pub one_line : (v : ℤ) → number_lines (told_numbers (Went (Some v))) ≡ signed_decimal v ++ (10 ∷ [])
-one_line v = refl
-
 -- what is pending stays so over steps that tell no number
 pub held_on : (start now new : Standing) (told : StepOutcome) (before out : Output) (pending : List ℕ)
-    → told_numbers told ≡ [] → Came start now
-    → Ran now new told
-    → Holds before out pending (lines_between start now)
+    → told_numbers told ≡ [] → Came start now → Ran now new told → Holds before out pending (lines_between start now)
     → Holds before out pending (lines_between start new)
 held_on start now new told before out pending none came r held =
     subst (Holds before out pending)

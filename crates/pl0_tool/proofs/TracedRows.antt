@@ -1,53 +1,27 @@
 -- What a trace tells: rows that are added one by one, and positions to which a run doesn't come.
-use Rattle.std.proofs.Common.{◌≡◌, ℕ, zero, suc, ◌+◌, ◌-◌, ◌<◌, ◌≤◌, Bool, true, false, cond, List, [], ◌∷◌, ◌++◌, length, take, slice_get, Option, None, Some, Result, Ok, Err, IfOk, Vec, Global, ℤ, refl, sym, ◌∙◌, ap, subst, arith}
-use Rattle.std.specs.Prelude.{nat_eq}
-use Rattle.std.specs.Option.{option_map_or}
-use Rattle.pl0_tree.specs.Tree.{Block}
-use Rattle.pl0_tree.specs.Steps.{blocks}
+use Rattle.pl0_tool.proofs.Common.{[], ap, AreRows, arith, at_next, at_position, Block, Bool, cond, Configuration, depth_of, Err, false, Fault, Frame, frame_of, frames_of, Global, IfOk, IsFrameRow, IsRow, IsTold, length, length_push, List, nat_eq, None, number_of, numbers_in, Ok, Option, option_map_or, outcome_of, program, RanOn, refl, Result, same_Some, slice_get, Some, Standing, Stepped, subst, suc, sym, take, take_all, true, variables_of, Vec, Went, zero, ℕ, ℤ, ◌++◌, ◌+◌, ◌-◌, ◌<◌, ◌∙◌, ◌∷◌, ◌≡◌, ◌≤◌}
 use Rattle.pl0_meaning.specs.declared.RunFault.TheVariants.{StepLimit}
-use Rattle.pl0_meaning.specs.Values.{Frame, Configuration, number_of}
-use Rattle.pl0_meaning.specs.Linking.{at_next}
 use Rattle.pl0_meaning.specs.Runs.{Outcome, Goes, Faults, Over, at, led_to, outcome, step_at, step, last_position}
 use Rattle.pl0_machine.specs.declared.outcome.StepOutcome.{StepOutcome}
-use Rattle.pl0_machine.specs.declared.outcome.StepOutcome.TheVariants.{Went, Done, Fault}
-use Rattle.pl0_machine.specs.declared.outcome.FrameView.{FrameView}
-use Rattle.pl0_machine.specs.Machine.{Standing, program, frames_of, frame_of, depth_of, outcome_of, Stepped, Shows, variables_of}
-use Rattle.pl0_machine.specs.Stretches.{RanOn}
 use Rattle.pl0_tool.specs.declared.tracing.FrameRow.{FrameRow}
 use Rattle.pl0_tool.specs.declared.tracing.Row.{Row}
-use Rattle.pl0_tool.specs.Tracing.{at_position, IsTold, IsFrameRow, IsRow, AreRows, numbers_in}
 use Rattle.pl0_tool.proofs.RunLines.{Came, came_on, ran_on, runs_on}
 
 -- ---- lists that grow
 
 -- what holds of each element of a list and of one more
-pub one_more : {A : Type 0} (P : ℕ → A → Type 0) (xs : List A) (v : A)
+pub each-push : {A : Type 0} (P : ℕ → A → Type 0) (xs : List A) (v : A)
     → ((i : ℕ) (x : A) → slice_get xs i ≡ Some x → P i x) → P (length xs) v → (i : ℕ) (x : A)
     → slice_get (xs ++ v ∷ []) i ≡ Some x → P i x
-one_more {A} P [] v h here zero x e = subst (P zero) (same v x e) here
-  where
-    same : (a b : A) → ◌≡◌ {A = Option A} (Some a) (Some b) → a ≡ b
-    same a b e = cc
-one_more P [] v h here (suc i) x e = cc
-one_more P (y ∷ xs) v h here zero x e = h zero x e
-one_more P (y ∷ xs) v h here (suc i) x e = one_more (λ k z. P (suc k) z) xs v (λ k z e. h (suc k) z e) here i x e
-
-pub length_more : {A : Type 0} (xs : List A) (v : A) → length (xs ++ v ∷ []) ≡ length xs + 1
-length_more [] v = refl
-length_more (x ∷ xs) v = let e = length_more xs v in omega (arith, e)
+each-push P [] v h here zero x e = subst (P zero) (same_Some v x e) here
+each-push P [] v h here (suc i) x e = cc
+each-push P (y ∷ xs) v h here zero x e = h zero x e
+each-push P (y ∷ xs) v h here (suc i) x e = each-push (λ k z. P (suc k) z) xs v (λ k z e. h (suc k) z e) here i x e
 
 -- rows tell frames, from one on
 abbrev pub TellFrames : Standing → ℕ → List FrameRow → Type 0
 TellFrames m hidden rows =
     (i : ℕ) (row : FrameRow) → slice_get rows i ≡ Some row → IsFrameRow (program m) (frame_of m (hidden + i)) row
-
-pub frame_more : (m : Standing) (hidden n : ℕ) (rows : List FrameRow) (row : FrameRow) → length rows ≡ n
-    → TellFrames m hidden rows
-    → IsFrameRow (program m) (frame_of m (hidden + n)) row
-    → TellFrames m hidden (rows ++ row ∷ [])
-frame_more m hidden n rows row is h here =
-    one_more (λ i r. IsFrameRow (program m) (frame_of m (hidden + i)) r) rows row h
-    (subst (λ k. IsFrameRow (program m) (frame_of m (hidden + k)) row) (sym is) here)
 
 -- rows tell positions, from one on
 abbrev pub TellPositions : Bool → Standing → ℕ → List Row → Type 0
@@ -55,11 +29,10 @@ TellPositions drawn m from rows =
     (i : ℕ) (row : Row) → slice_get rows i ≡ Some row → IsRow drawn (at_position m (from + i)) row
 
 pub position_more : (drawn : Bool) (m : Standing) (from n : ℕ) (rows : List Row) (row : Row) → length rows ≡ n
-    → TellPositions drawn m from rows
-    → IsRow drawn (at_position m (from + n)) row
+    → TellPositions drawn m from rows → IsRow drawn (at_position m (from + n)) row
     → TellPositions drawn m from (rows ++ row ∷ [])
 position_more drawn m from n rows row is h here =
-    one_more (λ i r. IsRow drawn (at_position m (from + i)) r) rows row h
+    each-push (λ i r. IsRow drawn (at_position m (from + i)) r) rows row h
     (subst (λ k. IsRow drawn (at_position m (from + k)) row) (sym is) here)
 
 -- ---- the numbers of a frame
@@ -75,8 +48,7 @@ number_in (Some f) k v is = is
 
 -- one number more is read
 pub number_more : (o : Option Frame) (k : ℕ) (v number : ℤ) (numbers : List ℤ) → number_of o k ≡ Some v → number ≡ v
-    → numbers ≡ take k (numbers_in o)
-    → numbers ++ number ∷ [] ≡ take (k + 1) (numbers_in o)
+    → numbers ≡ take k (numbers_in o) → numbers ++ number ∷ [] ≡ take (k + 1) (numbers_in o)
 number_more o k v number numbers at same read =
     let more : suc k ≡ k + 1 = omega arith in
     ap (λ n. numbers ++ n ∷ []) same
@@ -84,23 +56,10 @@ number_more o k v number numbers at same read =
     ∙ sym (take_next (numbers_in o) k v (number_in o k v at))
     ∙ ap (λ n. take n (numbers_in o)) more
 
-take_all : (xs : List ℤ) (n : ℕ) → n ≡ length xs → take n xs ≡ xs
-take_all [] zero is = refl
-take_all [] (suc n) is = refl
-take_all (x ∷ xs) zero is = absurd (omega (arith, is))
-take_all (x ∷ xs) (suc n) is = ap (λ l. x ∷ l) (take_all xs n (omega (arith, is)))
-
 -- all numbers of a frame are read
 pub all_numbers : (o : Option Frame) (n : ℕ) → n ≡ variables_of o → take n (numbers_in o) ≡ numbers_in o
-all_numbers None n is = take_all [] n is
-all_numbers (Some f) n is = take_all f.numbers n is
-
-pub frame_told : (main : Block) (o : Option Frame) (view : FrameView) (row : FrameRow) → Shows main o view
-    → row.block ≡ view.block
-    → row.numbers.items ≡ numbers_in o
-    → IsFrameRow main o row
-frame_told main None view row shows same read = absurd shows
-frame_told main (Some f) view row shows same read = (ap (λ b. slice_get (blocks main) b) same ∙ shows.0, read)
+all_numbers None n is = take_all n [] (omega (arith, is))
+all_numbers (Some f) n is = take_all n f.numbers (omega (arith, is))
 
 -- ---- positions without frames
 
@@ -128,16 +87,14 @@ none_after m p (suc n) e =
 -- an outcome with which a run stops
 abbrev pub IsStop : StepOutcome → Type 0
 IsStop (Went number) = ⊥
-IsStop Done = Unit {0}
-IsStop (Fault fault) = Unit {0}
+IsStop _ = Unit {0}
 
 -- after it no frame is alive
 pub none_behind : (m new : Standing) (outcome : StepOutcome) → Stepped (outcome_of m) m outcome new → IsStop outcome
     → depth_of (at_position m (m.position + 1)) ≡ 0
 none_behind m new outcome stepped stop = by_outcome (outcome_of m) refl stepped
   where
-    led : (o : Outcome) → outcome_of m ≡ o
-        → depth_of (at_position m (m.position + 1)) ≡ length (frames_of (led_to o))
+    led : (o : Outcome) → outcome_of m ≡ o → depth_of (at_position m (m.position + 1)) ≡ length (frames_of (led_to o))
     led o is = ap (λ o. length (frames_of o)) (at_next (program m) m.position ∙ ap led_to is)
 
     by_outcome : (o : Outcome) → outcome_of m ≡ o → Stepped o m outcome new
@@ -154,9 +111,8 @@ pub told_so : (m new : Standing) (outcome : StepOutcome) → Stepped (outcome_of
 told_so m new outcome stepped = by_outcome (outcome_of m) stepped
   where
     by_outcome : (o : Outcome) → Stepped o m outcome new → IsTold o outcome
-    by_outcome (Goes number c) s = s.0
-    by_outcome (Faults fault) s = s.0
     by_outcome Over s = absurd s
+    by_outcome _ s = s.0
 
 -- a step that goes on leads to the next position
 pub went_on : (m new : Standing) (number : Option ℤ) → Stepped (outcome_of m) m (Went number) new
@@ -185,8 +141,7 @@ came_to start now new position came ran =
 
 -- after a number the run goes on, and is no further
 pub goes_further : {number : Option ℤ} (start now new : Standing) (position : ℕ) (outcome : StepOutcome)
-    → outcome ≡ Went number → Came start now
-    → RanOn position None now (Some outcome) new
+    → outcome ≡ Went number → Came start now → RanOn position None now (Some outcome) new
     → (0 < depth_of new) × (new.position ≤ position) × Came start new
 goes_further {number} start now new position outcome is came ran =
     let stepped = subst (λ o. Stepped (outcome_of ran.0) ran.0 o new) is ran.3 in
@@ -199,8 +154,7 @@ goes_further {number} start now new position outcome is came ran =
 
 -- where a run stops before a position, no frame is alive there
 pub never_there : (start now new : Standing) (position : ℕ) (outcome : StepOutcome) → Came start now
-    → RanOn position None now (Some outcome) new → IsStop outcome
-    → depth_of (at_position start position) ≡ 0
+    → RanOn position None now (Some outcome) new → IsStop outcome → depth_of (at_position start position) ≡ 0
 never_there start now new position outcome came ran stop =
     let last = ran.0 in
     let lt = ran.2 in
@@ -215,21 +169,15 @@ never_there start now new position outcome came ran stop =
 -- ---- rows that are told one by one
 
 grown : (drawn : Bool) (start now : Standing) (n : ℕ) (rows : List Row) (row : Row)
-    → now ≡ at_position start (start.position + n)
-    → length rows ≡ n
-    → TellPositions drawn start start.position rows
-    → IsRow drawn now row
-    → TellPositions drawn start start.position (rows ++ row ∷ [])
+    → now ≡ at_position start (start.position + n) → length rows ≡ n → TellPositions drawn start start.position rows
+    → IsRow drawn now row → TellPositions drawn start start.position (rows ++ row ∷ [])
 grown drawn start now n rows row at is h here =
     position_more drawn start start.position n rows row is h (subst (λ (m : Standing). IsRow drawn m row) at here)
 
 -- a step that goes on
 pub told_on : (drawn : Bool) (start now new : Standing) (n : ℕ) (rows list : List Row) (row : Row) (number : Option ℤ)
-    → list ≡ rows ++ row ∷ []
-    → now ≡ at_position start (start.position + n)
-    → length rows ≡ n
-    → TellPositions drawn start start.position rows
-    → IsRow drawn now row
+    → list ≡ rows ++ row ∷ [] → now ≡ at_position start (start.position + n) → length rows ≡ n
+    → TellPositions drawn start start.position rows → IsRow drawn now row
     → Stepped (outcome_of now) now (Went number) new
     → (0 < depth_of new) × (new ≡ at_position start (start.position + (n + 1))) × (length list ≡ n + 1)
     × TellPositions drawn start start.position list
@@ -239,24 +187,18 @@ told_on drawn start now new n rows list row number more at is h here stepped =
       went_on now new number stepped
           ∙ ap (λ (m : Standing). at_position m (m.position + 1)) at
           ∙ ap (λ p. at_position start p) next,
-      ap length more ∙ length_more rows row ∙ ap (λ k. k + 1) is,
+      ap length more ∙ length_push rows row ∙ ap (λ k. k + 1) is,
       subst (TellPositions drawn start start.position) (sym more) (grown drawn start now n rows row at is h here),
     )
 
 -- a step with which the run stops
 pub told_last : (drawn : Bool) (start now new : Standing) (n count : ℕ) (rows list : List Row) (row : Row)
     (outcome : StepOutcome)
-    → n < count
-    → list ≡ rows ++ row ∷ []
-    → now ≡ at_position start (start.position + n)
-    → length rows ≡ n
-    → TellPositions drawn start start.position rows
-    → IsRow drawn now row
-    → Stepped (outcome_of now) now outcome new
-    → IsStop outcome
-    → AreRows drawn start start.position count list
+    → n < count → list ≡ rows ++ row ∷ [] → now ≡ at_position start (start.position + n) → length rows ≡ n
+    → TellPositions drawn start start.position rows → IsRow drawn now row → Stepped (outcome_of now) now outcome new
+    → IsStop outcome → AreRows drawn start start.position count list
 told_last drawn start now new n count rows list row outcome lt more at is h here stepped stop =
-    let longer = length_more rows row in
+    let longer = length_push rows row in
     let next : start.position + n + 1 ≡ start.position + length (rows ++ row ∷ []) = omega (arith, longer, is) in
     let none : depth_of (at_position start (start.position + n + 1)) ≡ 0 =
     subst (λ (m : Standing). depth_of (at_position m (m.position + 1)) ≡ 0) at

@@ -1,7 +1,4 @@
-use Rattle.std.proofs.Common.{◌<◌, length, sym, subst}
-use Rattle.pl0_tree.specs.Steps.{blocks}
-use Rattle.pl0_tree.specs.Blocks.{AreNestings}
-use Rattle.pl0_machine.specs.Machine.{program_of}
+use Rattle.pl0_tool.proofs.Common.{AreNestings, blocks, length, program_of, subst, sym, ◌<◌}
 use Rattle.pl0_tool.proofs.TracedFrames.{unit_nestings}
 use Rattle.pl0_tool.proofs.blocks.frame_name.Goals as goal
 

@@ -1,4 +1,4 @@
-use Rattle.std.proofs.Common.{sym, ◌∙◌, ap, Vec, Global, ℕ}
+use Rattle.pl0_tool.proofs.Common.{ap, Global, sym, Vec, ℕ, ◌∙◌}
 use Rattle.pl0_tool.specs.Commands.{end_errors, end_ending}
 use Rattle.pl0_tool.proofs.CommandTells.{run_told}
 use Rattle.pl0_tool.proofs.commands.run_whole.Goals as goal

@@ -1,5 +1,4 @@
-use Rattle.std.proofs.Common.{◌+◌, sym, ◌∙◌, ap, arith}
-use Rattle.pl0_machine.specs.Machine.{frames, frame_of, variables_of}
+use Rattle.pl0_tool.proofs.Common.{ap, arith, frame_of, frames, sym, variables_of, ◌+◌, ◌∙◌}
 use Rattle.pl0_tool.proofs.DrawnCells.{first_base, next_base}
 use Rattle.pl0_tool.proofs.drawing.base.Goals as goal
 

@@ -1,7 +1,4 @@
-use Rattle.std.proofs.Common.{◌+◌, ◌∙◌, ap}
-use Rattle.std.specs.Prelude.{position}
-use Rattle.std.specs.Option.{option_map_or}
-use Rattle.pl0_tool.specs.Drawing.{is_begun}
+use Rattle.pl0_tool.proofs.Common.{ap, is_begun, option_map_or, position, ◌+◌, ◌∙◌}
 use Rattle.pl0_tool.proofs.drawing.behind.Goals as goal
 
 pub returns-in-Some : goal.returns-in-Some

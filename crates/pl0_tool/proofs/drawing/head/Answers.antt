@@ -1,5 +1,4 @@
-use Rattle.std.proofs.Common.{sym}
-use Rattle.pl0_machine.specs.Machine.{program, frames}
+use Rattle.pl0_tool.proofs.Common.{frames, program, sym}
 use Rattle.pl0_tool.proofs.DrawnCells.{parent_within}
 use Rattle.pl0_tool.proofs.drawing.head.Goals as goal
 

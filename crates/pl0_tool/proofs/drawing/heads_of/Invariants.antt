@@ -1,4 +1,4 @@
-use Rattle.std.proofs.Common.{◌≡◌, length}
+use Rattle.pl0_tool.proofs.Common.{length, ◌≡◌}
 use Rattle.pl0_tool.proofs.DrawnCells.{TellHeads}
 use Rattle.pl0_tool.proofs.drawing.heads_of.Given as goal
 

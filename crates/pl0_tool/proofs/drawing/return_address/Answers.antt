@@ -1,6 +1,4 @@
-use Rattle.std.proofs.Common.{◌-◌, ◌∙◌, ap, arith}
-use Rattle.pl0_machine.specs.Machine.{program, frame_of}
-use Rattle.pl0_tool.specs.Drawing.{behind}
+use Rattle.pl0_tool.proofs.Common.{ap, arith, behind, frame_of, program, ◌-◌, ◌∙◌}
 use Rattle.pl0_tool.proofs.DrawnCells.{shown_next, returned}
 use Rattle.pl0_tool.proofs.drawing.return_address.Goals as goal
 

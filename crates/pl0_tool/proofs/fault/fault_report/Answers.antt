@@ -1,6 +1,4 @@
-use Rattle.std.proofs.Common.{◌≡◌, ◌-◌, ◌∙◌, ap, arith}
-use Rattle.std.specs.Prelude.{min}
-use Rattle.pl0_tool.specs.Faulting.{first_line, shown}
+use Rattle.pl0_tool.proofs.Common.{ap, arith, first_line, min, shown, ◌-◌, ◌∙◌, ◌≡◌}
 use Rattle.pl0_tool.proofs.FaultLines.{lines_more, all_lines}
 use Rattle.pl0_tool.proofs.fault.fault_report.Goals as goal
 

@@ -1,8 +1,6 @@
-use Rattle.std.proofs.Common.{◌≡◌, ◌∙◌, sym, subst, arith, IfOk}
+use Rattle.pl0_tool.proofs.Common.{arith, frames, IfOk, IsNext, program_of, step_before, subst, sym, top_of, ◌∙◌, ◌≡◌}
 use Rattle.pl0_unit.specs.declared.unit.Unit.{Unit as Compiled}
-use Rattle.pl0_machine.specs.Machine.{program_of, frames, top_of, IsNext}
 use Rattle.pl0_mistakes.specs.Lines.{fault_line}
-use Rattle.pl0_tool.specs.Tracing.{step_before}
 use Rattle.pl0_tool.proofs.TracedFrames.{next_within, next_place, IsPlaceOf}
 use Rattle.pl0_tool.proofs.FaultLines.{of_place}
 use Rattle.pl0_tool.proofs.fault.first_line.Goals as goal

@@ -1,8 +1,5 @@
-use Rattle.std.proofs.Common.{◌≡◌, sym, ◌∙◌, ap, subst, arith, rules, IfOk}
-use Rattle.std.specs.Prelude.{string_bytes}
+use Rattle.pl0_tool.proofs.Common.{ap, arith, frame_line, frame_of, IfOk, place_line, program_of, rules, Shows, string_bytes, subst, sym, ◌∙◌, ◌≡◌}
 use Rattle.pl0_unit.specs.declared.unit.Unit.{Unit as Compiled}
-use Rattle.pl0_machine.specs.Machine.{program_of, frame_of, Shows}
-use Rattle.pl0_tool.specs.Faulting.{place_line, frame_line}
 use Rattle.pl0_tool.proofs.TracedFrames.{block_within}
 use Rattle.pl0_tool.proofs.FaultLines.{shown_within, said_frame}
 use Rattle.pl0_tool.proofs.fault.frame_line.Goals as goal

@@ -1,6 +1,4 @@
-use Rattle.std.proofs.Common.{sym, subst}
-use Rattle.byte_streams.specs.Streams.{output}
-use Rattle.pl0_tool.specs.Pending.{Holds}
+use Rattle.pl0_tool.proofs.Common.{Holds, output, subst, sym}
 use Rattle.pl0_tool.proofs.PendingBytes.{put_last, holds_failed}
 use Rattle.pl0_tool.proofs.output.put.Goals as goal
 

@@ -1,4 +1,4 @@
-use Rattle.std.proofs.Common.{refl, inr}
+use Rattle.pl0_tool.proofs.Common.{inr, refl}
 use Rattle.pl0_tool.proofs.PendingBytes.{holds_failed_last}
 use Rattle.pl0_tool.proofs.running.finish.Goals as goal
 

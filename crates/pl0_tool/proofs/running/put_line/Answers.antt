@@ -1,8 +1,4 @@
-use Rattle.std.proofs.Common.{◌≡◌, ℕ, List, [], ◌∷◌, ◌++◌, ◌∙◌, ap, subst, append_assoc, MatchBool, rules, FitsSigned, w64}
-use Rattle.std.proofs.lemmas.Int.{to_z-of_z}
-use Rattle.std.specs.Fmt.{signed_decimal}
-use Rattle.byte_streams.specs.Streams.{output, FailsIn}
-use Rattle.pl0_tool.specs.Pending.{Holds}
+use Rattle.pl0_tool.proofs.Common.{[], ap, append_assoc, FailsIn, FitsSigned, Holds, List, MatchBool, output, rules, signed_decimal, subst, to_z-of_z, w64, ℕ, ◌++◌, ◌∙◌, ◌∷◌, ◌≡◌}
 use Rattle.pl0_tool.proofs.PendingBytes.{fails_before}
 use Rattle.pl0_tool.proofs.running.put_line.Goals as goal
 

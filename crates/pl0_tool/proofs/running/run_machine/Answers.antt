@@ -1,10 +1,4 @@
-use Rattle.std.proofs.Common.{◌∷◌, [], ◌++◌, sym, subst, refl, Some, None, ⊎_elim, rules, FitsSigned, w64}
-use Rattle.std.proofs.lemmas.Int.{to_z-of_z}
-use Rattle.std.specs.Fmt.{signed_decimal}
-use Rattle.byte_streams.specs.Streams.{output, FailsIn}
-use Rattle.pl0_machine.specs.declared.outcome.StepOutcome.TheVariants.{Went, Done, Fault}
-use Rattle.pl0_tool.specs.Pending.{Holds}
-use Rattle.pl0_tool.specs.Running.{Ran, HasRun, lines_between}
+use Rattle.pl0_tool.proofs.Common.{[], Done, FailsIn, Fault, FitsSigned, HasRun, Holds, lines_between, None, output, Ran, refl, rules, signed_decimal, Some, subst, sym, to_z-of_z, w64, Went, ⊎_elim, ◌++◌, ◌∷◌}
 use Rattle.pl0_tool.proofs.RunLines.{running_on, came_on, wrote_on, held_on, ended_so, faulted_so, failed_so}
 use Rattle.pl0_tool.proofs.running.run_machine.Goals as goal
 

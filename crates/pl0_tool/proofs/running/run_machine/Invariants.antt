@@ -1,9 +1,4 @@
-use Rattle.std.proofs.Common.{◌≡◌, ℕ, ◌<◌}
-use Rattle.pl0_machine.specs.Machine.{depth_of}
-use Rattle.pl0_machine.specs.Stretches.{ahead}
-use Rattle.byte_streams.specs.Streams.{output}
-use Rattle.pl0_tool.specs.Pending.{Holds}
-use Rattle.pl0_tool.specs.Running.{lines_between}
+use Rattle.pl0_tool.proofs.Common.{ahead, depth_of, Holds, lines_between, output, ℕ, ◌<◌, ◌≡◌}
 use Rattle.pl0_tool.proofs.running.run_machine.Given as goal
 
 abbrev pub invariant-numbers : goal.invariant-numbers

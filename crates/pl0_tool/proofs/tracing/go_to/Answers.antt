@@ -1,4 +1,4 @@
-use Rattle.std.proofs.Common.{sym, subst}
+use Rattle.pl0_tool.proofs.Common.{subst, sym}
 use Rattle.pl0_tool.proofs.RunLines.{came_none}
 use Rattle.pl0_tool.proofs.TracedRows.{IsStop, came_to, goes_further, never_there}
 use Rattle.pl0_tool.proofs.tracing.go_to.Goals as goal

@@ -1,5 +1,4 @@
-use Rattle.std.proofs.Common.{◌<◌, ◌≤◌}
-use Rattle.pl0_machine.specs.Machine.{depth_of}
+use Rattle.pl0_tool.proofs.Common.{depth_of, ◌<◌, ◌≤◌}
 use Rattle.pl0_tool.proofs.RunLines.{Came}
 use Rattle.pl0_tool.proofs.tracing.go_to.Given as goal
 

@@ -1,4 +1,4 @@
-use Rattle.std.proofs.Common.{◌≡◌, length}
+use Rattle.pl0_tool.proofs.Common.{length, ◌≡◌}
 use Rattle.pl0_tool.proofs.TracedRows.{TellFrames}
 use Rattle.pl0_tool.proofs.tracing.newest_frames.Given as goal
 

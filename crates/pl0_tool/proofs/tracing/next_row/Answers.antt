@@ -1,6 +1,5 @@
-use Rattle.std.proofs.Common.{◌≡◌, ◌∙◌, sym, subst, arith}
+use Rattle.pl0_tool.proofs.Common.{arith, frames, IsNext, program_of, subst, sym, top_of, ◌∙◌, ◌≡◌}
 use Rattle.pl0_unit.specs.declared.unit.Unit.{Unit as Compiled}
-use Rattle.pl0_machine.specs.Machine.{program_of, frames, top_of, IsNext}
 use Rattle.pl0_tool.proofs.TracedFrames.{next_within, next_kind, next_place, IsKindOf, IsPlaceOf}
 use Rattle.pl0_tool.proofs.TracedRows.{told_so}
 use Rattle.pl0_tool.proofs.tracing.next_row.Goals as goal

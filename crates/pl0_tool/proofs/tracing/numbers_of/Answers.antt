@@ -1,6 +1,4 @@
-use Rattle.std.proofs.Common.{◌≡◌, ◌∙◌, rules, FitsSigned, w64, arith}
-use Rattle.std.proofs.lemmas.Int.{to_z-of_z}
-use Rattle.pl0_machine.specs.Machine.{frame_of, variables_of}
+use Rattle.pl0_tool.proofs.Common.{arith, FitsSigned, frame_of, rules, to_z-of_z, variables_of, w64, ◌∙◌, ◌≡◌}
 use Rattle.pl0_tool.proofs.TracedRows.{number_more, all_numbers}
 use Rattle.pl0_tool.proofs.tracing.numbers_of.Goals as goal
 

@@ -1,6 +1,4 @@
-use Rattle.std.proofs.Common.{◌≡◌, take}
-use Rattle.pl0_machine.specs.Machine.{frame_of}
-use Rattle.pl0_tool.specs.Tracing.{numbers_in}
+use Rattle.pl0_tool.proofs.Common.{frame_of, numbers_in, take, ◌≡◌}
 use Rattle.pl0_tool.proofs.tracing.numbers_of.Given as goal
 
 abbrev pub invariant-loop-variable : goal.invariant-loop-variable

@@ -1,5 +1,4 @@
-use Rattle.std.proofs.Common.{sym, subst}
-use Rattle.pl0_machine.specs.Machine.{outcome_of, Stepped}
+use Rattle.pl0_tool.proofs.Common.{outcome_of, Stepped, subst, sym}
 use Rattle.pl0_tool.proofs.TracedRows.{IsStop, told_on, told_last}
 use Rattle.pl0_tool.proofs.tracing.rows_of.Goals as goal
 

@@ -1,6 +1,4 @@
-use Rattle.std.proofs.Common.{◌≡◌, ◌<◌, ◌+◌, length}
-use Rattle.pl0_machine.specs.Machine.{depth_of}
-use Rattle.pl0_tool.specs.Tracing.{at_position}
+use Rattle.pl0_tool.proofs.Common.{at_position, depth_of, length, ◌+◌, ◌<◌, ◌≡◌}
 use Rattle.pl0_tool.proofs.TracedRows.{TellPositions}
 use Rattle.pl0_tool.proofs.tracing.rows_of.Given as goal
 

@@ -1,6 +1,4 @@
-use Rattle.std.proofs.Common.{subst, IfOk}
-use Rattle.pl0_machine.specs.Machine.{Standing}
-use Rattle.pl0_tool.specs.Tracing.{AreRows}
+use Rattle.pl0_tool.proofs.Common.{AreRows, IfOk, Standing, subst}
 use Rattle.pl0_tool.proofs.TracedRows.{told_from}
 use Rattle.pl0_tool.proofs.tracing.trace.Goals as goal
 

@@ -1,10 +1,6 @@
-use Rattle.std.proofs.Common.{◌≡◌, ◌∙◌, sym, subst, slice_get, Some, arith}
+use Rattle.pl0_tool.proofs.Common.{AreNestings, arith, block_at, blocks, frame_of, frames, Path, program, program_of, Shows, slice_get, Some, subst, sym, ◌∙◌, ◌≡◌}
 use Rattle.pl0_tree.specs.Plain.{plain_block}
 use Rattle.pl0_tree.specs.declared.tree.Block.{out-Block}
-use Rattle.pl0_tree.specs.Scope.{Path, block_at}
-use Rattle.pl0_tree.specs.Steps.{blocks}
-use Rattle.pl0_tree.specs.Blocks.{AreNestings}
-use Rattle.pl0_machine.specs.Machine.{program_of, program, frames, frame_of, Shows}
 use Rattle.pl0_tool.proofs.TracedFrames.{unit_nestings, block_within, count_is}
 use Rattle.pl0_tool.proofs.tracing.variable_count.Goals as goal
 
