@@ -1,9 +1,8 @@
 -- What commands tell, from what their parts told.
-use Rattle.std.proofs.Common.{◌≡◌, ℕ, ◌<◌, Bool, true, false, MatchBool, List, [], Result, Ok, Err, IfOk, refl, sym, subst, inl, inr}
-use Rattle.std.specs.Io.KnownBytes.{Appends}
+use Rattle.std.proofs.Common.{◌≡◌, ℕ, Bool, List, [], Result, Ok, Err, IfOk, refl, sym, subst, inr}
 use Rattle.pl0_unit.specs.declared.unit.Unit.{Unit as Compiled}
 use Rattle.pl0_machine.specs.Machine.{Standing}
-use Rattle.byte_streams.specs.Streams.{Output, AppendsPart, Says}
+use Rattle.byte_streams.specs.Streams.{Output}
 use Rattle.pl0_tool.specs.declared.arguments.Task.{Task}
 use Rattle.pl0_tool.specs.declared.arguments.Task.TheVariants.{Run, Trace, Check, List as Listing}
 use Rattle.pl0_tool.specs.declared.report.Ending.TheVariants.{Success}
@@ -73,11 +72,3 @@ pub traced_program : {E : Type 0} (task : Task) (from steps : ℕ) (drawn : Bool
 traced_program task from steps drawn file unit (Ok report) out is told =
     subst (λ (t : Task). ProgramTells t file unit report out out) (sym is) (told, refl)
 traced_program task from steps drawn file unit (Err e) out is told = tt
-
--- all bytes were written, or a prefix of them
-pub said : (b : Bool) (bytes : List ℕ) (before after : Output)
-    → MatchBool b (Appends before.written after.written bytes) (AppendsPart before.written after.written bytes)
-    → MatchBool b (after.failures ≡ before.failures) (before.failures < after.failures)
-    → Says bytes before after
-said true bytes before after wrote count = inl (wrote, count)
-said false bytes before after wrote count = inr (wrote, count)

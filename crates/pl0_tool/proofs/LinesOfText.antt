@@ -1,5 +1,5 @@
 -- The lines of a text, one by one.
-use Rattle.std.proofs.Common.{◌≡◌, ℕ, zero, suc, ◌+◌, ◌-◌, ◌<◌, ◌≤◌, min, Bool, true, false, not, ◌==◌, nat_lt, List, [], ◌∷◌, ◌++◌, length, take, drop, Some, None, refl, sym, ap, ◌∙◌, arith, append_assoc, append-nil, cond, ⊎_elim}
+use Rattle.std.proofs.Common.{◌≡◌, ℕ, zero, suc, ◌+◌, ◌-◌, ◌<◌, ◌≤◌, Bool, true, false, not, ◌==◌, nat_lt, List, [], ◌∷◌, ◌++◌, length, take, drop, Some, None, refl, sym, ap, ◌∙◌, arith, append_assoc, cond, ⊎_elim}
 use Rattle.std.specs.Prelude.{position, unwrap_or}
 use Rattle.std.specs.List.{position_or_len, onto_first}
 use Rattle.std.proofs.lemmas.Bool.{cond-true, cond-false, le-leb, lt-leb, cases_lt}
@@ -84,23 +84,7 @@ last_line text end some at past =
     ∙ ap (λ e. take e text ∷ text_lines (drop (e + 1) text)) (sym at)
     ∙ (λ k. take_all end text past k ∷ text_lines (drop_all (end + 1) text (omega (arith, past)) k))
 
--- where no byte is left, there is no line
-pub no_line : (text : List ℕ) → length text ≡ 0 → text_lines text ≡ []
-no_line [] none = refl
-no_line (b ∷ text) none = absurd (omega (arith, none))
-
 -- ---- lines that are put on a page
-
-pub put_none : (lines : List (List ℕ)) (page : List ℕ) → lines ≡ [] → page ≡ page ++ with_feeds (take 1 lines)
-put_none lines page none = sym (append-nil page) ∙ ap (λ ls. page ++ with_feeds (take 1 ls)) (sym none)
-
-pub put_first : (lines more : List (List ℕ)) (line page mid new : List ℕ) → lines ≡ line ∷ more
-    → mid ≡ page ++ line → new ≡ mid ++ 10 ∷ []
-    → new ≡ page ++ with_feeds (take 1 lines)
-put_first lines more line page mid new is first feed =
-    feed ∙ ap (λ l. l ++ 10 ∷ []) first ∙ append_assoc page line (10 ∷ [])
-    ∙ ap (λ l. page ++ l) (sym (append-nil (line ++ 10 ∷ [])))
-    ∙ ap (λ ls. page ++ with_feeds (take 1 ls)) (sym is)
 
 -- one line more is put
 pub behind_more : (n : ℕ) (lines : List (List ℕ)) → drop 1 (drop n lines) ≡ drop (n + 1) lines
@@ -129,12 +113,3 @@ put_next lines left page old new n is before put =
     ∙ (λ k. before k ++ with_feeds (take 1 (is k)))
     ∙ append_assoc page (with_feeds (take n lines)) (with_feeds (take 1 (drop n lines)))
     ∙ ap (λ t. page ++ t) (put_more n lines)
-
--- a cut behind the end is one at the end
-pub same_drop : (text : List ℕ) (n : ℕ) → drop (min n (length text)) text ≡ drop n text
-same_drop text n =
-    ⊎_elim
-    (λ (lt : n < length text). let e : min n (length text) ≡ n = omega (arith, lt) in ap (λ k. drop k text) e)
-    (λ (le : length text ≤ n). let e : length text ≤ min n (length text) = omega (arith, le) in
-    drop_all (min n (length text)) text e ∙ sym (drop_all n text le))
-    (cases_lt n (length text))

@@ -1,10 +1,10 @@
 -- The table of a trace, as it is put on a page part by part.
-use Rattle.std.proofs.Common.{◌≡◌, ℕ, zero, suc, ◌+◌, ◌-◌, ◌<◌, ◌≤◌, min, ℤ, List, [], ◌∷◌, ◌++◌, length, drop, get_or, map, slice_get, Option, Some, None, Result, Ok, Err, OnOk, refl, sym, ap, ◌∙◌, subst, arith, append_assoc, append-nil, codes}
+use Rattle.std.proofs.Common.{◌≡◌, ℕ, zero, suc, ◌+◌, ◌-◌, ◌<◌, ◌≤◌, min, ℤ, List, [], ◌∷◌, ◌++◌, length, drop, get_or, map, slice_get, Option, Some, None, refl, sym, ap, ◌∙◌, subst, arith, append_assoc, append-nil, codes}
 use Rattle.std.specs.Prelude.{string_bytes}
 use Rattle.std.specs.List.{concat}
 use Rattle.std.specs.Option.{option_map_or}
 use Rattle.std.specs.Fmt.{signed_decimal}
-use Rattle.std.proofs.lemmas.List.{drop_more, drop_all}
+use Rattle.std.proofs.lemmas.List.{drop_more}
 use Rattle.std.proofs.lemmas.Option.{slice_get_past, slice_get-get_or}
 use Rattle.pl0_tree.specs.Tree.{Block, Name, variables}
 use Rattle.pl0_tree.specs.Plain.{plain_name, plain_block}
@@ -20,43 +20,6 @@ use Rattle.pl0_tool.specs.Table.{barred, frame_text, frame_line, frame_lines, va
 use Rattle.pl0_tool.specs.declared.drawing.FrameHead.{FrameHead}
 use Rattle.pl0_tool.specs.declared.tracing.FrameRow.{FrameRow}
 use Rattle.pl0_tool.proofs.TracedFrames.{nesting_count}
-
--- ---- texts one after the other
-
-pub text_next : {A : Type 0} (f : A → List ℕ) (xs : List A) (n : ℕ) (x : A) (old new whole : List ℕ)
-    → n < length xs → x ≡ get_or xs n x → new ≡ old ++ f x
-    → old ++ concat (map f (drop n xs)) ≡ whole
-    → new ++ concat (map f (drop (n + 1) xs)) ≡ whole
-text_next f xs n x old new whole inside is put before =
-    ap (λ t. t ++ concat (map f (drop (n + 1) xs))) put
-    ∙ append_assoc old (f x) (concat (map f (drop (n + 1) xs)))
-    ∙ ap (λ y. old ++ (f y ++ concat (map f (drop (n + 1) xs)))) is
-    ∙ ap (λ l. old ++ concat (map f l)) (sym (drop_more xs n x inside))
-    ∙ before
-
-pub text_end : {A : Type 0} (f : A → List ℕ) (xs : List A) (n : ℕ) (old whole : List ℕ) → length xs ≤ n
-    → old ++ concat (map f (drop n xs)) ≡ whole → old ≡ whole
-text_end f xs n old whole past before =
-    sym (append-nil old) ∙ ap (λ l. old ++ concat (map f l)) (sym (drop_all n xs past)) ∙ before
-
-pub on_ok : {A E P Q : Type 0} (r : Result A E) → (P → Q) → OnOk r P → OnOk r Q
-on_ok (Ok a) f holds = f holds
-on_ok (Err e) f holds = tt
-
--- ---- a line of a text
-
-pub line_there : (lines : List (List ℕ)) (i : ℕ) (line : List ℕ) (more : List (List ℕ)) → drop i lines ≡ line ∷ more
-    → get_or lines i [] ≡ line
-line_there [] zero line more is = cc
-line_there [] (suc i) line more is = cc
-line_there (l ∷ lines) zero line more is = cc
-line_there (l ∷ lines) (suc i) line more is = line_there lines i line more is
-
-pub no_line_there : (lines : List (List ℕ)) (n i : ℕ) → drop n lines ≡ [] → n ≤ i → get_or lines i [] ≡ []
-no_line_there [] n i none le = refl
-no_line_there (l ∷ lines) zero i none le = cc
-no_line_there (l ∷ lines) (suc n) zero none le = absurd (omega (arith, le))
-no_line_there (l ∷ lines) (suc n) (suc i) none le = no_line_there lines n i none (omega (arith, le))
 
 -- ---- variables
 
@@ -210,11 +173,3 @@ put_next main fs hs put at f d page old new all is_frame before put_line =
     ∙ append_assoc page (frame_lines main (drop (at + 1) fs) (drop (at + 1) hs)) (frame_line main f h)
     ∙ (λ k. page ++ frame_lines main (frames k) (heads k))
     ∙ ap (λ n. page ++ frame_lines main (drop n fs) (drop n hs)) now
-
-pub put_all : (main : Block) (fs : List FrameRow) (hs : List FrameHead) (put : ℕ) (page old : List ℕ)
-    → min (length fs) (length hs) ≤ put
-    → old ≡ page ++ put_lines main fs hs put
-    → old ≡ page ++ frame_lines main fs hs
-put_all main fs hs put page old all before =
-    let none : min (length fs) (length hs) - put ≡ 0 = omega (arith, all) in
-    before ∙ ap (λ n. page ++ frame_lines main (drop n fs) (drop n hs)) none

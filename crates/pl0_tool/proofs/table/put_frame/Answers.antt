@@ -2,7 +2,8 @@ use Rattle.std.proofs.Common.{◌++◌, ◌∙◌, ap, arith, sym, subst}
 use Rattle.pl0_tree.specs.Steps.{blocks}
 use Rattle.pl0_tree.specs.Blocks.{AreNestings}
 use Rattle.pl0_machine.specs.Machine.{program_of}
-use Rattle.pl0_tool.proofs.TableText.{framed, unframed, on_ok}
+use Rattle.std.proofs.lemmas.Result.{on_ok_weaker}
+use Rattle.pl0_tool.proofs.TableText.{framed, unframed}
 use Rattle.pl0_tool.proofs.TracedFrames.{unit_nestings}
 use Rattle.pl0_tool.proofs.table.put_frame.Goals as goal
 
@@ -20,7 +21,7 @@ pub returns : goal.returns
 returns c =
     let page = c.args.page.now.items in
     let first = rw c.as_slice.ensures.value at c.put_variables.ensures in
-    on_ok c.put_variables.result (λ put.
+    on_ok_weaker c.put_variables.result (λ put.
     framed c.args.unit.now c.args.frame.now c.block-declaring.result.now c.frame_name.result.now page
     c.extend_from_slice.new.self.items c.put_variables.new.page.items
     (omega (arith, c.if-frame-len.false, c.len.ensures)) c.frame_name.ensures c.block-declaring.ensures
