@@ -2,7 +2,7 @@
 use Rattle.std.proofs.Common.{◌≡◌, ℕ, ◌+◌, ◌<◌, List, length, slice_get, Option, Some, None, refl, sym, ap, ◌∙◌, subst, arith}
 use Rattle.std.specs.Prelude.{option_map}
 use Rattle.std.proofs.lemmas.List.{length-map}
-use Rattle.std.proofs.lemmas.Option.{slice_get-map}
+use Rattle.std.proofs.lemmas.Option.{slice_get-map, same_Some}
 use Rattle.pl0_tree.specs.declared.tree.Block.{out-Block}
 use Rattle.pl0_tree.specs.declared.tree.Constant.{Constant as DeclaredConstant}
 use Rattle.pl0_tree.specs.Tree.{Block, Constant, constants}
@@ -28,9 +28,6 @@ module _ (main : Block) (q : Path) (w : List ℕ) (a : Answer) (is : IsHomeAnswe
       by_home None is = absurd is
       by_home (Some h) is = subst (λ n. IsDeclaredBound main q h.path n b) (sym same ∙ is.2) (here h.path is.0 is.1)
 
-  same_block : (b c : Block) → ◌≡◌ {A = Option Block} (Some b) (Some c) → b ≡ c
-  same_block b c e = cc
-
   -- its constant is there
   pub constant_within : (k : ℕ) → meaning_of a.meaning ≡ AConstant k
       → k < length (out-Block a.block.now).constants.items
@@ -51,7 +48,7 @@ module _ (main : Block) (q : Path) (w : List ℕ) (a : Answer) (is : IsHomeAnswe
           let there = home_is main q w h at in
           let declared = subst (λ m. IsDeclaredBy there.block m) (sym is.2 ∙ same) there.declared in
           subst (λ c. k < length (constants c))
-          (same_block there.block (plain_block a.block.now) (sym there.there ∙ is.0)) declared
+          (same_Some there.block (plain_block a.block.now) (sym there.there ∙ is.0)) declared
 
   pub constant_bound : (k : ℕ) (c : DeclaredConstant) → meaning_of a.meaning ≡ AConstant k
       → slice_get (out-Block a.block.now).constants.items k ≡ Some c

@@ -108,9 +108,6 @@ module _ (Is : List ℕ → Expression → Type 0) where
     pub back : (all : List Part) → ReadsParts Is text all → (more : List Part) × (all ≡ parts ++ more)
         × ReadsParts Is rest more
 
-  pub begins : (text : List ℕ) → IsReadTo text [] text
-  begins text = record { onward = λ more r. r; back = λ all r. (all, refl, r) }
-
   pub one_further : (text rest before inner after : List ℕ) (parts : List Part) (e : Expression)
       → ((f : Expression) → Is inner f → f ≡ e) → IsReadTo text parts rest →
       rest ≡ before ++ braced inner after → Lacks 123 before → Lacks 125 inner → Is inner e

@@ -19,7 +19,7 @@ use Rattle.dbg_plan.specs.MessageFaults.{UnlessNoMemory}
 use Rattle.dbg_plan.specs.Messages.{Part, Text, Value, expressions, expression_limit, Lacks, braced, ReadsParts, IsMessageOf, ReadsAsExpression, ReadsAsParts}
 use Rattle.dbg_plan.specs.PlainParts.{plain_part, plain_parts}
 use Rattle.dbg_plan.specs.Bound.{ArePartsBound}
-use Rattle.dbg_plan.proofs.MessageParts.{IsReadTo, begins, one_further, continues, unclosed, some_value, reads_more, count-append}
+use Rattle.dbg_plan.proofs.MessageParts.{IsReadTo, one_further, continues, unclosed, some_value, reads_more, count-append}
 
 -- a text with a fault is no expression's
 pub no_expression : FaultExcludesExpressions → (main : Block) (q : Path) (text : List ℕ) (fault : SyntaxFault)
@@ -40,18 +40,6 @@ pub record IsRead (main : Block) (q : Path) (text : List ℕ) (n : ℕ) (parts :
     pub is_text : IsUtf8 rest
 
 module _ (main : Block) (q : Path) (text : List ℕ) where
-  pub nothing_read : (parts : List DeclaredPart) → parts ≡ [] → IsUtf8 text → IsRead main q text 0 parts text
-  nothing_read parts none is_text =
-      let empty : IsRead main q text 0 [] text =
-      record {
-        to = begins (IsExpressionOf main q) text;
-        count = refl;
-        few = omega arith;
-        bound = tt;
-        is_text = is_text;
-      } in
-      subst (λ l. IsRead main q text 0 l text) (sym none) empty
-
   -- one expression more
   pub read_on : (n : ℕ) (parts new : List DeclaredPart) (rest before inner after opened : List ℕ) (e : Expression)
       → IsRead main q text n parts rest →

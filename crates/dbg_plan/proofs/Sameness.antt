@@ -7,7 +7,7 @@ use Rattle.std.proofs.Math.Logic.{∥∥₁_elim}
 use Rattle.std.proofs.lemmas.Bool.{cases_lt}
 use Rattle.std.proofs.lemmas.Bool.Decides.{nat_tests, eqb_tells, Decides-like}
 use Rattle.std.proofs.lemmas.List.{length-map}
-use Rattle.std.proofs.lemmas.Option.{slice_get-map, slice_get-get_or}
+use Rattle.std.proofs.lemmas.Option.{slice_get-map, slice_get-get_or, same_Some}
 use Rattle.std.proofs.lemmas.Slice.Eq.{bytes_eq-Decides}
 use Rattle.pl0_tree.specs.Tree.{Condition}
 use Rattle.pl0_tree.specs.Plain.{plain_condition}
@@ -250,16 +250,13 @@ none_listed (b ∷ bs) all is e =
 pub same_there : (xs ys : List Breakpoint) (i : ℕ) (x y : Breakpoint) → i < length xs → i < length ys
     → x ≡ get_or xs i x → y ≡ get_or ys i y → map numbered_of xs ≡ map numbered_of ys → numbered_of x ≡ numbered_of y
 same_there xs ys i x y lt lt' is is' same =
-    some (numbered_of x) (numbered_of y) (sym (there xs i x lt is) ∙ ap (λ es. slice_get es i) same
+    same_Some (numbered_of x) (numbered_of y) (sym (there xs i x lt is) ∙ ap (λ es. slice_get es i) same
     ∙ there ys i y lt' is')
   where
     there : (xs : List Breakpoint) (i : ℕ) (x : Breakpoint) → i < length xs → x ≡ get_or xs i x
         → slice_get (map numbered_of xs) i ≡ Some (numbered_of x)
     there xs i x lt is =
         slice_get-map numbered_of xs i ∙ ap (option_map numbered_of) (slice_get-get_or xs i x lt ∙ ap Some (sym is))
-
-    some : (e f : Numbered) → ◌≡◌ {A = Option Numbered} (Some e) (Some f) → e ≡ f
-    some e f is = cc
 
 -- ---- plans
 
@@ -292,10 +289,3 @@ empty_told p is r e =
             ⊎ ((nat_eq (length (b ∷ bs)) 0 ≡ false) × (length (b ∷ bs) ≢ 0)) → b ∷ bs ≡ []
         by_length (inl is) = let n = is.1 in absurd (omega (arith, n))
         by_length (inr is) = let never : false ≡ true = sym is.0 ∙ e in cc
-
-no_plain : (bs : List Breakpoint) → plain_breakpoints bs ≡ [] → bs ≡ []
-no_plain [] e = refl
-no_plain (b ∷ bs) e = cc
-
-pub none_told : (bs : List Breakpoint) (r : Bool) → Decides r (bs ≡ []) → Decides r (plain_breakpoints bs ≡ [])
-none_told bs r told = Decides-like r (ap plain_breakpoints) (no_plain bs) told

@@ -9,7 +9,6 @@ use Rattle.std.proofs.Math.Logic.{∥∥₁_elim}
 use Rattle.std.proofs.Math.Nat.{ℕ_set}
 use Rattle.std.proofs.lemmas.Bool.{cases_eq}
 use Rattle.std.proofs.lemmas.Bool.Decides.{nat_tests}
-use Rattle.std.proofs.lemmas.List.Quantifiers.{position-Some}
 use Rattle.std.proofs.lemmas.List.Sums.{position_or_len_is}
 use Rattle.std.proofs.lemmas.Option.{slice_get-map}
 use Rattle.pl0_tree.specs.declared.tree.Place.{Place}
@@ -100,9 +99,6 @@ unit_position u line =
 some_step : Step
 some_step = record { kind = Return; place = record { line = 1; column = 1 }; block = 0 }
 
-some_step_at : StepAt
-some_step_at = record { kind = Return; place = record { line = 1; column = 1 }; path = [] }
-
 -- what a search in the table finds
 found : (u : Compiled) (line i : ℕ) (d : Step) → i ≤ length u.steps.items
     → IsPartitionPoint (λ (s : Step). nat_lt s.place.line line ≡ true) (λ (s : Step). nat_lt s.place.line line ≡ false)
@@ -126,7 +122,3 @@ step_is u line i le point =
     some_if (nat_lt i (length u.steps.items)) i ∙ ap (λ k. cond (nat_lt i k) (Some i) None) (unit_length u)
     ∙ sym (ap (λ k. cond (nat_lt k (length (steps (program_of u)))) (Some k) None)
     (found u line i some_step le point))
-
--- a step that is found is one of the program
-pub step_within : (main : Block) (line n : ℕ) → step_from main line ≡ Some n → n < length (steps main)
-step_within main line n is = (position-Some (from_line_at line) (steps main) n some_step_at is).0

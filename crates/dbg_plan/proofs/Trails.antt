@@ -28,20 +28,6 @@ above_greatest a n (k ∷ ks) h lt most = (h.0, above_greatest k n ks h.1 (omega
 greatest_above : (a k : ℕ) (ks : List ℕ) → AreAbove a (k ∷ ks) → a < greatest (k ∷ ks)
 greatest_above a k ks h = let here = h.0 in omega arith
 
-none_left : (cs : List Standing) → slice_get cs (length cs - 1) ≡ None → greatest (positions cs) ≡ 0
-none_left [] e = refl
-none_left (c ∷ []) e = cc
-none_left (c ∷ d ∷ cs) e =
-    let same : length (c ∷ d ∷ cs) - 1 ≡ suc (length (d ∷ cs) - 1) = omega arith in
-    let none : slice_get (d ∷ cs) (length (d ∷ cs) - 1) ≡ None = subst (λ n. slice_get (c ∷ d ∷ cs) n ≡ None) same e in
-    absurd (some_there d cs none)
-  where
-    some_there : (d : Standing) (cs : List Standing) → slice_get (d ∷ cs) (length (d ∷ cs) - 1) ≡ None → ⊥
-    some_there d [] e = cc
-    some_there d (b ∷ cs) e =
-        let same : length (d ∷ b ∷ cs) - 1 ≡ suc (length (b ∷ cs) - 1) = omega arith in
-        some_there b cs (subst (λ n. slice_get (d ∷ b ∷ cs) n ≡ None) same e)
-
 -- the last of them is the greatest
 pub last_is : (a : ℕ) (cs : List Standing) (c : Standing) → AreAbove a (positions cs)
     → slice_get cs (length cs - 1) ≡ Some c → greatest (positions cs) ≡ c.position

@@ -1,6 +1,6 @@
 -- Where there is no arrival: none is counted, none due and none logged.
 use Rattle.std.proofs.Common.{◌≡◌, ℕ, ◌+◌, ◌<◌, ◌≤◌, Bool, true, false, cond, List, [], ◌∷◌, length, get_or, Option, Some, None, ap, sym, ◌∙◌, subst, refl, arith}
-use Rattle.std.specs.Prelude.{IsTrue, not, ◌&&◌, ◌||◌, is_none, if◌then◌else◌}
+use Rattle.std.specs.Prelude.{◌&&◌, ◌||◌, is_none, if◌then◌else◌}
 use Rattle.std.specs.List.{list_any, filter_map, enumerate_from, cons_option}
 use Rattle.std.proofs.lemmas.Bool.{or_from, or_parts}
 use Rattle.pl0_unit.specs.declared.unit.Unit.{Unit as Compiled}
@@ -24,10 +24,6 @@ use Rattle.dbg_plan.proofs.Watching.{none_of}
 pub fits_of : (u : Compiled) (plan : Option Listed) (asked : Listed) → plan ≡ Some asked → MayBePlanOf u plan
     → IsPlanOf u asked
 fits_of u plan asked is may = subst (λ o. MayBePlanOf u o) is may
-
-pub not_so : (b : Bool) → IsTrue (not b) → b ≡ false
-not_so true h = cc
-not_so false h = refl
 
 pub one_item : (bs : List Breakpoint) (b : Breakpoint) → 1 ≤ length bs → length bs < 2 → b ≡ get_or bs 0 b → bs ≡ b ∷ []
 one_item [] b some few is = absurd (omega arith)

@@ -14,9 +14,6 @@ use Rattle.dbg_plan.proofs.ValuesNamed.{block_within, located_reads, number_is, 
 use Rattle.dbg_plan.proofs.evaluation.name_value.Goals as goal
 use Rattle.dbg_plan.proofs.evaluation.name_value.Goals.{After-deref, After-names-1, After-locate}
 
-unit_is : (c : After-deref) → c.deref-unit.result.now ≡ c.args.machine.now.unit
-unit_is c = c.deref-unit.ensures ∙ c.unit.ensures
-
 table_is : (c : After-deref) → AreNestings (program_of c.deref-unit.result.now) c.deref.result.now
     (blocks (program_of c.deref-unit.result.now))
 table_is c =
