@@ -9,11 +9,12 @@ use pl0_meaning::compare;
 use pl0_tree::{Relation, StepNumber};
 use pl0_unit::FRAME_HEAD;
 
-/// A number, or a variable of the newest frame by its index there.
+/// A number, a variable of the newest frame, or one of the main block's frame, by its index there.
 #[derive(Clone, Copy)]
 pub enum Operand {
     Number(i64),
     Variable(usize),
+    Main(usize),
 }
 
 /// A comparison of two operands.
@@ -56,7 +57,7 @@ pub fn is_marked(marked: Option<&[bool]>, at: usize) -> bool
     }
 }
 
-/// Returns the number that an operand stands for in a frame that begins at `base`.
+/// Returns the number that an operand stands for where the newest frame begins at `base`. The main block's begins at 0.
 #[inline(always)]
 fn number_of(cells: &[i64], base: usize, operand: Operand) -> i64
     requires { IsInFrame cells.now base operand }
@@ -65,10 +66,11 @@ fn number_of(cells: &[i64], base: usize, operand: Operand) -> i64
     match operand {
         Operand::Number(number) => number,
         Operand::Variable(index) => cells[base + FRAME_HEAD + index],
+        Operand::Main(index) => cells[FRAME_HEAD + index],
     }
 }
 
-/// Whether a comparison holds in a frame that begins at `base`.
+/// Whether a comparison holds where the newest frame begins at `base`.
 #[inline(always)]
 fn holds(cells: &[i64], base: usize, asked: &Comparison) -> bool
     requires { AreInFrame cells.now base asked.now }
