@@ -110,7 +110,7 @@ module _ (laws : FramesAreLinked) (plan : Option Listed) where
     where
       can_all : (asked : Listed) (are : AreMarksOf asked marks) (m : Standing) → IsPlanOf m.unit asked → (n : ℕ)
           → IsNext (program m) (top_of (frames m)) n → (o : Option Comparison)
-          → slice_index_or marks.asked.items n None ≡ o → CanAsk (top_of (frames m)) o
+          → slice_index_or marks.asked.items n None ≡ o → CanAsk (frames m) o
       can_all asked are m is n next None e = tt
       can_all asked are m is n next (Some q) e =
           can_ask laws m asked is n next q (are.asked.each n q (read_is marks.asked.items n q e))
@@ -134,14 +134,14 @@ module _ (laws : FramesAreLinked) (plan : Option Listed) where
       same_entry a b e = cc
 
       by_asked : (o : Option Comparison) → slice_index_or marks.asked.items next.step None ≡ o
-          → IsMet (top_of (frames m)) true o false → has_arrival (plain_breakpoints asked.breakpoints) m ≡ false
+          → IsMet (frames m) true o false → has_arrival (plain_breakpoints asked.breakpoints) m ≡ false
       by_asked None e met = let other : false ≡ true = met in cc
       by_asked (Some q) e met =
           unmet laws m asked is next.step next.next q
           (watches.2.asked.each next.step q (read_is marks.asked.items next.step q e)) met
 
       by_mark : (marked : Bool) → slice_get marks.marked.items unmarked.0 ≡ Some marked
-          → IsMet (top_of (frames m)) marked (slice_index_or marks.asked.items next.step None) false
+          → IsMet (frames m) marked (slice_index_or marks.asked.items next.step None) false
           → has_arrival (plain_breakpoints asked.breakpoints) m ≡ false
       by_mark false at met =
           let has_one =

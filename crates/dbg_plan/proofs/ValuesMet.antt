@@ -147,4 +147,4 @@ pub tested_here : (m : Standing) (b : Breakpoint) (guard : BoundCondition) (dept
     → IsTested (program m) (frames m) (depth - 1) guard
 tested_here m b guard depth here is linked e =
     let bound = subst (λ g. IsBoundAt (program m) b.step g) is here.bound in
-    is_tested (program m) (frames m) b.step (depth - 1) guard linked here.next bound (ap (λ n. n - 1) e)
+    is_tested (program m) (frames m) b.step (depth - 1) guard linked here.next bound.0 (ap (λ n. n - 1) e)

@@ -1,5 +1,5 @@
 -- The conditions that the machine evaluates in its loop, as conditions with located names.
-use Rattle.std.specs.Prelude.{◌≡◌, List, [], ◌∷◌, Some}
+use Rattle.std.specs.Prelude.{◌≡◌, ℕ, List, [], ◌∷◌, Some}
 use Rattle.dbg_plan.specs.declared.breakpoint.BoundCondition.{BoundCondition}
 use Rattle.dbg_plan.specs.declared.breakpoint.Breakpoint.{Breakpoint}
 use Rattle.pl0_machine.specs.declared.mark.Comparison.{Comparison}
@@ -10,18 +10,20 @@ use Rattle.dbg_plan.specs.declared.located.LocatedExpression.TheVariants.{Number
 use Rattle.dbg_plan.specs.declared.located.LocatedCondition.{LocatedCondition}
 use Rattle.dbg_plan.specs.declared.located.LocatedCondition.TheVariants.{Compare}
 
--- a variable of the frame itself is no static link away
-abbrev pub expression_of : Operand → LocatedExpression
-expression_of (operand.Number n) = Number n
-expression_of (operand.Variable k) = Variable 0 k
+-- In a block around which this many blocks are, a variable of the frame itself is no static link away, and one of the
+-- main block's frame as many as there are blocks around.
+abbrev pub expression_of : ℕ → Operand → LocatedExpression
+expression_of depth (operand.Number n) = Number n
+expression_of depth (operand.Variable k) = Variable 0 k
+expression_of depth (operand.Main k) = Variable depth k
 
-abbrev pub condition_of : Comparison → LocatedCondition
-condition_of c = Compare c.relation (expression_of c.left) (expression_of c.right)
+abbrev pub condition_of : ℕ → Comparison → LocatedCondition
+condition_of depth c = Compare c.relation (expression_of depth c.left) (expression_of depth c.right)
 
--- there is one breakpoint, and the comparison is its condition
+-- there is one breakpoint, and the comparison is what is asked of the machine for its condition
 pub record IsOnlyOne (breakpoints : List Breakpoint) (c : Comparison) : Type 0 where
   pub breakpoint : Breakpoint
   pub guard : BoundCondition
   pub one : breakpoints ≡ breakpoint ∷ []
   pub guarded : breakpoint.condition ≡ Some guard
-  pub is : guard.located ≡ condition_of c
+  pub asked : guard.asked ≡ Some c

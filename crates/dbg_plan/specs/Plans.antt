@@ -1,5 +1,5 @@
 -- Plans: breakpoints in the order asked.
-use Rattle.std.specs.Prelude.{◌≡◌, ℕ, ◌+◌, ◌<◌, ◌≤◌, Bool, false, nat_eq, All, List, [], ◌∷◌, length, map, filter, slice_get, Option, Some, None, option_and_then}
+use Rattle.std.specs.Prelude.{◌≡◌, ℕ, ◌+◌, ◌<◌, ◌≤◌, Bool, false, nat_eq, All, List, [], ◌∷◌, length, map, filter, slice_get, Option, Some, None, IfSome, option_and_then}
 use Rattle.std.specs.Option.{option_map_or}
 use Rattle.std.specs.List.{list_any}
 use Rattle.pl0_tree.specs.Tree.{Block}
@@ -15,6 +15,7 @@ use Rattle.dbg_plan.specs.declared.message.LogMessage.{LogMessage}
 use Rattle.dbg_plan.specs.Messages.{Part, Message}
 use Rattle.dbg_plan.specs.Breakpoints.{Breakpoint as PlainBreakpoint, plain_breakpoints}
 use Rattle.dbg_plan.specs.Bound.{IsConditionBound, ArePartsBound}
+use Rattle.dbg_plan.specs.Comparisons.{condition_of}
 
 -- What contracts see of a plan: for how many steps it was made, its breakpoints in the order asked, and for each
 -- address of the code whether the step that begins there has one.
@@ -57,10 +58,12 @@ has_breakpoint breakpoints (Some step) = list_any (is_of step) breakpoints
 unfoldable pub watched_lines : List Breakpoint → List (Option ℕ) → List Bool
 watched_lines breakpoints lines = map (has_breakpoint breakpoints) lines
 
--- a condition is bound to the names of the block of step n
+-- A condition is bound to the names of the block of step n. What the machine is asked for it, if anything, is the same.
 abbrev pub IsBoundAt : Block → ℕ → Option BoundCondition → Type 0
 IsBoundAt main n None = Unit {0}
-IsBoundAt main n (Some c) = IsConditionBound main (step_path main n) (plain_condition c.condition) c.located
+IsBoundAt main n (Some c) =
+    IsConditionBound main (step_path main n) (plain_condition c.condition) c.located
+    × IfSome c.asked (λ q. c.located ≡ condition_of (length (step_path main n)) q)
 
 -- so are the expressions of a message
 abbrev pub IsMessageBoundAt : Block → ℕ → Option LogMessage → Type 0

@@ -6,6 +6,7 @@ ghost use Rattle.dbg_plan.specs.ReadsAs.{ReadsAs};
 
 use crate::located::LocatedCondition;
 use crate::message::LogMessage;
+use pl0_machine::Comparison;
 use pl0_tree::{Condition, StepNumber};
 
 /// The most breakpoints that a plan may have.
@@ -26,6 +27,8 @@ pub struct BoundCondition {
     pub text: String,
     pub condition: Condition,
     pub located: LocatedCondition,
+    /// The condition as the machine asks it in its loop, if it can.
+    pub asked: Option<Comparison>,
     // The condition is what the text reads as.
     pub ghost reads: { ∥ ReadsAs (string_bytes text) (plain_condition condition) ∥₁ },
 }

@@ -13,6 +13,7 @@ ghost use Rattle.dbg_plan.specs.Resolving.{IsBoundConditionOf, ResolvesLine};
 
 use crate::binding::bind_condition;
 use crate::breakpoint::{BoundCondition, Breakpoint};
+use crate::comparison::comparison_at;
 use crate::messages::{MessageFault, read_message};
 use crate::plan::Plan;
 use crate::rule::{BadHitCondition, read_rule};
@@ -180,10 +181,12 @@ fn bind(
 {
     let number = unit.steps[step].block;
     let located = bind_condition(alloc, names, number, &condition)?;
+    let asked = comparison_at(unit, step, &located);
     let text = String::from_str(alloc, text)?;
     Ok(BoundCondition {
         text,
         condition,
         located,
+        asked,
     })
 }

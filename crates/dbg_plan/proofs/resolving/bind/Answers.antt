@@ -20,9 +20,11 @@ bind_condition-requires c =
 
 pub returns-clause-bound : goal.returns-clause-bound
 returns-clause-bound c =
-    let bound = rw c.requires.names at c.in_ok-located.ensures in
-    bound (step_path (program_of c.args.unit.now) c.args.step)
-    (block_at c.args.unit.now c.args.step c.index.result.now c.requires.within c.index.ensures)
+    let bound = rw c.requires.names at c.in_ok-located.ensures in (
+      bound (step_path (program_of c.args.unit.now) c.args.step)
+          (block_at c.args.unit.now c.args.step c.index.result.now c.requires.within c.index.ensures),
+      c.comparison_at-asked.ensures,
+    )
 
 pub returns-clause-text : goal.returns-clause-text
 returns-clause-text c =
