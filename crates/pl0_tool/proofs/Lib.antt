@@ -20,3 +20,5 @@ pub mod LinesOfText
 pub mod ListedCode
 -- the table of a trace, part by part
 pub mod TableText
+-- the command line that the calls of clap make, and its options' numbers
+mod CommandLine

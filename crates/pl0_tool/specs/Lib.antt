@@ -1,4 +1,6 @@
 -- What public contracts cite.
+-- the command line, and what it asks for
+pub mod Arguments
 -- what a run writes, and how it ends
 pub mod Running
 -- the program of a text

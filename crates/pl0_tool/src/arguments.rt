@@ -1,5 +1,10 @@
 //! What the command line asks for, as `clap` reads it.
 
+ghost use Rattle.std.specs.Prelude.{◌≡◌, IfOk, map, false, [], codes, unwrap_or};
+ghost use Rattle.clap.specs.Lexer.{usize_max};
+ghost use Rattle.clap.specs.Words.{all_of, app_of, found_of, one_of, rows_of, rule_of};
+ghost use Rattle.pl0_tool.specs.Arguments.{IsParsed, command_line, files, machine_flag, number_option, most_steps, one_file, IsNumber, IsTask};
+
 use clap::builder::ValueParser;
 use clap::{Arg, ArgAction, ArgMatches, Command, Error};
 use std::alloc::{AllocError, Global};
@@ -48,37 +53,88 @@ Exit status:
 /// # Errors
 ///
 /// What `clap` says of arguments that ask for nothing, or for help or the version.
-pub fn parse_arguments<'a>(alloc: Global, arguments: &'a [&'a str]) -> Result<Request<'a>, Error> {
+pub fn parse_arguments<'a>(alloc: Global, arguments: &'a [&'a str]) -> Result<Request<'a>, Error>
+    ensures { IsParsed (map (λ argument. argument.now) arguments.entry.now) result }
+{
     let matches = command_line(alloc)?.try_get_matches_from(arguments)?;
-    asked_for(alloc, &matches)
-}
-
-/// What matches ask for.
-fn asked_for<'a>(alloc: Global, matches: &ArgMatches<'a>) -> Result<Request<'a>, Error> {
-    let mut request = Request {
-        task: Task::Check,
-        files: Vec::new(alloc),
-    };
-    if let Some((name, given)) = matches.subcommand() {
-        for file in given.get_strs("FILE").unwrap_or(&[]) {
-            request.files.push(*file)?;
-        }
-        request.task = match name {
-            "run" => Task::Run,
-            "list" => Task::List,
-            "trace" => Task::Trace {
-                from: given.get_one("from").unwrap_or(0),
-                steps: given.get_one("steps").unwrap_or(STEPS) as usize,
-                drawn: given.get_flag("machine"),
-            },
-            _ => Task::Check,
-        };
+    match matches.subcommand() {
+        Some((name, given)) => Ok(asked_for(alloc, name, given)?),
+        None => unreachable!(),
     }
-    Ok(request)
 }
 
-/// The command line, with the help and the version that `clap` adds.
-fn command_line<'a>(alloc: Global) -> Result<Command<'a>, AllocError> {
+/// Returns what the command of this name asks for, by its matches.
+///
+/// # Errors
+///
+/// Out of memory.
+fn asked_for<'a>(
+    alloc: Global,
+    name: &str,
+    given: &ArgMatches<'a>,
+) -> Result<Request<'a>, AllocError>
+    ensures task { IfOk result (λ asked. IsTask name.now (rows_of (found_of given.now)) asked.task) }
+    ensures files { IfOk result (λ asked. map (λ file. file.now) asked.files.items
+        ≡ unwrap_or (all_of (codes "FILE") (rows_of (found_of given.now))) []) }
+{
+    let mut files = Vec::new(alloc);
+    for file in given.get_strs("FILE").unwrap_or(&[]) {
+        files.push(*file)?;
+    }
+    Ok(Request {
+        task: task_of(name, given),
+        files,
+    })
+}
+
+/// Returns the task of the command of this name.
+fn task_of(name: &str, given: &ArgMatches<'_>) -> Task
+    ensures { IsTask name.now (rows_of (found_of given.now)) result }
+{
+    match name {
+        "run" => Task::Run,
+        "list" => Task::List,
+        "trace" => Task::Trace {
+            from: number(given, "from", 0),
+            steps: number(given, "steps", STEPS) as usize,
+            drawn: given.get_flag("machine"),
+        },
+        _ => Task::Check,
+    }
+}
+
+/// Returns the number that an option was given, or another one.
+fn number(given: &ArgMatches<'_>, name: &str, default: u64) -> u64
+    ensures { IsNumber default (one_of name.now (rows_of (found_of given.now))) result }
+{
+    given.get_one(name).unwrap_or(default)
+}
+
+/// Returns the command line, to which `clap` adds its help and the version.
+///
+/// # Errors
+///
+/// Out of memory.
+fn command_line<'a>(alloc: Global) -> Result<Command<'a>, AllocError>
+    ensures { IfOk result (λ command. app_of command ≡ command_line) }
+{
+    let run = Command::new(alloc, "run")
+        .about("Run a program: each number that it writes is a line")
+        .arg(one_file(alloc))?;
+    let trace = Command::new(alloc, "trace")
+        .about(
+            "Tell a run step by step: place, source, what is written, and the frames before the step",
+        )
+        .arg(one_file(alloc))?
+        .arg(from(alloc))?
+        .arg(steps(alloc))?
+        .arg(machine(alloc))?;
+    let check = Command::new(alloc, "check")
+        .about("Tell the first mistake of each text, as FILE:LINE:COLUMN: error: ..")
+        .arg(files(alloc))?;
+    let list = Command::new(alloc, "list")
+        .about("List the machine's code under each line of a program")
+        .arg(one_file(alloc))?;
     Command::new(alloc, "pl0")
         .version("1.0.0")
         .about(
@@ -86,65 +142,68 @@ fn command_line<'a>(alloc: Global) -> Result<Command<'a>, AllocError> {
         )
         .after_help(STATUSES)
         .subcommand_required(true)
-        .subcommand(of_file(
-            alloc,
-            "run",
-            "Run a program: each number that it writes is a line",
-        )?)?
-        .subcommand(tracing(alloc)?)?
-        .subcommand(of_files(alloc)?)?
-        .subcommand(of_file(
-            alloc,
-            "list",
-            "List the machine's code under each line of a program",
-        )?)
+        .subcommand(run)?
+        .subcommand(trace)?
+        .subcommand(check)?
+        .subcommand(list)
 }
 
-/// A command for one file.
-fn of_file<'a>(alloc: Global, name: &'a str, about: &'a str) -> Result<Command<'a>, AllocError> {
-    let file = Arg::new(alloc, "FILE")
+/// Returns the argument for the file that a command is for.
+fn one_file<'a>(alloc: Global) -> Arg<'a>
+    ensures rule { rule_of result ≡ one_file }
+    ensures own { result.global ≡ false }
+{
+    Arg::new(alloc, "FILE")
         .required(true)
         .action(ArgAction::Set)
-        .help("The program's text; - is standard input");
-    Command::new(alloc, name).about(about).arg(file)
+        .help("The program's text; - is standard input")
 }
 
-/// The command that traces a program.
-fn tracing<'a>(alloc: Global) -> Result<Command<'a>, AllocError> {
-    let from = Arg::new(alloc, "from")
+/// Returns the argument for the files that are checked, one or more.
+fn files<'a>(alloc: Global) -> Arg<'a>
+    ensures rule { rule_of result ≡ files }
+    ensures own { result.global ≡ false }
+{
+    Arg::new(alloc, "FILE")
+        .required(true)
+        .action(ArgAction::Append)
+        .num_args(1..)
+        .help("Texts of programs; - is standard input")
+}
+
+/// Returns the option for the position at which a trace begins.
+fn from<'a>(alloc: Global) -> Arg<'a>
+    ensures rule { rule_of result ≡ number_option (codes "from") 0 usize_max }
+    ensures own { result.global ≡ false }
+{
+    Arg::new(alloc, "from")
         .long("from")
         .value_name("N")
         .value_parser(ValueParser::unsigned(0, u64::MAX))
-        .help("The position to begin at; 0 if not given");
-    let steps = Arg::new(alloc, "steps")
+        .help("The position to begin at; 0 if not given")
+}
+
+/// Returns the option for how many positions are traced.
+fn steps<'a>(alloc: Global) -> Arg<'a>
+    ensures rule { rule_of result ≡ number_option (codes "steps") 1 most_steps }
+    ensures own { result.global ≡ false }
+{
+    Arg::new(alloc, "steps")
         .long("steps")
         .value_name("N")
         .value_parser(ValueParser::unsigned(1, MOST_STEPS))
-        .help("How many steps to tell, 65,536 at most; 100 if not given");
-    let machine = Arg::new(alloc, "machine")
+        .help("How many steps to tell, 65,536 at most; 100 if not given")
+}
+
+/// Returns the flag by which the machine is drawn.
+fn machine<'a>(alloc: Global) -> Arg<'a>
+    ensures rule { rule_of result ≡ machine_flag }
+    ensures own { result.global ≡ false }
+{
+    Arg::new(alloc, "machine")
         .long("machine")
         .action(ArgAction::SetTrue)
         .help(
             "Show the machine: P, B and T, and of each frame its first cell, links and return address",
-        );
-    of_file(
-        alloc,
-        "trace",
-        "Tell a run step by step: place, source, what is written, and the frames before the step",
-    )?
-    .arg(from)?
-    .arg(steps)?
-    .arg(machine)
-}
-
-/// The command that checks files.
-fn of_files<'a>(alloc: Global) -> Result<Command<'a>, AllocError> {
-    let files = Arg::new(alloc, "FILE")
-        .required(true)
-        .action(ArgAction::Append)
-        .num_args(1..)
-        .help("Texts of programs; - is standard input");
-    Command::new(alloc, "check")
-        .about("Tell the first mistake of each text, as FILE:LINE:COLUMN: error: ..")
-        .arg(files)
+        )
 }
