@@ -312,8 +312,8 @@ report_begins_again laws t run r past goes is =
 pub stopped_in : (b : Bool) (r : Reported) (o : SliceOutcome) → Stops o → Carries b r o
     → r.debuggee ≡ Some (stopped r (trail_in r.debuggee))
 stopped_in true r (slice.Due reason) stops is = is
-stopped_in true r slice.Held stops is = is
-stopped_in true r (slice.Fault fault) stops is = is
+stopped_in true r slice.Held stops is = absurd is
+stopped_in true r (slice.Fault fault) stops is = absurd is
 stopped_in false r (slice.Due reason) stops is = is
 stopped_in false r slice.Held stops is = is
 stopped_in false r (slice.Fault fault) stops is = is

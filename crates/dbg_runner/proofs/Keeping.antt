@@ -102,4 +102,7 @@ carried_considered back r d kept carries is = by_outcome back r.outcome refl car
     by_outcome : (b : Bool) (e : SliceOutcome) → e ≡ r.outcome → Carries b r e → IsConsidered d
     by_outcome true out.NoMemory same carries =
         let it : carries.0 ≡ d = cc in subst (λ (d : Debugged). IsConsidered d) it carries.2.considered
+    by_outcome true out.Held same carries = absurd carries
+    by_outcome true out.Done same carries = absurd carries
+    by_outcome true (out.Fault fault) same carries = absurd carries
     by_outcome _ e same carries = where_it_ends r d kept is (carries ∙ ap (λ e. carried r e) same)

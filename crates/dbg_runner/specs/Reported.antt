@@ -108,17 +108,22 @@ pub data Whereabouts : Type 0 where
 abbrev pub whereabouts : SliceOutcome → Whereabouts
 whereabouts out.More = BesideReport
 whereabouts out.Done = Nowhere
-whereabouts _ = InReport
+whereabouts (out.Due reason) = InReport
+whereabouts out.Held = InReport
+whereabouts (out.Fault fault) = InReport
+whereabouts out.NoMemory = InReport
 
 -- the debuggee, if it is in the report
 abbrev pub in_report : Whereabouts → Debugged → Option Debugged
 in_report InReport d = Some d
-in_report _ d = None
+in_report BesideReport d = None
+in_report Nowhere d = None
 
 -- the debuggee, if it is beside the report
 abbrev pub beside_report : Whereabouts → Debugged → Option Debugged
 beside_report BesideReport d = Some d
-beside_report _ d = None
+beside_report InReport d = None
+beside_report Nowhere d = None
 
 -- the trail of a debuggee, if there is one
 abbrev pub trail_in : Option Debugged → Trail
@@ -136,7 +141,13 @@ pub record IsOnItsWay (r : Reported) (d : Debugged) : Type 0 where
   pub before : d.position ≤ r.start
   pub considered : IsConsidered d
 
--- What a report carries: the debuggee where it ends. A run that goes back and finds no memory gives it up on its way.
+-- What a report carries: the debuggee where it ends. A run that goes back and finds no memory gives it up on its way;
+-- it isn't held, comes to no end of the program, and meets no fault.
 abbrev pub Carries : Bool → Reported → SliceOutcome → Type 0
+Carries false r outcome = r.debuggee ≡ carried r outcome
+Carries true r out.More = r.debuggee ≡ carried r out.More
+Carries true r (out.Due reason) = r.debuggee ≡ carried r (out.Due reason)
 Carries true r out.NoMemory = (d : Debugged) × (r.debuggee ≡ Some d) × IsOnItsWay r d
-Carries back r outcome = r.debuggee ≡ carried r outcome
+Carries true r out.Held = ⊥
+Carries true r out.Done = ⊥
+Carries true r (out.Fault fault) = ⊥

@@ -121,8 +121,13 @@ RanBack old (Some reason) new =
     × (goal_of (program_of old.unit) old.breakpoints old.mode old.start ≡ Some
     (record { position = new.position; reason = reason }))
 
--- The run after a slice, if it goes on. Then the slice ran all its steps again, wherever they led.
+-- The run after a slice, if it goes on. Then the slice ran all its steps again, wherever they led. Such a run isn't
+-- held, comes to no end of the program, and meets no fault.
 abbrev pub GoesOnBack : Retreating → SliceOutcome → Option Retreating → Type 0
 GoesOnBack b out.More (Some on) = on ≡ further b (b.again + slice_limit) on.position
 GoesOnBack b out.More None = ⊥
-GoesOnBack b outcome on = on ≡ None
+GoesOnBack b (out.Due reason) on = on ≡ None
+GoesOnBack b out.NoMemory on = on ≡ None
+GoesOnBack b out.Held on = ⊥
+GoesOnBack b out.Done on = ⊥
+GoesOnBack b (out.Fault fault) on = ⊥
