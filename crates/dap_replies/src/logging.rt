@@ -2,7 +2,7 @@
 
 ghost use Rattle.std.specs.Prelude.{◌≡◌, ◌++◌, [], OnOk, IsOk, option_map};
 ghost use Rattle.std.specs.Arc.{arc_value};
-ghost use Rattle.dbg_plan.specs.PlainParts.{plain_parts};
+ghost use Rattle.dbg_plan.specs.Messages.{plain_parts};
 ghost use Rattle.dbg_plan.specs.Plans.{breakpoints_of, parts_at};
 ghost use Rattle.dap_history.specs.Replies.{log_events};
 

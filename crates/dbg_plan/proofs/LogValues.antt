@@ -20,8 +20,7 @@ use Rattle.dbg_plan.specs.declared.message.Part.TheVariants as part
 use Rattle.dbg_plan.specs.declared.message.LogMessage.{LogMessage}
 use Rattle.dbg_plan.specs.declared.breakpoint.Breakpoint.{Breakpoint}
 use Rattle.dbg_plan.specs.Bound.{IsExpressionBound, ArePartsBound}
-use Rattle.dbg_plan.specs.Messages.{expressions, expression_limit}
-use Rattle.dbg_plan.specs.PlainParts.{plain_part, plain_parts}
+use Rattle.dbg_plan.specs.Messages.{expressions, expression_limit, plain_part, plain_parts}
 use Rattle.dbg_plan.specs.Breakpoints.{plain_message}
 use Rattle.dbg_plan.specs.Logs.{Log, log_in}
 use Rattle.dbg_plan.specs.Counting.{log_now}

@@ -16,8 +16,7 @@ use Rattle.dbg_plan.specs.declared.message.Part.TheVariants as part
 use Rattle.dbg_plan.specs.declared.messages.MessageFault.{MessageFault}
 use Rattle.dbg_plan.specs.declared.messages.MessageFault.TheVariants.{Bad, NoMemory}
 use Rattle.dbg_plan.specs.MessageFaults.{UnlessNoMemory}
-use Rattle.dbg_plan.specs.Messages.{Part, Text, Value, expressions, expression_limit, Lacks, braced, ReadsParts, IsMessageOf, ReadsAsExpression, ReadsAsParts}
-use Rattle.dbg_plan.specs.PlainParts.{plain_part, plain_parts}
+use Rattle.dbg_plan.specs.Messages.{Part, Text, Value, expressions, expression_limit, Lacks, braced, ReadsParts, IsMessageOf, ReadsAsExpression, ReadsAsParts, plain_part, plain_parts}
 use Rattle.dbg_plan.specs.Bound.{ArePartsBound}
 use Rattle.dbg_plan.proofs.MessageParts.{IsReadTo, one_further, continues, unclosed, some_value, reads_more, count-append}
 

@@ -7,8 +7,7 @@ use Rattle.std.proofs.lemmas.Slice.Eq.{bytes_eq-Decides}
 use Rattle.pl0_tree.specs.Tree.{Expression}
 use Rattle.pl0_tree.specs.Unique.{expression_text_once}
 use Rattle.dbg_plan.specs.declared.message.LogMessage.{LogMessage}
-use Rattle.dbg_plan.specs.Messages.{Part, Message, ReadsAsExpression, ReadsAsParts}
-use Rattle.dbg_plan.specs.PlainParts.{plain_parts}
+use Rattle.dbg_plan.specs.Messages.{Part, Message, ReadsAsExpression, ReadsAsParts, plain_parts}
 use Rattle.dbg_plan.specs.Breakpoints.{plain_message, part_code}
 use Rattle.dbg_plan.proofs.MessageParts.{parts_once}
 

@@ -12,8 +12,7 @@ use Rattle.dbg_plan.specs.declared.breakpoint.Rule.TheVariants.{From, Every}
 use Rattle.dbg_plan.specs.declared.breakpoint.BoundCondition.{BoundCondition}
 use Rattle.dbg_plan.specs.declared.breakpoint.Breakpoint.{Breakpoint as DeclaredBreakpoint}
 use Rattle.dbg_plan.specs.declared.message.LogMessage.{LogMessage}
-use Rattle.dbg_plan.specs.Messages.{Part, Text, Value, Message}
-use Rattle.dbg_plan.specs.PlainParts.{plain_parts}
+use Rattle.dbg_plan.specs.Messages.{Part, Text, Value, Message, plain_parts}
 
 -- a condition's text, and what it reads as
 pub record TextCondition : Type 0 where

@@ -5,6 +5,8 @@ pub mod Messages
 pub mod Breakpoints
 -- breakpoints in the order asked
 pub mod Plans
+-- expressions whose names were looked up: those of a plan, by `IsPlanOf`, on which no promise rests
+pub mod Bound
 -- what a condition's text reads as
 pub mod ReadsAs
 -- what the lines that an editor asks for are resolved to
@@ -26,10 +28,6 @@ pub mod Values
 -- where going back leads
 pub mod Retreat
 -- What only proofs and inner contracts cite.
--- the parts of a message as data
-pub mod PlainParts
--- expressions whose names were looked up
-pub mod Bound
 -- what is known when a line is resolved
 pub mod Resolving
 -- what a fault says of a text that is no message

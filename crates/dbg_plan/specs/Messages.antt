@@ -1,16 +1,27 @@
 -- The messages of log points: texts with expressions in braces.
-use Rattle.std.specs.Prelude.{◌≡◌, ◌≢◌, ℕ, ◌≤◌, All, List, [], ◌∷◌, ◌++◌, length, codes}
+use Rattle.std.specs.Prelude.{◌≡◌, ◌≢◌, ℕ, ◌≤◌, All, List, [], ◌∷◌, ◌++◌, length, map, codes, string_bytes}
 use Rattle.pl0_tree.specs.declared.tree.Place.{Place}
 use Rattle.pl0_tree.specs.Tree.{Block, Expression}
 use Rattle.pl0_tree.specs.Tokens.{EndOfText, tokens_of}
 use Rattle.pl0_tree.specs.Reading.{at, ReadsExpression}
 use Rattle.pl0_tree.specs.Scope.{Path}
 use Rattle.pl0_tree.specs.Faults.{level_limit, IsExpressionOf}
+use Rattle.pl0_tree.specs.Plain.{plain_expression}
+use Rattle.dbg_plan.specs.declared.message.Part.{Part as DeclaredPart}
+use Rattle.dbg_plan.specs.declared.message.Part.TheVariants as declared
 
 -- bytes that stand for themselves, or an expression
 pub data Part : Type 0 where
   Text : List ℕ → Part
   Value : Expression → Part
+
+-- the parts that the code keeps, as data
+abbrev pub plain_part : DeclaredPart → Part
+plain_part (declared.Text text) = Text (string_bytes text)
+plain_part (declared.Value e) = Value (plain_expression e.expression)
+
+abbrev pub plain_parts : List DeclaredPart → List Part
+plain_parts parts = map plain_part parts
 
 -- a text, and the parts that it reads as
 pub record Message : Type 0 where

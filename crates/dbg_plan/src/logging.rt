@@ -4,8 +4,7 @@ ghost use Rattle.std.specs.Prelude.{◌≡◌, ◌+◌, ◌<◌, ◌≤◌, ◌+
 ghost use Rattle.dbg_plan.specs.Counting.{IsMetHere, log_now};
 ghost use Rattle.dbg_plan.specs.Debugged.{IsRunning};
 ghost use Rattle.dbg_plan.specs.Logs.{value_text, filled, log_text as text_of};
-ghost use Rattle.dbg_plan.specs.Messages.{Part as PlainPart, expressions, expression_limit};
-ghost use Rattle.dbg_plan.specs.PlainParts.{plain_part, plain_parts};
+ghost use Rattle.dbg_plan.specs.Messages.{Part as PlainPart, expressions, expression_limit, plain_part, plain_parts};
 ghost use Rattle.dbg_plan.specs.Plans.{breakpoint_limit};
 ghost use Rattle.dbg_plan.specs.Reads.{ReadsPart};
 ghost use Rattle.dbg_plan.specs.Values.{answered};

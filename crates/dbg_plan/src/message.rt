@@ -1,8 +1,7 @@
 //! The messages of log points.
 
 ghost use Rattle.std.specs.Prelude.{◌≤◌, length, string_bytes};
-ghost use Rattle.dbg_plan.specs.PlainParts.{plain_parts};
-ghost use Rattle.dbg_plan.specs.Messages.{expressions, expression_limit, ReadsAsParts};
+ghost use Rattle.dbg_plan.specs.Messages.{expressions, expression_limit, ReadsAsParts, plain_parts};
 
 use crate::located::LocatedExpression;
 use pl0_tree::Expression;

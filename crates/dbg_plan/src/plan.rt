@@ -4,7 +4,7 @@ ghost use Rattle.std.specs.Prelude.{◌≡◌, ◌+◌, ◌<◌, ◌^◌, [], Al
 ghost use Rattle.std.specs.Arc.{arc_value};
 ghost use Rattle.std.specs.Option.{option_map_or};
 ghost use Rattle.dbg_plan.specs.Breakpoints.{plain_breakpoint};
-ghost use Rattle.dbg_plan.specs.PlainParts.{plain_parts};
+ghost use Rattle.dbg_plan.specs.Messages.{plain_parts};
 ghost use Rattle.dbg_plan.specs.Plans.{breakpoints_of};
 
 use crate::breakpoint::Breakpoint;
@@ -46,7 +46,7 @@ impl Model for Plan {
 impl Plan {
     ghost use Rattle.std.specs.Prelude.{Decides};
     ghost use Rattle.dbg_plan.specs.Breakpoints.{plain_breakpoints};
-    ghost use Rattle.dbg_plan.specs.PlainParts.{plain_parts};
+    ghost use Rattle.dbg_plan.specs.Messages.{plain_parts};
     ghost use Rattle.dbg_plan.specs.Plans.{those_of, watched_lines, parts_at, IsNumbered};
     ghost use Rattle.dbg_plan.specs.Table.{AreMarksOf};
 

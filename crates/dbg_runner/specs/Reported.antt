@@ -1,6 +1,7 @@
 -- What contracts see of a report, and what it is as data.
-use Rattle.std.specs.Prelude.{◌≡◌, ℕ, ◌+◌, ◌≤◌, Bool, true, false, [], List, Option, Some, None, ℤ}
+use Rattle.std.specs.Prelude.{◌≡◌, ℕ, ◌+◌, ◌≤◌, Bool, true, false, [], List, length, Option, Some, None, ℤ}
 use Rattle.pl0_unit.specs.declared.unit.Unit.{Unit as Compiled}
+use Rattle.pl0_meaning.specs.Runs.{written}
 use Rattle.pl0_machine.specs.Machine.{program_of}
 use Rattle.dbg_plan.specs.Breakpoints.{Breakpoint}
 use Rattle.dbg_plan.specs.Logs.{Log}
@@ -77,6 +78,31 @@ heading run d mode =
       counted_from = d.counted_from;
       mode = mode;
       start = d.position;
+    }
+
+-- ---- the report of no slice
+
+-- how many numbers were written up to where d stands
+abbrev pub written_before : Debugged → ℕ
+written_before d = length (written (program_of d.unit) 0 d.position)
+
+-- The report that no slice began, which says why by its outcome.
+abbrev pub unsliced : ℕ → Mode → Debugged → SliceOutcome → Reported
+unsliced run mode d outcome =
+    record {
+      run = run;
+      unit = d.unit;
+      plan = d.breakpoints;
+      counted_from = d.counted_from;
+      mode = mode;
+      start = d.position;
+      end = d.position;
+      before = written_before d;
+      again = 0;
+      numbers = [];
+      logs = [];
+      outcome = outcome;
+      debuggee = Some d;
     }
 
 -- ---- the debuggee after a report

@@ -2,8 +2,7 @@ use Rattle.std.proofs.Common.{◌≡◌, ◌-◌, ◌∙◌, ap, subst, map, len
 use Rattle.std.proofs.lemmas.List.{take_all}
 use Rattle.pl0_machine.specs.Machine.{program, frames}
 use Rattle.pl0_meaning.specs.Values.{value}
-use Rattle.dbg_plan.specs.Messages.{expressions}
-use Rattle.dbg_plan.specs.PlainParts.{plain_parts}
+use Rattle.dbg_plan.specs.Messages.{expressions, plain_parts}
 use Rattle.dbg_plan.specs.Plans.{IsMessageBoundAt}
 use Rattle.dbg_plan.proofs.LogValues.{reads_part, room_for, values_more, one_more_value, numbered_log, log_is}
 use Rattle.dbg_plan.proofs.logging.log_of.Goals as goal

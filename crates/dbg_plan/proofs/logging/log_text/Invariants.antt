@@ -1,6 +1,6 @@
 use Rattle.std.proofs.Common.{◌≡◌, ◌++◌, map, drop, string_bytes}
 use Rattle.dbg_plan.specs.Values.{answered}
-use Rattle.dbg_plan.specs.PlainParts.{plain_parts}
+use Rattle.dbg_plan.specs.Messages.{plain_parts}
 use Rattle.dbg_plan.specs.Logs.{filled}
 use Rattle.dbg_plan.proofs.logging.log_text.Given as goal
 

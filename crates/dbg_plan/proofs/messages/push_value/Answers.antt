@@ -1,8 +1,7 @@
 use Rattle.std.proofs.Common.{◌++◌, ◌∷◌, [], ap, ◌∙◌}
 use Rattle.pl0_tree.specs.Plain.{plain_expression}
 use Rattle.dbg_plan.specs.declared.message.Part.TheVariants as part
-use Rattle.dbg_plan.specs.Messages.{Text, Value}
-use Rattle.dbg_plan.specs.PlainParts.{plain_parts}
+use Rattle.dbg_plan.specs.Messages.{Text, Value, plain_parts}
 use Rattle.dbg_plan.proofs.MessageTexts.{two_appended, bound_one}
 use Rattle.dbg_plan.proofs.messages.push_value.Goals as goal
 

@@ -1,8 +1,7 @@
 use Rattle.std.proofs.Common.{sym, subst}
 use Rattle.pl0_tree.specs.Steps.{step_path}
 use Rattle.pl0_machine.specs.Machine.{program_of}
-use Rattle.dbg_plan.specs.Messages.{ReadsAsParts}
-use Rattle.dbg_plan.specs.PlainParts.{plain_parts}
+use Rattle.dbg_plan.specs.Messages.{ReadsAsParts, plain_parts}
 use Rattle.dbg_plan.proofs.MessageTexts.{reads_as}
 use Rattle.dbg_plan.proofs.messages.read_message.Goals as goal
 

@@ -5,8 +5,7 @@ use Rattle.pl0_tree.specs.Plain.{plain_expression}
 use Rattle.pl0_tree.specs.Steps.{step_path}
 use Rattle.pl0_machine.specs.Machine.{program_of}
 use Rattle.dbg_plan.specs.declared.message.Part.TheVariants as part
-use Rattle.dbg_plan.specs.Messages.{Text}
-use Rattle.dbg_plan.specs.PlainParts.{plain_parts}
+use Rattle.dbg_plan.specs.Messages.{Text, plain_parts}
 use Rattle.dbg_plan.proofs.MessageTexts.{lacks, read_on, read_all, ninth, not_closed, not_read, unless_read, one_appended, bound_one}
 use Rattle.dbg_plan.proofs.messages.read_parts.Goals as goal
 
