@@ -84,7 +84,9 @@ reason_of Reverse depth = None
 abbrev pub depth_at : Block → ℕ → ℕ
 depth_at main m = unwrap_or (option_map length (at main m)) 0
 
--- Why position m is due under breakpoints that are counted from position t, if it is.
+-- Why position m is due under breakpoints that are counted from position t, if it is. It is read only where a frame is
+-- alive. Where the program is over, or never comes, no breakpoint is met and `depth_at` is 0, so that all this says is
+-- what the mode says of 0 frames.
 abbrev pub due : Block → List Breakpoint → ℕ → Mode → ℕ → Option Reason
 due main breakpoints t mode m =
     if list_any (stops main t m) breakpoints then Some reason.Breakpoint else reason_of mode (depth_at main m)

@@ -18,7 +18,8 @@ use Rattle.dbg_plan.specs.Bound.{IsConditionBound, ArePartsBound}
 use Rattle.dbg_plan.specs.Comparisons.{condition_of}
 
 -- What contracts see of a plan: for how many steps it was made, its breakpoints in the order asked, and for each
--- address of the code whether the step that begins there has one.
+-- address of the code whether the step that begins there has one. A plan doesn't know its program, so that last list
+-- stands here, and `IsPlanFor` says what it is.
 pub record Listed : Type 0 where
   pub steps : ℕ
   pub breakpoints : List Breakpoint
@@ -77,7 +78,8 @@ AreAtSteps main (b ∷ bs) =
     (b.step < length (steps main)) × IsBoundAt main b.step b.condition × IsMessageBoundAt main b.step b.message
     × AreAtSteps main bs
 
--- the plan was made for a program, beside whose instructions stand these steps
+-- The plan was made for a program, beside whose instructions stand these steps. What `bound` and `watched` say is the
+-- code's own business, and no promise rests on it: `resolve` gives this of a plan, and `set_plan` asks for it.
 pub record IsPlanFor (main : Block) (lines : List (Option ℕ)) (plan : Listed) : Type 0 where
   pub steps : plan.steps ≡ length (steps main)
   pub bound : AreAtSteps main plan.breakpoints
