@@ -9,7 +9,7 @@ use Rattle.dbg_plan.specs.declared.mode.Reason.TheVariants as reason
 use Rattle.dbg_plan.specs.Due.{reason_of, depth_at}
 use Rattle.dbg_plan.specs.Debugged.{IsRunning, IsConsidered, due_now, logs_now}
 use Rattle.dbg_plan.specs.Logs.{Log}
-use Rattle.dbg_plan.specs.Advances.{further}
+use Rattle.dbg_plan.specs.Advances.{considered_at}
 use Rattle.dbg_plan.specs.Counting.{AreCounts, CountsOn, MayBePlanOf}
 use Rattle.dbg_plan.specs.Counts.{IsCounting, debugged_of, plan_of, next_at, next_of}
 
@@ -57,7 +57,8 @@ module _ (d : Inside) (was : IsCounting d) (behind : next_of d ≡ d.machine.pos
       }
 
   pub led : (mode : Mode) (due : Option Reason) → due ≡ (if hit then Some reason.Breakpoint else reason_of mode
-      (depth_at (program machine) machine.position)) → (debugged_of now ≡ further (debugged_of d))
+      (depth_at (program machine) machine.position))
+      → (debugged_of now ≡ considered_at (debugged_of d) ((debugged_of d).position + 1))
       × IsConsidered (debugged_of now) × (due ≡ due_now (debugged_of now) mode) × (logs ≡ logs_now (debugged_of now))
   led mode due told = (
     rw (on, considered) refl,

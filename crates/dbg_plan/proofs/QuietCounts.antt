@@ -13,7 +13,8 @@ use Rattle.dbg_plan.specs.Counts.{IsCounting, debugged_of, plan_of, next_at, nex
 use Rattle.dbg_plan.specs.Kept.{trail_of}
 use Rattle.dbg_plan.specs.Debugged.{Debugged, machine_of, IsNext}
 use Rattle.pl0_machine.specs.Stretches.{ahead}
-use Rattle.dbg_plan.specs.Running.{forward, IsQuiet, RanFrom}
+use Rattle.dbg_plan.specs.Advances.{considered_at}
+use Rattle.dbg_plan.specs.Running.{IsQuiet, RanFrom}
 use Rattle.dbg_plan.specs.Quiet.{Ends, EndsAt, RanByMachine, RanTo, considered_after}
 use Rattle.dbg_plan.proofs.Unwatched.{uncounted}
 use Rattle.dbg_plan.proofs.Further.{was_considered, stays_counting}
@@ -97,7 +98,7 @@ module _ (d : Inside) (was : IsCounting d) (behind : next_of d ≡ d.machine.pos
   }
     where
       by_outcome : (o : Option StepOutcome) → Ends limit (breakpoints_of (plan_of d)) (ahead d.machine ran.steps) o new
-          → EndsAt limit (forward (debugged_of d) ran.steps) o (after o)
+          → EndsAt limit (considered_at (debugged_of d) ((debugged_of d).position + ran.steps)) o (after o)
       by_outcome None ends = (ap (λ m. debugged_of (record d { machine = m; considered = true })) ends.0, ends.1)
       by_outcome (Some (Went written)) ends = (
         ends.0,
@@ -145,7 +146,7 @@ fault_is Over old new fault s = absurd s
 pub faulted : (limit : ℕ) (old new : Debugged) (numbers : List ℤ) (fault : RunFault)
     → RanTo limit old (Some (Fault fault)) new → RanFrom limit old numbers (Some (advance.Fault fault)) new numbers []
 faulted limit old new numbers fault ran =
-    let d = forward old ran.steps in
+    let d = considered_at old (old.position + ran.steps) in
     let stays = stays_there (machine_of d) (machine_of new) (Fault fault) ran.ends.2 fault refl in
     let is = fault_is (outcome_of (machine_of d)) (machine_of d) (machine_of new) fault ran.ends.2 in
     record {

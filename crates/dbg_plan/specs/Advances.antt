@@ -1,5 +1,5 @@
 -- A step, and what is found where it leads.
-use Rattle.std.specs.Prelude.{◌≡◌, ◌+◌, List, [], Some}
+use Rattle.std.specs.Prelude.{◌≡◌, ℕ, ◌+◌, List, [], Some}
 use Rattle.pl0_meaning.specs.Runs.{at, Faults}
 use Rattle.pl0_machine.specs.Machine.{outcome_of}
 use Rattle.dbg_plan.specs.declared.mode.Mode.{Mode}
@@ -8,15 +8,15 @@ use Rattle.dbg_plan.specs.declared.debuggee.Advance.TheVariants.{To, Done, Fault
 use Rattle.dbg_plan.specs.Logs.{Log}
 use Rattle.dbg_plan.specs.Debugged.{Debugged, machine_of, program_of, IsConsidered, due_now, logs_now}
 
--- the debuggee one position further, considered there
-abbrev pub further : Debugged → Debugged
-further d = record d { position = d.position + 1; next = d.position + 1 + 1 }
+-- the debuggee at this position, considered there
+abbrev pub considered_at : Debugged → ℕ → Debugged
+considered_at d position = record d { position = position; next = position + 1 }
 
 -- The step led to a position, which was considered, with what it logs; to the program's end; or nowhere, since it
 -- faults.
 abbrev pub Advanced : Mode → Debugged → Advance → Debugged → List Log → Type 0
 Advanced mode old (To due) new logged =
-    (new ≡ further old) × IsConsidered new × (due ≡ due_now new mode) × (logged ≡ logs_now new)
+    (new ≡ considered_at old (old.position + 1)) × IsConsidered new × (due ≡ due_now new mode) × (logged ≡ logs_now new)
 Advanced mode old Done new logged =
     (new ≡ record old { position = old.position + 1 }) × (at (program_of old) (old.position + 1) ≡ Some [])
     × (logged ≡ [])

@@ -1,5 +1,5 @@
 -- How the quiet steps of a run are taken: first by the machine, and then of the debuggee that has it.
-use Rattle.std.specs.Prelude.{◌≡◌, ℕ, ◌<◌, ◌≤◌, Bool, true, false, List, [], Option, Some, None}
+use Rattle.std.specs.Prelude.{◌≡◌, ℕ, ◌+◌, ◌<◌, ◌≤◌, Bool, true, false, List, [], Option, Some, None}
 use Rattle.pl0_machine.specs.declared.outcome.StepOutcome.{StepOutcome}
 use Rattle.pl0_machine.specs.declared.outcome.StepOutcome.TheVariants.{Went, Done, Fault}
 use Rattle.pl0_machine.specs.declared.mark.Marks.{Marks}
@@ -9,7 +9,8 @@ use Rattle.dbg_plan.specs.Plans.{Listed, listed_of, breakpoints_of}
 use Rattle.dbg_plan.specs.Table.{AreMarksOf}
 use Rattle.dbg_plan.specs.Debugged.{Debugged, machine_of}
 use Rattle.pl0_machine.specs.Stretches.{ahead}
-use Rattle.dbg_plan.specs.Running.{forward, IsQuiet, RanQuietly}
+use Rattle.dbg_plan.specs.Advances.{considered_at}
+use Rattle.dbg_plan.specs.Running.{IsQuiet, RanQuietly}
 
 -- the marks of a plan; none, where there is no plan
 abbrev pub Watches : Option Listed → Option Marks → Type 0
@@ -43,4 +44,5 @@ EndsAt limit d (Some outcome) new =
 
 abbrev pub RanTo : ℕ → Debugged → Option StepOutcome → Debugged → Type 0
 RanTo limit old outcome new =
-    RanQuietly limit old.breakpoints (machine_of old) (λ steps. EndsAt limit (forward old steps) outcome new)
+    RanQuietly limit old.breakpoints (machine_of old)
+    (λ steps. EndsAt limit (considered_at old (old.position + steps)) outcome new)

@@ -10,7 +10,7 @@ use Rattle.dbg_plan.specs.declared.mode.Mode.TheVariants.{Continue}
 use Rattle.dbg_plan.specs.declared.debuggee.Advance.{Advance}
 use Rattle.dbg_plan.specs.Logs.{Log}
 use Rattle.dbg_plan.specs.Debugged.{Debugged, machine_of, IsRunning}
-use Rattle.dbg_plan.specs.Advances.{Advanced}
+use Rattle.dbg_plan.specs.Advances.{considered_at, Advanced}
 
 -- ---- quiet steps
 
@@ -34,10 +34,6 @@ pub record RanQuietly (limit : ℕ) (breakpoints : List Breakpoint) (old : Stand
 
 -- ---- of a debuggee
 
--- the debuggee n positions further, considered there
-abbrev pub forward : Debugged → ℕ → Debugged
-forward d n = record d { position = d.position + n; next = d.position + n + 1 }
-
 -- At the limit nothing is returned, the numbers are the same, and nothing is logged. Before it one more step was taken,
 -- which isn't quiet.
 abbrev pub Closes : ℕ → Debugged → List ℤ → Option Advance → Debugged → List ℤ → List Log → Type 0
@@ -50,4 +46,4 @@ Closes limit d before (Some advance) new after logged =
 abbrev pub RanFrom : ℕ → Debugged → List ℤ → Option Advance → Debugged → List ℤ → List Log → Type 0
 RanFrom limit old before advance new after logged =
     RanQuietly limit old.breakpoints (machine_of old)
-    (λ steps. Closes limit (forward old steps) before advance new after logged)
+    (λ steps. Closes limit (considered_at old (old.position + steps)) before advance new after logged)

@@ -1,11 +1,11 @@
 -- What several lemma files import, from the libraries and from the definitions.
-pub use Rattle.dbg_plan.specs.Advances.{Advanced, further}
+pub use Rattle.dbg_plan.specs.Advances.{Advanced, considered_at}
 pub use Rattle.dbg_plan.specs.Breakpoints.{Breakpoint}
 pub use Rattle.dbg_plan.specs.Debugged.{Debugged, due_now, IsConsidered, IsRunning, logs_now, machine_of, program_of}
 pub use Rattle.dbg_plan.specs.Due.{accepts, arrivals, arrives_in, due, is_hit}
 pub use Rattle.dbg_plan.specs.Logs.{Log, log_at, log_in, logs}
 pub use Rattle.dbg_plan.specs.Retreat.{goal_of, last_due, reversed, stepped_back, Stop, stop_at}
-pub use Rattle.dbg_plan.specs.Running.{Closes, forward, RanFrom}
+pub use Rattle.dbg_plan.specs.Running.{Closes, RanFrom}
 pub use Rattle.dbg_plan.specs.Trail.{floor_of, greatest, Trail}
 pub use Rattle.dbg_plan.specs.declared.debuggee.Advance.{Advance}
 pub use Rattle.dbg_plan.specs.declared.debuggee.Advance.TheVariants.{Done, Fault, To}

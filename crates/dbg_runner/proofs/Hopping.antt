@@ -1,5 +1,5 @@
 -- The steps that a run which goes back runs again.
-use Rattle.dbg_runner.proofs.Common.{add-one, Advance, ap, arith, Block, Bool, Breakpoint, cases_eq, Debugged, Done, due, due_now, false, Fault, forward, further, Hopped, if◌then◌else◌, is_some, IsConsidered, last_due, List, Log, None, Option, program_of, RanFrom, Reason, refl, RunFault, RunsAt, Some, subst, suc, sym, To, zero, ℕ, ℤ, ⊎_elim, ◌+◌, ◌-◌, ◌<◌, ◌∙◌, ◌≡◌, ◌≤◌}
+use Rattle.dbg_runner.proofs.Common.{add-one, Advance, ap, arith, Block, Bool, Breakpoint, cases_eq, considered_at, Debugged, Done, due, due_now, false, Fault, Hopped, if◌then◌else◌, is_some, IsConsidered, last_due, List, Log, None, Option, program_of, RanFrom, Reason, refl, RunFault, RunsAt, Some, subst, suc, sym, To, zero, ℕ, ℤ, ⊎_elim, ◌+◌, ◌-◌, ◌<◌, ◌∙◌, ◌≡◌, ◌≤◌}
 use Rattle.dbg_plan.specs.declared.mode.Mode.TheVariants.{Continue}
 use Rattle.dbg_plan.proofs.Unwatched.{not_due}
 use Rattle.dbg_runner.proofs.Alive.{runs_before, not_over, no_fault}
@@ -15,13 +15,13 @@ module _ (limit : ℕ) (old : Debugged) (runs : RunsAt (program_of old) limit) (
       let k = m - old.position - 1 in
       let there : old.position + k + 1 ≡ m = omega (arith, above) in
       subst (λ n. due (program_of old) old.breakpoints old.counted_from Continue n ≡ None) there
-      (not_due (forward (forward old k) 1) (r.quiet k (omega (arith, above, le))).unmet)
+      (not_due (considered_at old (old.position + k + 1)) (r.quiet k (omega (arith, above, le))).unmet)
 
   pub hops_to_limit : RanFrom limit old before None new after logged → Hopped limit old false new
   hops_to_limit r =
       let w = r.within in
       let far = r.ends.2 in
-      let hopped : Hopped limit old false (forward old r.steps) = record {
+      let hopped : Hopped limit old false (considered_at old (old.position + r.steps)) = record {
         is = refl;
         considered = record { behind = refl; running = r.running };
         more = omega arith;
@@ -37,7 +37,7 @@ module _ (limit : ℕ) (old : Debugged) (runs : RunsAt (program_of old) limit) (
       let w = r.within in
       let short = r.ends.0 in
       let led = r.ends.2 in
-      let there = further (forward old r.steps) in
+      let there = considered_at old (old.position + r.steps + 1) in
       let hopped : Hopped limit old (is_some why) there = record {
         is = refl;
         considered = subst (λ d. IsConsidered d) led.0 led.1;

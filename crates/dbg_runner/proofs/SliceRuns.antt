@@ -1,5 +1,5 @@
 -- How a slice begins: with a run, or with no step.
-use Rattle.dbg_runner.proofs.Common.{[], Advance, Advanced, ap, arith, Closes, Debugged, Done, ending, ending_by, Fault, forward, IsConsidered, IsOfSlice, IsRoomOf, IsWritten, last_position, List, Log, Mode, None, Option, option_and_then, program_of, RanFrom, RanOn, refl, Room, runs, slice_limit, sliced, SliceOutcome, Some, StandsAtEnd, stays, subst, suc, sym, To, TookSteps, written, written_before, written_from, zero, ℕ, ℤ, ◌+◌, ◌-◌, ◌∙◌, ◌∷◌, ◌≡◌, ◌≤◌}
+use Rattle.dbg_runner.proofs.Common.{[], Advance, Advanced, ap, arith, Closes, considered_at, Debugged, Done, ending, ending_by, Fault, IsConsidered, IsOfSlice, IsRoomOf, IsWritten, last_position, List, Log, Mode, None, Option, option_and_then, program_of, RanFrom, RanOn, refl, Room, runs, slice_limit, sliced, SliceOutcome, Some, StandsAtEnd, stays, subst, suc, sym, To, TookSteps, written, written_before, written_from, zero, ℕ, ℤ, ◌+◌, ◌-◌, ◌∙◌, ◌∷◌, ◌≡◌, ◌≤◌}
 use Rattle.dbg_plan.specs.declared.mode.Mode.TheVariants.{Continue}
 use Rattle.dbg_plan.proofs.Unwatched.{not_due, nothing_logged}
 use Rattle.dbg_runner.specs.declared.outcome.SliceOutcome.TheVariants as out
@@ -53,9 +53,9 @@ module _ (start : Debugged) (room : Room) (was : IsConsidered start) (of : IsRoo
 
   -- where the quiet steps led
   abbrev last : Debugged
-  last = forward start r.steps
+  last = considered_at start (start.position + r.steps)
 
-  underway : (k : ℕ) → k ≤ r.steps → Underway Continue start (forward start k) room
+  underway : (k : ℕ) → k ≤ r.steps → Underway Continue start (considered_at start (start.position + k)) room
   underway zero le =
       let e : start.position ≡ start.position + 0 = omega arith in
       subst (λ d. Underway Continue start d room)
@@ -65,10 +65,11 @@ module _ (start : Debugged) (room : Room) (was : IsConsidered start) (of : IsRoo
       let e : start.position + k + 1 ≡ start.position + suc k = omega arith in
       let w = r.within in
       let q = r.quiet k (omega (arith, le)) in
-      let next = forward (forward start k) 1 in
+      let next = considered_at start (start.position + k + 1) in
       subst (λ (p : ℕ). Underway Continue start (record start { position = p; next = p + 1 }) room) e
-      (goes Continue refl start (forward start k) room (underway k (omega (arith, le))) (omega (arith, le, w)) next []
-      room (nothing_more (forward start k) room of.logs q.silent) (To None) (
+      (goes Continue refl start (considered_at start (start.position + k)) room (underway k (omega (arith, le)))
+      (omega (arith, le, w)) next []
+      room (nothing_more (considered_at start (start.position + k)) room of.logs q.silent) (To None) (
         refl,
         record { behind = refl; running = q.running },
         sym (not_due next q.unmet),

@@ -106,15 +106,15 @@ pub record IsRoomFor (room : Room) (b : Retreating) : Type 0 where
   pub logs : room.logs ≡ []
 
 -- the run after it ran more steps again, this many in all
-abbrev pub further : Retreating → ℕ → ℕ → Retreating
-further b again position = record b { again = again; position = position }
+abbrev pub having_run : Retreating → ℕ → ℕ → Retreating
+having_run b again position = record b { again = again; position = position }
 
 -- At most a slice's steps were run again, and all of them where the run doesn't stop. Where it stops, for this reason,
 -- the trail says how many were in all.
 abbrev pub RanBack : Retreating → Option Reason → Retreating → Type 0
-RanBack old None new = new ≡ further old (old.again + slice_limit) new.position
+RanBack old None new = new ≡ having_run old (old.again + slice_limit) new.position
 RanBack old (Some reason) new =
-    (new ≡ further old new.again new.position)
+    (new ≡ having_run old new.again new.position)
     × (old.again ≤ new.again)
     × (new.again ≡ steps_again old.trail.kept old.mode old.start new.position)
     × (new.again ≤ old.again + slice_limit)
@@ -124,7 +124,7 @@ RanBack old (Some reason) new =
 -- The run after a slice, if it goes on. Then the slice ran all its steps again, wherever they led. Such a run isn't
 -- held, comes to no end of the program, and meets no fault.
 abbrev pub GoesOnBack : Retreating → SliceOutcome → Option Retreating → Type 0
-GoesOnBack b out.More (Some on) = on ≡ further b (b.again + slice_limit) on.position
+GoesOnBack b out.More (Some on) = on ≡ having_run b (b.again + slice_limit) on.position
 GoesOnBack b out.More None = ⊥
 GoesOnBack b (out.Due reason) on = on ≡ None
 GoesOnBack b out.NoMemory on = on ≡ None

@@ -4,7 +4,7 @@ use Rattle.pl0_machine.specs.declared.outcome.StepOutcome.{StepOutcome}
 use Rattle.pl0_machine.specs.declared.outcome.StepOutcome.TheVariants.{Done, Fault}
 use Rattle.dbg_plan.specs.Counts.{IsCounting}
 use Rattle.dbg_plan.specs.Debugged.{Debugged}
-use Rattle.dbg_plan.specs.Advances.{further}
+use Rattle.dbg_plan.specs.Advances.{considered_at}
 use Rattle.dbg_plan.proofs.Further.{stays_counting, led}
 use Rattle.dbg_plan.proofs.Stepping.{went_on, stays_there, not_fault}
 use Rattle.dbg_plan.proofs.debuggee.Debuggee.advance.Goals as goal
@@ -32,7 +32,7 @@ returns-after-written-clause-led c =
     (went_on c.self.inside.machine c.step.new.self c.step.result c.step.ensures _ c.in-Went.is).1
     c.count_position-hit.new.counts c.count_position-hit.result c.count_position-hit.new.logs
     c.count_position-hit.ensures c.args.mode c.reason_here.result c.reason_here.ensures in
-    (there.0 ∙ ap (λ (d : Debugged). further d) c.self.view_is, there.1, there.2, there.3)
+    (there.0 ∙ ap (λ (d : Debugged). considered_at d (d.position + 1)) c.self.view_is, there.1, there.2, there.3)
 
 pub invariant_of-self-in-Done : goal.invariant_of-self-in-Done
 invariant_of-self-in-Done c =
