@@ -56,9 +56,9 @@ record WentBy (past : History) (l : Launched) (run : Heading) : Type 0 where
 abbrev IsGoing : History → Type 0
 IsGoing past = (l : Launched) (run : Heading) → launched past ≡ Some l → last_run past ≡ Some run → WentBy past l run
 
-goes_on : (past : History) (step : Step) (asked : Command) (from : ℕ) → sets_going step ≡ false → GoesBy past asked from
-    → GoesBy (past ++ step ∷ []) asked from
-goes_on past step asked from stays by = record {
+step_keeps_asked : (past : History) (step : Step) (asked : Command) (from : ℕ) → sets_going step ≡ false
+    → GoesBy past asked from → GoesBy (past ++ step ∷ []) asked from
+step_keeps_asked past step asked from stays by = record {
   early = by.early;
   step = by.step;
   later = by.later ++ step ∷ [];
@@ -142,7 +142,7 @@ module _ (one : OneProgram) (joins : WrittenJoins) where
             let was = going l old there old_is in record {
               asked = was.asked;
               from = was.from;
-              goes = goes_on past step was.asked was.from
+              goes = step_keeps_asked past step was.asked was.from
                   (ap (λ o. is_some o && is_request step.item) goes ∙ ap is_request item_is) was.goes;
               mode_is = was.mode_is ∙ mode_is;
             }
@@ -162,7 +162,9 @@ module _ (one : OneProgram) (joins : WrittenJoins) where
             let was = going l run before old_is in record {
               asked = was.asked;
               from = was.from;
-              goes = goes_on past step was.asked was.from (ap (λ o. is_some o && is_request step.item) none) was.goes;
+              goes =
+                  step_keeps_asked past step was.asked was.from (ap (λ o. is_some o && is_request step.item) none)
+                  was.goes;
               mode_is = was.mode_is;
             }
         by_run (Some new) goes =

@@ -120,9 +120,9 @@ module _ (join : FramesJoin) (f : FirstSeq) where
   Holds stream past rest = Gives f stream rest.bytes (contents_read past rest.launch)
 
   -- with nothing waiting, what more is taken of the bytes is what the stream gives further
-  goes_on : (stream : List ℕ) (past : History) (bytes : List ℕ) (new : History) (rest : Rest)
+  taking_gives_further : (stream : List ℕ) (past : History) (bytes : List ℕ) (new : History) (rest : Rest)
       → Gives f stream bytes (reads past) → Gains past bytes new rest.bytes rest.launch → Holds stream new rest
-  goes_on stream past bytes new rest here gains =
+  taking_gives_further stream past bytes new rest here gains =
       subst (Gives f stream rest.bytes) (sym gains.2)
       (gives_both stream bytes rest.bytes (reads past) gains.0 here gains.1)
 
@@ -130,7 +130,7 @@ module _ (join : FramesJoin) (f : FirstSeq) where
       (rest : Rest) → before.launch ≡ launch → LeadsByPiece f past launch (before.bytes ++ piece) new rest
       → Holds stream past before → Holds (stream ++ piece) new rest
   piece_holds stream piece past before None new rest is leads here =
-      goes_on (stream ++ piece) past (before.bytes ++ piece) new rest
+      taking_gives_further (stream ++ piece) past (before.bytes ++ piece) new rest
       (subst (Gives f (stream ++ piece) (before.bytes ++ piece)) (ap (contents_read past) is ∙ append-nil (reads past))
       (gives_more f stream before.bytes (contents_read past before.launch) piece here))
       (takes_gain leads)
@@ -144,7 +144,7 @@ module _ (join : FramesJoin) (f : FirstSeq) where
       (new : History) (rest : Rest) → before.launch ≡ Some launch → Loads f past launch file before.bytes new rest
       → Holds stream past before → Holds stream new rest
   loads_hold stream past before launch file new rest is loads here =
-      goes_on stream loads.mid before.bytes new rest
+      taking_gives_further stream loads.mid before.bytes new rest
       (subst (Gives f stream before.bytes) (ap (contents_read past) is
       ∙ sym (reads_after past (Loaded launch file) loads.mid loads.loaded)) here)
       (takes_gain loads.after)

@@ -280,8 +280,8 @@ alone : (x y : PlainOrder) (front back : List PlainOrder) → x ∷ [] ≡ front
 alone x y [] back is = (cc, refl)
 alone x y (z ∷ front) back is = absurd (none_within front back y (ap rest_of is))
 
-goes_on : (past : History) (run : Heading) → last_run past ≡ Some run → goes_back run.mode ≡ is_back past
-goes_on past run is = ap (λ o. option_map_or (λ (h : Heading). goes_back h.mode) o false) (sym is)
+is_back_by_last_run : (past : History) (run : Heading) → last_run past ≡ Some run → goes_back run.mode ≡ is_back past
+is_back_by_last_run past run is = ap (λ o. option_map_or (λ (h : Heading). goes_back h.mode) o false) (sym is)
 
 module _ (past : History) (step : Step) (front back : List PlainOrder) (n : ℕ) where
   abbrev IsHeldOnce : Type 0
@@ -298,7 +298,13 @@ module _ (past : History) (step : Step) (front back : List PlainOrder) (n : ℕ)
   held_once taking (orders_hold wait running not_held forward is) here holds = (
     running,
     wait,
-    (was.earlier, run.0, by_end was.ends, sym count ∙ sym was.number_is, goes_on past run.0 run.1 ∙ forward),
+    (
+      was.earlier,
+      run.0,
+      by_end was.ends,
+      sym count ∙ sym was.number_is,
+      is_back_by_last_run past run.0 run.1 ∙ forward,
+    ),
   )
     where
       run : (run : Heading) × (last_run past ≡ Some run)
@@ -381,7 +387,7 @@ module _ (past : History) (step : Step) (run : Heading) (run_is : last_run past 
   EndsHeld = (earlier : List PlainOrder) × (orders_of (past ++ step ∷ []) ≡ earlier ++ Hold run.run ∷ [])
 
   not_is_back : is_back past ≡ false
-  not_is_back = sym (goes_on past run run_is) ∙ forward
+  not_is_back = sym (is_back_by_last_run past run run_is) ∙ forward
 
   ends_held : EndsAt past run → EndsHeld
   ends_held was = by_end was.ends

@@ -399,11 +399,6 @@ unset_more past step none here = record {
   plan_is = plan-snoc past step ∙ ap (λ o. unwrap_or o (plan past)) none.put_in ∙ here.plan_is;
 }
 
-sets_none : (item : Item) (answer : Option Outgoing) (effect : Effect)
-    → ((path : List ℕ) → lines_by path item answer ≡ None) → effect.put_in ≡ None
-    → SetsNone (step_of item answer effect)
-sets_none item answer effect lines put = record { lines = lines; put_in = put }
-
 module _ (past : History) (none : launched past ≡ None) where
   not_launched : (l : Launched) → ¬ (launched past ≡ Some l)
   not_launched l there = let e = sym none ∙ there in absurd cc

@@ -205,8 +205,8 @@ module _ (one : OneProgram) (joins : WrittenJoins) (said : LogsAreSaid) where
     abbrev up_to : ℕ → List (List ℕ)
     up_to n = flat_map texts (range_with_len (run.start + 1) (n - run.start))
 
-    goes_on : WentOn lawful.program r → up_to r.end ≡ up_to r.start ++ told_texts r
-    goes_on went =
+    going_on_adds_texts : WentOn lawful.program r → up_to r.end ≡ up_to r.start ++ told_texts r
+    going_on_adds_texts went =
         let begun = begun_there one joins past r accepts lawful ran l is in
         let more = went.begun in
         let count : r.end - run.start ≡ (r.start - run.start) + (r.end - r.start) = omega (arith, begun, more) in
@@ -223,7 +223,7 @@ module _ (one : OneProgram) (joins : WrittenJoins) (said : LogsAreSaid) where
     texts_by b n = flat_map texts (if b then [] else range_with_len (run.start + 1) (n - run.start))
 
     by_went : (b : Bool) → Went lawful.program r b → texts_by b r.end ≡ texts_by b r.start ++ told_texts r
-    by_went false went = goes_on went
+    by_went false went = going_on_adds_texts went
     by_went true went = sym (ap (map (text_of_log r.plan)) went.logs)
 
     -- the run has logged what the report tells

@@ -27,7 +27,7 @@ use Rattle.dap_history.specs.Laws.{NumbersAreWritten}
 use Rattle.dap_history.proofs.Readings.{numbers-snoc, launched-snoc, position-snoc, reached-snoc, position_reached, last_run-snoc, situation-snoc}
 use Rattle.dap_history.proofs.Along.{IsTaken, IsKept, IsLawfulEvent, lawful_events, along}
 use Rattle.dap_history.proofs.Early.{IsEarly, IsEarlyMark, unanswered_late, answered_late, result_late, early_reply, early_unwrap}
-use Rattle.dap_history.proofs.Silent.{GoesBy, no_go, of_text, no_runs, no_stop, no_logs, IsSilent, all_silent}
+use Rattle.dap_history.proofs.Silent.{GoesBy, no_go, of_text, IsSilent, nothing_silent, quit_silent, all_silent}
 use Rattle.dap_history.proofs.Went.{nothing_told, told_joins}
 use Rattle.dap_history.proofs.Outputs.{answer_aside, no_answer, told_numbers, report_numbers, report_launches, GoesAs, GoesOn, no_run, as_text, report_goes}
 
@@ -218,24 +218,10 @@ module _ (one : OneProgram) (joins : WrittenJoins) where
       → Progress (past ++ step ∷ [])
   launch_keeps past launch None step is ready reply launches answers so_far =
       launch_aside past launch None step is reply nothing (ap (λ (r : Reply). r.effect) launches)
-      (record {
-        no_numbers = refl;
-        no_launch = refl;
-        goes = no_go;
-        runs_are = no_runs;
-        stops = no_stop;
-        logs = no_logs refl;
-      }) answers so_far
+      (nothing_silent past) answers so_far
   launch_keeps past launch (Some text) step is ready reply (inl refuses) answers so_far =
       launch_aside past launch (Some text) step is reply nothing (ap (λ (r : Reply). r.effect) refuses.reply_is)
-      (record {
-        no_numbers = refl;
-        no_launch = refl;
-        goes = no_go;
-        runs_are = no_runs;
-        stops = no_stop;
-        logs = no_logs refl;
-      }) answers so_far
+      (nothing_silent past) answers so_far
   launch_keeps past launch (Some text) step is ready reply (inr launched_) answers so_far =
       let effect : step.effect ≡ launches launch.arguments text launched_.program =
       answers.effect_is ∙ ap (λ (r : Reply). r.effect) launched_.reply_is in
@@ -284,16 +270,7 @@ module _ (one : OneProgram) (joins : WrittenJoins) where
   pub progress_more : (past : History) (item : Item) (step : Step) → step.item ≡ item → IsTaken IsLawfulEvent past item
       → Causes past item step → Progress past → Progress (past ++ step ∷ [])
   progress_more past (Content None) step is taken causes so_far =
-      nothing_aside past (Content None) step is refl nothing
-      (record {
-        no_numbers = refl;
-        no_launch = refl;
-        goes = no_go;
-        runs_are = no_runs;
-        stops = no_stop;
-        logs = no_logs
-            refl;
-      }) causes so_far
+      nothing_aside past (Content None) step is refl nothing (nothing_silent past) causes so_far
   progress_more past (Content (Some request)) step is taken causes so_far =
       aside_keeps past step
       (silent_aside past step causes.0.effect causes.2.effect_is (ap end_of is)
@@ -310,49 +287,13 @@ module _ (one : OneProgram) (joins : WrittenJoins) where
   progress_more past (Accepted r) step is taken causes so_far =
       report_keeps past r step is causes taken.0 taken.1 so_far
   progress_more past (Fault k) step is taken causes so_far =
-      nothing_aside past (Fault k) step is refl nothing
-      (record {
-        no_numbers = refl;
-        no_launch = refl;
-        goes = no_go;
-        runs_are = no_runs;
-        stops = no_stop;
-        logs = no_logs
-            refl;
-      }) causes so_far
+      nothing_aside past (Fault k) step is refl nothing (nothing_silent past) causes so_far
   progress_more past InputEnd step is taken causes so_far =
-      nothing_aside past InputEnd step is refl (ordering (Quit ∷ []))
-      (record {
-        no_numbers = refl;
-        no_launch = refl;
-        goes = no_go;
-        runs_are = no_runs;
-        stops = no_stop;
-        logs = no_logs
-            refl;
-      }) causes so_far
+      nothing_aside past InputEnd step is refl (ordering (Quit ∷ [])) (quit_silent past) causes so_far
   progress_more past ReadFailure step is taken causes so_far =
-      nothing_aside past ReadFailure step is refl (ordering (Quit ∷ []))
-      (record {
-        no_numbers = refl;
-        no_launch = refl;
-        goes = no_go;
-        runs_are = no_runs;
-        stops = no_stop;
-        logs = no_logs
-            refl;
-      }) causes so_far
+      nothing_aside past ReadFailure step is refl (ordering (Quit ∷ [])) (quit_silent past) causes so_far
   progress_more past MemoryFailure step is taken causes so_far =
-      nothing_aside past MemoryFailure step is refl nothing
-      (record {
-        no_numbers = refl;
-        no_launch = refl;
-        goes = no_go;
-        runs_are = no_runs;
-        stops = no_stop;
-        logs = no_logs
-            refl;
-      }) causes so_far
+      nothing_aside past MemoryFailure step is refl nothing (nothing_silent past) causes so_far
 
   pub progress_kept : IsKept IsLawfulEvent Progress
   progress_kept = record {

@@ -65,7 +65,7 @@ pub record IsSilent (starts : Bool) (s : Situation) (past : History) (effect : E
   pub stops : StopsBy s past (last_such stop_of_event effect.events)
   pub logs : LogsBy s past effect.events starts
 
-nothing_silent : {s : Situation} (past : History) → IsSilent false s past nothing
+pub nothing_silent : {s : Situation} (past : History) → IsSilent false s past nothing
 nothing_silent past =
     record {
       no_numbers = refl;
@@ -115,7 +115,7 @@ over_silent past =
           refl;
     }
 
-quit_silent : {s : Situation} (past : History) → IsSilent false s past (ordering (Quit ∷ []))
+pub quit_silent : {s : Situation} (past : History) → IsSilent false s past (ordering (Quit ∷ []))
 quit_silent past =
     record {
       no_numbers = refl;

@@ -80,11 +80,12 @@ module _ (one : OneProgram) (joins : WrittenJoins) where
           (stays_there step.item taken is.1) (ran.configuring is.1)
 
   -- the run that goes on passed nothing that is due
-  goes_on : (past : History) (item : Item) (step : Step) → step.item ≡ item → IsTaken IsLawfulEvent past item
-      → Causes past item step → Ran one joins past → IsRunning (situation past) → step_mark step ≡ None
+  running_passes_nothing_due : (past : History) (item : Item) (step : Step) → step.item ≡ item
+      → IsTaken IsLawfulEvent past item → Causes past item step → Ran one joins past → IsRunning (situation past)
+      → step_mark step ≡ None
       → (l : Launched) → launched past ≡ Some l → (run : Heading) → last_run past ≡ Some run → (n : ℕ)
       → n ≡ unwrap_or (end_of item) (position past) → (run.start ≤ n) × NoneDueUpTo l run n
-  goes_on past (Accepted r) step item_is taken causes ran running none l is run run_is n n_is =
+  running_passes_nothing_due past (Accepted r) step item_is taken causes ran running none l is run run_is n n_is =
       let same : taken.0.run ≡ run = let e = sym taken.0.run_is ∙ run_is in cc in
       subst (λ m. (run.start ≤ m) × NoneDueUpTo l run m) (sym n_is)
       (subst (λ (run : Heading). (run.start ≤ r.end) × NoneDueUpTo l run r.end) same
@@ -102,9 +103,9 @@ module _ (one : OneProgram) (joins : WrittenJoins) where
           )
       by_went true went =
           still one joins past r taken.0 taken.1 ran l is (stays_end taken.1.program past r went nowhere)
-  goes_on past (Content request) step item_is taken causes ran running none l is run run_is n n_is =
+  running_passes_nothing_due past (Content request) step item_is taken causes ran running none l is run run_is n n_is =
       subst (λ m. (run.start ≤ m) × NoneDueUpTo l run m) (sym n_is) (ran.running running l is run run_is)
-  goes_on past _ step item_is taken causes ran running none l is run run_is n n_is =
+  running_passes_nothing_due past _ step item_is taken causes ran running none l is run run_is n n_is =
       subst (λ m. (run.start ≤ m) × NoneDueUpTo l run m) (sym n_is) (ran.running running l is run run_is)
 
   running_more : (past : History) (step : Step) → IsTaken IsLawfulEvent past step.item → Causes past step.item step
@@ -120,7 +121,7 @@ module _ (one : OneProgram) (joins : WrittenJoins) where
           → (run.start ≤ position (past ++ step ∷ [])) × NoneDueUpTo l run (position (past ++ step ∷ []))
       by_mark none (inl mark) = absurd (runs_not step (answers_only past step.item step causes) none mark)
       by_mark none (inr was) =
-          goes_on past step.item step refl taken causes ran was.1 was.0 l
+          running_passes_nothing_due past step.item step refl taken causes ran was.1 was.0 l
           (ap (λ o. or_else o (launched past)) (sym (launches_not IsLawfulEvent past step.item step taken causes was.1))
           ∙ sym (launched-snoc past step) ∙ is)
           run (ap (λ o. or_else o (last_run past)) (sym none) ∙ sym (last_run-snoc past step) ∙ run_is)

@@ -16,7 +16,7 @@ use Rattle.dap_history.specs.Reports.{Accepts}
 use Rattle.dap_history.specs.Emission.{IsAfter}
 use Rattle.dap_history.specs.Events.{Incoming, Piece, End, ReadFailed, NoMemory, File, Report, Rest, only_bytes, IsTaking, Takes, one_more, closed, open_ended, faulty, waits, MayTake, LeadsByPiece, Loads, LeadsByFile, LeadsByReport, LeadsByEvent, LeadsByEvents}
 use Rattle.dap_history.specs.Laws.{HistoryIsOne}
-use Rattle.dap_history.specs.Taken.{file_item, GoesOnWith, IsOfBytes, AreOfBytes, AddsSteps, EventsAreTaken, closes_by, fails_by, ends_by, EachItemEndsOrNot}
+use Rattle.dap_history.specs.Taken.{file_item, GoesOnWith, IsOfBytes, AreOfBytes, AddsSteps, EventsAreTaken, closes_by, fails_by, ends_by, EachItemEndsOrNot, BeginWithItem, MayFollow}
 use Rattle.dap_history.proofs.Readings.{or_else-none, ending_of-snoc}
 use Rattle.dap_history.proofs.Each.{WasTaken}
 use Rattle.dap_history.proofs.GoingBack.{Anything}
@@ -81,6 +81,11 @@ goes_so : (past : History) (r : PlainReport) → Accepts past r → GoesOnWith p
 goes_so past r is =
     record { running = is.running; run = is.run; run_is = is.run_is; heading_is = is.expected }
 
+-- the step of an event's one item, which no other follows
+one_step : (e : Incoming) {item : Item} (step : Step) → step.item ≡ item → MayFollow e []
+    → BeginWithItem e item (step ∷ [])
+one_step e step item_is follow = record { step = step; more = []; steps_are = refl; item_is = item_is; follow = follow }
+
 module _ (past new : History) (rest : Rest) where
   abbrev AddsBy : Incoming → Type 0
   AddsBy e = (steps : History) × (new ≡ past ++ steps) × AddsSteps past rest e steps
@@ -132,76 +137,27 @@ module _ (past new : History) (rest : Rest) where
       by_loads (Err load_fault.CannotRead) launch None left same refl loads
   by_file (Some launch) (Err load_fault.NoMemory) left taking same is =
       by_may (File (Err load_fault.NoMemory)) MemoryFailure taking is.0
-      (λ step item_is. inl (
-        MemoryFailure,
-        (launch, same, refl),
-        record {
-          step = step;
-          more = [];
-          steps_are = refl;
-          item_is = item_is;
-          follow = tt;
-        },
-      ))
+      (λ step item_is.
+      inl (MemoryFailure, (launch, same, refl), one_step (File (Err load_fault.NoMemory)) step item_is tt))
 
   by_report : (r : PlainReport) → IsTaking past → LeadsByReport past r new → AddsBy (Report r)
   by_report r taking (inl is) =
       ([], is.1 ∙ sym (append-nil past), inr (λ item its. is.0 (taking, accepts_so past r its.0), refl))
   by_report r taking (inr is) =
       adds_one (Report r) (Accepted r) is.2
-      (λ step item_is. inl (
-        Accepted r,
-        (goes_so past r is.1, refl),
-        record {
-          step = step;
-          more = [];
-          steps_are = refl;
-          item_is = item_is;
-          follow = refl;
-        },
-      ))
+      (λ step item_is. inl (Accepted r, (goes_so past r is.1, refl), one_step (Report r) step item_is refl))
 
   by_event : (e : Incoming) (left : Rest) → IsTaking past → LeadsByEvent past rest e new left → AddsBy e
   by_event (Piece piece) left taking leads = by_piece rest.first rest.launch _ piece left leads
   by_event End left taking leads =
       by_may End InputEnd taking leads.0
-      (λ step item_is. inl (
-        InputEnd,
-        refl,
-        record {
-          step = step;
-          more = [];
-          steps_are = refl;
-          item_is = item_is;
-          follow = refl;
-        },
-      ))
+      (λ step item_is. inl (InputEnd, refl, one_step End step item_is refl))
   by_event ReadFailed left taking leads =
       by_may ReadFailed ReadFailure taking leads.0
-      (λ step item_is. inl (
-        ReadFailure,
-        refl,
-        record {
-          step = step;
-          more = [];
-          steps_are = refl;
-          item_is = item_is;
-          follow = refl;
-        },
-      ))
+      (λ step item_is. inl (ReadFailure, refl, one_step ReadFailed step item_is refl))
   by_event NoMemory left taking leads =
       by_may NoMemory MemoryFailure taking leads.0
-      (λ step item_is. inl (
-        MemoryFailure,
-        refl,
-        record {
-          step = step;
-          more = [];
-          steps_are = refl;
-          item_is = item_is;
-          follow = refl;
-        },
-      ))
+      (λ step item_is. inl (MemoryFailure, refl, one_step NoMemory step item_is refl))
   by_event (File file) left taking leads = by_file rest.launch file left taking refl leads
   by_event (Report r) left taking leads = by_report r taking leads.0
 
