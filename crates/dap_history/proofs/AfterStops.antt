@@ -1,7 +1,6 @@
 -- Elements of a list after which a function gives nothing more.
-use Rattle.std.proofs.Common.{◌≡◌, List, [], ◌∷◌, ◌++◌, Option, sym, ◌∙◌, ap, subst}
-use Rattle.std.specs.List.{filter_map}
-use Rattle.std.proofs.lemmas.List.Elements.{filter_map-append}
+use Rattle.dap_history.proofs.Common.{Option, [], ap, filter_map, filter_map-append, subst, sym, ◌++◌, ◌∙◌, ◌∷◌, ◌≡◌}
+use Rattle.std.proofs.Common.{List}
 
 none_in_both : {B : Type 0} (xs ys : List B) → xs ++ ys ≡ [] → ys ≡ []
 none_in_both [] ys is = is

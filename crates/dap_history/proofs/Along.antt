@@ -1,23 +1,9 @@
 -- What holds along a history: what holds at first and is kept by each item that is taken.
-use Rattle.std.proofs.Common.{◌≡◌, inl, inr, ℕ, List, [], ◌∷◌, ◌++◌, Option, None, Some, Result, Ok, Err, refl, sym, ◌∙◌, ap, subst}
-use Rattle.dap_msg.specs.declared.request.Request.{Request}
-use Rattle.dbg_runner.specs.Plain.{PlainReport}
-use Rattle.dbg_runner.specs.Lawful.{IsLawful}
-use Rattle.dap_history.specs.declared.launch.Launch.{Launch}
-use Rattle.dap_history.specs.declared.fault.LoadFault.{LoadFault}
+use Rattle.dap_history.proofs.Common.{Accepted, Accepts, AreLawful, Content, Ending, Err, Fault, File, FirstSeq, History, Incoming, InputEnd, IsAfter, IsHistoryOf, IsLawful, IsTaking, Item, Launch, LeadsByEvent, LeadsByEvents, LeadsByFile, LeadsByPiece, LeadsByReport, LoadFault, Loaded, Loads, MayTake, MemoryFailure, NoMemory, None, Ok, Option, Piece, PlainReport, ReadFailed, ReadFailure, Ready, Report, Request, Rest, Situation, Some, Takes, [], ap, closed, closing, ending_of, faulty, inl, inr, one_more, only_bytes, open_ended, or_else, refl, situation, subst, sym, waits, wanted_in, ℕ, ◌++◌, ◌∙◌, ◌∷◌, ◌≡◌}
+use Rattle.std.proofs.Common.{List, Result}
 use Rattle.dap_history.specs.declared.fault.LoadFault.TheVariants as load_fault
-use Rattle.dap_history.specs.History.{Item, Content, Loaded, Accepted, Fault, InputEnd, ReadFailure, MemoryFailure, History}
-use Rattle.dap_history.specs.Reports.{Accepts}
-use Rattle.dap_history.specs.Emission.{IsAfter}
-use Rattle.dap_history.specs.declared.ending.Ending.{Ending}
-use Rattle.dap_history.specs.declared.situation.Situation.{Situation}
-use Rattle.dap_history.specs.declared.situation.Situation.TheVariants.{Ready}
-use Rattle.dap_history.specs.Last.{or_else}
-use Rattle.dap_history.specs.Readings.{situation, closing, ending_of}
 use Rattle.dap_history.proofs.Readings.{ending_of-snoc}
-use Rattle.dap_history.specs.Launching.{wanted_in}
-use Rattle.dap_msg.specs.declared.request.FirstSeq.{FirstSeq}
-use Rattle.dap_history.specs.Events.{Incoming, Piece, End, ReadFailed, NoMemory, File, Report, AreLawful, Rest, only_bytes, IsTaking, Takes, one_more, closed, open_ended, faulty, waits, MayTake, LeadsByPiece, LeadsByFile, LeadsByReport, Loads, LeadsByEvent, LeadsByEvents, IsHistoryOf}
+use Rattle.dap_history.specs.Events.{End}
 
 -- an item is taken only so: a content that wants no file, a launch in Ready, a report that is accepted; and what an
 -- event brings is as Q says of it

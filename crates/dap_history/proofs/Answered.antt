@@ -1,15 +1,7 @@
 -- Each request is answered once.
-use Rattle.std.proofs.Common.{◌≡◌, ℕ, List, [], ◌∷◌, ◌++◌, None, Some, refl, sym, ◌∙◌, ap, subst}
+use Rattle.dap_history.proofs.Common.{Answers, Causes, CommandName, Content, Event, EventBody, History, Item, Loaded, None, Reply, Some, Step, [], ap, filter_map, filter_map-append, map-append, messages, messages_of, refl, subst, sym, with_answer, ℕ, ◌++◌, ◌∙◌, ◌∷◌, ◌≡◌}
+use Rattle.std.proofs.Common.{List}
 use Rattle.std.specs.Prelude.{map}
-use Rattle.std.specs.List.{filter_map}
-use Rattle.std.proofs.lemmas.List.{map-append}
-use Rattle.std.proofs.lemmas.List.Elements.{filter_map-append}
-use Rattle.dap_msg.specs.declared.command.CommandName.{CommandName}
-use Rattle.dap_msg.specs.declared.outgoing.Outgoing.TheVariants.{Event}
-use Rattle.dap_msg.specs.declared.outgoing.EventBody.{EventBody}
-use Rattle.dap_history.specs.History.{Item, Content, Loaded, Step, History, with_answer, messages, messages_of}
-use Rattle.dap_history.specs.Replies.{Reply}
-use Rattle.dap_history.specs.Emission.{Answers, Causes}
 use Rattle.dap_history.specs.Laws.{answered_request, request_of_item, EachIsAnsweredOnce}
 use Rattle.dap_history.proofs.Readings.{messages_of-snoc}
 use Rattle.dap_history.proofs.Along.{IsKept, any_events, along}

@@ -1,35 +1,17 @@
 -- Each stop of a run is as the command asks by which the program goes.
-use Rattle.std.proofs.Common.{◌≡◌, ℕ, ◌+◌, ◌<◌, [], ◌∷◌, ◌++◌, Bool, true, false, ◌&&◌, Option, None, Some, Result, Ok, Err, refl, sym, ◌∙◌, ap, subst}
-use Rattle.std.specs.Prelude.{if◌then◌else◌, option_map, is_some, IsSome, nat_le, nat_lt}
-use Rattle.dap_msg.specs.Commands.{name_of}
-use Rattle.dap_msg.specs.declared.request.Request.{Request}
-use Rattle.dap_msg.specs.declared.command.Command.{Command}
+use Rattle.dap_history.proofs.Common.{Accepted, Body, Causes, Command, Content, Effect, Err, Grants, Heading, History, IsRetreatsStop, IsRightStop, IsRunsStop, IsSome, IsStopOf, Item, Launched, Loaded, Mode, None, NoneDueBefore, Ok, Option, Reason, Refusal, Request, RetreatKind, SliceOutcome, Some, Step, Stop, StopReason, ThreadArguments, WrittenJoins, [], ap, depth_at, due_in, go, goal_of, goes_back, held_mode, if◌then◌else◌, is_some, last_due, last_run, last_such, launched, mode_asked, mode_by, name_of, or_else, reason_of, refl, reversed, run_in, situation, stepped_back, stop_at, subst, sym, told_reason, ℕ, ◌++◌, ◌+◌, ◌<◌, ◌∙◌, ◌∷◌, ◌≡◌}
+use Rattle.std.proofs.Common.{Bool, true, false, ◌&&◌, Result}
+use Rattle.std.specs.Prelude.{option_map, nat_le, nat_lt}
 use Rattle.dap_msg.specs.declared.command.Command.TheVariants as command
 use Rattle.dap_msg.specs.declared.requests.resume.ResumeKind.TheVariants as resume
-use Rattle.dap_msg.specs.declared.requests.resume.RetreatKind.{RetreatKind}
 use Rattle.dap_msg.specs.declared.requests.resume.RetreatKind.TheVariants as retreat
-use Rattle.dap_msg.specs.declared.requests.resume.ThreadArguments.{ThreadArguments}
 use Rattle.dap_msg.specs.declared.outgoing.Outgoing.TheVariants.{Answer}
-use Rattle.dap_msg.specs.declared.outgoing.Body.{Body}
-use Rattle.dap_msg.specs.declared.outgoing.Refusal.{Refusal}
-use Rattle.dap_msg.specs.declared.outgoing.StopReason.{StopReason}
 use Rattle.dap_msg.specs.declared.outgoing.StopReason.TheVariants as stop
-use Rattle.pl0_meaning.specs.Laws.{WrittenJoins}
-use Rattle.dbg_plan.specs.Due.{reason_of, depth_at}
-use Rattle.dbg_plan.specs.Retreat.{Stop, stop_at, last_due, stepped_back, reversed, goal_of, NoneIsDue, LeadsBack, LastDueIsLast}
-use Rattle.dbg_plan.specs.declared.mode.Mode.{Mode}
+use Rattle.dbg_plan.specs.Retreat.{NoneIsDue, LeadsBack, LastDueIsLast}
 use Rattle.dbg_plan.specs.declared.mode.Mode.TheVariants as mode
-use Rattle.dbg_plan.specs.declared.mode.Reason.{Reason}
 use Rattle.dbg_plan.specs.declared.mode.Reason.TheVariants as reason
-use Rattle.dbg_runner.specs.Plain.{Heading, goes_back}
-use Rattle.dbg_runner.specs.declared.outcome.SliceOutcome.{SliceOutcome}
 use Rattle.dbg_runner.specs.declared.outcome.SliceOutcome.TheVariants as slice
-use Rattle.dap_history.specs.Last.{or_else, last_such}
-use Rattle.dap_history.specs.History.{Launched, Item, Content, Loaded, Accepted, Step, History, Effect}
-use Rattle.dap_history.specs.Readings.{go, situation, launched, last_run, position}
-use Rattle.dap_history.specs.Emission.{Causes}
-use Rattle.dap_history.specs.Stops.{told_reason, due_in, NoneDueBefore, IsRunsStop, IsRetreatsStop, IsStopOf, IsRightStop, run_in}
-use Rattle.dap_history.specs.Runs.{Grants, mode_by, held_mode, mode_asked}
+use Rattle.dap_history.specs.Readings.{position}
 use Rattle.dap_history.specs.Moves.{is_request, sets_going, GoesBy, is_done, is_met, reason_at, NowhereBefore, StopsForward, NoneMet, StopsBack, StopsAsAsked, EachStopIsAsAsked}
 use Rattle.dap_history.proofs.Readings.{launched-snoc, last_run-snoc}
 use Rattle.dap_history.proofs.Texts.{OneProgram}

@@ -1,39 +1,14 @@
 -- Each run has the next number, and is in the mode that was asked for.
+use Rattle.dap_history.proofs.Common.{Accepted, Accepts, Breakpoint, Causes, Command, Content, Effect, Go, Heading, History, Hold, Incoming, Item, Launched, Loaded, None, Option, PlainOrder, PlainReport, Reaction, Reason, Reply, ResumeKind, RetreatKind, Running, Situation, SliceOutcome, Some, Step, ThreadArguments, WrittenJoins, [], all_runs, ap, append-nil, arith, depth_at, due_first, effect_in, enters, filter_map, filter_map-append, go, held_effect, held_mode, hold_once, if◌then◌else◌, is_back, last_run, last_such, launched, length, mode_asked, mode_by, mode_of, option_map_or, refl, reply_of, report_effect, retreat_mode, run_in, runs, situation, subst, sym, waiting_pause, ℕ, ◌++◌, ◌+◌, ◌||◌, ◌∙◌, ◌∷◌, ◌≡◌}
 use Rattle.dap_msg.specs.declared.requests.resume.ResumeKind.TheVariants as resume
 use Rattle.dap_msg.specs.declared.requests.resume.RetreatKind.TheVariants as retreat
-use Rattle.std.proofs.Common.{◌≡◌, ℕ, ◌+◌, List, [], ◌∷◌, ◌++◌, length, Bool, true, false, ◌||◌, Option, None, Some, refl, sym, ◌∙◌, ap, subst, append-nil, arith}
-use Rattle.std.specs.Prelude.{option_map, if◌then◌else◌}
-use Rattle.std.specs.Option.{option_map_or}
-use Rattle.std.specs.List.{filter_map}
-use Rattle.std.proofs.lemmas.List.Elements.{filter_map-append}
-use Rattle.dap_msg.specs.declared.requests.resume.ResumeKind.{ResumeKind}
-use Rattle.dap_msg.specs.declared.requests.resume.RetreatKind.{RetreatKind}
-use Rattle.dap_msg.specs.declared.requests.resume.ThreadArguments.{ThreadArguments}
-use Rattle.dap_msg.specs.declared.command.Command.{Command}
+use Rattle.std.proofs.Common.{List, Bool, true, false}
+use Rattle.std.specs.Prelude.{option_map}
 use Rattle.dap_msg.specs.declared.command.Command.TheVariants as command
-use Rattle.pl0_meaning.specs.Laws.{WrittenJoins}
-use Rattle.dbg_plan.specs.Breakpoints.{Breakpoint}
-use Rattle.dbg_plan.specs.Due.{depth_at}
 use Rattle.dbg_plan.specs.declared.mode.Mode.TheVariants as mode
-use Rattle.dbg_plan.specs.declared.mode.Reason.{Reason}
-use Rattle.dbg_runner.specs.declared.outcome.SliceOutcome.{SliceOutcome}
 use Rattle.dbg_runner.specs.declared.outcome.SliceOutcome.TheVariants as slice
-use Rattle.dbg_runner.specs.Plain.{PlainReport, PlainOrder, Go, Hold, Heading}
-use Rattle.dap_history.specs.declared.situation.Situation.{Situation}
-use Rattle.dap_history.specs.declared.situation.Situation.TheVariants.{Running}
-use Rattle.dap_history.specs.Last.{last_such}
-use Rattle.dap_history.specs.History.{Launched, Item, Content, Loaded, Accepted, Step, History, Effect}
-use Rattle.dap_history.specs.Readings.{go, situation, runs, is_held, is_back, launched, last_run, position, waiting_pause}
-use Rattle.dap_history.specs.Replies.{Reply}
-use Rattle.dap_history.specs.Breakpoints.{hold_once, effect_in}
-use Rattle.dap_history.specs.Running.{due_first, mode_of, retreat_mode, enters}
-use Rattle.dap_history.specs.Reactions.{Reaction, reply_of}
-use Rattle.dap_history.specs.Reports.{Accepts, held_effect, report_effect}
-use Rattle.dap_history.specs.Considered.{all_runs}
-use Rattle.dap_history.specs.Emission.{Causes}
-use Rattle.dap_history.specs.Stops.{run_in}
-use Rattle.dap_history.specs.Runs.{mode_by, held_mode, mode_asked, RunsCountFromOne, EachRunIsAsAsked}
-use Rattle.dap_history.specs.Events.{Incoming}
+use Rattle.dap_history.specs.Readings.{is_held, position}
+use Rattle.dap_history.specs.Runs.{RunsCountFromOne, EachRunIsAsAsked}
 use Rattle.dap_history.proofs.Texts.{OneProgram}
 use Rattle.dap_history.proofs.Along.{IsTaken, IsKept, IsLawfulEvent, any_events, lawful_events, along}
 use Rattle.dap_history.proofs.Each.{WasTaken, EachTaken, each_kept, each_first}

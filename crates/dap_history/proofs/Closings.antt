@@ -1,33 +1,14 @@
 -- A session that was closed by the end of its input has taken that event, and Quit is its last order.
-use Rattle.std.proofs.Common.{◌≡◌, ◌⊎◌, inl, inr, ℕ, List, [], ◌∷◌, ◌++◌, Bool, true, false, ◌||◌, Option, None, Some, refl, sym, ◌∙◌, ap, subst}
-use Rattle.std.specs.Prelude.{if◌then◌else◌}
-use Rattle.dap_msg.specs.declared.command.Command.{Command}
+use Rattle.dap_history.proofs.Common.{Accepted, Breakpoint, Causes, Close, Command, Content, Effect, Ending, Fault, File, FirstSeq, Go, History, Hold, Incoming, InputEnd, IsAfter, IsHistoryOf, IsTaking, Item, Launch, Launched, Launches, Loaded, MemoryFailure, None, Option, PlainOrder, PlainReport, Quit, Reaction, ReadFailed, ReadFailure, Reason, RepliesIn, Reply, Rest, Running, Situation, SliceOutcome, Some, Step, [], ap, closing, closing_command, closing_report, due_first, effect_in, ending_of, enters, held_effect, hold_once, if◌then◌else◌, inl, inr, is_back, or_else, orders_of, refl, reply_of, report_effect, runs, situation, subst, sym, waiting_pause, ℕ, ◌++◌, ◌||◌, ◌∙◌, ◌∷◌, ◌≡◌, ◌⊎◌}
+use Rattle.std.proofs.Common.{List, Bool, true, false}
 use Rattle.dap_msg.specs.declared.command.Command.TheVariants as command
-use Rattle.dbg_plan.specs.Breakpoints.{Breakpoint}
-use Rattle.dbg_plan.specs.declared.mode.Reason.{Reason}
-use Rattle.dbg_runner.specs.declared.outcome.SliceOutcome.{SliceOutcome}
 use Rattle.dbg_runner.specs.declared.outcome.SliceOutcome.TheVariants as slice
-use Rattle.dbg_runner.specs.Plain.{PlainOrder, Go, Hold, Quit, PlainReport}
 use Rattle.dap_history.specs.declared.ending.Closed.{Closed}
 use Rattle.dap_history.specs.declared.ending.Closed.TheVariants as closed
-use Rattle.dap_history.specs.declared.ending.Ending.{Ending}
 use Rattle.dap_history.specs.declared.ending.Ending.TheVariants as ending
-use Rattle.dap_history.specs.declared.launch.Launch.{Launch}
-use Rattle.dap_history.specs.declared.situation.Situation.{Situation}
-use Rattle.dap_history.specs.declared.situation.Situation.TheVariants.{Running}
-use Rattle.dap_history.specs.Last.{or_else}
-use Rattle.dap_history.specs.History.{Launched, Item, Content, Loaded, Accepted, Fault, InputEnd, ReadFailure, MemoryFailure, Effect, Step, History, orders_of}
-use Rattle.dap_history.specs.Readings.{situation, runs, is_back, waiting_pause, is_held, closing_command, closing_report, closing, ending_of}
-use Rattle.dap_history.specs.Replies.{Reply}
-use Rattle.dap_history.specs.Reports.{report_effect, held_effect}
-use Rattle.dap_history.specs.Launching.{Launches}
-use Rattle.dap_history.specs.Breakpoints.{hold_once, effect_in}
-use Rattle.dap_history.specs.Running.{due_first, enters}
-use Rattle.dap_history.specs.Reactions.{Reaction, Close, reply_of}
-use Rattle.dap_history.specs.Emission.{RepliesIn, Causes, IsAfter}
-use Rattle.dap_msg.specs.declared.request.FirstSeq.{FirstSeq}
+use Rattle.dap_history.specs.Readings.{is_held}
 use Rattle.dap_history.specs.Interleaving.{Load, IsLoad, Interleaves}
-use Rattle.dap_history.specs.Events.{Incoming, End, ReadFailed, File, Rest, IsTaking, IsHistoryOf}
+use Rattle.dap_history.specs.Events.{End}
 use Rattle.dap_history.specs.Laws.{IsAmong, QuitIsLast, EndsWithQuit, QuitCloses}
 use Rattle.dap_history.proofs.Readings.{or_else-none, orders_of-snoc, ending_of-snoc}
 use Rattle.dap_history.proofs.Reacted.{Reacted, by_setting, by_starting, by_interrupting, by_closing, replied, by_reaction}

@@ -1,28 +1,16 @@
 -- The contents taken are those of the joined stream.
-use Rattle.std.proofs.Common.{◌≡◌, inl, inr, ℕ, List, [], ◌∷◌, ◌++◌, Option, None, Some, Result, Ok, Err, refl, sym, ◌∙◌, ap, subst, append-nil}
+use Rattle.dap_history.proofs.Common.{Accepted, AreReadAs, Command, Content, ContentsAreOfTheStream, Err, Fault, File, FirstSeq, History, Incoming, InputEnd, IsAfter, IsInFront, Item, Launch, LeadsByEvents, LeadsByFile, LeadsByPiece, LeadsByReport, LoadFault, Loaded, Loads, MayTake, MemoryFailure, NoMemory, None, Ok, Option, Piece, PlainReport, ReadFailed, ReadFailure, Ready, Report, Request, Rest, Situation, Some, Step, Takes, [], ap, append-nil, closed, faulty, filter_map, filter_map-append, inl, inr, launch_request, map-append, one_more, only_bytes, open_ended, read_as, refl, situation, subst, sym, waiting, waits, wanted_in, ℕ, ◌++◌, ◌∙◌, ◌∷◌, ◌≡◌}
+use Rattle.std.proofs.Common.{List, Result}
 use Rattle.std.specs.Prelude.{map}
-use Rattle.std.specs.List.{filter_map}
-use Rattle.std.proofs.lemmas.List.{append_assoc, map-append}
-use Rattle.std.proofs.lemmas.List.Elements.{filter_map-append}
+use Rattle.std.proofs.lemmas.List.{append_assoc}
 use Rattle.dap_frame.specs.Frame.{Frames}
 use Rattle.dap_frame.specs.Laws.{FramesJoin}
 use Rattle.dap_frame.proofs.Feeding.{frames_longer}
-use Rattle.dap_msg.specs.declared.request.FirstSeq.{FirstSeq}
-use Rattle.dap_msg.specs.declared.request.Request.{Request}
-use Rattle.dap_msg.specs.declared.command.Command.{Command}
 use Rattle.dap_msg.specs.declared.command.Command.TheVariants as command
-use Rattle.dbg_runner.specs.Plain.{PlainReport}
-use Rattle.dap_history.specs.declared.launch.Launch.{Launch}
-use Rattle.dap_history.specs.declared.fault.LoadFault.{LoadFault}
 use Rattle.dap_history.specs.declared.fault.LoadFault.TheVariants as load_fault
-use Rattle.dap_history.specs.declared.situation.Situation.{Situation}
-use Rattle.dap_history.specs.declared.situation.Situation.TheVariants.{Ready}
-use Rattle.dap_history.specs.History.{Item, Content, Loaded, Accepted, Fault, InputEnd, ReadFailure, MemoryFailure, Step, History}
-use Rattle.dap_history.specs.Readings.{situation}
-use Rattle.dap_history.specs.Launching.{wanted_by, wanted_in}
-use Rattle.dap_history.specs.Emission.{IsAfter}
-use Rattle.dap_history.specs.Events.{Incoming, Piece, End, ReadFailed, NoMemory, File, Report, Rest, only_bytes, IsInFront, Takes, one_more, closed, open_ended, faulty, waits, MayTake, LeadsByPiece, LeadsByFile, LeadsByReport, Loads, LeadsByEvents}
-use Rattle.dap_history.specs.Laws.{stream_of, launch_request, read_as, waiting, contents_read, AreReadAs, ContentsAreOfTheStream}
+use Rattle.dap_history.specs.Launching.{wanted_by}
+use Rattle.dap_history.specs.Events.{End}
+use Rattle.dap_history.specs.Laws.{stream_of, contents_read}
 use Rattle.dap_history.proofs.FirstKept.{first_by_event}
 
 -- ---- what is read

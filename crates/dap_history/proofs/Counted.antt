@@ -1,18 +1,9 @@
 -- Runs are numbered in order, and the last one has come to where the program stands.
-use Rattle.std.proofs.Common.{◌≡◌, ◌≢◌, ◌⊎◌, inl, inr, ℕ, ◌+◌, ◌<◌, nat_eq, List, [], ◌∷◌, ◌++◌, length, true, false, Option, None, Some, refl, sym, ◌∙◌, ap, subst, append-nil, length-append, arith}
-use Rattle.std.specs.Prelude.{unwrap_or, if◌then◌else◌}
-use Rattle.std.specs.List.{filter_map}
+use Rattle.dap_history.proofs.Common.{Accepted, Accepts, Causes, Content, Effect, Heading, History, Incoming, Item, Loaded, None, Option, PlainOrder, PlainReport, Some, Step, [], all_runs, ap, append-nil, arith, end_in, end_of, filter_map, filter_map-append, go, if◌then◌else◌, inl, inr, last_run, last_such, length, length-append, or_else, orders_of, refl, run_end, runs, situation, subst, sym, unwrap_or, ℕ, ◌++◌, ◌+◌, ◌<◌, ◌∙◌, ◌∷◌, ◌≡◌, ◌≢◌, ◌⊎◌}
+use Rattle.std.proofs.Common.{nat_eq, List, true, false}
 use Rattle.std.proofs.lemmas.Bool.{ne_eqb}
 use Rattle.std.proofs.lemmas.Bool.Decides.{eqb_tells}
-use Rattle.std.proofs.lemmas.List.Elements.{filter_map-append}
-use Rattle.dbg_runner.specs.Plain.{PlainOrder, PlainReport, Heading}
-use Rattle.dap_history.specs.Last.{or_else, last_such}
-use Rattle.dap_history.specs.History.{Item, Content, Loaded, Accepted, Step, History, Effect, orders_of}
-use Rattle.dap_history.specs.Readings.{go, situation, last_run, runs, position, end_of}
-use Rattle.dap_history.specs.Considered.{all_runs, end_in, run_end}
-use Rattle.dap_history.specs.Reports.{Accepts}
-use Rattle.dap_history.specs.Emission.{Causes}
-use Rattle.dap_history.specs.Events.{Incoming}
+use Rattle.dap_history.specs.Readings.{position}
 use Rattle.dap_history.proofs.Readings.{reading-snoc, orders_of-snoc, last_such-snoc, last_run-snoc, position-snoc}
 use Rattle.dap_history.proofs.Along.{IsTaken}
 use Rattle.dap_history.proofs.Silent.{NextRuns, no_runs, next_run, all_silent}

@@ -1,15 +1,10 @@
 -- How the stream was cut into pieces changes nothing.
-use Rattle.std.proofs.Common.{◌≡◌, ℕ, List, [], ◌∷◌, ◌++◌, Option, None, Some, refl, sym, ◌∙◌, ap, subst, arith, length-append}
+use Rattle.dap_history.proofs.Common.{Fault, FaultAt, FirstSeq, FramingFault, HasFaultyLine, History, Incoming, IsInFront, IsTaking, Launch, LeadsByEvent, LeadsByEvents, LeadsByPiece, None, Option, Piece, Request, Rest, Some, Takes, [], ap, arith, closed, faulty, length-append, line_of, lines_of, one_more, only_bytes, open_ended, refl, subst, sym, waits, ℕ, ◌++◌, ◌∙◌, ◌∷◌, ◌≡◌}
+use Rattle.std.proofs.Common.{List}
 use Rattle.std.proofs.lemmas.List.{append_assoc, take-append-le}
-use Rattle.dap_frame.specs.declared.fault.FramingFault.{FramingFault}
 use Rattle.dap_frame.specs.declared.fault.FramingFault.TheVariants.{HeaderTooLong, BadField, NoLength, TwoLengths, BadLength, TooLarge, NoMemory as NoRoom}
-use Rattle.dap_frame.specs.Header.{HasFaultyLine, IsTooLong, FaultAt, lines_of, line_of, header_limit}
+use Rattle.dap_frame.specs.Header.{IsTooLong, header_limit}
 use Rattle.dap_frame.proofs.Feeding.{frame_longer}
-use Rattle.dap_msg.specs.declared.request.FirstSeq.{FirstSeq}
-use Rattle.dap_msg.specs.declared.request.Request.{Request}
-use Rattle.dap_history.specs.declared.launch.Launch.{Launch}
-use Rattle.dap_history.specs.History.{History, Fault}
-use Rattle.dap_history.specs.Events.{Incoming, Piece, Rest, only_bytes, IsTaking, IsInFront, Takes, one_more, closed, open_ended, faulty, waits, LeadsByPiece, LeadsByEvent, LeadsByEvents}
 use Rattle.dap_history.specs.Laws.{CutsChangeNothing}
 use Rattle.dap_history.proofs.Along.{closes_for_good}
 

@@ -1,25 +1,10 @@
 -- In Fresh and Ready nothing is launched: only the first `initialize` leads to Ready.
-use Rattle.std.proofs.Common.{◌≡◌, ◌⊎◌, inl, inr, ℕ, List, [], ◌∷◌, Option, None, Some, Ok, Err, refl, subst}
-use Rattle.std.specs.Prelude.{map, unwrap_or, Result}
-use Rattle.dap_msg.specs.Commands.{name_of}
-use Rattle.dap_msg.specs.declared.command.Command.{Command}
+use Rattle.dap_history.proofs.Common.{Answers, Body, Command, CommandName, Err, Event, EventBody, Fresh, Go, History, Hold, None, Ok, Option, PlainOrder, Quit, Reaction, Ready, Refusal, RepliesIn, Reply, Situation, Some, Step, [], answer_mark, command_mark, event_mark, inl, inr, last_such, message_mark, name_of, or_else, order_mark, refl, reply_of, step_mark, subst, unwrap_or, with_answer, ℕ, ◌∷◌, ◌≡◌, ◌⊎◌}
+use Rattle.std.proofs.Common.{List}
+use Rattle.std.specs.Prelude.{map, Result}
 use Rattle.dap_msg.specs.declared.command.Command.TheVariants as command
-use Rattle.dap_msg.specs.declared.command.CommandName.{CommandName}
-use Rattle.dap_msg.specs.declared.outgoing.Body.{Body}
-use Rattle.dap_msg.specs.declared.outgoing.Refusal.{Refusal}
-use Rattle.dap_msg.specs.declared.outgoing.Outgoing.TheVariants.{Event}
-use Rattle.dap_msg.specs.declared.outgoing.EventBody.{EventBody}
 use Rattle.dap_msg.specs.declared.outgoing.EventBody.TheVariants as event
 use Rattle.dap_msg.specs.declared.outgoing.StopReason.TheVariants as reason
-use Rattle.dap_history.specs.declared.situation.Situation.{Situation}
-use Rattle.dap_history.specs.declared.situation.Situation.TheVariants.{Fresh, Ready}
-use Rattle.dap_history.specs.Last.{or_else, last_such}
-use Rattle.dbg_runner.specs.Plain.{PlainOrder, Go, Hold, Quit}
-use Rattle.dap_history.specs.History.{Step, History, with_answer}
-use Rattle.dap_history.specs.Readings.{command_mark, answer_mark, event_mark, message_mark, order_mark, step_mark}
-use Rattle.dap_history.specs.Replies.{Reply}
-use Rattle.dap_history.specs.Reactions.{Reaction, reply_of}
-use Rattle.dap_history.specs.Emission.{RepliesIn, Answers}
 use Rattle.dap_history.proofs.Reacted.{IsCalm, Reacted, by_answering, by_reaction}
 
 abbrev pub IsEarly : Situation → Type 0

@@ -1,11 +1,8 @@
 -- The first number that the client may use stays as it is.
-use Rattle.std.proofs.Common.{◌≡◌, inl, inr, ℕ, List, [], ◌∷◌, Option, None, Some, Result, Ok, Err, refl, ◌∙◌, ap}
-use Rattle.dap_msg.specs.declared.request.FirstSeq.{FirstSeq}
-use Rattle.dap_history.specs.declared.launch.Launch.{Launch}
-use Rattle.dap_history.specs.declared.fault.LoadFault.{LoadFault}
+use Rattle.dap_history.proofs.Common.{Err, File, FirstSeq, History, Incoming, Launch, LeadsByEvent, LeadsByEvents, LeadsByFile, LeadsByPiece, LoadFault, NoMemory, None, Ok, Option, Piece, ReadFailed, Report, Rest, Some, Takes, [], ap, closed, faulty, inl, inr, one_more, open_ended, refl, waits, ℕ, ◌∙◌, ◌∷◌, ◌≡◌}
+use Rattle.std.proofs.Common.{List, Result}
 use Rattle.dap_history.specs.declared.fault.LoadFault.TheVariants as load_fault
-use Rattle.dap_history.specs.History.{History}
-use Rattle.dap_history.specs.Events.{Incoming, Piece, End, ReadFailed, NoMemory, File, Report, Rest, Takes, one_more, closed, open_ended, faulty, waits, LeadsByPiece, LeadsByFile, LeadsByEvent, LeadsByEvents}
+use Rattle.dap_history.specs.Events.{End}
 
 pub first_by_takes : {first : FirstSeq} {past new : History} {bytes : List ℕ} {rest : Rest}
     → Takes first past bytes new rest → rest.first ≡ first

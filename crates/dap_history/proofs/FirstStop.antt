@@ -1,24 +1,13 @@
 -- A granted `configurationDone` stops the program at position 0 where it has to, and otherwise lets it run.
-use Rattle.std.proofs.Common.{◌≡◌, ℕ, [], Bool, true, false, Option, None, Some, Ok, refl, sym, ◌∙◌, ap, subst, append-nil}
-use Rattle.std.specs.Prelude.{if◌then◌else◌, option_map, is_some, is_none, unwrap_or}
+use Rattle.dap_history.proofs.Common.{Body, Causes, Command, Configuring, Content, Effect, History, Launched, None, Ok, Option, Reaction, Reason, Reply, Situation, Some, WrittenJoins, [], ap, append-nil, depth_at, due, due_first, enters, first_logs, go, if◌then◌else◌, is_some, last_such, launched, plan, reason_of, refl, reply_of, run_in, situation, stop_in, stop_of, stop_of_event, stopped_events, subst, sym, unwrap_or, ℕ, ◌∙◌, ◌≡◌}
+use Rattle.std.proofs.Common.{Bool, true, false}
+use Rattle.std.specs.Prelude.{option_map, is_none}
 use Rattle.std.specs.List.{list_any}
-use Rattle.dap_msg.specs.declared.outgoing.Body.{Body}
 use Rattle.dap_msg.specs.declared.outgoing.StopReason.TheVariants as stop
-use Rattle.pl0_meaning.specs.Laws.{WrittenJoins}
-use Rattle.dbg_plan.specs.Due.{stops as met, reason_of, due, depth_at}
+use Rattle.dbg_plan.specs.Due.{stops as met}
 use Rattle.dbg_plan.specs.declared.mode.Mode.TheVariants as mode
-use Rattle.dbg_plan.specs.declared.mode.Reason.{Reason}
 use Rattle.dbg_plan.specs.declared.mode.Reason.TheVariants as reason
-use Rattle.dap_history.specs.declared.situation.Situation.{Situation}
-use Rattle.dap_history.specs.declared.situation.Situation.TheVariants.{Configuring}
-use Rattle.dap_history.specs.Last.{last_such}
-use Rattle.dap_history.specs.History.{Launched, Content, History, Effect}
-use Rattle.dap_history.specs.Readings.{go, situation, launched, plan}
-use Rattle.dap_history.specs.Replies.{Reply, stopped_events, stop_of}
-use Rattle.dap_history.specs.Running.{due_first, first_mode, first_logs, enters}
-use Rattle.dap_history.specs.Reactions.{Reaction, reply_of}
-use Rattle.dap_history.specs.Emission.{Causes}
-use Rattle.dap_history.specs.Stops.{stop_of_event, stop_in, run_in}
+use Rattle.dap_history.specs.Running.{first_mode}
 use Rattle.dap_history.specs.Moves.{first_stop, PositionZeroIsConsidered}
 use Rattle.dap_history.proofs.Texts.{OneProgram}
 use Rattle.dap_history.proofs.Told.{stop_of_logs}
@@ -27,7 +16,6 @@ use Rattle.dap_history.proofs.Reacted.{IsCalm, Reacted, by_answering, by_startin
 use Rattle.dap_history.proofs.Holding.{result_of}
 use Rattle.dap_history.proofs.Judged.{was_taken}
 use Rattle.dap_history.proofs.Lines.{first_counts}
-use Rattle.dap_msg.specs.declared.command.Command.{Command}
 use Rattle.dap_msg.specs.declared.command.Command.TheVariants as command
 
 -- where `configurationDone` is granted, the program enters

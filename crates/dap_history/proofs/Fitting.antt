@@ -1,63 +1,25 @@
 -- The numbers of a history's messages fit in 64 bits.
-use Rattle.std.proofs.Common.{◌≡◌, inl, inr, ℕ, zero, suc, ◌+◌, ◌-◌, ◌^◌, ◌≤◌, ◌<◌, Bool, true, false, cond, nat_eq, List, [], ◌∷◌, ◌++◌, map, length, Option, None, Some, option_map, Result, Ok, Err, ℤ, refl, sym, ap, ◌∙◌, subst, arith, lit≤, eqb-true}
-use Rattle.std.specs.Prelude.{All, slice_get}
-use Rattle.std.specs.Option.{option_map_or}
-use Rattle.std.proofs.lemmas.List.Elements.{All-nil, All-cons, All-take, All-drop, All-map}
+use Rattle.dap_history.proofs.Common.{Accepted, All, All-cons, All-nil, Answers, At, Block, Body, Breakpoint, Causes, Command, CommandName, Configuration, Configuring, Content, Counting, DivideByZero, Effect, Err, EvalFault, EvaluatesIn, Event, EventBody, Frame, FramesAreFew, HasEffect, History, Incoming, InputEnd, IsHistoryOf, Item, LaunchArguments, Launched, Launches, Loaded, Log, None, OfProgram, Ok, Option, Outgoing, Overflow, PlainReport, Question, Reaction, ReadFailure, Reason, Refusal, RepliesAt, RepliesFrom, RepliesIn, Reply, Resolution, Rest, ResumeKind, Scope, Situation, SliceOutcome, Some, Step, StepAt, Subject, [], answer_to_line, answered, ap, arith, at, at_most, body_of, cond, due_first, effect_in, enters, eqb-true, exited_events, first_logs, frame_by_id, frame_limit, frame_name, held_effect, inl, inr, launched, length, line_offset, log_events, messages, messages_of, next_step, nothing, option_map_or, or_else, ordering, other_source, outputs, refl, refused, reply_of, report_effect, result_reply, scopes, scopes_from, shown_column, shown_frame, shown_frames, shown_line, situation, slice_get, stopped_events, subject_in, subst, suc, sym, waiting_pause, with_answer, zero, ℕ, ◌++◌, ◌+◌, ◌-◌, ◌<◌, ◌^◌, ◌∙◌, ◌∷◌, ◌≡◌, ◌≤◌}
+use Rattle.std.proofs.Common.{Bool, true, false, nat_eq, List, map, option_map, Result, ℤ, lit≤}
+use Rattle.std.proofs.lemmas.List.Elements.{All-take, All-drop, All-map}
 use Rattle.dap_msg.specs.declared.question.Question.TheVariants as question
-use Rattle.dap_msg.specs.declared.question.Question.{Question}
-use Rattle.dap_msg.specs.declared.requests.resume.ResumeKind.{ResumeKind}
 use Rattle.dap_msg.specs.declared.requests.resume.ResumeKind.TheVariants as resume
-use Rattle.dap_msg.specs.declared.command.Command.{Command}
 use Rattle.dap_msg.specs.declared.command.Command.TheVariants as command
-use Rattle.dap_msg.specs.declared.command.CommandName.{CommandName}
-use Rattle.dap_msg.specs.declared.outgoing.Outgoing.{Outgoing}
-use Rattle.dap_msg.specs.declared.outgoing.Outgoing.TheVariants.{Event}
 use Rattle.dap_msg.specs.declared.outgoing.Body.TheVariants as body
-use Rattle.dap_msg.specs.declared.outgoing.Refusal.{Refusal}
-use Rattle.dap_msg.specs.declared.outgoing.EventBody.{EventBody}
 use Rattle.dap_msg.specs.declared.outgoing.EventBody.TheVariants as event
 use Rattle.dap_msg.specs.declared.outgoing.StackFrame.{StackFrame}
-use Rattle.dap_msg.specs.declared.outgoing.Scope.{Scope}
-use Rattle.dap_msg.specs.declared.requests.launch.LaunchArguments.{LaunchArguments}
 use Rattle.dap_msg.specs.declared.requests.stack_trace.StackTraceArguments.{StackTraceArguments}
 use Rattle.dap_msg.specs.Laws.{LineFits, FrameFits, ReferenceFits, BodyFits, ResultFits, NumbersFit}
-use Rattle.pl0_tree.specs.Tree.{Block}
-use Rattle.pl0_tree.specs.Steps.{StepAt}
-use Rattle.pl0_meaning.specs.Values.{Frame, Configuration, next_step}
-use Rattle.pl0_meaning.specs.Runs.{at, frame_limit}
-use Rattle.pl0_meaning.specs.Laws.{FramesAreFew}
-use Rattle.dbg_plan.specs.Breakpoints.{Breakpoint}
-use Rattle.dbg_plan.specs.Logs.{Log}
-use Rattle.dbg_plan.specs.declared.mode.Reason.{Reason}
-use Rattle.dbg_plan.specs.declared.evaluation.EvalFault.{EvalFault}
-use Rattle.dbg_plan.specs.declared.evaluation.EvalFault.TheVariants.{Overflow, DivideByZero}
-use Rattle.dbg_plan.specs.declared.resolving.Resolution.{Resolution}
-use Rattle.dbg_plan.specs.declared.resolving.Resolution.TheVariants.{At}
-use Rattle.dbg_runner.specs.Plain.{PlainReport}
-use Rattle.dbg_runner.specs.declared.outcome.SliceOutcome.{SliceOutcome}
 use Rattle.dbg_runner.specs.declared.outcome.SliceOutcome.TheVariants as slice
-use Rattle.dap_history.specs.declared.situation.Situation.{Situation}
-use Rattle.dap_history.specs.declared.situation.Situation.TheVariants.{Configuring}
-use Rattle.dap_history.specs.Last.{or_else}
-use Rattle.dap_history.specs.History.{Launched, Item, Content, Loaded, Accepted, InputEnd, ReadFailure, Step, History, Effect, with_answer, messages, messages_of}
-use Rattle.dap_history.specs.Readings.{situation, launched, position, waiting_pause}
-use Rattle.dap_history.specs.Replies.{Reply, nothing, ordering, answered, refused, on_thread, OfProgram, stopped_events, exited_events, log_events}
-use Rattle.dap_history.specs.Launching.{Launches}
-use Rattle.dap_history.specs.Breakpoints.{line_offset, answer_to_line, effect_in}
-use Rattle.dap_history.specs.Running.{due_first, body_of, first_logs, enters}
-use Rattle.dap_history.specs.Reactions.{Reaction, reply_of, other_source}
-use Rattle.dap_history.specs.Frames.{Counting, shown_line, shown_column, frame_name, shown_frame, shown_frames, at_most, scopes_from, frame_by_id}
-use Rattle.dap_history.specs.Inspection.{Subject, stack_trace, scopes, variables, result_reply, EvaluatesIn, RepliesFrom, RepliesAt, subject_in}
-use Rattle.dap_history.specs.Reports.{outputs, held_effect, report_effect}
-use Rattle.dap_history.specs.Emission.{RepliesIn, Answers, HasEffect, Causes}
-use Rattle.dap_history.specs.Events.{Incoming, Rest, IsHistoryOf}
+use Rattle.dap_history.specs.Readings.{position}
+use Rattle.dap_history.specs.Replies.{on_thread}
+use Rattle.dap_history.specs.Inspection.{stack_trace, variables}
 use Rattle.dap_history.proofs.Readings.{launched-snoc, messages_of-snoc}
 use Rattle.dap_history.proofs.Along.{IsKept, any_events, along}
 use Rattle.dap_history.proofs.Silent.{all_silent}
 use Rattle.dap_history.proofs.Outputs.{report_launches}
 use Rattle.dap_history.proofs.Places.{most, BlockNear, read_near, MayBeNear, program_step_near, FramesNear, frames_near, next_step_near}
 use Rattle.dap_history.proofs.Reacted.{IsCalm, Reacted, by_refusing, by_answering, by_setting, by_starting, by_resuming, by_ending, by_reaction}
-use Rattle.dap_msg.specs.declared.outgoing.Body.{Body}
 
 -- ---- messages one after another
 

@@ -1,30 +1,11 @@
 -- A run goes back as asked and is not held, and counts begin anew after it.
-use Rattle.std.proofs.Common.{◌≡◌, ◌⊎◌, inl, inr, ℕ, ◌+◌, List, [], ◌∷◌, ◌++◌, true, false, Option, None, Some, Ok, refl, sym, ◌∙◌, ap, subst}
-use Rattle.std.specs.Prelude.{unwrap_or, option_map, if◌then◌else◌, IsSome}
-use Rattle.std.specs.Option.{option_map_or}
-use Rattle.dap_msg.specs.declared.command.CommandName.{CommandName}
+use Rattle.dap_history.proofs.Common.{Accepted, Block, Body, Causes, CommandName, Configuring, Content, Effect, Fault, Faulted, Go, GoesBackBy, Heading, History, Hold, Incoming, InputEnd, IsSome, IsStopped, Item, Loaded, MemoryFailure, Mode, None, Ok, Option, PlainOrder, PlainReport, Plan, Quit, ReadFailure, Running, Situation, SliceOutcome, Some, Step, StopReason, Stopped, Went, WrittenJoins, [], ap, back_in, end_of, from_next, go, goes_back, if◌then◌else◌, inl, inr, is_back, last_run, last_such, message_mark, messages, nothing, option_map_or, or_else, order_mark, plan, put_in_at, refl, report_effect, run_in, situation, step_mark, stop_of_event, subst, sym, unwrap_or, waiting_plan, ℕ, ◌++◌, ◌+◌, ◌∙◌, ◌∷◌, ◌≡◌, ◌⊎◌}
+use Rattle.std.proofs.Common.{List, true, false}
+use Rattle.std.specs.Prelude.{option_map}
 use Rattle.dap_msg.specs.declared.outgoing.Outgoing.TheVariants.{Answer}
-use Rattle.dap_msg.specs.declared.outgoing.Body.{Body}
-use Rattle.dap_msg.specs.declared.outgoing.StopReason.{StopReason}
-use Rattle.pl0_tree.specs.Tree.{Block}
-use Rattle.pl0_meaning.specs.Laws.{WrittenJoins}
-use Rattle.dbg_plan.specs.declared.mode.Mode.{Mode}
-use Rattle.dbg_runner.specs.declared.outcome.SliceOutcome.{SliceOutcome}
 use Rattle.dbg_runner.specs.declared.outcome.SliceOutcome.TheVariants as slice
-use Rattle.dbg_runner.specs.Plain.{PlainReport, PlainOrder, Go, Hold, Quit, Heading, goes_back}
-use Rattle.dbg_runner.specs.Lawful.{GoesBackBy, Went}
-use Rattle.dap_history.specs.declared.situation.Situation.{Situation}
-use Rattle.dap_history.specs.declared.situation.Situation.TheVariants.{Configuring, Running, Stopped, Faulted}
-use Rattle.dap_history.specs.Plans.{Plan}
-use Rattle.dap_history.specs.Last.{or_else, last_such}
-use Rattle.dap_history.specs.History.{Item, Content, Loaded, Accepted, Fault, InputEnd, ReadFailure, MemoryFailure, Step, History, Effect, messages}
-use Rattle.dap_history.specs.Readings.{go, situation, position, plan, is_back, last_run, end_of, message_mark, order_mark, step_mark, waiting_plan}
-use Rattle.dap_history.specs.Replies.{nothing}
-use Rattle.dap_history.specs.Reports.{from_next, put_in_at, report_effect}
-use Rattle.dap_history.specs.Emission.{Causes}
-use Rattle.dap_history.specs.Stops.{run_in, stop_of_event, IsStopped}
-use Rattle.dap_history.specs.GoingBack.{back_in, EachGoesBackAsAsked, CountsBeginAnew, RetreatsAreNotHeld}
-use Rattle.dap_history.specs.Events.{Incoming}
+use Rattle.dap_history.specs.Readings.{position}
+use Rattle.dap_history.specs.GoingBack.{EachGoesBackAsAsked, CountsBeginAnew, RetreatsAreNotHeld}
 use Rattle.dap_history.proofs.Readings.{situation-snoc, position-snoc, plan-snoc, last_run-snoc}
 use Rattle.dap_history.proofs.Texts.{OneProgram}
 use Rattle.dap_history.proofs.Along.{IsTaken, IsKept, IsLawfulEvent, any_events, lawful_events, along}

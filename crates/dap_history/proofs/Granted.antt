@@ -1,28 +1,10 @@
 -- What a request tells besides its answer, and that a run that is granted is ordered.
-use Rattle.std.proofs.Common.{◌≡◌, ◌⊎◌, inl, inr, List, [], ◌∷◌, ◌++◌, Bool, true, false, Option, None, Some, Ok, refl, sym, ◌∙◌, ap, subst}
-use Rattle.std.specs.Prelude.{IsSome, is_some, unwrap_or}
-use Rattle.std.proofs.lemmas.List.Elements.{All-nil}
-use Rattle.dap_msg.specs.declared.command.Command.{Command}
+use Rattle.dap_history.proofs.Common.{Accepted, All-nil, Body, Causes, Command, Configuring, Content, Effect, EventBody, History, Incoming, IsHistoryOf, IsOutput, IsSome, Launched, None, Ok, Option, PlainReport, Reaction, Reason, Reply, Rest, Situation, SliceOutcome, Some, Step, [], ap, due_first, enters, first_logs, go, held_effect, inl, inr, is_some, last_such, mode_by, plan, refl, reply_of, report_effect, situation, stop_of, stopped_events, subst, sym, unwrap_or, waiting_pause, ◌++◌, ◌∙◌, ◌∷◌, ◌≡◌, ◌⊎◌}
+use Rattle.std.proofs.Common.{List, Bool, true, false}
 use Rattle.dap_msg.specs.declared.command.Command.TheVariants as command
-use Rattle.dap_msg.specs.declared.outgoing.Body.{Body}
-use Rattle.dap_msg.specs.declared.outgoing.EventBody.{EventBody}
-use Rattle.dbg_plan.specs.declared.mode.Reason.{Reason}
-use Rattle.dbg_runner.specs.declared.outcome.SliceOutcome.{SliceOutcome}
 use Rattle.dbg_runner.specs.declared.outcome.SliceOutcome.TheVariants as slice
-use Rattle.dbg_runner.specs.Plain.{PlainReport}
-use Rattle.dap_history.specs.declared.situation.Situation.{Situation}
-use Rattle.dap_history.specs.declared.situation.Situation.TheVariants.{Configuring}
-use Rattle.dap_history.specs.Last.{last_such}
-use Rattle.dap_history.specs.History.{Launched, Content, Accepted, Step, History, Effect}
-use Rattle.dap_history.specs.Readings.{go, situation, plan, waiting_pause}
-use Rattle.dap_history.specs.Replies.{Reply, stopped_events, stop_of}
-use Rattle.dap_history.specs.Running.{due_first, first_logs, enters}
-use Rattle.dap_history.specs.Reactions.{Reaction, reply_of}
-use Rattle.dap_history.specs.Reports.{held_effect, report_effect}
-use Rattle.dap_history.specs.Emission.{Causes}
-use Rattle.dap_history.specs.Stops.{IsOutput, TellsFirst, TellsBy, EachReplyIsTold}
-use Rattle.dap_history.specs.Runs.{mode_by, IsExcused, GrantedRunsAreOrdered, HeldRunsGoOn}
-use Rattle.dap_history.specs.Events.{Incoming, Rest, IsHistoryOf}
+use Rattle.dap_history.specs.Stops.{TellsFirst, TellsBy, EachReplyIsTold}
+use Rattle.dap_history.specs.Runs.{IsExcused, GrantedRunsAreOrdered, HeldRunsGoOn}
 use Rattle.dap_history.proofs.Along.{any_events, along}
 use Rattle.dap_history.proofs.Each.{EachTaken, each_kept, each_first}
 use Rattle.dap_history.proofs.Told.{stop_of_logs}

@@ -1,38 +1,13 @@
 -- A run is held once, where something waits.
-use Rattle.std.proofs.Common.{◌≡◌, ◌⊎◌, inl, inr, ℕ, ◌+◌, List, [], ◌∷◌, ◌++◌, length, Bool, true, false, ◌||◌, Option, None, Some, Ok, refl, sym, ◌∙◌, ap, subst, append-nil, arith}
-use Rattle.std.specs.Prelude.{if◌then◌else◌, unwrap_or, Result}
-use Rattle.std.specs.Option.{option_map_or}
-use Rattle.std.specs.List.{filter_map}
+use Rattle.dap_history.proofs.Common.{Accepted, Answers, Body, Breakpoint, Causes, Command, Content, Effect, Ending, Go, Heading, History, Hold, Incoming, InputEnd, IsTaking, Item, Launch, Launched, Launches, Loaded, None, Ok, Option, Outgoing, PlainOrder, PlainReport, Quit, Reaction, ReadFailure, Reason, Refusal, Reply, Request, Running, Situation, SliceOutcome, Some, Step, [], ap, append-nil, arith, closing, due_first, effect_in, ending_of, enters, filter_map, go, goes_back, held_effect, hold_mark, hold_once, if◌then◌else◌, inl, inr, is_back, is_same_path, last_run, last_such, length, name_of, option_map_or, or_else, orders_of, refl, reply_of, report_effect, runs, situation, step_mark, subst, sym, unwrap_or, waiting_pause, ℕ, ◌++◌, ◌+◌, ◌||◌, ◌∙◌, ◌∷◌, ◌≡◌, ◌⊎◌}
+use Rattle.std.proofs.Common.{List, Bool, true, false}
+use Rattle.std.specs.Prelude.{Result}
 use Rattle.std.proofs.lemmas.List.{append_assoc}
-use Rattle.dap_msg.specs.declared.request.Request.{Request}
-use Rattle.dap_msg.specs.Commands.{name_of}
-use Rattle.dap_msg.specs.declared.command.Command.{Command}
 use Rattle.dap_msg.specs.declared.command.Command.TheVariants as command
-use Rattle.dap_msg.specs.declared.outgoing.Outgoing.{Outgoing}
 use Rattle.dap_msg.specs.declared.outgoing.Outgoing.TheVariants.{Answer}
-use Rattle.dap_msg.specs.declared.outgoing.Body.{Body}
-use Rattle.dap_msg.specs.declared.outgoing.Refusal.{Refusal}
-use Rattle.dbg_plan.specs.Breakpoints.{Breakpoint}
-use Rattle.dbg_plan.specs.declared.mode.Reason.{Reason}
-use Rattle.dbg_runner.specs.declared.outcome.SliceOutcome.{SliceOutcome}
 use Rattle.dbg_runner.specs.declared.outcome.SliceOutcome.TheVariants as slice
-use Rattle.dbg_runner.specs.Plain.{PlainReport, PlainOrder, Go, Hold, Quit, Heading, goes_back}
-use Rattle.dap_history.specs.declared.ending.Ending.{Ending}
-use Rattle.dap_history.specs.declared.launch.Launch.{Launch}
-use Rattle.dap_history.specs.declared.situation.Situation.{Situation}
-use Rattle.dap_history.specs.declared.situation.Situation.TheVariants.{Running}
-use Rattle.dap_history.specs.Last.{or_else, last_such}
-use Rattle.dap_history.specs.History.{Launched, Item, Content, Loaded, Accepted, InputEnd, ReadFailure, Step, History, Effect, orders_of}
-use Rattle.dap_history.specs.Readings.{go, situation, step_mark, runs, is_held, is_back, hold_mark, last_run, waiting_pause, closing, ending_of}
-use Rattle.dap_history.specs.Replies.{Reply}
-use Rattle.dap_history.specs.Launching.{Launches}
-use Rattle.dap_history.specs.Breakpoints.{hold_once, effect_in, is_same_path}
-use Rattle.dap_history.specs.Running.{due_first, enters}
-use Rattle.dap_history.specs.Reactions.{Reaction, reply_of}
-use Rattle.dap_history.specs.Reports.{held_effect, report_effect}
-use Rattle.dap_history.specs.Emission.{Answers, Causes}
+use Rattle.dap_history.specs.Readings.{is_held}
 use Rattle.dap_history.specs.Runs.{IsToWait, GrantsWait, HoldOnce, WaitsAreHeld}
-use Rattle.dap_history.specs.Events.{Incoming, IsTaking}
 use Rattle.dap_history.proofs.Readings.{situation-snoc, orders_of-snoc, last_run-snoc, runs-snoc, is_held-snoc, ending_of-snoc}
 use Rattle.dap_history.proofs.Along.{IsKept, any_events, along}
 use Rattle.dap_history.proofs.Each.{WasTaken, EachTaken, each_kept, each_first}

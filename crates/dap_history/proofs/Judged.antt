@@ -1,40 +1,18 @@
 -- Each request is judged as the table says, a refusal changes nothing, and other items tell nothing.
-use Rattle.std.proofs.Common.{◌≡◌, ◌⊎◌, inl, inr, ℕ, List, [], ◌∷◌, ◌++◌, Bool, true, false, Option, None, Some, Result, Ok, Err, refl, sym, ◌∙◌, ap, subst}
-use Rattle.std.specs.Prelude.{nat_eq, if◌then◌else◌, ℤ, map}
-use Rattle.dap_msg.specs.declared.command.Command.{Command}
+use Rattle.dap_history.proofs.Common.{Accepted, Causes, Command, CommandName, Configuration, Configuring, Content, DivideByZero, Effect, Err, EvalFault, EvaluatesIn, Event, Faulted, Frame, Fresh, History, Incoming, Inspects, Interrupt, IsHistoryOf, Item, Launch, Launched, Launches, Loaded, None, Ok, Option, Overflow, Question, Reaction, Reacts, Ready, Refusal, Refuse, RepliesAt, RepliesFrom, Reply, Rest, Resume, ResumeKind, Retreat, RetreatKind, Running, SetBreakpointsArguments, SetsOf, Situation, Some, Start, Step, Stopped, Subject, ThreadArguments, [], ap, at, body_of, frame_by_id, if◌then◌else◌, inl, inr, is_same_path, launched, nothing, refl, refused, refused_by, refused_thread, reply_of, result_reply, scopes, situation, subject_in, subst, sym, wanted_in, with_answer, ℕ, ◌++◌, ◌∙◌, ◌∷◌, ◌≡◌, ◌⊎◌}
+use Rattle.std.proofs.Common.{List, Bool, true, false, Result}
+use Rattle.std.specs.Prelude.{nat_eq, ℤ, map}
 use Rattle.dap_msg.specs.declared.command.Command.TheVariants as command
-use Rattle.dap_msg.specs.declared.command.CommandName.{CommandName}
-use Rattle.dap_msg.specs.declared.requests.set_breakpoints.SetBreakpointsArguments.{SetBreakpointsArguments}
-use Rattle.dap_msg.specs.declared.requests.resume.ThreadArguments.{ThreadArguments}
-use Rattle.dap_msg.specs.declared.requests.resume.ResumeKind.{ResumeKind}
 use Rattle.dap_msg.specs.declared.requests.resume.ResumeKind.TheVariants as resume
-use Rattle.dap_msg.specs.declared.requests.resume.RetreatKind.{RetreatKind}
-use Rattle.dap_msg.specs.declared.question.Question.{Question}
 use Rattle.dap_msg.specs.declared.question.Question.TheVariants as question
-use Rattle.dap_msg.specs.declared.outgoing.Outgoing.TheVariants.{Answer, Event}
+use Rattle.dap_msg.specs.declared.outgoing.Outgoing.TheVariants.{Answer}
 use Rattle.dap_msg.specs.declared.outgoing.Body.TheVariants as body
-use Rattle.dap_msg.specs.declared.outgoing.Refusal.{Refusal}
 use Rattle.dap_msg.specs.declared.outgoing.Refusal.TheVariants as refusal
-use Rattle.pl0_meaning.specs.Values.{Configuration, Frame}
-use Rattle.pl0_meaning.specs.Runs.{at}
-use Rattle.dbg_plan.specs.declared.evaluation.EvalFault.{EvalFault}
-use Rattle.dbg_plan.specs.declared.evaluation.EvalFault.TheVariants.{Overflow, DivideByZero}
-use Rattle.dap_history.specs.declared.launch.Launch.{Launch}
-use Rattle.dap_history.specs.declared.situation.Situation.{Situation}
-use Rattle.dap_history.specs.declared.situation.Situation.TheVariants.{Fresh, Ready, Configuring, Running, Stopped, Faulted}
-use Rattle.dap_history.specs.History.{Launched, Item, Content, Loaded, Accepted, Step, History, Effect, with_answer}
-use Rattle.dap_history.specs.Readings.{situation, launched, position}
-use Rattle.dap_history.specs.Replies.{Reply, nothing, refused}
-use Rattle.dap_history.specs.Launching.{wanted_in, Launches}
-use Rattle.dap_history.specs.Breakpoints.{is_same_path}
-use Rattle.dap_history.specs.Running.{body_of}
+use Rattle.dap_history.specs.Readings.{position}
 use Rattle.dap_history.specs.Reactions as reaction_is
-use Rattle.dap_history.specs.Reactions.{Reaction, Refuse, Start, Resume, End, Retreat, Interrupt, reply_of, SetsOf, Retreats, Inspects, Reacts}
-use Rattle.dap_history.specs.Frames.{frame_by_id}
-use Rattle.dap_history.specs.Inspection.{Subject, subject_in, scopes, variables, result_reply, EvaluatesIn, RepliesFrom, RepliesAt}
-use Rattle.dap_history.specs.Emission.{Causes}
-use Rattle.dap_history.specs.Events.{Incoming, Rest, IsHistoryOf}
-use Rattle.dap_history.specs.Verdicts.{refused_thread, refused_by, IsGranted, IsVerdict, EachIsJudged, IsNothing, RefusalsChangeNothing, SpeaksUp, OthersTellNothing, AnswersComeFirst}
+use Rattle.dap_history.specs.Reactions.{End, Retreats}
+use Rattle.dap_history.specs.Inspection.{variables}
+use Rattle.dap_history.specs.Verdicts.{IsGranted, IsVerdict, EachIsJudged, IsNothing, RefusalsChangeNothing, SpeaksUp, OthersTellNothing, AnswersComeFirst}
 use Rattle.dap_history.proofs.Along.{IsTaken, any_events, along}
 use Rattle.dap_history.proofs.Each.{WasTaken, EachTaken, each_kept, each_first}
 use Rattle.dap_history.proofs.GoingBack.{Anything, anything_kept}

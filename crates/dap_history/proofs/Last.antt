@@ -1,18 +1,11 @@
 -- A `disconnect` that is taken is the last item, and its answer the last message.
-use Rattle.std.proofs.Common.{◌≡◌, ◌⊎◌, inl, inr, ℕ, [], ◌∷◌, ◌++◌, Some, Ok, sym, ◌∙◌, ap, subst}
+use Rattle.dap_history.proofs.Common.{Causes, Close, Content, Ending, Event, History, Incoming, IsTaking, Ok, Reply, Some, Step, [], ap, closing, ending_of, inl, inr, messages, messages_of, subst, sym, with_answer, ℕ, ◌++◌, ◌∙◌, ◌∷◌, ◌≡◌, ◌⊎◌}
 use Rattle.std.specs.Prelude.{map}
 use Rattle.dap_msg.specs.declared.command.Command.TheVariants as command
 use Rattle.dap_msg.specs.declared.command.CommandName.TheVariants as name
 use Rattle.dap_msg.specs.declared.command.Supported.TheVariants.{Disconnect}
-use Rattle.dap_msg.specs.declared.outgoing.Outgoing.TheVariants.{Answer, Event}
+use Rattle.dap_msg.specs.declared.outgoing.Outgoing.TheVariants.{Answer}
 use Rattle.dap_msg.specs.declared.outgoing.Body.TheVariants as body
-use Rattle.dap_history.specs.declared.ending.Ending.{Ending}
-use Rattle.dap_history.specs.History.{Content, Step, History, with_answer, messages, messages_of}
-use Rattle.dap_history.specs.Readings.{closing, ending_of}
-use Rattle.dap_history.specs.Replies.{Reply}
-use Rattle.dap_history.specs.Emission.{Causes}
-use Rattle.dap_history.specs.Events.{Incoming, IsTaking}
-use Rattle.dap_history.specs.Reactions.{Close}
 use Rattle.dap_history.specs.Laws.{DisconnectIsLast}
 use Rattle.dap_history.proofs.Reacted.{replied}
 use Rattle.dap_history.proofs.Readings.{last_such-append, messages_of-snoc}

@@ -1,47 +1,19 @@
 -- Each item that reads no text leads from a history to another.
-use Rattle.std.proofs.Common.{◌≡◌, ◌⊎◌, inl, inr, ℕ, zero, suc, ◌-◌, ◌<◌, ◌≤◌, length, List, [], ◌∷◌, ◌++◌, Bool, true, false, Option, None, Some, Ok, Err, refl, sym, ◌∙◌, ap, subst, arith}
-use Rattle.std.specs.Prelude.{if◌then◌else◌, is_some, IsSome, unwrap_or}
-use Rattle.std.specs.Option.{option_map_or}
+use Rattle.dap_history.proofs.Common.{Accepted, Block, Body, Breakpoint, Causes, Command, Configuration, Configuring, Content, Effect, EndsBy, Err, Fault, Faulted, Fresh, GoesBackBy, History, InputEnd, Inspects, IsAfter, IsSome, IsStopped, Item, Launch, Launched, Launches, Loaded, MemoryFailure, Mode, None, OfProgram, Ok, Option, Outgoing, PlainReport, Question, Quit, Reaction, Reacts, ReadFailure, Ready, Reason, RepliesAt, RepliesFrom, RepliesIn, Reply, Resume, Retreat, Situation, SliceOutcome, Some, Start, Step, Stop, Stopped, Went, WrittenJoins, [], ap, arith, at, due, end_of, faults, for_thread, goal_of, goes_back, has_come, has_no_memory, if◌then◌else◌, inl, inr, is_due, is_some, is_spent, lacks_memory, last_due, launched, length, name_of, nothing, option_map_or, or_else, ordering, refl, refused, reply_of, report_effect, situation, step_mark, stop_at, subject_in, subst, suc, sym, takes_all, unwrap_or, zero, ℕ, ◌++◌, ◌-◌, ◌<◌, ◌∙◌, ◌∷◌, ◌≡◌, ◌≤◌, ◌⊎◌}
+use Rattle.std.proofs.Common.{List, Bool, true, false}
 use Rattle.dap_msg.specs.declared.question.Question.TheVariants as question
-use Rattle.dap_msg.specs.declared.question.Question.{Question}
-use Rattle.dap_msg.specs.Commands.{name_of}
-use Rattle.dap_msg.specs.declared.command.Command.{Command}
 use Rattle.dap_msg.specs.declared.command.Command.TheVariants as command
 use Rattle.dap_msg.specs.declared.command.CommandName.TheVariants as name
 use Rattle.dap_msg.specs.declared.command.Supported.TheVariants as supported
-use Rattle.dap_msg.specs.declared.outgoing.Outgoing.{Outgoing}
 use Rattle.dap_msg.specs.declared.outgoing.Outgoing.TheVariants.{Answer}
-use Rattle.dap_msg.specs.declared.outgoing.Body.{Body}
 use Rattle.dap_msg.specs.declared.outgoing.Refusal.TheVariants as refusal
-use Rattle.pl0_tree.specs.Tree.{Block}
-use Rattle.pl0_meaning.specs.Values.{Configuration}
-use Rattle.pl0_meaning.specs.Runs.{at}
-use Rattle.pl0_meaning.specs.Laws.{WrittenJoins, RunsHaveNoGaps}
+use Rattle.pl0_meaning.specs.Laws.{RunsHaveNoGaps}
 use Rattle.pl0_machine.specs.Machine.{frames_of}
-use Rattle.dbg_plan.specs.Breakpoints.{Breakpoint}
-use Rattle.dbg_plan.specs.Due.{due}
-use Rattle.dbg_plan.specs.Retreat.{Stop, last_due, stop_at, goal_of}
-use Rattle.dbg_plan.specs.declared.mode.Mode.{Mode}
 use Rattle.dbg_plan.specs.declared.mode.Mode.TheVariants as mode
-use Rattle.dbg_plan.specs.declared.mode.Reason.{Reason}
-use Rattle.dbg_runner.specs.declared.outcome.SliceOutcome.{SliceOutcome}
 use Rattle.dbg_runner.specs.declared.outcome.SliceOutcome.TheVariants as slice
-use Rattle.dbg_runner.specs.Plain.{PlainReport, Quit, goes_back}
-use Rattle.dbg_runner.specs.Lawful.{RunsAt, EndsBy, takes_all, is_due, is_over as is_ended, faults, is_held, lacks_memory, GoesBackBy, is_spent, has_come, has_no_memory, Went}
-use Rattle.dap_history.specs.declared.launch.Launch.{Launch}
-use Rattle.dap_history.specs.declared.situation.Situation.{Situation}
-use Rattle.dap_history.specs.declared.situation.Situation.TheVariants.{Fresh, Ready, Configuring, Stopped, Faulted}
-use Rattle.dap_history.specs.Last.{or_else}
-use Rattle.dap_history.specs.History.{Launched, Item, Content, Loaded, Accepted, Fault, InputEnd, ReadFailure, MemoryFailure, Step, History, Effect}
-use Rattle.dap_history.specs.Readings.{situation, step_mark, launched, end_of, position}
-use Rattle.dap_history.specs.Replies.{Reply, nothing, ordering, refused, OfProgram}
-use Rattle.dap_history.specs.Launching.{Launches}
-use Rattle.dap_history.specs.Reactions.{Reaction, Start, Resume, Retreat, reply_of, for_thread, Inspects, Reacts}
-use Rattle.dap_history.specs.Inspection.{RepliesFrom, RepliesAt, subject_in}
-use Rattle.dap_history.specs.Reports.{report_effect}
-use Rattle.dap_history.specs.Emission.{RepliesIn, Causes, IsAfter}
+use Rattle.dbg_runner.specs.Lawful.{RunsAt, is_over as is_ended, is_held}
+use Rattle.dap_history.specs.Readings.{position}
 use Rattle.dap_history.specs.Laws.{IsPlain, IsPlainItem, EachItemLeads}
-use Rattle.dap_history.specs.Stops.{IsStopped}
 use Rattle.dap_history.proofs.Readings.{situation-snoc, position-snoc, launched-snoc}
 use Rattle.dap_history.proofs.Texts.{OneProgram}
 use Rattle.dap_history.proofs.Along.{IsTaken, IsKept, IsLawfulEvent, lawful_events, along}

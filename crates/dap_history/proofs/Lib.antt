@@ -1,3 +1,5 @@
+-- What several of the other files import, from one place.
+pub mod Common
 -- How each reading of a history goes on with one more step; for `history_laws`, `reading_laws` and `run_laws`.
 pub mod Readings
 -- What holds at first and is kept by each item that is taken holds along a history; for `history_laws` and `run_laws`.

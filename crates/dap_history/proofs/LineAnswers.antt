@@ -1,43 +1,20 @@
 -- Each line of a granted `setBreakpoints` is answered from the program, in the client's own counting.
-use Rattle.std.proofs.Common.{◌≡◌, ◌⊎◌, inl, inr, ℕ, ◌+◌, ◌-◌, ◌<◌, ◌≤◌, List, [], ◌∷◌, ◌++◌, map, length, get_or, Bool, true, false, Option, None, Some, Result, Ok, Err, refl, sym, ◌∙◌, ap, subst, arith}
-use Rattle.std.specs.Prelude.{slice_get, unwrap_or, string_bytes}
-use Rattle.std.specs.Option.{option_map_or}
+use Rattle.dap_history.proofs.Common.{Accepted, AreAskedAs, AreResolved, At, BadCondition, BadHitCondition, BadLogMessage, Block, Body, Breakpoint, BreakpointAnswer, Causes, Command, Content, Err, Fresh, GiveBreakpoints, HasConditionAt, HasRule, History, Incoming, InitializeArguments, IsAskedAs, IsHistoryOf, IsResolvedTo, Item, Launched, Loaded, NoStep, None, Ok, Option, Reaction, ReadsConditionAt, ReadsMessageAt, ReadsRule, Refusal, RepliesIn, Reply, Resolution, Rest, SetBreakpointsArguments, Situation, Some, SourceBreakpoint, Step, StepAt, [], after_step, answer_to_line, ap, arith, causing, effect_in, get_or, inl, inr, item_leads, launched, length, less_by, line_offset, name_of, offset, option_map_or, other_source, refl, reply_of, settings, settings_by, situation, slice_get, step_from, steps, stop_in, string_bytes, subst, sym, unwrap_or, ℕ, ◌++◌, ◌+◌, ◌-◌, ◌<◌, ◌∙◌, ◌∷◌, ◌≡◌, ◌≤◌, ◌⊎◌}
+use Rattle.std.proofs.Common.{List, map, Bool, true, false, Result}
 use Rattle.std.specs.List.{position, position_or_len}
 use Rattle.std.proofs.lemmas.Grind.{common_steps}
 use Rattle.std.proofs.lemmas.Option.{slice_get_cases}
-use Rattle.dap_msg.specs.Commands.{name_of}
-use Rattle.dap_msg.specs.declared.command.Command.{Command}
 use Rattle.dap_msg.specs.declared.command.Command.TheVariants as command
-use Rattle.dap_msg.specs.declared.requests.initialize.InitializeArguments.{InitializeArguments}
-use Rattle.dap_msg.specs.declared.requests.set_breakpoints.SetBreakpointsArguments.{SetBreakpointsArguments}
-use Rattle.dap_msg.specs.declared.requests.set_breakpoints.SourceBreakpoint.{SourceBreakpoint}
 use Rattle.dap_msg.specs.declared.outgoing.Outgoing.TheVariants.{Answer}
-use Rattle.dap_msg.specs.declared.outgoing.Body.{Body}
 use Rattle.dap_msg.specs.declared.outgoing.Body.TheVariants as body
-use Rattle.dap_msg.specs.declared.outgoing.Refusal.{Refusal}
-use Rattle.dap_msg.specs.declared.outgoing.BreakpointAnswer.{BreakpointAnswer}
 use Rattle.dap_msg.specs.declared.outgoing.BreakpointAnswer.TheVariants as answer
 use Rattle.dap_msg.specs.declared.outgoing.BreakpointRefusal.TheVariants as why
-use Rattle.pl0_tree.specs.Tree.{Block}
-use Rattle.pl0_tree.specs.Steps.{StepAt, steps}
-use Rattle.dbg_plan.specs.Breakpoints.{Breakpoint}
-use Rattle.dbg_plan.specs.Resolutions.{step_from, HasConditionAt, HasRule, HasMessageAt, IsResolvedTo, AreResolved, ReadsConditionAt, ReadsRule, ReadsMessageAt}
+use Rattle.dbg_plan.specs.Resolutions.{HasMessageAt}
 use Rattle.dbg_plan.specs.declared.resolving.SourceBreakpoint.{SourceBreakpoint as AskedLine}
-use Rattle.dbg_plan.specs.declared.resolving.Resolution.{Resolution}
-use Rattle.dbg_plan.specs.declared.resolving.Resolution.TheVariants.{At, NoStep, BadCondition, BadHitCondition, BadLogMessage}
-use Rattle.dap_history.specs.declared.situation.Situation.{Situation}
-use Rattle.dap_history.specs.declared.situation.Situation.TheVariants.{Fresh}
-use Rattle.dap_history.specs.History.{Launched, Item, Content, Loaded, Accepted, Step, History}
-use Rattle.dap_history.specs.Readings.{situation, settings_by, settings, launched}
-use Rattle.dap_history.specs.Replies.{Reply, causing}
-use Rattle.dap_history.specs.Reactions.{Reaction, reply_of, other_source}
-use Rattle.dap_history.specs.Breakpoints.{offset, line_offset, IsAskedAs, AreAskedAs, step_line, answer_to_line, effect_in}
-use Rattle.dap_history.specs.Emission.{RepliesIn, Causes}
-use Rattle.dap_history.specs.Events.{Incoming, Rest, IsHistoryOf}
-use Rattle.dap_history.specs.Stops.{stop_in}
-use Rattle.dap_history.specs.Transitions.{command_leads, item_leads, after_step}
-use Rattle.dap_history.specs.LineAnswers.{AnswersLine, AnswersLines, GivesBreakpoint, GiveBreakpoints, LinesAreAnswered}
-use Rattle.dap_history.specs.Initialized.{IsInitializedBy, less_by}
+use Rattle.dap_history.specs.Breakpoints.{step_line}
+use Rattle.dap_history.specs.Transitions.{command_leads}
+use Rattle.dap_history.specs.LineAnswers.{AnswersLine, AnswersLines, GivesBreakpoint, LinesAreAnswered}
+use Rattle.dap_history.specs.Initialized.{IsInitializedBy}
 use Rattle.dap_history.proofs.Readings.{settings-snoc}
 use Rattle.dap_history.proofs.Along.{IsTaken, IsKept, any_events, along}
 use Rattle.dap_history.proofs.Each.{WasTaken, EachTaken, each_kept, each_first}

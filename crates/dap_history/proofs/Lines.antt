@@ -1,50 +1,17 @@
 -- Each run is under the breakpoints of the lines that were set last, and counts from where they were set.
-use Rattle.std.proofs.Common.{◌≡◌, inl, inr, ℕ, ◌+◌, List, [], ◌∷◌, ◌++◌, Bool, true, false, ◌||◌, Option, None, Some, Result, Ok, refl, sym, ◌∙◌, ap, subst}
-use Rattle.std.specs.Prelude.{if◌then◌else◌, is_some, map, option_map, unwrap_or}
-use Rattle.std.specs.Option.{option_map_or}
-use Rattle.dap_msg.specs.Commands.{name_of}
-use Rattle.dap_msg.specs.declared.command.Command.{Command}
+use Rattle.dap_history.proofs.Common.{Accepted, Accepts, AreLawful, Body, Breakpoint, BreakpointAnswer, Causes, Command, Configuring, Content, Effect, Ended, Event, Fault, Faulted, Fresh, GiveBreakpoints, Go, Heading, History, Hold, Incoming, InitializeArguments, InputEnd, IsHistoryOf, IsResolved, IsStopped, Item, Launch, Launched, Launches, Loaded, MemoryFailure, Mode, None, Ok, Option, Orders, Outgoing, PlainOrder, PlainReport, Plan, Quit, Reaction, ReadFailure, Ready, Reason, Refusal, Reply, Resolution, Rest, Running, SetBreakpointsArguments, Situation, SliceOutcome, Some, SourceBreakpoint, Step, Stopped, ThreadArguments, WrittenJoins, [], answer_to_line, ap, body_of, causing, due_first, effect_in, end_of, enters, exception_of, exited_events, from_next, go, goes_back, held_effect, hold_once, if◌then◌else◌, inl, inr, is_back, is_same_path, is_some, last_run, last_such, launched, launches, line_offset, message_mark, name_of, no_plan, nothing, offset, option_map_or, or_else, order_mark, ordering, plan, put_in_at, refl, refused, reply_of, report_effect, resumes, run_in, runs, settings, settings_by, situation, starts_by, step_mark, stop_of, stopped_events, subst, sym, unwrap_or, waiting_pause, waiting_plan, waits_by, ℕ, ◌++◌, ◌+◌, ◌||◌, ◌∙◌, ◌∷◌, ◌≡◌}
+use Rattle.std.proofs.Common.{List, Bool, true, false, Result}
+use Rattle.std.specs.Prelude.{map, option_map}
 use Rattle.dap_msg.specs.declared.command.Command.TheVariants as command
 use Rattle.dap_msg.specs.declared.command.CommandName.TheVariants as name
 use Rattle.dap_msg.specs.declared.command.Supported.TheVariants as supported
-use Rattle.dap_msg.specs.declared.outgoing.Outgoing.{Outgoing}
-use Rattle.dap_msg.specs.declared.outgoing.Outgoing.TheVariants.{Answer, Event}
-use Rattle.dap_msg.specs.declared.outgoing.Body.{Body}
+use Rattle.dap_msg.specs.declared.outgoing.Outgoing.TheVariants.{Answer}
 use Rattle.dap_msg.specs.declared.outgoing.Body.TheVariants as body
-use Rattle.dap_msg.specs.declared.outgoing.Refusal.{Refusal}
 use Rattle.dap_msg.specs.declared.outgoing.StopReason.TheVariants as stop
-use Rattle.dap_msg.specs.declared.requests.initialize.InitializeArguments.{InitializeArguments}
-use Rattle.dap_msg.specs.declared.requests.set_breakpoints.SetBreakpointsArguments.{SetBreakpointsArguments}
-use Rattle.dap_msg.specs.declared.requests.set_breakpoints.SourceBreakpoint.{SourceBreakpoint}
-use Rattle.dap_msg.specs.declared.requests.resume.ThreadArguments.{ThreadArguments}
-use Rattle.pl0_meaning.specs.Laws.{WrittenJoins}
-use Rattle.dbg_plan.specs.Breakpoints.{Breakpoint}
-use Rattle.dbg_plan.specs.declared.mode.Mode.{Mode}
-use Rattle.dbg_plan.specs.declared.mode.Reason.{Reason}
-use Rattle.dbg_runner.specs.declared.outcome.SliceOutcome.{SliceOutcome}
 use Rattle.dbg_runner.specs.declared.outcome.SliceOutcome.TheVariants as slice
-use Rattle.dbg_runner.specs.Plain.{PlainReport, PlainOrder, Go, Hold, Quit, Heading, goes_back}
-use Rattle.dap_history.specs.declared.launch.Launch.{Launch}
-use Rattle.dap_history.specs.declared.situation.Situation.{Situation}
-use Rattle.dap_history.specs.declared.situation.Situation.TheVariants.{Fresh, Ready, Configuring, Running, Stopped, Faulted, Ended}
-use Rattle.dap_history.specs.Plans.{Plan, no_plan}
-use Rattle.dap_history.specs.Last.{or_else, last_such}
-use Rattle.dap_history.specs.History.{Launched, Item, Content, Loaded, Accepted, Fault, InputEnd, ReadFailure, MemoryFailure, Step, History, Effect}
-use Rattle.dap_history.specs.Readings.{go, situation, step_mark, message_mark, order_mark, settings_by, settings, launched, runs, is_held, is_back, last_run, end_of, position, plan, waits_by, waiting_plan, waiting_pause}
-use Rattle.dap_history.specs.Replies.{Reply, nothing, ordering, refused, causing, stopped_events, exited_events, stop_of, exception_of}
-use Rattle.dap_history.specs.Launching.{Launches, launches}
-use Rattle.dap_history.specs.Breakpoints.{hold_once, offset, line_offset, IsResolved, answer_to_line, effect_in, is_same_path}
-use Rattle.dap_history.specs.Running.{due_first, body_of, resumes, enters}
-use Rattle.dap_history.specs.Reactions.{Reaction, reply_of}
-use Rattle.dap_history.specs.Reports.{Accepts, from_next, put_in_at, put_in_by, held_effect, report_effect}
-use Rattle.dap_history.specs.Considered.{starts_by}
-use Rattle.dap_history.specs.Emission.{Causes}
-use Rattle.dap_history.specs.Stops.{run_in, Orders, IsStopped}
+use Rattle.dap_history.specs.Readings.{is_held, position}
+use Rattle.dap_history.specs.Reports.{put_in_by}
 use Rattle.dap_history.specs.Lines.{lines_at, lines_by, lines_set, AreOfLines as AreSpelled, anew_mark, are_anew, next_counted, first_counted, HasDebuggee, PlanIsOfLines, EachRunHasItsLines, EachRunCountsFrom}
-use Rattle.dap_history.specs.Events.{Incoming, Rest, AreLawful, IsHistoryOf}
-use Rattle.dap_history.specs.LineAnswers.{GiveBreakpoints}
-use Rattle.dap_msg.specs.declared.outgoing.BreakpointAnswer.{BreakpointAnswer}
-use Rattle.dbg_plan.specs.declared.resolving.Resolution.{Resolution}
 use Rattle.dap_history.proofs.Readings.{reading-snoc, last_such-snoc, situation-snoc, settings-snoc, launched-snoc, position-snoc, plan-snoc, last_run-snoc, waiting_plan-snoc}
 use Rattle.dap_history.proofs.Texts.{OneProgram}
 use Rattle.dap_history.proofs.Along.{IsTaken, IsKept, IsLawfulEvent, lawful_events, along}

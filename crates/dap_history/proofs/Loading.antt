@@ -1,15 +1,10 @@
 -- A launch launches the program of its file, and no other step launches one.
-use Rattle.std.proofs.Common.{◌≡◌, inl, inr, ℕ, List, Option, None, Some, refl, sym, ◌∙◌, ap, subst}
-use Rattle.std.specs.Prelude.{IsSome, is_some}
+use Rattle.dap_history.proofs.Common.{Accepted, Answers, Causes, Content, Effect, History, IsSome, Item, Launch, Launches, Loaded, None, Option, Reply, Some, Step, ap, inl, inr, is_some, refl, situation, subst, sym, ℕ, ◌∙◌, ◌≡◌}
+use Rattle.std.proofs.Common.{List}
 use Rattle.dap_msg.specs.declared.command.CommandName.TheVariants as name
 use Rattle.dap_msg.specs.declared.command.Supported.TheVariants as supported
 use Rattle.dap_msg.specs.declared.outgoing.Outgoing.TheVariants.{Answer}
-use Rattle.dap_history.specs.declared.launch.Launch.{Launch}
-use Rattle.dap_history.specs.History.{Item, Content, Loaded, Accepted, Step, History, Effect}
-use Rattle.dap_history.specs.Readings.{situation}
-use Rattle.dap_history.specs.Replies.{Reply}
-use Rattle.dap_history.specs.Launching.{Launches, LaunchesText}
-use Rattle.dap_history.specs.Emission.{Answers, Causes}
+use Rattle.dap_history.specs.Launching.{LaunchesText}
 use Rattle.dap_history.specs.Loading.{LaunchesIts, EndsLaunch, EachLaunchIsOfItsFile}
 use Rattle.dap_history.proofs.Silent.{all_silent}
 use Rattle.dap_history.proofs.Outputs.{report_launches}

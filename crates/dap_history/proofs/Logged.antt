@@ -1,26 +1,13 @@
 -- The logs reported are those of the positions considered.
-use Rattle.std.proofs.Common.{◌≡◌, ◌⊎◌, inl, inr, ℕ, ◌+◌, ◌-◌, ◌<◌, ◌≤◌, List, [], ◌∷◌, ◌++◌, Bool, true, false, None, Some, refl, sym, ◌∙◌, ap, subst, append-nil, append_assoc, arith}
-use Rattle.std.specs.Prelude.{map, unwrap_or, if◌then◌else◌, ◌&&◌}
-use Rattle.std.specs.List.{filter_map, flat_map, range_with_len, cons_option, enumerate_from}
-use Rattle.std.proofs.lemmas.Grind.{flat_map-append}
-use Rattle.std.proofs.lemmas.Bool.{cases_lt}
-use Rattle.pl0_tree.specs.Tree.{Block}
-use Rattle.pl0_meaning.specs.Runs.{at}
-use Rattle.pl0_meaning.specs.Laws.{WrittenJoins}
-use Rattle.dbg_plan.specs.Breakpoints.{Breakpoint}
+use Rattle.dap_history.proofs.Common.{Accepted, Accepts, Block, Breakpoint, Causes, EndsBy, Heading, History, Incoming, IsLawful, IsPassed, Launched, LogsAreSaid, None, PlainReport, SliceOutcome, Some, Step, Went, WentOn, WrittenJoins, [], all_runs, ap, append-nil, arith, at, cases_lt, cons_option, end_in, faults, filter_map, flat_map, flat_map-append, go, goes_back, if◌then◌else◌, inl, inr, is_due, lacks_memory, launched, logs_told, range_with_len, refl, run_end, run_texts, runs, subst, sym, takes_all, text_of_log, unwrap_or, ℕ, ◌++◌, ◌+◌, ◌-◌, ◌<◌, ◌∙◌, ◌∷◌, ◌≡◌, ◌≤◌, ◌⊎◌}
+use Rattle.std.proofs.Common.{List, Bool, true, false, append_assoc}
+use Rattle.std.specs.Prelude.{map, ◌&&◌}
+use Rattle.std.specs.List.{enumerate_from}
 use Rattle.dbg_plan.specs.Due.{is_hit, arrives_in, accepts, arrivals}
-use Rattle.dbg_plan.specs.Logs.{log_in, log_at, logs as position_logs, LogsAreSaid}
-use Rattle.dbg_runner.specs.declared.outcome.SliceOutcome.{SliceOutcome}
+use Rattle.dbg_plan.specs.Logs.{log_in, log_at, logs as position_logs}
 use Rattle.dbg_runner.specs.declared.outcome.SliceOutcome.TheVariants as slice
-use Rattle.dbg_runner.specs.Plain.{PlainReport, Heading, goes_back}
-use Rattle.dbg_runner.specs.Lawful.{IsLawful, IsPassed, EndsBy, takes_all, is_due, is_over, faults, is_held, lacks_memory, WentOn, Went, logs_in, logs_told}
-use Rattle.dap_history.specs.History.{Launched, Accepted, Step, History}
-use Rattle.dap_history.specs.Readings.{go, launched, runs}
-use Rattle.dap_history.specs.Replies.{text_of_log}
-use Rattle.dap_history.specs.Considered.{all_runs, end_in, run_end, texts_at, run_texts}
-use Rattle.dap_history.specs.Reports.{Accepts}
-use Rattle.dap_history.specs.Emission.{Causes}
-use Rattle.dap_history.specs.Events.{Incoming}
+use Rattle.dbg_runner.specs.Lawful.{is_over, is_held, logs_in}
+use Rattle.dap_history.specs.Considered.{texts_at}
 use Rattle.dap_history.proofs.Along.{IsTaken}
 use Rattle.dap_history.proofs.Silent.{NextRuns, no_runs, next_run}
 use Rattle.dap_history.proofs.Outputs.{told_texts}

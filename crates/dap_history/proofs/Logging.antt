@@ -1,23 +1,10 @@
 -- The logs reported are those of the positions considered, step by step.
-use Rattle.std.proofs.Common.{◌≡◌, ◌⊎◌, inl, inr, ℕ, List, [], ◌∷◌, ◌++◌, Bool, true, false, Option, None, Some, refl, sym, ◌∙◌, ap, subst, append-nil, append_assoc}
-use Rattle.std.specs.List.{flat_map}
-use Rattle.std.proofs.lemmas.List.Elements.{filter_map-append}
-use Rattle.dap_msg.specs.declared.outgoing.Outgoing.TheVariants.{Event}
-use Rattle.dap_msg.specs.declared.outgoing.EventBody.{EventBody}
+use Rattle.dap_history.proofs.Common.{Accepted, Causes, Content, Effect, Event, EventBody, Fault, HasEffect, Heading, History, InputEnd, Item, Launch, Launched, Launches, Loaded, LogsAreSaid, MemoryFailure, None, Option, PlainOrder, PlainReport, ReadFailure, Ready, Reply, Some, Step, WrittenJoins, [], all_runs, ap, append-nil, before_start, end_in, filter_map-append, flat_map, go, inl, inr, last_run, launched, log_of, log_texts, messages, messages_of, or_else, orders_of, plan, refl, run_texts, situation, starts_by, subst, sym, ℕ, ◌++◌, ◌∙◌, ◌∷◌, ◌≡◌, ◌⊎◌}
+use Rattle.std.proofs.Common.{List, Bool, true, false, append_assoc}
 use Rattle.dap_msg.specs.declared.outgoing.EventBody.TheVariants as event
-use Rattle.pl0_meaning.specs.Laws.{WrittenJoins}
-use Rattle.dbg_plan.specs.Logs.{logs as position_logs, LogsAreSaid}
-use Rattle.dbg_runner.specs.Plain.{PlainOrder, PlainReport, Heading}
-use Rattle.dap_history.specs.declared.launch.Launch.{Launch}
-use Rattle.dap_history.specs.declared.situation.Situation.TheVariants.{Ready}
-use Rattle.dap_history.specs.Last.{or_else}
-use Rattle.dap_history.specs.History.{Launched, Item, Content, Loaded, Accepted, Fault, InputEnd, ReadFailure, MemoryFailure, Step, History, Effect, messages, messages_of, orders_of}
-use Rattle.dap_history.specs.Readings.{go, situation, launched, last_run, plan}
-use Rattle.dap_history.specs.Replies.{Reply}
-use Rattle.dap_history.specs.Launching.{Launches}
-use Rattle.dap_history.specs.Considered.{all_runs, end_in, starts_by, before_start, first_texts, run_texts, logged}
-use Rattle.dap_history.specs.Emission.{HasEffect, Causes}
-use Rattle.dap_history.specs.Laws.{log_of, log_texts, LogsAreOfPositions, StopsFollowLogs}
+use Rattle.dbg_plan.specs.Logs.{logs as position_logs}
+use Rattle.dap_history.specs.Considered.{first_texts, logged}
+use Rattle.dap_history.specs.Laws.{LogsAreOfPositions, StopsFollowLogs}
 use Rattle.dap_history.proofs.Readings.{messages_of-snoc, launched-snoc}
 use Rattle.dap_history.proofs.Along.{IsTaken, IsKept, IsLawfulEvent, lawful_events, along}
 use Rattle.dap_history.proofs.Each.{EachTaken, each_kept, each_first}

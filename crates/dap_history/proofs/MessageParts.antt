@@ -1,8 +1,7 @@
 -- A text reads as one list of parts.
-use Rattle.std.proofs.Common.{◌≡◌, ◌≢◌, ℕ, List, [], ◌∷◌, ◌++◌, refl, sym, ◌∙◌, ap, subst}
+use Rattle.dap_history.proofs.Common.{AtMostOne, Expression, [], ap, refl, subst, sym, ℕ, ◌++◌, ◌∙◌, ◌∷◌, ◌≡◌, ◌≢◌}
+use Rattle.std.proofs.Common.{List}
 use Rattle.std.proofs.lemmas.List.Elements.{All-head, All-tail}
-use Rattle.pl0_tree.specs.Tree.{Expression}
-use Rattle.pl0_syntax.specs.Laws.{AtMostOne}
 use Rattle.dbg_plan.specs.Messages.{Part, Text, Value, Lacks, ReadsParts}
 
 abbrev head_of : List ℕ → ℕ

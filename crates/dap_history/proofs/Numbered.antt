@@ -1,18 +1,12 @@
 -- The message numbered n is the nth.
-use Rattle.std.proofs.Common.{◌≡◌, ℕ, zero, suc, ◌+◌, ◌^◌, ◌<◌, List, [], ◌∷◌, ◌++◌, map, Option, None, Some, refl, sym, ◌∙◌, ap, arith}
-use Rattle.std.specs.Prelude.{slice_get, option_map}
-use Rattle.std.specs.List.{filter_map}
+use Rattle.dap_history.proofs.Common.{Accepted, AreReadAs, Content, ContentsAreOfTheStream, FirstSeq, FramesAreFew, History, IsRequestFrom, Item, Loaded, None, Option, Outgoing, Request, Some, Step, [], ap, arith, filter_map, launch_request, messages_of, read_as, refl, slice_get, suc, sym, waiting, zero, ℕ, ◌++◌, ◌+◌, ◌<◌, ◌^◌, ◌∙◌, ◌∷◌, ◌≡◌}
+use Rattle.std.proofs.Common.{List, map}
+use Rattle.std.specs.Prelude.{option_map}
 use Rattle.dap_frame.specs.Frame.{frame_of}
-use Rattle.dap_msg.specs.declared.outgoing.Outgoing.{Outgoing}
 use Rattle.dap_msg.specs.Outgoing.{text_of}
 use Rattle.dap_msg.specs.Laws.{RequestsEcho, MessagesAreReadBack}
-use Rattle.dap_msg.specs.Request.{IsRequestFrom}
-use Rattle.dap_msg.specs.declared.request.FirstSeq.{FirstSeq}
-use Rattle.dap_msg.specs.declared.request.Request.{Request}
-use Rattle.pl0_meaning.specs.Laws.{FramesAreFew}
-use Rattle.dap_history.specs.History.{Item, Content, Loaded, Accepted, Step, History, messages_of}
 use Rattle.dap_history.specs.Output.{frames_from}
-use Rattle.dap_history.specs.Laws.{launch_request, read_as, waiting, AreReadAs, ContentsAreOfTheStream, SeqCountFromOne, FramesAreReadBack}
+use Rattle.dap_history.specs.Laws.{SeqCountFromOne, FramesAreReadBack}
 use Rattle.dap_history.proofs.Fitting.{ItemFits, ItemsFit, message_fits, history_fits}
 
 numbered : (k : ℕ) (messages : List Outgoing) (n : ℕ) → slice_get (frames_from k messages) n ≡ option_map

@@ -1,33 +1,10 @@
 -- A step orders at most one run and reports at most one stop, so what is so of the last is so of each.
-use Rattle.std.proofs.Common.{◌≡◌, inl, inr, ℕ, List, [], ◌∷◌, ◌++◌, true, false, Bool, Option, None, Some, refl, sym, ◌∙◌, ap, subst, append-nil}
+use Rattle.dap_history.proofs.Common.{Accepted, Breakpoint, Causes, Command, Content, Effect, EventBody, Fresh, Heading, History, Item, Launch, Launched, Launches, Loaded, Log, None, Option, Orders, PlainReport, Reaction, Reason, Reply, Situation, SliceOutcome, Some, Step, StopReason, [], ap, append-nil, cons_option, due_first, effect_in, enters, exception_of, exited_events, filter_map, filter_map-append, first_logs, go, held_effect, inl, inr, last_such, log_events, or_else, outputs, plan, refl, reply_of, report_effect, run_in, situation, stop_in, stop_of, stop_of_event, stopped_events, subst, sym, waiting_pause, ℕ, ◌++◌, ◌∙◌, ◌∷◌, ◌≡◌}
+use Rattle.std.proofs.Common.{List, true, false, Bool}
 use Rattle.std.specs.Prelude.{map, ℤ}
-use Rattle.std.specs.List.{cons_option, filter_map}
-use Rattle.std.proofs.lemmas.List.Elements.{filter_map-append}
-use Rattle.dap_msg.specs.declared.command.Command.{Command}
-use Rattle.dap_msg.specs.declared.outgoing.EventBody.{EventBody}
 use Rattle.dap_msg.specs.declared.outgoing.EventBody.TheVariants as event
-use Rattle.dap_msg.specs.declared.outgoing.StopReason.{StopReason}
 use Rattle.dap_msg.specs.declared.outgoing.StopReason.TheVariants as stop
-use Rattle.dbg_plan.specs.Breakpoints.{Breakpoint}
-use Rattle.dbg_plan.specs.Logs.{Log}
-use Rattle.dbg_plan.specs.declared.mode.Reason.{Reason}
-use Rattle.dbg_runner.specs.declared.outcome.SliceOutcome.{SliceOutcome}
 use Rattle.dbg_runner.specs.declared.outcome.SliceOutcome.TheVariants as slice
-use Rattle.dbg_runner.specs.Plain.{PlainReport, Heading}
-use Rattle.dap_history.specs.declared.launch.Launch.{Launch}
-use Rattle.dap_history.specs.declared.situation.Situation.{Situation}
-use Rattle.dap_history.specs.declared.situation.Situation.TheVariants.{Fresh}
-use Rattle.dap_history.specs.Last.{or_else, last_such}
-use Rattle.dap_history.specs.History.{Launched, Item, Content, Loaded, Accepted, Step, History, Effect}
-use Rattle.dap_history.specs.Readings.{go, situation, plan, waiting_pause}
-use Rattle.dap_history.specs.Replies.{Reply, stopped_events, exited_events, stop_of, exception_of, log_events}
-use Rattle.dap_history.specs.Launching.{Launches}
-use Rattle.dap_history.specs.Breakpoints.{effect_in}
-use Rattle.dap_history.specs.Running.{due_first, first_logs, enters}
-use Rattle.dap_history.specs.Reactions.{Reaction, reply_of}
-use Rattle.dap_history.specs.Reports.{outputs, held_effect, report_effect}
-use Rattle.dap_history.specs.Emission.{Causes}
-use Rattle.dap_history.specs.Stops.{stop_of_event, stop_in, run_in, Orders}
 use Rattle.dap_history.proofs.Readings.{or_else-none}
 use Rattle.dap_history.proofs.Silent.{NextRuns, no_runs, next_run, first_at}
 use Rattle.dap_history.proofs.Reacted.{Reacted, by_setting, by_starting, by_reaction}

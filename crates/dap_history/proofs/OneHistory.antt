@@ -1,19 +1,10 @@
 -- A list of events has one history, where an item has one effect.
-use Rattle.std.proofs.Common.{◌≡◌, ◌⊎◌, inl, inr, ℕ, List, [], ◌∷◌, ◌++◌, Option, None, Some, Result, Ok, Err, refl, sym, ◌∙◌, ap, subst}
+use Rattle.dap_history.proofs.Common.{Accepted, Content, Err, Fault, File, FirstSeq, History, Incoming, InputEnd, IsAfter, IsInFront, IsRequestFrom, IsTaking, Item, Launch, LeadsByEvent, LeadsByEvents, LeadsByFile, LeadsByPiece, LeadsByReport, LoadFault, Loaded, Loads, MayTake, MemoryFailure, NoMemory, None, Ok, Option, Piece, PlainReport, ReadFailed, ReadFailure, Report, Request, Rest, Some, Takes, [], ap, closed, faulty, inl, inr, one_more, open_ended, refl, situation, subst, sym, waits, wanted_in, ℕ, ◌++◌, ◌∙◌, ◌∷◌, ◌≡◌, ◌⊎◌}
+use Rattle.std.proofs.Common.{List, Result}
 use Rattle.dap_frame.specs.Laws.{FramesAreUnique, FaultsAreUnique, NeverBoth}
 use Rattle.dap_msg.specs.Laws.{OneReading}
-use Rattle.dap_msg.specs.declared.request.FirstSeq.{FirstSeq}
-use Rattle.dap_msg.specs.declared.request.Request.{Request}
-use Rattle.dap_msg.specs.Request.{IsRequestFrom}
-use Rattle.dbg_runner.specs.Plain.{PlainReport}
-use Rattle.dap_history.specs.declared.launch.Launch.{Launch}
-use Rattle.dap_history.specs.declared.fault.LoadFault.{LoadFault}
 use Rattle.dap_history.specs.declared.fault.LoadFault.TheVariants as load_fault
-use Rattle.dap_history.specs.History.{Item, Content, Loaded, Accepted, Fault, InputEnd, ReadFailure, MemoryFailure, History}
-use Rattle.dap_history.specs.Readings.{situation}
-use Rattle.dap_history.specs.Launching.{wanted_in}
-use Rattle.dap_history.specs.Emission.{IsAfter}
-use Rattle.dap_history.specs.Events.{Incoming, Piece, End, ReadFailed, NoMemory, File, Report, Rest, IsTaking, IsInFront, Takes, one_more, closed, open_ended, faulty, waits, MayTake, LeadsByPiece, LeadsByFile, LeadsByReport, Loads, LeadsByEvent, LeadsByEvents}
+use Rattle.dap_history.specs.Events.{End}
 
 -- bytes have one frame or one fault in front, a content is one request or none, and an item leads to one history
 pub record IsReadOnce : Type 0 where

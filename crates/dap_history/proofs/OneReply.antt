@@ -1,48 +1,26 @@
 -- A command and a launch each have at most one reply, and so an item has at most one step.
-use Rattle.std.proofs.Common.{◌≡◌, inl, inr, ℕ, ◌<◌, ◌^◌, Bool, true, false, ℤ, List, [], ◌∷◌, ◌++◌, get_or, Option, None, Some, Result, Ok, Err, refl, sym, ◌∙◌, ap, subst, arith}
-use Rattle.std.specs.Prelude.{string_bytes, map}
+use Rattle.dap_history.proofs.Common.{Accepted, Answers, AreAskedAs, AreResolved, At, AtMostOne, BadCondition, BadHitCondition, BadLogMessage, Block, Breakpoint, Causes, Command, CommandName, Configuration, Configuring, Content, DivideByZero, Effect, Err, EvalFault, EvaluatesIn, Faulted, Frame, Fresh, HasConditionAt, HasEffect, HasRule, History, Inspects, InspectsAs, IsAfter, IsAskedAs, IsResolvedTo, IsTreeOf, Item, LaunchArguments, Launched, Launches, Loaded, NoStep, None, OfProgram, Ok, Option, Overflow, Path, Question, Reaction, Reacts, ReadsConditionAt, ReadsMessageAt, ReadsRule, Ready, RepliesAt, RepliesFrom, RepliesIn, Reply, Resolution, Resume, Retreat, SetBreakpoints, SetBreakpointsArguments, SetsOf, Situation, Some, SourceBreakpoint, Start, Step, Stopped, Subject, [], answer_to_line, ap, arith, at, causing, for_thread, frame_by_id, get_or, inl, inr, is_same_path, launched, launches, line_offset, refl, refused, reply_of, result_reply, situation, step_from, string_bytes, subject_in, subst, sym, value, ℕ, ∥∥₁_elim, ◌++◌, ◌<◌, ◌^◌, ◌∙◌, ◌∷◌, ◌≡◌}
+use Rattle.std.proofs.Common.{Bool, true, false, ℤ, List, Result}
+use Rattle.std.specs.Prelude.{map}
 use Rattle.std.specs.Fmt.{decimal}
-use Rattle.std.proofs.Math.Logic.{∥∥₁_elim}
 use Rattle.std.proofs.lemmas.Fmt.{decimal_injective, first_decimal}
 use Rattle.dap_msg.specs.declared.question.Question.TheVariants as question
-use Rattle.dap_msg.specs.declared.question.Question.{Question}
-use Rattle.dap_msg.specs.declared.command.Command.{Command}
 use Rattle.dap_msg.specs.declared.command.Command.TheVariants as command
-use Rattle.dap_msg.specs.declared.command.CommandName.{CommandName}
 use Rattle.dap_msg.specs.declared.outgoing.Body.TheVariants as body
 use Rattle.dap_msg.specs.declared.outgoing.Outgoing.TheVariants.{Answer}
-use Rattle.dap_msg.specs.declared.requests.launch.LaunchArguments.{LaunchArguments}
-use Rattle.dap_msg.specs.declared.requests.set_breakpoints.SetBreakpointsArguments.{SetBreakpointsArguments}
-use Rattle.dap_msg.specs.declared.requests.set_breakpoints.SourceBreakpoint.{SourceBreakpoint}
-use Rattle.pl0_tree.specs.Tree.{Block}
-use Rattle.pl0_tree.specs.Scope.{Path}
 use Rattle.pl0_tree.specs.Steps.{step_path}
-use Rattle.pl0_tree.specs.Faults.{IsTreeOf, IsFirstFault, IsConditionOf, IsExpressionOf}
-use Rattle.pl0_syntax.specs.Laws.{AtMostOne, OneFault, FaultExcludesTrees}
-use Rattle.pl0_meaning.specs.Values.{Frame, Configuration, value}
-use Rattle.pl0_meaning.specs.Runs.{at}
+use Rattle.pl0_tree.specs.Faults.{IsFirstFault, IsConditionOf, IsExpressionOf}
+use Rattle.pl0_syntax.specs.Laws.{OneFault, FaultExcludesTrees}
 use Rattle.dbg_plan.specs.declared.breakpoint.Rule.{Rule}
 use Rattle.dbg_plan.specs.declared.breakpoint.Rule.TheVariants.{From, Every}
-use Rattle.dbg_plan.specs.declared.evaluation.EvalFault.{EvalFault}
-use Rattle.dbg_plan.specs.declared.evaluation.EvalFault.TheVariants.{Overflow, DivideByZero}
 use Rattle.dbg_plan.specs.declared.resolving.SourceBreakpoint.{SourceBreakpoint as AskedLine}
-use Rattle.dbg_plan.specs.declared.resolving.Resolution.{Resolution}
-use Rattle.dbg_plan.specs.declared.resolving.Resolution.TheVariants.{At, NoStep, BadCondition, BadHitCondition, BadLogMessage}
 use Rattle.dbg_plan.specs.Messages.{Message}
-use Rattle.dbg_plan.specs.Resolutions.{step_from, ReadsRule, ReadsConditionAt, ReadsMessageAt, HasRule, HasConditionAt, IsBreakpointOf, IsResolvedTo, AreResolved}
+use Rattle.dbg_plan.specs.Resolutions.{IsBreakpointOf}
 use Rattle.dbg_plan.specs.Values.{answered as evaluated}
-use Rattle.dbg_plan.specs.Breakpoints.{Breakpoint, TextCondition}
-use Rattle.dap_history.specs.declared.situation.Situation.{Situation}
-use Rattle.dap_history.specs.declared.situation.Situation.TheVariants.{Fresh, Ready, Configuring, Stopped, Faulted}
-use Rattle.dap_history.specs.History.{Launched, Item, Content, Loaded, Accepted, Step, History, Effect}
-use Rattle.dap_history.specs.Readings.{situation, launched, position}
-use Rattle.dap_history.specs.Replies.{Reply, refused, causing, OfProgram}
-use Rattle.dap_history.specs.Launching.{Launches, launches, syntax}
-use Rattle.dap_history.specs.Breakpoints.{IsAskedAs, AreAskedAs, answer_to_line, line_offset, is_same_path}
-use Rattle.dap_history.specs.Frames.{frame_by_id}
-use Rattle.dap_history.specs.Inspection.{Subject, subject_in, result_reply, EvaluatesIn, RepliesFrom, RepliesAt}
-use Rattle.dap_history.specs.Reactions.{Reaction, SetBreakpoints, Start, Resume, Retreat, reply_of, for_thread, Resolves, SetsOf, Sets, InspectsAs, Inspects, Reacts}
-use Rattle.dap_history.specs.Emission.{RepliesIn, Answers, HasEffect, Causes, IsAfter}
+use Rattle.dbg_plan.specs.Breakpoints.{TextCondition}
+use Rattle.dap_history.specs.Readings.{position}
+use Rattle.dap_history.specs.Launching.{syntax}
+use Rattle.dap_history.specs.Reactions.{Resolves, Sets}
 use Rattle.dap_history.proofs.Texts.{one_program}
 use Rattle.dap_history.proofs.MessageParts.{one_parts}
 use Rattle.dap_history.proofs.Questions.{inspects_there}

@@ -1,32 +1,10 @@
 -- Which run a reply orders, which plan it puts in, and that it holds none that goes back.
-use Rattle.std.proofs.Common.{◌≡◌, ◌⊎◌, inl, inr, ℕ, ◌+◌, List, [], ◌∷◌, Bool, true, false, ◌||◌, Option, None, Some, Ok, refl, sym, ap, subst}
-use Rattle.std.specs.Prelude.{if◌then◌else◌, IsSome}
-use Rattle.dap_msg.specs.declared.command.Command.{Command}
+use Rattle.dap_history.proofs.Common.{Body, Breakpoint, Command, Configuring, Effect, Ended, Faulted, Fresh, Heading, History, Hold, IsSome, IsStopped, Launched, Mode, None, Ok, Option, Plan, Reaction, Ready, Reason, RepliesIn, Reply, ResumeKind, RetreatKind, Running, Situation, Some, Stopped, ThreadArguments, [], ap, back_by, back_of, depth_at, due_first, effect_in, enters, go, goes_back, held_by, if◌then◌else◌, inl, inr, is_back, last_such, mode_of, nothing, plan, refl, reply_of, retreat_mode, runs, situation, subst, sym, ℕ, ◌+◌, ◌||◌, ◌∷◌, ◌≡◌, ◌⊎◌}
+use Rattle.std.proofs.Common.{List, Bool, true, false}
 use Rattle.dap_msg.specs.declared.command.Command.TheVariants as command
-use Rattle.dap_msg.specs.declared.outgoing.Body.{Body}
-use Rattle.dap_msg.specs.declared.requests.resume.ResumeKind.{ResumeKind}
 use Rattle.dap_msg.specs.declared.requests.resume.ResumeKind.TheVariants as resume
-use Rattle.dap_msg.specs.declared.requests.resume.RetreatKind.{RetreatKind}
 use Rattle.dap_msg.specs.declared.requests.resume.RetreatKind.TheVariants as retreat
-use Rattle.dap_msg.specs.declared.requests.resume.ThreadArguments.{ThreadArguments}
-use Rattle.dbg_plan.specs.Breakpoints.{Breakpoint}
-use Rattle.dbg_plan.specs.Due.{depth_at}
-use Rattle.dbg_plan.specs.declared.mode.Mode.{Mode}
-use Rattle.dbg_plan.specs.declared.mode.Reason.{Reason}
-use Rattle.dbg_runner.specs.Plain.{Heading, Hold, goes_back}
-use Rattle.dap_history.specs.declared.situation.Situation.{Situation}
-use Rattle.dap_history.specs.declared.situation.Situation.TheVariants.{Fresh, Ready, Configuring, Running, Stopped, Faulted, Ended}
-use Rattle.dap_history.specs.Plans.{Plan}
-use Rattle.dap_history.specs.Last.{last_such}
-use Rattle.dap_history.specs.History.{Launched, History, Effect}
-use Rattle.dap_history.specs.Readings.{go, runs, is_back, is_held, plan, situation, position}
-use Rattle.dap_history.specs.Replies.{Reply, nothing}
-use Rattle.dap_history.specs.Breakpoints.{effect_in}
-use Rattle.dap_history.specs.Running.{due_first, mode_of, retreat_mode, enters}
-use Rattle.dap_history.specs.Reactions.{Reaction, reply_of}
-use Rattle.dap_history.specs.Emission.{RepliesIn}
-use Rattle.dap_history.specs.GoingBack.{back_by, back_of, held_by}
-use Rattle.dap_history.specs.Stops.{IsStopped}
+use Rattle.dap_history.specs.Readings.{is_held, position}
 use Rattle.dap_history.proofs.Reacted.{IsCalm, Reacted, by_refusing, by_answering, by_setting, by_starting, by_resuming, by_ending, by_retreating, by_interrupting, by_closing, by_reaction}
 
 -- where a reply may order a run

@@ -1,23 +1,8 @@
 -- Which run an item orders, and under which plan.
-use Rattle.std.proofs.Common.{◌≡◌, ◌⊎◌, inl, inr, ℕ, List, Bool, true, false, Option, None, Some, refl, sym, ◌∙◌, ap, subst}
-use Rattle.std.specs.Prelude.{unwrap_or, if◌then◌else◌}
-use Rattle.std.specs.Option.{option_map_or}
-use Rattle.pl0_tree.specs.Tree.{Block}
-use Rattle.dbg_plan.specs.declared.mode.Mode.{Mode}
-use Rattle.dbg_runner.specs.declared.outcome.SliceOutcome.{SliceOutcome}
+use Rattle.dap_history.proofs.Common.{Accepted, Accepts, Block, Causes, Content, Effect, GoesBackBy, Heading, History, Item, Launch, Launches, Loaded, Mode, None, Option, PlainReport, Plan, Reply, SliceOutcome, Some, Step, Went, ap, back_by, back_in, back_of, go, goes_back, held_by, held_effect, if◌then◌else◌, inl, inr, is_back, last_such, option_map_or, plan, refl, report_effect, situation, subst, sym, unwrap_or, waiting_pause, ℕ, ◌∙◌, ◌≡◌, ◌⊎◌}
+use Rattle.std.proofs.Common.{List, Bool, true, false}
 use Rattle.dbg_runner.specs.declared.outcome.SliceOutcome.TheVariants as slice
-use Rattle.dbg_runner.specs.Plain.{PlainReport, Heading, goes_back}
-use Rattle.dbg_runner.specs.Lawful.{GoesBackBy, Went}
-use Rattle.dap_history.specs.declared.launch.Launch.{Launch}
-use Rattle.dap_history.specs.Plans.{Plan}
-use Rattle.dap_history.specs.Last.{last_such}
-use Rattle.dap_history.specs.History.{Item, Content, Loaded, Accepted, Step, History, Effect}
-use Rattle.dap_history.specs.Readings.{go, situation, position, plan, is_back, waiting_pause}
-use Rattle.dap_history.specs.Replies.{Reply}
-use Rattle.dap_history.specs.Launching.{Launches}
-use Rattle.dap_history.specs.Reports.{Accepts, held_effect, report_effect}
-use Rattle.dap_history.specs.Emission.{Causes}
-use Rattle.dap_history.specs.GoingBack.{back_by, back_in, back_of, held_by}
+use Rattle.dap_history.specs.Readings.{position}
 use Rattle.dap_history.proofs.Along.{IsTaken, IsLawfulEvent}
 use Rattle.dap_history.proofs.Passing.{loaded_orders}
 use Rattle.dap_history.proofs.Ordered.{CanRun, RunsAs, runs_none, runs_one, all_orders}

@@ -1,26 +1,12 @@
 -- What the events and orders of a report say.
-use Rattle.std.proofs.Common.{◌≡◌, ℕ, ◌-◌, List, [], ◌++◌, ℤ, Option, None, Some, refl, sym, ◌∙◌, ap, append-nil}
+use Rattle.dap_history.proofs.Common.{Body, CommandName, Effect, Event, EventBody, Heading, History, None, Option, PlainReport, Refusal, SliceOutcome, Some, Step, [], ap, append-nil, drop-nil, exception_of, exited_events, filter_map, go, held_effect, last_such, log_events, log_texts, message_mark, messages, numbers, numbers_told, outputs, refl, report_effect, stop_of, stop_of_event, stopped_events, sym, text_of_log, waiting_pause, with_answer, ℕ, ◌++◌, ◌-◌, ◌∙◌, ◌≡◌}
+use Rattle.std.proofs.Common.{List, ℤ}
 use Rattle.std.specs.Prelude.{map, drop, Result, Bool, true, false}
-use Rattle.std.specs.List.{filter_map}
-use Rattle.std.proofs.Math.Seq.{drop-nil}
 use Rattle.std.proofs.lemmas.List.{append_assoc}
-use Rattle.dap_msg.specs.declared.command.CommandName.{CommandName}
-use Rattle.dap_msg.specs.declared.outgoing.Body.{Body}
-use Rattle.dap_msg.specs.declared.outgoing.Refusal.{Refusal}
-use Rattle.dap_msg.specs.declared.outgoing.Outgoing.TheVariants.{Answer, Event}
-use Rattle.dap_msg.specs.declared.outgoing.EventBody.{EventBody}
+use Rattle.dap_msg.specs.declared.outgoing.Outgoing.TheVariants.{Answer}
 use Rattle.dap_msg.specs.declared.outgoing.EventBody.TheVariants as event
 use Rattle.dap_msg.specs.declared.outgoing.StopReason.TheVariants as stop
-use Rattle.dbg_runner.specs.declared.outcome.SliceOutcome.{SliceOutcome}
-use Rattle.dbg_runner.specs.Plain.{PlainReport, Heading}
 use Rattle.dbg_runner.specs.declared.outcome.SliceOutcome.TheVariants as slice
-use Rattle.dap_history.specs.Last.{last_such}
-use Rattle.dap_history.specs.History.{Step, History, Effect, with_answer, messages}
-use Rattle.dap_history.specs.Readings.{go, numbers_told, numbers, message_mark, waiting_pause}
-use Rattle.dap_history.specs.Replies.{stopped_events, exited_events, stop_of, exception_of, text_of_log, log_events}
-use Rattle.dap_history.specs.Reports.{outputs, held_effect, report_effect}
-use Rattle.dap_history.specs.Laws.{log_texts}
-use Rattle.dap_history.specs.Stops.{stop_of_event}
 use Rattle.dap_history.proofs.Silent.{NextRuns, no_runs, next_run}
 use Rattle.dap_history.proofs.Told.{numbers_in, texts_in, numbers_of_numbers, texts_of_numbers, stop_of_numbers, mark_of_numbers, numbers_of_logs, texts_of_logs, stop_of_logs, mark_of_logs}
 

@@ -1,40 +1,16 @@
 -- A run passes no position that is due, and none was ordered before `configurationDone`.
-use Rattle.std.proofs.Common.{◌≡◌, ◌⊎◌, inl, inr, ⊎_elim, ℕ, ◌<◌, ◌≤◌, List, [], ◌∷◌, true, Option, None, Some, Ok, Err, refl, sym, ◌∙◌, ap, subst, arith}
-use Rattle.std.specs.Prelude.{map, unwrap_or, Result}
-use Rattle.std.proofs.lemmas.Bool.{cases_lt}
-use Rattle.dap_msg.specs.Commands.{name_of}
-use Rattle.dap_msg.specs.declared.command.Command.{Command}
+use Rattle.dap_history.proofs.Common.{Accepted, Accepts, Block, Body, Causes, Command, CommandName, Configuring, Content, Effect, Ended, EndsBy, Err, Event, EventBody, Faulted, Go, GoesBackBy, HasEffect, Heading, History, Hold, Incoming, IsLawful, IsPassed, Item, Launch, Launched, Launches, Loaded, None, NoneDueBefore, NoneDueUpTo, Ok, Option, Outgoing, PlainOrder, PlainReport, Quit, Reason, Refusal, RepliesIn, Reply, Running, Situation, SliceOutcome, Some, Step, Stopped, WentBack, WentOn, WrittenJoins, [], answer_mark, ap, arith, cases_lt, command_mark, due, due_in, end_of, event_mark, exited_events, faults, go, goes_back, has_come, has_no_memory, inl, inr, is_spent, lacks_memory, last_run, last_such, launched, message_mark, messages, name_of, or_else, order_mark, refl, report_effect, situation, step_mark, stop_of, stopped_events, subst, sym, takes_all, unwrap_or, with_answer, ℕ, ⊎_elim, ◌<◌, ◌∙◌, ◌∷◌, ◌≡◌, ◌≤◌, ◌⊎◌}
+use Rattle.std.proofs.Common.{List, true}
+use Rattle.std.specs.Prelude.{map, Result}
 use Rattle.dap_msg.specs.declared.command.Command.TheVariants as command
-use Rattle.dap_msg.specs.declared.command.CommandName.{CommandName}
 use Rattle.dap_msg.specs.declared.command.CommandName.TheVariants as name
 use Rattle.dap_msg.specs.declared.command.Supported.TheVariants as supported
-use Rattle.dap_msg.specs.declared.outgoing.Body.{Body}
-use Rattle.dap_msg.specs.declared.outgoing.Refusal.{Refusal}
-use Rattle.dap_msg.specs.declared.outgoing.Outgoing.{Outgoing}
-use Rattle.dap_msg.specs.declared.outgoing.Outgoing.TheVariants.{Answer, Event}
-use Rattle.dap_msg.specs.declared.outgoing.EventBody.{EventBody}
+use Rattle.dap_msg.specs.declared.outgoing.Outgoing.TheVariants.{Answer}
 use Rattle.dap_msg.specs.declared.outgoing.EventBody.TheVariants as event
 use Rattle.dap_msg.specs.declared.outgoing.StopReason.TheVariants as stop
-use Rattle.pl0_tree.specs.Tree.{Block}
-use Rattle.pl0_meaning.specs.Laws.{WrittenJoins}
-use Rattle.dbg_plan.specs.Due.{due}
-use Rattle.dbg_plan.specs.declared.mode.Reason.{Reason}
-use Rattle.dbg_runner.specs.declared.outcome.SliceOutcome.{SliceOutcome}
-use Rattle.dbg_runner.specs.Plain.{PlainReport, Heading, PlainOrder, Go, Hold, Quit, goes_back}
-use Rattle.dbg_runner.specs.Lawful.{IsLawful, IsPassed, EndsBy, takes_all, faults, is_held, lacks_memory, WentOn, GoesBackBy, is_spent, has_come, has_no_memory, WentBack, due_in as due_of}
+use Rattle.dbg_runner.specs.Lawful.{is_held, due_in as due_of}
 use Rattle.dbg_runner.specs.declared.outcome.SliceOutcome.TheVariants as slice
-use Rattle.dap_history.specs.declared.situation.Situation.{Situation}
-use Rattle.dap_history.specs.declared.situation.Situation.TheVariants.{Configuring, Running, Stopped, Faulted, Ended}
-use Rattle.dap_history.specs.Last.{or_else, last_such}
-use Rattle.dap_history.specs.History.{Launched, Item, Content, Loaded, Accepted, Step, History, Effect, with_answer, messages}
-use Rattle.dap_history.specs.Readings.{go, situation, position, launched, last_run, end_of, command_mark, answer_mark, event_mark, message_mark, order_mark, step_mark}
-use Rattle.dap_history.specs.declared.launch.Launch.{Launch}
-use Rattle.dap_history.specs.Launching.{Launches}
-use Rattle.dap_history.specs.Replies.{Reply, stopped_events, exited_events, stop_of}
-use Rattle.dap_history.specs.Reports.{Accepts, report_effect}
-use Rattle.dap_history.specs.Emission.{RepliesIn, HasEffect, Causes}
-use Rattle.dap_history.specs.Stops.{due_in, NoneDueUpTo, NoneDueBefore}
-use Rattle.dap_history.specs.Events.{Incoming}
+use Rattle.dap_history.specs.Readings.{position}
 use Rattle.dap_history.proofs.Texts.{OneProgram}
 use Rattle.dap_history.proofs.Along.{IsTaken}
 use Rattle.dap_history.proofs.Silent.{GoesBy, no_go, of_text, all_silent}

@@ -1,7 +1,7 @@
 -- A source is at a path just where its path is that one.
-use Rattle.std.proofs.Common.{◌≡◌, ℕ, List, true, Option, None, Some, refl, ◌∙◌, ap}
+use Rattle.dap_history.proofs.Common.{None, Option, Some, ap, is_same_path, refl, ℕ, ◌∙◌, ◌≡◌}
+use Rattle.std.proofs.Common.{List, true}
 use Rattle.std.proofs.lemmas.Slice.Eq.{bytes_eq-Decides}
-use Rattle.dap_history.specs.Breakpoints.{is_same_path}
 
 pub at_path : (path : Option (List ℕ)) (other : List ℕ) → is_same_path path other ≡ true → path ≡ Some other
 at_path None other is = absurd cc

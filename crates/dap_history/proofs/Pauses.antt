@@ -1,37 +1,16 @@
 -- A pause that waits stops the program where its run is held, and nothing else stops it with that reason.
-use Rattle.std.proofs.Common.{◌≡◌, ◌⊎◌, inl, inr, ℕ, List, [], ◌∷◌, ◌++◌, Bool, true, false, Option, None, Some, Result, Ok, Err, refl, sym, ◌∙◌, ap, subst}
-use Rattle.std.specs.Prelude.{unwrap_or, option_map, IsSome, All}
-use Rattle.dap_msg.specs.Commands.{name_of}
-use Rattle.dap_msg.specs.declared.request.Request.{Request}
-use Rattle.dap_msg.specs.declared.command.Command.{Command}
+use Rattle.dap_history.proofs.Common.{Accepted, All, Body, Causes, Command, Content, Effect, Err, Event, Grants, Heading, History, Incoming, IsSome, Item, Launch, Launches, Loaded, None, Ok, Option, Outgoing, PlainReport, Reason, Refusal, RepliesIn, Reply, Request, Situation, SliceOutcome, Some, Step, StopReason, ThreadArguments, [], ap, exception_of, exited_events, go, held_effect, inl, inr, last_such, name_of, or_else, refl, report_effect, run_in, situation, stop_in, stop_of, stop_of_event, stopped_events, subst, sym, unwrap_or, waiting_pause, ℕ, ◌++◌, ◌∙◌, ◌∷◌, ◌≡◌, ◌⊎◌}
+use Rattle.std.proofs.Common.{List, Bool, true, false, Result}
+use Rattle.std.specs.Prelude.{option_map}
 use Rattle.dap_msg.specs.declared.command.Command.TheVariants as command
 use Rattle.dap_msg.specs.declared.command.Supported.{Supported}
 use Rattle.dap_msg.specs.declared.command.Supported.TheVariants as supported
 use Rattle.dap_msg.specs.declared.command.CommandName.TheVariants as name
-use Rattle.dap_msg.specs.declared.requests.resume.ThreadArguments.{ThreadArguments}
-use Rattle.dap_msg.specs.declared.outgoing.Outgoing.{Outgoing}
-use Rattle.dap_msg.specs.declared.outgoing.Outgoing.TheVariants.{Answer, Event}
-use Rattle.dap_msg.specs.declared.outgoing.Body.{Body}
-use Rattle.dap_msg.specs.declared.outgoing.Refusal.{Refusal}
-use Rattle.dap_msg.specs.declared.outgoing.StopReason.{StopReason}
+use Rattle.dap_msg.specs.declared.outgoing.Outgoing.TheVariants.{Answer}
 use Rattle.dap_msg.specs.declared.outgoing.StopReason.TheVariants as stop
-use Rattle.dbg_plan.specs.declared.mode.Reason.{Reason}
 use Rattle.dbg_plan.specs.declared.mode.Reason.TheVariants as reason
-use Rattle.dbg_runner.specs.declared.outcome.SliceOutcome.{SliceOutcome}
 use Rattle.dbg_runner.specs.declared.outcome.SliceOutcome.TheVariants as slice
-use Rattle.dbg_runner.specs.Plain.{PlainReport, Heading}
-use Rattle.dap_history.specs.declared.launch.Launch.{Launch}
-use Rattle.dap_history.specs.declared.situation.Situation.{Situation}
-use Rattle.dap_history.specs.Last.{or_else, last_such}
-use Rattle.dap_history.specs.History.{Item, Content, Loaded, Accepted, Step, History, Effect}
-use Rattle.dap_history.specs.Readings.{go, situation, is_pause, waiting_pause}
-use Rattle.dap_history.specs.Replies.{Reply, stop_of, exception_of, stopped_events, exited_events}
-use Rattle.dap_history.specs.Launching.{Launches}
-use Rattle.dap_history.specs.Reports.{held_effect, report_effect}
-use Rattle.dap_history.specs.Emission.{RepliesIn, Causes}
-use Rattle.dap_history.specs.Events.{Incoming}
-use Rattle.dap_history.specs.Stops.{stop_of_event, stop_in, run_in}
-use Rattle.dap_history.specs.Runs.{Grants}
+use Rattle.dap_history.specs.Readings.{is_pause}
 use Rattle.dap_history.specs.Moves.{PauseWaits, PausesStop}
 use Rattle.dap_history.proofs.Readings.{waiting_pause-snoc}
 use Rattle.dap_history.proofs.Along.{IsKept, any_events, along}

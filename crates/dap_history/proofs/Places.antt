@@ -1,20 +1,18 @@
 -- The steps of a text's program stand within as many lines and columns as a text may have bytes.
-use Rattle.std.proofs.Common.{◌≡◌, ℕ, zero, suc, ◌+◌, ◌-◌, ◌≤◌, Bool, true, false, cond, eqb, nat_eq, nat_lt, List, [], ◌∷◌, ◌++◌, length, drop, Option, None, Some, Result, Ok, Err, ℤ, subst, arith, pred}
-use Rattle.std.specs.Prelude.{slice_get, option_map, option_and_then}
-use Rattle.std.specs.Option.{option_map_or}
+use Rattle.dap_history.proofs.Common.{Block, Configuration, Err, Expression, Frame, IsTreeOf, Name, None, Ok, Option, Path, RunFault, Some, StepAt, [], arith, at, cond, frame_limit, length, next_step, option_map_or, slice_get, steps, subst, suc, value, zero, ℕ, ∥∥₁_elim, ◌++◌, ◌+◌, ◌-◌, ◌∷◌, ◌≡◌, ◌≤◌}
+use Rattle.std.proofs.Common.{Bool, true, false, eqb, nat_eq, nat_lt, List, drop, Result, ℤ, pred}
+use Rattle.std.specs.Prelude.{option_map, option_and_then}
 use Rattle.std.proofs.Math.Bridge.{le_prop}
-use Rattle.std.proofs.Math.Logic.{∥∥₁_elim}
 use Rattle.pl0_tree.specs.declared.tree.Place.{Place}
 use Rattle.pl0_tree.specs.declared.step.StepKind.TheVariants as kind
 use Rattle.pl0_tree.specs.Tokens.{Token, behind, is_space, front_piece, tokens_from, tokens_of, start}
-use Rattle.pl0_tree.specs.Tree.{Expression, Condition, Statement, Empty, Then, Assign, Call, Write, If, While, Constant, Name, Block, ABlock, Procedures, NoMore, AProcedure, Procedure, procedure_list, body, end}
+use Rattle.pl0_tree.specs.Tree.{Condition, Statement, Empty, Then, Assign, Call, Write, If, While, Constant, ABlock, Procedures, NoMore, AProcedure, Procedure, procedure_list, body, end}
 use Rattle.pl0_tree.specs.Reading.{ReadsExpression, unsigned, positive, negative, ReadsMoreTerms, no_term, one_term, ReadsTerm, factors, ReadsMoreFactors, no_factor, one_factor, ReadsFactor, name, number, nested, ReadsCondition, odd, comparison, ReadsStatement, empty, assignment, call, write, sequence, choice, loop, ReadsStatements, last_statement, one_statement, ReadsConstants, last_constant, one_constant, ReadsConstantPart, no_constants, constants, ReadsVariables, last_variable, one_variable, ReadsVariablePart, no_variables, variables, ReadsBlock, block, ReadsProcedures, no_procedure, one_procedure, ReadsProgram, program}
-use Rattle.pl0_tree.specs.Scope.{Path, block_at, procedure_at, Meaning, AConstant, AVariable, AProcedure as ProcedureIndex, Home, home}
-use Rattle.pl0_tree.specs.Steps.{StepAt, step, statement_steps, block_steps, procedures_steps, steps}
-use Rattle.pl0_tree.specs.Faults.{IsTreeOf, limit}
-use Rattle.pl0_meaning.specs.declared.RunFault.{RunFault}
-use Rattle.pl0_meaning.specs.Values.{Frame, Configuration, find, value, truth, return_of, first_step, next_step}
-use Rattle.pl0_meaning.specs.Runs.{opened, Outcome, Goes, Faults, Over, on_value, with_number, target, assigned, new_frame, frame_limit, callee, entered, called, returned, statement_step, frame_step, led_to, last_position, step_at, at}
+use Rattle.pl0_tree.specs.Scope.{block_at, procedure_at, Meaning, AConstant, AVariable, AProcedure as ProcedureIndex, Home, home}
+use Rattle.pl0_tree.specs.Steps.{step, statement_steps, block_steps, procedures_steps}
+use Rattle.pl0_tree.specs.Faults.{limit}
+use Rattle.pl0_meaning.specs.Values.{find, truth, return_of, first_step}
+use Rattle.pl0_meaning.specs.Runs.{opened, Outcome, Goes, Faults, Over, on_value, with_number, target, assigned, new_frame, callee, entered, called, returned, statement_step, frame_step, led_to, last_position, step_at}
 use Rattle.pl0_meaning.specs.Runs.{step as run_step}
 
 abbrev pub most : ℕ

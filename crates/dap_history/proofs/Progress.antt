@@ -1,27 +1,11 @@
 -- The numbers reported are those that the program wrote, step by step.
-use Rattle.std.proofs.Common.{◌≡◌, ◌⊎◌, inl, inr, ℕ, ◌≤◌, List, [], ◌∷◌, ◌++◌, Bool, Option, None, Some, refl, sym, ◌∙◌, ap, subst, append-nil, arith}
-use Rattle.std.specs.Prelude.{map, max, unwrap_or}
-use Rattle.std.specs.List.{filter_map}
-use Rattle.dap_msg.specs.Commands.{name_of}
+use Rattle.dap_history.proofs.Common.{Accepted, Accepts, Answers, Causes, Configuring, Content, Effect, Event, Fault, Fresh, HasEffect, Heading, History, InputEnd, IsLawful, IsTreeOf, Item, Launch, Launched, Launches, Loaded, MemoryFailure, None, Option, PlainReport, Quit, ReadFailure, Ready, Reply, Situation, Some, Step, WrittenJoins, [], answer_mark, ap, append-nil, arith, end_of, filter_map, go, goes_back, inl, inr, last_run, last_such, launched, launches, max, message_mark, messages, messages_of, name_of, nothing, numbers, or_else, order_mark, ordering, output, reached, refl, report_effect, situation, step_mark, subst, sym, unwrap_or, with_answer, written, ℕ, ◌++◌, ◌∙◌, ◌∷◌, ◌≡◌, ◌≤◌, ◌⊎◌}
+use Rattle.std.proofs.Common.{List, Bool}
+use Rattle.std.specs.Prelude.{map}
 use Rattle.dap_msg.specs.declared.outgoing.EventBody.TheVariants as event
 use Rattle.dap_msg.specs.declared.command.CommandName.TheVariants as name
 use Rattle.dap_msg.specs.declared.command.Supported.TheVariants as supported
-use Rattle.dap_msg.specs.declared.outgoing.Outgoing.TheVariants.{Event}
-use Rattle.pl0_tree.specs.Faults.{IsTreeOf}
-use Rattle.pl0_meaning.specs.Runs.{written}
-use Rattle.pl0_meaning.specs.Laws.{WrittenJoins}
-use Rattle.dbg_runner.specs.Plain.{PlainReport, Heading, Quit, goes_back}
-use Rattle.dbg_runner.specs.Lawful.{IsLawful}
-use Rattle.dap_history.specs.declared.launch.Launch.{Launch}
-use Rattle.dap_history.specs.declared.situation.Situation.{Situation}
-use Rattle.dap_history.specs.declared.situation.Situation.TheVariants.{Fresh, Ready, Configuring}
-use Rattle.dap_history.specs.Last.{or_else, last_such}
-use Rattle.dap_history.specs.History.{Launched, Item, Content, Loaded, Accepted, Fault, InputEnd, ReadFailure, MemoryFailure, Step, History, Effect, with_answer, messages, messages_of}
-use Rattle.dap_history.specs.Readings.{go, launched, last_run, position, reached, numbers, output, end_of, situation, answer_mark, message_mark, order_mark, step_mark}
-use Rattle.dap_history.specs.Replies.{Reply, nothing, ordering}
-use Rattle.dap_history.specs.Launching.{Launches, launches}
-use Rattle.dap_history.specs.Reports.{Accepts, report_effect}
-use Rattle.dap_history.specs.Emission.{Answers, HasEffect, Causes}
+use Rattle.dap_history.specs.Readings.{position}
 use Rattle.dap_history.proofs.Texts.{OneProgram}
 use Rattle.dap_history.specs.Laws.{NumbersAreWritten}
 use Rattle.dap_history.proofs.Readings.{numbers-snoc, launched-snoc, position-snoc, reached-snoc, position_reached, last_run-snoc, situation-snoc}

@@ -1,21 +1,12 @@
 -- The reply to a question has no effect, so it is that of a reaction which answers or refuses.
-use Rattle.std.proofs.Common.{◌≡◌, inl, inr, ℕ, List, Bool, true, false, Option, None, Some, Ok, Err, refl, ◌∙◌, ap, subst}
-use Rattle.std.specs.Prelude.{nat_eq, if◌then◌else◌, ℤ, Result}
-use Rattle.dap_msg.specs.declared.question.Question.{Question}
+use Rattle.dap_history.proofs.Common.{Body, Configuration, DivideByZero, Err, EvalFault, EvaluatesIn, Frame, History, Inspects, InspectsAs, Launched, None, OfProgram, Ok, Option, Overflow, Question, Reaction, Refusal, Refuse, RepliesAt, RepliesFrom, Reply, Some, Subject, answered, ap, at, frame_by_id, if◌then◌else◌, inl, inr, launched, nothing, refl, refused, reply_of, result_reply, scopes, subject_in, subst, ℕ, ◌∙◌, ◌≡◌}
+use Rattle.std.proofs.Common.{List, Bool, true, false}
+use Rattle.std.specs.Prelude.{nat_eq, ℤ, Result}
 use Rattle.dap_msg.specs.declared.question.Question.TheVariants as question
-use Rattle.dap_msg.specs.declared.outgoing.Body.{Body}
-use Rattle.dap_msg.specs.declared.outgoing.Refusal.{Refusal}
 use Rattle.dap_msg.specs.declared.outgoing.Refusal.TheVariants as refusal
-use Rattle.pl0_meaning.specs.Values.{Configuration, Frame}
-use Rattle.pl0_meaning.specs.Runs.{at}
-use Rattle.dbg_plan.specs.declared.evaluation.EvalFault.{EvalFault}
-use Rattle.dbg_plan.specs.declared.evaluation.EvalFault.TheVariants.{Overflow, DivideByZero}
-use Rattle.dap_history.specs.History.{Launched, History}
-use Rattle.dap_history.specs.Readings.{launched, position}
-use Rattle.dap_history.specs.Replies.{Reply, nothing, answered, refused, OfProgram}
-use Rattle.dap_history.specs.Frames.{frame_by_id}
-use Rattle.dap_history.specs.Inspection.{Subject, subject_in, scopes, variables, result_reply, EvaluatesIn, RepliesFrom, RepliesAt}
-use Rattle.dap_history.specs.Reactions.{Reaction, Refuse, Answer, reply_of, InspectsAs, Inspects}
+use Rattle.dap_history.specs.Readings.{position}
+use Rattle.dap_history.specs.Inspection.{variables}
+use Rattle.dap_history.specs.Reactions.{Answer}
 
 thread_nothing : (reply : Reply) (same : Bool) → reply.effect ≡ nothing
     → (if same then reply else refused refusal.UnknownThread).effect ≡ nothing

@@ -1,28 +1,12 @@
 -- The table read by reactions: which command has each of them, in which situation, and of which program.
-use Rattle.std.proofs.Common.{◌≡◌, Bool, true, false, Option, None, Some, refl, sym, ◌∙◌, ap, subst}
-use Rattle.std.specs.Prelude.{if◌then◌else◌, List, map}
-use Rattle.dap_msg.specs.declared.command.Command.{Command}
+use Rattle.dap_history.proofs.Common.{Body, Breakpoint, Close, Command, Configuring, Faulted, Fresh, History, Inspects, InspectsAs, Interrupt, IsResolved, IsStopped, Launched, None, OfProgram, Option, Question, Reaction, Reacts, Ready, Refusal, Refuse, RepliesIn, Reply, Resolution, Resume, ResumeKind, Retreat, RetreatKind, Running, SetBreakpoints, SetBreakpointsArguments, SetsOf, Situation, Some, Start, Stopped, ThreadArguments, answer_to_line, answered, ap, if◌then◌else◌, is_same_path, launched, line_offset, other_source, refl, reply_of, subst, sym, ◌∙◌, ◌≡◌}
+use Rattle.std.proofs.Common.{Bool, true, false}
+use Rattle.std.specs.Prelude.{List, map}
 use Rattle.dap_msg.specs.declared.command.Command.TheVariants as command
-use Rattle.dap_msg.specs.declared.question.Question.{Question}
-use Rattle.dap_msg.specs.declared.outgoing.Body.{Body}
 use Rattle.dap_msg.specs.declared.outgoing.Body.TheVariants as body
-use Rattle.dap_msg.specs.declared.outgoing.Refusal.{Refusal}
 use Rattle.dap_msg.specs.declared.outgoing.Refusal.TheVariants as refusal
-use Rattle.dap_msg.specs.declared.requests.resume.ResumeKind.{ResumeKind}
-use Rattle.dap_msg.specs.declared.requests.resume.RetreatKind.{RetreatKind}
-use Rattle.dap_msg.specs.declared.requests.resume.ThreadArguments.{ThreadArguments}
-use Rattle.dap_msg.specs.declared.requests.set_breakpoints.SetBreakpointsArguments.{SetBreakpointsArguments}
-use Rattle.dbg_plan.specs.Breakpoints.{Breakpoint}
-use Rattle.dbg_plan.specs.declared.resolving.Resolution.{Resolution}
-use Rattle.dap_history.specs.declared.situation.Situation.{Situation}
-use Rattle.dap_history.specs.declared.situation.Situation.TheVariants.{Fresh, Ready, Configuring, Running, Stopped, Faulted}
-use Rattle.dap_history.specs.History.{Launched, History}
-use Rattle.dap_history.specs.Readings.{launched}
-use Rattle.dap_history.specs.Replies.{Reply, answered, OfProgram, is_main_thread}
-use Rattle.dap_history.specs.Breakpoints.{IsResolved, answer_to_line, line_offset, is_same_path}
-use Rattle.dap_history.specs.Reactions.{Reaction, Refuse, Answer, SetBreakpoints, Start, Resume, End, Retreat, Interrupt, Close, reply_of, other_source, SetsOf, InspectsAs, Inspects, Reacts}
-use Rattle.dap_history.specs.Emission.{RepliesIn}
-use Rattle.dap_history.specs.Stops.{IsStopped}
+use Rattle.dap_history.specs.Replies.{is_main_thread}
+use Rattle.dap_history.specs.Reactions.{Answer, End}
 
 -- a command that is answered with this body and has no effect: a pause where the program stands, lines of another
 -- source, a question, `initialize` or `threads`

@@ -1,14 +1,9 @@
 -- How the readings of a history go on with one more step.
-use Rattle.std.proofs.Common.{◌≡◌, ℕ, ◌+◌, ◌≤◌, List, [], ◌∷◌, ◌++◌, length, Option, None, Some, refl, sym, ◌∙◌, ap, append-nil, length-append, arith}
-use Rattle.std.specs.Prelude.{false, max, unwrap_or}
-use Rattle.std.specs.List.{filter_map}
-use Rattle.std.proofs.lemmas.List.Elements.{filter_map-append}
-use Rattle.std.proofs.lemmas.Grind.{flat_map-append}
-use Rattle.dap_history.specs.Last.{or_else, last_such}
-use Rattle.dap_history.specs.Plans.{no_plan}
-use Rattle.dap_history.specs.declared.situation.Situation.TheVariants.{Fresh}
-use Rattle.dap_history.specs.History.{Step, History, messages, messages_of, orders_of, next_seq}
-use Rattle.dap_history.specs.Readings.{step_mark, situation, settings_by, from_one, settings, launched, go, last_run, runs, end_of, position, numbers, numbers_told, reached, output, plan, waits_by, waiting_plan, pauses_by, waiting_pause, hold_mark, is_held, closing, ending_of}
+use Rattle.dap_history.proofs.Common.{Fresh, History, None, Option, Some, Step, [], ap, append-nil, arith, closing, end_of, ending_of, filter_map, filter_map-append, flat_map-append, go, hold_mark, last_run, last_such, launched, length, length-append, max, messages, messages_of, no_plan, numbers, numbers_told, or_else, orders_of, output, plan, reached, refl, runs, settings, settings_by, situation, step_mark, sym, unwrap_or, waiting_pause, waiting_plan, waits_by, ℕ, ◌++◌, ◌+◌, ◌∙◌, ◌∷◌, ◌≡◌, ◌≤◌}
+use Rattle.std.proofs.Common.{List}
+use Rattle.std.specs.Prelude.{false}
+use Rattle.dap_history.specs.History.{next_seq}
+use Rattle.dap_history.specs.Readings.{from_one, position, pauses_by, is_held}
 
 pub or_else-none : {A : Type 0} (x : Option A) → or_else x None ≡ x
 or_else-none None = refl

@@ -1,8 +1,6 @@
 -- Runs in order, each with a number; and what positions give, one after another.
-use Rattle.std.proofs.Common.{◌≡◌, ℕ, zero, suc, ◌+◌, ◌<◌, ◌≤◌, List, [], ◌∷◌, ◌++◌, length, Option, None, Some, refl, ◌∙◌, ap, arith}
-use Rattle.std.specs.List.{cons_option, filter_map, flat_map, range_with_len}
-use Rattle.dbg_runner.specs.Plain.{Heading}
-use Rattle.dap_history.specs.Last.{or_else, last_such}
+use Rattle.dap_history.proofs.Common.{Heading, None, Option, Some, [], ap, arith, cons_option, filter_map, flat_map, last_such, length, or_else, range_with_len, refl, suc, zero, ℕ, ◌++◌, ◌+◌, ◌<◌, ◌∙◌, ◌∷◌, ◌≡◌, ◌≤◌}
+use Rattle.std.proofs.Common.{List}
 use Rattle.dap_history.proofs.Passing.{none_left}
 
 -- ---- the last of its kind is the last of all that are

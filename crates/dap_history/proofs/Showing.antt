@@ -1,37 +1,18 @@
 -- What the four questions show is what the program is where it stands.
-use Rattle.std.proofs.Common.{◌≡◌, inl, inr, ℕ, zero, suc, ◌+◌, ◌-◌, ◌<◌, List, [], ◌∷◌, length, Bool, true, false, Option, None, Some, Result, Ok, Err, refl, sym, ◌∙◌, ap, subst, eqb-true, arith}
-use Rattle.std.specs.Prelude.{nat_eq, if◌then◌else◌, ℤ, option_map, drop, codes}
-use Rattle.std.specs.Option.{option_map_or}
+use Rattle.dap_history.proofs.Common.{AnswersFrom, Block, Body, Configuration, Counting, DivideByZero, Err, EvalFault, EvaluatesIn, Faulted, Frame, Fresh, InitializeArguments, IsStopped, Launched, Name, None, Ok, Option, Overflow, Path, Question, Refusal, RepliesAt, RepliesFrom, Reply, RunFault, Scope, Situation, Some, StepAt, Stopped, StoppedLastAt, Subject, [], ap, arith, at, at_most, eqb-true, frame_by_id, frame_name, if◌then◌else◌, inl, inr, launched, length, less_by, option_map_or, refl, refused, refused_by, refused_thread, result_reply, scopes, scopes_from, settings, shown_column, shown_frame, shown_frames, shown_line, situation, subject_in, subst, suc, sym, value, zero, ℕ, ◌+◌, ◌-◌, ◌<◌, ◌∙◌, ◌∷◌, ◌≡◌}
+use Rattle.std.proofs.Common.{List, Bool, true, false, Result}
+use Rattle.std.specs.Prelude.{nat_eq, ℤ, option_map, drop, codes}
 use Rattle.dap_msg.specs.declared.command.Command.TheVariants as command
-use Rattle.dap_msg.specs.declared.requests.initialize.InitializeArguments.{InitializeArguments}
-use Rattle.dap_msg.specs.declared.question.Question.{Question}
 use Rattle.dap_msg.specs.declared.question.Question.TheVariants as question
-use Rattle.dap_msg.specs.declared.outgoing.Body.{Body}
 use Rattle.dap_msg.specs.declared.outgoing.Body.TheVariants as body
-use Rattle.dap_msg.specs.declared.outgoing.Scope.{Scope}
-use Rattle.dap_msg.specs.declared.outgoing.Refusal.{Refusal}
 use Rattle.dap_msg.specs.declared.outgoing.Refusal.TheVariants as refusal
-use Rattle.pl0_tree.specs.Tree.{Name, Block, variables as declared}
-use Rattle.pl0_tree.specs.Scope.{Path}
-use Rattle.pl0_tree.specs.Steps.{StepAt}
-use Rattle.pl0_meaning.specs.declared.RunFault.{RunFault}
-use Rattle.pl0_meaning.specs.Values.{Frame, Configuration, frame_at, value}
-use Rattle.pl0_meaning.specs.Runs.{at}
+use Rattle.pl0_tree.specs.Tree.{variables as declared}
+use Rattle.pl0_meaning.specs.Values.{frame_at}
 use Rattle.pl0_meaning.specs.Frames.{IsLinkedTo, AreLinked}
 use Rattle.pl0_meaning.specs.Laws.{FramesAreLinked, FramesFit}
-use Rattle.dbg_plan.specs.declared.evaluation.EvalFault.{EvalFault}
-use Rattle.dbg_plan.specs.declared.evaluation.EvalFault.TheVariants.{Overflow, DivideByZero}
 use Rattle.dbg_plan.specs.Values.{answered as evaluated}
-use Rattle.dap_history.specs.declared.situation.Situation.{Situation}
-use Rattle.dap_history.specs.declared.situation.Situation.TheVariants.{Fresh, Stopped, Faulted}
-use Rattle.dap_history.specs.History.{Launched}
-use Rattle.dap_history.specs.Readings.{situation, settings, launched}
-use Rattle.dap_history.specs.Replies.{Reply, refused}
-use Rattle.dap_history.specs.Frames.{Counting, frame_name, shown_line, shown_column, shown_frame, shown_frames, at_most, scopes_from, named, names_of, frame_by_id}
-use Rattle.dap_history.specs.Inspection.{Subject, subject_in, scopes, variables, result_reply, EvaluatesIn, RepliesFrom, RepliesAt}
-use Rattle.dap_history.specs.Stops.{IsStopped, StoppedLastAt, AnswersFrom}
-use Rattle.dap_history.specs.Verdicts.{refused_thread, refused_by}
-use Rattle.dap_history.specs.Initialized.{less_by}
+use Rattle.dap_history.specs.Frames.{named, names_of}
+use Rattle.dap_history.specs.Inspection.{variables}
 use Rattle.dap_history.specs.Shown.{HasId, HasNone, IsBlockName, ShowsFrame, ShowsFrames, page, ShowsScopes, ShowsVariables, ShowsLocals, GivesValue, ShowsValue, OfFrame, Shows, AnswersShowTheProgram}
 use Rattle.dap_history.proofs.Along.{any_events, along}
 use Rattle.dap_history.proofs.Each.{WasTaken, EachTaken, each_kept, each_first}

@@ -1,32 +1,12 @@
 -- No reply reports a number or launches a program but that of a launch, and each Go of a reply is of the launched text.
-use Rattle.std.proofs.Common.{◌≡◌, ◌+◌, List, [], ◌∷◌, ◌++◌, Bool, true, false, ◌||◌, Option, None, Some, refl, sym, ◌∙◌, ap, subst, append-nil}
-use Rattle.std.specs.Prelude.{map, if◌then◌else◌}
-use Rattle.std.specs.List.{filter_map}
-use Rattle.dap_msg.specs.declared.command.Command.{Command}
+use Rattle.dap_history.proofs.Common.{Body, Breakpoint, Command, CommandName, Configuring, Effect, Ended, Event, EventBody, Fresh, Heading, History, Hold, Launched, Log, Mode, None, Option, Quit, Reaction, Ready, Reason, RepliesIn, Reply, Running, Situation, Some, StopReason, [], answered, ap, append-nil, due_first, effect_in, enters, exited_events, filter_map, first_logs, go, if◌then◌else◌, is_back, last_such, launched, name_of, nothing, ordering, output, plan, refl, reply_of, resumes, runs, situation, starts_by, stop_of, stop_of_event, stopped_events, subst, sym, ◌++◌, ◌+◌, ◌||◌, ◌∙◌, ◌∷◌, ◌≡◌}
+use Rattle.std.proofs.Common.{List, Bool, true, false}
+use Rattle.std.specs.Prelude.{map}
 use Rattle.dap_msg.specs.declared.command.Command.TheVariants as command
-use Rattle.dap_msg.specs.Commands.{name_of}
-use Rattle.dap_msg.specs.declared.command.CommandName.{CommandName}
-use Rattle.dap_msg.specs.declared.outgoing.Outgoing.TheVariants.{Answer, Event}
-use Rattle.dap_msg.specs.declared.outgoing.Body.{Body}
-use Rattle.dap_msg.specs.declared.outgoing.EventBody.{EventBody}
-use Rattle.dbg_plan.specs.Breakpoints.{Breakpoint}
-use Rattle.dbg_runner.specs.Plain.{Heading, Hold, Quit}
-use Rattle.dbg_plan.specs.Logs.{Log, logs as position_logs}
-use Rattle.dbg_plan.specs.declared.mode.Mode.{Mode}
-use Rattle.dbg_plan.specs.declared.mode.Reason.{Reason}
-use Rattle.dap_history.specs.declared.situation.Situation.{Situation}
-use Rattle.dap_history.specs.declared.situation.Situation.TheVariants.{Fresh, Ready, Configuring, Running, Ended}
-use Rattle.dap_history.specs.Last.{last_such}
-use Rattle.dap_history.specs.History.{Launched, History, Effect}
-use Rattle.dap_history.specs.Considered.{starts_by}
-use Rattle.dap_history.specs.Readings.{go, launched, runs, is_back, is_held, plan, situation, position, output}
-use Rattle.dap_history.specs.Replies.{Reply, nothing, answered, reporting, ordering, exited_events, stop_of, stopped_events}
-use Rattle.dap_history.specs.Breakpoints.{effect_in}
-use Rattle.dap_history.specs.Running.{resumes, due_first, first_logs, enters}
-use Rattle.dap_history.specs.Reactions.{Reaction, reply_of}
-use Rattle.dap_history.specs.Emission.{RepliesIn}
-use Rattle.dap_history.specs.Stops.{stop_of_event}
-use Rattle.dap_msg.specs.declared.outgoing.StopReason.{StopReason}
+use Rattle.dap_msg.specs.declared.outgoing.Outgoing.TheVariants.{Answer}
+use Rattle.dbg_plan.specs.Logs.{logs as position_logs}
+use Rattle.dap_history.specs.Readings.{is_held, position}
+use Rattle.dap_history.specs.Replies.{reporting}
 use Rattle.dap_history.proofs.Reacted.{IsCalm, Reacted, by_refusing, by_answering, by_setting, by_starting, by_resuming, by_ending, by_retreating, by_interrupting, by_closing, by_reaction}
 use Rattle.dap_history.proofs.Told.{numbers_in, texts_in, numbers_of_logs, stop_of_logs}
 

@@ -1,8 +1,7 @@
 -- What holds since a step: how a history with one more step splits at one of its steps.
-use Rattle.std.proofs.Common.{◌≡◌, ◌⊎◌, inl, inr, [], ◌∷◌, ◌++◌, Some, refl, sym, ◌∙◌, ap, append_assoc}
-use Rattle.std.specs.Prelude.{All}
-use Rattle.std.proofs.lemmas.List.Elements.{All-nil, All-cons, All-append, All-pop}
-use Rattle.dap_history.specs.History.{Step, History}
+use Rattle.dap_history.proofs.Common.{All, All-append, All-cons, All-nil, History, Some, Step, [], ap, inl, inr, refl, sym, ◌++◌, ◌∙◌, ◌∷◌, ◌≡◌, ◌⊎◌}
+use Rattle.std.proofs.Common.{append_assoc}
+use Rattle.std.proofs.lemmas.List.Elements.{All-pop}
 use Rattle.dap_history.proofs.Each.{none_first}
 
 abbrev head_or : Step → History → Step

@@ -1,40 +1,19 @@
 -- Where the program stands it is where it stopped last, and what is asked there is answered from there.
-use Rattle.std.proofs.Common.{◌≡◌, ◌⊎◌, inl, inr, ℕ, List, [], ◌∷◌, ◌++◌, Option, None, Some, Ok, Err, refl, sym, ◌∙◌, ap, subst}
-use Rattle.std.specs.Prelude.{map, unwrap_or, Result}
+use Rattle.dap_history.proofs.Common.{Accepted, All-append, All-cons, All-nil, Answers, AnswersFrom, Body, Causes, Command, CommandName, Content, Err, Event, EventBody, Faulted, Go, History, Hold, Incoming, InspectsAs, IsStopped, Item, Launched, Loaded, None, OfProgram, Ok, Option, Outgoing, PlainOrder, Question, Quit, Reaction, Refusal, RepliesAt, RepliesIn, Reply, Request, Situation, Some, Step, StopReason, Stopped, StoppedLastAt, [], answer_mark, ap, at, command_mark, end_of, event_mark, inl, inr, last_such, launched, message_mark, messages, name_of, or_else, order_mark, refl, reply_of, situation, step_mark, stop_in, stop_of_event, subject_in, subst, sym, unwrap_or, with_answer, ℕ, ◌++◌, ◌∙◌, ◌∷◌, ◌≡◌, ◌⊎◌}
+use Rattle.std.proofs.Common.{List}
+use Rattle.std.specs.Prelude.{map, Result}
 use Rattle.std.proofs.lemmas.List.{append_assoc}
-use Rattle.std.proofs.lemmas.List.Elements.{All-nil, All-cons, All-append}
-use Rattle.dap_msg.specs.declared.question.Question.{Question}
-use Rattle.dap_msg.specs.Commands.{name_of}
-use Rattle.dap_msg.specs.declared.request.Request.{Request}
-use Rattle.dap_msg.specs.declared.command.CommandName.{CommandName}
 use Rattle.dap_msg.specs.declared.command.CommandName.TheVariants as name
 use Rattle.dap_msg.specs.declared.command.Supported.TheVariants as supported
-use Rattle.dap_msg.specs.declared.outgoing.Body.{Body}
-use Rattle.dap_msg.specs.declared.outgoing.Refusal.{Refusal}
-use Rattle.dap_msg.specs.declared.outgoing.Outgoing.{Outgoing}
-use Rattle.dap_msg.specs.declared.outgoing.Outgoing.TheVariants.{Answer, Event}
-use Rattle.dap_msg.specs.declared.outgoing.EventBody.{EventBody}
+use Rattle.dap_msg.specs.declared.outgoing.Outgoing.TheVariants.{Answer}
 use Rattle.dap_msg.specs.declared.outgoing.EventBody.TheVariants as event
-use Rattle.dap_msg.specs.declared.outgoing.StopReason.{StopReason}
-use Rattle.pl0_meaning.specs.Runs.{at}
-use Rattle.dbg_runner.specs.Plain.{PlainOrder, Go, Hold, Quit}
-use Rattle.dap_history.specs.declared.situation.Situation.{Situation}
-use Rattle.dap_history.specs.declared.situation.Situation.TheVariants.{Stopped, Faulted}
-use Rattle.dap_history.specs.Last.{or_else, last_such}
-use Rattle.dap_history.specs.History.{Launched, Item, Content, Loaded, Accepted, Step, History, with_answer, messages}
-use Rattle.dap_history.specs.Readings.{situation, position, launched, end_of, command_mark, answer_mark, event_mark, message_mark, order_mark, step_mark}
-use Rattle.dap_history.specs.Replies.{Reply, OfProgram}
-use Rattle.dap_history.specs.Inspection.{RepliesAt, subject_in}
-use Rattle.dap_history.specs.Reactions.{Reaction, reply_of, InspectsAs}
-use Rattle.dap_history.specs.Emission.{RepliesIn, Answers, Causes}
-use Rattle.dap_history.specs.Stops.{stop_of_event, stop_in, IsStopped, StoppedLastAt, AnswersFrom, QuestionsAreAnsweredThere}
-use Rattle.dap_history.specs.Events.{Incoming}
+use Rattle.dap_history.specs.Readings.{position}
+use Rattle.dap_history.specs.Stops.{QuestionsAreAnsweredThere}
 use Rattle.dap_history.proofs.Readings.{situation-snoc, position-snoc}
 use Rattle.dap_history.proofs.Along.{IsTaken, IsKept, any_events, along}
 use Rattle.dap_history.proofs.Each.{WasTaken, EachTaken, each_kept, each_first}
 use Rattle.dap_history.proofs.Questions.{inspects_there}
 use Rattle.dap_history.proofs.Reacted.{IsCalm, Reacted, by_answering, by_reaction}
-use Rattle.dap_msg.specs.declared.command.Command.{Command}
 use Rattle.dap_msg.specs.declared.command.Command.TheVariants as command
 
 -- ---- marks of a kind

@@ -1,28 +1,12 @@
 -- The program is started once, in Configuring.
-use Rattle.std.proofs.Common.{◌≡◌, ◌⊎◌, inl, inr, ℕ, [], ◌∷◌, ◌++◌, Bool, true, false, Option, None, Some, Result, Ok, Err, refl, sym, ◌∙◌, ap, subst}
-use Rattle.std.specs.Prelude.{map, if◌then◌else◌, option_map}
-use Rattle.dap_msg.specs.Commands.{name_of}
-use Rattle.dap_msg.specs.declared.command.Command.{Command}
+use Rattle.dap_history.proofs.Common.{Accepted, Answers, Body, Causes, Command, CommandName, Configuring, Content, Err, Event, Fresh, History, Incoming, Item, Launched, Loaded, None, Ok, Option, Reaction, Ready, Reason, Refusal, RepliesIn, Reply, Running, Situation, Some, Step, Stopped, [], answer_mark, ap, before_start, due_first, enters, if◌then◌else◌, inl, inr, last_such, launched, message_mark, name_of, or_else, order_mark, plan, refl, reply_of, situation, starts_by, step_mark, stop_of, stopped_events, subst, sym, with_answer, ℕ, ◌++◌, ◌∙◌, ◌∷◌, ◌≡◌, ◌⊎◌}
+use Rattle.std.proofs.Common.{Bool, true, false, Result}
+use Rattle.std.specs.Prelude.{map, option_map}
 use Rattle.dap_msg.specs.declared.command.Command.TheVariants as command
-use Rattle.dap_msg.specs.declared.command.CommandName.{CommandName}
 use Rattle.dap_msg.specs.declared.command.CommandName.TheVariants as name
 use Rattle.dap_msg.specs.declared.command.Supported.TheVariants as supported
-use Rattle.dap_msg.specs.declared.outgoing.Body.{Body}
-use Rattle.dap_msg.specs.declared.outgoing.Refusal.{Refusal}
-use Rattle.dap_msg.specs.declared.outgoing.Outgoing.TheVariants.{Answer, Event}
-use Rattle.dbg_plan.specs.declared.mode.Reason.{Reason}
-use Rattle.dap_history.specs.declared.situation.Situation.{Situation}
-use Rattle.dap_history.specs.declared.situation.Situation.TheVariants.{Fresh, Ready, Configuring, Running, Stopped}
-use Rattle.dap_history.specs.Last.{or_else, last_such}
-use Rattle.dap_history.specs.History.{Launched, Item, Content, Loaded, Accepted, Step, History, with_answer}
+use Rattle.dap_msg.specs.declared.outgoing.Outgoing.TheVariants.{Answer}
 use Rattle.dbg_plan.specs.Logs.{logs as position_logs}
-use Rattle.dap_history.specs.Readings.{situation, launched, plan, answer_mark, message_mark, order_mark, step_mark}
-use Rattle.dap_history.specs.Replies.{Reply, stopped_events, stop_of}
-use Rattle.dap_history.specs.Running.{due_first, enters}
-use Rattle.dap_history.specs.Reactions.{Reaction, reply_of}
-use Rattle.dap_history.specs.Considered.{starts_by, before_start}
-use Rattle.dap_history.specs.Emission.{RepliesIn, Answers, Causes}
-use Rattle.dap_history.specs.Events.{Incoming}
 use Rattle.dap_history.proofs.Readings.{situation-snoc}
 use Rattle.dap_history.proofs.Along.{IsTaken}
 use Rattle.dap_history.proofs.Early.{IsEarlyMark, unanswered_late, answered_late, result_late, early_reply}

@@ -1,16 +1,8 @@
 -- Each run is of the launched text, and starts where the program stands.
-use Rattle.std.proofs.Common.{◌≡◌, ℕ, List, Option, None, Some, refl, sym, ◌∙◌, ap}
-use Rattle.std.specs.Prelude.{unwrap_or}
-use Rattle.pl0_meaning.specs.Laws.{WrittenJoins}
-use Rattle.dbg_runner.specs.Plain.{PlainReport, Heading}
-use Rattle.dap_history.specs.Plans.{Plan}
-use Rattle.dap_history.specs.Last.{last_such}
-use Rattle.dap_history.specs.History.{Launched, Item, Content, Loaded, Accepted, Step, History, Effect}
-use Rattle.dap_history.specs.Readings.{go, situation, position, plan, launched, end_of}
-use Rattle.dap_history.specs.Reports.{Accepts, report_effect}
-use Rattle.dap_history.specs.Emission.{Causes}
-use Rattle.dap_history.specs.Stops.{run_in, EachRunStartsThere}
-use Rattle.dap_history.specs.GoingBack.{back_in}
+use Rattle.dap_history.proofs.Common.{Accepted, Accepts, Causes, Content, Effect, Heading, History, Item, Launched, Loaded, None, Option, PlainReport, Plan, Some, Step, WrittenJoins, ap, back_in, end_of, go, last_such, launched, plan, refl, report_effect, run_in, situation, sym, unwrap_or, ℕ, ◌∙◌, ◌≡◌}
+use Rattle.std.proofs.Common.{List}
+use Rattle.dap_history.specs.Readings.{position}
+use Rattle.dap_history.specs.Stops.{EachRunStartsThere}
 use Rattle.dap_history.proofs.Readings.{position-snoc, plan-snoc}
 use Rattle.dap_history.proofs.Along.{IsTaken, IsLawfulEvent, lawful_events, along}
 use Rattle.dap_history.proofs.Each.{WasTaken, EachTaken, each_kept, each_first}

@@ -1,28 +1,11 @@
 -- The numbers reported before a stop or a log are exactly those written up to it, and before a stop so are the logs.
-use Rattle.std.proofs.Common.{◌≡◌, inl, inr, ℕ, List, [], ◌∷◌, ◌++◌, ℤ, Option, None, Some, refl, sym, ◌∙◌, ap, subst}
+use Rattle.dap_history.proofs.Common.{Accepted, Body, Breakpoint, Causes, CommandName, Content, Effect, Event, EventBody, HasEffect, History, Item, Launch, Launches, Loaded, Log, None, Option, Outgoing, PlainReport, Refusal, Reply, Some, Step, WrittenJoins, [], ap, filter_map, filter_map-append, inl, inr, log_events, log_of, messages, messages_of, output, outputs, refl, situation, subst, sym, with_answer, ℕ, ◌++◌, ◌∙◌, ◌∷◌, ◌≡◌}
+use Rattle.std.proofs.Common.{List, ℤ}
 use Rattle.std.specs.Prelude.{map, Bool, true, false, Result}
-use Rattle.std.specs.List.{filter_map}
-use Rattle.std.proofs.lemmas.List.Elements.{filter_map-append}
-use Rattle.dap_msg.specs.declared.command.CommandName.{CommandName}
-use Rattle.dap_msg.specs.declared.outgoing.Body.{Body}
-use Rattle.dap_msg.specs.declared.outgoing.Refusal.{Refusal}
-use Rattle.dap_msg.specs.declared.outgoing.Outgoing.{Outgoing}
-use Rattle.dap_msg.specs.declared.outgoing.Outgoing.TheVariants.{Answer, Event}
-use Rattle.dap_msg.specs.declared.outgoing.EventBody.{EventBody}
+use Rattle.dap_msg.specs.declared.outgoing.Outgoing.TheVariants.{Answer}
 use Rattle.dap_msg.specs.declared.outgoing.EventBody.TheVariants as event
-use Rattle.pl0_meaning.specs.Laws.{WrittenJoins}
-use Rattle.dbg_plan.specs.Breakpoints.{Breakpoint}
-use Rattle.dbg_plan.specs.Logs.{Log}
-use Rattle.dbg_runner.specs.Plain.{PlainReport}
-use Rattle.dap_history.specs.declared.launch.Launch.{Launch}
-use Rattle.dap_history.specs.History.{Item, Content, Loaded, Accepted, Step, History, Effect, with_answer, messages, messages_of}
-use Rattle.dap_history.specs.Readings.{situation, output}
-use Rattle.dap_history.specs.Replies.{Reply, log_events}
-use Rattle.dap_history.specs.Launching.{Launches}
-use Rattle.dap_history.specs.Reports.{outputs}
-use Rattle.dap_history.specs.Emission.{HasEffect, Causes}
 use Rattle.dap_history.proofs.Texts.{OneProgram}
-use Rattle.dap_history.specs.Laws.{log_of, StopsFollowNumbers, LogsFollowNumbers}
+use Rattle.dap_history.specs.Laws.{StopsFollowNumbers, LogsFollowNumbers}
 use Rattle.dap_history.proofs.Readings.{messages_of-snoc}
 use Rattle.dap_history.proofs.Along.{IsLawfulEvent, IsTaken, lawful_events, along}
 use Rattle.dap_history.proofs.Told.{numbers_in, numbers_of_logs}

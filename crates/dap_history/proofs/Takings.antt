@@ -1,20 +1,10 @@
 -- Each event that is an item is taken, and nothing is taken that isn't.
-use Rattle.std.proofs.Common.{◌≡◌, inl, inr, ℕ, List, [], ◌∷◌, ◌++◌, Option, None, Some, Result, Ok, Err, refl, sym, ◌∙◌, ap, subst, append_assoc, append-nil}
-use Rattle.dap_msg.specs.declared.request.FirstSeq.{FirstSeq}
-use Rattle.dap_msg.specs.declared.command.Command.{Command}
+use Rattle.dap_history.proofs.Common.{Accepted, Accepts, Command, Content, Err, File, FirstSeq, History, Incoming, InputEnd, IsAfter, IsTaking, Item, Launch, LeadsByEvent, LeadsByEvents, LeadsByFile, LeadsByPiece, LeadsByReport, LoadFault, Loaded, Loads, MayTake, MemoryFailure, NoMemory, None, Ok, Option, Piece, PlainReport, ReadFailed, ReadFailure, Report, Rest, SliceOutcome, Some, Step, Takes, [], ap, append-nil, closed, closing, closing_command, closing_report, faulty, inl, inr, one_more, only_bytes, open_ended, or_else, refl, subst, sym, waits, ℕ, ◌++◌, ◌∙◌, ◌∷◌, ◌≡◌}
+use Rattle.std.proofs.Common.{List, Result, append_assoc}
 use Rattle.dap_msg.specs.declared.command.Command.TheVariants as command
-use Rattle.dbg_runner.specs.Plain.{PlainReport}
-use Rattle.dbg_runner.specs.declared.outcome.SliceOutcome.{SliceOutcome}
 use Rattle.dbg_runner.specs.declared.outcome.SliceOutcome.TheVariants as slice
-use Rattle.dap_history.specs.declared.launch.Launch.{Launch}
-use Rattle.dap_history.specs.declared.fault.LoadFault.{LoadFault}
 use Rattle.dap_history.specs.declared.fault.LoadFault.TheVariants as load_fault
-use Rattle.dap_history.specs.History.{Item, Content, Loaded, Accepted, InputEnd, ReadFailure, MemoryFailure, Step, History}
-use Rattle.dap_history.specs.Last.{or_else}
-use Rattle.dap_history.specs.Readings.{closing_command, closing_report, closing}
-use Rattle.dap_history.specs.Reports.{Accepts}
-use Rattle.dap_history.specs.Emission.{IsAfter}
-use Rattle.dap_history.specs.Events.{Incoming, Piece, End, ReadFailed, NoMemory, File, Report, Rest, only_bytes, IsTaking, Takes, one_more, closed, open_ended, faulty, waits, MayTake, LeadsByPiece, Loads, LeadsByFile, LeadsByReport, LeadsByEvent, LeadsByEvents}
+use Rattle.dap_history.specs.Events.{End}
 use Rattle.dap_history.specs.Laws.{HistoryIsOne}
 use Rattle.dap_history.specs.Taken.{file_item, GoesOnWith, IsOfBytes, AreOfBytes, AddsSteps, EventsAreTaken, closes_by, fails_by, ends_by, EachItemEndsOrNot, BeginWithItem, MayFollow}
 use Rattle.dap_history.proofs.Readings.{or_else-none, ending_of-snoc}

@@ -1,22 +1,11 @@
 -- What a report tells after its numbers and logs.
-use Rattle.std.proofs.Common.{◌≡◌, List, [], ◌∷◌, ◌++◌, Bool, true, false, refl, sym, ap, subst, append-nil}
-use Rattle.std.specs.Prelude.{map, ℤ, All}
-use Rattle.std.proofs.lemmas.List.Elements.{All-nil, All-cons, All-append}
-use Rattle.dap_msg.specs.declared.outgoing.EventBody.{EventBody}
+use Rattle.dap_history.proofs.Common.{Accepted, All, All-append, All-cons, All-nil, Breakpoint, Causes, Effect, EventBody, History, IsOutput, Log, PlainReport, SliceOutcome, StopReason, [], ap, append-nil, held_effect, log_events, outputs, refl, report_effect, subst, sym, waiting_pause, ◌++◌, ◌∷◌, ◌≡◌}
+use Rattle.std.proofs.Common.{List, Bool, true, false}
+use Rattle.std.specs.Prelude.{map, ℤ}
 use Rattle.dap_msg.specs.declared.outgoing.EventBody.TheVariants as event
-use Rattle.dap_msg.specs.declared.outgoing.StopReason.{StopReason}
 use Rattle.dap_msg.specs.declared.outgoing.StopReason.TheVariants as stop
-use Rattle.dbg_plan.specs.Breakpoints.{Breakpoint}
-use Rattle.dbg_plan.specs.Logs.{Log}
-use Rattle.dbg_runner.specs.declared.outcome.SliceOutcome.{SliceOutcome}
 use Rattle.dbg_runner.specs.declared.outcome.SliceOutcome.TheVariants as slice
-use Rattle.dbg_runner.specs.Plain.{PlainReport}
-use Rattle.dap_history.specs.History.{Accepted, History, Effect}
-use Rattle.dap_history.specs.Readings.{waiting_pause}
-use Rattle.dap_history.specs.Replies.{log_events}
-use Rattle.dap_history.specs.Reports.{outputs, held_effect, report_effect}
-use Rattle.dap_history.specs.Emission.{Causes}
-use Rattle.dap_history.specs.Stops.{IsOutput, tells_held, tells, EachReportIsTold}
+use Rattle.dap_history.specs.Stops.{tells_held, tells, EachReportIsTold}
 use Rattle.dap_history.proofs.Along.{any_events, along}
 use Rattle.dap_history.proofs.Each.{WasTaken, EachTaken, each_kept, each_first}
 use Rattle.dap_history.proofs.Told.{reason_told, fault_told}

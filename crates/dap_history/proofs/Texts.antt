@@ -1,10 +1,7 @@
 -- A text reads as one program.
-use Rattle.std.proofs.Common.{◌≡◌, ℕ, List}
+use Rattle.dap_history.proofs.Common.{AtMostOne, Block, IsTreeOf, ℕ, ∥∥₁_elim, ◌≡◌}
+use Rattle.std.proofs.Common.{List}
 use Rattle.std.specs.Coded.{Coded-set}
-use Rattle.std.proofs.Math.Logic.{∥∥₁_elim}
-use Rattle.pl0_tree.specs.Tree.{Block}
-use Rattle.pl0_tree.specs.Faults.{IsTreeOf}
-use Rattle.pl0_syntax.specs.Laws.{AtMostOne}
 use Rattle.pl0_tree.specs.BlockCode.{block_code}
 
 abbrev pub OneProgram : Type 0

@@ -1,22 +1,11 @@
 -- What numbers and logs say among events, and to which situation a stop leads.
-use Rattle.std.proofs.Common.{◌≡◌, ℕ, List, [], ◌∷◌, ◌++◌, ℤ, Some, refl, ◌∙◌, ap}
+use Rattle.dap_history.proofs.Common.{Breakpoint, Event, EventBody, Log, Reason, RunFault, Some, Stopped, [], ap, exception_of, filter_map, last_such, log_events, log_of, message_mark, output, refl, stop_of, stop_of_event, text_of_log, told_reason, ℕ, ◌++◌, ◌∙◌, ◌∷◌, ◌≡◌}
+use Rattle.std.proofs.Common.{List, ℤ}
 use Rattle.std.specs.Prelude.{map}
-use Rattle.std.specs.List.{filter_map}
-use Rattle.dap_msg.specs.declared.outgoing.Outgoing.TheVariants.{Event}
-use Rattle.dap_msg.specs.declared.outgoing.EventBody.{EventBody}
 use Rattle.dap_msg.specs.declared.outgoing.EventBody.TheVariants as event
-use Rattle.dbg_plan.specs.Breakpoints.{Breakpoint}
-use Rattle.dbg_plan.specs.Logs.{Log}
-use Rattle.dbg_plan.specs.declared.mode.Reason.{Reason}
 use Rattle.dbg_plan.specs.declared.mode.Reason.TheVariants as reason
-use Rattle.dap_history.specs.declared.situation.Situation.TheVariants.{Stopped}
-use Rattle.dap_history.specs.Last.{last_such}
-use Rattle.dap_history.specs.Readings.{message_mark, output}
-use Rattle.pl0_meaning.specs.declared.RunFault.{RunFault}
 use Rattle.pl0_meaning.specs.declared.RunFault.TheVariants as run_fault
-use Rattle.dap_history.specs.Replies.{stop_of, exception_of, text_of_log, log_events}
-use Rattle.dap_history.specs.Laws.{log_of}
-use Rattle.dap_history.specs.Stops.{told_reason, told_fault, stop_of_event}
+use Rattle.dap_history.specs.Stops.{told_fault}
 use Rattle.dap_history.proofs.Readings.{or_else-none}
 
 -- the numbers, and the texts of the logs, that events report

@@ -1,43 +1,15 @@
 -- Each step leads where the table of transitions says, so the situation is where the steps lead from Fresh.
-use Rattle.std.proofs.Common.{◌≡◌, inl, inr, ℕ, List, [], ◌∷◌, ◌++◌, Bool, true, false, Option, None, Some, Result, Ok, refl, sym, ◌∙◌, ap, subst, append-nil}
-use Rattle.std.specs.Prelude.{map, unwrap_or, option_map}
-use Rattle.dap_msg.specs.Commands.{name_of}
-use Rattle.dap_msg.specs.declared.command.Command.{Command}
+use Rattle.dap_history.proofs.Common.{Accepted, Answers, Body, Breakpoint, Causes, Command, CommandName, Configuring, Content, Effect, Event, Fault, Faulted, Fresh, HasEffect, Heading, History, Incoming, InputEnd, IsHistoryOf, IsStopped, Item, Launch, Launched, Launches, Loaded, MemoryFailure, Mode, None, Ok, Option, Outgoing, PlainReport, Quit, Reaction, ReadFailure, Ready, Reason, Refusal, RepliesIn, Reply, Rest, RetreatKind, Running, SetBreakpointsArguments, Situation, SliceOutcome, Some, Step, Stopped, ThreadArguments, [], after_step, ap, append-nil, due_first, effect_in, enters, exception_of, exited_events, first_logs, held_effect, hold_once, inl, inr, item_leads, last_such, message_mark, name_of, nothing, or_else, order_mark, ordering, plan, refl, reply_of, report_effect, resumes, retreat_mode, situation, stop_of, stop_of_event, stopped_events, subst, sym, unwrap_or, waiting_pause, with_answer, ℕ, ◌++◌, ◌∙◌, ◌∷◌, ◌≡◌}
+use Rattle.std.proofs.Common.{List, Bool, true, false, Result}
+use Rattle.std.specs.Prelude.{map, option_map}
 use Rattle.dap_msg.specs.declared.command.Command.TheVariants as command
-use Rattle.dap_msg.specs.declared.command.CommandName.{CommandName}
 use Rattle.dap_msg.specs.declared.command.CommandName.TheVariants as name
 use Rattle.dap_msg.specs.declared.command.Supported.TheVariants as supported
-use Rattle.dap_msg.specs.declared.requests.resume.RetreatKind.{RetreatKind}
-use Rattle.dap_msg.specs.declared.requests.resume.ThreadArguments.{ThreadArguments}
-use Rattle.dap_msg.specs.declared.requests.set_breakpoints.SetBreakpointsArguments.{SetBreakpointsArguments}
-use Rattle.dap_msg.specs.declared.outgoing.Body.{Body}
 use Rattle.dap_msg.specs.declared.outgoing.Body.TheVariants as body
-use Rattle.dap_msg.specs.declared.outgoing.Refusal.{Refusal}
-use Rattle.dap_msg.specs.declared.outgoing.Outgoing.{Outgoing}
-use Rattle.dap_msg.specs.declared.outgoing.Outgoing.TheVariants.{Answer, Event}
+use Rattle.dap_msg.specs.declared.outgoing.Outgoing.TheVariants.{Answer}
 use Rattle.dap_msg.specs.declared.outgoing.StopReason.TheVariants as stop
-use Rattle.dbg_plan.specs.Breakpoints.{Breakpoint}
-use Rattle.dbg_plan.specs.declared.mode.Mode.{Mode}
-use Rattle.dbg_plan.specs.declared.mode.Reason.{Reason}
-use Rattle.dbg_runner.specs.declared.outcome.SliceOutcome.{SliceOutcome}
 use Rattle.dbg_runner.specs.declared.outcome.SliceOutcome.TheVariants as slice
-use Rattle.dbg_runner.specs.Plain.{Heading, PlainReport, Quit}
-use Rattle.dap_history.specs.declared.launch.Launch.{Launch}
-use Rattle.dap_history.specs.declared.situation.Situation.{Situation}
-use Rattle.dap_history.specs.declared.situation.Situation.TheVariants.{Fresh, Ready, Configuring, Running, Stopped, Faulted}
-use Rattle.dap_history.specs.Last.{or_else, last_such}
-use Rattle.dap_history.specs.History.{Launched, Item, Content, Loaded, Accepted, Fault, InputEnd, ReadFailure, MemoryFailure, Step, History, Effect, with_answer}
-use Rattle.dap_history.specs.Readings.{order_mark, message_mark, situation, plan, waiting_pause}
-use Rattle.dap_history.specs.Replies.{Reply, nothing, ordering, stopped_events, stop_of, exception_of, exited_events}
-use Rattle.dap_history.specs.Launching.{Launches}
-use Rattle.dap_history.specs.Breakpoints.{effect_in, hold_once}
-use Rattle.dap_history.specs.Running.{resumes, retreat_mode, due_first, first_logs, enters}
-use Rattle.dap_history.specs.Reactions.{Reaction, reply_of}
-use Rattle.dap_history.specs.Reports.{held_effect, report_effect}
-use Rattle.dap_history.specs.Emission.{RepliesIn, Answers, HasEffect, Causes}
-use Rattle.dap_history.specs.Events.{Incoming, Rest, IsHistoryOf}
-use Rattle.dap_history.specs.Stops.{stop_of_event, IsStopped}
-use Rattle.dap_history.specs.Transitions.{runs_unless, report_leads, item_leads, after_step, after_steps, EachStepLeads, SituationIsAfterSteps}
+use Rattle.dap_history.specs.Transitions.{runs_unless, report_leads, after_steps, EachStepLeads, SituationIsAfterSteps}
 use Rattle.dap_history.proofs.Readings.{situation-snoc}
 use Rattle.dap_history.proofs.Along.{IsTaken, IsKept, any_events, along}
 use Rattle.dap_history.proofs.Each.{WasTaken, EachTaken, each_kept, each_first}

@@ -1,19 +1,12 @@
 -- While a session takes items, nothing whole is left unread.
-use Rattle.std.proofs.Common.{◌≡◌, inl, inr, ℕ, List, [], ◌∷◌, ◌++◌, length, Option, None, Some, Result, Ok, Err, refl, sym, ◌∙◌, ap, subst, length-append, arith}
-use Rattle.dap_frame.specs.declared.fault.FramingFault.{FramingFault}
+use Rattle.dap_history.proofs.Common.{Ending, Err, Fault, FaultAt, File, FirstSeq, FramingFault, HasFaultyLine, History, Incoming, InputEnd, IsTaking, Item, Launch, LeadsByEvent, LeadsByEvents, LeadsByFile, LeadsByPiece, LeadsByReport, LoadFault, MayTake, MemoryFailure, NoMemory, None, Ok, Option, Piece, PlainReport, ReadFailed, ReadFailure, Report, Rest, Some, Takes, [], ap, arith, closed, closing, faulty, inl, inr, length, length-append, line_of, lines_of, one_more, only_bytes, open_ended, refl, subst, sym, waits, ℕ, ◌++◌, ◌∙◌, ◌∷◌, ◌≡◌}
+use Rattle.std.proofs.Common.{List, Result}
 use Rattle.dap_frame.specs.declared.fault.FramingFault.TheVariants as framing
-use Rattle.dap_frame.specs.Header.{line_end, line_of, lines_of, HasFaultyLine, FaultAt}
+use Rattle.dap_frame.specs.Header.{line_end}
 use Rattle.dap_frame.specs.Frame.{IsFrameInFront, IsOpen}
-use Rattle.dbg_runner.specs.Plain.{PlainReport}
-use Rattle.dap_msg.specs.declared.request.FirstSeq.{FirstSeq}
-use Rattle.dap_history.specs.declared.ending.Ending.{Ending}
-use Rattle.dap_history.specs.declared.launch.Launch.{Launch}
-use Rattle.dap_history.specs.declared.fault.LoadFault.{LoadFault}
 use Rattle.dap_history.specs.declared.fault.LoadFault.TheVariants as load_fault
-use Rattle.dap_history.specs.History.{Item, Fault, InputEnd, ReadFailure, MemoryFailure, History}
-use Rattle.dap_history.specs.Readings.{closing}
 use Rattle.dap_history.specs.Laws.{RestIsOpen}
-use Rattle.dap_history.specs.Events.{Incoming, Piece, End, ReadFailed, NoMemory, File, Report, Rest, only_bytes, IsTaking, Takes, one_more, closed, open_ended, faulty, waits, MayTake, LeadsByPiece, LeadsByFile, LeadsByReport, LeadsByEvent, LeadsByEvents}
+use Rattle.dap_history.specs.Events.{End}
 use Rattle.dap_history.proofs.Along.{closes_for_good, any_events, along_waits}
 use Rattle.dap_history.proofs.GoingBack.{Anything, anything_kept}
 

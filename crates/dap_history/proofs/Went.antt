@@ -1,21 +1,12 @@
 -- What a lawful report says, whether its run goes on or back.
-use Rattle.std.proofs.Common.{◌≡◌, ◌⊎◌, inl, inr, ⊎_elim, ℕ, zero, suc, ◌+◌, ◌-◌, ◌≤◌, List, [], ◌++◌, ℤ, length, drop, Bool, true, false, Some, sym, ◌∙◌, ap, subst, append-nil, length-append, arith}
-use Rattle.std.specs.Prelude.{max, if◌then◌else◌, is_some}
-use Rattle.std.proofs.Math.Seq.{drop-nil, drop-append_seam}
+use Rattle.dap_history.proofs.Common.{Block, Breakpoint, EndsBy, GoesBackBy, Mode, PlainReport, SliceOutcome, Some, Stop, Went, WentBack, WentOn, WrittenJoins, [], ap, append-nil, arith, cases_lt, drop-nil, due, goal_of, goes_back, has_come, has_no_memory, if◌then◌else◌, inl, inr, is_some, is_spent, lacks_memory, last_due, length, length-append, logs_told, max, reversed, stepped_back, stop_at, subst, suc, sym, written, zero, ℕ, ⊎_elim, ◌++◌, ◌+◌, ◌-◌, ◌∙◌, ◌≡◌, ◌≤◌, ◌⊎◌}
+use Rattle.std.proofs.Common.{List, ℤ, drop, Bool, true, false}
+use Rattle.std.proofs.Math.Seq.{drop-append_seam}
 use Rattle.std.proofs.Math.ListN.{drop_of_length-le}
-use Rattle.std.proofs.lemmas.Bool.{cases_lt}
-use Rattle.pl0_tree.specs.Tree.{Block}
-use Rattle.pl0_meaning.specs.Runs.{written, written_from}
-use Rattle.pl0_meaning.specs.Laws.{WrittenJoins}
-use Rattle.dbg_plan.specs.Breakpoints.{Breakpoint}
-use Rattle.dbg_plan.specs.Due.{due}
-use Rattle.dbg_plan.specs.Retreat.{Stop, stop_at, last_due, stepped_back, reversed, goal_of}
-use Rattle.dbg_plan.specs.declared.mode.Mode.{Mode}
+use Rattle.pl0_meaning.specs.Runs.{written_from}
 use Rattle.dbg_plan.specs.declared.mode.Mode.TheVariants.{Continue, StepBack, Reverse}
-use Rattle.dbg_runner.specs.declared.outcome.SliceOutcome.{SliceOutcome}
 use Rattle.dbg_runner.specs.declared.outcome.SliceOutcome.TheVariants as slice
-use Rattle.dbg_runner.specs.Plain.{PlainReport, goes_back}
-use Rattle.dbg_runner.specs.Lawful.{EndsBy, lacks_memory, logs_told, WentOn, GoesBackBy, is_spent, has_come, has_no_memory, WentBack, Went, IsLawfulFor}
+use Rattle.dbg_runner.specs.Lawful.{IsLawfulFor}
 
 -- ---- a run that goes back ends below its beginning
 
