@@ -1,10 +1,5 @@
 -- Frames by their ids.
-use Rattle.std.proofs.Common.{◌≡◌, ℕ, zero, suc, ◌<◌, ◌≤◌, [], ◌∷◌, length, None, Some, refl, ap, ◌∙◌, arith, inl, inr}
-use Rattle.std.proofs.lemmas.Bool.{cases_eq}
-use Rattle.pl0_meaning.specs.Values.{Frame, Configuration, frame_at}
-use Rattle.pl0_meaning.specs.Linking.{frame_at-top, frame_at-below}
-use Rattle.dap_history.specs.Frames.{frame_by_id}
-use Rattle.dap_inspection.specs.Alive.{IsAlive}
+use Rattle.dap_inspection.proofs.Common.{Configuration, Frame, IsAlive, None, Some, [], ap, arith, cases_eq, frame_at, frame_at-below, frame_at-top, frame_by_id, inl, inr, length, refl, suc, zero, ℕ, ◌<◌, ◌∙◌, ◌∷◌, ◌≡◌, ◌≤◌}
 
 none_above : (c : Configuration) (i : ℕ) → length c ≤ i → frame_at c i ≡ None
 none_above [] i le = refl

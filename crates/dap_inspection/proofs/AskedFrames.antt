@@ -1,15 +1,9 @@
 -- The frames asked for, one by one.
-use Rattle.std.proofs.Common.{◌≡◌, ℕ, zero, suc, ◌+◌, ◌-◌, ◌<◌, min, List, [], ◌∷◌, ◌++◌, length, get_or, take, drop, Option, Some, None}
-use Rattle.std.proofs.Common.{refl, ap, sym, ◌∙◌, arith, ⊎_elim}
-use Rattle.std.proofs.lemmas.Option.{same_Some}
-use Rattle.std.proofs.lemmas.Bool.{cases_eq}
+use Rattle.dap_inspection.proofs.Common.{Block, Configuration, Counting, Frame, IsShownAs, List, None, Option, Some, StackFrame, [], ap, arith, cases_eq, frame_at, frame_at-below, frame_at-top, frame_within, get_or, length, refl, same_Some, suc, sym, take, zero, ℕ, ⊎_elim, ◌++◌, ◌+◌, ◌-◌, ◌<◌, ◌∙◌, ◌∷◌, ◌≡◌}
+use Rattle.std.proofs.Common.{min, drop}
 use Rattle.std.proofs.lemmas.List.{take_more, take_all, take_min, get_or-drop, length-drop}
-use Rattle.pl0_tree.specs.Tree.{Block}
-use Rattle.pl0_meaning.specs.Values.{Frame, Configuration, frame_at}
-use Rattle.pl0_meaning.specs.Linking.{frame_at-top, frame_at-below, frame_within}
-use Rattle.dap_msg.specs.declared.outgoing.StackFrame.{StackFrame}
-use Rattle.dap_history.specs.Frames.{Counting, shown_frame, shown_frames, at_most}
-use Rattle.dap_inspection.specs.Showing.{IsShownAs, count_shown}
+use Rattle.dap_history.specs.Frames.{shown_frame, shown_frames, at_most}
+use Rattle.dap_inspection.specs.Showing.{count_shown}
 
 -- frame i stands at this index from the top
 shown_at : (main : Block) (counting : Counting) (c : Configuration) (i : ℕ) (f : Frame) (d : StackFrame)

@@ -1,12 +1,8 @@
 -- The scopes of the frame with an id, if it is alive.
-use Rattle.std.proofs.Common.{◌≡◌, ◌≢◌, ℕ, zero, suc, ◌-◌, ◌<◌, ◌≤◌, List, length, refl, ap, sym, ◌∙◌, arith}
-use Rattle.pl0_meaning.specs.Values.{Configuration}
+use Rattle.dap_inspection.proofs.Common.{Configuration, List, Scope, Subject, answered, ap, arith, frame_by_id, length, refl, refused, scopes_from, suc, sym, zero, ℕ, ◌-◌, ◌<◌, ◌∙◌, ◌≡◌, ◌≢◌, ◌≤◌}
 use Rattle.dap_msg.specs.declared.outgoing.Body.TheVariants as body
 use Rattle.dap_msg.specs.declared.outgoing.Refusal.TheVariants as refusal
-use Rattle.dap_msg.specs.declared.outgoing.Scope.{Scope}
-use Rattle.dap_history.specs.Frames.{frame_by_id, scopes_from}
-use Rattle.dap_history.specs.Inspection.{Subject, scopes}
-use Rattle.dap_history.specs.Replies.{answered, refused}
+use Rattle.dap_history.specs.Inspection.{scopes}
 use Rattle.dap_inspection.proofs.AliveFrames.{none_alive, there}
 
 pub none_with_zero : (of : Subject) (c : Configuration) (id : ℕ) → id ≡ 0

@@ -1,24 +1,19 @@
 -- Expressions that are read in a frame's scope, at the frame's next step, which stands in the frame's block.
-use Rattle.std.proofs.Common.{◌≡◌, ℕ, ◌-◌, ◌<◌, List, length, Option, None, Some, ℤ, Result, refl, sym, ap, ◌∙◌, subst, arith, inl, inr}
-use Rattle.pl0_tree.specs.Tree.{Block}
+use Rattle.dap_inspection.proofs.Common.{Block, Configuration, Frame, FrameView, IsAlive, List, None, Option, Place, Shows, Some, ap, arith, frame_at, frame_by_id, inl, inr, length, refl, refused, steps, subst, sym, ℕ, ℤ, ◌-◌, ◌<◌, ◌∙◌, ◌≡◌}
+use Rattle.std.proofs.Common.{Result}
 use Rattle.pl0_tree.specs.Plain.{plain_expression}
 use Rattle.pl0_tree.specs.declared.tree.Expression.{Expression as DeclaredExpression}
-use Rattle.pl0_tree.specs.declared.tree.Place.{Place}
 use Rattle.pl0_tree.specs.declared.fault.FaultKind.{FaultKind}
-use Rattle.pl0_tree.specs.Steps.{steps, step_path}
+use Rattle.pl0_tree.specs.Steps.{step_path}
 use Rattle.pl0_tree.specs.Faults.{IsExpressionOf, IsFirstExpressionFault}
 use Rattle.pl0_syntax.specs.Laws.{FaultExcludesExpressions}
 use Rattle.pl0_meaning.specs.Laws.{NextStepsStandInTheirBlocks}
-use Rattle.pl0_meaning.specs.Values.{Frame, Configuration, frame_at, value}
-use Rattle.pl0_machine.specs.declared.outcome.FrameView.{FrameView}
-use Rattle.pl0_machine.specs.Machine.{Shows}
+use Rattle.pl0_meaning.specs.Values.{value}
 use Rattle.dbg_plan.specs.Values.{answered as evaluated}
 use Rattle.dbg_plan.specs.declared.evaluation.EvalFault.{EvalFault}
 use Rattle.dap_msg.specs.declared.outgoing.Refusal.TheVariants as refusal
-use Rattle.dap_history.specs.Frames.{frame_by_id}
-use Rattle.dap_history.specs.Replies.{Reply, refused}
+use Rattle.dap_history.specs.Replies.{Reply}
 use Rattle.dap_history.specs.Inspection.{EvaluatesIn, result_reply}
-use Rattle.dap_inspection.specs.Alive.{IsAlive}
 use Rattle.dap_inspection.specs.Evaluating.{IsReadIn}
 use Rattle.dap_inspection.proofs.AliveFrames.{by_id}
 

@@ -1,27 +1,23 @@
 -- The variables of a frame.
-use Rattle.std.proofs.Common.{◌≡◌, ℕ, zero, suc, ◌+◌, ◌<◌, ℤ, List, [], ◌∷◌, ◌++◌, length, map, take, get_or, slice_get, Option, Some, None, refl, ap, sym, ◌∙◌, arith}
-use Rattle.std.proofs.Math.Logic.{∥∥₁_elim}
+use Rattle.dap_inspection.proofs.Common.{AreLinked, Block, Configuration, Frame, FrameView, IsAlive, List, None, Option, Path, Shows, Some, Subject, [], answered, ap, arith, blocks, frame_at, frame_by_id, get_or, length, refl, slice_get, suc, sym, take, zero, ℕ, ℤ, ∥∥₁_elim, ◌++◌, ◌+◌, ◌<◌, ◌∙◌, ◌∷◌, ◌≡◌}
+use Rattle.std.proofs.Common.{map}
 use Rattle.std.proofs.Math.Nat.{ℕ_set}
 use Rattle.std.proofs.lemmas.List.{length-map}
-use Rattle.pl0_tree.specs.Tree.{Block, variables}
+use Rattle.pl0_tree.specs.Tree.{variables}
 use Rattle.pl0_tree.specs.Plain.{plain_name, plain_block}
 use Rattle.pl0_tree.specs.PlainParts.{plain_block_parts}
 use Rattle.pl0_tree.specs.declared.tree.Block.{Block as DeclaredBlock, out-Block}
 use Rattle.pl0_tree.specs.declared.tree.Name.{Name as DeclaredName}
-use Rattle.pl0_tree.specs.Scope.{Path, block_at}
-use Rattle.pl0_tree.specs.Steps.{blocks}
-use Rattle.pl0_meaning.specs.Values.{Frame, Configuration, frame_at, number_of}
-use Rattle.pl0_meaning.specs.Frames.{AreLinked, IsFrameOf}
+use Rattle.pl0_tree.specs.Scope.{block_at}
+use Rattle.pl0_meaning.specs.Values.{number_of}
+use Rattle.pl0_meaning.specs.Frames.{IsFrameOf}
 use Rattle.pl0_meaning.specs.Linking.{frame_of}
-use Rattle.pl0_machine.specs.declared.outcome.FrameView.{FrameView}
-use Rattle.pl0_machine.specs.Machine.{Shows, variables_of}
+use Rattle.pl0_machine.specs.Machine.{variables_of}
 use Rattle.std.specs.Prelude.{string_bytes}
 use Rattle.dap_msg.specs.declared.outgoing.Variable.{Variable}
 use Rattle.dap_msg.specs.declared.outgoing.Body.TheVariants as body
-use Rattle.dap_history.specs.Frames.{named, names_of, frame_by_id, variables_of as variables_of_frame}
-use Rattle.dap_history.specs.Replies.{answered}
-use Rattle.dap_history.specs.Inspection.{Subject, variables as variables_reply}
-use Rattle.dap_inspection.specs.Alive.{IsAlive}
+use Rattle.dap_history.specs.Frames.{named, names_of, variables_of as variables_of_frame}
+use Rattle.dap_history.specs.Inspection.{variables as variables_reply}
 use Rattle.dap_inspection.specs.Locals.{names_in, numbers_of}
 use Rattle.dap_inspection.proofs.AliveFrames.{there, by_id}
 

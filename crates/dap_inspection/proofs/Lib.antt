@@ -1,3 +1,5 @@
+-- What several of the other files import, from one place.
+pub mod Common
 -- A unit's tables of steps and blocks hold what the definitions say of each number; for `declared_names`, `frame_name`
 -- and `stack_frame`.
 pub mod UnitTables

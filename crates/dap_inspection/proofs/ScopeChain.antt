@@ -1,18 +1,12 @@
 -- The scopes of a frame, by the links.
-use Rattle.std.proofs.Common.{◌≡◌, ◌≢◌, ℕ, zero, suc, ◌+◌, ◌-◌, ◌<◌, ◌≤◌, List, [], ◌∷◌, ◌++◌, length, nat_eq, Option, Some, None}
-use Rattle.std.proofs.Common.{refl, ap, sym, ◌∙◌, subst, append_assoc, arith, ⊎_elim}
-use Rattle.std.proofs.lemmas.Option.{same_Some}
-use Rattle.std.proofs.lemmas.Bool.{cases_eq, cond-true, cond-false, eq-eqb, ne_eqb}
-use Rattle.std.proofs.Math.Logic.{∥∥₁_elim}
+use Rattle.dap_inspection.proofs.Common.{AreLinked, Block, Configuration, Frame, List, None, Option, Path, Scope, Some, [], ap, arith, cases_eq, frame_at, frame_at-below, frame_at-top, frame_name, frame_within, length, refl, same_Some, scopes_from, subst, suc, sym, zero, ℕ, ∥∥₁_elim, ⊎_elim, ◌++◌, ◌+◌, ◌-◌, ◌<◌, ◌∙◌, ◌∷◌, ◌≡◌, ◌≢◌, ◌≤◌}
+use Rattle.std.proofs.Common.{nat_eq}
+use Rattle.std.proofs.Common.{append_assoc}
+use Rattle.std.proofs.lemmas.Bool.{cond-true, cond-false, eq-eqb, ne_eqb}
 use Rattle.std.specs.Coded.{le_prop}
-use Rattle.pl0_tree.specs.Tree.{Block}
-use Rattle.pl0_tree.specs.Scope.{Path}
-use Rattle.pl0_meaning.specs.Values.{Frame, Configuration, frame_at}
-use Rattle.pl0_meaning.specs.Frames.{AreLinked, IsLinkedTo}
-use Rattle.pl0_meaning.specs.Linking.{frame_at-top, frame_at-below, frame_within, link_to}
+use Rattle.pl0_meaning.specs.Frames.{IsLinkedTo}
+use Rattle.pl0_meaning.specs.Linking.{link_to}
 use Rattle.pl0_machine.specs.Machine.{parent_of}
-use Rattle.dap_msg.specs.declared.outgoing.Scope.{Scope}
-use Rattle.dap_history.specs.Frames.{frame_name, scopes_from}
 use Rattle.dap_inspection.specs.Showing.{IsScopeOf}
 
 -- ---- the definition goes down through all frames

@@ -1,18 +1,8 @@
 -- What is shown of one frame.
-use Rattle.std.proofs.Common.{◌≡◌, ℕ, ◌-◌, ◌<◌, List, length, get_or, slice_get, Option, Some, None, ap, sym, ◌∙◌}
-use Rattle.std.specs.Prelude.{option_map}
+use Rattle.dap_inspection.proofs.Common.{Counting, Frame, FrameView, IsShownAs, List, None, Option, Path, Place, Shows, Some, StackFrame, Step, StepAt, ap, blocks, frame_name, get_or, length, option_map, program_of, slice_get, sym, ℕ, ◌-◌, ◌<◌, ◌∙◌, ◌≡◌}
 use Rattle.std.proofs.lemmas.Option.{slice_get-get_or}
-use Rattle.pl0_tree.specs.declared.tree.Place.{Place}
-use Rattle.pl0_tree.specs.declared.step.Step.{Step}
-use Rattle.pl0_tree.specs.Scope.{Path}
-use Rattle.pl0_tree.specs.Steps.{StepAt, blocks}
 use Rattle.pl0_unit.specs.declared.unit.Unit.{Unit as Compiled}
-use Rattle.pl0_meaning.specs.Values.{Frame}
-use Rattle.pl0_machine.specs.Machine.{program_of, Shows}
-use Rattle.pl0_machine.specs.declared.outcome.FrameView.{FrameView}
-use Rattle.dap_msg.specs.declared.outgoing.StackFrame.{StackFrame}
-use Rattle.dap_history.specs.Frames.{Counting, frame_name, frame_place, shown_line, shown_column}
-use Rattle.dap_inspection.specs.Showing.{IsShownAs}
+use Rattle.dap_history.specs.Frames.{frame_place, shown_line, shown_column}
 use Rattle.dap_inspection.proofs.UnitTables.{step_within, step_place}
 
 pub shown_within : (u : Compiled) (o : Option Frame) (view : FrameView) → Shows (program_of u) o view

@@ -1,15 +1,8 @@
 -- The steps and blocks of a unit, by number.
-use Rattle.std.proofs.Common.{◌≡◌, ℕ, zero, suc, ◌<◌, List, [], ◌∷◌, length, slice_get, Option, Some, None, IsSome, refl, ap, sym, subst}
-use Rattle.std.specs.Prelude.{option_map}
-use Rattle.pl0_tree.specs.Tree.{Block}
-use Rattle.pl0_tree.specs.declared.tree.Place.{Place}
-use Rattle.pl0_tree.specs.declared.step.Step.{Step}
-use Rattle.pl0_tree.specs.Scope.{Path}
-use Rattle.pl0_tree.specs.Steps.{StepAt, steps, blocks, AreSteps}
-use Rattle.pl0_meaning.specs.Values.{Frame}
+use Rattle.dap_inspection.proofs.Common.{Block, Frame, FrameView, List, None, Option, Path, Place, Shows, Some, Step, StepAt, [], ap, blocks, length, option_map, program_of, refl, slice_get, steps, subst, suc, sym, zero, ℕ, ◌<◌, ◌∷◌, ◌≡◌}
+use Rattle.std.proofs.Common.{IsSome}
+use Rattle.pl0_tree.specs.Steps.{AreSteps}
 use Rattle.pl0_unit.specs.declared.unit.Unit.{Unit as Compiled}
-use Rattle.pl0_machine.specs.Machine.{program_of, Shows}
-use Rattle.pl0_machine.specs.declared.outcome.FrameView.{FrameView}
 use Rattle.dbg_plan.proofs.StepLines.{unit_length}
 use Rattle.dbg_plan.proofs.UnitBlocks.{unit_steps, block_within}
 
