@@ -52,14 +52,17 @@ class Module:
 
     def read(self, lines: list[str]) -> None:
         start = 0
+        headers: list[tuple[int, frozenset[str]]] = []
         while start < len(lines):
             end = start
             while end < len(lines) and lines[end].strip():
                 end += 1
-            self.take(start, lines[start:end])
+            headers = [header for header in headers if not lines[start] or header[0] < indent(lines[start])]
+            self.take(start, lines[start:end], frozenset().union(*(words for _, words in headers)))
+            headers += headers_of(lines[start:end])
             start = end + 1
 
-    def take(self, start: int, lines: list[str]) -> None:
+    def take(self, start: int, lines: list[str], header: frozenset[str]) -> None:
         text = [line for line in lines if not line.lstrip().startswith("--")]
         for line in text:
             found = IMPORT.match(line)
@@ -69,12 +72,31 @@ class Module:
         if not text:
             return
         is_public = any(line.startswith("pub ") for line in text)
-        names = frozenset(name for line in text for name in declared(line))
-        words = frozenset(word for line in text for word in WORD.findall(line))
+        names = frozenset(name for line in joined(text) for name in declared(line))
+        words = header.union(word for line in text for word in WORD.findall(line))
         for name in names:
             for word in spellings(name):
                 self.declared.setdefault(word, []).append(len(self.paragraphs))
         self.paragraphs.append(Paragraph(self.name, start + 1, len(lines) + 1, is_public, names, words))
+
+
+def indent(line: str) -> int:
+    """How many spaces a line begins with."""
+    return len(line) - len(line.lstrip())
+
+
+def headers_of(lines: list[str]) -> Iterator[tuple[int, frozenset[str]]]:
+    """The words of each `module _ (..) where`: what stands in the module may use them, in later paragraphs too."""
+    for start, line in enumerate(lines):
+        if line.lstrip().startswith("module _ "):
+            end = next((end for end in range(start, len(lines)) if lines[end].endswith("where")), start)
+            yield indent(line), frozenset(word for line in lines[start:end + 1] for word in WORD.findall(line))
+
+
+def joined(lines: list[str]) -> list[str]:
+    """The lines, with a name whose type begins on the next line joined to that."""
+    return [f"{line} {following.lstrip()}" if following.lstrip().startswith(": ") else line
+            for line, following in zip(lines, [*lines[1:], ""])]
 
 
 def declared(line: str) -> Iterator[str]:
