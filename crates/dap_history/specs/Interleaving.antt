@@ -1,13 +1,13 @@
 -- Defines which lists of events arise from what an inbox and a loader return.
-use Rattle.std.specs.Prelude.{◌≡◌, ◌⊎◌, ◌++◌, ◌∷◌, [], ℕ, List, Some, None, Result, Err}
+use Rattle.std.specs.Prelude.{◌≡◌, ◌⊎◌, ◌++◌, ◌∷◌, [], ℕ, List, Some, None, Result}
 use Rattle.dap_msg.specs.declared.request.FirstSeq.{FirstSeq}
 use Rattle.dap_history.specs.declared.launch.Launch.{Launch}
 use Rattle.dap_history.specs.declared.fault.LoadFault.{LoadFault}
-use Rattle.dap_history.specs.declared.fault.LoadFault.TheVariants.{NoMemory}
 use Rattle.dap_history.specs.History.{History}
 use Rattle.dap_history.specs.Events.{Incoming, File, Rest, IsTaking, IsHistoryOf}
 
--- A path that a loader was asked for, and what it answered: the file's bytes, or why there are none.
+-- A path that a loader was asked for, and what it answered: the file's bytes, that it can't be read, or that memory was
+-- lacking.
 pub record Load : Type 0 where
   pub path : List ℕ
   pub answer : Result (List ℕ) LoadFault
@@ -31,7 +31,7 @@ pub record AwaitsNone (first : FirstSeq) (events : List Incoming) : Type 0 where
   pub history : IsHistoryOf events past rest
   pub waits : (¬ IsTaking past) ⊎ (rest.launch ≡ None)
 
--- the event is the file that the loader gave for the launch that waits after these events
+-- the event is what the loader answered for the launch that waits after these events
 abbrev pub IsLoad : FirstSeq → List Incoming → Incoming → Load → Type 0
 IsLoad first before (File file) load = (load.answer ≡ file) × Awaits first before load.path
 IsLoad first before _ load = ⊥
@@ -45,17 +45,3 @@ Interleaves first before (e ∷ events) given loads =
     × Interleaves first (before ++ e ∷ []) events given more)
     ⊎ ((more : List Incoming) × (given ≡ e ∷ more) × AwaitsNone first before
     × Interleaves first (before ++ e ∷ []) events more loads)
-
--- The last event is the loader's answer that it is out of memory, which the loader doesn't store. A launch waited for
--- that answer.
-pub record LastLoadFails (first : FirstSeq) (events given : List Incoming) (loads : List Load) : Type 0 where
-  pub before : List Incoming
-  pub path : List ℕ
-  pub events_are : events ≡ before ++ File (Err NoMemory) ∷ []
-  pub awaited : Awaits first before path
-  pub interleaves : Interleaves first [] before given loads
-
--- the events interleave, or all of them but such a last answer do
-abbrev pub InterleavesUpTo : FirstSeq → List Incoming → List Incoming → List Load → Type 0
-InterleavesUpTo first events given loads = Interleaves first [] events given loads
-    ⊎ LastLoadFails first events given loads
