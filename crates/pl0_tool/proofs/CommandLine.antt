@@ -2,7 +2,7 @@
 use Rattle.std.proofs.Common.{◌≡◌, ◌∙◌, ℕ, ◌<◌, ◌^◌, ap, ap₂, refl, sym, Bool, ◌&&◌, true, false, not, Bor, List, [], map, Option, Some, None, Result, Ok, Err, option_map, unwrap_or}
 use Rattle.std.proofs.lemmas.Option.{same_Some}
 use Rattle.std.specs.Str.Parse.{IsNumeral, ParsesUnsigned, digits_value, without_leading_plus}
-use Rattle.clap.specs.Words.{Row, Text}
+use Rattle.clap.specs.Words.{Text}
 use Rattle.clap.specs.Matches.{ReadsOne}
 use Rattle.pl0_tool.specs.Arguments.{IsNumber}
 
@@ -39,8 +39,8 @@ both_parts {X} {A} {B} f g (Some x) a b first second =
     ap₂ (λ (l : A) (r : B). Some (l, r)) (same_Some (f x) a (sym first)) (same_Some (g x) b (sym second))
 
 -- a plain command has no global argument
-pub local_if_plain : (grouped external is_global rest : Bool) → (grouped && (external && (not is_global && rest))) ≡ true
-    → is_global ≡ false
+pub local_if_plain : (grouped external is_global rest : Bool)
+    → (grouped && (external && (not is_global && rest))) ≡ true → is_global ≡ false
 local_if_plain true true false rest plain = refl
 local_if_plain true true true rest plain = cc
 local_if_plain true false is_global rest plain = cc

@@ -3,7 +3,8 @@
 ghost use Rattle.std.specs.Prelude.{◌≡◌, IfOk, map, false, [], codes, unwrap_or};
 ghost use Rattle.clap.specs.Lexer.{usize_max};
 ghost use Rattle.clap.specs.Words.{all_of, app_of, found_of, one_of, rows_of, rule_of};
-ghost use Rattle.pl0_tool.specs.Arguments.{IsParsed, command_line, files, machine_flag, number_option, most_steps, one_file, IsNumber, IsTask};
+ghost use Rattle.pl0_tool.specs.Arguments.{IsNumber, IsParsed, IsTask, command_line};
+ghost use Rattle.pl0_tool.specs.Arguments.{files, machine_flag, most_steps, number_option, one_file};
 
 use clap::builder::ValueParser;
 use clap::{Arg, ArgAction, ArgMatches, Command, Error};

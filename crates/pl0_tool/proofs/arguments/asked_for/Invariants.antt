@@ -1,4 +1,4 @@
-use Rattle.std.proofs.Common.{◌≡◌, ℕ, ◌++◌, map, take}
+use Rattle.std.proofs.Common.{◌≡◌, map, take}
 use Rattle.pl0_tool.proofs.arguments.asked_for.Given as goal
 
 abbrev pub invariant-loop-file : goal.invariant-loop-file

@@ -1,15 +1,24 @@
-use Rattle.std.proofs.Common.{◌≡◌, ◌∙◌, ap, ap₂, rules, true, codes, ◌∷◌, []}
+use Rattle.std.proofs.Common.{◌≡◌, ◌∙◌, ap, ap₂, Bool, true, codes, ◌∷◌, []}
 use Rattle.std.proofs.lemmas.Result.{IfOk-weaker}
 use Rattle.clap.specs.Lexer.{usize_max}
-use Rattle.clap.specs.Words.{App, app_of, new_app, with_rule, with_subcommand}
+use Rattle.clap.specs.Words.{App, Shape, app_of, new_app, with_rule, with_subcommand}
 use Rattle.clap.specs.Simple.{app_of_fields}
-use Rattle.pl0_tool.specs.Arguments.{command_line, command_with, files, machine_flag, most_steps, number_option, one_file, program}
+use Rattle.pl0_tool.specs.Arguments.{command_with, files, machine_flag, most_steps, number_option, one_file}
+use Rattle.pl0_tool.specs.Arguments.{program}
 use Rattle.pl0_tool.proofs.CommandLine.{local_if_plain}
 use Rattle.pl0_tool.proofs.arguments.command_line.Goals as goal
 
+-- the command itself, and whether it is plain
+abbrev top : App → Shape
+top a = a.top
+
+abbrev is_plain : App → Bool
+is_plain a = a.top.is_plain
+
 pub returns : goal.returns
 returns c =
-    let new_run : app_of c.about.result ≡ new_app (codes "run") = ap app_of_fields c.about.ensures ∙ c.new.ensures.app in
+    let new_run : app_of c.about.result ≡ new_app (codes "run") =
+    ap app_of_fields c.about.ensures ∙ c.new.ensures.app in
     let run_is : app_of c.in_ok-run.run' ≡ with_rule (new_app (codes "run")) one_file =
     c.in_ok-run.ensures.shape c.one_file.ensures.own ∙ ap₂ with_rule new_run c.one_file.ensures.rule in
     let new_trace : app_of c.about-2.result ≡ new_app (codes "trace") =
@@ -42,16 +51,20 @@ returns c =
     ap app_of_fields c.after_help.ensures ∙ ap app_of_fields c.about-5.ensures in
     let program_is : app_of c.subcommand_required.result ≡ program = ap app_of_fields c.subcommand_required.ensures
     ∙ ap (λ (a : App). record a { top = record a.top { subcommand_required = true } }) (told ∙ versioned) in
-    let of_run : app_of c.in_ok-subcommand.field-0 ≡ with_subcommand program (command_with (codes "run") (one_file ∷ [])) =
-    c.in_ok-subcommand.ensures.shape (local_if_plain _ _ _ _ (ap (λ (a : App). a.top.is_plain) run_is)) ∙ ap₂ with_subcommand program_is (ap (λ (a : App). a.top) run_is) in
+    let of_run : app_of c.in_ok-subcommand.field-0
+    ≡ with_subcommand program (command_with (codes "run") (one_file ∷ [])) =
+    c.in_ok-subcommand.ensures.shape (local_if_plain _ _ _ _ (ap is_plain run_is))
+    ∙ ap₂ with_subcommand program_is (ap top run_is) in
     let of_trace : app_of c.in_ok-subcommand-2.field-0 ≡ with_subcommand (with_subcommand program
-    (command_with (codes "run") (one_file ∷ []))) (command_with (codes "trace") (one_file ∷ number_option (codes "from") 0
-    usize_max ∷ number_option (codes "steps") 1 most_steps ∷ machine_flag ∷ [])) =
-    c.in_ok-subcommand-2.ensures.shape (local_if_plain _ _ _ _ (ap (λ (a : App). a.top.is_plain) trace_is)) ∙ ap₂ with_subcommand of_run (ap (λ (a : App). a.top) trace_is) in
+    (command_with (codes "run") (one_file ∷ []))) (command_with (codes "trace") (one_file
+    ∷ number_option (codes "from") 0 usize_max ∷ number_option (codes "steps") 1 most_steps ∷ machine_flag ∷ [])) =
+    c.in_ok-subcommand-2.ensures.shape (local_if_plain _ _ _ _ (ap is_plain trace_is))
+    ∙ ap₂ with_subcommand of_run (ap top trace_is) in
     let of_check : app_of c.in_ok-subcommand-3.field-0 ≡ with_subcommand (with_subcommand (with_subcommand program
-    (command_with (codes "run") (one_file ∷ []))) (command_with (codes "trace") (one_file ∷ number_option (codes "from") 0
-    usize_max ∷ number_option (codes "steps") 1 most_steps ∷ machine_flag ∷ [])))
+    (command_with (codes "run") (one_file ∷ []))) (command_with (codes "trace") (one_file
+    ∷ number_option (codes "from") 0 usize_max ∷ number_option (codes "steps") 1 most_steps ∷ machine_flag ∷ [])))
     (command_with (codes "check") (files ∷ [])) =
-    c.in_ok-subcommand-3.ensures.shape (local_if_plain _ _ _ _ (ap (λ (a : App). a.top.is_plain) check_is)) ∙ ap₂ with_subcommand of_trace (ap (λ (a : App). a.top) check_is) in
-    IfOk-weaker c.subcommand-4.result _ _ (λ command adds. adds.shape (local_if_plain _ _ _ _ (ap (λ (a : App). a.top.is_plain) list_is))
-    ∙ ap₂ with_subcommand of_check (ap (λ (a : App). a.top) list_is)) c.subcommand-4.ensures
+    c.in_ok-subcommand-3.ensures.shape (local_if_plain _ _ _ _ (ap is_plain check_is))
+    ∙ ap₂ with_subcommand of_trace (ap top check_is) in
+    IfOk-weaker c.subcommand-4.result _ _ (λ command adds. adds.shape (local_if_plain _ _ _ _ (ap is_plain list_is))
+    ∙ ap₂ with_subcommand of_check (ap top list_is)) c.subcommand-4.ensures

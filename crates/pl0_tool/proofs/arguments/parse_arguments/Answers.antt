@@ -12,7 +12,8 @@ returns c =
       name = c.in-Some.name.now;
       rows = rows_of (found_of c.in-Some.given.now);
       passes = ap (λ (a : App). fault_of a words) (sym is) ∙ c.in_ok-matches.ensures.kinds (ap is_simple_and_free is);
-      command = ap (λ (a : App). subcommand_of a words) (sym is) ∙ (sym (c.in_ok-matches.ensures.matches (ap is_simple is)).1
+      command = ap (λ (a : App). subcommand_of a words) (sym is)
+          ∙ (sym (c.in_ok-matches.ensures.matches (ap is_simple is)).1
           ∙ both_parts _ _ _ _ _ c.in-Some.ensures.name c.in-Some.ensures.rows);
       task = c.in_ok-asked_for-in-Some.ensures.task;
       files = c.in_ok-asked_for-in-Some.ensures.files;

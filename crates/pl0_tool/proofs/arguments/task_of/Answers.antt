@@ -1,5 +1,5 @@
-use Rattle.std.proofs.Common.{◌≡◌, ◌∙◌, sym, codes, Some, None}
-use Rattle.clap.specs.Words.{found_of, one_of, one_text, rows_of}
+use Rattle.std.proofs.Common.{◌∙◌, codes}
+use Rattle.clap.specs.Words.{found_of}
 use Rattle.clap.proofs.WalkLemmas.{one_text-rows}
 use Rattle.pl0_tool.proofs.arguments.task_of.Goals as goal
 
