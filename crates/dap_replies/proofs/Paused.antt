@@ -1,68 +1,26 @@
 -- What a granted `pause` is replied, and the phase afterwards.
-use Rattle.std.proofs.Common.{◌≡◌, ℕ, true, false, [], ◌∷◌, ◌++◌, None, Some, Ok, refl, sym, ◌∙◌, ap, subst}
+use Rattle.std.proofs.Common.{ℕ, true, false, [], ◌∷◌, ◌++◌, None, Some, refl, sym, ◌∙◌, ap, subst}
 use Rattle.std.specs.Prelude.{◌||◌, unwrap_or, option_map}
 use Rattle.dap_msg.specs.declared.command.Command.TheVariants as command
-use Rattle.dap_msg.specs.declared.outgoing.Body.TheVariants as body
 use Rattle.dap_msg.specs.declared.requests.resume.ThreadArguments.{ThreadArguments}
 use Rattle.dap_history.specs.Last.{or_else}
 use Rattle.dap_history.specs.Plans.{Plan}
 use Rattle.dap_history.specs.History.{History}
 use Rattle.dap_history.specs.ReadingLaws.{ReadingsGoOn}
 use Rattle.dap_history.specs.Readings.{go, runs, is_back, is_held, waiting_pause}
-use Rattle.dap_history.specs.Replies.{answered}
-use Rattle.dap_history.specs.Reactions.{Answer, Interrupt, reply_of, Reacts}
-use Rattle.dap_phase.specs.declared.phase.Phase.{Phase}
+use Rattle.dap_history.specs.Reactions.{Interrupt, reply_of}
 use Rattle.dap_phase.specs.declared.phase.Phase.TheVariants as phase
 use Rattle.dap_phase.specs.declared.phase.Target.{Target}
 use Rattle.dap_phase.specs.Runs.{OrderedRun, heading_in, ordered_to_hold}
-use Rattle.dap_phase.specs.Phases.{situation_of, IsRun, IsPhase}
+use Rattle.dap_phase.specs.Phases.{IsRun, IsPhase}
 use Rattle.dap_replies.specs.declared.effect.Reply.{Reply as Given}
-use Rattle.dap_replies.specs.Replied.{Replies, request_step}
-use Rattle.dap_replies.specs.Answering.{without_events}
-use Rattle.dap_replies.specs.Going.{WaitsToPause, IsAtStop}
-use Rattle.dap_replies.proofs.Refused.{known_thread}
+use Rattle.dap_replies.specs.Replied.{request_step}
+use Rattle.dap_replies.specs.declared.choosing.Reaction.TheVariants as chosen
+use Rattle.dap_replies.specs.Choosing.{Carries}
+use Rattle.dap_replies.specs.Going.{WaitsToPause}
 use Rattle.dap_replies.proofs.Situations.{replies_by}
 use Rattle.dap_replies.proofs.SetBreakpoints.{once, once_as, once_no_mark, once_no_go, held_after}
-use Rattle.dap_replies.proofs.Stays.{situation_stays, target_stays, debuggee_stays, position_stays, plan_stays, last_run_stays, runs_stay, waiting_plan_stays, no_last}
-
--- ---- where the program stands
-
-stays_as : (p : Phase) (past : History) (asked : ThreadArguments) → IsAtStop p → asked.thread_id ≡ 1
-    → Reacts (situation_of p) past (command.Pause asked) (Answer body.None)
-stays_as (phase.Stopped t d) past asked stands one = known_thread asked (Answer body.None) one
-stays_as (phase.Faulted t d) past asked stands one = known_thread asked (Answer body.None) one
-stays_as _ past asked stands one = absurd stands
-
-pub pauses_there : ReadingsGoOn → (p : Phase) (asked : ThreadArguments) → IsAtStop p → asked.thread_id ≡ 1
-    → Replies (command.Pause asked) p (without_events (Ok body.None) None p)
-pauses_there laws p asked stands one past is = record {
-  reply = answered body.None;
-  replies =
-      replies_by p past is (command.Pause asked) (Answer body.None) (stays_as p past asked stands one)
-      (answered body.None) refl;
-  gives = record { result_is = refl; effect_is = record { events_are = refl; orders_are = refl } };
-  phase_is = λ seq. stands_on p stands is seq;
-}
-  where
-    stands_on : (p : Phase) → IsAtStop p → IsPhase p past → (seq : ℕ)
-        → IsPhase p (past ++ request_step (record { seq = seq; body = command.Pause asked }) (answered body.None) ∷ [])
-    stands_on (phase.Stopped t d) stands is seq =
-        let step = request_step (record { seq = seq; body = command.Pause asked }) (answered body.None) in record {
-          situation_is = situation_stays laws past step refl ∙ is.situation_is;
-          keeps = (
-            target_stays laws past step refl refl refl refl t d.unit is.keeps.0,
-            debuggee_stays laws past step refl refl d is.keeps.1,
-          );
-        }
-    stands_on (phase.Faulted t d) stands is seq =
-        let step = request_step (record { seq = seq; body = command.Pause asked }) (answered body.None) in record {
-          situation_is = situation_stays laws past step refl ∙ is.situation_is;
-          keeps = (
-            target_stays laws past step refl refl refl refl t d.unit is.keeps.0,
-            debuggee_stays laws past step refl refl d is.keeps.1,
-          );
-        }
-    stands_on _ stands is seq = absurd stands
+use Rattle.dap_replies.proofs.Stays.{situation_stays, target_stays, position_stays, plan_stays, last_run_stays, runs_stay, waiting_plan_stays, no_last}
 
 -- ---- during a run
 
@@ -87,12 +45,12 @@ run_pauses laws past run seq asked is =
       held_is = held_after laws past step run is refl;
     }
 
-pub pauses_in_run : ReadingsGoOn → (t : Target) (run : OrderedRun) (asked : ThreadArguments) (given : Given)
-    → asked.thread_id ≡ 1 → WaitsToPause t run given → Replies (command.Pause asked) (phase.Running t run) given
-pauses_in_run laws t run asked given one waits past is = record {
+pub pauses_in_run : ReadingsGoOn → (t : Target) (run : OrderedRun) (given : Given) → WaitsToPause t run given
+    → Carries (phase.Running t run) chosen.Interrupt given
+pauses_in_run laws t run given waits (command.Pause asked) choice past is = record {
   reply = reply_of past Interrupt;
   replies =
-      replies_by (phase.Running t run) past is (command.Pause asked) Interrupt (known_thread asked Interrupt one)
+      replies_by (phase.Running t run) past is (command.Pause asked) Interrupt (choice.reacts past is)
       (reply_of past Interrupt) refl;
   gives = record {
     result_is = waits.result_is;
@@ -116,3 +74,4 @@ pauses_in_run laws t run asked given one waits past is = record {
         );
       });
 }
+pauses_in_run laws t run given waits _ choice past is = absurd choice.suits

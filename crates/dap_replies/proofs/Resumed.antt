@@ -1,14 +1,12 @@
 -- Runs that begin, go on and end at a request.
 use Rattle.std.proofs.Common.{◌≡◌, ℕ, ◌+◌, List, ◌∷◌, [], ◌++◌, map, Option, None, Some, Ok, refl, sym, subst, ap, ◌∙◌, append-nil}
-use Rattle.std.specs.Prelude.{false, nat_eq, unwrap_or, option_map, length}
+use Rattle.std.specs.Prelude.{unwrap_or, option_map, length}
 use Rattle.std.specs.Option.{option_to_list}
 use Rattle.pl0_unit.specs.declared.unit.Unit.{Unit as Compiled}
 use Rattle.pl0_machine.specs.Machine.{Standing, program_of, configuration, frames, depth_of}
 use Rattle.dap_msg.specs.declared.command.Command.{Command}
-use Rattle.dap_msg.specs.declared.command.Command.TheVariants as command
 use Rattle.dap_msg.specs.declared.outgoing.Body.{Body}
 use Rattle.dap_msg.specs.declared.outgoing.Body.TheVariants as body
-use Rattle.dap_msg.specs.declared.requests.resume.ThreadArguments.{ThreadArguments}
 use Rattle.dap_msg.specs.Commands.{name_of}
 use Rattle.dap_msg.specs.declared.outgoing.Outgoing.TheVariants.{Event}
 use Rattle.dap_msg.specs.declared.outgoing.EventBody.{EventBody}
@@ -24,18 +22,18 @@ use Rattle.dbg_runner.specs.Plain.{PlainOrder, Go}
 use Rattle.dbg_runner.specs.Reported.{heading}
 use Rattle.dap_history.specs.declared.situation.Situation.TheVariants as situation_is
 use Rattle.dap_history.specs.Last.{or_else, last_such}
-use Rattle.dap_history.specs.History.{Launched, History, Effect}
-use Rattle.dap_history.specs.Readings.{situation, launched, runs, position, plan, settings_of, answer_mark, message_mark}
+use Rattle.dap_history.specs.History.{History, Effect}
+use Rattle.dap_history.specs.Readings.{situation, runs, position, plan, settings_of, answer_mark, message_mark}
 use Rattle.dap_history.specs.ReadingLaws.{ReadingsGoOn}
-use Rattle.dap_history.specs.Replies.{nothing, reporting, ordering, causing, stop_of, stopped_events, exited_events, log_events, OfProgram}
+use Rattle.dap_history.specs.Replies.{nothing, reporting, ordering, causing, stop_of, stopped_events, exited_events, log_events}
 use Rattle.dap_history.specs.Running.{goes, resumes, first_mode, first_logs, enters, retreat_mode, mode_of, body_of}
-use Rattle.dap_history.specs.Reactions.{Start, Resume, End, Retreat, for_thread, Retreats, Reacts}
+use Rattle.dap_history.specs.Reactions.{Start, Resume, End, Retreat}
 use Rattle.dap_history.proofs.Told.{numbers_in, numbers_of_logs, mark_of_logs}
 use Rattle.dap_history.specs.Emission.{RepliesIn}
 use Rattle.dap_phase.specs.declared.phase.Phase.{Phase}
 use Rattle.dap_phase.specs.declared.phase.Phase.TheVariants as phase
 use Rattle.dap_phase.specs.declared.phase.Target.{Target}
-use Rattle.dap_phase.specs.Phases.{IsTarget, IsDebuggee, IsPhase, situation_of}
+use Rattle.dap_phase.specs.Phases.{IsTarget, IsDebuggee, IsPhase}
 use Rattle.dap_replies.specs.declared.effect.Reply.{Reply as Given}
 use Rattle.dap_msg.specs.declared.requests.resume.ResumeKind.{ResumeKind}
 use Rattle.dap_msg.specs.declared.requests.resume.RetreatKind.{RetreatKind}
@@ -43,16 +41,13 @@ use Rattle.dap_replies.specs.Replied.{request_step, HasReplied}
 use Rattle.dap_replies.specs.declared.standing.StandsAt.{StandsAt}
 use Rattle.dap_replies.specs.declared.standing.StandsAt.TheVariants as stands_at
 use Rattle.dap_replies.specs.Going.{HasGone, HasStopped, HasEnded, IsOver, phase_at}
-use Rattle.dap_replies.proofs.Situations.{launched_as, replies_by}
+use Rattle.dap_replies.specs.declared.choosing.Reaction.TheVariants as chosen
+use Rattle.dap_replies.specs.Choosing.{launched_as, Chooses, Carries}
+use Rattle.dap_replies.proofs.Situations.{replies_by}
 use Rattle.dap_replies.proofs.Begun.{run_begins}
-use Rattle.dap_msg.specs.declared.outgoing.Refusal.TheVariants as refusal
-use Rattle.dap_replies.proofs.Refused.{AreRefused, known_thread, unknown_thread}
 use Rattle.dap_replies.proofs.Stays.{told_stays, target_stays, debuggee_stays}
 
 -- ---- the definitions
-
-of_program : (o : Option Launched) (l : Launched) (says : Launched → Type 0) → o ≡ Some l → says l → OfProgram o says
-of_program o l says o_is is = subst (λ o. OfProgram o says) (sym o_is) is
 
 -- the order of the definitions is that of the next run of the debuggee
 next_order : (t : Target) (d : Debugged) (m : Mode) (past : History) → IsTarget t d.unit past → IsDebuggee d past
@@ -66,15 +61,14 @@ next_order t d m past is_t is_d =
     (record { breakpoints = (plan past).breakpoints; counted_from = n }) m) is_d.counted_from_is)
 
 -- what is due at position 0, by the definitions
-pub configures : (t : Target) (d : Debugged) (m : Mode) (why : Option Reason) (past : History)
-    → m ≡ first_mode (launched_as t d.unit) → why ≡ due_now d m → IsPhase (phase.Configuring t d) past
-    → RepliesIn (situation past) past command.ConfigurationDone
-    (causing body.None (enters past (launched_as t d.unit) why))
-configures t d m why past m_is why_is is =
+pub configures : (t : Target) (d : Debugged) (m : Mode) (why : Option Reason) (command : Command) (past : History)
+    → m ≡ first_mode (launched_as t d.unit) → why ≡ due_now d m
+    → Chooses command (phase.Configuring t d) chosen.Start → IsPhase (phase.Configuring t d) past
+    → RepliesIn (situation past) past command (causing body.None (enters past (launched_as t d.unit) why))
+configures t d m why command past m_is why_is choice is =
     let is_d = is.keeps.1 in
     let l = launched_as t d.unit in
-    replies_by (phase.Configuring t d) past is command.ConfigurationDone (Start l)
-    (of_program (launched past) l (λ k. Start l ≡ Start k) is.keeps.0.launched_is refl)
+    replies_by (phase.Configuring t d) past is command (Start l) (choice.reacts past is)
     (causing body.None (enters past l why))
     (ap (λ r. causing body.None (enters past l r))
     (why_is
@@ -216,34 +210,36 @@ stop_mark_of reason.Step = refl
 pub enters_due : ReadingsGoOn → (t : Target) (d e : Debugged) (m : Mode) (why : Reason) (events : List EventBody)
     (past : History) (given : Given) → e ≡ considered d → m ≡ first_mode (launched_as t d.unit) → Some why ≡ due_now d m
     → events ≡ log_events d.breakpoints (logs_now d) → HasStopped t e why events given
-    → IsPhase (phase.Configuring t d) past → HasReplied command.ConfigurationDone past given
-enters_due laws t d e m why events past given e_is m_is why_is events_are stopped is =
+    → (command : Command) → Chooses command (phase.Configuring t d) chosen.Start
+    → IsPhase (phase.Configuring t d) past → HasReplied command past given
+enters_due laws t d e m why events past given e_is m_is why_is events_are stopped command choice is =
     let bs = (plan past).breakpoints in
     let ls = logs (program_of d.unit) bs (plan past).counted_from 0 in
-    stops_there laws command.ConfigurationDone t (considered d) why (first_logs past (launched_as t d.unit)) past given
-    refl
+    stops_there laws command t (considered d) why (first_logs past (launched_as t d.unit)) past given
+    choice.suits
     (numbers_of_logs bs ls (stopped_events (stop_of why)))
     (mark_of_logs bs ls (stopped_events (stop_of why)) ∙ stop_mark_of why)
     is.keeps.0 (still_there d past is.keeps.1)
     (subst (λ es. HasStopped t (considered d) why es given) (events_are ∙ logs_as t d past is)
     (subst (λ e. HasStopped t e why events given) e_is stopped))
-    (configures t d m (Some why) past m_is why_is is)
+    (configures t d m (Some why) command past m_is why_is choice is)
 
 -- the first run begins there
 pub enters_running : ReadingsGoOn → (t : Target) (d e : Debugged) (m : Mode) (events : List EventBody) (past : History)
     (given : Given) → e ≡ considered d → m ≡ first_mode (launched_as t d.unit) → None ≡ due_now d m
     → events ≡ log_events d.breakpoints (logs_now d) → HasGone t e mode.Continue body.None events given
-    → IsPhase (phase.Configuring t d) past → HasReplied command.ConfigurationDone past given
-enters_running laws t d e m events past given e_is m_is none_due events_are gone is =
+    → (command : Command) → Chooses command (phase.Configuring t d) chosen.Start
+    → IsPhase (phase.Configuring t d) past → HasReplied command past given
+enters_running laws t d e m events past given e_is m_is none_due events_are gone command choice is =
     let bs = (plan past).breakpoints in
     let ls = logs (program_of d.unit) bs (plan past).counted_from 0 in
-    goes_on laws command.ConfigurationDone t (considered d) mode.Continue body.None
-    (first_logs past (launched_as t d.unit)) past given refl
+    goes_on laws command t (considered d) mode.Continue body.None
+    (first_logs past (launched_as t d.unit)) past given choice.suits
     (ap numbers_in (sym (append-nil (log_events bs ls))) ∙ numbers_of_logs bs ls [])
     is.keeps.0 (still_there d past is.keeps.1)
     (subst (λ es. HasGone t (considered d) mode.Continue body.None es given) (events_are ∙ logs_as t d past is)
     (subst (λ e. HasGone t e mode.Continue body.None events given) e_is gone))
-    (configures t d m None past m_is none_due is)
+    (configures t d m None command past m_is none_due choice is)
 
 -- ---- `continue`, `next`, `stepIn` and `stepOut`
 
@@ -254,76 +250,38 @@ depth_there m depth there depth_is = depth_is ∙ ap (λ c. unwrap_or (option_ma
 
 -- the program goes on from a stop
 pub resumes_there : ReadingsGoOn → (t : Target) (d : Debugged) (m : Mode) (body : Body) (kind : ResumeKind)
-    (asked : ThreadArguments) (past : History) (given : Given) → asked.thread_id ≡ 1 → body ≡ body_of kind
+    (given : Given) → body ≡ body_of kind
     → m ≡ mode_of kind (depth_at (program_of d.unit) d.position) → HasGone t d m body [] given
-    → IsPhase (phase.Stopped t d) past → HasReplied (command.Resume kind asked) past given
-resumes_there laws t d m body kind asked past given one body_is m_is gone is =
+    → Carries (phase.Stopped t d) (chosen.Resume kind) given
+resumes_there laws t d m body kind given body_is m_is gone command choice past is =
     let l = launched_as t d.unit in
-    goes_on laws (command.Resume kind asked) t d m body [] past given refl refl is.keeps.0 is.keeps.1 gone
-    (replies_by (phase.Stopped t d) past is (command.Resume kind asked) (Resume l kind)
-    (of_program (launched past) l (λ k. Resume l kind ≡ for_thread asked (Resume k kind)) is.keeps.0.launched_is
-    (known_thread asked (Resume l kind) one))
+    goes_on laws command t d m body [] past given choice.suits refl is.keeps.0 is.keeps.1 gone
+    (replies_by (phase.Stopped t d) past is command (Resume l kind) (choice.reacts past is)
     (causing body (ordering (resumes past l m)))
     (ap (λ b. causing b (ordering (resumes past l m))) body_is
     ∙ ap (λ m. causing (body_of kind) (ordering (resumes past l m)))
     (m_is ∙ ap (λ n. mode_of kind (depth_at l.program n)) is.keeps.1.position_is)))
 
 -- a program that faulted is over
-pub ends_faulted : ReadingsGoOn → (t : Target) (d : Debugged) (body : Body) (kind : ResumeKind)
-    (asked : ThreadArguments) (past : History) (given : Given) → asked.thread_id ≡ 1 → body ≡ body_of kind
-    → HasEnded t d.unit body given → IsPhase (phase.Faulted t d) past
-    → HasReplied (command.Resume kind asked) past given
-ends_faulted laws t d body kind asked past given one body_is ended is =
-    ends_there laws (command.Resume kind asked) t d.unit body past given refl is.keeps.0 ended
-    (replies_by (phase.Faulted t d) past is (command.Resume kind asked) (End kind)
-    (known_thread asked (End kind) one) (causing body (reporting (exited_events 1)))
-    (ap (λ b. causing b (reporting (exited_events 1))) body_is))
+pub ends_faulted : ReadingsGoOn → (t : Target) (d : Debugged) (body : Body) (kind : ResumeKind) (given : Given)
+    → body ≡ body_of kind → HasEnded t d.unit body given → Carries (phase.Faulted t d) (chosen.End kind) given
+ends_faulted laws t d body kind given body_is ended command choice past is =
+    ends_there laws command t d.unit body past given choice.suits is.keeps.0 ended
+    (replies_by (phase.Faulted t d) past is command (End kind) (choice.reacts past is)
+    (causing body (reporting (exited_events 1))) (ap (λ b. causing b (reporting (exited_events 1))) body_is))
 
 -- ---- `stepBack` and `reverseContinue`
 
--- the reaction of the definitions
-retreats : (t : Target) (d : Debugged) (kind : RetreatKind) (asked : ThreadArguments) (past : History)
-    → asked.thread_id ≡ 1 → IsTarget t d.unit past → Retreats past kind asked (Retreat (launched_as t d.unit) kind)
-retreats t d kind asked past one is_t =
-    let l = launched_as t d.unit in
-    of_program (launched past) l (λ k. Retreat l kind ≡ for_thread asked (Retreat k kind)) is_t.launched_is
-    (known_thread asked (Retreat l kind) one)
-
 -- the program goes back from a stop or from a fault
-pub returns_there : ReadingsGoOn → (s : StandsAt) (t : Target) (d : Debugged) (kind : RetreatKind)
-    (asked : ThreadArguments) (past : History) (given : Given) → asked.thread_id ≡ 1
-    → HasGone t d (retreat_mode kind) body.None [] given → IsPhase (phase_at s t d) past
-    → HasReplied (command.Retreat kind asked) past given
-returns_there laws s t d kind asked past given one gone is =
-    let there = keeps_there s t d past is in
-    let m = retreat_mode kind in
-    goes_on laws (command.Retreat kind asked) t d m body.None [] past given refl refl there.0 there.1 gone
-    (replies_by (phase_at s t d) past is (command.Retreat kind asked) (Retreat (launched_as t d.unit) kind)
-    (retreats_there s t d past (retreats t d kind asked past one there.0))
-    (causing body.None (goes_after [] (resumes past (launched_as t d.unit) m))) refl)
-  where
-    keeps_there : (s : StandsAt) (t : Target) (d : Debugged) (past : History) → IsPhase (phase_at s t d) past
-        → IsTarget t d.unit past × IsDebuggee d past
-    keeps_there stands_at.Stop t d past is = is.keeps
-    keeps_there stands_at.Fault t d past is = is.keeps
-
-    retreats_there : (s : StandsAt) (t : Target) (d : Debugged) (past : History)
-        → Retreats past kind asked (Retreat (launched_as t d.unit) kind)
-        → Reacts (situation_of (phase_at s t d)) past (command.Retreat kind asked) (Retreat (launched_as t d.unit) kind)
-    retreats_there stands_at.Stop t d past is = is
-    retreats_there stands_at.Fault t d past is = is
-
--- ---- refusals
-
--- another thread is asked for, where the program stands
-pub unknown_there : (s : StandsAt) (t : Target) (d : Debugged) (asked : ThreadArguments) (past : History)
-    → nat_eq asked.thread_id 1 ≡ false → IsPhase (phase_at s t d) past
-    → AreRefused (situation_of (phase_at s t d)) past asked refusal.UnknownThread
-unknown_there stands_at.Stop t d asked past other is = (
-  λ kind. of_program (launched past) (launched_as t d.unit) _ is.keeps.0.launched_is (unknown_thread asked _ other),
-  λ kind. of_program (launched past) (launched_as t d.unit) _ is.keeps.0.launched_is (unknown_thread asked _ other),
-)
-unknown_there stands_at.Fault t d asked past other is = (
-  λ kind. unknown_thread asked _ other,
-  λ kind. of_program (launched past) (launched_as t d.unit) _ is.keeps.0.launched_is (unknown_thread asked _ other),
-)
+pub returns_there : ReadingsGoOn → (s : StandsAt) (t : Target) (d : Debugged) (kind : RetreatKind) (given : Given)
+    → HasGone t d (retreat_mode kind) body.None [] given → Carries (phase_at s t d) (chosen.Retreat kind) given
+returns_there laws stands_at.Stop t d kind given gone command choice past is =
+    let l = launched_as t d.unit in
+    goes_on laws command t d (retreat_mode kind) body.None [] past given choice.suits refl is.keeps.0 is.keeps.1 gone
+    (replies_by (phase.Stopped t d) past is command (Retreat l kind) (choice.reacts past is)
+    (causing body.None (goes_after [] (resumes past l (retreat_mode kind)))) refl)
+returns_there laws stands_at.Fault t d kind given gone command choice past is =
+    let l = launched_as t d.unit in
+    goes_on laws command t d (retreat_mode kind) body.None [] past given choice.suits refl is.keeps.0 is.keeps.1 gone
+    (replies_by (phase.Faulted t d) past is command (Retreat l kind) (choice.reacts past is)
+    (causing body.None (goes_after [] (resumes past l (retreat_mode kind)))) refl)

@@ -37,7 +37,8 @@ use Rattle.dap_replies.specs.declared.standing.StandsAt.TheVariants as stands_at
 use Rattle.dap_replies.specs.Going.{phase_at}
 use Rattle.dap_replies.specs.Answering.{without_events}
 use Rattle.dap_replies.specs.Lines.{AreAnswered, is_other}
-use Rattle.dap_replies.proofs.Situations.{launched_as, replies_there}
+use Rattle.dap_replies.specs.Choosing.{launched_as}
+use Rattle.dap_replies.proofs.Situations.{replies_there}
 use Rattle.dap_replies.proofs.Stays.{situation_stays, target_stays, position_stays, plan_stays, last_run_stays, runs_stay, waiting_pause_stays, no_last}
 
 -- ---- the reply

@@ -2,9 +2,6 @@
 use Rattle.std.specs.Prelude.{[], Option, Result}
 use Rattle.dap_msg.specs.declared.command.Command.{Command}
 use Rattle.dap_msg.specs.declared.command.Command.TheVariants as command
-use Rattle.dap_msg.specs.declared.requests.resume.ResumeKind.{ResumeKind}
-use Rattle.dap_msg.specs.declared.requests.resume.RetreatKind.{RetreatKind}
-use Rattle.dap_msg.specs.declared.requests.resume.ThreadArguments.{ThreadArguments}
 use Rattle.dap_msg.specs.declared.outgoing.Body.{Body}
 use Rattle.dap_msg.specs.declared.outgoing.Refusal.{Refusal}
 use Rattle.dbg_runner.specs.declared.order.Order.{Order}
@@ -15,15 +12,16 @@ use Rattle.dap_history.specs.Emission.{RepliesIn}
 use Rattle.dap_phase.specs.declared.phase.Phase.{Phase}
 use Rattle.dap_phase.specs.Phases.{IsPhase, situation_of}
 use Rattle.dap_replies.specs.declared.effect.Reply.{Reply as Given}
-use Rattle.dap_replies.specs.Replied.{HasReplied, Replies}
+use Rattle.dap_replies.specs.Going.{IsAtStop}
+use Rattle.dap_replies.specs.Replied.{HasReplied}
 
--- an answer to the command changes no reading, even where it succeeds
-abbrev pub LeadsNowhere : Command → Type 0
-LeadsNowhere (command.Initialize asked) = ⊥
-LeadsNowhere (command.Launch asked) = ⊥
-LeadsNowhere (command.Pause asked) = ⊥
-LeadsNowhere (command.BadArguments k) = ⊥
-LeadsNowhere _ = Unit {0}
+-- an answer to the command leaves the phase as it is, even where it succeeds
+abbrev pub Leaves : Phase → Command → Type 0
+Leaves p (command.Initialize asked) = ⊥
+Leaves p (command.Launch asked) = ⊥
+Leaves p (command.Pause asked) = IsAtStop p
+Leaves p (command.BadArguments k) = ⊥
+Leaves p _ = Unit {0}
 
 -- the reply with this result, this order or none, and no events
 abbrev pub without_events : Result Body Refusal → Option Order → Phase → Given
@@ -39,12 +37,6 @@ Refuses why phase given =
 -- The reply is right for each command that is to be answered with this result and has no effect.
 abbrev pub AnswersOnly : Result Body Refusal → Phase → Given → Type 0
 AnswersOnly result phase given =
-    (command : Command) → LeadsNowhere command → (past : History) → IsPhase phase past
+    (command : Command) → Leaves phase command → (past : History) → IsPhase phase past
     → RepliesIn (situation_of phase) past command (record { result = result; effect = nothing })
     → HasReplied command past given
-
--- The reply is right for each command to this thread that resumes the program or goes back.
-abbrev pub RefusesToMove : ThreadArguments → Phase → Given → Type 0
-RefusesToMove asked phase given =
-    ((kind : ResumeKind) → Replies (command.Resume kind asked) phase given)
-    × ((kind : RetreatKind) → Replies (command.Retreat kind asked) phase given)

@@ -4,6 +4,8 @@ pub mod Replied
 -- the law of phases
 pub mod Laws
 -- Only private contracts cite the others.
+-- what a reaction is in a phase, and what it is to carry it out
+pub mod Choosing
 -- replies after which the phase is as before
 pub mod Answering
 -- how the program goes on, stops or ends after an answer

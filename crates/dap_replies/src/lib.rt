@@ -3,13 +3,14 @@
 //! The one contract is that of [`reply`]: the answer, the events after it and the order are those that the definitions of
 //! `dap_history` say for any history that the phase represents, and the phase afterwards represents the history with that
 //! step (`specs/Replied`). [`launch`] has the same contract for the file of a launch, and [`report`] for a report that is
-//! accepted. The commands have files of their own.
+//! accepted. One function chooses the reaction to a command by the table of reactions, and another carries it out;
+//! `setBreakpoints` and the questions have handlers of their own.
 #![tactic(auto)]
 
 mod breakpoints;
-mod disconnect;
+mod carrying;
+mod choosing;
 mod effect;
-mod initialize;
 mod inspecting;
 mod launching;
 mod laws;
@@ -18,10 +19,8 @@ mod pausing;
 mod refusing;
 mod replying;
 mod reporting;
-mod retreating;
 mod running;
 mod standing;
-mod threads;
 
 pub use effect::{Effect, Reply};
 pub use launching::launch;

@@ -1,47 +1,44 @@
-//! The replies to the commands that start or resume the program: `configurationDone`, `continue`, `next`, `stepIn` and
-//! `stepOut`.
+//! Starts and resumes the program, ends it, and goes back.
 
-ghost use Rattle.std.specs.Prelude.{◌≡◌, if◌then◌else◌, IfOk, IsOk};
-ghost use Rattle.dap_msg.specs.declared.command.Command.TheVariants as command_is;
+ghost use Rattle.std.specs.Prelude.{◌≡◌, if◌then◌else◌, IfOk};
 ghost use Rattle.dbg_plan.specs.declared.mode.Mode.TheVariants as mode_is;
 ghost use Rattle.dap_phase.specs.declared.phase.Phase.TheVariants as phase_is;
 ghost use Rattle.dap_history.specs.Replies.{log_events};
-ghost use Rattle.dap_history.specs.Running.{body_of, mode_of};
-ghost use Rattle.dap_replies.specs.Going.{HasGone, HasStopped, HasEnded};
-ghost use Rattle.dap_replies.specs.Replied.{Replies, IsConfigured, NothingMoves};
+ghost use Rattle.dap_history.specs.Running.{body_of, mode_of, retreat_mode};
+ghost use Rattle.dap_replies.specs.declared.choosing.Reaction.TheVariants as reaction_is;
+ghost use Rattle.dap_replies.specs.Choosing.{Carries, FitsIn};
+ghost use Rattle.dap_replies.specs.Going.{HasGone, HasStopped, HasEnded, phase_at};
 
 use crate::effect::{Effect, Reply};
 use crate::logging::push_logs;
-use crate::refusing::refuse;
 use crate::reporting::stop_reason;
-use crate::standing::{StandsAt, take_standing};
+use crate::standing::StandsAt;
 use dap_history::reading_laws;
-use dap_msg::{Body, EventBody, Items, Refusal, ResumeKind, ThreadArguments};
+use dap_msg::{Body, EventBody, Items, ResumeKind, RetreatKind};
 use dap_phase::{Phase, Run, Target, Unstarted};
 use dbg_plan::{Logs, Mode, Reason};
 use dbg_runner::StoppedDebuggee;
 use std::alloc::{AllocError, Global};
 use std::sync::Arc;
 
-/// Replies to `configurationDone`.
+/// Starts the program.
 ///
 /// # Errors
 ///
 /// An allocation failed, or no run number is left.
-pub(crate) fn configuration_done(alloc: Global, phase: Phase) -> Result<Reply, AllocError>
-    ensures replies { IfOk result (Replies command_is.ConfigurationDone phase) }
-    ensures enough { IsConfigured phase → IsOk result }
+pub(crate) fn start(alloc: Global, phase: Phase) -> Result<Reply, AllocError>
+    requires { FitsIn phase reaction_is.Start }
+    ensures { IfOk result (Carries phase reaction_is.Start) }
 {
-    reading_laws();
     match phase {
         Phase::Configuring(target, unstarted) => enter(alloc, target, unstarted),
-        phase => Ok(refuse(alloc, phase, Refusal::WrongPhase)),
+        _ => unreachable!(),
     }
 }
 
-/// Starts the program. Position 0 is considered: the program stops there if it is due, or its first run begins.
+/// Considers position 0: the program stops there if it is due, or its first run begins.
 fn enter(alloc: Global, target: Target, unstarted: Unstarted) -> Result<Reply, AllocError>
-    ensures { IfOk result (Replies command_is.ConfigurationDone (phase_is.Configuring target unstarted)) }
+    ensures { IfOk result (Carries (phase_is.Configuring target unstarted) reaction_is.Start) }
 {
     reading_laws();
     let mut logs = Logs::new(alloc)?;
@@ -102,31 +99,68 @@ fn stop(
     })
 }
 
-/// Replies to `continue`, `next`, `stepIn` and `stepOut`.
+/// Resumes the program from a stop.
 ///
 /// # Errors
 ///
 /// An allocation failed, or no run number is left.
-pub(crate) fn resume(
-    alloc: Global,
-    phase: Phase,
-    kind: ResumeKind,
-    asked: ThreadArguments,
-) -> Result<Reply, AllocError>
-    ensures replies { IfOk result (Replies (command_is.Resume kind asked) phase) }
-    ensures enough { NothingMoves phase asked → IsOk result }
+pub(crate) fn resume(alloc: Global, phase: Phase, kind: ResumeKind) -> Result<Reply, AllocError>
+    requires { FitsIn phase (reaction_is.Resume kind) }
+    ensures { IfOk result (Carries phase (reaction_is.Resume kind)) }
 {
     reading_laws();
-    match take_standing(alloc, phase, asked) {
-        Ok((StandsAt::Stop, target, debuggee)) => {
+    match phase {
+        Phase::Stopped(target, debuggee) => {
             let mode = resume_mode(kind, debuggee.debuggee().machine().depth());
             go(target, debuggee, mode, resume_body(kind), Vec::new(alloc))
         }
-        // However it is resumed, a program that stopped before a fault ends.
-        Ok((StandsAt::Fault, target, debuggee)) => {
-            end(alloc, target, debuggee, resume_body(kind))
-        }
-        Err(refused) => Ok(refused),
+        _ => unreachable!(),
+    }
+}
+
+/// Goes back from where the program stands.
+///
+/// # Errors
+///
+/// An allocation failed, or no run number is left.
+pub(crate) fn retreat(alloc: Global, phase: Phase, kind: RetreatKind) -> Result<Reply, AllocError>
+    requires { FitsIn phase (reaction_is.Retreat kind) }
+    ensures { IfOk result (Carries phase (reaction_is.Retreat kind)) }
+{
+    match phase {
+        Phase::Stopped(target, debuggee) => back(alloc, StandsAt::Stop, target, debuggee, kind),
+        Phase::Faulted(target, debuggee) => back(alloc, StandsAt::Fault, target, debuggee, kind),
+        _ => unreachable!(),
+    }
+}
+
+/// Goes back from a stop or from a fault.
+fn back(
+    alloc: Global,
+    _stands: StandsAt,
+    target: Target,
+    debuggee: StoppedDebuggee,
+    kind: RetreatKind,
+) -> Result<Reply, AllocError>
+    ensures { IfOk result (Carries (phase_at _stands target debuggee) (reaction_is.Retreat kind)) }
+{
+    reading_laws();
+    go(
+        target,
+        debuggee,
+        retreat_mode(kind),
+        Body::None,
+        Vec::new(alloc),
+    )
+}
+
+/// Returns the mode of a run that goes back.
+fn retreat_mode(kind: RetreatKind) -> Mode
+    ensures { result ≡ retreat_mode kind }
+{
+    match kind {
+        RetreatKind::StepBack => Mode::StepBack,
+        RetreatKind::ReverseContinue => Mode::Reverse,
     }
 }
 
@@ -154,8 +188,24 @@ fn resume_body(kind: ResumeKind) -> Body
     }
 }
 
+/// Ends the program, which stands before a fault.
+///
+/// # Errors
+///
+/// An allocation failed.
+pub(crate) fn end(alloc: Global, phase: Phase, kind: ResumeKind) -> Result<Reply, AllocError>
+    requires { FitsIn phase (reaction_is.End kind) }
+    ensures { IfOk result (Carries phase (reaction_is.End kind)) }
+{
+    reading_laws();
+    match phase {
+        Phase::Faulted(target, debuggee) => conclude(alloc, target, debuggee, resume_body(kind)),
+        _ => unreachable!(),
+    }
+}
+
 /// Returns the reply with this answer, after which the program, which faulted, has ended.
-fn end(
+fn conclude(
     alloc: Global,
     target: Target,
     debuggee: StoppedDebuggee,
@@ -180,7 +230,7 @@ fn end(
 /// # Errors
 ///
 /// An allocation failed, or no run number is left.
-pub(crate) fn go(
+fn go(
     target: Target,
     debuggee: StoppedDebuggee,
     mode: Mode,

@@ -1,8 +1,9 @@
-use Rattle.std.proofs.Common.{sym, ◌∙◌, eqb-true}
+use Rattle.std.proofs.Common.{sym, subst}
+use Rattle.dap_replies.specs.declared.choosing.Reaction.TheVariants.{Interrupt}
+use Rattle.dap_replies.specs.Choosing.{Carries}
 use Rattle.dap_replies.proofs.Paused.{pauses_in_run}
 use Rattle.dap_replies.proofs.pausing.interrupt.Goals as goal
 
 pub returns : goal.returns
-returns c =
-    pauses_in_run c.reading_laws.ensures c.args.target c.args.run c.args.asked c.wait.result
-    (eqb-true c.args.asked.thread_id 1 (sym c.is_main_thread.ensures ∙ c.if-not-is_main_thread.false)) c.wait.ensures
+returns c = subst (λ p. Carries p Interrupt c.wait.result) (sym c.in-Running.is)
+    (pauses_in_run c.reading_laws.ensures c.in-Running.target c.in-Running.run' c.wait.result c.wait.ensures)

@@ -7,11 +7,12 @@ use Rattle.dap_history.specs.Reactions.{Answer}
 use Rattle.dap_replies.specs.Replied.{Replies, request_step}
 use Rattle.dap_replies.proofs.Situations.{replies_by}
 use Rattle.dap_replies.proofs.Stays.{unlaunched_stays}
-use Rattle.dap_replies.proofs.initialize.begin.Goals as goal
+use Rattle.dap_replies.proofs.carrying.begin.Goals as goal
 
 pub returns : goal.returns
-returns c = subst (Replies (command.Initialize c.args.asked) phase.Fresh) (sym c.without_events.ensures) (λ past is.
-    record {
+returns c = λ asked choice.
+    subst (λ command. Replies command phase.Fresh c.without_events.result) (sym choice.suits)
+    (subst (Replies (command.Initialize c.args.asked) phase.Fresh) (sym c.without_events.ensures) (λ past is. record {
       reply = answered body.Capabilities;
       replies =
           replies_by phase.Fresh past is (command.Initialize c.args.asked) (Answer body.Capabilities) refl
@@ -27,4 +28,4 @@ returns c = subst (Replies (command.Initialize c.args.asked) phase.Fresh) (sym c
               unlaunched_stays c.reading_laws.ensures past step refl refl refl refl refl is.keeps,
             );
           };
-    })
+    }))
