@@ -1,5 +1,5 @@
 -- What several lemma files import, from the libraries and from the definitions.
-pub use Rattle.pl0_parser.specs.Parsing.{block_front, constant_front, ending, guard_sign, guard_word, here, IsLast, IsNextAt, IsSigned, Lacks, later, left_of, one, Outcome, Parses, ParsesAll, ParsesProcedure, ProcedureOutcome, ReadsConstant, ReadsName, ReadsNumber, ReadsProcedure, RefusedAll, RefusedAt, symbol_of_start}
+pub use Rattle.pl0_parser.specs.Parsing.{block_front, constant_front, ending, guard_sign, guard_word, IsNextAt, IsSigned, Lacks, left_of, one, Outcome, Parses, ParsesAll, ParsesProcedure, ProcedureOutcome, ReadsConstant, ReadsName, ReadsNumber, ReadsProcedure, RefusedAll, RefusedAt, symbol_of_start}
 pub use Rattle.pl0_parser.specs.Prediction.{AComparison, ACondition, advance, AFactor, AName, AnEnd, AnExpression, ANumber, AStatement, ATerm, block_goals, Choice, choice, comparison_choice, condition_choice, constant_goals, constant_part_choice, ConstantPart, else_behind, end_choice, Expect, expression_choice, factor_choice, first_refusal, followed_by, Goal, if_goals, mark_choice, mark_number, more_constants_choice, more_factors_choice, more_statements_choice, more_terms_choice, more_variables_choice, MoreConstants, MoreFactors, MoreStatements, MoreTerms, MoreVariables, name_choice, nested_goals, nothing_choice, number_choice, opening, Pass, procedure_goals, procedure_part_choice, ProcedurePart, refusal_after, Refuse, sequence_goals, statement_choice, Take, term_choice, variable_part_choice, VariablePart, while_goals}
 pub use Rattle.pl0_parser.specs.declared.cursor.Cursor.{Cursor}
 pub use Rattle.pl0_tree.specs.Faults.{by_itself, FaultIs, Grammar, IsBeginning, IsRefused, IsTokenFault, too_deep, unexpected}
