@@ -51,7 +51,7 @@ module _ (main : Block) (q : Path) (text : List ℕ) where
       record {
         to = subst (λ l. IsReadTo (IsExpressionOf main q) text l after) (sym new_is)
             (one_further (IsExpressionOf main q) text rest before inner after (plain_parts parts) e
-            (λ f reads. expression_text_once reads.end is.end reads.reads is.reads) was.to whole first second is);
+            (λ f reads. expression_text_once reads.reads is.reads) was.to whole first second is);
         count = ap (λ l. length (expressions l)) new_is ∙ count-append (plain_parts parts) (Text before ∷ Value e ∷ [])
             ∙ ap (λ k. k + 1) was.count;
         few = omega arith;
@@ -141,5 +141,5 @@ lacks byte text none = λ k d lt is. none k lt (get_or_default text k 0 d lt ∙
 pub reads_as : (main : Block) (q : Path) (text : List ℕ) (parts : List Part) → IsMessageOf main q text parts
     → ReadsAsParts text parts
 reads_as main q text parts is =
-    reads_more (IsExpressionOf main q) ReadsAsExpression (λ t e r. record { end = r.end; reads = r.reads }) text parts
+    reads_more (IsExpressionOf main q) ReadsAsExpression (λ t e r. r.reads) text parts
     is.reads

@@ -1,57 +1,17 @@
 -- Two plans have the same table exactly where they have the same breakpoints.
 use Rattle.std.proofs.Common.{◌≡◌, ◌≢◌, ◌⊎◌, inl, inr, ℕ, zero, suc, ◌+◌, ◌<◌, ◌≤◌, ◌==◌, Bool, true, false, cond, nat_eq, List, [], ◌∷◌, length, map, filter, get_or, slice_get, vec_len, Option, Some, None, Decides, refl, sym, ap, ◌∙◌, subst, arith}
-use Rattle.std.specs.Prelude.{find, option_map, string_bytes, bytes_eq}
+use Rattle.std.specs.Prelude.{find, option_map}
 use Rattle.std.specs.List.Sorted.{IsNonDecreasingBy}
-use Rattle.std.specs.Coded.{Coded-set}
-use Rattle.std.proofs.Math.Logic.{∥∥₁_elim}
 use Rattle.std.proofs.lemmas.Bool.{cases_lt}
 use Rattle.std.proofs.lemmas.Bool.Decides.{nat_tests, eqb_tells, Decides-like}
 use Rattle.std.proofs.lemmas.List.{length-map}
 use Rattle.std.proofs.lemmas.Option.{slice_get-map, slice_get-get_or, same_Some}
-use Rattle.std.proofs.lemmas.Slice.Eq.{bytes_eq-Decides}
-use Rattle.pl0_tree.specs.Tree.{Condition}
-use Rattle.pl0_tree.specs.Plain.{plain_condition}
-use Rattle.pl0_tree.specs.Unique.{condition_text_once}
-use Rattle.dbg_plan.specs.declared.breakpoint.BoundCondition.{BoundCondition}
 use Rattle.dbg_plan.specs.declared.breakpoint.Breakpoint.{Breakpoint}
-use Rattle.dbg_plan.specs.Breakpoints.{TextCondition, Breakpoint as PlainBreakpoint, text_condition, plain_breakpoint, plain_breakpoints, condition_code}
-use Rattle.dbg_plan.specs.ReadsAs.{ReadsAs}
+use Rattle.dbg_plan.specs.Breakpoints.{Breakpoint as PlainBreakpoint, plain_breakpoint, plain_breakpoints}
 use Rattle.dbg_plan.specs.Plans.{is_of, those_of, AreNumbered}
 use Rattle.dbg_plan.specs.declared.plan.Plan.TheInside.{Inside}
 use Rattle.dbg_plan.specs.Table.{prepended, by_number, Numbered, numbered_of, listed, IsTable}
 use Rattle.dbg_plan.proofs.Parts.{Rises, rises_sorted}
-
--- ---- conditions
-
--- a text reads as one condition
-one_condition : (text : List ℕ) (c d : Condition) → ∥ ReadsAs text c ∥₁ → ∥ ReadsAs text d ∥₁ → c ≡ d
-one_condition text c d first second =
-    ∥∥₁_elim first (Coded-set condition_code c d)
-    (λ f. ∥∥₁_elim second (Coded-set condition_code c d) (λ s. condition_text_once f.end s.end f.reads s.reads))
-
-pub same_text : (c d : BoundCondition) → string_bytes c.text ≡ string_bytes d.text → text_condition c ≡ text_condition d
-same_text c d e =
-    let same : plain_condition c.condition ≡ plain_condition d.condition =
-    one_condition (string_bytes d.text) (plain_condition c.condition) (plain_condition d.condition)
-    (subst (λ t. ∥ ReadsAs t (plain_condition c.condition) ∥₁) e c.reads) d.reads in
-    with_both (string_bytes c.text) (string_bytes d.text) (plain_condition c.condition) (plain_condition d.condition) e
-    same
-  where
-    with_both : (s t : List ℕ) (c d : Condition) → s ≡ t → c ≡ d
-        → ◌≡◌ {A = TextCondition} (record { text = s; condition = c }) (record { text = t; condition = d })
-    with_both s t c d e f = cc
-
-pub conditions_told : (c d : BoundCondition) (r : Bool) → r ≡ bytes_eq (string_bytes c.text) (string_bytes d.text)
-    → Decides r (◌≡◌ {A = Option TextCondition} (Some (text_condition c)) (Some (text_condition d)))
-conditions_told c d r is =
-    let told = bytes_eq-Decides (string_bytes c.text) (string_bytes d.text) in (
-      λ yes'. ap Some (same_text c d (told.0 (sym is ∙ yes'))),
-      λ same. is
-          ∙ told.1 (texts (text_condition c) (text_condition d) same),
-    )
-  where
-    texts : (s t : TextCondition) → ◌≡◌ {A = Option TextCondition} (Some s) (Some t) → s.text ≡ t.text
-    texts s t e = let f : s ≡ t = cc in ap (λ (x : TextCondition). x.text) f
 
 -- ---- the same table gives the same breakpoints
 

@@ -1,9 +1,8 @@
 -- The messages of log points: texts with expressions in braces.
 use Rattle.std.specs.Prelude.{◌≡◌, ◌≢◌, ℕ, ◌≤◌, All, List, [], ◌∷◌, ◌++◌, length, map, codes, string_bytes}
-use Rattle.pl0_tree.specs.declared.tree.Place.{Place}
 use Rattle.pl0_tree.specs.Tree.{Block, Expression}
-use Rattle.pl0_tree.specs.Tokens.{EndOfText, tokens_of}
-use Rattle.pl0_tree.specs.Reading.{at, ReadsExpression}
+use Rattle.pl0_tree.specs.Tokens.{tokens_of}
+use Rattle.pl0_tree.specs.Reading.{ReadsExpressionText}
 use Rattle.pl0_tree.specs.Scope.{Path}
 use Rattle.pl0_tree.specs.Faults.{level_limit, IsExpressionOf}
 use Rattle.pl0_tree.specs.Plain.{plain_expression}
@@ -63,10 +62,8 @@ pub record IsMessageOf (main : Block) (q : Path) (text : List ℕ) (parts : List
 
 -- ---- whatever names mean
 
--- the whole text is the expression
-pub record ReadsAsExpression (text : List ℕ) (e : Expression) : Type 0 where
-  pub end : Place
-  pub reads : ReadsExpression level_limit (tokens_of text) e (at EndOfText end ∷ [])
+abbrev pub ReadsAsExpression : List ℕ → Expression → Type 0
+ReadsAsExpression text e = ReadsExpressionText level_limit (tokens_of text) e
 
 abbrev pub ReadsAsParts : List ℕ → List Part → Type 0
 ReadsAsParts = ReadsParts ReadsAsExpression

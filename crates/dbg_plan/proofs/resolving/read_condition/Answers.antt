@@ -22,7 +22,7 @@ reads_as : (c : In-Ok) → IsConditionOf (program_of c.args.unit.now) (step_path
 reads_as c = rw (c.requires.names, c.as_bytes.ensures.value) at c.in-Ok.ensures.condition
 
 pub bind-requires-clause-reads : goal.bind-requires-clause-reads
-bind-requires-clause-reads c = let is = reads_as c in ∣ record { end = is.end; reads = is.reads } ∣₁
+bind-requires-clause-reads c = let is = reads_as c in ∣ is.reads ∣₁
 
 pub returns-in-Ok-bind-clause-condition : goal.returns-in-Ok-bind-clause-condition
 returns-in-Ok-bind-clause-condition c =

@@ -1,16 +1,13 @@
-use Rattle.std.proofs.Common.{◌≡◌, ◌∙◌, Decides, Some, option_map, bytes_eq, string_bytes, ap, sym, subst}
+use Rattle.std.proofs.Common.{◌∙◌, bytes_eq, string_bytes, ap}
 use Rattle.dbg_plan.specs.Breakpoints.{plain_message}
-use Rattle.dbg_plan.proofs.SameMessages.{messages_told}
+use Rattle.dbg_plan.proofs.SameTexts.{same_message, told}
 use Rattle.dbg_plan.proofs.same.same_message.Goals as goal
 
 pub returns-in-Some-Some : goal.returns-in-Some-Some
 returns-in-Some-Some c =
     let l = c.in-Some-Some.left in
     let r = c.in-Some-Some.right in
-    let told =
-    messages_told l r c.eq.result (c.eq.ensures ∙ ap (λ t. bytes_eq t c.as_str-in-Some-Some.result.now)
-    c.as_str.ensures.value ∙ ap (λ t. bytes_eq (string_bytes l.text) t) c.as_str-in-Some-Some.ensures.value) in
-    subst (λ o. Decides c.eq.result (option_map plain_message o ≡ option_map plain_message c.args.right.now))
-    (sym c.in-Some-Some.is-0)
-    (subst (λ o. Decides c.eq.result (Some (plain_message l) ≡ option_map plain_message o)) (sym c.in-Some-Some.is-1)
-    told)
+    told plain_message (λ t. t.text) l r (same_message l r) c.args.left.now c.args.right.now c.in-Some-Some.is-0
+    c.in-Some-Some.is-1 c.eq.result (c.eq.ensures
+    ∙ ap (λ t. bytes_eq t c.as_str-in-Some-Some.result.now) c.as_str.ensures.value
+    ∙ ap (λ t. bytes_eq (string_bytes l.text) t) c.as_str-in-Some-Some.ensures.value)
