@@ -229,7 +229,7 @@ module _ (main : Block) where
 pub declared_before : {n : ℕ} (tokens : List Token) (main : Block) → ReadsProgram n tokens main
     → Ascend (map (λ (t : Token). t.place) tokens) → IsLawful main → AreDeclaredBefore main
 declared_before tokens main reads ascend lawful q b i u at is =
-    let passed = program_passed tokens main reads (after_none tokens ascend) in
+    let passed = program_passed reads (after_none tokens ascend) in
     let lawfully = lawful.uses q b i u at is in
     let spans =
     spans_at main (record { from = None; to = passed.1.to; chain = passed.1.names; later = λ p within. tt }) q b at
