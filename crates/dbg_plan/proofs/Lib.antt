@@ -23,7 +23,8 @@ pub mod Further
 pub mod Stepping
 -- Two plans have the same table exactly where they have the same breakpoints; for the functions of `plan` and `same`.
 pub mod Sameness
--- Two conditions, and two messages, are the same exactly where their texts are; for `same_condition` and `same_message`.
+-- Two conditions, and two messages, are the same exactly where their texts are; for `same_condition` and
+-- `same_message`.
 pub mod SameTexts
 -- Decimal texts and the numbers of rules that they say; for `number` and `read_rule`.
 pub mod HitNumbers
