@@ -12,7 +12,7 @@ use Rattle.pl0_tree.specs.Scope.{block_at, procedure_at, Meaning, AConstant, AVa
 use Rattle.pl0_tree.specs.Steps.{step, statement_steps, block_steps, procedures_steps}
 use Rattle.pl0_tree.specs.Faults.{limit}
 use Rattle.pl0_meaning.specs.Values.{find, truth, return_of, first_step}
-use Rattle.pl0_meaning.specs.Runs.{opened, Outcome, Goes, Faults, Over, on_value, with_number, target, assigned, new_frame, callee, entered, called, returned, statement_step, frame_step, led_to, last_position, step_at}
+use Rattle.pl0_meaning.specs.Runs.{opened, Outcome, Goes, Faults, Stuck, on_value, with_number, target, assigned, new_frame, callee, entered, called, returned, statement_step, frame_step, led_to, last_position, step_at}
 use Rattle.pl0_meaning.specs.Runs.{step as run_step}
 
 abbrev pub most : ℕ
@@ -324,7 +324,7 @@ assigned_near c o v near =
     number_near c (option_and_then (λ (h : Home). target c h.path h.declaration.meaning) o) v near
 
 abbrev EntersNear : Configuration → Option Frame → Type 0
-EntersNear c o = OutcomeNear (option_map_or (entered c) o Over)
+EntersNear c o = OutcomeNear (option_map_or (entered c) o Stuck)
 
 new_frame_near : (o : Option Block) (q : Path) (link : ℕ) (c : Configuration) → BlockMayBeNear o → FramesNear c
     → EntersNear c (option_map (λ b. new_frame b q link) o)
@@ -400,7 +400,7 @@ module _ (main : Block) (near : BlockNear main) where
   next_near_of : (o : Outcome) → OutcomeNear o → MayBeFramesNear (led_to o)
   next_near_of (Goes w c) frames = frames
   next_near_of (Faults fault) frames = tt
-  next_near_of Over frames = tt
+  next_near_of Stuck frames = tt
 
   after_step_near : (n : ℕ) (o : Option Configuration) → MayBeFramesNear o
       → MayBeFramesNear (option_and_then (λ c. led_to (step_at main n c)) o)

@@ -2,7 +2,7 @@
 use Rattle.std.proofs.Common.{◌≡◌, ℕ, zero, suc, ◌+◌, ◌-◌, ◌<◌, ◌≤◌, Bool, true, false, [], ◌++◌, map, None, Some, length, drop, ◌∙◌, ap, arith, length-append, length-drop}
 use Rattle.std.proofs.Math.Seq.{drop-nil}
 use Rattle.pl0_tree.specs.Tree.{Block}
-use Rattle.pl0_meaning.specs.Runs.{Outcome, Goes, Faults, Over, outcome, written_by, written_from, written}
+use Rattle.pl0_meaning.specs.Runs.{Outcome, Goes, Faults, Stuck, outcome, written_by, written_from, written}
 use Rattle.dbg_runner.specs.Lawful.{Went, IsLawful}
 use Rattle.dbg_runner.specs.Plain.{PlainReport, goes_back}
 use Rattle.dbg_runner.specs.Reported.{Reported, plain_report}
@@ -16,7 +16,7 @@ written_by_few : (o : Outcome) → length (written_by o) ≤ 1
 written_by_few (Goes None c) = omega arith
 written_by_few (Goes (Some v) c) = omega arith
 written_by_few (Faults fault) = omega arith
-written_by_few Over = omega arith
+written_by_few Stuck = omega arith
 
 written_few : (main : Block) (a count : ℕ) → length (written_from main a count) ≤ count
 written_few main a zero = omega arith

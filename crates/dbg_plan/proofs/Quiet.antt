@@ -4,7 +4,7 @@ use Rattle.std.proofs.lemmas.Bool.{cases_eq, cases_lt}
 use Rattle.std.proofs.lemmas.List.{length-map}
 use Rattle.pl0_unit.specs.declared.unit.Unit.{Unit as Compiled}
 use Rattle.pl0_meaning.specs.Values.{Configuration}
-use Rattle.pl0_meaning.specs.Runs.{Outcome, Goes, Faults, Over, at, led_to, written_by}
+use Rattle.pl0_meaning.specs.Runs.{Outcome, Goes, Faults, Stuck, at, led_to, written_by}
 use Rattle.pl0_meaning.specs.Laws.{FramesAreLinked}
 use Rattle.pl0_meaning.specs.Linking.{at_next}
 use Rattle.pl0_machine.specs.declared.outcome.StepOutcome.{StepOutcome}
@@ -40,7 +40,7 @@ module _ (breakpoints : List Breakpoint) (old new : Standing) (result : StepOutc
       by_outcome (Goes (Some v) []) s = let other : result ≡ Done = s.0 in cc
       by_outcome (Goes (Some v) (f ∷ below)) s = let other : result ≡ Went (Some v) = s.0 in cc
       by_outcome (Faults fault) s = refl
-      by_outcome Over s = refl
+      by_outcome Stuck s = refl
 
   pub is_quiet : IsQuietly breakpoints result new → IsQuiet breakpoints old
   is_quiet told =
@@ -72,7 +72,7 @@ module _ (breakpoints : List Breakpoint) (old new : Standing) (result : StepOutc
           (s.0, subst (λ m. has_arrival breakpoints m ≡ false) (sym s.1) quiet.unmet)
       by_outcome (Goes (Some v) c) e s none = absurd (writes v none)
       by_outcome (Faults fault) e s none = absurd (ends_run None (ap led_to e) refl quiet)
-      by_outcome Over e s none = absurd s
+      by_outcome Stuck e s none = absurd s
 
 -- quiet steps led to the machine m
 abbrev pub Quietly : ℕ → List Breakpoint → Standing → Standing → Type 0

@@ -2,7 +2,7 @@
 use Rattle.std.proofs.Common.{◌≡◌, ℕ, zero, suc, ◌+◌, ◌≤◌, true, false, List, [], ◌∷◌, ◌++◌, Option, Some, None, ℤ, refl, sym, ap, ◌∙◌, subst, arith, append-nil}
 use Rattle.pl0_unit.specs.declared.unit.Unit.{Unit as Compiled}
 use Rattle.pl0_meaning.specs.declared.RunFault.{RunFault}
-use Rattle.pl0_meaning.specs.Runs.{Outcome, Goes, Faults, Over, written_by}
+use Rattle.pl0_meaning.specs.Runs.{Outcome, Goes, Faults, Stuck, written_by}
 use Rattle.pl0_machine.specs.declared.outcome.StepOutcome.{StepOutcome}
 use Rattle.pl0_machine.specs.declared.outcome.StepOutcome.TheVariants.{Went, Done, Fault}
 use Rattle.pl0_machine.specs.Machine.{Standing, outcome_of, Stepped}
@@ -141,7 +141,7 @@ fault_is : (o : Outcome) (old new : Standing) (fault : RunFault) → Stepped o o
 fault_is (Goes written []) old new fault s = let other : Fault fault ≡ Done = s.0 in cc
 fault_is (Goes written (f ∷ below)) old new fault s = let other : Fault fault ≡ Went written = s.0 in cc
 fault_is (Faults other) old new fault s = let same : Fault fault ≡ Fault other = s.0 in cc
-fault_is Over old new fault s = absurd s
+fault_is Stuck old new fault s = absurd s
 
 pub faulted : (limit : ℕ) (old new : Debugged) (numbers : List ℤ) (fault : RunFault)
     → RanTo limit old (Some (Fault fault)) new → RanFrom limit old numbers (Some (advance.Fault fault)) new numbers []

@@ -2,7 +2,7 @@
 use Rattle.std.proofs.Common.{◌≡◌, ◌+◌, ◌<◌, Bool, true, false, [], ◌∷◌, length, Option, Some, ℤ, refl, sym, ap, ◌∙◌, subst, arith}
 use Rattle.pl0_meaning.specs.declared.RunFault.{RunFault}
 use Rattle.pl0_meaning.specs.Values.{Configuration}
-use Rattle.pl0_meaning.specs.Runs.{Outcome, Goes, Faults, Over, at, led_to}
+use Rattle.pl0_meaning.specs.Runs.{Outcome, Goes, Faults, Stuck, at, led_to}
 use Rattle.pl0_meaning.specs.Linking.{at_next}
 use Rattle.pl0_machine.specs.declared.outcome.StepOutcome.{StepOutcome}
 use Rattle.pl0_machine.specs.declared.outcome.StepOutcome.TheVariants.{Went, Done, Fault}
@@ -22,7 +22,7 @@ module _ (old new : Standing) (result : StepOutcome) (stepped : Stepped (outcome
       by_outcome : (o : Outcome) → Stepped o old result new → new.unit ≡ old.unit
       by_outcome (Goes written c) s = ap (λ (m : Standing). m.unit) s.1
       by_outcome (Faults fault) s = ap (λ (m : Standing). m.unit) s.1
-      by_outcome Over s = absurd s
+      by_outcome Stuck s = absurd s
 
   -- where the step led on, the program runs
   pub went_on : (written : Option ℤ) → result ≡ Went written → (new ≡ record old { position = old.position + 1 })
@@ -38,7 +38,7 @@ module _ (old new : Standing) (result : StepOutcome) (stepped : Stepped (outcome
           let some : 0 < length (f ∷ below) = omega arith in
           (s.1, subst (λ m. IsRunning m) (sym s.1) (subst (λ o. 0 < length (frames_of o)) (sym there) some))
       by_outcome (Faults fault) e s = let other : result ≡ Fault fault = s.0 in cc
-      by_outcome Over e s = absurd s
+      by_outcome Stuck e s = absurd s
 
   -- where it faults, all is as before
   pub stays_there : (fault : RunFault) → result ≡ Fault fault → new ≡ old
@@ -51,7 +51,7 @@ module _ (old new : Standing) (result : StepOutcome) (stepped : Stepped (outcome
       by_outcome : (o : Outcome) → Stepped o old result new → new ≡ old
       by_outcome (Goes written c) s = absurd (told_other written c s.0)
       by_outcome (Faults other) s = s.1
-      by_outcome Over s = absurd s
+      by_outcome Stuck s = absurd s
 
   -- where it does not fault, the position is the next one
   pub goes_on : ((fault : RunFault) → result ≡ Fault fault → ⊥) → new.position ≡ old.position + 1
@@ -60,7 +60,7 @@ module _ (old new : Standing) (result : StepOutcome) (stepped : Stepped (outcome
       by_outcome : (o : Outcome) → Stepped o old result new → new.position ≡ old.position + 1
       by_outcome (Goes written c) s = ap (λ (m : Standing). m.position) s.1
       by_outcome (Faults fault) s = absurd (other fault s.0)
-      by_outcome Over s = absurd s
+      by_outcome Stuck s = absurd s
 
 module _ (d : Inside) (was : IsCounting d) (machine : Standing) (result : StepOutcome)
     (stepped : Stepped (outcome_of d.machine) d.machine result machine) (behind : next_of d ≡ d.machine.position + 1)

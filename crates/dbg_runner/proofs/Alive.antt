@@ -1,12 +1,12 @@
 -- Where frames are alive.
-use Rattle.dbg_runner.proofs.Common.{[], add-one, ap, arith, at, Block, Bool, cases_eq, false, Faults, frames_of, if◌then◌else◌, last_position, led_to, length, nat_eq, None, Option, option_and_then, Outcome, outcome, Over, refl, RunFault, RunsAt, Some, step_at, subst, suc, sym, true, zero, ℕ, ⊎_elim, ◌+◌, ◌<◌, ◌∷◌, ◌≡◌, ◌≤◌}
+use Rattle.dbg_runner.proofs.Common.{[], add-one, ap, arith, at, Block, Bool, cases_eq, false, Faults, frames_of, if◌then◌else◌, last_position, led_to, length, nat_eq, None, Option, option_and_then, Outcome, outcome, Stuck, refl, RunFault, RunsAt, Some, step_at, subst, suc, sym, true, zero, ℕ, ⊎_elim, ◌+◌, ◌<◌, ◌∷◌, ◌≡◌, ◌≤◌}
 use Rattle.std.specs.Option.{option_map_or}
 use Rattle.pl0_meaning.specs.declared.RunFault.TheVariants.{StepLimit}
 use Rattle.pl0_meaning.specs.Values.{Configuration}
 use Rattle.pl0_meaning.specs.Laws.{PositionsAreBounded}
 
 -- nothing is alive after the end
-over : (b : Bool) → frames_of (led_to (if b then Faults StepLimit else Over)) ≡ []
+over : (b : Bool) → frames_of (led_to (if b then Faults StepLimit else Stuck)) ≡ []
 over true = refl
 over false = refl
 
@@ -36,7 +36,7 @@ pub not_over : (main : Block) (n : ℕ) → RunsAt main n → ¬ (at main n ≡ 
 not_over main n h is = omega (arith, subst (λ o. 0 < length (frames_of o)) is h)
 
 fails_nowhere : (main : Block) (n : ℕ) (o : Option Configuration) (fault : RunFault)
-    → option_map_or (step_at main n) o Over ≡ Faults fault → ¬
+    → option_map_or (step_at main n) o Stuck ≡ Faults fault → ¬
     (0 < length (frames_of (option_and_then (λ c. led_to (step_at main n c)) o)))
 fails_nowhere main n None fault is h = omega (arith, h)
 fails_nowhere main n (Some c) fault is h =

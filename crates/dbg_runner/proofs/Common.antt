@@ -27,7 +27,7 @@ pub use Rattle.dbg_runner.specs.Turns.{going, heading_of_course, held_at, held_i
 pub use Rattle.dbg_runner.specs.declared.outcome.SliceOutcome.{SliceOutcome}
 pub use Rattle.dbg_runner.specs.declared.retreat.Way.TheVariants.{Returns, Searches}
 pub use Rattle.pl0_machine.specs.Machine.{frames_of, outcome_of, program, Standing}
-pub use Rattle.pl0_meaning.specs.Runs.{at, Faults, last_position, led_to, Outcome, outcome, Over, step_at, written, written_by, written_from}
+pub use Rattle.pl0_meaning.specs.Runs.{at, Faults, last_position, led_to, Outcome, outcome, Stuck, step_at, written, written_by, written_from}
 pub use Rattle.pl0_meaning.specs.declared.RunFault.{RunFault}
 pub use Rattle.pl0_tree.specs.Tree.{Block}
 pub use Rattle.std.proofs.Common.{[], add-one, ap, append-nil, append_assoc, arith, Bool, Box, box_value, false, filter, Global, IfSome, if◌then◌else◌, inl, inr, is_some, length, List, min, nat_eq, nat_le, None, Option, option_map, refl, Some, subst, suc, sym, true, zero, ℕ, ℤ, ⊎_elim, ◌*◌, ◌++◌, ◌+◌, ◌-◌, ◌<◌, ◌∙◌, ◌∷◌, ◌≡◌, ◌≢◌, ◌≤◌, ◌⊎◌}

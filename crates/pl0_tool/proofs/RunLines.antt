@@ -3,7 +3,7 @@ use Rattle.pl0_tool.proofs.Common.{[], ahead, ap, append-nil, append_assoc, arit
 use Rattle.pl0_meaning.specs.SharedLemmas.{written-next}
 use Rattle.pl0_meaning.specs.declared.RunFault.{RunFault}
 use Rattle.pl0_meaning.specs.declared.RunFault.TheVariants.{Depth, StepLimit}
-use Rattle.pl0_meaning.specs.Runs.{Outcome, Goes, Faults, Over, at, led_to, outcome, step_at, step, frame_step, statement_step, on_value, entered, callee, assigned, doing, opened, frame_limit, last_position, written, written_by}
+use Rattle.pl0_meaning.specs.Runs.{Outcome, Goes, Faults, Stuck, at, led_to, outcome, step_at, step, frame_step, statement_step, on_value, entered, callee, assigned, doing, opened, frame_limit, last_position, written, written_by}
 use Rattle.pl0_machine.specs.declared.outcome.StepOutcome.{StepOutcome}
 use Rattle.pl0_tool.specs.declared.running.RunEnd.TheVariants.{Ended, Faulted, WriteFailed}
 
@@ -50,7 +50,7 @@ enters : (b : Bool) (c : Configuration) → WritesFirst (cond b (Goes None c) (F
 enters true c = tt
 enters false c = tt
 
-calls : (o : Option Frame) (c : Configuration) → WritesFirst (option_map_or (entered c) o Over)
+calls : (o : Option Frame) (c : Configuration) → WritesFirst (option_map_or (entered c) o Stuck)
 calls None c = tt
 calls (Some f) c = enters (nat_lt (length c) frame_limit) (f ∷ c)
 
@@ -84,7 +84,7 @@ of_position : (main : Block) (b : Bool) (c : Configuration) → WritesFirst (con
 of_position main true c = tt
 of_position main false c = of_step main c
 
-of_outcome : (main : Block) (n : ℕ) (o : Option Configuration) → WritesFirst (option_map_or (step_at main n) o Over)
+of_outcome : (main : Block) (n : ℕ) (o : Option Configuration) → WritesFirst (option_map_or (step_at main n) o Stuck)
 of_outcome main n None = tt
 of_outcome main n (Some c) = of_position main (nat_eq n last_position) c
 
@@ -124,7 +124,7 @@ step_wrote a last new told le stepped = by_outcome (outcome_of last) refl steppe
         ap (λ (m : Standing). written (program last) a m.position) s.1
         ∙ sym (append-nil (written (program last) a last.position))
         ∙ ap (λ t. written (program last) a last.position ++ told_numbers t) (sym s.0)
-    by_outcome Over is s = absurd s
+    by_outcome Stuck is s = absurd s
 
 step_ahead : (last new : Standing) (told : StepOutcome) → Stepped (outcome_of last) last told new
     → (n : ℕ) × (new ≡ ahead last n)
@@ -135,7 +135,7 @@ step_ahead last new told stepped = by_outcome (outcome_of last) stepped
     by_outcome (Faults fault) s =
         let e : last.position ≡ last.position + 0 = omega arith in
         (0, s.1 ∙ ap (λ p. record last { position = p }) e)
-    by_outcome Over s = absurd s
+    by_outcome Stuck s = absurd s
 
 -- ---- many steps
 
@@ -178,7 +178,7 @@ done_is last new stepped = by_outcome (outcome_of last) refl stepped
     by_outcome (Goes number []) is s = ((number, is), s.1)
     by_outcome (Goes number (f ∷ below)) is s = let other : Done ≡ Went number = s.0 in cc
     by_outcome (Faults fault) is s = let other : Done ≡ Fault fault = s.0 in cc
-    by_outcome Over is s = absurd s
+    by_outcome Stuck is s = absurd s
 
 pub fault_is : (last new : Standing) (fault : RunFault) → Stepped (outcome_of last) last (Fault fault) new
     → outcome_of new ≡ Faults fault
@@ -190,7 +190,7 @@ fault_is last new fault stepped = by_outcome (outcome_of last) refl stepped
     by_outcome (Faults other) is s =
         let same : other ≡ fault = let e : Fault fault ≡ Fault other = s.0 in cc in
         ap (λ (m : Standing). outcome_of m) s.1 ∙ is ∙ ap Faults same
-    by_outcome Over is s = absurd s
+    by_outcome Stuck is s = absurd s
 
 -- after a step that goes on the program runs
 pub runs_on : (last new : Standing) (number : Option ℤ) → Stepped (outcome_of last) last (Went number) new
@@ -205,7 +205,7 @@ runs_on last new number stepped = by_outcome (outcome_of last) refl stepped
         let some : 0 < length (f ∷ below) = omega arith in
         subst (λ (m : Standing). 0 < depth_of m) (sym s.1) (subst (λ o. 0 < length (frames_of o)) (sym there) some)
     by_outcome (Faults fault) is s = let other : Went number ≡ Fault fault = s.0 in cc
-    by_outcome Over is s = absurd s
+    by_outcome Stuck is s = absurd s
 
 -- ---- a run up to now, and on
 

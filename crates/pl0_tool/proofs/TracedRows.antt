@@ -1,7 +1,7 @@
 -- What a trace tells: rows that are added one by one, and positions to which a run doesn't come.
 use Rattle.pl0_tool.proofs.Common.{[], ap, AreRows, arith, at_next, at_position, Block, Bool, cond, Configuration, depth_of, Err, false, Fault, Frame, frame_of, frames_of, Global, IfOk, IsFrameRow, IsRow, IsTold, length, length_push, List, nat_eq, None, number_of, numbers_in, Ok, Option, option_map_or, outcome_of, program, RanOn, refl, Result, same_Some, slice_get, Some, Standing, Stepped, subst, suc, sym, take, take_all, true, variables_of, Vec, Went, zero, ℕ, ℤ, ◌++◌, ◌+◌, ◌-◌, ◌<◌, ◌∙◌, ◌∷◌, ◌≡◌, ◌≤◌}
 use Rattle.pl0_meaning.specs.declared.RunFault.TheVariants.{StepLimit}
-use Rattle.pl0_meaning.specs.Runs.{Outcome, Goes, Faults, Over, at, led_to, outcome, step_at, step, last_position}
+use Rattle.pl0_meaning.specs.Runs.{Outcome, Goes, Faults, Stuck, at, led_to, outcome, step_at, step, last_position}
 use Rattle.pl0_machine.specs.declared.outcome.StepOutcome.{StepOutcome}
 use Rattle.pl0_tool.specs.declared.tracing.FrameRow.{FrameRow}
 use Rattle.pl0_tool.specs.declared.tracing.Row.{Row}
@@ -64,7 +64,7 @@ all_numbers (Some f) n is = take_all n f.numbers (omega (arith, is))
 -- ---- positions without frames
 
 dead_step : (main : Block) (n : ℕ) (o : Option Configuration) → length (frames_of o) ≡ 0
-    → led_to (option_map_or (step_at main n) o Over) ≡ None
+    → led_to (option_map_or (step_at main n) o Stuck) ≡ None
 dead_step main n None e = refl
 dead_step main n (Some []) e = dead (nat_eq n last_position)
   where
@@ -102,7 +102,7 @@ none_behind m new outcome stepped stop = by_outcome (outcome_of m) refl stepped
     by_outcome (Goes number []) is s = led (Goes number []) is
     by_outcome (Goes number (f ∷ below)) is s = absurd (subst IsStop s.0 stop)
     by_outcome (Faults fault) is s = led (Faults fault) is
-    by_outcome Over is s = absurd s
+    by_outcome Stuck is s = absurd s
 
 -- ---- one step
 
@@ -111,7 +111,7 @@ pub told_so : (m new : Standing) (outcome : StepOutcome) → Stepped (outcome_of
 told_so m new outcome stepped = by_outcome (outcome_of m) stepped
   where
     by_outcome : (o : Outcome) → Stepped o m outcome new → IsTold o outcome
-    by_outcome Over s = absurd s
+    by_outcome Stuck s = absurd s
     by_outcome _ s = s.0
 
 -- a step that goes on leads to the next position
@@ -122,7 +122,7 @@ went_on m new number stepped = by_outcome (outcome_of m) stepped
     by_outcome : (o : Outcome) → Stepped o m (Went number) new → new ≡ at_position m (m.position + 1)
     by_outcome (Goes other c) s = s.1
     by_outcome (Faults fault) s = let other : Went number ≡ Fault fault = s.0 in cc
-    by_outcome Over s = absurd s
+    by_outcome Stuck s = absurd s
 
 -- ---- going to a position
 

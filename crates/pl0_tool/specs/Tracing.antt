@@ -3,7 +3,7 @@ use Rattle.std.specs.Prelude.{◌≡◌, ◌<◌, ◌≤◌, ℕ, ◌+◌, ◌-�
 use Rattle.pl0_tree.specs.Tree.{Block}
 use Rattle.pl0_tree.specs.Steps.{StepAt, blocks}
 use Rattle.pl0_meaning.specs.Values.{Frame, next_step}
-use Rattle.pl0_meaning.specs.Runs.{Outcome, Goes, Faults, Over}
+use Rattle.pl0_meaning.specs.Runs.{Outcome, Goes, Faults, Stuck}
 use Rattle.pl0_machine.specs.declared.outcome.StepOutcome.{StepOutcome}
 use Rattle.pl0_machine.specs.declared.outcome.StepOutcome.TheVariants.{Fault}
 use Rattle.pl0_machine.specs.Machine.{Standing, program, frames, frame_of, depth_of, top_of, outcome_of, told}
@@ -47,7 +47,7 @@ step_before m = option_and_then (next_step (program m)) (top_of (frames m))
 abbrev pub IsTold : Outcome → StepOutcome → Type 0
 IsTold (Goes written c) outcome = outcome ≡ told written c
 IsTold (Faults fault) outcome = outcome ≡ Fault fault
-IsTold Over outcome = ⊥
+IsTold Stuck outcome = ⊥
 
 -- a row tells the position at which a machine stands, and draws the machine if it is to
 pub record IsRow (drawn : Bool) (m : Standing) (row : Row) : Type 0 where
