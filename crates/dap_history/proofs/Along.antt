@@ -1,5 +1,5 @@
 -- What holds along a history: what holds at first and is kept by each item that is taken.
-use Rattle.dap_history.proofs.Common.{Accepted, Accepts, AreLawful, Content, Ending, Err, Fault, File, FirstSeq, History, Incoming, InputEnd, IsAfter, IsHistoryOf, IsLawful, IsTaking, Item, Launch, LeadsByEvent, LeadsByEvents, LeadsByFile, LeadsByPiece, LeadsByReport, LoadFault, Loaded, Loads, MayTake, MemoryFailure, NoMemory, None, Ok, Option, Piece, PlainReport, ReadFailed, ReadFailure, Ready, Report, Request, Rest, Situation, Some, Takes, [], ap, closed, closing, ending_of, faulty, inl, inr, one_more, only_bytes, open_ended, or_else, refl, situation, subst, sym, waits, wanted_in, ℕ, ◌++◌, ◌∙◌, ◌∷◌, ◌≡◌}
+use Rattle.dap_history.proofs.Common.{Accepted, Accepts, AreLawful, Content, Ending, Err, Fault, File, FirstSeq, History, Incoming, InputEnd, IsAfter, IsHistoryOf, IsLawfulReport, IsTaking, Item, Launch, LeadsByEvent, LeadsByEvents, LeadsByFile, LeadsByPiece, LeadsByReport, LoadFault, Loaded, Loads, MayTake, MemoryFailure, NoMemory, None, Ok, Option, Piece, PlainReport, ReadFailed, ReadFailure, Ready, Report, Request, Rest, Situation, Some, Takes, [], ap, closed, closing, ending_of, faulty, inl, inr, one_more, only_bytes, open_ended, or_else, refl, situation, subst, sym, waits, wanted_in, ℕ, ◌++◌, ◌∙◌, ◌∷◌, ◌≡◌}
 use Rattle.std.proofs.Common.{List, Result}
 use Rattle.dap_history.specs.declared.fault.LoadFault.TheVariants as load_fault
 use Rattle.dap_history.proofs.Readings.{ending_of-snoc}
@@ -30,7 +30,7 @@ any_events [] = tt
 any_events (e ∷ events) = (tt, any_events events)
 
 abbrev pub IsLawfulEvent : Incoming → Type 0
-IsLawfulEvent (Report r) = IsLawful r
+IsLawfulEvent (Report r) = IsLawfulReport r
 IsLawfulEvent _ = Unit {0}
 
 pub lawful_events : (events : List Incoming) → AreLawful events → AllEvents IsLawfulEvent events

@@ -1,5 +1,5 @@
 -- The logs reported are those of the positions considered.
-use Rattle.dap_history.proofs.Common.{Accepted, Accepts, Block, Breakpoint, Causes, EndsBy, Heading, History, Incoming, IsLawful, IsPassed, Launched, LogsAreSaid, None, PlainReport, SliceOutcome, Some, Step, Went, WentOn, WrittenJoins, [], all_runs, ap, append-nil, arith, at, cases_lt, cons_option, end_in, faults, filter_map, flat_map, flat_map-append, go, goes_back, if◌then◌else◌, inl, inr, is_due, lacks_memory, launched, logs_told, range_with_len, refl, run_end, run_texts, runs, subst, sym, takes_all, text_of_log, unwrap_or, ℕ, ◌++◌, ◌+◌, ◌-◌, ◌<◌, ◌∙◌, ◌∷◌, ◌≡◌, ◌≤◌, ◌⊎◌}
+use Rattle.dap_history.proofs.Common.{Accepted, Accepts, Block, Breakpoint, Causes, EndsBy, Heading, History, Incoming, IsLawfulReport, IsPassed, Launched, LogsAreSaid, None, PlainReport, SliceOutcome, Some, Step, Went, WentOn, WrittenJoins, [], all_runs, ap, append-nil, arith, at, cases_lt, cons_option, end_in, faults, filter_map, flat_map, flat_map-append, go, goes_back, if◌then◌else◌, inl, inr, is_due, lacks_memory, launched, logs_told, range_with_len, refl, run_end, run_texts, runs, subst, sym, takes_all, text_of_log, unwrap_or, ℕ, ◌++◌, ◌+◌, ◌-◌, ◌<◌, ◌∙◌, ◌∷◌, ◌≡◌, ◌≤◌, ◌⊎◌}
 use Rattle.std.proofs.Common.{List, Bool, true, false, append_assoc}
 use Rattle.std.specs.Prelude.{map, ◌&&◌}
 use Rattle.std.specs.List.{enumerate_from}
@@ -161,7 +161,7 @@ module _ (Q : Incoming → Type 0) (past : History) (step : Step) (taken : IsTak
 
 module _ (one : OneProgram) (joins : WrittenJoins) (said : LogsAreSaid) where
   module _ (past : History) (step : Step) (r : PlainReport) (item_is : step.item ≡ Accepted r)
-      (accepts : Accepts past r) (lawful : IsLawful r) (ran : Ran one joins past) (counted : Counted past)
+      (accepts : Accepts past r) (lawful : IsLawfulReport r) (ran : Ran one joins past) (counted : Counted past)
       (l : Launched) (is : launched past ≡ Some l) where
     abbrev run : Heading
     run = accepts.run

@@ -1,5 +1,5 @@
 -- A run passes no position that is due, and none was ordered before `configurationDone`.
-use Rattle.dap_history.proofs.Common.{Accepted, Accepts, Block, Body, Causes, Command, CommandName, Configuring, Content, Effect, Ended, EndsBy, Err, Event, EventBody, Faulted, Go, GoesBackBy, HasEffect, Heading, History, Hold, Incoming, IsLawful, IsPassed, Item, Launch, Launched, Launches, Loaded, None, NoneDueBefore, NoneDueUpTo, Ok, Option, Outgoing, PlainOrder, PlainReport, Quit, Reason, Refusal, RepliesIn, Reply, Running, Situation, SliceOutcome, Some, Step, Stopped, WentBack, WentOn, WrittenJoins, [], answer_mark, ap, arith, cases_lt, command_mark, due, due_in, end_of, event_mark, exited_events, faults, go, goes_back, has_come, has_no_memory, inl, inr, is_spent, lacks_memory, last_run, last_such, launched, message_mark, messages, name_of, or_else, order_mark, refl, report_effect, situation, step_mark, stop_of, stopped_events, subst, sym, takes_all, unwrap_or, with_answer, ℕ, ⊎_elim, ◌<◌, ◌∙◌, ◌∷◌, ◌≡◌, ◌≤◌, ◌⊎◌}
+use Rattle.dap_history.proofs.Common.{Accepted, Accepts, Block, Body, Causes, Command, CommandName, Configuring, Content, Effect, Ended, EndsBy, Err, Event, EventBody, Faulted, Go, GoesBackBy, HasEffect, Heading, History, Hold, Incoming, IsLawfulReport, IsPassed, Item, Launch, Launched, Launches, Loaded, None, NoneDueBefore, NoneDueUpTo, Ok, Option, Outgoing, PlainOrder, PlainReport, Quit, Reason, Refusal, RepliesIn, Reply, Running, Situation, SliceOutcome, Some, Step, Stopped, WentBack, WentOn, WrittenJoins, [], answer_mark, ap, arith, cases_lt, command_mark, due, due_in, end_of, event_mark, exited_events, faults, go, goes_back, has_come, has_no_memory, inl, inr, is_spent, lacks_memory, last_run, last_such, launched, message_mark, messages, name_of, or_else, order_mark, refl, report_effect, situation, step_mark, stop_of, stopped_events, subst, sym, takes_all, unwrap_or, with_answer, ℕ, ⊎_elim, ◌<◌, ◌∙◌, ◌∷◌, ◌≡◌, ◌≤◌, ◌⊎◌}
 use Rattle.std.proofs.Common.{List, true}
 use Rattle.std.specs.Prelude.{map, Result}
 use Rattle.dap_msg.specs.declared.command.Command.TheVariants as command
@@ -314,7 +314,7 @@ module _ (one : OneProgram) (joins : WrittenJoins) where
         → position past ≡ run.start
 
   -- the report is of the launched program, the last run, and what that run passed
-  module _ (past : History) (r : PlainReport) (accepts : Accepts past r) (lawful : IsLawful r) (ran : Ran past)
+  module _ (past : History) (r : PlainReport) (accepts : Accepts past r) (lawful : IsLawfulReport r) (ran : Ran past)
       (l : Launched) (is : launched past ≡ Some l) where
     abbrev run : Heading
     run = accepts.run

@@ -5,11 +5,11 @@ use Rattle.std.specs.Prelude.{option_map, option_and_then}
 use Rattle.std.proofs.Math.Bridge.{le_prop}
 use Rattle.pl0_tree.specs.declared.tree.Place.{Place}
 use Rattle.pl0_tree.specs.declared.step.StepKind.TheVariants as kind
-use Rattle.pl0_tree.specs.Tokens.{Token, behind, is_space, front_piece, tokens_from, tokens_of, start}
+use Rattle.pl0_tree.specs.Tokens.{Token, behind, is_space, front_piece, tokens_from, tokens_of, start_place}
 use Rattle.pl0_tree.specs.Tree.{Condition, Statement, Empty, Then, Assign, Call, Write, If, While, Constant, ABlock, Procedures, NoMore, AProcedure, Procedure, procedure_list, body, end}
 use Rattle.pl0_tree.specs.Reading.{ReadsExpression, unsigned, positive, negative, ReadsMoreTerms, no_term, one_term, ReadsTerm, factors, ReadsMoreFactors, no_factor, one_factor, ReadsFactor, name, number, nested, ReadsCondition, odd, comparison, ReadsStatement, empty, assignment, call, write, sequence, choice, loop, ReadsStatements, last_statement, one_statement, ReadsConstants, last_constant, one_constant, ReadsConstantPart, no_constants, constants, ReadsVariables, last_variable, one_variable, ReadsVariablePart, no_variables, variables, ReadsBlock, block, ReadsProcedures, no_procedure, one_procedure, ReadsProgram, program}
 use Rattle.pl0_tree.specs.Scope.{block_at, procedure_at, Meaning, AConstant, AVariable, AProcedure as ProcedureIndex, Home, home}
-use Rattle.pl0_tree.specs.Steps.{step, statement_steps, block_steps, procedures_steps}
+use Rattle.pl0_tree.specs.Steps.{lone_step, statement_steps, block_steps, procedures_steps}
 use Rattle.pl0_tree.specs.Faults.{limit}
 use Rattle.pl0_meaning.specs.Values.{find, truth, return_of, first_step}
 use Rattle.pl0_meaning.specs.Runs.{opened, Outcome, Goes, Faults, Stuck, on_value, with_number, target, assigned, new_frame, callee, entered, called, returned, statement_step, frame_step, led_to, last_position, step_at}
@@ -59,7 +59,7 @@ tokens_near_from (b ∷ bytes) p zero room =
     (λ taken. tokens_near_from bytes (behind p b) taken (behind_room (eqb b 10) p (length bytes) room))
 
 tokens_near : (text : List ℕ) → length text ≤ limit → TokensNear (tokens_of text)
-tokens_near text short = tokens_near_from text start 0 (omega (arith, short), omega (arith, short))
+tokens_near text short = tokens_near_from text start_place 0 (omega (arith, short), omega (arith, short))
 
 -- ---- trees
 
@@ -220,9 +220,9 @@ statement_steps_near (While p c inner) q near = (near.0, statement_steps_near in
 mutual
   block_steps_near : (b : Block) (q : Path) → BlockNear b → StepsNear (block_steps b q)
   block_steps_near (ABlock cs xs ps statement ending) q near =
-      steps_near-append (procedures_steps ps 0 q) (statement_steps statement q ++ step q kind.Return ending)
+      steps_near-append (procedures_steps ps 0 q) (statement_steps statement q ++ lone_step q kind.Return ending)
       (procedures_steps_near ps 0 q near.0)
-      (steps_near-append (statement_steps statement q) (step q kind.Return ending)
+      (steps_near-append (statement_steps statement q) (lone_step q kind.Return ending)
       (statement_steps_near statement q near.1) (near.2, tt))
 
   procedures_steps_near : (ps : Procedures) (i : ℕ) (q : Path) → ProceduresNear ps → StepsNear (procedures_steps ps i q)

@@ -1,5 +1,5 @@
 -- The numbers reported are those that the program wrote, step by step.
-use Rattle.dap_history.proofs.Common.{Accepted, Accepts, Answers, Causes, Configuring, Content, Effect, Event, Fault, Fresh, HasEffect, Heading, History, InputEnd, IsLawful, IsTreeOf, Item, Launch, Launched, Launches, Loaded, MemoryFailure, None, Option, PlainReport, Quit, ReadFailure, Ready, Reply, Situation, Some, Step, WrittenJoins, [], answer_mark, ap, append-nil, arith, end_of, filter_map, go, goes_back, inl, inr, last_run, last_such, launched, launches, max, message_mark, messages, messages_of, name_of, nothing, numbers, or_else, order_mark, ordering, output, reached, refl, report_effect, situation, step_mark, subst, sym, unwrap_or, with_answer, written, ℕ, ◌++◌, ◌∙◌, ◌∷◌, ◌≡◌, ◌≤◌, ◌⊎◌}
+use Rattle.dap_history.proofs.Common.{Accepted, Accepts, Answers, Causes, Configuring, Content, Effect, Event, Fault, Fresh, HasEffect, Heading, History, InputEnd, IsLawfulReport, IsTreeOf, Item, Launch, Launched, Launches, Loaded, MemoryFailure, None, Option, PlainReport, Quit, ReadFailure, Ready, Reply, Situation, Some, Step, WrittenJoins, [], answer_mark, ap, append-nil, arith, end_of, filter_map, go, goes_back, inl, inr, last_run, last_such, launched, launches, max, message_mark, messages, messages_of, name_of, nothing, numbers, or_else, order_mark, ordering, output, reached, refl, report_effect, situation, step_mark, subst, sym, unwrap_or, with_answer, written, ℕ, ◌++◌, ◌∙◌, ◌∷◌, ◌≡◌, ◌≤◌, ◌⊎◌}
 use Rattle.std.proofs.Common.{List, Bool}
 use Rattle.std.specs.Prelude.{map}
 use Rattle.dap_msg.specs.declared.outgoing.EventBody.TheVariants as event
@@ -124,7 +124,7 @@ module _ (one : OneProgram) (joins : WrittenJoins) where
   report_text past r l accepts progress =
       ap (λ (h : Heading). h.text) accepts.expected ∙ progress.1 accepts.run accepts.run_is
 
-  pub report_program : (past : History) (r : PlainReport) (lawful : IsLawful r) (l : Launched) → Accepts past r
+  pub report_program : (past : History) (r : PlainReport) (lawful : IsLawfulReport r) (l : Launched) → Accepts past r
       → ProgressOf past (Some l) → lawful.program ≡ l.program
   report_program past r lawful l accepts progress =
       one l.text _ _ (subst (λ t. ∥ IsTreeOf t lawful.program ∥₁) (report_text past r l accepts progress) lawful.reads)
@@ -138,7 +138,7 @@ module _ (one : OneProgram) (joins : WrittenJoins) where
       let same : other ≡ run = cc in ap (λ (r : Heading). r.text) (sym same) ∙ is
 
   report_progress : (past : History) (r : PlainReport) (step : Step) → step.item ≡ Accepted r
-      → HasEffect (report_effect past r r.outcome) step → Accepts past r → IsLawful r
+      → HasEffect (report_effect past r r.outcome) step → Accepts past r → IsLawfulReport r
       → (l : Option Launched) → ProgressOf past l → ProgressOf (past ++ step ∷ []) l
   report_progress past r step is has accepts lawful None progress =
       absurd (let e = sym progress.1 ∙ accepts.run_is in cc)
@@ -169,7 +169,7 @@ module _ (one : OneProgram) (joins : WrittenJoins) where
       )
 
   report_keeps : (past : History) (r : PlainReport) (step : Step) → step.item ≡ Accepted r
-      → HasEffect (report_effect past r r.outcome) step → Accepts past r → IsLawful r → Progress past
+      → HasEffect (report_effect past r r.outcome) step → Accepts past r → IsLawfulReport r → Progress past
       → Progress (past ++ step ∷ [])
   report_keeps past r step is has accepts lawful so_far = record {
     early = λ e. launch_same ∙ so_far.early

@@ -1,5 +1,5 @@
 -- Each stop is where it has to be.
-use Rattle.dap_history.proofs.Common.{Accepted, Accepts, Block, Causes, Content, Effect, EndsBy, GoesBackBy, Heading, History, IsLawful, IsPassed, IsRetreatsStop, IsRightStop, IsRunsStop, IsStopOf, Item, Launch, Launched, Launches, Loaded, None, NoneDueBefore, NoneDueUpTo, Option, PlainReport, Ready, Reason, Reply, SliceOutcome, Some, Step, StopReason, Went, WentOn, WrittenJoins, [], ap, arith, due_in, end_of, exception_of, exited_events, faults, go, goal_of, goes_back, has_come, held_effect, inl, inr, is_due, last_run, last_such, launched, or_else, order_mark, refl, report_effect, situation, step_mark, stop_in, stop_of, stop_of_event, stopped_events, subst, sym, unwrap_or, waiting_pause, ℕ, ◌++◌, ◌<◌, ◌∙◌, ◌∷◌, ◌≡◌, ◌≤◌, ◌⊎◌}
+use Rattle.dap_history.proofs.Common.{Accepted, Accepts, Block, Causes, Content, Effect, EndsBy, GoesBackBy, Heading, History, IsLawfulReport, IsPassed, IsRetreatsStop, IsRightStop, IsRunsStop, IsStopOf, Item, Launch, Launched, Launches, Loaded, None, NoneDueBefore, NoneDueUpTo, Option, PlainReport, Ready, Reason, Reply, SliceOutcome, Some, Step, StopReason, Went, WentOn, WrittenJoins, [], ap, arith, due_in, end_of, exception_of, exited_events, faults, go, goal_of, goes_back, has_come, held_effect, inl, inr, is_due, last_run, last_such, launched, or_else, order_mark, refl, report_effect, situation, step_mark, stop_in, stop_of, stop_of_event, stopped_events, subst, sym, unwrap_or, waiting_pause, ℕ, ◌++◌, ◌<◌, ◌∙◌, ◌∷◌, ◌≡◌, ◌≤◌, ◌⊎◌}
 use Rattle.std.proofs.Common.{List, Bool, true, false}
 use Rattle.dap_msg.specs.declared.outgoing.StopReason.TheVariants as stop
 use Rattle.pl0_meaning.specs.Runs.{outcome}
@@ -226,7 +226,7 @@ module _ (one : OneProgram) (joins : WrittenJoins) where
   due_stop l run m reason.Step is = (reason.Step, refl, is.0, is.1, is.2)
 
   -- a report stops its run where it has to
-  module _ (past : History) (r : PlainReport) (accepts : Accepts past r) (lawful : IsLawful r)
+  module _ (past : History) (r : PlainReport) (accepts : Accepts past r) (lawful : IsLawfulReport r)
       (ran : Ran one joins past) (l : Launched) (is : launched past ≡ Some l) where
     abbrev run : Heading
     run = accepts.run
@@ -311,7 +311,7 @@ module _ (one : OneProgram) (joins : WrittenJoins) where
         by_went false mode went = stops_on went r.outcome went.outcome s so_far
         by_went true mode went = stops_back mode r.outcome went.outcome s so_far
 
-  report_stops : (past : History) (r : PlainReport) → Accepts past r → IsLawful r → Ran one joins past
+  report_stops : (past : History) (r : PlainReport) → Accepts past r → IsLawfulReport r → Ran one joins past
       → (s : StopReason) → last_such stop_of_event (report_effect past r r.outcome).events ≡ Some s
       → (l : Option Launched) → launched past ≡ l → RightStop past s r.end
   report_stops past r accepts lawful ran s so_far None is =

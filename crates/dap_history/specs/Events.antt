@@ -7,7 +7,7 @@ use Rattle.dap_msg.specs.declared.request.FirstSeq.{FirstSeq}
 use Rattle.dap_msg.specs.declared.request.Request.{Request}
 use Rattle.dap_msg.specs.Request.{IsRequestFrom}
 use Rattle.dbg_runner.specs.Plain.{PlainReport}
-use Rattle.dbg_runner.specs.Lawful.{IsLawful}
+use Rattle.dbg_runner.specs.Lawful.{IsLawfulReport}
 use Rattle.dap_history.specs.declared.fault.LoadFault.{LoadFault}
 use Rattle.dap_history.specs.declared.fault.LoadFault.TheVariants as load_fault
 use Rattle.dap_history.specs.declared.launch.Launch.{Launch}
@@ -29,7 +29,7 @@ pub data Incoming : Type 0 where
 -- Each report says what the meaning of its program says. The type of a report guarantees this.
 abbrev pub AreLawful : List Incoming → Type 0
 AreLawful [] = Unit {0}
-AreLawful (Report r ∷ events) = IsLawful r × AreLawful events
+AreLawful (Report r ∷ events) = IsLawfulReport r × AreLawful events
 AreLawful (e ∷ events) = AreLawful events
 
 -- The first number that the client may use, and what came and isn't taken yet: a launch that waits for its file, and

@@ -17,7 +17,7 @@ use Rattle.dap_msg.specs.declared.outgoing.Refusal.{Refusal}
 use Rattle.dap_msg.specs.declared.outgoing.Refusal.TheVariants as refusal
 use Rattle.pl0_tree.specs.Tree.{Name, Block, Expression, variables}
 use Rattle.pl0_tree.specs.Scope.{Path, block_at}
-use Rattle.pl0_tree.specs.Blocks.{name_at}
+use Rattle.pl0_tree.specs.Blocks.{name_of_block}
 use Rattle.pl0_tree.specs.Steps.{StepAt}
 use Rattle.pl0_tree.specs.Faults.{IsExpressionOf}
 use Rattle.pl0_meaning.specs.declared.RunFault.{RunFault}
@@ -45,7 +45,7 @@ HasNone c id = (f : Frame) → ¬ HasId c id f
 -- the name of a block's frames: `main`, or the procedure's
 abbrev pub IsBlockName : Block → Path → List ℕ → Type 0
 IsBlockName main [] word = word ≡ codes "main"
-IsBlockName main (k ∷ q) word = (x : Name) → name_at main (k ∷ q) ≡ Some x → word ≡ x.word
+IsBlockName main (k ∷ q) word = (x : Name) → name_of_block main (k ∷ q) ≡ Some x → word ≡ x.word
 
 -- What is shown of a frame: its id, its name, and where its next step stands, as the client counts.
 pub record ShowsFrame (main : Block) (counting : InitializeArguments) (f : Frame) (id : ℕ) (shown : StackFrame)

@@ -3,7 +3,7 @@ use Rattle.std.specs.Prelude.{List, ℕ, Result}
 use Rattle.dap_msg.specs.declared.outgoing.Body.{Body}
 use Rattle.dap_msg.specs.declared.outgoing.Refusal.{Refusal}
 use Rattle.dap_msg.specs.declared.requests.initialize.InitializeArguments.{InitializeArguments}
-use Rattle.dbg_plan.specs.Debugged.{Debugged, program_of}
+use Rattle.dbg_plan.specs.Debugged.{Debugged, debugged_program}
 use Rattle.dap_history.specs.Breakpoints.{offset}
 use Rattle.dap_history.specs.Inspection.{Subject}
 use Rattle.dap_history.specs.Replies.{Reply, nothing}
@@ -12,7 +12,7 @@ use Rattle.dap_history.specs.Replies.{Reply, nothing}
 abbrev pub subject_of : Debugged → List ℕ → InitializeArguments → Subject
 subject_of d path settings =
     record {
-      program = program_of d;
+      program = debugged_program d;
       path = path;
       counting = record { lines = offset settings.lines_start_at_1; columns = offset settings.columns_start_at_1 };
     }

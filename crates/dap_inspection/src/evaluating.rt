@@ -2,7 +2,7 @@
 
 ghost use Rattle.std.specs.Prelude.{◌≡◌, ◌<◌, IfOk};
 ghost use Rattle.pl0_machine.specs.Machine.{program, frames, frame_of, depth_of};
-ghost use Rattle.dbg_plan.specs.Debugged.{machine_of, program_of, IsConsidered};
+ghost use Rattle.dbg_plan.specs.Debugged.{machine_of, debugged_program, IsConsidered};
 ghost use Rattle.dap_history.specs.Inspection.{Subject, RepliesFrom, result_reply};
 ghost use Rattle.dap_msg.specs.declared.question.Question.TheVariants as question;
 ghost use Rattle.dap_inspection.specs.Questions.{replied};
@@ -28,7 +28,7 @@ pub fn evaluate(
     asked: &EvaluateArguments,
 ) -> Result<Result<Body, Refusal>, AllocError>
     requires { IsConsidered debuggee.now }
-    ensures { (of : Subject) → of.program ≡ program_of debuggee.now → IfOk result (λ r. RepliesFrom of (frames (machine_of debuggee.now)) (question.Evaluate asked.now) (replied r)) }
+    ensures { (of : Subject) → of.program ≡ debugged_program debuggee.now → IfOk result (λ r. RepliesFrom of (frames (machine_of debuggee.now)) (question.Evaluate asked.now) (replied r)) }
 {
     let machine = debuggee.machine();
     let Some(frame) = frame_with_id(machine, asked.frame_id) else {

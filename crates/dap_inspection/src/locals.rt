@@ -3,7 +3,7 @@
 ghost use Rattle.std.specs.Prelude.{◌≡◌, ◌<◌, IfOk, length, map};
 ghost use Rattle.pl0_tree.specs.Plain.{plain_name};
 ghost use Rattle.pl0_machine.specs.Machine.{program, frames, frame_of, depth_of, variables_of};
-ghost use Rattle.dbg_plan.specs.Debugged.{machine_of, program_of, IsConsidered};
+ghost use Rattle.dbg_plan.specs.Debugged.{machine_of, debugged_program, IsConsidered};
 ghost use Rattle.dap_history.specs.Frames.{named};
 ghost use Rattle.dap_history.specs.Inspection.{Subject, RepliesFrom};
 ghost use Rattle.dap_msg.specs.declared.question.Question.TheVariants as question;
@@ -29,7 +29,7 @@ pub fn variables(
     asked: VariablesArguments,
 ) -> Result<Result<Body, Refusal>, AllocError>
     requires { IsConsidered debuggee.now }
-    ensures { (of : Subject) → of.program ≡ program_of debuggee.now → IfOk result (λ r. RepliesFrom of (frames (machine_of debuggee.now)) (question.Variables asked) (replied r)) }
+    ensures { (of : Subject) → of.program ≡ debugged_program debuggee.now → IfOk result (λ r. RepliesFrom of (frames (machine_of debuggee.now)) (question.Variables asked) (replied r)) }
 {
     let machine = debuggee.machine();
     let Some(frame) = frame_with_id(machine, asked.variables_reference) else {

@@ -2,7 +2,7 @@
 
 ghost use Rattle.std.specs.Prelude.{◌≡◌, ◌-◌, ◌<◌, ◌≤◌, IfOk};
 ghost use Rattle.pl0_machine.specs.Machine.{program, frames, frame_of, depth_of};
-ghost use Rattle.dbg_plan.specs.Debugged.{machine_of, program_of, IsConsidered};
+ghost use Rattle.dbg_plan.specs.Debugged.{machine_of, debugged_program, IsConsidered};
 ghost use Rattle.dap_history.specs.Frames.{scopes_from};
 ghost use Rattle.dap_history.specs.Inspection.{Subject, RepliesFrom};
 ghost use Rattle.dap_msg.specs.declared.question.Question.TheVariants as question;
@@ -26,7 +26,7 @@ pub fn scopes(
     asked: ScopesArguments,
 ) -> Result<Result<Body, Refusal>, AllocError>
     requires { IsConsidered debuggee.now }
-    ensures { (of : Subject) → of.program ≡ program_of debuggee.now → IfOk result (λ r. RepliesFrom of (frames (machine_of debuggee.now)) (question.Scopes asked) (replied r)) }
+    ensures { (of : Subject) → of.program ≡ debugged_program debuggee.now → IfOk result (λ r. RepliesFrom of (frames (machine_of debuggee.now)) (question.Scopes asked) (replied r)) }
 {
     let machine = debuggee.machine();
     let id = asked.frame_id as usize;

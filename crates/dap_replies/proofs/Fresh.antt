@@ -3,7 +3,7 @@ use Rattle.std.proofs.Common.{◌≡◌, ℕ, zero, suc, ◌+◌, ◌-◌, ◌<�
 use Rattle.std.proofs.Math.Seq.{drop-nil}
 use Rattle.pl0_tree.specs.Tree.{Block}
 use Rattle.pl0_meaning.specs.Runs.{Outcome, Goes, Faults, Stuck, outcome, written_by, written_from, written}
-use Rattle.dbg_runner.specs.Lawful.{Went, IsLawful}
+use Rattle.dbg_runner.specs.Lawful.{Went, IsLawfulReport}
 use Rattle.dbg_runner.specs.Plain.{PlainReport, goes_back}
 use Rattle.dbg_runner.specs.Reported.{Reported, plain_report}
 use Rattle.dap_msg.specs.declared.outgoing.EventBody.TheVariants as event
@@ -48,7 +48,7 @@ fits_by main r true before went told limit few ends =
     omega (arith, few, ap length went.numbers, length-drop (told - r.before) r.numbers)
 
 -- those reported before and those of a report are as few
-pub told_fits : (r : PlainReport) → IsLawful r → (told limit : ℕ) → told < limit → r.end < limit
+pub told_fits : (r : PlainReport) → IsLawfulReport r → (told limit : ℕ) → told < limit → r.end < limit
     → told + length (drop (told - r.before) r.numbers) < limit
 told_fits r is told limit few ends =
     fits_by is.program r (goes_back r.mode) is.lawful.before is.lawful.went told limit few ends

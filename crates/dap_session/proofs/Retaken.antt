@@ -5,7 +5,7 @@ use Rattle.dap_frame.specs.declared.fault.FramingFault.TheVariants as framing
 use Rattle.dap_frame.specs.Frame.{IsFrameInFront, IsOpen}
 use Rattle.dap_frame.specs.Header.{line_end, lines_of, line_of, HasFaultyLine, FaultAt}
 use Rattle.dap_msg.specs.declared.request.Request.{Request}
-use Rattle.dbg_runner.specs.Lawful.{IsLawful}
+use Rattle.dbg_runner.specs.Lawful.{IsLawfulReport}
 use Rattle.dbg_runner.specs.Plain.{PlainReport}
 use Rattle.dap_msg.specs.declared.request.FirstSeq.{FirstSeq}
 use Rattle.dap_history.specs.declared.ending.Ending.{Ending}
@@ -144,7 +144,7 @@ load_given {f = f} retaken None new taking after =
 
 report_given : {f : FirstSeq} {past : History} {launch : Option Launch} → Retaken f past launch
     → (r : PlainReport) (new : History)
-    → IsLawful r → IsTaking past → Accepts past r → IsAfter past (Accepted r) new → Retaken f new launch
+    → IsLawfulReport r → IsTaking past → Accepts past r → IsAfter past (Accepted r) new → Retaken f new launch
 report_given {f = f} {launch = launch} retaken r new law taking accepts after =
     one_event retaken (Report r) new (only_launch f launch) launch (law, tt) taking (inr (taking, accepts, after), refl)
     (λ still. refl)

@@ -16,7 +16,7 @@ use Rattle.dbg_plan.specs.Breakpoints.{Breakpoint, plain_breakpoints}
 use Rattle.dbg_plan.specs.Plans.{Listed, IsPlanOf, watched_lines, has_breakpoint, breakpoints_of}
 use Rattle.dbg_plan.specs.Table.{AreMarksOf}
 use Rattle.dbg_plan.specs.Debugged.{IsRunning}
-use Rattle.pl0_machine.specs.Stretches.{ahead, IsMet, CanAsk, IsTable, HasMark, IsPassed, Stretches}
+use Rattle.pl0_machine.specs.Stretches.{ahead, IsMet, CanAsk, IsTable, HasMark, IsUnseen, Stretches}
 use Rattle.dbg_plan.specs.Running.{has_arrival, IsQuiet, RanQuietly}
 use Rattle.dbg_plan.specs.Quiet.{Watches, RanByMachine}
 use Rattle.dbg_plan.specs.Counting.{MayBePlanOf}
@@ -152,7 +152,7 @@ module _ (laws : FramesAreLinked) (plan : Option Listed) where
 
 module _ (laws : FramesAreLinked) (limit : ℕ) (plan : Option Listed) (marks : Option Marks)
     (watches : Watches plan marks) where
-  quiet_passed : (m : Standing) → MayBePlanOf m.unit plan → IsPassed marks m → IsQuiet (breakpoints_of plan) m
+  quiet_passed : (m : Standing) → MayBePlanOf m.unit plan → IsUnseen marks m → IsQuiet (breakpoints_of plan) m
   quiet_passed m fits p =
       record {
         silent = p.silent;
@@ -181,7 +181,7 @@ module _ (laws : FramesAreLinked) (limit : ℕ) (plan : Option Listed) (marks : 
             let there = further_on start q.steps (k - q.steps) ∙ ap (λ n. ahead start n) same in
             subst (λ x. IsQuiet (breakpoints_of plan) x) there
             (quiet_passed (ahead (ahead start q.steps) (k - q.steps)) fits
-            (subst (λ x. IsPassed marks (ahead x (k - q.steps))) q.ends.0
+            (subst (λ x. IsUnseen marks (ahead x (k - q.steps))) q.ends.0
             (s.passed (k - q.steps) rest))))
             (cases_lt k q.steps);
         running = subst (λ x. IsRunning x) led s.running;

@@ -6,7 +6,7 @@ use Rattle.dbg_plan.specs.declared.mode.Mode.{Mode}
 use Rattle.dbg_plan.specs.declared.debuggee.Advance.{Advance}
 use Rattle.dbg_plan.specs.declared.debuggee.Advance.TheVariants.{To, Done, Fault}
 use Rattle.dbg_plan.specs.Logs.{Log}
-use Rattle.dbg_plan.specs.Debugged.{Debugged, machine_of, program_of, IsConsidered, due_now, logs_now}
+use Rattle.dbg_plan.specs.Debugged.{Debugged, machine_of, debugged_program, IsConsidered, due_now, logs_now}
 
 -- the debuggee at this position, considered there
 abbrev pub considered_at : Debugged → ℕ → Debugged
@@ -18,6 +18,6 @@ abbrev pub Advanced : Mode → Debugged → Advance → Debugged → List Log �
 Advanced mode old (To due) new logged =
     (new ≡ considered_at old (old.position + 1)) × IsConsidered new × (due ≡ due_now new mode) × (logged ≡ logs_now new)
 Advanced mode old Done new logged =
-    (new ≡ record old { position = old.position + 1 }) × (at (program_of old) (old.position + 1) ≡ Some [])
+    (new ≡ record old { position = old.position + 1 }) × (at (debugged_program old) (old.position + 1) ≡ Some [])
     × (logged ≡ [])
 Advanced mode old (Fault fault) new logged = (new ≡ old) × (outcome_of (machine_of old) ≡ Faults fault) × (logged ≡ [])

@@ -24,8 +24,8 @@ pub record Debugged : Type 0 where
 abbrev pub machine_of : Debugged → Standing
 machine_of d = record { unit = d.unit; position = d.position }
 
-abbrev pub program_of : Debugged → Block
-program_of d = plain_block d.unit.tree.program
+abbrev pub debugged_program : Debugged → Block
+debugged_program d = plain_block d.unit.tree.program
 
 -- a frame is alive
 abbrev pub IsRunning : Standing → Type 0
@@ -43,8 +43,8 @@ pub record IsNext (d : Debugged) : Type 0 where
 
 -- why the position is due, if it is
 abbrev pub due_now : Debugged → Mode → Option Reason
-due_now d mode = due (program_of d) d.breakpoints d.counted_from mode d.position
+due_now d mode = due (debugged_program d) d.breakpoints d.counted_from mode d.position
 
 -- what the position logs
 abbrev pub logs_now : Debugged → List Log
-logs_now d = logs (program_of d) d.breakpoints d.counted_from d.position
+logs_now d = logs (debugged_program d) d.breakpoints d.counted_from d.position

@@ -81,7 +81,7 @@ impl Debuggee {
     ghost use Rattle.pl0_meaning.specs.Values.{value};
     ghost use Rattle.pl0_machine.specs.Machine.{Stepped, outcome_of, frames, depth_of};
     ghost use Rattle.dbg_plan.specs.Plans.{IsPlanOf};
-    ghost use Rattle.dbg_plan.specs.Debugged.{machine_of, program_of, IsConsidered, IsNext, due_now, logs_now};
+    ghost use Rattle.dbg_plan.specs.Debugged.{machine_of, debugged_program, IsConsidered, IsNext, due_now, logs_now};
     ghost use Rattle.dbg_plan.specs.Advances.{Advanced};
     ghost use Rattle.dbg_plan.specs.Running.{RanFrom};
     ghost use Rattle.dbg_plan.specs.Quiet.{RanTo};
@@ -260,7 +260,7 @@ impl Debuggee {
     /// The first fault of the evaluation, the left operand first.
     pub fn evaluate(&self, frame: usize, expression: &Expression) -> Result<i64, EvalFault>
         requires { frame < depth_of (machine_of self.now) }
-        ensures { value (program_of self.now) (frames (machine_of self.now)) frame (plain_expression expression.now) ≡ answered result }
+        ensures { value (debugged_program self.now) (frames (machine_of self.now)) frame (plain_expression expression.now) ≡ answered result }
     {
         evaluate(&self.machine, frame, expression)
     }

@@ -1,7 +1,7 @@
 -- What several lemma files import, from the libraries and from the definitions.
 pub use Rattle.dbg_plan.specs.Advances.{Advanced, considered_at}
 pub use Rattle.dbg_plan.specs.Breakpoints.{Breakpoint}
-pub use Rattle.dbg_plan.specs.Debugged.{Debugged, due_now, IsConsidered, IsRunning, logs_now, machine_of, program_of}
+pub use Rattle.dbg_plan.specs.Debugged.{Debugged, due_now, IsConsidered, IsRunning, logs_now, machine_of, debugged_program}
 pub use Rattle.dbg_plan.specs.Due.{accepts, arrivals, arrives_in, due, is_hit}
 pub use Rattle.dbg_plan.specs.Logs.{Log, log_at, log_in, logs}
 pub use Rattle.dbg_plan.specs.Retreat.{goal_of, last_due, reversed, stepped_back, Stop, stop_at}
@@ -13,7 +13,7 @@ pub use Rattle.dbg_plan.specs.declared.mode.Mode.{Mode}
 pub use Rattle.dbg_plan.specs.declared.mode.Reason.{Reason}
 pub use Rattle.dbg_runner.specs.Courses.{arrival, in_all, IsAt, IsCounted, IsOn, IsRetreat, leads_to, RanAgain, retreating_of}
 pub use Rattle.dbg_runner.specs.Hops.{gone_back, Hopped, moved, standing}
-pub use Rattle.dbg_runner.specs.Lawful.{due_in, EndsBy, faults, GoesBackBy, has_come, has_no_memory, is_due, is_held, is_over, is_spent, IsLawful, IsPassed, IsReportOf, IsSpent, lacks_memory, logs_in, logs_told, RunsAt, takes_all, Went, WentBack, WentOn}
+pub use Rattle.dbg_runner.specs.Lawful.{due_in, EndsBy, faults, GoesBackBy, has_come, has_no_memory, is_due, is_held, is_over, is_spent, IsLawfulReport, IsPassed, IsReportOf, IsSpent, lacks_memory, logs_in, logs_told, RunsAt, takes_all, Went, WentBack, WentOn}
 pub use Rattle.dbg_runner.specs.Laws.{AllButLastGoOn, AreCountedOn, AreReportsOf, by_go, by_quit, by_refusal, finding_hold, finding_none, HasLast, IsCut, KeepsOn, later, logs_between, logs_from, logs_of, LogsJoin, NothingDueIsPassed, numbers_of, NumbersJoin, passing, reports_of_run, RetreatsAreSilent, RetreatsHaveGoals, RetreatsLead, sending, taken_by, up_to_go}
 pub use Rattle.dbg_runner.specs.Plain.{Go, goes_back, Heading, heading_after, heading_of, Hold, PlainOrder, PlainReport}
 pub use Rattle.dbg_runner.specs.ReportFields.{IsReportWith, sliced, StandsAtEnd}
@@ -22,7 +22,7 @@ pub use Rattle.dbg_runner.specs.Retreating.{GoesOnBack, heading_back, IsRoomFor,
 pub use Rattle.dbg_runner.specs.Rooms.{IsRoomOf, Room, slice_limit}
 pub use Rattle.dbg_runner.specs.Runner.{Act, begun, Does, Ended, finds_go, finds_hold, finds_none, finds_quit, finds_vain_hold, goes_on, Going, HandedBack, has_none_to_hold, Holding, holds, Idle, is_refused, is_refused_held, IsOfHold, IsOfNextSlice, Leads, Looked, Looking, onward, Passed, passes, quits, Ready, Runner, RunsAgain, Sent, Slicing, StandsIn, stops, takes_go, Waited, Worked}
 pub use Rattle.dbg_runner.specs.Slices.{IsNextBackOf, IsNextOf, IsOfSlice, IsSliceOf}
-pub use Rattle.dbg_runner.specs.Steps.{ending, ending_by, IsWritten, RanOn, runs, stays, TookSteps}
+pub use Rattle.dbg_runner.specs.Steps.{ending, ending_by, IsWritten, BeginsSlice, runs, stays, TookSteps}
 pub use Rattle.dbg_runner.specs.Turns.{going, heading_of_course, held_at, held_in, stands_at}
 pub use Rattle.dbg_runner.specs.declared.outcome.SliceOutcome.{SliceOutcome}
 pub use Rattle.dbg_runner.specs.declared.retreat.Way.TheVariants.{Returns, Searches}

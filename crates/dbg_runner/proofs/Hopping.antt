@@ -1,20 +1,20 @@
 -- The steps that a run which goes back runs again.
-use Rattle.dbg_runner.proofs.Common.{add-one, Advance, ap, arith, Block, Bool, Breakpoint, cases_eq, considered_at, Debugged, Done, due, due_now, false, Fault, Hopped, if◌then◌else◌, is_some, IsConsidered, last_due, List, Log, None, Option, program_of, RanFrom, Reason, refl, RunFault, RunsAt, Some, subst, suc, sym, To, zero, ℕ, ℤ, ⊎_elim, ◌+◌, ◌-◌, ◌<◌, ◌∙◌, ◌≡◌, ◌≤◌}
+use Rattle.dbg_runner.proofs.Common.{add-one, Advance, ap, arith, Block, Bool, Breakpoint, cases_eq, considered_at, Debugged, Done, due, due_now, false, Fault, Hopped, if◌then◌else◌, is_some, IsConsidered, last_due, List, Log, None, Option, debugged_program, RanFrom, Reason, refl, RunFault, RunsAt, Some, subst, suc, sym, To, zero, ℕ, ℤ, ⊎_elim, ◌+◌, ◌-◌, ◌<◌, ◌∙◌, ◌≡◌, ◌≤◌}
 use Rattle.dbg_plan.specs.declared.mode.Mode.TheVariants.{Continue}
 use Rattle.dbg_plan.proofs.Unwatched.{not_due}
 use Rattle.dbg_runner.proofs.Alive.{runs_before, not_over, no_fault}
 
 -- ---- one hop
 
-module _ (limit : ℕ) (old : Debugged) (runs : RunsAt (program_of old) limit) (lt : old.position < limit)
+module _ (limit : ℕ) (old : Debugged) (runs : RunsAt (debugged_program old) limit) (lt : old.position < limit)
     (before : List ℤ) (new : Debugged) (after : List ℤ) (logged : List Log) where
   -- at the positions of its quiet steps nothing is due
   undue : (advance : Option Advance) (r : RanFrom limit old before advance new after logged) (m : ℕ) → old.position < m
-      → m ≤ old.position + r.steps → due (program_of old) old.breakpoints old.counted_from Continue m ≡ None
+      → m ≤ old.position + r.steps → due (debugged_program old) old.breakpoints old.counted_from Continue m ≡ None
   undue advance r m above le =
       let k = m - old.position - 1 in
       let there : old.position + k + 1 ≡ m = omega (arith, above) in
-      subst (λ n. due (program_of old) old.breakpoints old.counted_from Continue n ≡ None) there
+      subst (λ n. due (debugged_program old) old.breakpoints old.counted_from Continue n ≡ None) there
       (not_due (considered_at old (old.position + k + 1)) (r.quiet k (omega (arith, above, le))).unmet)
 
   pub hops_to_limit : RanFrom limit old before None new after logged → Hopped limit old false new
@@ -52,15 +52,15 @@ module _ (limit : ℕ) (old : Debugged) (runs : RunsAt (program_of old) limit) (
   never_over r =
       let short = r.ends.0 in
       let led = r.ends.2 in
-      not_over (program_of old) (old.position + r.steps + 1)
-      (runs_before (program_of old) (old.position + r.steps + 1) limit (omega arith) runs) led.1
+      not_over (debugged_program old) (old.position + r.steps + 1)
+      (runs_before (debugged_program old) (old.position + r.steps + 1) limit (omega arith) runs) led.1
 
   pub never_faults : (fault : RunFault) → RanFrom limit old before (Some (Fault fault)) new after logged → ⊥
   never_faults fault r =
       let short = r.ends.0 in
       let led = r.ends.2 in
-      no_fault (program_of old) (old.position + r.steps) fault
-      (runs_before (program_of old) (old.position + r.steps + 1) limit (omega arith) runs) led.1
+      no_fault (debugged_program old) (old.position + r.steps) fault
+      (runs_before (debugged_program old) (old.position + r.steps + 1) limit (omega arith) runs) led.1
 
 -- ---- the last due position
 
@@ -81,10 +81,10 @@ abbrev pub found_by : Bool → ℕ → Option ℕ → Option ℕ
 found_by b q before = if b then Some q else before
 
 pub finds : (limit : ℕ) (old : Debugged) (result : Bool) (new : Debugged) (found : Option ℕ) → old.counted_from ≡ 0
-    → found ≡ last_due (program_of old) old.breakpoints (old.position + 1) → Hopped limit old result new
-    → found_by result new.position found ≡ last_due (program_of new) new.breakpoints (new.position + 1)
+    → found ≡ last_due (debugged_program old) old.breakpoints (old.position + 1) → Hopped limit old result new
+    → found_by result new.position found ≡ last_due (debugged_program new) new.breakpoints (new.position + 1)
 finds limit old result new found counted is h =
-    let main = program_of old in
+    let main = debugged_program old in
     let bs = old.breakpoints in
     let q = new.position in
     let more = h.more in
@@ -97,6 +97,6 @@ finds limit old result new found counted is h =
     in
     let so : found_by result q found ≡ last_due main bs (suc q) =
     ap (λ b. found_by b q found) here ∙ ap (λ f. found_by (is_some (due main bs 0 Continue q)) q f) earlier in
-    let same : last_due main bs (suc q) ≡ last_due (program_of new) new.breakpoints (suc q) =
-    ap (λ (d : Debugged). last_due (program_of d) d.breakpoints (suc q)) (sym h.is) in
+    let same : last_due main bs (suc q) ≡ last_due (debugged_program new) new.breakpoints (suc q) =
+    ap (λ (d : Debugged). last_due (debugged_program d) d.breakpoints (suc q)) (sym h.is) in
     rw add-one (so ∙ same)

@@ -1,11 +1,11 @@
 -- A kept report is lawful, and its debuggee was considered where it stands.
-use Rattle.dbg_runner.proofs.Common.{ap, arith, Block, Bool, Breakpoint, carried, Carries, Debugged, due, EndsBy, false, faults, goal_of, goes_back, GoesBackBy, has_come, has_no_memory, if◌then◌else◌, is_due, is_held, is_over, is_some, is_spent, IsConsidered, IsKept, IsLawful, lacks_memory, last_due, List, Mode, Option, plain_report, PlainReport, refl, Reported, reversed, RunsAt, SliceOutcome, Some, StandsAtEnd, stepped_back, Stop, stop_at, stopped, subst, suc, sym, takes_all, Trail, trail_in, true, Went, WentBack, WentOn, zero, ℕ, ◌∙◌, ◌≡◌, ◌≤◌}
+use Rattle.dbg_runner.proofs.Common.{ap, arith, Block, Bool, Breakpoint, carried, Carries, Debugged, due, EndsBy, false, faults, goal_of, goes_back, GoesBackBy, has_come, has_no_memory, if◌then◌else◌, is_due, is_held, is_over, is_some, is_spent, IsConsidered, IsKept, IsLawfulReport, lacks_memory, last_due, List, Mode, Option, plain_report, PlainReport, refl, Reported, reversed, RunsAt, SliceOutcome, Some, StandsAtEnd, stepped_back, Stop, stop_at, stopped, subst, suc, sym, takes_all, Trail, trail_in, true, Went, WentBack, WentOn, zero, ℕ, ◌∙◌, ◌≡◌, ◌≤◌}
 use Rattle.pl0_machine.specs.Machine.{program_of}
 use Rattle.dbg_plan.specs.declared.mode.Mode.TheVariants as mode
 use Rattle.dbg_runner.specs.declared.outcome.SliceOutcome.TheVariants as out
 use Rattle.dbg_runner.proofs.Alive.{runs_before}
 
-pub lawful : (r : Reported) → IsKept r → IsLawful (plain_report r)
+pub lawful : (r : Reported) → IsKept r → IsLawfulReport (plain_report r)
 lawful r kept = record { program = program_of r.unit; reads = r.unit.tree.lawful; lawful = kept }
 
 -- ---- by the direction of the run

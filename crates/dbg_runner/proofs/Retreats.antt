@@ -1,5 +1,5 @@
 -- The reports of a run that goes back.
-use Rattle.dbg_runner.proofs.Common.{[], ap, arith, Box, Carries, counts_from, Debugged, Global, goal_of, goes_back, GoesBackBy, has_come, has_no_memory, is_spent, IsAt, IsKept, IsOn, IsReportWith, IsRetreat, IsRoomFor, length, None, Option, plain_report, program_of, Reason, refl, Reported, Retreating, retreating_of, Returns, Room, Searches, slice_limit, SliceOutcome, Some, stopped, subst, summary_back, sym, Went, written, ℕ, ◌*◌, ◌+◌, ◌∙◌, ◌≡◌, ◌≤◌}
+use Rattle.dbg_runner.proofs.Common.{[], ap, arith, Box, Carries, counts_from, Debugged, Global, goal_of, goes_back, GoesBackBy, has_come, has_no_memory, is_spent, IsAt, IsKept, IsOn, IsReportWith, IsRetreat, IsRoomFor, length, None, Option, plain_report, debugged_program, Reason, refl, Reported, Retreating, retreating_of, Returns, Room, Searches, slice_limit, SliceOutcome, Some, stopped, subst, summary_back, sym, Went, written, ℕ, ◌*◌, ◌+◌, ◌∙◌, ◌≡◌, ◌≤◌}
 use Rattle.dbg_plan.specs.declared.debuggee.Debuggee.{Debuggee}
 use Rattle.dbg_runner.specs.declared.outcome.SliceOutcome.TheVariants as out
 use Rattle.dbg_runner.specs.declared.report.Summary.{Summary}
@@ -49,7 +49,7 @@ module _ (r : Inside) (inv : IsRetreat r) where
           start = r.start;
           end = end;
           before = length
-              (written (program_of r.debuggee.value) 0 r.start);
+              (written (debugged_program r.debuggee.value) 0 r.start);
           again = r.again;
           numbers = [];
           logs = [];
@@ -57,11 +57,11 @@ module _ (r : Inside) (inv : IsRetreat r) where
           debuggee = d;
         }
 
-    kept : (outcome : SliceOutcome) (d : Option Debugged) → GoesBackBy (program_of r.debuggee.value)
+    kept : (outcome : SliceOutcome) (d : Option Debugged) → GoesBackBy (debugged_program r.debuggee.value)
         (plain_report (report_with outcome d)) outcome → IsKept (report_with outcome d)
     kept outcome d by = record {
       before = refl;
-      went = subst (λ b. Went (program_of r.debuggee.value) (plain_report (report_with outcome d)) b)
+      went = subst (λ b. Went (debugged_program r.debuggee.value) (plain_report (report_with outcome d)) b)
           (sym inv.goes_back)
           (record { begun = inv.begun; numbers = refl; logs = refl; again = few; outcome = by });
     }
@@ -94,9 +94,9 @@ module _ (r : Inside) (inv : IsRetreat r) where
     module _ (why : Reason) (box : Box Debuggee Global)
         (box_is : box.value ≡ record r.debuggee.value { counted_from = r.debuggee.value.next })
         (there : end ≡ r.debuggee.value.position)
-        (come : goal_of (program_of r.debuggee.value) r.debuggee.value.breakpoints r.mode r.start ≡ Some
+        (come : goal_of (debugged_program r.debuggee.value) r.debuggee.value.breakpoints r.mode r.start ≡ Some
         (record { position = r.debuggee.value.position; reason = why })) where
-      here : goal_of (program_of r.debuggee.value) r.debuggee.value.breakpoints r.mode r.start ≡ Some
+      here : goal_of (debugged_program r.debuggee.value) r.debuggee.value.breakpoints r.mode r.start ≡ Some
           (record { position = end; reason = why })
       here = come ∙ ap (λ n. Some (record { position = n; reason = why })) (sym there)
 

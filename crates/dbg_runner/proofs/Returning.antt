@@ -1,5 +1,5 @@
 -- How far a run that goes back has come.
-use Rattle.dbg_runner.proofs.Common.{[], add-one, ap, arith, arrival, Block, Bool, Breakpoint, cases_lt, Debugged, due, due_now, eqb-false, false, filter, floor_of, goal_of, goes_back, gone_back, greatest, if◌then◌else◌, in_all, is_some, IsConsidered, IsOn, last_due, leads_to, leb-true, List, min, min-eq_left, min-eq_right, min-le_left, min-le_right, Mode, moved, nat_eq, nat_le, None, Option, program_of, RanAgain, Reason, refl, Returns, reversed, Searches, slice_limit, Some, standing, steps_again, steps_to, Stop, stop_at, subst, suc, sym, true, zero, ℕ, ⊎_elim, ◌+◌, ◌-◌, ◌<◌, ◌∙◌, ◌∷◌, ◌≡◌, ◌≢◌, ◌≤◌}
+use Rattle.dbg_runner.proofs.Common.{[], add-one, ap, arith, arrival, Block, Bool, Breakpoint, cases_lt, Debugged, due, due_now, eqb-false, false, filter, floor_of, goal_of, goes_back, gone_back, greatest, if◌then◌else◌, in_all, is_some, IsConsidered, IsOn, last_due, leads_to, leb-true, List, min, min-eq_left, min-eq_right, min-le_left, min-le_right, Mode, moved, nat_eq, nat_le, None, Option, debugged_program, RanAgain, Reason, refl, Returns, reversed, Searches, slice_limit, Some, standing, steps_again, steps_to, Stop, stop_at, subst, suc, sym, true, zero, ℕ, ⊎_elim, ◌+◌, ◌-◌, ◌<◌, ◌∙◌, ◌∷◌, ◌≡◌, ◌≢◌, ◌≤◌}
 use Rattle.dbg_plan.specs.declared.mode.Mode.TheVariants as mode
 
 -- ---- checkpoints
@@ -75,10 +75,11 @@ on_search n old new found some gone is =
 
 -- a search leads where going back leads, but for a single step
 pub search_leads : (m : Mode) (n : ℕ) (old new : Debugged) (found : Option ℕ) → m ≢ mode.StepBack → goes_back m ≡ true
-    → new ≡ gone_back old 0 → goal_of (program_of old) old.breakpoints m n ≡ Some (leads_to n new (Searches found))
+    → new ≡ gone_back old 0 → goal_of (debugged_program old) old.breakpoints m n ≡ Some
+    (leads_to n new (Searches found))
 search_leads m n old new found other back gone =
-    reverses (program_of old) old.breakpoints m n other
-    back ∙ ap (λ (d : Debugged). Some (reversed (program_of d) d.breakpoints n)) (sym (at_start old new gone))
+    reverses (debugged_program old) old.breakpoints m n other
+    back ∙ ap (λ (d : Debugged). Some (reversed (debugged_program d) d.breakpoints n)) (sym (at_start old new gone))
 
 -- ---- it goes on
 
@@ -131,27 +132,27 @@ moved_on old new p t is = is ∙ ap (λ (d : Debugged). moved old d.position d.c
 -- it ends, and the run turns to where it stops
 module _ (n again : ℕ) (old : Debugged) (found more : Option ℕ) (limit : ℕ) (on : IsOn n old again (Searches found))
     (is : limit ≡ min (n - 1) (again + slice_limit)) (ge : n - 1 ≤ limit) (there : Debugged)
-    (gone : there ≡ standing old limit) (more_is : more ≡ last_due (program_of there) there.breakpoints (limit + 1))
-    (to : ℕ) (why : Reason) (leads : record { position = to; reason = why } ≡ stop_at more) where
+    (gone : there ≡ standing old limit) (more_is : more ≡ last_due (debugged_program there) there.breakpoints
+    (limit + 1)) (to : ℕ) (why : Reason) (leads : record { position = to; reason = why } ≡ stop_at more) where
   ended : limit ≡ n - 1
   ended = let least = min-le_left (n - 1) (again + slice_limit) in omega (arith, is, ge, least)
 
   some : 0 < n
   some = let before = on.1 in omega arith
 
-  stop_is : record { position = to; reason = why } ≡ reversed (program_of old) old.breakpoints n
+  stop_is : record { position = to; reason = why } ≡ reversed (debugged_program old) old.breakpoints n
   stop_is =
       let e : limit + 1 ≡ n = omega (arith, ended, some) in
       leads
       ∙ ap stop_at more_is
-      ∙ ap (λ (d : Debugged). stop_at (last_due (program_of d) d.breakpoints (limit + 1))) gone
-      ∙ ap (λ k. stop_at (last_due (program_of old) old.breakpoints k)) e
+      ∙ ap (λ (d : Debugged). stop_at (last_due (debugged_program d) d.breakpoints (limit + 1))) gone
+      ∙ ap (λ k. stop_at (last_due (debugged_program old) old.breakpoints k)) e
 
   pub within_turn : to ≤ there.position
   within_turn =
       let at : there.position ≡ limit = ap (λ (d : Debugged). d.position) gone in
-      let far = last_due_within (program_of there) there.breakpoints limit in
-      let same : to ≡ (stop_at (last_due (program_of there) there.breakpoints (limit + 1))).position =
+      let far = last_due_within (debugged_program there) there.breakpoints limit in
+      let same : to ≡ (stop_at (last_due (debugged_program there) there.breakpoints (limit + 1))).position =
       ap (λ (s : Stop). s.position) leads ∙ ap (λ o. (stop_at o).position) more_is in
       omega (arith, at, far, same)
 
@@ -166,7 +167,7 @@ module _ (n again : ℕ) (old : Debugged) (found more : Option ℕ) (limit : ℕ
         let way = from_checkpoint old back to from_old in
         let kept = ap (λ (d : Debugged). steps_to d.trail.kept to) from_old in
         let same : steps_to old.trail.kept to
-        ≡ steps_to old.trail.kept (reversed (program_of old) old.breakpoints n).position =
+        ≡ steps_to old.trail.kept (reversed (debugged_program old) old.breakpoints n).position =
         ap (λ (s : Stop). steps_to old.trail.kept s.position) stop_is in
         omega (arith, way, kept, same, ended)
 

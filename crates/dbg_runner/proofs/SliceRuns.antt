@@ -1,5 +1,5 @@
 -- How a slice begins: with a run, or with no step.
-use Rattle.dbg_runner.proofs.Common.{[], Advance, Advanced, ap, arith, Closes, considered_at, Debugged, Done, ending, ending_by, Fault, IsConsidered, IsOfSlice, IsRoomOf, IsWritten, last_position, List, Log, Mode, None, Option, option_and_then, program_of, RanFrom, RanOn, refl, Room, runs, slice_limit, sliced, SliceOutcome, Some, StandsAtEnd, stays, subst, suc, sym, To, TookSteps, written, written_before, written_from, zero, ℕ, ℤ, ◌+◌, ◌-◌, ◌∙◌, ◌∷◌, ◌≡◌, ◌≤◌}
+use Rattle.dbg_runner.proofs.Common.{[], Advance, Advanced, ap, arith, Closes, considered_at, Debugged, Done, ending, ending_by, Fault, IsConsidered, IsOfSlice, IsRoomOf, IsWritten, last_position, List, Log, Mode, None, Option, option_and_then, debugged_program, RanFrom, BeginsSlice, refl, Room, runs, slice_limit, sliced, SliceOutcome, Some, StandsAtEnd, stays, subst, suc, sym, To, TookSteps, written, written_before, written_from, zero, ℕ, ℤ, ◌+◌, ◌-◌, ◌∙◌, ◌∷◌, ◌≡◌, ◌≤◌}
 use Rattle.dbg_plan.specs.declared.mode.Mode.TheVariants.{Continue}
 use Rattle.dbg_plan.proofs.Unwatched.{not_due, nothing_logged}
 use Rattle.dbg_runner.specs.declared.outcome.SliceOutcome.TheVariants as out
@@ -18,22 +18,24 @@ is_of_slice _ logged outcome is = (λ held. cc, λ lacking. cc)
 module _ (limit : ℕ) (mode : Mode) (old : Debugged) (room : Room) (continues : mode ≡ Continue)
     (le : limit ≤ last_position) (new : Debugged) (more : Room)
     (kept : more ≡ record room { numbers = more.numbers; logs = more.logs }) where
-  pub ran_out : RanFrom limit old room.numbers None new more.numbers more.logs → RanOn limit mode old room None new more
+  pub ran_out : RanFrom limit old room.numbers None new more.numbers more.logs
+      → BeginsSlice limit mode old room None new more
   ran_out r =
-      subst (λ m. RanOn limit mode old room None new m) (sym kept) (runs None new more.numbers more.logs continues le r)
+      subst (λ m. BeginsSlice limit mode old room None new m) (sym kept)
+      (runs None new more.numbers more.logs continues le r)
 
   pub ran_there : (advance : Advance) → RanFrom limit old room.numbers (Some advance) new more.numbers more.logs
-      → RanOn limit mode old room (ending advance more.logs) new more
+      → BeginsSlice limit mode old room (ending advance more.logs) new more
   ran_there advance r =
-      subst (λ m. RanOn limit mode old room (ending advance more.logs) new m) (sym kept)
+      subst (λ m. BeginsSlice limit mode old room (ending advance more.logs) new m) (sym kept)
       (runs (Some advance) new more.numbers more.logs continues le r)
 
 begins : (mode : Mode) (start : Debugged) (room : Room) → IsConsidered start → IsRoomOf room start
     → Underway mode start start room
 begins mode start room was of =
     let e : 0 ≡ start.position - start.position = omega arith in
-    let none : room.numbers ≡ written (program_of start) start.position start.position =
-    of.numbers ∙ ap (λ (n : ℕ). written_from (program_of start) start.position n) e in
+    let none : room.numbers ≡ written (debugged_program start) start.position start.position =
+    of.numbers ∙ ap (λ (n : ℕ). written_from (debugged_program start) start.position n) e in
     record {
       position = start.position;
       begun = omega arith;
@@ -193,7 +195,7 @@ module _ (start : Debugged) (room : Room) (was : IsConsidered start) (of : IsRoo
 -- a slice that began with a run, or with no step
 module _ (mode : Mode) (start : Debugged) (room : Room) (was : IsConsidered start) (of : IsRoomOf room start) where
   pub begins_well : (result : Option SliceOutcome) (new : Debugged) (after : Room)
-      → RanOn (start.position + slice_limit) mode start room result new after → result ≡ None
+      → BeginsSlice (start.position + slice_limit) mode start room result new after → result ≡ None
       → Underway mode start new after
   begins_well result new after (runs advance now numbers logged continues le ran) is =
       subst (λ m. Underway m start now (record room { numbers = numbers; logs = logged })) (sym continues)
@@ -201,7 +203,7 @@ module _ (mode : Mode) (start : Debugged) (room : Room) (was : IsConsidered star
   begins_well result new after (stays never) is = begins mode start room was of
 
   pub ends_well : (outcome : SliceOutcome) (result : Option SliceOutcome) (new : Debugged) (after : Room)
-      → RanOn (start.position + slice_limit) mode start room result new after → result ≡ Some outcome
+      → BeginsSlice (start.position + slice_limit) mode start room result new after → result ≡ Some outcome
       → TookSteps mode start outcome new after
   ends_well outcome result new after (runs advance now numbers logged continues le ran) is =
       subst (λ m. TookSteps m start outcome now (record room { numbers = numbers; logs = logged })) (sym continues)

@@ -1,13 +1,12 @@
 //! Takes the steps that a run which goes back runs again.
 
 ghost use Rattle.std.specs.Prelude.{◌≡◌, ◌+◌, ◌-◌, ◌<◌, ◌≤◌, [], is_some, min};
-ghost use Rattle.dbg_plan.specs.Debugged.{program_of, IsConsidered, due_now};
+ghost use Rattle.dbg_plan.specs.Debugged.{debugged_program, IsConsidered, due_now};
 ghost use Rattle.dbg_plan.specs.declared.mode.Mode.TheVariants.{Continue};
-ghost use Rattle.dbg_plan.specs.Retreat.{last_due};
 ghost use Rattle.dbg_plan.specs.Trail.{floor_of};
 ghost use Rattle.dbg_runner.specs.Lawful.{RunsAt};
 ghost use Rattle.dbg_runner.specs.Rooms.{IsRoomOf};
-ghost use Rattle.dbg_runner.specs.Hops.{Hopped, standing, gone_back};
+ghost use Rattle.dbg_runner.specs.Hops.{Hopped, last_due_up_to, standing, gone_back};
 
 use crate::outputs::Outputs;
 use dbg_plan::{Advance, Debuggee, Mode};
@@ -35,7 +34,7 @@ pub fn go_back(debuggee: &mut Debuggee, outputs: &mut Outputs, to: u64) -> bool
 fn hop(debuggee: &mut Debuggee, outputs: &mut Outputs, limit: u64) -> bool
     requires considered { IsConsidered debuggee.old }
     requires within { debuggee.old.position < limit }
-    requires runs { RunsAt (program_of debuggee.old) limit }
+    requires runs { RunsAt (debugged_program debuggee.old) limit }
     requires room { IsRoomOf outputs.old debuggee.old }
     ensures hopped { Hopped limit debuggee.old result debuggee.new }
     ensures room { outputs.new ≡ outputs.old }
@@ -62,13 +61,13 @@ pub fn search(
 ) -> Option<u64>
     requires considered { IsConsidered debuggee.old }
     requires within { debuggee.old.position ≤ limit }
-    requires runs { RunsAt (program_of debuggee.old) limit }
+    requires runs { RunsAt (debugged_program debuggee.old) limit }
     requires room { IsRoomOf outputs.old debuggee.old }
     requires counted { debuggee.old.counted_from ≡ 0 }
-    requires found { found ≡ last_due (program_of debuggee.old) debuggee.old.breakpoints (debuggee.old.position + 1) }
+    requires found { found ≡ last_due_up_to debuggee.old debuggee.old.position }
     ensures went { debuggee.new ≡ standing debuggee.old limit }
     ensures considered { IsConsidered debuggee.new }
-    ensures found { result ≡ last_due (program_of debuggee.new) debuggee.new.breakpoints (limit + 1) }
+    ensures found { result ≡ last_due_up_to debuggee.new limit }
     ensures room { outputs.new ≡ outputs.old }
 {
     while debuggee.machine().position() < limit {
@@ -83,7 +82,7 @@ pub fn search(
 pub fn go_on(debuggee: &mut Debuggee, outputs: &mut Outputs, to: u64, most: u64) -> u64
     requires considered { IsConsidered debuggee.old }
     requires within { debuggee.old.position ≤ to }
-    requires runs { RunsAt (program_of debuggee.old) to }
+    requires runs { RunsAt (debugged_program debuggee.old) to }
     requires room { IsRoomOf outputs.old debuggee.old }
     ensures steps { result ≡ min most (to - debuggee.old.position) }
     ensures went { debuggee.new ≡ standing debuggee.old (debuggee.old.position + result) }

@@ -2,7 +2,7 @@
 
 ghost use Rattle.std.specs.Prelude.{◌≡◌, ◌≤◌, true, Some};
 ghost use Rattle.pl0_meaning.specs.Runs.{last_position};
-ghost use Rattle.dbg_plan.specs.Debugged.{program_of, IsConsidered};
+ghost use Rattle.dbg_plan.specs.Debugged.{debugged_program, IsConsidered};
 ghost use Rattle.dbg_plan.specs.Retreat.{Stop, stop_at, goal_of};
 ghost use Rattle.dbg_runner.specs.declared.retreat.Way.TheVariants as way;
 ghost use Rattle.dbg_runner.specs.Plain.{goes_back};
@@ -222,7 +222,7 @@ fn run_again(
 ) -> (Way, u64)
     requires considered { IsConsidered debuggee.old }
     requires room { IsRoomOf outputs.old debuggee.old }
-    requires begun { RunsAt (program_of debuggee.old) start }
+    requires begun { RunsAt (debugged_program debuggee.old) start }
     requires bounded { start ≤ last_position }
     requires on { IsOn start debuggee.old again way }
     ensures ran { RanAgain start again debuggee.old way result.1 debuggee.new result.0 }
@@ -248,7 +248,7 @@ fn search_on(
 ) -> (Way, u64)
     requires considered { IsConsidered debuggee.old }
     requires room { IsRoomOf outputs.old debuggee.old }
-    requires begun { RunsAt (program_of debuggee.old) start }
+    requires begun { RunsAt (debugged_program debuggee.old) start }
     requires bounded { start ≤ last_position }
     requires on { IsOn start debuggee.old again (way.Searches found) }
     ensures ran { RanAgain start again debuggee.old (way.Searches found) result.1 debuggee.new result.0 }
@@ -272,7 +272,7 @@ fn begin(debuggee: &mut Debuggee, outputs: &mut Outputs, mode: Mode) -> Way
     requires room { IsRoomOf outputs.old debuggee.old }
     requires back { goes_back mode ≡ true }
     ensures on { IsOn debuggee.old.position debuggee.new 0 result }
-    ensures leads { goal_of (program_of debuggee.old) debuggee.old.breakpoints mode debuggee.old.position ≡ Some (leads_to debuggee.old.position debuggee.new result) }
+    ensures leads { goal_of (debugged_program debuggee.old) debuggee.old.breakpoints mode debuggee.old.position ≡ Some (leads_to debuggee.old.position debuggee.new result) }
     ensures counted { IsCounted mode debuggee.old.position debuggee.new 0 result }
     ensures kept { debuggee.new ≡ moved debuggee.old debuggee.new.position debuggee.new.counted_from }
     ensures considered { IsConsidered debuggee.new }

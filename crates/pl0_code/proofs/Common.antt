@@ -14,7 +14,7 @@ pub use Rattle.pl0_names.specs.declared.scopes.Found.{Found}
 pub use Rattle.pl0_tree.specs.Plain.{joined, plain_block, plain_constant, plain_expression, plain_name, plain_statement}
 pub use Rattle.pl0_tree.specs.PlainParts.{plain_begin, plain_block_procedures, plain_body, plain_constants, plain_end, plain_procedure, plain_variables}
 pub use Rattle.pl0_tree.specs.Scope.{AConstant, Allows, AProcedure, AVariable, block_at, body_uses, condition_uses, Declaration, declarations, expression_uses, first_declaration, Home, home, IsAssigned, IsBefore, IsCalled, IsLawful, IsLawfulUse, IsRead, Meaning, or_else, Path, procedure_at, statement_uses, Use, use_of, UseKind}
-pub use Rattle.pl0_tree.specs.Steps.{block_steps, blocks, procedures_steps, statement_steps, step, StepAt, steps}
+pub use Rattle.pl0_tree.specs.Steps.{block_steps, blocks, procedures_steps, statement_steps, lone_step, StepAt, steps}
 pub use Rattle.pl0_tree.specs.Tokens.{Token, tokens_of}
 pub use Rattle.pl0_tree.specs.Tree.{ABlock, Assign, Binary, Block, body, Call, Compare, Condition, constants, Empty, end, Expression, If, Name, Negate, NoMore, Number, Odd, Procedure, procedure_list, Procedures, procedures, Statement, Then, variables, While, Write}
 pub use Rattle.pl0_tree.specs.declared.step.Step.{Step}

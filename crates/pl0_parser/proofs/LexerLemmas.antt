@@ -1,6 +1,6 @@
 -- A token's bytes are skipped, and the lexer goes on after them.
 use Rattle.std.proofs.lemmas.List.Sums.{take_while-cons}
-use Rattle.pl0_parser.proofs.Common.{[], add-zero, ap, arith, at, behind, Bool, cond, decimal_value, drop, eqb, false, Faulty, find, fold, front_piece, get_or, is_space, is_word_byte, length, List, lit<, Mark, nat_eq, nat_le, nat_lt, not, number_symbol, NumberTooLarge, Option, Place, pred, refl, sign_piece, signs, Some, subst, suc, sym, Symbol, symbol_of, take, take_while, tokens_from, true, word_symbol, zero, ℕ, ◌&&◌, ◌*◌, ◌+◌, ◌-◌, ◌<◌, ◌==◌, ◌^◌, ◌||◌, ◌∙◌, ◌∷◌, ◌≡◌, ◌≤◌}
+use Rattle.pl0_parser.proofs.Common.{[], add-zero, ap, arith, token_at, behind, Bool, cond, decimal_value, drop, eqb, false, Faulty, find, fold, front_piece, get_or, is_space, is_word_byte, length, List, lit<, Mark, nat_eq, nat_le, nat_lt, not, number_symbol, NumberTooLarge, Option, Place, pred, refl, sign_piece, signs, Some, subst, suc, sym, Symbol, symbol_of, take, take_while, tokens_from, true, word_symbol, zero, ℕ, ◌&&◌, ◌*◌, ◌+◌, ◌-◌, ◌<◌, ◌==◌, ◌^◌, ◌||◌, ◌∙◌, ◌∷◌, ◌≡◌, ◌≤◌}
 use Rattle.std.specs.List.{starts_with}
 use Rattle.std.specs.Str.{IsAscii}
 use Rattle.std.specs.Cmp.Lexicographic.{pointwise}
@@ -28,15 +28,15 @@ skip (suc k) p (b ∷ bytes) stays =
     (let same : p.column + 1 + k ≡ p.column + suc k = omega arith in same)
 
 pub past_token : (p : Place) (b : ℕ) (bytes : List ℕ) (s : Seen) (size : ℕ) → is_space b ≡ false
-    → IsPiece (b ∷ bytes) s size → tokens_from p 0 (b ∷ bytes) ≡ at (symbol_of s) p
+    → IsPiece (b ∷ bytes) s size → tokens_from p 0 (b ∷ bytes) ≡ token_at (symbol_of s) p
     ∷ tokens_from (along p size) 0 (drop size (b ∷ bytes))
 past_token p b bytes s zero visible (same, size_is, positive, stays) = absurd (omega arith)
 past_token p b bytes s (suc k) visible (same, size_is, positive, stays) =
     let rest : pred (front_piece b (b ∷ bytes)).1 ≡ k = ap pred (sym size_is) in
     cond-false (is_space b) _ _ visible ∙
-    ap (λ x. at x p ∷ tokens_from (behind p b) (pred (front_piece b (b ∷ bytes)).1) bytes) (sym same) ∙
-    ap (λ n. at (symbol_of s) p ∷ tokens_from (behind p b) n bytes) rest ∙
-    ap (λ ts. at (symbol_of s) p ∷ ts) (skip (suc k) p (b ∷ bytes) stays)
+    ap (λ x. token_at x p ∷ tokens_from (behind p b) (pred (front_piece b (b ∷ bytes)).1) bytes) (sym same) ∙
+    ap (λ n. token_at (symbol_of s) p ∷ tokens_from (behind p b) n bytes) rest ∙
+    ap (λ ts. token_at (symbol_of s) p ∷ ts) (skip (suc k) p (b ∷ bytes) stays)
 
 -- a piece at the front is the first token
 pub front_is : (bytes : List ℕ) (s : Seen) (size : ℕ) → is_space (get_or bytes 0 0) ≡ false → IsPiece bytes s size

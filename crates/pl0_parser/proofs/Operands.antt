@@ -1,5 +1,5 @@
 -- Operands that operators of one rank join: the terms of an expression, and the factors of a term.
-use Rattle.pl0_parser.proofs.Common.{AFactor, ap, arith, at, ATerm, Binary, Box, Expression, FaultIs, FaultKind, first_refusal, Goal, IsAdding, IsMultiplying, List, Mark, Marked, more_factors_choice, more_terms_choice, MoreFactors, MoreTerms, Operator, Parses, Pass, Place, plain_expression, ReadsFactor, ReadsMoreFactors, ReadsMoreTerms, ReadsTerm, RefusedAt, subst, sym, Symbol, SyntaxFault, Token, ℕ, ◌∙◌, ◌∷◌, ◌≡◌}
+use Rattle.pl0_parser.proofs.Common.{AFactor, ap, arith, token_at, ATerm, Binary, Box, Expression, FaultIs, FaultKind, first_refusal, Goal, IsAdding, IsMultiplying, List, Mark, Marked, more_factors_choice, more_terms_choice, MoreFactors, MoreTerms, Operator, Parses, Pass, Place, plain_expression, ReadsFactor, ReadsMoreFactors, ReadsMoreTerms, ReadsTerm, RefusedAt, subst, sym, Symbol, SyntaxFault, Token, ℕ, ◌∙◌, ◌∷◌, ◌≡◌}
 use Rattle.std.specs.declared.alloc.Global.{Global}
 use Rattle.pl0_tree.specs.Reading as reading
 use Rattle.pl0_tree.specs.declared.tree.Expression.{Expression as DeclaredExpression}
@@ -18,11 +18,11 @@ pub record Rank : Type 1 where
   pub no_other : (s : List Token) (e : Expression) → ReadsOthers s e e s
   pub one_other : (m : Mark) (o : Operator) (p : Place) (s t rest : List Token) (left right e : Expression) → Joins m o
       → ReadsOperand s right t → ReadsOthers t (Binary o left right) e rest
-      → ReadsOthers (at (Marked m) p ∷ s) left e rest
+      → ReadsOthers (token_at (Marked m) p ∷ s) left e rest
   pub passes : (goals : List Goal) (t : Token) (ts : List Token) → Ends t.symbol
       → first_refusal (others ∷ goals) (t ∷ ts) ≡ first_refusal goals (t ∷ ts)
   pub takes : (goals : List Goal) (m : Mark) (o : Operator) (p : Place) (ts : List Token) → Joins m o
-      → first_refusal (others ∷ goals) (at (Marked m) p ∷ ts) ≡ first_refusal (operand ∷ others ∷ goals) ts
+      → first_refusal (others ∷ goals) (token_at (Marked m) p ∷ ts) ≡ first_refusal (operand ∷ others ∷ goals) ts
 
 abbrev pub terms : ℕ → Rank
 terms n = record {
@@ -78,7 +78,7 @@ module _ (r : Rank) (first : Expression) (begun : List Token) where
 
   -- an operator in front, with what stands after it
   abbrev pub Joined : List Token → Operator → List Token → Type 0
-  Joined tokens o next = (m : Mark) × (p : Place) × r.Joins m o × (tokens ≡ at (Marked m) p ∷ next)
+  Joined tokens o next = (m : Mark) × (p : Place) × r.Joins m o × (tokens ≡ token_at (Marked m) p ∷ next)
 
   -- an operator and an operand more, and the loop goes on
   goes_on : (left right : Expression) (tokens next after : List Token) (o : Operator) → Keeps r first begun left tokens

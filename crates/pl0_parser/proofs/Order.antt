@@ -1,7 +1,7 @@
 -- The tokens of a text stand in the order of their places.
 use Rattle.std.proofs.lemmas.Option.{same_Some}
 use Rattle.pl0_tree.specs.SharedLemmas.{before_trans}
-use Rattle.pl0_parser.proofs.Common.{[], arith, behind, Bool, cond, eqb, false, front_piece, inl, inr, is_space, length, List, lit<, map, Place, pred, refl, slice_get, Some, start, subst, suc, Token, tokens_from, tokens_of, true, zero, ℕ, ◌+◌, ◌∷◌, ◌≡◌, ◌≤◌}
+use Rattle.pl0_parser.proofs.Common.{[], arith, behind, Bool, cond, eqb, false, front_piece, inl, inr, is_space, length, List, lit<, map, Place, pred, refl, slice_get, Some, start_place, subst, suc, Token, tokens_from, tokens_of, true, zero, ℕ, ◌+◌, ◌∷◌, ◌≡◌, ◌≤◌}
 use Rattle.pl0_tree.specs.Scope.{IsBefore}
 use Rattle.pl0_tree.specs.Ascending.{Ascend}
 
@@ -58,7 +58,7 @@ in_order (t ∷ ts) p ascend (suc i) (suc j) q r less first second =
 pub tokens_in_order : (text : List ℕ) → Ascend (places (tokens_of text))
 tokens_in_order text =
     in_order (tokens_of text) (record { line = 0; column = 0 })
-    (tokens_ascend text start 0 (record { line = 0; column = 0 }) (inl (lit< tt)))
+    (tokens_ascend text start_place 0 (record { line = 0; column = 0 }) (inl (lit< tt)))
 
 few_at : (space : Bool) (p : Place) (b : ℕ)
     (bytes : List ℕ) → ((taken : ℕ) → length (tokens_from (behind p b) taken bytes) ≤ length bytes + 1) →
@@ -72,4 +72,4 @@ tokens_few_from (b ∷ bytes) p (suc taken) = let less = tokens_few_from bytes (
 tokens_few_from (b ∷ bytes) p zero = few_at (is_space b) p b bytes (tokens_few_from bytes (behind p b))
 
 pub tokens_few : (text : List ℕ) → length (tokens_of text) ≤ length text + 1
-tokens_few text = tokens_few_from text start 0
+tokens_few text = tokens_few_from text start_place 0

@@ -1,6 +1,6 @@
 -- The grammar by symbols alone is the one by which tokens are read: symbols are such a text exactly where some tokens
 -- with them are read as a tree.
-use Rattle.pl0_parser.proofs.Common.{[], ABlock, ap, at, Binary, Block, Condition, Constant, Expression, List, map, Mark, Marked, Name, Named, Negate, Numeral, Operator, Procedures, ReadsBlock, ReadsCondition, ReadsConstantPart, ReadsConstants, ReadsExpression, ReadsFactor, ReadsMoreFactors, ReadsMoreTerms, ReadsProcedures, ReadsStatement, ReadsStatements, ReadsTerm, ReadsVariablePart, ReadsVariables, refl, start, Statement, Symbol, symbols, Token, ℕ, ℤ, ◌∷◌, ◌≡◌}
+use Rattle.pl0_parser.proofs.Common.{[], ABlock, ap, token_at, Binary, Block, Condition, Constant, Expression, List, map, Mark, Marked, Name, Named, Negate, Numeral, Operator, Procedures, ReadsBlock, ReadsCondition, ReadsConstantPart, ReadsConstants, ReadsExpression, ReadsFactor, ReadsMoreFactors, ReadsMoreTerms, ReadsProcedures, ReadsStatement, ReadsStatements, ReadsTerm, ReadsVariablePart, ReadsVariables, refl, start_place, Statement, Symbol, symbols, Token, ℕ, ℤ, ◌∷◌, ◌≡◌}
 use Rattle.pl0_tree.specs.declared.tree.Operator.TheVariants as operator
 use Rattle.pl0_tree.specs.declared.tree.Relation.{Relation}
 use Rattle.pl0_tree.specs.declared.token.Mark.TheVariants as mark
@@ -129,7 +129,7 @@ mutual
 -- ---- from symbols to tokens that are read, all of them at one place
 
 abbrev pub placed : List Symbol → List Token
-placed s = map (λ x. at x start) s
+placed s = map (λ x. token_at x start_place) s
 
 pub placed_symbols : (s : List Symbol) → symbols (placed s) ≡ s
 placed_symbols [] = refl
@@ -267,7 +267,7 @@ mutual
       let (xs, second) = variables_read variable_part in
       let (ps, third) = procedures_read procedures in
       let (x, last) = statement_read body in
-      (ABlock cs xs ps x start, reading.block first second third last)
+      (ABlock cs xs ps x start_place, reading.block first second third last)
 
   procedures_read : {n : ℕ} {s rest : List Symbol} → AreProcedures n s rest → (ps : Procedures)
       × ReadsProcedures n (placed s) ps (placed rest)

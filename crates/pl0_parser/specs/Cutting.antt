@@ -4,7 +4,7 @@ use Rattle.std.specs.List.{starts_with}
 use Rattle.pl0_tree.specs.declared.tree.Place.{Place}
 use Rattle.pl0_tree.specs.declared.token.Symbol.{Symbol as Seen}
 use Rattle.pl0_tree.specs.Tokens.{tokens_from, front_piece, sign_piece, signs}
-use Rattle.pl0_tree.specs.Reading.{at}
+use Rattle.pl0_tree.specs.Reading.{token_at}
 use Rattle.pl0_tree.specs.Words.{symbol_of}
 
 -- the first k bytes are there, and none ends a line
@@ -21,7 +21,8 @@ along p k = record { line = p.line; column = p.column + k }
 pub record IsFront (bytes : List ℕ) (s : Seen) (size : ℕ) : Type 0 where
   pub some : 0 < size
   pub within : size ≤ length bytes
-  pub first : (p : Place) → tokens_from p 0 bytes ≡ at (symbol_of s) p ∷ tokens_from (along p size) 0 (drop size bytes)
+  pub first : (p : Place) → tokens_from p 0 bytes ≡ token_at (symbol_of s) p
+      ∷ tokens_from (along p size) 0 (drop size bytes)
 
 -- the piece at the front of bytes by the table of symbols, on one line
 abbrev pub IsPiece : List ℕ → Seen → ℕ → Type 0

@@ -3,7 +3,7 @@
 ghost use Rattle.std.specs.Prelude.{ℕ, ◌≡◌, ◌+◌, ◌<◌, ◌≤◌, ◌∷◌, [], ◌++◌, map, length, take, take_while, slice_index, IfOk, IfErr, IsOk, false, find, option_map};
 ghost use Rattle.std.specs.Char.{is_ascii_digit};
 ghost use Rattle.std.specs.Str.{bytes_eq, IsAscii};
-ghost use Rattle.pl0_tree.specs.Tokens.{start, tokens_of, is_space, is_word_byte, behind, word_symbol, number_symbol, decimal_value, keywords};
+ghost use Rattle.pl0_tree.specs.Tokens.{start_place, tokens_of, is_space, is_word_byte, behind, word_symbol, number_symbol, decimal_value, keywords};
 ghost use Rattle.pl0_tree.specs.Words.{symbol_of, ended};
 ghost use Rattle.pl0_tree.specs.Faults.{limit, FaultIs};
 ghost use Rattle.pl0_tree.specs.Ascending.{Ascend};
@@ -33,7 +33,7 @@ pub fn tokenize<'a>(alloc: Global, text: &'a [u8]) -> Result<(Vec<Token<'a>>, Pl
     // Each token stands after the one before, and the end after all.
     ensures in_order { IfOk result (λ x. Ascend (map (λ token. token.place) (ended x.0.items x.1))) }
     ensures short { IsOk result → length text.now ≤ limit }
-    ensures long { IfErr result (FaultIs (λ kind place. (limit < length text.now) × (kind ≡ FaultKind.TooLong) × (place ≡ start))) }
+    ensures long { IfErr result (FaultIs (λ kind place. (limit < length text.now) × (kind ≡ FaultKind.TooLong) × (place ≡ start_place))) }
 {
     if text.len() > LIMIT {
         return Err(SyntaxFault::InText {

@@ -7,7 +7,7 @@ pub use Rattle.pl0_tree.specs.Reading.{IsText, Reading, ReadsConditionText, Read
 pub use Rattle.pl0_tree.specs.Scope.{Allows, AreLawfulOutside, condition_uses, declarations, expression_uses, Home, IsBefore, IsLawful, Path, Use}
 pub use Rattle.pl0_tree.specs.SharedLemmas.{handed_on, steps_length}
 pub use Rattle.pl0_tree.specs.Steps.{AreSteps, blocks, step_path, StepAt, steps}
-pub use Rattle.pl0_tree.specs.Tokens.{start, symbols, Token, tokens_of}
+pub use Rattle.pl0_tree.specs.Tokens.{start_place, symbols, Token, tokens_of}
 pub use Rattle.pl0_tree.specs.Tree.{Block, Condition, Expression}
 pub use Rattle.pl0_tree.specs.declared.fault.FaultKind.TheVariants.{TooEarly, TooLong, TooManyNames, Twice, Unknown, WrongKind}
 pub use Rattle.pl0_tree.specs.declared.tree.Place.{Place}

@@ -1,4 +1,4 @@
-use Rattle.dbg_runner.proofs.Common.{ap, arith, Debugged, min-le_right, program_of, RunsAt, Standing, subst, sym, ◌+◌, ◌-◌, ◌∙◌}
+use Rattle.dbg_runner.proofs.Common.{ap, arith, Debugged, min-le_right, debugged_program, RunsAt, Standing, subst, sym, ◌+◌, ◌-◌, ◌∙◌}
 use Rattle.dbg_runner.proofs.Alive.{runs_before}
 use Rattle.dbg_runner.proofs.hops.go_on.Goals as goal
 
@@ -9,7 +9,7 @@ hop-requires-clause-runs c =
     let least = min-le_right c.args.most (c.args.to - c.position.result) in
     let within = c.requires.within in
     let is = c.min-steps.ensures in
-    subst (λ (d : Debugged). RunsAt (program_of d) (c.position-2.result + c.min-steps.result))
+    subst (λ (d : Debugged). RunsAt (debugged_program d) (c.position-2.result + c.min-steps.result))
     (sym c.loop-debuggee.invariant.0)
-    (runs_before (program_of c.args.debuggee.now) (c.position-2.result + c.min-steps.result) c.args.to
+    (runs_before (debugged_program c.args.debuggee.now) (c.position-2.result + c.min-steps.result) c.args.to
     (omega (arith, p, q, is, least, within)) c.requires.runs)

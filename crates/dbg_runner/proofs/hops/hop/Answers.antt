@@ -1,11 +1,11 @@
-use Rattle.dbg_runner.proofs.Common.{Advance, program_of, RanFrom, Some, subst}
+use Rattle.dbg_runner.proofs.Common.{Advance, debugged_program, RanFrom, Some, subst}
 use Rattle.dbg_runner.proofs.Hopping.{hops_to_limit, hops, never_over, never_faults}
 use Rattle.dbg_runner.proofs.Alive.{runs_bounded}
 use Rattle.dbg_runner.proofs.hops.hop.Goals as goal
 
 pub run-advance-requires-clause-bounded : goal.run-advance-requires-clause-bounded
 run-advance-requires-clause-bounded c =
-    runs_bounded c.meaning_laws.ensures.bounded (program_of c.args.debuggee.now) c.args.limit c.requires.runs
+    runs_bounded c.meaning_laws.ensures.bounded (debugged_program c.args.debuggee.now) c.args.limit c.requires.runs
 
 pub unreachable-requires : goal.unreachable-requires
 unreachable-requires c =

@@ -1,4 +1,4 @@
-use Rattle.dbg_runner.proofs.Common.{ap, arith, Bool, false, goal_of, if◌then◌else◌, IsCounted, Mode, None, Option, program_of, refl, Returns, reversed, Some, Standing, Stop, subst, sym, true, ℕ, ◌-◌, ◌∙◌, ◌≡◌}
+use Rattle.dbg_runner.proofs.Common.{ap, arith, Bool, false, goal_of, if◌then◌else◌, IsCounted, Mode, None, Option, debugged_program, refl, Returns, reversed, Some, Standing, Stop, subst, sym, true, ℕ, ◌-◌, ◌∙◌, ◌≡◌}
 use Rattle.std.specs.Bool.{then_some}
 use Rattle.dbg_plan.specs.declared.mode.Reason.TheVariants as reason
 use Rattle.dbg_runner.proofs.Returning.{on_return, on_search, search_leads, reverses, runs_through, from_checkpoint}
@@ -24,7 +24,7 @@ returns-in-StepBack-clause-leads c =
     let old = c.args.debuggee.now in
     let at = c.position-start.ensures.position ∙ ap (λ (m : Standing). m.position) c.machine.ensures in
     let is = c.saturating_sub-previous.ensures in
-    ap (λ m. goal_of (program_of old) old.breakpoints m old.position) c.in-StepBack.is
+    ap (λ m. goal_of (debugged_program old) old.breakpoints m old.position) c.in-StepBack.is
     ∙ ap (λ k. step_to (k - 1)) (sym at) ∙ ap step_to (sym is)
 
 pub returns-in-StepBack-clause-counted : goal.returns-in-StepBack-clause-counted
@@ -46,8 +46,8 @@ pub returns-then-start-eq0-clause-leads : goal.returns-then-start-eq0-clause-lea
 returns-then-start-eq0-clause-leads c =
     let old = c.args.debuggee.now in
     let at = c.position-start.ensures.position ∙ ap (λ (m : Standing). m.position) c.machine.ensures in
-    reverses (program_of old) old.breakpoints c.args.mode old.position c.in_default.not-StepBack c.requires.back
-    ∙ ap (λ k. Some (reversed (program_of old) old.breakpoints k)) (sym at ∙ c.if-start-eq0.true)
+    reverses (debugged_program old) old.breakpoints c.args.mode old.position c.in_default.not-StepBack c.requires.back
+    ∙ ap (λ k. Some (reversed (debugged_program old) old.breakpoints k)) (sym at ∙ c.if-start-eq0.true)
 
 pub returns-then-start-eq0-clause-counted : goal.returns-then-start-eq0-clause-counted
 returns-then-start-eq0-clause-counted c =

@@ -1,4 +1,4 @@
-use Rattle.dbg_runner.proofs.Common.{ap, arith, Debugged, gone_back, min-le_left, program_of, RunsAt, slice_limit, subst, sym, ◌+◌, ◌-◌, ◌∙◌}
+use Rattle.dbg_runner.proofs.Common.{ap, arith, Debugged, gone_back, min-le_left, debugged_program, RunsAt, slice_limit, subst, sym, ◌+◌, ◌-◌, ◌∙◌}
 use Rattle.dbg_runner.proofs.Alive.{runs_before}
 use Rattle.dbg_runner.proofs.Returning.{floor_below, within_turn, turns}
 use Rattle.dbg_runner.proofs.retreat.search_on.Goals as goal
@@ -6,7 +6,7 @@ use Rattle.dbg_runner.proofs.retreat.search_on.Goals as goal
 pub search-found-requires-clause-runs : goal.search-found-requires-clause-runs
 search-found-requires-clause-runs c =
     let least = min-le_left (c.args.start - 1) (c.args.again + slice_limit) in
-    runs_before (program_of c.args.debuggee.now) c.min-limit.result c.args.start
+    runs_before (debugged_program c.args.debuggee.now) c.min-limit.result c.args.start
     (omega (arith, c.min-limit.ensures, least)) c.requires.begun
 
 pub go_back-requires-clause-within : goal.go_back-requires-clause-within
@@ -32,8 +32,8 @@ go_on-steps-requires-clause-runs c =
     c.stop_at-to.result.1 c.stop_at-to.ensures in
     let same =
     c.go_back.ensures.gone ∙ ap (λ (d : Debugged). gone_back d c.stop_at-to.result.0) c.search-found.ensures.went in
-    subst (λ (d : Debugged). RunsAt (program_of d) c.stop_at-to.result.0) (sym same)
-    (runs_before (program_of c.args.debuggee.now) c.stop_at-to.result.0 c.args.start
+    subst (λ (d : Debugged). RunsAt (debugged_program d) c.stop_at-to.result.0) (sym same)
+    (runs_before (debugged_program c.args.debuggee.now) c.stop_at-to.result.0 c.args.start
     (omega (arith, within, there, c.min-limit.ensures, least)) c.requires.begun)
 
 pub returns-clause-ran : goal.returns-clause-ran

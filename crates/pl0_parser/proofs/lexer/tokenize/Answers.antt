@@ -1,11 +1,11 @@
-use Rattle.pl0_parser.proofs.Common.{[], arith, at, EndOfText, length, List, map, Place, subst, sym, Token, token_of, tokens_from, tokens_of, ℕ, ◌++◌, ◌<◌, ◌∷◌, ◌≡◌}
+use Rattle.pl0_parser.proofs.Common.{[], arith, token_at, EndOfText, length, List, map, Place, subst, sym, Token, token_of, tokens_from, tokens_of, ℕ, ◌++◌, ◌<◌, ◌∷◌, ◌≡◌}
 use Rattle.pl0_tree.specs.Ascending.{Ascend}
 use Rattle.pl0_parser.proofs.Order.{tokens_in_order}
 use Rattle.pl0_parser.proofs.lexer.tokenize.Goals as goal
 
 -- where no bytes are left, all tokens are found
 all_found : (found all : List Token) (p : Place) (rest : List ℕ) → length rest < 1 → found ++ tokens_from p 0 rest ≡ all
-    → found ++ at EndOfText p ∷ [] ≡ all
+    → found ++ token_at EndOfText p ∷ [] ≡ all
 all_found found all p [] none told = told
 all_found found all p (b ∷ rest) none told = absurd (omega arith)
 

@@ -1,5 +1,5 @@
 use Rattle.pl0_tree.specs.SharedLemmas.{handed_on}
-use Rattle.pl0_parser.proofs.Common.{ap, at, ending, left_of, Marked, Period, RefusedAll, ◌∙◌, ◌∷◌}
+use Rattle.pl0_parser.proofs.Common.{ap, token_at, ending, left_of, Marked, Period, RefusedAll, ◌∙◌, ◌∷◌}
 use Rattle.pl0_parser.proofs.Progress.{stays_all, fails}
 use Rattle.pl0_parser.proofs.Statements.{marked}
 use Rattle.pl0_parser.proofs.text.expect_end.Goals as goal
@@ -20,5 +20,9 @@ returns-in_err-finish-clause-fault c =
 
 pub returns-clause-ended : goal.returns-clause-ended
 returns-clause-ended c =
-    let period = c.in_ok-rest.ensures in
-    (period.0, c.in_ok-rest.rest.end, period.1 ∙ ap (λ ts. at (Marked Period) period.0 ∷ ts) c.in_ok-finish.ensures)
+    let period = c.in_ok-rest.ensures in (
+      period.0,
+      c.in_ok-rest.rest.end,
+      period.1 ∙ ap (λ ts. token_at (Marked Period) period.0 ∷ ts)
+          c.in_ok-finish.ensures,
+    )
