@@ -63,7 +63,7 @@ pub use Rattle.dbg_plan.specs.declared.mode.Reason.{Reason}
 pub use Rattle.dbg_plan.specs.declared.resolving.Resolution.{Resolution}
 pub use Rattle.dbg_plan.specs.declared.resolving.Resolution.TheVariants.{At, BadCondition, BadHitCondition, BadLogMessage, NoStep}
 pub use Rattle.dbg_runner.specs.Lawful.{EndsBy, GoesBackBy, IsLawfulReport, IsPassed, Went, WentBack, WentOn, faults, has_come, has_no_memory, is_due, is_spent, lacks_memory, logs_told, takes_all}
-pub use Rattle.dbg_runner.specs.Plain.{Go, Heading, Hold, PlainOrder, PlainReport, Quit, goes_back}
+pub use Rattle.dbg_runner.specs.Plain.{Go, Heading, Hold, PlainOrder, PlainReport, Quit, goes_back, back_if, direction}
 pub use Rattle.dbg_runner.specs.declared.outcome.SliceOutcome.{SliceOutcome}
 pub use Rattle.pl0_meaning.specs.Laws.{FramesAreFew, WrittenJoins}
 pub use Rattle.pl0_meaning.specs.Runs.{at, frame_limit, written}

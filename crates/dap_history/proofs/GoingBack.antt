@@ -1,5 +1,5 @@
 -- A run goes back as asked and is not held, and counts begin anew after it.
-use Rattle.dap_history.proofs.Common.{Accepted, Block, Body, Causes, CommandName, Configuring, Content, Effect, Fault, Faulted, Go, GoesBackBy, Heading, History, Hold, Incoming, InputEnd, IsSome, IsStopped, Item, Loaded, MemoryFailure, Mode, None, Ok, Option, PlainOrder, PlainReport, Plan, Quit, ReadFailure, Running, Situation, SliceOutcome, Some, Step, StopReason, Stopped, Went, WrittenJoins, [], ap, back_in, end_of, from_next, go, goes_back, if◌then◌else◌, inl, inr, is_back, last_run, last_such, message_mark, messages, nothing, option_map_or, or_else, order_mark, plan, put_in_at, refl, report_effect, run_in, situation, step_mark, stop_of_event, subst, sym, unwrap_or, waiting_plan, ℕ, ◌++◌, ◌+◌, ◌∙◌, ◌∷◌, ◌≡◌, ◌⊎◌}
+use Rattle.dap_history.proofs.Common.{Accepted, Block, Body, Causes, CommandName, Configuring, Content, Effect, Fault, Faulted, Go, GoesBackBy, Heading, History, Hold, Incoming, InputEnd, IsSome, IsStopped, Item, Loaded, MemoryFailure, Mode, None, Ok, Option, PlainOrder, PlainReport, Plan, Quit, ReadFailure, Running, Situation, SliceOutcome, Some, Step, StopReason, Stopped, Went, WrittenJoins, [], ap, back_in, end_of, from_next, go, goes_back, if◌then◌else◌, inl, inr, is_back, last_run, last_such, message_mark, messages, nothing, option_map_or, or_else, order_mark, plan, put_in_at, refl, report_effect, run_in, situation, step_mark, stop_of_event, subst, sym, unwrap_or, waiting_plan, ℕ, ◌++◌, ◌+◌, ◌∙◌, ◌∷◌, ◌≡◌, ◌⊎◌, back_if}
 use Rattle.std.proofs.Common.{List, true, false}
 use Rattle.std.specs.Prelude.{option_map}
 use Rattle.dap_msg.specs.declared.outgoing.Outgoing.TheVariants.{Answer}
@@ -188,7 +188,7 @@ module _ (one : OneProgram) (joins : WrittenJoins) where
         by_mark (inl mark) =
             subst (Counted past (Accepted r)) (sym is.effect_is)
             (come past r taken.1.program r.outcome goes
-            (subst (λ b. Went taken.1.program r b) goes taken.1.lawful.went).outcome
+            (subst (λ b. Went taken.1.program r (back_if b)) goes taken.1.lawful.went).outcome
             (subst (MarkIs IsStopped) (mark_of (report_effect past r r.outcome) step is) mark))
         by_mark (inr stands) = absurd (subst IsStopped taken.0.running stands.1)
     counted_by (Fault k) taken is leads = still (Fault k) _ is.effect_is refl refl refl (by_stop (Fault k) is leads)

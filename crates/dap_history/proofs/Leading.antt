@@ -1,5 +1,5 @@
 -- Each item that reads no text leads from a history to another.
-use Rattle.dap_history.proofs.Common.{Accepted, Block, Body, Breakpoint, Causes, Command, Configuration, Configuring, Content, Effect, EndsBy, Err, Fault, Faulted, Fresh, GoesBackBy, History, InputEnd, Inspects, IsAfter, IsSome, IsStopped, Item, Launch, Launched, Launches, Loaded, MemoryFailure, Mode, None, OfProgram, Ok, Option, Outgoing, PlainReport, Question, Quit, Reaction, Reacts, ReadFailure, Ready, Reason, RepliesAt, RepliesFrom, RepliesIn, Reply, Resume, Retreat, Situation, SliceOutcome, Some, Start, Step, Stop, Stopped, Went, WrittenJoins, [], ap, arith, at, due, end_of, faults, for_thread, goal_of, goes_back, has_come, has_no_memory, if◌then◌else◌, inl, inr, is_due, is_some, is_spent, lacks_memory, last_due, launched, length, name_of, nothing, option_map_or, or_else, ordering, refl, refused, reply_of, report_effect, situation, step_mark, stop_at, subject_in, subst, suc, sym, takes_all, unwrap_or, zero, ℕ, ◌++◌, ◌-◌, ◌<◌, ◌∙◌, ◌∷◌, ◌≡◌, ◌≤◌, ◌⊎◌}
+use Rattle.dap_history.proofs.Common.{Accepted, Block, Body, Breakpoint, Causes, Command, Configuration, Configuring, Content, Effect, EndsBy, Err, Fault, Faulted, Fresh, GoesBackBy, History, InputEnd, Inspects, IsAfter, IsSome, IsStopped, Item, Launch, Launched, Launches, Loaded, MemoryFailure, Mode, None, OfProgram, Ok, Option, Outgoing, PlainReport, Question, Quit, Reaction, Reacts, ReadFailure, Ready, Reason, RepliesAt, RepliesFrom, RepliesIn, Reply, Resume, Retreat, Situation, SliceOutcome, Some, Start, Step, Stop, Stopped, Went, WrittenJoins, [], ap, arith, at, due, end_of, faults, for_thread, goal_of, goes_back, has_come, has_no_memory, if◌then◌else◌, inl, inr, is_due, is_some, is_spent, lacks_memory, last_due, launched, length, name_of, nothing, option_map_or, or_else, ordering, refl, refused, reply_of, report_effect, situation, step_mark, stop_at, subject_in, subst, suc, sym, takes_all, unwrap_or, zero, ℕ, ◌++◌, ◌-◌, ◌<◌, ◌∙◌, ◌∷◌, ◌≡◌, ◌≤◌, ◌⊎◌, back_if}
 use Rattle.std.proofs.Common.{List, Bool, true, false}
 use Rattle.dap_msg.specs.declared.question.Question.TheVariants as question
 use Rattle.dap_msg.specs.declared.command.Command.TheVariants as command
@@ -75,7 +75,7 @@ module _ (main : Block) (r : PlainReport) (no_gaps : RunsHaveNoGaps) where
   back_below slice.Done by = elim by [ ]
   back_below (slice.Fault fault) by = elim by [ ]
 
-  went_alive : (b : Bool) → Went main r b → IsSome (at main r.end)
+  went_alive : (b : Bool) → Went main r (back_if b) → IsSome (at main r.end)
   went_alive false went = ends_alive r.outcome went.outcome
   went_alive true went =
       no_gaps main r.end r.start (back_below r.outcome went.outcome)

@@ -1,5 +1,5 @@
 -- The logs reported are those of the positions considered.
-use Rattle.dap_history.proofs.Common.{Accepted, Accepts, Block, Breakpoint, Causes, EndsBy, Heading, History, Incoming, IsLawfulReport, IsPassed, Launched, LogsAreSaid, None, PlainReport, SliceOutcome, Some, Step, Went, WentOn, WrittenJoins, [], all_runs, ap, append-nil, arith, at, cases_lt, cons_option, end_in, faults, filter_map, flat_map, flat_map-append, go, goes_back, if◌then◌else◌, inl, inr, is_due, lacks_memory, launched, logs_told, range_with_len, refl, run_end, run_texts, runs, subst, sym, takes_all, text_of_log, unwrap_or, ℕ, ◌++◌, ◌+◌, ◌-◌, ◌<◌, ◌∙◌, ◌∷◌, ◌≡◌, ◌≤◌, ◌⊎◌}
+use Rattle.dap_history.proofs.Common.{Accepted, Accepts, Block, Breakpoint, Causes, EndsBy, Heading, History, Incoming, IsLawfulReport, IsPassed, Launched, LogsAreSaid, None, PlainReport, SliceOutcome, Some, Step, Went, WentOn, WrittenJoins, [], all_runs, ap, append-nil, arith, at, cases_lt, cons_option, end_in, faults, filter_map, flat_map, flat_map-append, go, goes_back, if◌then◌else◌, inl, inr, is_due, lacks_memory, launched, logs_told, range_with_len, refl, run_end, run_texts, runs, subst, sym, takes_all, text_of_log, unwrap_or, ℕ, ◌++◌, ◌+◌, ◌-◌, ◌<◌, ◌∙◌, ◌∷◌, ◌≡◌, ◌≤◌, ◌⊎◌, back_if}
 use Rattle.std.proofs.Common.{List, Bool, true, false, append_assoc}
 use Rattle.std.specs.Prelude.{map, ◌&&◌}
 use Rattle.std.specs.List.{enumerate_from}
@@ -209,7 +209,7 @@ module _ (one : OneProgram) (joins : WrittenJoins) (said : LogsAreSaid) where
     abbrev texts_by : Bool → ℕ → List (List ℕ)
     texts_by b n = flat_map texts (if b then [] else range_with_len (run.start + 1) (n - run.start))
 
-    by_went : (b : Bool) → Went lawful.program r b → texts_by b r.end ≡ texts_by b r.start ++ told_texts r
+    by_went : (b : Bool) → Went lawful.program r (back_if b) → texts_by b r.end ≡ texts_by b r.start ++ told_texts r
     by_went false went = going_on_adds_texts went
     by_went true went = sym (ap (map (text_of_log r.plan)) went.logs)
 

@@ -1,5 +1,5 @@
 -- Which run an item orders, and under which plan.
-use Rattle.dap_history.proofs.Common.{Accepted, Accepts, Block, Causes, Content, Effect, GoesBackBy, Heading, History, Item, Launch, Launches, Loaded, Mode, None, Option, PlainReport, Plan, Reply, SliceOutcome, Some, Step, Went, ap, back_by, back_in, back_of, go, goes_back, held_by, held_effect, if◌then◌else◌, inl, inr, is_back, last_such, option_map_or, plan, refl, report_effect, situation, subst, sym, unwrap_or, waiting_pause, ℕ, ◌∙◌, ◌≡◌, ◌⊎◌}
+use Rattle.dap_history.proofs.Common.{Accepted, Accepts, Block, Causes, Content, Effect, GoesBackBy, Heading, History, Item, Launch, Launches, Loaded, Mode, None, Option, PlainReport, Plan, Reply, SliceOutcome, Some, Step, Went, ap, back_by, back_in, back_of, go, goes_back, held_by, held_effect, if◌then◌else◌, inl, inr, is_back, last_such, option_map_or, plan, refl, report_effect, situation, subst, sym, unwrap_or, waiting_pause, ℕ, ◌∙◌, ◌≡◌, ◌⊎◌, back_if, direction}
 use Rattle.std.proofs.Common.{List, Bool, true, false}
 use Rattle.dbg_runner.specs.declared.outcome.SliceOutcome.TheVariants as slice
 use Rattle.dap_history.specs.Readings.{position}
@@ -41,10 +41,10 @@ is_back_is past r accepts =
 no_rule : (main : Block) (r : PlainReport) → GoesBackBy main r slice.Held → ⊥
 no_rule main r by = elim by [ ]
 
-never_held : (main : Block) (r : PlainReport) → goes_back r.mode ≡ true → Went main r (goes_back r.mode)
+never_held : (main : Block) (r : PlainReport) → goes_back r.mode ≡ true → Went main r (direction r.mode)
     → r.outcome ≡ slice.Held → ⊥
 never_held main r back went is =
-    no_rule main r (subst (λ e. GoesBackBy main r e) is (subst (λ b. Went main r b) back went).outcome)
+    no_rule main r (subst (λ e. GoesBackBy main r e) is (subst (λ b. Went main r (back_if b)) back went).outcome)
 
 report_ordered : (past : History) (r : PlainReport) (e : SliceOutcome) → Accepts past r
     → (goes_back r.mode ≡ true → e ≡ slice.Held → ⊥) → OrderedBy past None (report_effect past r e)

@@ -1,5 +1,5 @@
 -- Each stop is where it has to be.
-use Rattle.dap_history.proofs.Common.{Accepted, Accepts, Block, Causes, Content, Effect, EndsBy, GoesBackBy, Heading, History, IsLawfulReport, IsPassed, IsRetreatsStop, IsRightStop, IsRunsStop, IsStopOf, Item, Launch, Launched, Launches, Loaded, None, NoneDueBefore, NoneDueUpTo, Option, PlainReport, Ready, Reason, Reply, SliceOutcome, Some, Step, StopReason, Went, WentOn, WrittenJoins, [], ap, arith, due_in, end_of, exception_of, exited_events, faults, go, goal_of, goes_back, has_come, held_effect, inl, inr, is_due, last_run, last_such, launched, or_else, order_mark, refl, report_effect, situation, step_mark, stop_in, stop_of, stop_of_event, stopped_events, subst, sym, unwrap_or, waiting_pause, ℕ, ◌++◌, ◌<◌, ◌∙◌, ◌∷◌, ◌≡◌, ◌≤◌, ◌⊎◌}
+use Rattle.dap_history.proofs.Common.{Accepted, Accepts, Block, Causes, Content, Effect, EndsBy, GoesBackBy, Heading, History, IsLawfulReport, IsPassed, IsRetreatsStop, IsRightStop, IsRunsStop, IsStopOf, Item, Launch, Launched, Launches, Loaded, None, NoneDueBefore, NoneDueUpTo, Option, PlainReport, Ready, Reason, Reply, SliceOutcome, Some, Step, StopReason, Went, WentOn, WrittenJoins, [], ap, arith, due_in, end_of, exception_of, exited_events, faults, go, goal_of, goes_back, has_come, held_effect, inl, inr, is_due, last_run, last_such, launched, or_else, order_mark, refl, report_effect, situation, step_mark, stop_in, stop_of, stop_of_event, stopped_events, subst, sym, unwrap_or, waiting_pause, ℕ, ◌++◌, ◌<◌, ◌∙◌, ◌∷◌, ◌≡◌, ◌≤◌, ◌⊎◌, back_if}
 use Rattle.std.proofs.Common.{List, Bool, true, false}
 use Rattle.dap_msg.specs.declared.outgoing.StopReason.TheVariants as stop
 use Rattle.pl0_meaning.specs.Runs.{outcome}
@@ -79,7 +79,8 @@ module _ (one : OneProgram) (joins : WrittenJoins) where
       nowhere : mark_of_effect (report_effect past r r.outcome) ≡ None
       nowhere = sym (mark_of (report_effect past r r.outcome) step causes) ∙ none
 
-      by_went : (b : Bool) → Went taken.1.program r b → (taken.0.run.start ≤ r.end) × NoneDueUpTo l taken.0.run r.end
+      by_went : (b : Bool) → Went taken.1.program r (back_if b) → (taken.0.run.start ≤ r.end)
+          × NoneDueUpTo l taken.0.run r.end
       by_went false went =
           let at_end = undue_end taken.1.program past r went nowhere in (
             begun_before one joins past r taken.0 taken.1 ran l is went,
@@ -148,7 +149,7 @@ module _ (one : OneProgram) (joins : WrittenJoins) where
       goes : goes_back r.mode ≡ goes_back run.mode
       goes = ap (λ (h : Heading). goes_back h.mode) taken.0.expected ∙ ap (λ (h : Heading). goes_back h.mode) same
 
-      by_went : (b : Bool) → b ≡ true → Went taken.1.program r b → r.end ≡ run.start
+      by_went : (b : Bool) → b ≡ true → Went taken.1.program r (back_if b) → r.end ≡ run.start
       by_went false is went = absurd cc
       by_went true is went =
           stays_end taken.1.program past r went (sym (mark_of (report_effect past r r.outcome) step causes) ∙ none)
@@ -307,7 +308,7 @@ module _ (one : OneProgram) (joins : WrittenJoins) where
         subst (λ b. IsStopOf b l run s r.end) (ap (λ (h : Heading). goes_back h.mode) accepts.expected)
         (by_went (goes_back r.mode) refl lawful.lawful.went)
       where
-        by_went : (b : Bool) → goes_back r.mode ≡ b → Went lawful.program r b → IsStopOf b l run s r.end
+        by_went : (b : Bool) → goes_back r.mode ≡ b → Went lawful.program r (back_if b) → IsStopOf b l run s r.end
         by_went false mode went = stops_on went r.outcome went.outcome s so_far
         by_went true mode went = stops_back mode r.outcome went.outcome s so_far
 

@@ -1,5 +1,5 @@
 -- What a lawful report says, whether its run goes on or back.
-use Rattle.dap_history.proofs.Common.{Block, Breakpoint, EndsBy, GoesBackBy, Mode, PlainReport, SliceOutcome, Some, Stop, Went, WentBack, WentOn, WrittenJoins, [], ap, append-nil, arith, cases_lt, drop-nil, due, goal_of, goes_back, has_come, has_no_memory, if◌then◌else◌, inl, inr, is_some, is_spent, lacks_memory, last_due, length, length-append, logs_told, max, reversed, stepped_back, stop_at, subst, suc, sym, written, zero, ℕ, ⊎_elim, ◌++◌, ◌+◌, ◌-◌, ◌∙◌, ◌≡◌, ◌≤◌, ◌⊎◌}
+use Rattle.dap_history.proofs.Common.{Block, Breakpoint, EndsBy, GoesBackBy, Mode, PlainReport, SliceOutcome, Some, Stop, Went, WentBack, WentOn, WrittenJoins, [], ap, append-nil, arith, cases_lt, drop-nil, due, goal_of, goes_back, has_come, has_no_memory, if◌then◌else◌, inl, inr, is_some, is_spent, lacks_memory, last_due, length, length-append, logs_told, max, reversed, stepped_back, stop_at, subst, suc, sym, written, zero, ℕ, ⊎_elim, ◌++◌, ◌+◌, ◌-◌, ◌∙◌, ◌≡◌, ◌≤◌, ◌⊎◌, back_if}
 use Rattle.std.proofs.Common.{List, ℤ, drop, Bool, true, false}
 use Rattle.std.proofs.Math.Seq.{drop-append_seam}
 use Rattle.std.proofs.Math.ListN.{drop_of_length-le}
@@ -49,7 +49,7 @@ pub nothing_told : (main : Block) (r : PlainReport) → IsLawfulFor main r → r
     × (r.logs ≡ [])
 nothing_told main r lawful is = by_went (goes_back r.mode) lawful.went
   where
-    by_went : (b : Bool) → Went main r b → (r.numbers ≡ []) × (r.logs ≡ [])
+    by_went : (b : Bool) → Went main r (back_if b) → (r.numbers ≡ []) × (r.logs ≡ [])
     by_went false went = (
       went.numbers ∙ ap (written main r.start) (took_none main r (subst (EndsBy main r) is went.outcome))
           ∙ written_here main r.start,
@@ -110,7 +110,7 @@ module _ (joins : WrittenJoins) (main : Block) (r : PlainReport) (before : r.bef
       ∙ told_is
       ∙ ap (written main 0) (sym same)
 
-  pub told_joins : (b : Bool) → Went main r b → Joined
+  pub told_joins : (b : Bool) → Went main r (back_if b) → Joined
   told_joins false went =
       ⊎_elim (λ (below : r.end ≤ furthest). all_told went below) (λ (beyond : furthest ≤ r.end). some_told went beyond)
       (by_order (cases_lt r.end furthest))

@@ -4,7 +4,7 @@ use Rattle.std.proofs.Math.Seq.{drop-nil}
 use Rattle.pl0_tree.specs.Tree.{Block}
 use Rattle.pl0_meaning.specs.Runs.{Outcome, Goes, Faults, Stuck, outcome, written_by, written_from, written}
 use Rattle.dbg_runner.specs.Lawful.{Went, IsLawfulReport}
-use Rattle.dbg_runner.specs.Plain.{PlainReport, goes_back}
+use Rattle.dbg_runner.specs.Plain.{PlainReport, goes_back, back_if}
 use Rattle.dbg_runner.specs.Reported.{Reported, plain_report}
 use Rattle.dap_msg.specs.declared.outgoing.EventBody.TheVariants as event
 use Rattle.dap_history.specs.Replies.{log_events}
@@ -29,7 +29,8 @@ written_few main a (suc count) =
           (written_by (outcome main a)) (written_from main (a + 1) count),
     )
 
-fits_by : (main : Block) (r : PlainReport) (back : Bool) → r.before ≡ length (written main 0 r.start) → Went main r back
+fits_by : (main : Block) (r : PlainReport) (back : Bool) → r.before ≡ length (written main 0 r.start)
+    → Went main r (back_if back)
     → (told limit : ℕ) → told < limit → r.end < limit → told + length (drop (told - r.before) r.numbers) < limit
 fits_by main r false before went told limit few ends =
     omega (

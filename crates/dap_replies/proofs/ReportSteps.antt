@@ -16,7 +16,7 @@ use Rattle.dbg_plan.specs.Trail.{Trail}
 use Rattle.dbg_runner.specs.declared.outcome.SliceOutcome.{SliceOutcome}
 use Rattle.dbg_runner.specs.declared.outcome.SliceOutcome.TheVariants as slice
 use Rattle.dbg_plan.specs.declared.mode.Mode.{Mode}
-use Rattle.dbg_runner.specs.Plain.{Heading, PlainReport, Go, goes_back}
+use Rattle.dbg_runner.specs.Plain.{Heading, PlainReport, Go, goes_back, back_if}
 use Rattle.dbg_runner.specs.Reported.{Reported, text_of, plain_report, heading, counts_from, stopped, trail_in, Carries}
 use Rattle.dap_history.specs.Last.{last_such}
 use Rattle.dap_history.specs.Plans.{Plan}
@@ -180,7 +180,7 @@ stopped_by back r trail =
       unit = r.unit;
       position = r.end;
       breakpoints = r.plan;
-      counted_from = counts_from back r;
+      counted_from = counts_from (back_if back) r;
       next = r.end + 1;
       trail = trail;
     }
@@ -309,7 +309,7 @@ report_begins_again laws t run r past goes is =
 
 -- ---- the debuggee of a report that stops its run
 
-pub stopped_in : (b : Bool) (r : Reported) (o : SliceOutcome) → Stops o → Carries b r o
+pub stopped_in : (b : Bool) (r : Reported) (o : SliceOutcome) → Stops o → Carries (back_if b) r o
     → r.debuggee ≡ Some (stopped r (trail_in r.debuggee))
 stopped_in true r (slice.Due reason) stops is = is
 stopped_in true r slice.Held stops is = absurd is

@@ -1,5 +1,5 @@
 -- A kept report is lawful, and its debuggee was considered where it stands.
-use Rattle.dbg_runner.proofs.Common.{ap, arith, Block, Bool, Breakpoint, carried, Carries, Debugged, due, EndsBy, false, faults, goal_of, goes_back, GoesBackBy, has_come, has_no_memory, if◌then◌else◌, is_due, is_held, is_over, is_some, is_spent, IsConsidered, IsKept, IsLawfulReport, lacks_memory, last_due, List, Mode, Option, plain_report, PlainReport, refl, Reported, reversed, RunsAt, SliceOutcome, Some, StandsAtEnd, stepped_back, Stop, stop_at, stopped, subst, suc, sym, takes_all, Trail, trail_in, true, Went, WentBack, WentOn, zero, ℕ, ◌∙◌, ◌≡◌, ◌≤◌}
+use Rattle.dbg_runner.proofs.Common.{ap, arith, Block, Bool, Breakpoint, carried, Carries, Debugged, due, EndsBy, false, faults, goal_of, goes_back, GoesBackBy, has_come, has_no_memory, if◌then◌else◌, is_due, is_held, is_over, is_some, is_spent, IsConsidered, IsKept, IsLawfulReport, lacks_memory, last_due, List, Mode, Option, plain_report, PlainReport, refl, Reported, reversed, RunsAt, SliceOutcome, Some, StandsAtEnd, stepped_back, Stop, stop_at, stopped, subst, suc, sym, takes_all, Trail, trail_in, true, Went, WentBack, WentOn, zero, ℕ, ◌∙◌, ◌≡◌, ◌≤◌, back_if, direction}
 use Rattle.pl0_machine.specs.Machine.{program_of}
 use Rattle.dbg_plan.specs.declared.mode.Mode.TheVariants as mode
 use Rattle.dbg_runner.specs.declared.outcome.SliceOutcome.TheVariants as out
@@ -10,13 +10,13 @@ lawful r kept = record { program = program_of r.unit; reads = r.unit.tree.lawful
 
 -- ---- by the direction of the run
 
-pub as_onward : (main : Block) (r : PlainReport) → goes_back r.mode ≡ false → Went main r (goes_back r.mode)
+pub as_onward : (main : Block) (r : PlainReport) → goes_back r.mode ≡ false → Went main r (direction r.mode)
     → WentOn main r
-as_onward main r forward went = subst (λ b. Went main r b) forward went
+as_onward main r forward went = subst (λ b. Went main r (back_if b)) forward went
 
-pub as_back : (main : Block) (r : PlainReport) → goes_back r.mode ≡ true → Went main r (goes_back r.mode)
+pub as_back : (main : Block) (r : PlainReport) → goes_back r.mode ≡ true → Went main r (direction r.mode)
     → WentBack main r
-as_back main r back went = subst (λ b. Went main r b) back went
+as_back main r back went = subst (λ b. Went main r (back_if b)) back went
 
 -- ---- where a run stops that goes back
 
@@ -61,7 +61,7 @@ ends_before main r _ none = elim none [ ]
 runs_at_stop : (main : Block) (r : PlainReport) → WentBack main r → RunsAt main r.end
 runs_at_stop main r went = runs_before main r.end r.start (ends_before main r r.outcome went.outcome) went.begun
 
-runs_there : (main : Block) (r : PlainReport) (back : Bool) → Went main r back → ¬ (r.outcome ≡ out.Done)
+runs_there : (main : Block) (r : PlainReport) (back : Bool) → Went main r (back_if back) → ¬ (r.outcome ≡ out.Done)
     → RunsAt main r.end
 runs_there main r false went not_over = runs_at_end main r r.outcome went.outcome not_over
 runs_there main r true went not_over = runs_at_stop main r went
@@ -95,11 +95,11 @@ where_it_ends r d kept is carries =
     subst (λ (d : Debugged). IsConsidered d) (sym here.0) (stopped_considered r (trail_in r.debuggee) kept here.1)
 
 -- the debuggee in a report
-pub carried_considered : (back : Bool) (r : Reported) (d : Debugged) → IsKept r → Carries back r r.outcome
+pub carried_considered : (back : Bool) (r : Reported) (d : Debugged) → IsKept r → Carries (back_if back) r r.outcome
     → r.debuggee ≡ Some d → IsConsidered d
 carried_considered back r d kept carries is = by_outcome back r.outcome refl carries
   where
-    by_outcome : (b : Bool) (e : SliceOutcome) → e ≡ r.outcome → Carries b r e → IsConsidered d
+    by_outcome : (b : Bool) (e : SliceOutcome) → e ≡ r.outcome → Carries (back_if b) r e → IsConsidered d
     by_outcome true out.NoMemory same carries =
         let it : carries.0 ≡ d = cc in subst (λ (d : Debugged). IsConsidered d) it carries.2.considered
     by_outcome true out.Held same carries = absurd carries

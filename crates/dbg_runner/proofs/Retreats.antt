@@ -1,5 +1,5 @@
 -- The reports of a run that goes back.
-use Rattle.dbg_runner.proofs.Common.{[], ap, arith, Box, Carries, counts_from, Debugged, Global, goal_of, goes_back, GoesBackBy, has_come, has_no_memory, is_spent, IsAt, IsKept, IsOn, IsReportWith, IsRetreat, IsRoomFor, length, None, Option, plain_report, debugged_program, Reason, refl, Reported, Retreating, retreating_of, Returns, Room, Searches, slice_limit, SliceOutcome, Some, stopped, subst, summary_back, sym, Went, written, ℕ, ◌*◌, ◌+◌, ◌∙◌, ◌≡◌, ◌≤◌}
+use Rattle.dbg_runner.proofs.Common.{[], ap, arith, Box, Carries, counts_from, Debugged, Global, goal_of, goes_back, GoesBackBy, has_come, has_no_memory, is_spent, IsAt, IsKept, IsOn, IsReportWith, IsRetreat, IsRoomFor, length, None, Option, plain_report, debugged_program, Reason, refl, Reported, Retreating, retreating_of, Returns, Room, Searches, slice_limit, SliceOutcome, Some, stopped, subst, summary_back, sym, Went, written, ℕ, ◌*◌, ◌+◌, ◌∙◌, ◌≡◌, ◌≤◌, back_if, direction}
 use Rattle.dbg_plan.specs.declared.debuggee.Debuggee.{Debuggee}
 use Rattle.dbg_runner.specs.declared.outcome.SliceOutcome.TheVariants as out
 use Rattle.dbg_runner.specs.declared.report.Summary.{Summary}
@@ -61,7 +61,7 @@ module _ (r : Inside) (inv : IsRetreat r) where
         (plain_report (report_with outcome d)) outcome → IsKept (report_with outcome d)
     kept outcome d by = record {
       before = refl;
-      went = subst (λ b. Went (debugged_program r.debuggee.value) (plain_report (report_with outcome d)) b)
+      went = subst (λ b. Went (debugged_program r.debuggee.value) (plain_report (report_with outcome d)) (back_if b))
           (sym inv.goes_back)
           (record { begun = inv.begun; numbers = refl; logs = refl; again = few; outcome = by });
     }
@@ -71,7 +71,8 @@ module _ (r : Inside) (inv : IsRetreat r) where
     gives_up stays = record {
       lawful = kept out.NoMemory (Some r.debuggee.value) (has_no_memory stays);
       carries =
-          subst (λ b. Carries b (report_with out.NoMemory (Some r.debuggee.value)) out.NoMemory) (sym inv.goes_back) (
+          subst (λ b. Carries (back_if b) (report_with out.NoMemory (Some r.debuggee.value)) out.NoMemory)
+          (sym inv.goes_back) (
             r.debuggee.value,
             refl,
             record {
@@ -87,7 +88,7 @@ module _ (r : Inside) (inv : IsRetreat r) where
     pub goes_on : end ≡ r.start → slice_limit ≤ r.again → IsReportWith (of out.More) (Sliced room None)
     goes_on stays all = record {
       lawful = kept out.More None (is_spent stays all);
-      carries = subst (λ b. Carries b (report_with out.More None) out.More) (sym inv.goes_back) refl;
+      carries = subst (λ b. Carries (back_if b) (report_with out.More None) out.More) (sym inv.goes_back) refl;
     }
 
     -- it has come to where it stops
@@ -107,8 +108,8 @@ module _ (r : Inside) (inv : IsRetreat r) where
       report = report_with (out.Due why) (Some box.value)
 
       -- its plan counts from the next position
-      counts : r.debuggee.value.next ≡ counts_from (goes_back r.mode) report
-      counts = next_is ∙ ap (λ b. counts_from b report) (sym inv.goes_back)
+      counts : r.debuggee.value.next ≡ counts_from (direction r.mode) report
+      counts = next_is ∙ ap (λ b. counts_from (back_if b) report) (sym inv.goes_back)
 
       stands : box.value ≡ stopped report box.value.trail
       stands =
@@ -126,7 +127,8 @@ module _ (r : Inside) (inv : IsRetreat r) where
       arrives = record {
         lawful = kept (out.Due why) (Some box.value) (has_come here);
         carries =
-            subst (λ b. Carries b report (out.Due why)) (sym inv.goes_back) (ap (λ (d : Debugged). Some d) stands);
+            subst (λ b. Carries (back_if b) report (out.Due why)) (sym inv.goes_back)
+            (ap (λ (d : Debugged). Some d) stands);
       }
 
 -- the room, if it is of this run

@@ -1,5 +1,5 @@
 -- How far a run that goes back has come, by the fields that it keeps.
-use Rattle.std.specs.Prelude.{◌≡◌, ℕ, ◌+◌, ◌-◌, ◌*◌, ◌<◌, ◌≤◌, ◌⊎◌, true, nat_eq, if◌then◌else◌, Option, Some, None, length}
+use Rattle.std.specs.Prelude.{◌≡◌, ℕ, ◌+◌, ◌-◌, ◌*◌, ◌<◌, ◌≤◌, true, nat_eq, if◌then◌else◌, Option, Some, None, length}
 use Rattle.pl0_meaning.specs.Runs.{written, last_position}
 use Rattle.dbg_plan.specs.declared.mode.Mode.{Mode}
 use Rattle.dbg_plan.specs.declared.mode.Mode.TheVariants.{Reverse}

@@ -16,6 +16,18 @@ goes_back In = false
 goes_back (Over d) = false
 goes_back (Out d) = false
 
+-- which way a run goes
+pub data Direction : Type 0 where
+  Onward : Direction
+  Back : Direction
+
+abbrev pub back_if : Bool → Direction
+back_if true = Back
+back_if false = Onward
+
+abbrev pub direction : Mode → Direction
+direction mode = back_if (goes_back mode)
+
 -- What fixes the next report of a run: the run's number, its program's text, its plan with the first position that it
 -- counts, its mode, and the position from which it goes on.
 pub record Heading : Type 0 where

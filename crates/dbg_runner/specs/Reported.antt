@@ -1,5 +1,5 @@
 -- What contracts see of a report, and what it is as data.
-use Rattle.std.specs.Prelude.{◌≡◌, ℕ, ◌+◌, ◌≤◌, Bool, true, false, [], List, length, Option, Some, None, ℤ}
+use Rattle.std.specs.Prelude.{◌≡◌, ℕ, ◌+◌, ◌≤◌, [], List, length, Option, Some, None, ℤ}
 use Rattle.pl0_unit.specs.declared.unit.Unit.{Unit as Compiled}
 use Rattle.pl0_meaning.specs.Runs.{written}
 use Rattle.pl0_machine.specs.Machine.{program_of}
@@ -11,7 +11,7 @@ use Rattle.dbg_plan.specs.Debugged.{Debugged, IsConsidered}
 use Rattle.dbg_runner.specs.declared.outcome.SliceOutcome.{SliceOutcome}
 use Rattle.dbg_runner.specs.declared.outcome.SliceOutcome.TheVariants as out
 use Rattle.dbg_runner.specs.declared.report.Summary.{Summary}
-use Rattle.dbg_runner.specs.Plain.{Heading, PlainReport, goes_back}
+use Rattle.dbg_runner.specs.Plain.{Heading, PlainReport, Direction, Onward, Back, direction}
 use Rattle.dbg_runner.specs.Lawful.{IsLawfulFor}
 
 -- A report with its program's code, and the debuggee that it carries.
@@ -108,9 +108,9 @@ unsliced run mode d outcome =
 -- ---- the debuggee after a report
 
 -- The first position that its plan counts. Where a run that goes back stops, counts begin anew at the next position.
-abbrev pub counts_from : Bool → Reported → ℕ
-counts_from false r = r.counted_from
-counts_from true r = r.end + 1
+abbrev pub counts_from : Direction → Reported → ℕ
+counts_from Onward r = r.counted_from
+counts_from Back r = r.end + 1
 
 -- the debuggee where the report ends, which was considered there
 abbrev pub stopped : Reported → Trail → Debugged
@@ -119,7 +119,7 @@ stopped r trail =
       unit = r.unit;
       position = r.end;
       breakpoints = r.plan;
-      counted_from = counts_from (goes_back r.mode) r;
+      counted_from = counts_from (direction r.mode) r;
       next = r.end + 1;
       trail = trail;
     }
@@ -169,11 +169,11 @@ pub record IsOnItsWay (r : Reported) (d : Debugged) : Type 0 where
 
 -- What a report carries: the debuggee where it ends. A run that goes back and finds no memory gives it up on its way;
 -- it isn't held, comes to no end of the program, and meets no fault.
-abbrev pub Carries : Bool → Reported → SliceOutcome → Type 0
-Carries false r outcome = r.debuggee ≡ carried r outcome
-Carries true r out.More = r.debuggee ≡ carried r out.More
-Carries true r (out.Due reason) = r.debuggee ≡ carried r (out.Due reason)
-Carries true r out.NoMemory = (d : Debugged) × (r.debuggee ≡ Some d) × IsOnItsWay r d
-Carries true r out.Held = ⊥
-Carries true r out.Done = ⊥
-Carries true r (out.Fault fault) = ⊥
+abbrev pub Carries : Direction → Reported → SliceOutcome → Type 0
+Carries Onward r outcome = r.debuggee ≡ carried r outcome
+Carries Back r out.More = r.debuggee ≡ carried r out.More
+Carries Back r (out.Due reason) = r.debuggee ≡ carried r (out.Due reason)
+Carries Back r out.NoMemory = (d : Debugged) × (r.debuggee ≡ Some d) × IsOnItsWay r d
+Carries Back r out.Held = ⊥
+Carries Back r out.Done = ⊥
+Carries Back r (out.Fault fault) = ⊥
