@@ -22,7 +22,7 @@ use std::alloc::{AllocError, Global};
 /// # Errors
 ///
 /// An allocation failed.
-pub fn evaluate(
+pub(crate) fn evaluate(
     alloc: Global,
     debuggee: &Debuggee,
     asked: &EvaluateArguments,

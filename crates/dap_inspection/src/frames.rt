@@ -22,7 +22,7 @@ use std::alloc::{AllocError, Global};
 /// # Errors
 ///
 /// An allocation failed.
-pub fn stack_trace(
+pub(crate) fn stack_trace(
     alloc: Global,
     debuggee: &Debuggee,
     path: &Text,

@@ -23,7 +23,7 @@ use std::alloc::{AllocError, Global};
 /// # Errors
 ///
 /// An allocation failed.
-pub fn variables(
+pub(crate) fn variables(
     alloc: Global,
     debuggee: &Debuggee,
     asked: VariablesArguments,

@@ -20,7 +20,7 @@ use std::alloc::{AllocError, Global};
 /// # Errors
 ///
 /// An allocation failed.
-pub fn scopes(
+pub(crate) fn scopes(
     alloc: Global,
     debuggee: &Debuggee,
     asked: ScopesArguments,

@@ -1,5 +1,5 @@
 -- What a question is answered with, where the program stands.
-use Rattle.std.proofs.Common.{◌≡◌, ◌<◌, ◌⊎◌, inl, inr, length, Result, Option, None, Some, refl, sym, subst, arith}
+use Rattle.std.proofs.Common.{◌≡◌, ◌<◌, ◌⊎◌, inl, inr, length, Ok, Err, Option, None, Some, refl, sym, subst, arith}
 use Rattle.pl0_meaning.specs.Values.{Configuration}
 use Rattle.pl0_meaning.specs.Runs.{at}
 use Rattle.pl0_machine.specs.Machine.{frames, frames_of, program_of}
@@ -11,15 +11,15 @@ use Rattle.dap_msg.specs.declared.outgoing.Refusal.{Refusal}
 use Rattle.dap_history.specs.History.{History, Launched}
 use Rattle.dap_history.specs.Readings.{position}
 use Rattle.dap_history.specs.Inspection.{RepliesFrom, RepliesAt, subject_in}
-use Rattle.dap_history.specs.Reactions.{InspectsAs}
-use Rattle.dap_history.specs.Replies.{Reply, OfProgram}
-use Rattle.dap_history.specs.Emission.{RepliesIn}
-use Rattle.dap_history.proofs.Questions.{HasReaction, reaction_there}
+use Rattle.dap_history.specs.Reactions.{Reaction, Answer, Refuse, InspectsAs, Inspects, Reacts}
+use Rattle.dap_history.specs.Replies.{Reply, answered, refused, OfProgram}
 use Rattle.dap_inspection.specs.Questions.{subject_of, replied}
 use Rattle.dap_phase.specs.declared.phase.Target.{Target}
 use Rattle.dap_phase.specs.declared.phase.Phase.{Phase}
 use Rattle.dap_phase.specs.declared.phase.Phase.TheVariants as phase
 use Rattle.dap_phase.specs.Phases.{IsPhase, IsTarget, IsDebuggee, situation_of}
+use Rattle.dap_replies.specs.declared.choosing.Reaction.TheVariants as chosen
+use Rattle.dap_replies.specs.Choosing.{Chooses}
 
 -- where frames are alive there is a configuration
 there : (c : Option Configuration) → 0 < length (frames_of c) → c ≡ Some (frames_of c)
@@ -47,25 +47,35 @@ inspected t d past target stands considered question reply from =
     (subst (λ o. RepliesAt (subject_of d t.path t.settings) o question reply)
     (sym (there (at l.program d.position) considered.running)) from)))
 
--- the answer of the debuggee of a phase that stands
-pub answers_there :
-    (p : Phase) (t : Target) (kept d : Debugged) → (p ≡ phase.Stopped t kept) ⊎ (p ≡ phase.Faulted t kept) → d ≡ kept
-    → IsConsidered d
-    → (question : Question) (result : Result Body Refusal)
-    → RepliesFrom (subject_of d t.path t.settings) (frames (machine_of d)) question (replied result)
-    → (past : History) → IsPhase p past → RepliesIn (situation_of p) past (Inspect question) (replied result)
-answers_there p t kept d stands same considered question result from past phase_is =
-    elim stands [
-      | inl stopped ↦ subst (λ p. RepliesIn (situation_of p) past (Inspect question) (replied result)) (sym stopped)
-          (let made = inspects (subst (λ p. IsPhase p past) stopped phase_is).keeps in
-          record { reaction = made.0; reacts = made.1; reply_is = made.2 })
-      | inr faulted ↦ subst (λ p. RepliesIn (situation_of p) past (Inspect question) (replied result)) (sym faulted)
-          (let made = inspects (subst (λ p. IsPhase p past) faulted phase_is).keeps in
-          record { reaction = made.0; reacts = made.1; reply_is = made.2 })
-    ]
-  where
-    inspects : IsTarget t kept.unit past × IsDebuggee kept past → HasReaction past question (replied result)
-    inspects there =
-        reaction_there past question (replied result)
-        (inspected t d past (subst (λ d. IsTarget t d.unit past) (sym same) there.0)
-        (subst (λ d. IsDebuggee d past) (sym same) there.1) considered question (replied result) from)
+-- what the debuggee of a phase that stands answers is chosen
+module _ (p : Phase) (t : Target) (kept d : Debugged)
+    (stands : (p ≡ phase.Stopped t kept) ⊎ (p ≡ phase.Faulted t kept)) (same : d ≡ kept) (considered : IsConsidered d)
+    (question : Question) where
+  reacts_there : (reaction : Reaction)
+      → ((past : History) → IsTarget t kept.unit past × IsDebuggee kept past → Inspects past question reaction)
+      → (past : History) → IsPhase p past → Reacts (situation_of p) past (Inspect question) reaction
+  reacts_there reaction inspects past is =
+      elim stands [
+        | inl stopped ↦ subst (λ p. Reacts (situation_of p) past (Inspect question) reaction) (sym stopped)
+            (inspects past (subst (λ p. IsPhase p past) stopped is).keeps)
+        | inr faulted ↦ subst (λ p. Reacts (situation_of p) past (Inspect question) reaction) (sym faulted)
+            (inspects past (subst (λ p. IsPhase p past) faulted is).keeps)
+      ]
+
+  shows : (reply : Reply) → RepliesFrom (subject_of d t.path t.settings) (frames (machine_of d)) question reply
+      → (past : History) → IsTarget t kept.unit past × IsDebuggee kept past → InspectsAs past question reply
+  shows reply from past there =
+      inspected t d past (subst (λ d. IsTarget t d.unit past) (sym same) there.0)
+      (subst (λ d. IsDebuggee d past) (sym same) there.1) considered question reply from
+
+  pub answers_there : (body : Body)
+      → RepliesFrom (subject_of d t.path t.settings) (frames (machine_of d)) question (replied (Ok body))
+      → Chooses (Inspect question) p (chosen.Answer body)
+  answers_there body from =
+      record { fits = refl; reacts = reacts_there (Answer body) (shows (answered body) from); suits = tt }
+
+  pub refuses_there : (why : Refusal)
+      → RepliesFrom (subject_of d t.path t.settings) (frames (machine_of d)) question (replied (Err why))
+      → Chooses (Inspect question) p (chosen.Refuse why)
+  refuses_there why from =
+      record { fits = refl; reacts = reacts_there (Refuse why) (shows (refused why) from); suits = tt }

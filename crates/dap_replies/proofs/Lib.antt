@@ -1,13 +1,14 @@
 -- A step that changes nothing that a phase keeps leaves it a phase of the longer history; for `phase_laws` and
 -- `refuse`, and through other lemmas for more.
 pub mod Stays
--- A reply that nothing follows, and whose step is quiet, leaves the phase as it is; for `answer` and `refuse`.
+-- A reply that nothing follows, and whose step is quiet, leaves the phase as it is; for `answer` and `refuse`, and
+-- through other lemmas for more.
 pub mod Unmoved
 -- What is replied in the situation of a phase; for `begin` and `close`, and through other lemmas for more.
 pub mod Situations
 -- The rows of the chooser are those of the table; for the functions of `choosing`.
 pub mod Rows
--- A question is answered from where the program stands; for `inspect` and `result_in`.
+-- A question is answered from where the program stands; for `inspect`.
 pub mod Asked
 -- How the history goes on after a launch with its file; for `launch`.
 pub mod Launched
@@ -15,16 +16,13 @@ pub mod Launched
 pub mod Begun
 -- After a report the phase represents the history with the report's step; for the functions of `reporting`.
 pub mod ReportSteps
--- Which requests are refused, by the thread that they ask for and by the source; for the functions of `choosing` and
--- for `set_breakpoints`.
-pub mod Refused
 -- How runs begin, go on and end at a request; for the functions of `running`.
 pub mod Resumed
 -- Lines that are asked for and answered one after another are all of them; for `asked_lines`, `line_answer` and
 -- `resolved`.
 pub mod Lines
--- What `setBreakpoints` is replied, and that the phase afterwards represents the longer history; for the functions of
--- `breakpoints`.
+-- What is chosen for `setBreakpoints`, and that the phase afterwards represents the longer history; for `in_program`
+-- and the functions of `planning`.
 pub mod SetBreakpoints
 -- What a `pause` in a run is replied, and that the phase afterwards represents the longer history; for `interrupt`.
 pub mod Paused

@@ -1,9 +1,10 @@
 -- What `setBreakpoints` is replied, and the phase afterwards.
 use Rattle.std.proofs.Common.{◌≡◌, ℕ, ◌+◌, Bool, true, false, ◌||◌, List, [], ◌∷◌, ◌++◌, map, Option, None, Some, Ok, refl, sym, ◌∙◌, ap, subst}
-use Rattle.std.specs.Prelude.{not, unwrap_or, option_map, if◌then◌else◌}
+use Rattle.std.specs.Prelude.{IsSomeAnd, not, unwrap_or, option_map, if◌then◌else◌}
 use Rattle.std.specs.Option.{option_to_list, option_map_or}
 use Rattle.std.specs.List.{filter_map}
-use Rattle.std.proofs.lemmas.Bool.{not-true}
+use Rattle.std.specs.declared.sync.Arc.{Arc}
+use Rattle.std.specs.declared.alloc.Global.{Global}
 use Rattle.pl0_unit.specs.declared.unit.Unit.{Unit as Compiled}
 use Rattle.pl0_machine.specs.Machine.{program_of}
 use Rattle.dap_msg.specs.declared.requests.initialize.InitializeArguments.{InitializeArguments}
@@ -11,7 +12,8 @@ use Rattle.dap_msg.specs.declared.requests.set_breakpoints.SetBreakpointsArgumen
 use Rattle.dap_msg.specs.declared.command.Command.TheVariants as command
 use Rattle.dap_msg.specs.declared.outgoing.Body.TheVariants as body
 use Rattle.dap_msg.specs.declared.outgoing.BreakpointAnswer.{BreakpointAnswer}
-use Rattle.dbg_plan.specs.Breakpoints.{Breakpoint}
+use Rattle.dbg_plan.specs.Breakpoints.{Breakpoint, plain_breakpoints}
+use Rattle.dbg_plan.specs.Plans.{Listed, IsPlanOf}
 use Rattle.dbg_plan.specs.Debugged.{Debugged}
 use Rattle.dbg_runner.specs.Plain.{Heading, PlainOrder, Hold, goes_back}
 use Rattle.dbg_runner.specs.Orders.{plain_order}
@@ -22,7 +24,7 @@ use Rattle.dap_history.specs.declared.situation.Situation.TheVariants.{Running}
 use Rattle.dap_history.specs.History.{Step, History}
 use Rattle.dap_history.specs.ReadingLaws.{ReadingsGoOn}
 use Rattle.dap_history.specs.Readings.{order_mark, situation, go, runs, is_back, position, waiting_plan, hold_mark, is_held}
-use Rattle.dap_history.specs.Replies.{Reply, nothing, answered, causing, OfProgram}
+use Rattle.dap_history.specs.Replies.{Reply, nothing, causing, OfProgram}
 use Rattle.dap_history.specs.Breakpoints.{offset, IsResolved, answer_to_line, effect_in, is_same_path}
 use Rattle.dap_history.specs.Reactions.{Reaction, Answer, SetBreakpoints, other_source, SetsOf, Sets, Reacts}
 use Rattle.dap_history.specs.Emission.{RepliesIn}
@@ -31,17 +33,19 @@ use Rattle.dap_phase.specs.declared.phase.Phase.TheVariants as phase
 use Rattle.dap_phase.specs.declared.phase.Target.{Target}
 use Rattle.dap_phase.specs.Runs.{OrderedRun, heading_in, ordered_to_hold}
 use Rattle.dap_phase.specs.Phases.{situation_of, IsTarget, IsDebuggee, IsRun, IsPhase}
-use Rattle.dap_replies.specs.Replied.{HasReplied, Replies, request_step}
+use Rattle.dap_replies.specs.Replied.{HasReplied, request_step}
 use Rattle.dap_replies.specs.declared.standing.StandsAt.{StandsAt}
 use Rattle.dap_replies.specs.declared.standing.StandsAt.TheVariants as stands_at
 use Rattle.dap_replies.specs.Going.{phase_at}
 use Rattle.dap_replies.specs.Answering.{without_events}
-use Rattle.dap_replies.specs.Lines.{AreAnswered, is_other}
-use Rattle.dap_replies.specs.Choosing.{launched_as}
-use Rattle.dap_replies.proofs.Situations.{replies_there}
+use Rattle.dap_replies.specs.Lines.{AreAnswered, program_in}
+use Rattle.dap_replies.specs.Choosing.{launched_as, Chooses, Carries}
+use Rattle.dap_replies.specs.declared.choosing.Reaction.TheVariants as chosen
+use Rattle.dap_replies.proofs.Situations.{replies_by}
+use Rattle.dap_replies.proofs.Unmoved.{unmoved, leaves_phase}
 use Rattle.dap_replies.proofs.Stays.{situation_stays, target_stays, position_stays, plan_stays, last_run_stays, runs_stay, waiting_pause_stays, no_last}
 
--- ---- the reply
+-- ---- the reaction
 
 sets : (past : History) (t : Target) (u : Compiled) (asked : SetBreakpointsArguments) (reaction : Reaction)
     → IsTarget t u past
@@ -51,78 +55,86 @@ sets past t u asked reaction target of =
     subst (λ o. OfProgram o (λ l. SetsOf (is_same_path asked.path l.path) past l asked.breakpoints reaction))
     (sym target.launched_is) of
 
--- lines of another source are answered alone
-abbrev answers_other : SetBreakpointsArguments → Reaction
-answers_other asked = Answer (body.Breakpoints (other_source asked.breakpoints))
+-- lines are set in this program, where it is the launched one
+abbrev SetsAt : History → SetBreakpointsArguments → Reaction → Target × Compiled → Type 0
+SetsAt past asked reaction k =
+    IsTarget k.0 k.1 past
+    → SetsOf (is_same_path asked.path k.0.path) past (launched_as k.0 k.1) asked.breakpoints reaction
 
--- lines of another source
-sets_other : (past : History) (t : Target) (u : Compiled) (asked : SetBreakpointsArguments) → IsTarget t u past
-    → not (is_same_path asked.path t.path) ≡ true → Sets past asked (answers_other asked)
-sets_other past t u asked target other =
-    let reaction = answers_other asked in
-    sets past t u asked reaction target (subst (λ b. SetsOf b past (launched_as t u) asked.breakpoints reaction)
-    (sym (not-true (is_same_path asked.path t.path) other)) refl)
+sets_in : (p : Phase) (past : History) (asked : SetBreakpointsArguments) (reaction : Reaction) → IsPhase p past
+    → IsSomeAnd (program_in p) (SetsAt past asked reaction)
+    → Reacts (situation_of p) past (command.SetBreakpoints asked) reaction
+sets_in phase.Fresh past asked reaction is at = absurd at
+sets_in (phase.Ready s) past asked reaction is at = absurd at
+sets_in (phase.Launching s launch) past asked reaction is at = absurd at
+sets_in (phase.Configuring t d) past asked reaction is at =
+    sets past t d.unit asked reaction is.keeps.0 (at is.keeps.0)
+sets_in (phase.Running t run) past asked reaction is at =
+    sets past t run.unit asked reaction is.keeps.0 (at is.keeps.0)
+sets_in (phase.Stopped t d) past asked reaction is at =
+    sets past t d.unit asked reaction is.keeps.0 (at is.keeps.0)
+sets_in (phase.Faulted t d) past asked reaction is at =
+    sets past t d.unit asked reaction is.keeps.0 (at is.keeps.0)
+sets_in (phase.Ended t u) past asked reaction is at = sets past t u.value asked reaction is.keeps (at is.keeps)
 
-reacts_other : (p : Phase) (past : History) (asked : SetBreakpointsArguments) → is_other p asked.path ≡ true
-    → IsPhase p past → Reacts (situation_of p) past (command.SetBreakpoints asked) (answers_other asked)
-reacts_other phase.Fresh past asked other is = absurd cc
-reacts_other (phase.Ready s) past asked other is = absurd cc
-reacts_other (phase.Launching s launch) past asked other is = absurd cc
-reacts_other (phase.Configuring t d) past asked other is = sets_other past t d.unit asked is.keeps.0 other
-reacts_other (phase.Running t run) past asked other is = sets_other past t run.unit asked is.keeps.0 other
-reacts_other (phase.Stopped t d) past asked other is = sets_other past t d.unit asked is.keeps.0 other
-reacts_other (phase.Faulted t d) past asked other is = sets_other past t d.unit asked is.keeps.0 other
-reacts_other (phase.Ended t u) past asked other is = sets_other past t u.value asked is.keeps other
+-- what is chosen in the phase of a launched program
+module _ (p : Phase) (t : Target) (u : Compiled) (asked : SetBreakpointsArguments)
+    (at : program_in p ≡ Some (t, u)) where
+  abbrev says_of : History → Reaction → Bool → Type 0
+  says_of past reaction same = SetsOf same past (launched_as t u) asked.breakpoints reaction
 
-pub replies_other : (p : Phase) (past : History) (asked : SetBreakpointsArguments) → is_other p asked.path ≡ true
-    → IsPhase p past → RepliesIn (situation_of p) past (command.SetBreakpoints asked)
-    (answered (body.Breakpoints (other_source asked.breakpoints)))
-replies_other p past asked other is =
-    record { reaction = answers_other asked; reacts = reacts_other p past asked other is; reply_is = refl }
+  -- lines of another source are answered alone
+  pub answers_other : is_same_path asked.path t.path ≡ false
+      → Chooses (command.SetBreakpoints asked) p (chosen.Answer (body.Breakpoints (other_source asked.breakpoints)))
+  answers_other other =
+      let reaction = Answer (body.Breakpoints (other_source asked.breakpoints)) in record {
+        fits = refl;
+        reacts = λ past is. sets_in p past asked reaction is
+            (subst (λ o. IsSomeAnd o (SetsAt past asked reaction)) (sym at)
+            (λ target. subst (says_of past reaction) (sym other) refl));
+        suits = tt;
+      }
 
--- The path is the launched program's, and its lines are answered so.
-pub record AreSet (t : Target) (u : Compiled) (asked : SetBreakpointsArguments) (answers : List BreakpointAnswer)
-    (bs : List Breakpoint) : Type 0 where
-  pub same : is_same_path asked.path t.path ≡ true
-  pub answered : AreAnswered (program_of u) (offset t.settings.lines_start_at_1) asked.breakpoints answers bs
-
-pub sets_here : (past : History) (t : Target) (u : Compiled) (asked : SetBreakpointsArguments)
-    (answers : List BreakpointAnswer) (bs : List Breakpoint) → IsTarget t u past
-    → AreSet t u asked answers bs → Sets past asked (SetBreakpoints answers bs)
-sets_here past t u asked answers bs target are =
-    let reaction = SetBreakpoints answers bs in
-    let main = program_of u in
-    let found = are.answered.resolutions in
-    sets past t u asked reaction target (subst (λ b. SetsOf b past (launched_as t u) asked.breakpoints reaction)
-    (sym are.same) (record {
-      answers = found;
-      breakpoints = bs;
-      resolved =
-          subst (λ (i : InitializeArguments). IsResolved main (offset i.lines_start_at_1) asked.breakpoints found bs)
-          target.settings_are are.answered.resolved;
-      reaction_is =
-          ap (λ l. SetBreakpoints l bs)
-          (are.answered.answers_are ∙ ap (λ (i : InitializeArguments). map
-          (answer_to_line main (offset i.lines_start_at_1))
-          found) target.settings_are);
-    }))
+  -- lines of its source are resolved
+  pub sets_lines : (answers : List BreakpointAnswer) (plan : Listed)
+      → is_same_path asked.path t.path ≡ true
+      → AreAnswered (program_of u) (offset t.settings.lines_start_at_1) asked.breakpoints answers
+      (plain_breakpoints plan.breakpoints)
+      → IsPlanOf u plan
+      → Chooses (command.SetBreakpoints asked) p (chosen.SetBreakpoints answers plan)
+  sets_lines answers plan same answered of_unit =
+      let main = program_of u in
+      let found = answered.resolutions in
+      let bs = plain_breakpoints plan.breakpoints in record {
+        fits = subst (λ o. IsSomeAnd o (λ (k : Target × Compiled). IsPlanOf k.1 plan)) (sym at) of_unit;
+        reacts = λ past is. sets_in p past asked (SetBreakpoints answers bs) is
+            (subst (λ o. IsSomeAnd o (SetsAt past asked (SetBreakpoints answers bs))) (sym at)
+            (λ target. subst (says_of past (SetBreakpoints answers bs)) (sym same) (record {
+              answers = found;
+              breakpoints = bs;
+              resolved =
+                  subst
+                  (λ (i : InitializeArguments). IsResolved main (offset i.lines_start_at_1) asked.breakpoints found bs)
+                  target.settings_are answered.resolved;
+              reaction_is =
+                  ap (λ l. SetBreakpoints l bs)
+                  (answered.answers_are ∙ ap (λ (i : InitializeArguments). map
+                  (answer_to_line main (offset i.lines_start_at_1))
+                  found) target.settings_are);
+            })));
+        suits = tt;
+      }
 
 -- where the table has this reaction, its reply is that of the phase
-module _ (p : Phase) (past : History) (asked : SetBreakpointsArguments) (answers : List BreakpointAnswer)
-    (bs : List Breakpoint) (is : IsPhase p past)
-    (reacts : Reacts (situation_of p) past (command.SetBreakpoints asked) (SetBreakpoints answers bs)) where
-  abbrev set_reply : Reply
-  set_reply = causing (body.Breakpoints answers) (effect_in (situation_of p) past bs)
-
-  pub replies_set : RepliesIn (situation_of p) past (command.SetBreakpoints asked) set_reply
-  replies_set = record {
-    reaction = SetBreakpoints answers bs;
-    reacts = reacts;
-    reply_is = ap (λ s. causing (body.Breakpoints answers) (effect_in s past bs)) (sym is.situation_is);
-  }
-
-  set_replies : RepliesIn (situation past) past (command.SetBreakpoints asked) set_reply
-  set_replies = replies_there p past is (command.SetBreakpoints asked) set_reply replies_set
+set_replies : (p : Phase) (past : History) (asked : SetBreakpointsArguments) (answers : List BreakpointAnswer)
+    (bs : List Breakpoint) → IsPhase p past
+    → Reacts (situation_of p) past (command.SetBreakpoints asked) (SetBreakpoints answers bs)
+    → RepliesIn (situation past) past (command.SetBreakpoints asked)
+    (causing (body.Breakpoints answers) (effect_in (situation_of p) past bs))
+set_replies p past asked answers bs is reacts =
+    replies_by p past is (command.SetBreakpoints asked) (SetBreakpoints answers bs) reacts
+    (causing (body.Breakpoints answers) (effect_in (situation_of p) past bs))
+    (ap (λ s. causing (body.Breakpoints answers) (effect_in s past bs)) (sym is.situation_is))
 
 -- ---- a plan that is put in
 
@@ -171,49 +183,67 @@ put_in laws t d bs n asked answers past old now is holds replies is_now = record
       (holds_after laws t d bs n asked answers past seq holds);
 }
 
-pub put_in_before_start : ReadingsGoOn → (t : Target) (d now : Debugged) (asked : SetBreakpointsArguments)
-    (answers : List BreakpointAnswer) (bs : List Breakpoint) → AreSet t d.unit asked answers bs
-    → d.next ≡ d.position → now ≡ with_plan d bs d.next → Replies (command.SetBreakpoints asked) (phase.Configuring t d)
+pub put_in_before_start : ReadingsGoOn → (t : Target) (d now : Debugged) (answers : List BreakpointAnswer)
+    (plan : Listed) → d.next ≡ d.position
+    → now ≡ with_plan d (plain_breakpoints plan.breakpoints) d.next
+    → Carries (phase.Configuring t d) (chosen.SetBreakpoints answers plan)
     (without_events (Ok (body.Breakpoints answers)) None (phase.Configuring t now))
-put_in_before_start laws t d now asked answers bs are next now_is past is =
+put_in_before_start laws t d now answers plan next now_is (command.SetBreakpoints asked) choice past is =
+    let bs = plain_breakpoints plan.breakpoints in
     put_in laws t d bs 0 asked answers past (phase.Configuring t d) (phase.Configuring t now) is
     (is.keeps.0, is.keeps.1)
-    (set_replies (phase.Configuring t d) past asked answers bs is
-    (sets_here past t d.unit asked answers bs is.keeps.0 are))
+    (set_replies (phase.Configuring t d) past asked answers bs is (choice.reacts past is))
     (λ new at holds. subst (λ x. IsPhase (phase.Configuring t x) new)
     (sym (now_is ∙ ap (λ n. with_plan d bs n) (next ∙ is.keeps.2)))
     (record { situation_is = at; keeps = (holds.0, holds.1, is.keeps.2) }))
+put_in_before_start laws t d now answers plan next now_is _ choice past is = absurd choice.suits
 
 -- the same where the program stands
-put_in_there : ReadingsGoOn → (t : Target) (d now : Debugged) (asked : SetBreakpointsArguments)
+put_in_there : ReadingsGoOn → (t : Target) (d now : Debugged) (bs : List Breakpoint) (asked : SetBreakpointsArguments)
     (answers : List BreakpointAnswer) (past : History) (make : Debugged → Phase) → IsPhase (make d) past
     → Holds t d past
-    → RepliesIn (situation past) past (command.SetBreakpoints asked)
-    (puts answers now.breakpoints (position past + 1))
-    → now ≡ with_plan d now.breakpoints (d.position + 1)
+    → RepliesIn (situation past) past (command.SetBreakpoints asked) (puts answers bs (position past + 1))
+    → now ≡ with_plan d bs (d.position + 1)
     → ((x : Debugged) (new : History) → situation new ≡ situation_of (make d) → Holds t x new → IsPhase (make x) new)
     → HasReplied (command.SetBreakpoints asked) past (without_events (Ok (body.Breakpoints answers)) None (make now))
-put_in_there laws t d now asked answers past make is holds replies now_is is_then =
-    put_in laws t d now.breakpoints (position past + 1) asked answers past (make d) (make now) is holds replies
+put_in_there laws t d now bs asked answers past make is holds replies now_is is_then =
+    put_in laws t d bs (position past + 1) asked answers past (make d) (make now) is holds replies
     (λ new at after. subst (λ x. IsPhase (make x) new)
-    (sym (now_is ∙ ap (λ n. with_plan d now.breakpoints (n + 1)) holds.1.position_is))
-    (is_then (with_plan d now.breakpoints (position past + 1)) new at after))
+    (sym (now_is ∙ ap (λ n. with_plan d bs (n + 1)) holds.1.position_is))
+    (is_then (with_plan d bs (position past + 1)) new at after))
 
-pub put_in_standing : ReadingsGoOn → (s : StandsAt) (t : Target) (d now : Debugged) (asked : SetBreakpointsArguments)
-    (answers : List BreakpointAnswer) → AreSet t d.unit asked answers now.breakpoints
-    → now ≡ with_plan d now.breakpoints (d.position + 1)
-    → Replies (command.SetBreakpoints asked) (phase_at s t d)
+pub put_in_standing : ReadingsGoOn → (s : StandsAt) (t : Target) (d now : Debugged) (answers : List BreakpointAnswer)
+    (plan : Listed) → now ≡ with_plan d (plain_breakpoints plan.breakpoints) (d.position + 1)
+    → Carries (phase_at s t d) (chosen.SetBreakpoints answers plan)
     (without_events (Ok (body.Breakpoints answers)) None (phase_at s t now))
-put_in_standing laws stands_at.Stop t d now asked answers are now_is past is =
-    put_in_there laws t d now asked answers past (phase.Stopped t) is is.keeps
-    (set_replies (phase.Stopped t d) past asked answers now.breakpoints is
-    (sets_here past t d.unit asked answers now.breakpoints is.keeps.0 are)) now_is
+put_in_standing laws stands_at.Stop t d now answers plan now_is (command.SetBreakpoints asked) choice past is =
+    let bs = plain_breakpoints plan.breakpoints in
+    put_in_there laws t d now bs asked answers past (phase.Stopped t) is is.keeps
+    (set_replies (phase.Stopped t d) past asked answers bs is (choice.reacts past is)) now_is
     (λ x new at holds. record { situation_is = at; keeps = holds })
-put_in_standing laws stands_at.Fault t d now asked answers are now_is past is =
-    put_in_there laws t d now asked answers past (phase.Faulted t) is is.keeps
-    (set_replies (phase.Faulted t d) past asked answers now.breakpoints is
-    (sets_here past t d.unit asked answers now.breakpoints is.keeps.0 are)) now_is
+put_in_standing laws stands_at.Fault t d now answers plan now_is (command.SetBreakpoints asked) choice past is =
+    let bs = plain_breakpoints plan.breakpoints in
+    put_in_there laws t d now bs asked answers past (phase.Faulted t) is is.keeps
+    (set_replies (phase.Faulted t d) past asked answers bs is (choice.reacts past is)) now_is
     (λ x new at holds. record { situation_is = at; keeps = holds })
+put_in_standing laws s t d now answers plan now_is _ choice past is = absurd choice.suits
+
+-- ---- a plan that is not kept
+
+pub answers_after_end : ReadingsGoOn → (t : Target) (u : Arc Compiled Global) (answers : List BreakpointAnswer)
+    (plan : Listed) → Carries (phase.Ended t u) (chosen.SetBreakpoints answers plan)
+    (without_events (Ok (body.Breakpoints answers)) None (phase.Ended t u))
+answers_after_end laws t u answers plan (command.SetBreakpoints asked) choice past is =
+    unmoved (phase.Ended t u) (Ok (body.Breakpoints answers)) (command.SetBreakpoints asked) past is
+    (record {
+      reaction = SetBreakpoints answers (plain_breakpoints plan.breakpoints);
+      reacts = choice.reacts past is;
+      reply_is =
+          ap (λ s. causing (body.Breakpoints answers) (effect_in s past (plain_breakpoints plan.breakpoints)))
+          (sym is.situation_is);
+    })
+    (leaves_phase laws (phase.Ended t u) (command.SetBreakpoints asked) (body.Breakpoints answers) tt past is)
+answers_after_end laws t u answers plan _ choice past is = absurd choice.suits
 
 -- ---- a plan that waits
 
@@ -280,18 +310,17 @@ run_waits laws past run bs seq asked answers is =
       held_is = held_after laws past step run is refl;
     }
 
-pub waits_in_run : ReadingsGoOn → (t : Target) (run now : OrderedRun) (asked : SetBreakpointsArguments)
-    (answers : List BreakpointAnswer) (bs : List Breakpoint) (order : Option Order) → AreSet t run.unit asked answers bs
+pub waits_in_run : ReadingsGoOn → (t : Target) (run now : OrderedRun) (answers : List BreakpointAnswer)
+    (plan : Listed) (order : Option Order)
     → option_to_list (option_map plain_order order) ≡ once (run.held || goes_back run.mode) t.runs
-    → now ≡ ordered_to_hold (record run { waiting_plan = Some bs })
-    → Replies (command.SetBreakpoints asked) (phase.Running t run)
+    → now ≡ ordered_to_hold (record run { waiting_plan = Some (plain_breakpoints plan.breakpoints) })
+    → Carries (phase.Running t run) (chosen.SetBreakpoints answers plan)
     (without_events (Ok (body.Breakpoints answers)) order (phase.Running t now))
-waits_in_run laws t run now asked answers bs order are order_is now_is past is =
+waits_in_run laws t run now answers plan order order_is now_is (command.SetBreakpoints asked) choice past is =
+    let bs = plain_breakpoints plan.breakpoints in
     let reply = causing (body.Breakpoints answers) (effect_in Running past bs) in record {
       reply = reply;
-      replies =
-          set_replies (phase.Running t run) past asked answers bs is
-          (sets_here past t run.unit asked answers bs is.keeps.0 are);
+      replies = set_replies (phase.Running t run) past asked answers bs is (choice.reacts past is);
       gives = record {
         result_is = refl;
         effect_is = record {
@@ -313,3 +342,4 @@ waits_in_run laws t run now asked answers bs order are order_is now_is past is =
             );
           });
     }
+waits_in_run laws t run now answers plan order order_is now_is _ choice past is = absurd choice.suits

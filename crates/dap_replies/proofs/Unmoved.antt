@@ -1,7 +1,6 @@
 -- A reply that nothing follows, and whose step is quiet, leaves the phase as it is.
-use Rattle.std.proofs.Common.{◌≡◌, ℕ, [], ◌∷◌, ◌++◌, None, Some, Result, Ok, Err, refl, ◌∙◌}
+use Rattle.std.proofs.Common.{◌≡◌, ℕ, [], ◌∷◌, ◌++◌, None, Some, Result, Ok, refl, ◌∙◌}
 use Rattle.dap_msg.specs.Commands.{name_of}
-use Rattle.dap_msg.specs.declared.request.Request.{Request}
 use Rattle.dap_msg.specs.declared.command.Command.{Command}
 use Rattle.dap_msg.specs.declared.command.Command.TheVariants as command
 use Rattle.dap_msg.specs.declared.outgoing.Body.{Body}
@@ -11,7 +10,7 @@ use Rattle.dap_msg.specs.declared.outgoing.Refusal.{Refusal}
 use Rattle.dap_history.specs.History.{History}
 use Rattle.dap_history.specs.ReadingLaws.{ReadingsGoOn}
 use Rattle.dap_history.specs.Readings.{answer_mark, settings_of, is_pause}
-use Rattle.dap_history.specs.Replies.{Reply, nothing, answered, refused}
+use Rattle.dap_history.specs.Replies.{Reply, nothing, answered}
 use Rattle.dap_history.specs.Emission.{RepliesIn}
 use Rattle.dap_phase.specs.declared.phase.Phase.{Phase}
 use Rattle.dap_phase.specs.declared.phase.Phase.TheVariants as phase
@@ -20,7 +19,7 @@ use Rattle.dap_replies.specs.Replied.{HasReplied, request_step}
 use Rattle.dap_replies.specs.Going.{IsAtStop}
 use Rattle.dap_replies.specs.Answering.{Leaves, without_events}
 use Rattle.dap_replies.proofs.Situations.{replies_there}
-use Rattle.dap_replies.proofs.Stays.{situation_stays, target_stays, debuggee_stays, phase_stays, refusal_is_quiet}
+use Rattle.dap_replies.proofs.Stays.{situation_stays, target_stays, debuggee_stays, phase_stays}
 
 -- a reply with no effect, after which the phase is one of the longer history
 pub unmoved : (p : Phase) (result : Result Body Refusal) (command : Command) (past : History)
@@ -97,14 +96,9 @@ stays_after laws p command body leaves other past is seq =
     }) is
 
 -- an answer to such a command leaves the phase as it is
-pub leaves_phase : ReadingsGoOn → (p : Phase) (command : Command) (result : Result Body Refusal) → Leaves p command
+pub leaves_phase : ReadingsGoOn → (p : Phase) (command : Command) (body : Body) → Leaves p command
     → (past : History) → IsPhase p past → (seq : ℕ)
-    → IsPhase p (past ++ request_step (record { seq = seq; body = command })
-    (record { result = result; effect = nothing }) ∷ [])
-leaves_phase laws p command (Err why) leaves past is seq =
-    let request : Request = record { seq = seq; body = command } in
-    phase_stays laws p past (request_step request (refused why)) (refusal_is_quiet request why) is
-leaves_phase laws p (command.Pause asked) (Ok body) leaves past is seq =
-    pauses_there laws p asked body leaves past is seq
-leaves_phase laws p (command.BadArguments k) (Ok body) leaves past is seq = absurd leaves
-leaves_phase laws p _ (Ok body) leaves past is seq = stays_after laws p _ body leaves tt past is seq
+    → IsPhase p (past ++ request_step (record { seq = seq; body = command }) (answered body) ∷ [])
+leaves_phase laws p (command.Pause asked) body leaves past is seq = pauses_there laws p asked body leaves past is seq
+leaves_phase laws p (command.BadArguments k) body leaves past is seq = absurd leaves
+leaves_phase laws p _ body leaves past is seq = stays_after laws p _ body leaves tt past is seq

@@ -5,15 +5,9 @@ use Rattle.dap_msg.specs.declared.command.Command.TheVariants as command
 use Rattle.dap_msg.specs.declared.outgoing.Body.{Body}
 use Rattle.dap_msg.specs.declared.outgoing.Refusal.{Refusal}
 use Rattle.dbg_runner.specs.declared.order.Order.{Order}
-use Rattle.dap_history.specs.History.{History}
-use Rattle.dap_history.specs.Replies.{nothing}
-use Rattle.dap_history.specs.Reactions.{Refuse, Reacts}
-use Rattle.dap_history.specs.Emission.{RepliesIn}
 use Rattle.dap_phase.specs.declared.phase.Phase.{Phase}
-use Rattle.dap_phase.specs.Phases.{IsPhase, situation_of}
 use Rattle.dap_replies.specs.declared.effect.Reply.{Reply as Given}
 use Rattle.dap_replies.specs.Going.{IsAtStop}
-use Rattle.dap_replies.specs.Replied.{HasReplied}
 
 -- an answer to the command leaves the phase as it is, even where it succeeds
 abbrev pub Leaves : Phase → Command → Type 0
@@ -27,16 +21,3 @@ Leaves p _ = Unit {0}
 abbrev pub without_events : Result Body Refusal → Option Order → Phase → Given
 without_events result order phase =
     record { result = result; effect = record { events = []; order = order; phase = phase } }
-
--- The reply is right for each command that is to be refused for this reason.
-abbrev pub Refuses : Refusal → Phase → Given → Type 0
-Refuses why phase given =
-    (command : Command) (past : History) → IsPhase phase past
-    → Reacts (situation_of phase) past command (Refuse why) → HasReplied command past given
-
--- The reply is right for each command that is to be answered with this result and has no effect.
-abbrev pub AnswersOnly : Result Body Refusal → Phase → Given → Type 0
-AnswersOnly result phase given =
-    (command : Command) → Leaves phase command → (past : History) → IsPhase phase past
-    → RepliesIn (situation_of phase) past command (record { result = result; effect = nothing })
-    → HasReplied command past given

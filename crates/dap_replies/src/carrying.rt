@@ -8,6 +8,7 @@ ghost use Rattle.dap_replies.specs.Choosing.{Carries, FitsIn, MakesNothing};
 use crate::choosing::Reaction;
 use crate::effect::Reply;
 use crate::pausing::interrupt;
+use crate::planning::set_plan;
 use crate::refusing::{answer, refuse, without_events};
 use crate::running::{end, resume, retreat, start};
 use dap_history::reading_laws;
@@ -32,7 +33,8 @@ pub(crate) fn carry_out(
 {
     match reaction {
         Reaction::Refuse(why) => Ok(refuse(alloc, phase, why)),
-        Reaction::Answer(body) => Ok(answer(alloc, phase, Ok(body))),
+        Reaction::Answer(body) => Ok(answer(alloc, phase, body)),
+        Reaction::SetBreakpoints(answers, plan) => set_plan(alloc, phase, answers, plan),
         Reaction::Begin(asked) => Ok(begin(alloc, asked)),
         Reaction::Start => start(alloc, phase),
         Reaction::Resume(kind) => resume(alloc, phase, kind),

@@ -1,16 +1,22 @@
 //! What a session does about a command, by its phase: the table of reactions.
 
-ghost use Rattle.std.specs.Prelude.{◌≡◌, false, nat_eq};
+ghost use Rattle.std.specs.Prelude.{◌≡◌, false, nat_eq, IfOk, IsOkAnd};
+ghost use Rattle.dap_msg.specs.Laws.{IsWithin};
 ghost use Rattle.dap_msg.specs.declared.command.Command.TheVariants as command_is;
 ghost use Rattle.dap_msg.specs.declared.outgoing.Refusal.TheVariants as refusal_is;
 ghost use Rattle.dap_replies.specs.declared.choosing.Reaction.TheVariants as reaction_is;
-ghost use Rattle.dap_replies.specs.Choosing.{Chooses, HasRow, MakesNothing};
-ghost use Rattle.dap_replies.specs.Replied.{IsConfigured, NothingMoves, TakesNoMemory};
+ghost use Rattle.dap_replies.specs.Choosing.{Chooses, MakesNothing};
+ghost use Rattle.dap_replies.specs.Replied.{IsConfigured, NothingMoves, NothingStands, TakesNoMemory};
 
+use crate::breakpoints::set_breakpoints;
+use dap_inspection::ask;
 use dap_msg::{
-    Body, Command, InitializeArguments, Refusal, ResumeKind, RetreatKind, ThreadArguments,
+    Body, BreakpointAnswer, Command, InitializeArguments, Items, Question, Refusal, ResumeKind,
+    RetreatKind, ThreadArguments,
 };
 use dap_phase::Phase;
+use dbg_plan::Plan;
+use std::alloc::{AllocError, Global};
 
 /// The id of the one thread.
 const MAIN_THREAD: u64 = 1;
@@ -22,6 +28,8 @@ pub(crate) enum Reaction {
     Refuse(Refusal),
     /// It answers the command, and no more.
     Answer(Body),
+    /// It answers lines, and sets the breakpoints of a plan.
+    SetBreakpoints(Items<BreakpointAnswer>, Plan),
     /// It begins with these settings.
     Begin(InitializeArguments),
     /// It starts the launched program.
@@ -39,23 +47,32 @@ pub(crate) enum Reaction {
 }
 
 /// Chooses the reaction to a command by its row of the table.
-pub(crate) fn choose(phase: &Phase, command: &Command) -> Reaction
-    requires { HasRow command.now }
-    ensures chooses { Chooses command.now phase.now result }
-    ensures enough { TakesNoMemory phase.now command.now → MakesNothing result }
+///
+/// # Errors
+///
+/// An allocation failed.
+pub(crate) fn choose(
+    alloc: Global,
+    phase: &Phase,
+    command: &Command,
+) -> Result<Reaction, AllocError>
+    requires { IsWithin command.now }
+    ensures chooses { IfOk result (Chooses command.now phase.now) }
+    ensures enough { TakesNoMemory phase.now command.now → IsOkAnd result MakesNothing }
 {
     match command {
-        Command::Initialize(asked) => initialize(phase, *asked),
-        Command::Launch(_) => Reaction::Refuse(Refusal::WrongPhase),
-        Command::ConfigurationDone => configuration_done(phase),
-        Command::Threads => threads(phase),
-        Command::Resume(kind, asked) => resume(phase, *kind, *asked),
-        Command::Retreat(kind, asked) => retreat(phase, *kind, *asked),
-        Command::Pause(asked) => pause(phase, *asked),
-        Command::Disconnect => Reaction::Close,
-        Command::Unsupported(_) => Reaction::Refuse(Refusal::Unsupported),
-        Command::BadArguments(_) => Reaction::Refuse(Refusal::BadArguments),
-        Command::SetBreakpoints(_) | Command::Inspect(_) => unreachable!(),
+        Command::Initialize(asked) => Ok(initialize(phase, *asked)),
+        Command::Launch(_) => Ok(Reaction::Refuse(Refusal::WrongPhase)),
+        Command::SetBreakpoints(asked) => set_breakpoints(alloc, phase, asked),
+        Command::ConfigurationDone => Ok(configuration_done(phase)),
+        Command::Threads => Ok(threads(phase)),
+        Command::Resume(kind, asked) => Ok(resume(phase, *kind, *asked)),
+        Command::Retreat(kind, asked) => Ok(retreat(phase, *kind, *asked)),
+        Command::Pause(asked) => Ok(pause(phase, *asked)),
+        Command::Inspect(question) => inspect(alloc, phase, question),
+        Command::Disconnect => Ok(Reaction::Close),
+        Command::Unsupported(_) => Ok(Reaction::Refuse(Refusal::Unsupported)),
+        Command::BadArguments(_) => Ok(Reaction::Refuse(Refusal::BadArguments)),
     }
 }
 
@@ -128,6 +145,28 @@ fn pause(phase: &Phase, asked: ThreadArguments) -> Reaction
         Phase::Stopped(_, _) => for_thread(asked, Reaction::Answer(Body::None)),
         Phase::Faulted(_, _) => for_thread(asked, Reaction::Answer(Body::None)),
         _ => Reaction::Refuse(Refusal::WrongPhase),
+    }
+}
+
+/// Chooses the reaction to a question: it is answered or refused where the program stands.
+fn inspect(alloc: Global, phase: &Phase, question: &Question) -> Result<Reaction, AllocError>
+    ensures chooses { IfOk result (Chooses (command_is.Inspect question.now) phase.now) }
+    ensures enough { NothingStands phase.now → IsOkAnd result MakesNothing }
+{
+    match phase {
+        Phase::Fresh
+        | Phase::Ready(_)
+        | Phase::Launching(_, _)
+        | Phase::Configuring(_, _)
+        | Phase::Ended(_, _) => Ok(Reaction::Refuse(Refusal::WrongPhase)),
+        Phase::Running(_, _) => Ok(Reaction::Refuse(Refusal::NotStopped)),
+        Phase::Stopped(target, debuggee) | Phase::Faulted(target, debuggee) => {
+            let debuggee = debuggee.debuggee();
+            match ask(alloc, debuggee, &target.path, target.settings, question)? {
+                Ok(body) => Ok(Reaction::Answer(body)),
+                Err(why) => Ok(Reaction::Refuse(why)),
+            }
+        }
     }
 }
 

@@ -3,19 +3,18 @@
 //! The one contract is that of [`reply`]: the answer, the events after it and the order are those that the definitions of
 //! `dap_history` say for any history that the phase represents, and the phase afterwards represents the history with that
 //! step (`specs/Replied`). [`launch`] has the same contract for the file of a launch, and [`report`] for a report that is
-//! accepted. One function chooses the reaction to a command by the table of reactions, and another carries it out;
-//! `setBreakpoints` and the questions have handlers of their own.
+//! accepted. One function chooses the reaction to a command by the table of reactions, and another carries it out.
 #![tactic(auto)]
 
 mod breakpoints;
 mod carrying;
 mod choosing;
 mod effect;
-mod inspecting;
 mod launching;
 mod laws;
 mod logging;
 mod pausing;
+mod planning;
 mod refusing;
 mod replying;
 mod reporting;

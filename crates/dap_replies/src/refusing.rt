@@ -1,7 +1,9 @@
 //! Replies with no events, and those after which the phase is as before.
 
 ghost use Rattle.std.specs.Prelude.{◌≡◌, None, Err};
-ghost use Rattle.dap_replies.specs.Answering.{without_events, Refuses, AnswersOnly};
+ghost use Rattle.dap_replies.specs.declared.choosing.Reaction.TheVariants as reaction_is;
+ghost use Rattle.dap_replies.specs.Answering.{without_events};
+ghost use Rattle.dap_replies.specs.Choosing.{Carries};
 
 use crate::effect::{Effect, Reply};
 use dap_history::reading_laws;
@@ -13,18 +15,18 @@ use std::alloc::Global;
 /// Refuses a command.
 pub(crate) fn refuse(alloc: Global, phase: Phase, why: Refusal) -> Reply
     ensures is { result ≡ without_events (Err why) None phase }
-    ensures refuses { Refuses why phase result }
+    ensures carries { Carries phase (reaction_is.Refuse why) result }
 {
     reading_laws();
     without_events(alloc, Err(why), None, phase)
 }
 
-/// Answers a command with a result.
-pub(crate) fn answer(alloc: Global, phase: Phase, given: Result<Body, Refusal>) -> Reply
-    ensures { AnswersOnly given phase result }
+/// Answers a command, and no more.
+pub(crate) fn answer(alloc: Global, phase: Phase, body: Body) -> Reply
+    ensures { Carries phase (reaction_is.Answer body) result }
 {
     reading_laws();
-    without_events(alloc, given, None, phase)
+    without_events(alloc, Ok(body), None, phase)
 }
 
 /// Returns the reply with this result, an order or none, and the phase after it, with no events.

@@ -5,11 +5,9 @@ ghost use Rattle.dap_msg.specs.Laws.{IsWithin};
 ghost use Rattle.dap_phase.specs.Phases.{WantsNoFile};
 ghost use Rattle.dap_replies.specs.Replied.{Replies, TakesNoMemory};
 
-use crate::breakpoints::set_breakpoints;
 use crate::carrying::carry_out;
 use crate::choosing::choose;
 use crate::effect::Reply;
-use crate::inspecting::inspect;
 use dap_msg::Command;
 use dap_phase::Phase;
 use std::alloc::{AllocError, Global};
@@ -26,12 +24,6 @@ pub fn reply(alloc: Global, phase: Phase, command: &Command) -> Result<Reply, Al
     // Neither a command that has nothing to make nor one that isn't served needs memory.
     ensures enough { TakesNoMemory phase command.now → IsOk result }
 {
-    match command {
-        Command::SetBreakpoints(asked) => set_breakpoints(alloc, phase, asked),
-        Command::Inspect(question) => inspect(alloc, phase, question),
-        command => {
-            let reaction = choose(&phase, command);
-            carry_out(alloc, phase, reaction)
-        }
-    }
+    let reaction = choose(alloc, &phase, command)?;
+    carry_out(alloc, phase, reaction)
 }

@@ -8,7 +8,7 @@ use Rattle.dap_replies.proofs.choosing.initialize.Goals as goal
 pub returns-in-Fresh-clause-chooses : goal.returns-in-Fresh-clause-chooses
 returns-in-Fresh-clause-chooses c =
     subst (λ p. Chooses (command.Initialize c.args.asked) p (Begin c.args.asked)) (sym c.in-Fresh.is)
-    (record { reacts = λ past is. refl; suits = refl })
+    (record { fits = refl; reacts = λ past is. refl; suits = refl })
 
 pub returns-in_default-clause-chooses : goal.returns-in_default-clause-chooses
 returns-in_default-clause-chooses c = initialized_once c.args.phase.now c.in_default.not-Fresh c.args.asked

@@ -7,7 +7,7 @@ use Rattle.dap_replies.proofs.choosing.resume.Goals as goal
 pub returns-in-Running-clause-chooses : goal.returns-in-Running-clause-chooses
 returns-in-Running-clause-chooses c =
     subst (λ p. Chooses (command.Resume c.args.kind c.args.asked) p _) (sym c.in-Running.is)
-    (record { reacts = λ past is. refl; suits = tt })
+    (record { fits = refl; reacts = λ past is. refl; suits = tt })
 
 pub returns-in-Stopped-clause-chooses : goal.returns-in-Stopped-clause-chooses
 returns-in-Stopped-clause-chooses c =

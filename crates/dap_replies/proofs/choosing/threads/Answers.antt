@@ -6,7 +6,7 @@ use Rattle.dap_replies.proofs.choosing.threads.Goals as goal
 
 pub returns-in-Fresh-clause-chooses : goal.returns-in-Fresh-clause-chooses
 returns-in-Fresh-clause-chooses c = subst (λ p. Chooses command.Threads p _) (sym c.in-Fresh.is)
-    (record { reacts = λ past is. refl; suits = tt })
+    (record { fits = refl; reacts = λ past is. refl; suits = tt })
 
 pub returns-in_default-clause-chooses : goal.returns-in_default-clause-chooses
 returns-in_default-clause-chooses c = threads_begun c.args.phase.now c.in_default.not-Fresh

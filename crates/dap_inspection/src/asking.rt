@@ -1,0 +1,39 @@
+//! The answer to a question, by its kind.
+
+ghost use Rattle.std.specs.Prelude.{IfOk};
+ghost use Rattle.pl0_machine.specs.Machine.{frames};
+ghost use Rattle.dbg_plan.specs.Debugged.{machine_of, IsConsidered};
+ghost use Rattle.dap_history.specs.Inspection.{RepliesFrom};
+ghost use Rattle.dap_inspection.specs.Questions.{subject_of, replied};
+
+use crate::evaluating::evaluate;
+use crate::frames::stack_trace;
+use crate::locals::variables;
+use crate::scope_chain::scopes;
+use dap_msg::{Body, InitializeArguments, Question, Refusal, Text};
+use dbg_plan::Debuggee;
+use std::alloc::{AllocError, Global};
+
+/// Answers a question about a debuggee, whose program is at `path`, to a client with these settings.
+///
+/// # Errors
+///
+/// An allocation failed.
+pub fn ask(
+    alloc: Global,
+    debuggee: &Debuggee,
+    path: &Text,
+    settings: InitializeArguments,
+    question: &Question,
+) -> Result<Result<Body, Refusal>, AllocError>
+    requires { IsConsidered debuggee.now }
+    ensures { IfOk result (λ r. RepliesFrom
+        (subject_of debuggee.now path.now settings) (frames (machine_of debuggee.now)) question.now (replied r)) }
+{
+    match question {
+        Question::StackTrace(asked) => stack_trace(alloc, debuggee, path, settings, *asked),
+        Question::Scopes(asked) => scopes(alloc, debuggee, *asked),
+        Question::Variables(asked) => variables(alloc, debuggee, *asked),
+        Question::Evaluate(asked) => evaluate(alloc, debuggee, asked),
+    }
+}
