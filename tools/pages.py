@@ -1,7 +1,7 @@
 #!/usr/bin/env python3
 """Checks what pages and sources say about themselves and each other: names, lengths of functions and of lines.
 
-usage: pages.py [--record | --laws]
+usage: pages.py [--laws]
 
 In README.md, CHANGELOG.md and docs/*.md a link has to lead to a file, and to a heading where it names one. A name in backquotes
 that ends like a source file or a script has to be that of a file of the repository, or the end of its path; names that stand for
@@ -12,9 +12,8 @@ the first line of the program's help is that of the manual pages, of the extensi
 threads each process and inline names, in the comment before it, what it stands for: `@ FILE: NAME, NAME`. The files and their
 functions, types and variants have to be there, and a size, `@size FILE: NAME (VALUE)`, has to be the constant's.
 
-In sources no function has over 40 lines, contracts not counted, but those of LONG_FUNCTIONS. Lines of definitions and proofs have
-at most 120 columns, but for imports, which the kit keeps on one line, and names of goals. So have lines of contracts, but for as many
-in each file as tools/long_contracts.txt grants it, which --record writes anew.
+In sources no function has over 40 lines, contracts not counted, but those of LONG_FUNCTIONS. Lines of contracts, definitions and
+proofs have at most 120 columns, but for imports, which the kit keeps on one line, and names of goals.
 
 Prints what is wrong, and ends with status 1 where anything is. With --laws it prints instead, for each law function that proofs
 answer, each of its clauses, what that says, and the lemmas by which it is answered, with their files.
@@ -42,17 +41,13 @@ LONG_FUNCTIONS = {
     ("crates/test_kit/src/runner.rt", "report_next"):
         "the runner's turn in one thread, which the runner itself takes in two functions between threads",
 }
-GRANTED = TOP / "tools" / "long_contracts.txt"
-GRANTED_HEAD = """# Lines of contracts of over 120 columns that each file may have: those that were there when the limit came. Written by
-# `tools/pages.py --record`, to be run when some went.
-"""
 LINK = re.compile(r"\]\(([^)#]*)(?:#([^)]*))?\)")
 NAME = re.compile(r"`([\w./*-]+\.(?:rt|antt|py|edit|session|md|lua|json|el|txt|c))`")
 # What stands for a name, and what begins a file of a user's own.
 STANDS_FOR = re.compile(r"NAME|MODULE|\bName\b|\bX\.|/F/|^\.")
 # A law function with its clauses, and one of these; the answer to a goal of one, and a lemma file with what is used of it.
-LAW = re.compile(r"^pub fn (\w+_laws)\(.*\)\n((?:    (?:ensures|//) .*\n)+)", re.MULTILINE)
-CLAUSE = re.compile(r"^    ensures (\w*) ?\{ (.*) \}$", re.MULTILINE)
+LAW = re.compile(r"^pub fn (\w+_laws)\(.*\)\n((?:    (?:ensures|//| ) .*\n)+)", re.MULTILINE)
+CLAUSE = re.compile(r"^    ensures (\w*) ?\{ (.*?) \}$", re.MULTILINE | re.DOTALL)
 ANSWER = re.compile(r"^returns(?:-clause-(\w+))? c =(.*?)(?=^pub |\Z)", re.MULTILINE | re.DOTALL)
 LEMMAS = re.compile(r"^use Rattle\.(\w+)\.proofs\.(?!Common\.)([\w.]+)\.\{(.*)\}$", re.MULTILINE)
 HISTORY_LAWS = TOP / "crates" / "dap_history" / "src" / "laws.rt"
@@ -266,47 +261,23 @@ def long_functions() -> Iterator[str]:
         yield f"tools/pages.py: {name} of {place} needs no exception any more"
 
 
-def long_contracts() -> dict[str, int]:
-    """How many lines of contracts are too long, by file."""
-    counts = {}
+def long_contracts() -> Iterator[str]:
+    """The lines of contracts that are too long."""
     for file in sorted(TOP.glob("crates/*/src/**/*.rt")):
-        lines = file.read_text(encoding="utf-8").splitlines()
-        count = sum(len(line) > LOGIC_COLUMNS and STATED.match(line) is not None for line in lines)
-        if count:
-            counts[file.relative_to(TOP).as_posix()] = count
-    return counts
-
-
-def granted() -> dict[str, int]:
-    lines = GRANTED.read_text(encoding="utf-8").splitlines() if GRANTED.exists() else []
-    return {line.split()[1]: int(line.split()[0]) for line in lines if line and not line.startswith("#")}
-
-
-def ungranted() -> Iterator[str]:
-    allowed = granted()
-    for place, count in long_contracts().items():
-        if count > allowed.get(place, 0):
-            yield f"{place}: {count} lines of contracts have over {LOGIC_COLUMNS} columns, and {allowed.get(place, 0)} may"
-
-
-def record() -> None:
-    counts = long_contracts()
-    GRANTED.write_text(GRANTED_HEAD + "".join(f"{count} {place}\n" for place, count in counts.items()), encoding="utf-8")
-    print(f"{sum(counts.values())} lines of contracts have over {LOGIC_COLUMNS} columns, in {len(counts)} files")
+        for number, line in enumerate(file.read_text(encoding="utf-8").splitlines(), 1):
+            if len(line) > LOGIC_COLUMNS and STATED.match(line):
+                yield f"{file.relative_to(TOP)}:{number}: {len(line)} columns"
 
 
 def main() -> int:
-    if sys.argv[1:] == ["--record"]:
-        record()
-        return 0
     if sys.argv[1:] == ["--laws"]:
         print("\n".join("\t".join(row) for row in answered_laws()))
         return 0
     files = [file for file in TOP.rglob("*") if file.is_file() and not {"out", ".git", "__pycache__"} & set(file.parts)]
     found = [one for page in pages() for one in (*wrong(page, files), *misplaced(page, files))]
-    found += [*wrong_laws(), *long_logic(), *long_functions(), *ungranted(), *wrong_versions(), *wrong_model()]
+    found += [*wrong_laws(), *long_logic(), *long_functions(), *long_contracts(), *wrong_versions(), *wrong_model()]
     print("\n".join(found) or f"{len(pages())} pages: all files, headings and functions that they name are there; "
-          f"no function is too long but {len(LONG_FUNCTIONS)} with a reason; {sum(long_contracts().values())} contract lines are")
+          f"no line is too long, and no function but {len(LONG_FUNCTIONS)} with a reason")
     return 1 if found else 0
 
 

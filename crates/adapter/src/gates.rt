@@ -58,7 +58,8 @@ impl<'a, P: Ports, G: Gate> Gated<'a, P, G> {
     pub fn into_parts(self) -> (P, &'a mut G)
         ensures ports { result.0 ≡ self.entry.ports }
         ensures same_gate { result.1.ghost_name ≡ self.entry.gate.ghost_name }
-        ensures passed { G.passed result.1.now ≡ G.passed self.entry.lent.value ++ flat_map passed_in (P.acts self.entry.ports) }
+        ensures passed { G.passed result.1.now ≡ G.passed self.entry.lent.value
+            ++ flat_map passed_in (P.acts self.entry.ports) }
     {
         let Gated {
             ports,

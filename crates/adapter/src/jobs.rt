@@ -67,7 +67,8 @@ impl<'a, I: Source, R: Wait + Drop> Task for ReaderTask<'a, I, R> {
 
     ghost gives = { λ t r. (r.0.ghost_name ≡ t.input.ghost_name) × (client_queue r.1 ≡ client_queue t.inbox)
         × ((sent : List Incoming) × (client_events r.1 ≡ client_events t.inbox ++ sent)
-        × IsReadUntil r.2 sent (supply (I.left t.input.now) (I.failures t.input.now)) (supply (I.left r.0.now) (I.failures r.0.now))) };
+        × IsReadUntil r.2 sent (supply (I.left t.input.now) (I.failures t.input.now)) (supply (I.left r.0.now)
+        (I.failures r.0.now))) };
 
     fn run(self) -> (&'a mut I, ClientSender<R>, ReadEnd) {
         let ReaderTask {
@@ -109,9 +110,11 @@ impl<'a, O: Sink, R: Wait + Drop> Task for WriterTask<'a, O, R> {
 
     ghost can_run = { λ _. ⊤ };
 
-    ghost gives = { λ t r. (r.0.ghost_name ≡ t.output.ghost_name) × (receive_log_queue r.1 ≡ writer_queue t.outbox) × ((receive_log r.1).takes ≡ true)
+    ghost gives = { λ t r. (r.0.ghost_name ≡ t.output.ghost_name) × (receive_log_queue r.1 ≡ writer_queue t.outbox)
+        × ((receive_log r.1).takes ≡ true)
         × ((taken : List WriterMessage) × (messages_received r.1 ≡ messages_taken t.outbox ++ taken)
-        × IsWrittenUntil r.2 taken (output_at (O.written t.output.now) (O.failures t.output.now)) (output_at (O.written r.0.now) (O.failures r.0.now))) };
+        × IsWrittenUntil r.2 taken (output_at (O.written t.output.now) (O.failures t.output.now)) (output_at
+        (O.written r.0.now) (O.failures r.0.now))) };
 
     fn run(
         self,
@@ -167,9 +170,11 @@ impl<'a, G, R: Wait + Drop> RunnerTask<'a, G, R> {
 impl<'a, G: Gate, R: Wait + Drop> Task for RunnerTask<'a, G, R> {
     type Output = (OrderReceiver<R>, ReportSender<R>, &'a mut G);
 
-    ghost can_run = { λ t. (taken_orders t.orders ≡ []) × (sent_reports t.reports ≡ []) × (refused_reports t.reports ≡ []) };
+    ghost can_run = { λ t. (taken_orders t.orders ≡ []) × (sent_reports t.reports ≡ [])
+        × (refused_reports t.reports ≡ []) };
 
-    ghost gives = { λ t r. (pop_queue r.0 ≡ pop_queue t.orders) × (report_queue r.1 ≡ report_queue t.reports) × (r.2.ghost_name ≡ t.gate.ghost_name)
+    ghost gives = { λ t r. (pop_queue r.0 ≡ pop_queue t.orders) × (report_queue r.1 ≡ report_queue t.reports)
+        × (r.2.ghost_name ≡ t.gate.ghost_name)
         × ((acts : List Act) × Leads Idle acts Ended
         × (taken_orders r.0 ≡ flat_map order_in acts) × (sent_reports r.1 ≡ flat_map sent_in acts)
         × (G.passed r.2.now ≡ G.passed t.gate.now ++ flat_map passed_in acts)) };

@@ -93,7 +93,8 @@ fn write_instruction(
     instruction: Instruction,
     begins: Option<StepNumber>,
 ) -> Result<(), AllocError>
-    ensures { OnOk result (string_bytes text.new ≡ string_bytes text.old ++ instruction_line number instruction begins) }
+    ensures { OnOk result (string_bytes text.new ≡ string_bytes text.old
+        ++ instruction_line number instruction begins) }
 {
     write!(text, "{number} ")?;
     write_operation(text, instruction)?;

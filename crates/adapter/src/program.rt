@@ -107,7 +107,8 @@ where
     I: Source + Send,
     O: Sink + Send,
     E: Sink,
-    ensures { Executes first (map (λ argument. argument.now) arguments.entry.now) result (L.loaded loader.old) (L.loaded loader.new)
+    ensures { Executes first (map (λ argument. argument.now) arguments.entry.now) result (L.loaded loader.old)
+        (L.loaded loader.new)
         (streams (I.left input.old) (I.failures input.old) (O.written output.old) (O.failures output.old))
         (streams (I.left input.new) (I.failures input.new) (O.written output.new) (O.failures output.new))
         (output_at (E.written errors.old) (E.failures errors.old))
@@ -135,7 +136,8 @@ where
     O: Sink + Send,
     E: Sink,
     requires { IsParsed (map (λ argument. argument.now) arguments.now) asked }
-    ensures { Executes first (map (λ argument. argument.now) arguments.entry.now) result (L.loaded loader.old) (L.loaded loader.new)
+    ensures { Executes first (map (λ argument. argument.now) arguments.entry.now) result (L.loaded loader.old)
+        (L.loaded loader.new)
         (streams (I.left input.old) (I.failures input.old) (O.written output.old) (O.failures output.old))
         (streams (I.left input.new) (I.failures input.new) (O.written output.new) (O.failures output.new))
         (output_at (E.written errors.old) (E.failures errors.old))

@@ -175,7 +175,8 @@ fn reconcile<R: Wait + Drop>(
     ends: SessionEnds<R>,
 )
     requires inbox { (report_queue reports ≡ client_queue client) × (left_queue ends.inbox ≡ client_queue client) }
-    requires outbox { (ended_unused_queue ends.outbox ≡ ended_queue ends.outbox) × (receive_log_queue written ≡ ended_queue ends.outbox) }
+    requires outbox { (ended_unused_queue ends.outbox ≡ ended_queue ends.outbox)
+        × (receive_log_queue written ≡ ended_queue ends.outbox) }
     requires messages { (receive_log written).takes ≡ true }
     requires orders { pop_queue taken ≡ push_queue ends.orders }
     ensures client { IsPrefixOf (from_client (received ends.inbox)) (client_events client) }

@@ -26,7 +26,8 @@ pub fn write_all<O: Sink>(rt: &impl Wait, output: &mut O, bytes: &[u8]) -> bool
     ensures written { MatchBool result
         (Appends (O.written output.old) (O.written output.new) bytes.now)
         (AppendsPart (O.written output.old) (O.written output.new) bytes.now) }
-    ensures count { MatchBool result (O.failures output.new ≡ O.failures output.old) (O.failures output.old < O.failures output.new) }
+    ensures count { MatchBool result (O.failures output.new ≡ O.failures output.old)
+        (O.failures output.old < O.failures output.new) }
 {
     let mut rest = bytes;
     for _ in rt.forever() {

@@ -59,7 +59,8 @@ pub fn read_on(rest: &[u8], header: Header) -> Result<Header, FramingFault>
 /// Returns the content of the frame at the front, and how many bytes the frame takes; `None` where it isn't complete.
 pub fn content_of(rest: &[u8], header: Header) -> Option<(&[u8], usize)>
     requires { IsReadOut header rest.now }
-    ensures found { IfSome result (λ frame. (frame.1 ≤ length rest.now) × IsFrameInFront rest.now frame.0.now (drop frame.1 rest.now)) }
+    ensures found { IfSome result (λ frame. (frame.1 ≤ length rest.now)
+        × IsFrameInFront rest.now frame.0.now (drop frame.1 rest.now)) }
     ensures none { IfNone result (IsOpen rest.now) }
 {
     match header {
@@ -110,7 +111,8 @@ fn line_end(bytes: &[u8], judged: usize, searched: usize) -> Option<usize>
     requires in_order { judged ≤ searched }
     requires there { searched ≤ length bytes.now }
     requires no_end { HasNoEnd bytes.now judged searched }
-    ensures found { IfSome result (λ end. (judged ≤ end) × (end + 1 < length bytes.now) × EndsAt bytes.now end × HasNoEnd bytes.now judged (end + 1)) }
+    ensures found { IfSome result (λ end. (judged ≤ end) × (end + 1 < length bytes.now) × EndsAt bytes.now end
+        × HasNoEnd bytes.now judged (end + 1)) }
     ensures none { IfNone result (HasNoEnd bytes.now judged (length bytes.now)) }
 {
     let mut from = searched;
@@ -126,8 +128,11 @@ fn line_end(bytes: &[u8], judged: usize, searched: usize) -> Option<usize>
 
 /// Judges a line that isn't empty and stands after fields that give the length `named`, and returns the length after it.
 fn judge_field(line: &[u8], named: Option<usize>) -> Result<Option<usize>, FramingFault>
-    ensures ok { (fields : List Field) → Names fields named → IfOk result (λ next. (field : Field) × IsField field × (line.now ≡ field_text field) × Names (fields ++ field ∷ []) next) }
-    ensures err { (fields : List Field) → Names fields named → line.now ≢ [] → IfErr result (LineFault fields line.now) }
+    ensures ok { (fields : List Field) → Names fields named →
+        IfOk result (λ next. (field : Field) × IsField field × (line.now ≡ field_text field)
+        × Names (fields ++ field ∷ []) next) }
+    ensures err { (fields : List Field) → Names fields named → line.now ≢ [] →
+        IfErr result (LineFault fields line.now) }
 {
     let Some(field) = field_of(line) else {
         return Err(FramingFault::BadField);

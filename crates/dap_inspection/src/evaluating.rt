@@ -28,7 +28,8 @@ pub(crate) fn evaluate(
     asked: &EvaluateArguments,
 ) -> Result<Result<Body, Refusal>, AllocError>
     requires { IsConsidered debuggee.now }
-    ensures { (of : Subject) → of.program ≡ debugged_program debuggee.now → IfOk result (λ r. RepliesFrom of (frames (machine_of debuggee.now)) (question.Evaluate asked.now) (replied r)) }
+    ensures { (of : Subject) → of.program ≡ debugged_program debuggee.now →
+        IfOk result (λ r. RepliesFrom of (frames (machine_of debuggee.now)) (question.Evaluate asked.now) (replied r)) }
 {
     let machine = debuggee.machine();
     let Some(frame) = frame_with_id(machine, asked.frame_id) else {

@@ -18,7 +18,8 @@ use std::alloc::{AllocError, Global};
 /// An allocation failed.
 pub(crate) fn frame_name(alloc: Global, unit: &Unit, block: u32) -> Result<Text, AllocError>
     requires { IsSome (slice_get (blocks (program_of unit.now)) block) }
-    ensures { IfOk result (λ name. (q : Path) → slice_get (blocks (program_of unit.now)) block ≡ Some q → name ≡ frame_name (program_of unit.now) q) }
+    ensures { IfOk result (λ name. (q : Path) → slice_get (blocks (program_of unit.now)) block ≡ Some q →
+        name ≡ frame_name (program_of unit.now) q) }
 {
     match block_name(&unit.tree.program, &unit.nestings, block) {
         Some(name) => Text::copied(alloc, name.text.as_str()),

@@ -30,7 +30,8 @@ pub(crate) fn stack_trace(
     asked: StackTraceArguments,
 ) -> Result<Result<Body, Refusal>, AllocError>
     requires { IsConsidered debuggee.now }
-    ensures { IfOk result (λ r. RepliesFrom (subject_of debuggee.now path.now settings) (frames (machine_of debuggee.now)) (question.StackTrace asked) (replied r)) }
+    ensures { IfOk result (λ r. RepliesFrom (subject_of debuggee.now path.now settings)
+        (frames (machine_of debuggee.now)) (question.StackTrace asked) (replied r)) }
 {
     if asked.thread_id != 1 {
         return Ok(Err(Refusal::UnknownThread));
@@ -53,7 +54,8 @@ fn asked_frames(
     settings: InitializeArguments,
     asked: StackTraceArguments,
 ) -> Result<Vec<StackFrame>, AllocError>
-    ensures { IfOk result (λ shown. shown.items ≡ frames_asked (program machine.now) (counting_of settings) asked (frames machine.now)) }
+    ensures { IfOk result (λ shown. shown.items ≡ frames_asked (program machine.now) (counting_of settings) asked
+        (frames machine.now)) }
 {
     let left = machine.depth().saturating_sub(asked.start_frame as usize);
     let count = count_asked(asked.levels, left);
@@ -83,7 +85,8 @@ fn stack_frame(
 ) -> Result<StackFrame, AllocError>
     requires positive { 0 < id }
     requires alive { id ≤ depth_of machine.now }
-    ensures { IfOk result (λ shown. IsShownAs (program machine.now) (counting_of settings) (frame_of machine.now (id - 1)) id shown) }
+    ensures { IfOk result (λ shown. IsShownAs (program machine.now) (counting_of settings)
+        (frame_of machine.now (id - 1)) id shown) }
 {
     let unit: &Unit = machine.unit();
     let view = machine.frame(id - 1);

@@ -29,7 +29,8 @@ pub(crate) fn variables(
     asked: VariablesArguments,
 ) -> Result<Result<Body, Refusal>, AllocError>
     requires { IsConsidered debuggee.now }
-    ensures { (of : Subject) → of.program ≡ debugged_program debuggee.now → IfOk result (λ r. RepliesFrom of (frames (machine_of debuggee.now)) (question.Variables asked) (replied r)) }
+    ensures { (of : Subject) → of.program ≡ debugged_program debuggee.now →
+        IfOk result (λ r. RepliesFrom of (frames (machine_of debuggee.now)) (question.Variables asked) (replied r)) }
 {
     let machine = debuggee.machine();
     let Some(frame) = frame_with_id(machine, asked.variables_reference) else {
@@ -62,7 +63,8 @@ fn valued(
     names: &[Name],
 ) -> Result<Vec<Variable>, AllocError>
     requires { length names.now ≡ variables_of (frame_of machine.now frame) }
-    ensures { IfOk result (λ list. list.items ≡ named (map plain_name names.now) (numbers_of (frame_of machine.now frame))) }
+    ensures { IfOk result (λ list. list.items
+        ≡ named (map plain_name names.now) (numbers_of (frame_of machine.now frame))) }
 {
     let mut list = Vec::with_capacity(alloc, names.len())?;
     for (index, name) in names.iter().enumerate() {

@@ -26,7 +26,8 @@ pub(crate) fn scopes(
     asked: ScopesArguments,
 ) -> Result<Result<Body, Refusal>, AllocError>
     requires { IsConsidered debuggee.now }
-    ensures { (of : Subject) → of.program ≡ debugged_program debuggee.now → IfOk result (λ r. RepliesFrom of (frames (machine_of debuggee.now)) (question.Scopes asked) (replied r)) }
+    ensures { (of : Subject) → of.program ≡ debugged_program debuggee.now →
+        IfOk result (λ r. RepliesFrom of (frames (machine_of debuggee.now)) (question.Scopes asked) (replied r)) }
 {
     let machine = debuggee.machine();
     let id = asked.frame_id as usize;

@@ -150,7 +150,8 @@ impl Run {
     /// Returns the order to hold this run, which has this number; `None` where that was ordered before or the run goes
     /// back.
     pub fn hold(&mut self, number: u64) -> Option<Order>
-        ensures order { option_to_list (option_map plain_order result) ≡ (if self.old.held || is_backward self.old.mode then [] else Hold number ∷ []) }
+        ensures order { option_to_list (option_map plain_order result)
+            ≡ (if self.old.held || is_backward self.old.mode then [] else Hold number ∷ []) }
         ensures held { self.new ≡ ordered_to_hold self.old }
     {
         if self.held || goes_back(self.mode) {
@@ -182,7 +183,8 @@ impl Run {
 fn with_plan(mut debuggee: Box<Debuggee>, plan: Option<Arc<Plan>>) -> StoppedDebuggee
     requires considered { IsConsidered debuggee.value }
     requires fits { MayBePlanOf debuggee.value.unit (option_map arc_value plan) }
-    ensures { result ≡ with_waiting (option_map (λ (p : Listed). plain_breakpoints p.breakpoints) (option_map arc_value plan)) debuggee.value }
+    ensures { result ≡ with_waiting (option_map (λ (p : Listed). plain_breakpoints p.breakpoints)
+        (option_map arc_value plan)) debuggee.value }
 {
     match plan {
         None => StoppedDebuggee::new(debuggee),

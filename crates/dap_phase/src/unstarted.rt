@@ -44,7 +44,14 @@ impl Unstarted {
     ///
     /// An allocation failed.
     pub fn new(alloc: Global, unit: Arc<Unit>) -> Result<Unstarted, AllocError>
-        ensures { IfOk result (λ d. d ≡ record { unit = unit.value; position = 0; breakpoints = []; counted_from = 0; next = 0; trail = new_trail }) }
+        ensures { IfOk result (λ d. d ≡ record {
+          unit = unit.value;
+          position = 0;
+          breakpoints = [];
+          counted_from = 0;
+          next = 0;
+          trail = new_trail;
+        }) }
     {
         let machine = Machine::new(alloc, unit)?;
         let debuggee = Box::new(alloc, Debuggee::new(alloc, machine))?;
@@ -61,7 +68,8 @@ impl Unstarted {
     /// Puts a plan in. It counts from the position where the program stands.
     pub fn set_plan(&mut self, plan: Arc<Plan>)
         requires { IsPlanOf self.old.unit plan.value }
-        ensures { self.new ≡ record self.old { breakpoints = plain_breakpoints plan.value.breakpoints; counted_from = self.old.next } }
+        ensures { self.new ≡ record self.old
+            { breakpoints = plain_breakpoints plan.value.breakpoints; counted_from = self.old.next } }
     {
         self.debuggee.set_plan(plan);
     }

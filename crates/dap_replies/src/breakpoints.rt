@@ -102,7 +102,8 @@ fn resolved(
     asked: &SetBreakpointsArguments,
 ) -> Result<(Items<BreakpointAnswer>, Plan), AllocError>
     requires { AreWithin asked.now }
-    ensures answered { IfOk result (λ r. AreAnswered (program_of unit.now) (offset settings.lines_start_at_1) asked.now.breakpoints r.0 (plain_breakpoints r.1.breakpoints)) }
+    ensures answered { IfOk result (λ r. AreAnswered (program_of unit.now) (offset settings.lines_start_at_1)
+        asked.now.breakpoints r.0 (plain_breakpoints r.1.breakpoints)) }
     ensures plan { IfOk result (λ r. IsPlanOf unit.now r.1) }
 {
     let less = line_offset(settings);

@@ -22,7 +22,8 @@ pub(crate) fn push_logs(
     logs: &[Log],
     events: &mut Vec<EventBody>,
 ) -> Result<(), AllocError>
-    ensures are { OnOk result (events.new.items ≡ events.old.items ++ log_events (breakpoints_of (option_map arc_value plan.now)) logs.now) }
+    ensures are { OnOk result (events.new.items ≡ events.old.items
+        ++ log_events (breakpoints_of (option_map arc_value plan.now)) logs.now) }
     ensures enough { logs.now ≡ [] → IsOk result }
 {
     for log in logs {

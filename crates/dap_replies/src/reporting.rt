@@ -154,7 +154,8 @@ fn begin_again(
 
 /// The program has ended.
 fn end(alloc: Global, target: Target, run: Run, report: &Report) -> Result<Effect, AllocError>
-    ensures { IfOk result (FollowsReport target run report.now (λ past. reporting (outputs past (plain_report report.now) ++ exited_events 0))) }
+    ensures { IfOk result (FollowsReport target run report.now
+        (λ past. reporting (outputs past (plain_report report.now) ++ exited_events 0))) }
 {
     reading_laws();
     let mut events = outputs(alloc, target.told, report)?;

@@ -41,7 +41,14 @@ impl Model for Session {
 
     ghost coded = { Prim.hlevel (codes, compiled.the_row.coded, breakpoint_code) };
 
-    ghost view = { λ session. record { stream = record { first = session.first; rest = session.decoder.rest; fault = session.decoder.fault }; phase = session.phase; ending = session.ending; next_seq = session.next_seq } };
+    ghost view = { λ session. record {
+      stream =
+          record { first = session.first; rest = session.decoder.rest; fault = session.decoder.fault };
+      phase =
+          session.phase;
+      ending = session.ending;
+      next_seq = session.next_seq;
+    } };
 }
 
 impl Session {
@@ -108,7 +115,8 @@ impl Session {
         ensures failed { IfErr result (λ fault. self.new.ending ≡ Some (ending.Fault fault)) }
         // Once the session is closed or gave up, every call returns the same, and nothing changes.
         ensures answer { (over : AnEnding) → self.old.ending ≡ Some over → result ≡ want_at_end over }
-        ensures quiet { self.old.ending ≢ None → ports (O.seen out.new) (D.seen orders.new) ≡ ports (O.seen out.old) (D.seen orders.old) }
+        ensures quiet { self.old.ending ≢ None →
+            ports (O.seen out.new) (D.seen orders.new) ≡ ports (O.seen out.old) (D.seen orders.old) }
         ensures same { self.old.ending ≢ None → self.new ≡ self.old }
         ensures out { O.origin out.new ≡ O.origin out.old }
         ensures orders { D.origin orders.new ≡ D.origin orders.old }

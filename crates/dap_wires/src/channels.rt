@@ -30,7 +30,8 @@ pub(crate) fn channel<M: Sent + Drop, R: Wait + Copy + Drop>(
     ensures second { IfOk result (λ r. sender_log r.1 ≡ unused second_sender) }
     ensures receiver { IfOk result (λ r. receiver_log r.2 ≡ unused only_receiver) }
     ensures one { IfOk result (λ r. (sender_queue r.1 ≡ sender_queue r.0) × (receiver_queue r.2 ≡ sender_queue r.0)) }
-    ensures room { IfOk result (λ r. (sender_room r.0 ≡ capacity) × (sender_room r.1 ≡ capacity) × (receiver_room r.2 ≡ capacity)) }
+    ensures room { IfOk result (λ r. (sender_room r.0 ≡ capacity) × (sender_room r.1 ≡ capacity)
+        × (receiver_room r.2 ≡ capacity)) }
 {
     let (sender, receiver, mut pass) = bounded_with(alloc, capacity)?;
     let first = sender.another::<First>(&mut pass);

@@ -58,7 +58,8 @@ pub struct EventReceiver<R: Wait + Drop> {
     pub(crate) given: GhostList<Event>,
     ghost takes: { (receiver_log end).takes ≡ true },
     ghost room: { receiver_room end ≡ 64 },
-    ghost in_order: { flat_map events_in (receiver_log end).taken ≡ given.entries ++ map event.Report rest.items } by { Coded-set (coded_list event_row.the_row.coded) _ _ },
+    ghost in_order: { flat_map events_in (receiver_log end).taken ≡ given.entries
+        ++ map event.Report rest.items } by { Coded-set (coded_list event_row.the_row.coded) _ _ },
 }
 
 /// The log of what a session received from an inbox that it has left.
@@ -68,5 +69,6 @@ pub struct InboxLog {
     pub(crate) rest: VecDeque<Report>,
     pub(crate) given: GhostList<Event>,
     ghost takes: { (receive_log log).takes ≡ true },
-    ghost in_order: { flat_map events_in (receive_log log).taken ≡ given.entries ++ map event.Report rest.items } by { Coded-set (coded_list event_row.the_row.coded) _ _ },
+    ghost in_order: { flat_map events_in (receive_log log).taken ≡ given.entries
+        ++ map event.Report rest.items } by { Coded-set (coded_list event_row.the_row.coded) _ _ },
 }

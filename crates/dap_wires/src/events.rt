@@ -163,7 +163,8 @@ impl<R: Wait + Drop> ReportSender<R> {
     fn put(&mut self, report: Report) -> Result<(), Report>
         ensures sent { OnOk result (sent_reports self.new ≡ sent_reports self.old ++ plain_report report ∷ []) }
         ensures keeps_refused { OnOk result (refused_reports self.new ≡ refused_reports self.old) }
-        ensures refused { OnErr result (refused_reports self.new ≡ refused_reports self.old ++ plain_report report ∷ []) }
+        ensures refused { OnErr result (refused_reports self.new ≡ refused_reports self.old
+            ++ plain_report report ∷ []) }
         ensures keeps_sent { OnErr result (sent_reports self.new ≡ sent_reports self.old) }
         ensures back { IfErr result (λ back. back ≡ report) }
         ensures queue { report_queue self.new ≡ report_queue self.old }

@@ -156,11 +156,14 @@ fn offer<R: Wait>(
     ensures seated { IsPassOf (arc_value queue.now) pass.new }
     ensures queue { pass.new.table_id ≡ pass.old.table_id }
     ensures pushes { (view pass.new).first ≡ true }
-    ensures pushed { OnOk result (map plain_order (view pass.new).put_first ≡ map plain_order (view pass.old).put_first ++ plain_order order ∷ []) }
+    ensures pushed { OnOk result (map plain_order (view pass.new).put_first ≡ map plain_order (view pass.old).put_first
+        ++ plain_order order ∷ []) }
     ensures refused { OnErr result (view pass.new ≡ view pass.old) }
-    ensures full { OnErr result ((taken inside : List Order) × ((view pass.old).put_first ≡ taken ++ inside) × (length inside ≡ 4)) }
+    ensures full { OnErr result ((taken inside : List Order) × ((view pass.old).put_first ≡ taken ++ inside)
+        × (length inside ≡ 4)) }
     ensures many { OnErr result (4 ≤ length (map plain_order (view pass.new).put_first)) }
-    ensures grows { 4 ≤ length (map plain_order (view pass.old).put_first) → 4 ≤ length (map plain_order (view pass.new).put_first) }
+    ensures grows { 4 ≤ length (map plain_order (view pass.old).put_first) →
+        4 ≤ length (map plain_order (view pass.new).put_first) }
 {
     match queue.push_as::<Puts, R>(rt, pass, order) {
         Ok(()) => Ok(()),
@@ -180,7 +183,8 @@ fn take<R: Wait>(
     ensures queue { pass.new.table_id ≡ pass.old.table_id }
     ensures takes { (view pass.new).takes ≡ true }
     ensures joins { (view pass.new).second ≡ (view pass.old).second }
-    ensures taken { map plain_order (view pass.new).taken ≡ map plain_order (view pass.old).taken ++ option_to_list (option_map plain_order result) }
+    ensures taken { map plain_order (view pass.new).taken ≡ map plain_order (view pass.old).taken
+        ++ option_to_list (option_map plain_order result) }
 {
     match queue.pop_as::<Takes, R>(rt, pass) {
         None => None,
@@ -201,7 +205,8 @@ fn take_next<R: Wait>(
     ensures queue { pass.new.table_id ≡ pass.old.table_id }
     ensures takes { (view pass.new).takes ≡ true }
     ensures joins { (view pass.new).second ≡ (view pass.old).second }
-    ensures taken { map plain_order (view pass.new).taken ≡ map plain_order (view pass.old).taken ++ plain_order result ∷ [] }
+    ensures taken { map plain_order (view pass.new).taken ≡ map plain_order (view pass.old).taken
+        ++ plain_order result ∷ [] }
 {
     for _ in rt.forever() {
         if let Some(order) = take(rt, queue, pass) {

@@ -36,7 +36,8 @@ pub fn read_loop<I: Source, R: Wait + Drop>(
     inbox: &mut ClientSender<R>,
 ) -> ReadEnd
     ensures read { (sent : List Incoming) × (client_events inbox.new ≡ client_events inbox.old ++ sent)
-        × ((read : IsReadUntil result sent (supply (I.left input.old) (I.failures input.old)) (supply (I.left input.new) (I.failures input.new)))
+        × ((read : IsReadUntil result sent (supply (I.left input.old) (I.failures input.old))
+        (supply (I.left input.new) (I.failures input.new)))
         × (returned_events inbox.new ≡ returned_events inbox.old ++ read.lost)) }
     ensures queue { client_queue inbox.new ≡ client_queue inbox.old }
 {

@@ -21,7 +21,8 @@ pub(crate) fn read_event<I: Source>(
     input: &mut I,
     room: &mut [u8; PIECE_LIMIT],
 ) -> Event
-    ensures read { IsRead (incoming_of result) (supply (I.left input.old) (I.failures input.old)) (supply (I.left input.new) (I.failures input.new)) }
+    ensures read { IsRead (incoming_of result) (supply (I.left input.old) (I.failures input.old))
+        (supply (I.left input.new) (I.failures input.new)) }
     ensures own { is_report result ≡ false }
 {
     // This comes before the read, since what was read can't be put back.

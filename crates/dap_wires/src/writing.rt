@@ -26,7 +26,8 @@ pub fn write_loop<O: Sink, R: Wait + Drop>(
     outbox: &mut FrameReceiver<R>,
 ) -> Result<(), WriteFailed>
     ensures written { (taken : List WriterMessage) × (messages_taken outbox.new ≡ messages_taken outbox.old ++ taken)
-        × IsWrittenUntil result taken (output_at (O.written output.old) (O.failures output.old)) (output_at (O.written output.new) (O.failures output.new)) }
+        × IsWrittenUntil result taken (output_at (O.written output.old) (O.failures output.old)) (output_at
+        (O.written output.new) (O.failures output.new)) }
     ensures queue { writer_queue outbox.new ≡ writer_queue outbox.old }
 {
     for _ in rt.forever() {

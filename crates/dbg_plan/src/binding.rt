@@ -24,7 +24,8 @@ pub enum Located {
 /// Returns what a name stands for in the block with this number. A name that can't be read counts as 0.
 pub fn locate(names: &Names, number: u32, text: &str) -> Located
     requires { number < length (blocks (plain_block names.now)) }
-    ensures { (q : Path) → slice_get (blocks (plain_block names.now)) number ≡ Some q → IsNameBound (plain_block names.now) q (home (plain_block names.now) q text.now) (bound_of result) }
+    ensures { (q : Path) → slice_get (blocks (plain_block names.now)) number ≡ Some q →
+        IsNameBound (plain_block names.now) q (home (plain_block names.now) q text.now) (bound_of result) }
 {
     let Some(home) = names.find(number, text) else {
         return Located::Number(0);
@@ -51,7 +52,8 @@ pub fn bind_expression(
     expression: &Expression,
 ) -> Result<LocatedExpression, AllocError>
     requires { number < length (blocks (plain_block names.now)) }
-    ensures { (q : Path) → slice_get (blocks (plain_block names.now)) number ≡ Some q → IfOk result (IsExpressionBound (plain_block names.now) q (plain_expression expression.now)) }
+    ensures { (q : Path) → slice_get (blocks (plain_block names.now)) number ≡ Some q →
+        IfOk result (IsExpressionBound (plain_block names.now) q (plain_expression expression.now)) }
 {
     match expression {
         Expression::Name(name) => {
@@ -95,7 +97,8 @@ pub fn bind_condition(
     condition: &Condition,
 ) -> Result<LocatedCondition, AllocError>
     requires { number < length (blocks (plain_block names.now)) }
-    ensures { (q : Path) → slice_get (blocks (plain_block names.now)) number ≡ Some q → IfOk result (IsConditionBound (plain_block names.now) q (plain_condition condition.now)) }
+    ensures { (q : Path) → slice_get (blocks (plain_block names.now)) number ≡ Some q →
+        IfOk result (IsConditionBound (plain_block names.now) q (plain_condition condition.now)) }
 {
     match condition {
         Condition::Odd(expression) => {

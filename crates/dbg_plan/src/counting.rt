@@ -72,8 +72,10 @@ fn meet(machine: &Machine, breakpoint: &Breakpoint, counts: &mut [u32], logs: &m
     requires within { breakpoint.now.number < length counts.old }
     requires room { length logs.old < breakpoint_limit }
     ensures counts { counts.new ≡ counted_at (holds_now machine.now) breakpoint.now counts.old }
-    ensures stops { result ≡ (due_at (holds_now machine.now) breakpoint.now counts.old && is_none breakpoint.now.message) }
-    ensures logs { logs.new ≡ logged_after machine.now (due_at (holds_now machine.now) breakpoint.now counts.old) breakpoint.now logs.old }
+    ensures stops { result ≡ (due_at (holds_now machine.now)
+        breakpoint.now counts.old && is_none breakpoint.now.message) }
+    ensures logs { logs.new ≡ logged_after machine.now (due_at (holds_now machine.now) breakpoint.now counts.old)
+        breakpoint.now logs.old }
 {
     count_arrival(machine, breakpoint, counts) && stops_or_logs(machine, breakpoint, logs)
 }
@@ -92,7 +94,8 @@ pub fn count_arrivals(
     requires room { length logs.old + length breakpoints.now ≤ breakpoint_limit }
     ensures counts { counts.new ≡ counted (holds_now machine.now) breakpoints.now counts.old }
     ensures stops { result ≡ any_stops (those_due (holds_now machine.now) breakpoints.now counts.old) }
-    ensures logs { logs.new ≡ logs.old ++ logged machine.now (those_due (holds_now machine.now) breakpoints.now counts.old) }
+    ensures logs { logs.new ≡ logs.old ++ logged machine.now
+        (those_due (holds_now machine.now) breakpoints.now counts.old) }
 {
     let mut stops = false;
     for breakpoint in breakpoints {
@@ -116,8 +119,10 @@ pub fn count_position(
     requires empty { logs.old ≡ [] }
     // Whatever position the counts begin at, they go on, and say what is due.
     ensures { (first : ℕ) → first ≤ machine.now.position
-        → AreCounts (program machine.now) (listed_of (option_map arc_value plan.now)) first machine.now.position counts.old
-        → CountsOn (program machine.now) (listed_of (option_map arc_value plan.now)) machine.now.position first result logs.new counts.new }
+        → AreCounts (program machine.now) (listed_of
+        (option_map arc_value plan.now)) first machine.now.position counts.old
+        → CountsOn (program machine.now) (listed_of
+        (option_map arc_value plan.now)) machine.now.position first result logs.new counts.new }
 {
     match plan {
         None => false,
@@ -133,7 +138,8 @@ pub fn count_position(
 /// Returns why the machine's position is due, if it is. `hit` says whether a breakpoint stops the program there.
 #[inline(always)]
 pub fn reason_here(machine: &Machine, hit: bool, mode: Mode) -> Option<Reason>
-    ensures { result ≡ (if hit then Some reason.Breakpoint else reason_of mode (depth_at (program machine.now) machine.now.position)) }
+    ensures { result ≡ (if hit then Some reason.Breakpoint
+        else reason_of mode (depth_at (program machine.now) machine.now.position)) }
 {
     if hit {
         return Some(Reason::Breakpoint);

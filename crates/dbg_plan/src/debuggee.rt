@@ -92,7 +92,15 @@ impl Debuggee {
     /// Returns a debuggee with this machine and the empty plan. The machine's position is the next to be considered. It
     /// allocates nothing.
     pub fn new(alloc: Global, machine: Machine) -> Debuggee
-        ensures { result ≡ record { unit = machine.unit; position = machine.position; breakpoints = []; counted_from = machine.position; next = machine.position; trail = new_trail } }
+        ensures { result ≡ record {
+          unit = machine.unit;
+          position = machine.position;
+          breakpoints = [];
+          counted_from =
+              machine.position;
+          next = machine.position;
+          trail = new_trail;
+        } }
     {
         let position = machine.position();
         Debuggee {
@@ -141,7 +149,8 @@ impl Debuggee {
     #[inline(always)]
     pub fn step(&mut self) -> StepOutcome
         requires { IsConsidered self.old }
-        ensures stepped { Stepped (outcome_of (machine_of self.old)) (machine_of self.old) result (machine_of self.new) }
+        ensures stepped { Stepped (outcome_of (machine_of self.old)) (machine_of self.old) result
+            (machine_of self.new) }
         ensures kept { self.new ≡ record self.old { position = self.new.position } }
     {
         let outcome = self.machine.step();
@@ -152,7 +161,8 @@ impl Debuggee {
     /// Sets the plan, which counts from the next position to be considered.
     pub fn set_plan(&mut self, plan: Arc<Plan>)
         requires { IsPlanOf self.old.unit plan.value }
-        ensures { self.new ≡ record self.old { breakpoints = plain_breakpoints plan.value.breakpoints; counted_from = self.old.next } }
+        ensures { self.new ≡ record self.old
+            { breakpoints = plain_breakpoints plan.value.breakpoints; counted_from = self.old.next } }
     {
         let counted_from = self.next();
         self.plan = entered(plan);
@@ -260,7 +270,8 @@ impl Debuggee {
     /// The first fault of the evaluation, the left operand first.
     pub fn evaluate(&self, frame: usize, expression: &Expression) -> Result<i64, EvalFault>
         requires { frame < depth_of (machine_of self.now) }
-        ensures { value (debugged_program self.now) (frames (machine_of self.now)) frame (plain_expression expression.now) ≡ answered result }
+        ensures { value (debugged_program self.now) (frames (machine_of self.now)) frame
+            (plain_expression expression.now) ≡ answered result }
     {
         evaluate(&self.machine, frame, expression)
     }

@@ -140,7 +140,8 @@ fn name_value(machine: &Machine, frame: usize, text: &str) -> i64
 /// The first fault, the left operand first.
 pub fn evaluate(machine: &Machine, frame: usize, expression: &Expression) -> Result<i64, EvalFault>
     requires { frame < depth_of machine.now }
-    ensures { value (program machine.now) (frames machine.now) frame (plain_expression expression.now) ≡ answered result }
+    ensures { value (program machine.now) (frames machine.now) frame (plain_expression expression.now)
+        ≡ answered result }
 {
     match expression {
         Expression::Name(name) => Ok(name_value(machine, frame, name.text.as_str())),

@@ -30,7 +30,9 @@ impl Debuggee {
     ///
     /// Out of memory; all is as before. It never fails if no checkpoint is asked for.
     pub fn keep(&mut self, alloc: Global) -> Result<(), AllocError>
-        ensures kept { MatchResult result (λ _. self.new ≡ record self.old { trail = kept_at self.old.trail self.old.position }) (λ _. self.new ≡ self.old) }
+        ensures kept { MatchResult result
+            (λ _. self.new ≡ record self.old { trail = kept_at self.old.trail self.old.position })
+            (λ _. self.new ≡ self.old) }
         ensures asked { IfErr result (λ _. asks self.old.trail self.old.position ≡ true) }
     {
         self.trail.keep(alloc, &self.machine)

@@ -22,7 +22,10 @@ use std::alloc::{AllocError, Global};
 fn log_part(machine: &Machine, frame: usize, part: &Part, log: &mut Log)
     requires reads { ReadsPart (program machine.now) (frames machine.now) frame part.now }
     requires room { length log.old.values + length (expressions (plain_part part.now ∷ [])) ≤ expression_limit }
-    ensures { log.new ≡ record log.old { values = log.old.values ++ map (value (program machine.now) (frames machine.now) frame) (expressions (plain_part part.now ∷ [])) } }
+    ensures { log.new ≡ record log.old {
+      values = log.old.values
+          ++ map (value (program machine.now) (frames machine.now) frame) (expressions (plain_part part.now ∷ []));
+    } }
 {
     match part {
         Part::Text(_) => {}
@@ -88,7 +91,9 @@ fn push_part<'a>(
     part: &Part,
     values: &'a [Result<i64, EvalFault>],
 ) -> Result<&'a [Result<i64, EvalFault>], AllocError>
-    ensures { IfOk result (λ left. (parts : List PlainPart) → string_bytes text.new ++ filled parts (map answered left.now) ≡ string_bytes text.old ++ filled (plain_part part.now ∷ parts) (map answered values.now)) }
+    ensures { IfOk result (λ left. (parts : List PlainPart) → string_bytes text.new
+        ++ filled parts (map answered left.now) ≡ string_bytes text.old
+        ++ filled (plain_part part.now ∷ parts) (map answered values.now)) }
 {
     match part {
         Part::Text(bytes) => {

@@ -86,9 +86,12 @@ fn read_parts(
 ) -> Result<Vec<Part>, MessageFault>
     requires names { names.now ≡ unit.now.tree.program }
     requires within { step < length (steps (program_of unit.now)) }
-    ensures parts { IfOk result (λ parts. IsMessageOf (program_of unit.now) (step_path (program_of unit.now) step) text.now (plain_parts parts.items)) }
-    ensures bound { IfOk result (λ parts. ArePartsBound (program_of unit.now) (step_path (program_of unit.now) step) parts.items) }
-    ensures bad { IfErr result (UnlessNoMemory ((parts : List PlainPart) → ¬ IsMessageOf (program_of unit.now) (step_path (program_of unit.now) step) text.now parts)) }
+    ensures parts { IfOk result (λ parts. IsMessageOf (program_of unit.now) (step_path (program_of unit.now) step)
+        text.now (plain_parts parts.items)) }
+    ensures bound { IfOk result (λ parts. ArePartsBound (program_of unit.now) (step_path (program_of unit.now) step)
+        parts.items) }
+    ensures bad { IfErr result (UnlessNoMemory ((parts : List PlainPart) →
+        ¬ IsMessageOf (program_of unit.now) (step_path (program_of unit.now) step) text.now parts)) }
 {
     let mut parts = Vec::new(alloc);
     let mut values = 0;
@@ -120,8 +123,11 @@ fn push_value(
     before: &str,
     expression: BoundExpression,
 ) -> Result<(), AllocError>
-    ensures parts { OnOk result (plain_parts parts.new.items ≡ plain_parts parts.old.items ++ Text before.now ∷ Value (plain_expression expression.expression) ∷ []) }
-    ensures bound { OnOk result ((main : Block) (q : Path) → ArePartsBound main q parts.old.items → IsExpressionBound main q (plain_expression expression.expression) expression.located → ArePartsBound main q parts.new.items) }
+    ensures parts { OnOk result (plain_parts parts.new.items ≡ plain_parts parts.old.items
+        ++ Text before.now ∷ Value (plain_expression expression.expression) ∷ []) }
+    ensures bound { OnOk result ((main : Block) (q : Path) → ArePartsBound main q parts.old.items →
+        IsExpressionBound main q (plain_expression expression.expression) expression.located →
+        ArePartsBound main q parts.new.items) }
 {
     let before = String::from_str(alloc, before)?;
     parts.push(Part::Text(before))?;
@@ -139,9 +145,12 @@ fn read_expression(
 ) -> Result<BoundExpression, MessageFault>
     requires names { names.now ≡ unit.now.tree.program }
     requires within { step < length (steps (program_of unit.now)) }
-    ensures expression { IfOk result (λ e. IsExpressionOf (program_of unit.now) (step_path (program_of unit.now) step) text.now (plain_expression e.expression)) }
-    ensures bound { IfOk result (λ e. IsExpressionBound (program_of unit.now) (step_path (program_of unit.now) step) (plain_expression e.expression) e.located) }
-    ensures bad { IfErr result (UnlessNoMemory ((e : PlainExpression) → ¬ IsExpressionOf (program_of unit.now) (step_path (program_of unit.now) step) text.now e)) }
+    ensures expression { IfOk result (λ e. IsExpressionOf (program_of unit.now) (step_path (program_of unit.now) step)
+        text.now (plain_expression e.expression)) }
+    ensures bound { IfOk result (λ e. IsExpressionBound (program_of unit.now) (step_path (program_of unit.now) step)
+        (plain_expression e.expression) e.located) }
+    ensures bad { IfErr result (UnlessNoMemory ((e : PlainExpression) →
+        ¬ IsExpressionOf (program_of unit.now) (step_path (program_of unit.now) step) text.now e)) }
 {
     editor_laws();
     let expression = match parse_expression(alloc, text.as_bytes(), names, &unit.steps, step) {

@@ -61,7 +61,13 @@ impl Plan {
         requires numbered { IsNumbered breakpoints.items }
         requires within { All (λ b. b.step < steps) breakpoints.items }
         requires room { steps + 1 < 2 ^ 64 }
-        ensures { IfOk result (λ plan. plan ≡ record { steps = steps; breakpoints = breakpoints.items; watched = watched_lines breakpoints.items lines.now }) }
+        ensures { IfOk result (λ plan. plan
+            ≡ record {
+              steps = steps;
+              breakpoints = breakpoints.items;
+              watched = watched_lines breakpoints.items
+                  lines.now;
+            }) }
     {
         let mut ordered = breakpoints;
         ordered.sort_by_key(|breakpoint| breakpoint.step)?;
@@ -142,7 +148,8 @@ impl Plan {
 ///
 /// The count of its shares is full.
 pub fn share_plan(plan: &Option<Arc<Plan>>) -> Result<Option<Arc<Plan>>, AllocError>
-    ensures { IfOk result (λ share. breakpoints_of (option_map arc_value share) ≡ breakpoints_of (option_map arc_value plan.now)) }
+    ensures { IfOk result (λ share. breakpoints_of (option_map arc_value share)
+        ≡ breakpoints_of (option_map arc_value plan.now)) }
 {
     match plan {
         None => Ok(None),
@@ -152,7 +159,8 @@ pub fn share_plan(plan: &Option<Arc<Plan>>) -> Result<Option<Arc<Plan>>, AllocEr
 
 /// Whether two plans have the same breakpoints in the same order. `None` is the empty plan.
 pub fn same_plan(left: &Option<Arc<Plan>>, right: &Option<Arc<Plan>>) -> bool
-    ensures { Decides result (breakpoints_of (option_map arc_value left.now) ≡ breakpoints_of (option_map arc_value right.now)) }
+    ensures { Decides result (breakpoints_of (option_map arc_value left.now)
+        ≡ breakpoints_of (option_map arc_value right.now)) }
 {
     match (left, right) {
         (None, None) => true,

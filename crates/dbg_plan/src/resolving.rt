@@ -58,9 +58,11 @@ pub fn resolve(
     asked: &[SourceBreakpoint],
 ) -> Result<(Plan, Vec<Resolution>), AllocError>
     requires { length asked.now ≤ breakpoint_limit }
-    ensures resolutions { IfOk result (λ r. AreResolved (program_of unit.now) asked.now r.1.items (plain_breakpoints r.0.breakpoints)) }
+    ensures resolutions { IfOk result (λ r. AreResolved (program_of unit.now) asked.now r.1.items
+        (plain_breakpoints r.0.breakpoints)) }
     ensures plan { IfOk result (λ r. IsPlanOf unit.now r.0) }
-    ensures breakpoints { IfOk result (λ r. AreBreakpointsOf (program_of unit.now) (plain_breakpoints r.0.breakpoints)) }
+    ensures breakpoints { IfOk result (λ r. AreBreakpointsOf (program_of unit.now)
+        (plain_breakpoints r.0.breakpoints)) }
 {
     let names = names_for(alloc, unit, asked)?;
     let mut resolutions = Vec::with_capacity(alloc, asked.len())?;
@@ -176,7 +178,8 @@ fn bind(
     requires names { names.now ≡ unit.now.tree.program }
     requires within { step < length (steps (program_of unit.now)) }
     requires reads { ∥ ReadsAs text.now (plain_condition condition) ∥₁ }
-    ensures text { IfOk result (λ c. text_condition c ≡ record { text = text.now; condition = plain_condition condition }) }
+    ensures text { IfOk result (λ c. text_condition c
+        ≡ record { text = text.now; condition = plain_condition condition }) }
     ensures bound { IfOk result (λ c. IsBoundAt (program_of unit.now) step (Some c)) }
 {
     let number = unit.steps[step].block;

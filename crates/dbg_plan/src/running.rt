@@ -45,7 +45,8 @@ fn has_arrival(machine: &Machine, plan: &Option<Arc<Plan>>) -> bool
 fn is_quiet(outcome: StepOutcome, machine: &Machine, plan: &Option<Arc<Plan>>) -> bool
     requires running { outcome ≡ Went None → IsRunning machine.now }
     requires fits { MayBePlanOf machine.now.unit (option_map arc_value plan.now) }
-    ensures { Decides result ((outcome ≡ Went None) × (has_arrival (breakpoints_of (option_map arc_value plan.now)) machine.now ≡ false)) }
+    ensures { Decides result ((outcome ≡ Went None)
+        × (has_arrival (breakpoints_of (option_map arc_value plan.now)) machine.now ≡ false)) }
 {
     match outcome {
         StepOutcome::Went(None) => !has_arrival(machine, plan),

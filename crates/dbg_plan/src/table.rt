@@ -25,7 +25,8 @@ pub fn starts_of(
     requires ordered { IsNonDecreasingBy (λ b. b.step) ordered.now }
     requires room { steps + 1 < 2 ^ 64 }
     ensures long { IfOk result (λ starts. length starts.items ≡ steps + 1) }
-    ensures parts { IfOk result (λ starts. (s : ℕ) → s < steps → IsPart ordered.now starts.items s (those_of s ordered.now)) }
+    ensures parts { IfOk result (λ starts. (s : ℕ) → s < steps →
+        IsPart ordered.now starts.items s (those_of s ordered.now)) }
 {
     let mut starts = Vec::with_capacity(alloc, steps + 1)?;
     let mut start = 0;

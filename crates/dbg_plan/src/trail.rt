@@ -83,7 +83,8 @@ impl Trail {
     /// Out of memory; all is as before.
     pub fn keep(&mut self, alloc: Global, machine: &Machine) -> Result<(), AllocError>
         requires { AreOf machine.now.unit self.old.checkpoints }
-        ensures kept { MatchResult result (λ _. trail_of self.new ≡ kept_at (trail_of self.old) machine.now.position) (λ _. self.new ≡ self.old) }
+        ensures kept { MatchResult result (λ _. trail_of self.new ≡ kept_at (trail_of self.old) machine.now.position)
+            (λ _. self.new ≡ self.old) }
         ensures units { AreOf machine.now.unit self.new.checkpoints }
         ensures asked { IfErr result (λ _. asks (trail_of self.old) machine.now.position ≡ true) }
     {
@@ -103,7 +104,8 @@ impl Trail {
 
     /// Returns the last checkpoint at or before a position.
     pub fn floor(&self, position: u64) -> Option<&Checkpoint>
-        ensures floor { MatchOption result (floor_of (trail_of self.now).kept position ≡ 0) (λ c. c.now.position ≡ floor_of (trail_of self.now).kept position) }
+        ensures floor { MatchOption result (floor_of (trail_of self.now).kept position ≡ 0)
+            (λ c. c.now.position ≡ floor_of (trail_of self.now).kept position) }
         ensures unit { (unit : Compiled) → AreOf unit self.now.checkpoints → IfSome result (λ c. c.now.unit ≡ unit) }
     {
         last_until(&self.checkpoints, position)

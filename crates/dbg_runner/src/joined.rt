@@ -24,9 +24,12 @@ pub struct Joined<O: OrdersIn, S: Reports, G: Gate> {
     reports: S,
     gate: G,
     acts: GhostList<NotedAct>,
-    pub ghost taken: { O.taken orders ≡ flat_map order_in (acts_of acts.entries) } by { Coded-set (coded_list order_code) _ _ },
-    pub ghost sent: { S.sent reports ≡ flat_map sent_in (acts_of acts.entries) } by { Coded-set (coded_list report_code) _ _ },
-    pub ghost handed_back: { S.handed_back reports ≡ flat_map handed_back_in (acts_of acts.entries) } by { Coded-set (coded_list report_code) _ _ },
+    pub ghost taken: { O.taken orders ≡ flat_map order_in
+        (acts_of acts.entries) } by { Coded-set (coded_list order_code) _ _ },
+    pub ghost sent: { S.sent reports ≡ flat_map sent_in
+        (acts_of acts.entries) } by { Coded-set (coded_list report_code) _ _ },
+    pub ghost handed_back: { S.handed_back reports
+        ≡ flat_map handed_back_in (acts_of acts.entries) } by { Coded-set (coded_list report_code) _ _ },
     pub ghost passed: { G.passed gate ≡ flat_map passed_in (acts_of acts.entries) },
 }
 

@@ -46,7 +46,13 @@ impl Produced {
         unit: Arc<Unit>,
         plan: Option<Arc<Plan>>,
     ) -> Produced
-        ensures { result ≡ record { unit = unit.value; breakpoints = breakpoints_of (option_map arc_value plan); numbers = numbers_in numbers; logs = logs_in logs } }
+        ensures { result ≡ record {
+          unit = unit.value;
+          breakpoints = breakpoints_of
+              (option_map arc_value plan);
+          numbers = numbers_in numbers;
+          logs = logs_in logs;
+        } }
     {
         Produced {
             numbers,

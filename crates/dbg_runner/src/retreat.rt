@@ -170,7 +170,8 @@ impl Retreat {
     /// Returns the report of a run that has come to where it stops. Its plan counts from the next position on.
     fn arrive(self, run: u64, reason: Reason, produced: Produced) -> Report
         requires room { IsRoomFor produced self }
-        requires come { goal_of (program_in self.unit) self.breakpoints self.mode self.start ≡ Some (record { position = self.position; reason = reason }) }
+        requires come { goal_of (program_in self.unit) self.breakpoints self.mode self.start
+            ≡ Some (record { position = self.position; reason = reason }) }
         ensures of { IsReportOf (heading_back run self) (plain_report result) }
         ensures outcome { result.outcome ≡ out.Due reason }
         ensures end { result.end ≡ self.position }
@@ -272,7 +273,8 @@ fn begin(debuggee: &mut Debuggee, outputs: &mut Outputs, mode: Mode) -> Way
     requires room { IsRoomOf outputs.old debuggee.old }
     requires back { goes_back mode ≡ true }
     ensures on { IsOn debuggee.old.position debuggee.new 0 result }
-    ensures leads { goal_of (debugged_program debuggee.old) debuggee.old.breakpoints mode debuggee.old.position ≡ Some (leads_to debuggee.old.position debuggee.new result) }
+    ensures leads { goal_of (debugged_program debuggee.old) debuggee.old.breakpoints mode debuggee.old.position
+        ≡ Some (leads_to debuggee.old.position debuggee.new result) }
     ensures counted { IsCounted mode debuggee.old.position debuggee.new 0 result }
     ensures kept { debuggee.new ≡ moved debuggee.old debuggee.new.position debuggee.new.counted_from }
     ensures considered { IsConsidered debuggee.new }

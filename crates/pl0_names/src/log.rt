@@ -74,7 +74,8 @@ fn ends_at<T: Copy>(log: &[Entry<T>], level: usize) -> bool
 /// Removes a declaration, the latest of its word, from the index: the one that it hides is the latest then.
 fn restore<'a, T: Copy>(index: &mut HashMap<&'a str, usize>, entry: Entry<'a, T>)
     requires { IsSome (index_of index.old entry.word.now) }
-    ensures { (w : List ℕ) → index_of index.new w ≡ update bytes_eq (index_of index.old) entry.entry.word.now entry.entry.hidden w }
+    ensures { (w : List ℕ) → index_of index.new w
+        ≡ update bytes_eq (index_of index.old) entry.entry.word.now entry.entry.hidden w }
 {
     match entry.hidden {
         None => {

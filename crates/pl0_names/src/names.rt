@@ -51,7 +51,8 @@ impl<'a> Model for Names<'a> {
 
     ghost view = { λ s. s.main.now };
 
-    ghost invariant = { λ s. AreNames (plain_block s.main.now) s.nestings.now (option_map (λ tables. tables.items) s.tables) };
+    ghost invariant = { λ s. AreNames (plain_block s.main.now) s.nestings.now
+        (option_map (λ tables. tables.items) s.tables) };
 }
 
 impl<'a> Names<'a> {
@@ -98,7 +99,9 @@ impl<'a> Names<'a> {
     /// Returns what the block with this number declares a word as, if it declares it.
     fn declared(&self, number: u32, word: &str) -> Option<Meaning>
         requires { number < length (blocks (plain_block self.now)) }
-        ensures { (q : Path) → slice_get (blocks (plain_block self.now)) number ≡ Some q → option_map meaning_of result ≡ option_map means (option_and_then (first_declaration word.now) (block_at (plain_block self.now) q)) }
+        ensures { (q : Path) → slice_get (blocks (plain_block self.now)) number ≡ Some q →
+            option_map meaning_of result
+            ≡ option_map means (option_and_then (first_declaration word.now) (block_at (plain_block self.now) q)) }
     {
         match &self.tables {
             Some(tables) => Some(find(&tables[number as usize], word)?.meaning),
@@ -110,7 +113,8 @@ impl<'a> Names<'a> {
     /// outward; `None` if no block declares it.
     pub fn find(&self, number: u32, word: &str) -> Option<Home<'a>>
         requires { number < length (blocks (plain_block self.now)) }
-        ensures { (q : Path) → slice_get (blocks (plain_block self.now)) number ≡ Some q → IsHomeAnswer (plain_block self.now) q (home (plain_block self.now) q word.now) result }
+        ensures { (q : Path) → slice_get (blocks (plain_block self.now)) number ≡ Some q →
+            IsHomeAnswer (plain_block self.now) q (home (plain_block self.now) q word.now) result }
     {
         let mut around = number;
         let mut level = 0;

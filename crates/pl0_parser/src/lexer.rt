@@ -33,7 +33,8 @@ pub fn tokenize<'a>(alloc: Global, text: &'a [u8]) -> Result<(Vec<Token<'a>>, Pl
     // Each token stands after the one before, and the end after all.
     ensures in_order { IfOk result (λ x. Ascend (map (λ token. token.place) (ended x.0.items x.1))) }
     ensures short { IsOk result → length text.now ≤ limit }
-    ensures long { IfErr result (FaultIs (λ kind place. (limit < length text.now) × (kind ≡ FaultKind.TooLong) × (place ≡ start_place))) }
+    ensures long { IfErr result (FaultIs (λ kind place. (limit < length text.now) × (kind ≡ FaultKind.TooLong)
+        × (place ≡ start_place))) }
 {
     if text.len() > LIMIT {
         return Err(SyntaxFault::InText {

@@ -97,7 +97,11 @@ impl<'a> Frames<'a> {
 impl Out for Frames<'_> {
     ghost use Rattle.std.specs.Prelude.{map, ⊤};
 
-    ghost seen = { λ s. record { frames = map (λ f. f.items) s.put.entries; refused = map (λ f. f.items) s.refused.entries } };
+    ghost seen = { λ s. record {
+      frames = map (λ f. f.items) s.put.entries;
+      refused = map (λ f. f.items)
+          s.refused.entries;
+    } };
 
     ghost Origin = { ⊤ };
 
@@ -164,7 +168,12 @@ impl Orders for Pushed<'_> {
     ghost use Rattle.std.specs.Prelude.{◌≤◌, length, map, vec_len, ⊤};
     ghost use Rattle.dbg_runner.specs.Orders.{plain_order};
 
-    ghost seen = { λ s. record { orders = map plain_order s.pushed.entries; fulls = length s.fulls.entries; refusals = length s.refusals.entries } };
+    ghost seen = { λ s. record {
+      orders = map plain_order s.pushed.entries;
+      fulls = length s.fulls.entries;
+      refusals =
+          length s.refusals.entries;
+    } };
 
     ghost is_full = { λ s. s.room ≤ vec_len s.noted };
 

@@ -59,7 +59,8 @@ impl Session {
         orders: &mut D,
     ) -> Result<(), SessionFault>
         requires taking { self.old.ending ≡ None }
-        ensures comes { (past : History) → self.old.stream.fault ≡ None → launch_of self.old.phase ≡ None → HasHistory self.old past →
+        ensures comes { (past : History) → self.old.stream.fault ≡ None → launch_of self.old.phase ≡ None →
+            HasHistory self.old past →
             HandlesContents self.old.stream.first result past self.old.stream.rest self.new
             (ports (O.seen out.old) (D.seen orders.old))
             (ports (O.seen out.new) (D.seen orders.new)) }

@@ -79,7 +79,8 @@ impl Session {
         orders: &mut D,
     ) -> Result<(), SessionFault>
         requires { self.old.ending ≡ None }
-        ensures comes { (past : History) → IsTaking past → IsPhase (phase_is.Launching settings launch) past → self.old.next_seq ≡ next_seq past →
+        ensures comes { (past : History) → IsTaking past → IsPhase (phase_is.Launching settings launch) past →
+            self.old.next_seq ≡ next_seq past →
             HandlesItem result past (Loaded launch (option_map (λ bytes. bytes.items) file)) self.new
             (ports (O.seen out.old) (D.seen orders.old))
             (ports (O.seen out.new) (D.seen orders.new)) }
@@ -105,7 +106,8 @@ impl Session {
 
 /// Returns the file's bytes, or `None` where the file can't be read. The only error is `NoMemory`.
 fn readable(file: Result<Vec<u8>, LoadFault>) -> Result<Option<Vec<u8>>, SessionFault>
-    ensures ok { IfOk result (λ bytes. file_of (plain_file file) ≡ Some (option_map (λ (v : Vec ℕ Global). v.items) bytes)) }
+    ensures ok { IfOk result (λ bytes. file_of (plain_file file)
+        ≡ Some (option_map (λ (v : Vec ℕ Global). v.items) bytes)) }
     ensures err { IfErr result (λ fault. fault ≡ faults.NoMemory) }
 {
     match file {

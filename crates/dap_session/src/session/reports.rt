@@ -78,7 +78,8 @@ impl Session {
     ) -> Result<(), SessionFault>
         requires taking { self.old.ending ≡ None }
         requires expected { heading_of (plain_report report) ≡ heading_in target.runs run }
-        ensures comes { (past : History) → IsTaking past → IsPhase (phase_is.Running target run) past → self.old.next_seq ≡ next_seq past →
+        ensures comes { (past : History) → IsTaking past → IsPhase (phase_is.Running target run) past →
+            self.old.next_seq ≡ next_seq past →
             HandlesItem result past (Accepted (plain_report report)) self.new
             (ports (O.seen out.old) (D.seen orders.old))
             (ports (O.seen out.new) (D.seen orders.new)) }

@@ -51,7 +51,8 @@ impl Session {
         out: &mut O,
         orders: &mut D,
     ) -> Result<(), SessionFault>
-        ensures sent { (past : History) (step : Step) → self.old.next_seq ≡ next_seq past → IsStepOf answer effect step →
+        ensures sent { (past : History) (step : Step) → self.old.next_seq ≡ next_seq past →
+            IsStepOf answer effect step →
             IsSent result past step self.new
             (ports (O.seen out.old) (D.seen orders.old))
             (ports (O.seen out.new) (D.seen orders.new)) }
@@ -194,7 +195,8 @@ fn frame(message: &Outgoing, seq: u64, content: &mut Vec<u8>) -> Result<Vec<u8>,
 
 /// Pushes an order, if there is one.
 pub(super) fn push<D: Orders>(order: Option<Order>, orders: &mut D) -> Result<(), SessionFault>
-    ensures pushed { OnOk result ((D.seen orders.new).orders ≡ (D.seen orders.old).orders ++ option_to_list (option_map plain_order order)) }
+    ensures pushed { OnOk result ((D.seen orders.new).orders ≡ (D.seen orders.old).orders
+        ++ option_to_list (option_map plain_order order)) }
     ensures ok_gone { OnOk result ((D.seen orders.new).refusals ≡ (D.seen orders.old).refusals) }
     ensures ok_full { OnOk result ((D.seen orders.new).fulls ≡ (D.seen orders.old).fulls) }
     ensures err { IfErr result (λ fault. IsNotPushed fault (D.seen orders.old) (D.seen orders.new)) }
