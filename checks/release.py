@@ -3,11 +3,12 @@
 
 usage: release.py [CHECK]
 
-Each check is a target of the Makefile. They are run one after the other, the short ones first, and all of them also where one fails.
-It says which commit, which kit and which computer, and refuses a tree that differs from its commit; the transcripts and pictures that
-`make editors` writes aren't looked at. With CHECK it goes on from that check, and keeps what was found of those before it, which must
-be of the same commit and kit. A check that the Makefile doesn't have counts as not run. What each one printed is in out/release/. The
-status is 0 where every check passed, 1 where one failed, and 2 where none did, but one was not run or not whole.
+Each check is a target of the Makefile. They are run one after the other, the short ones first, and all of them also where one fails;
+the soak, which takes an hour, is run beside those that stand before it. It says which commit, which kit and which computer, and refuses
+a tree that differs from its commit; the transcripts and pictures that `make editors` writes and the record of `make plants` aren't
+looked at. With CHECK it goes on from that check, and keeps what was found of those before it, which must be of the same commit and
+kit. A check that the Makefile doesn't have counts as not run. What each one printed is in out/release/. The status is 0 where every
+check passed, 1 where one failed, and 2 where none did, but one was not run or not whole.
 """
 from __future__ import annotations
 
@@ -19,23 +20,25 @@ import re
 import subprocess
 import sys
 import time
+from concurrent.futures import Future, ThreadPoolExecutor
 from typing import NamedTuple
 
 TOP = pathlib.Path(__file__).resolve().parent.parent
 OUT = TOP / "out"
 LOGS, STATE, PAGE = OUT / "release", OUT / "release.json", OUT / "release.md"
-# What `make editors` writes.
-WRITTEN = ("docs/editors/", "docs/pictures/")
+# What `make editors` and `make plants` write.
+WRITTEN = ("docs/editors/", "docs/pictures/", "tools/plants.txt")
 PASSED, FAILED, PARTLY, MISSING = "passed", "FAILED", "not whole", "not run"
 
 
 class Check(NamedTuple):
-    """A target, its variables, what it is, and whether it is one to go on with another day."""
+    """A target, its variables, what it is, and whether it is one to go on with another day, and one to run beside others."""
 
     name: str
     what: str
     variables: tuple[str, ...] = ()
     is_long: bool = False
+    is_beside: bool = False
     # Statuses of its last command that mean that something it needs is missing.
     partly: tuple[int, ...] = ()
 
@@ -47,14 +50,13 @@ CHECKS = [
     Check("hostile", "hostile inputs, both programs"),
     Check("misuse", "programs that the compiler must refuse"),
     Check("clients", "other clients of the protocol"),
-    Check("threads", "the threads' queues"),
-    Check("model", "the model of the threads"),
+    Check("threads", "the model of the threads, in every interleaving"),
     Check("last-position", "the last position, in a copy of the crates"),
     Check("editors", "editors and their sessions", partly=(2,)),
     Check("beside", "random sessions beside the session over memory"),
     Check("sessions", "2,000 random sessions beside a plain model", ("SESSIONS=2000",), is_long=True),
     Check("refusals", "each allocation, thread, read and write refused, all programs", is_long=True),
-    Check("soak", "sessions that leave nothing over, for an hour", ("SOAK=3600",), is_long=True),
+    Check("soak", "sessions that leave nothing over, for an hour", ("SOAK=3600",), is_long=True, is_beside=True),
     Check("bench", "times and instructions", is_long=True),
     Check("plants", "planted bugs, whole", is_long=True),
 ]
@@ -69,7 +71,7 @@ def output(*command: str) -> str:
 
 
 def changed() -> list[str]:
-    """The files that differ from the commit, but for what `make editors` writes."""
+    """The files that differ from the commit, but for what the checks write."""
     lines = subprocess.run(["git", "status", "--porcelain"], cwd=TOP, capture_output=True, text=True, check=True).stdout.splitlines()
     return [line[3:] for line in lines if not line[3:].startswith(WRITTEN)]
 
@@ -144,6 +146,27 @@ def kept(who: dict[str, str], first: str) -> dict[str, dict]:
     return {name: state["results"][name] for name in before}
 
 
+def begun_beside(pool: ThreadPoolExecutor, checks: list[Check]) -> dict[str, Future]:
+    """Begins the checks that are run beside others."""
+    return {check.name: pool.submit(run, check) for check in checks if check.is_beside}
+
+
+def run_all(checks: list[Check], who: dict[str, str], results: dict[str, dict]) -> None:
+    """Runs the checks, those beside others once the programs are built, and keeps what is found of each in its turn."""
+    with ThreadPoolExecutor() as pool:
+        beside: dict[str, Future] = {}
+        for check in checks:
+            if check.name != "build" and not beside:
+                beside = begun_beside(pool, checks)
+            long = f" (long: `make release FROM={check.name}` goes on here)" if check.is_long else ""
+            print(f"{check.name}: {check.what}{long}", flush=True)
+            results[check.name] = beside[check.name].result() if check.is_beside else run(check)
+            STATE.write_text(json.dumps({"who": who, "results": results}, indent=1), encoding="utf-8")
+            PAGE.write_text(page(who, results), encoding="utf-8")
+            if identity()["commit"] != who["commit"] or changed():
+                sys.exit(f"the tree changed while {check.name} ran: what was found is of no commit")
+
+
 def main() -> int:
     names = [check.name for check in CHECKS]
     if len(sys.argv) > 2 or any(name not in names for name in sys.argv[1:]):
@@ -155,14 +178,7 @@ def main() -> int:
     who.update({"computer": computer(), "begun": time.strftime("%Y-%m-%d %H:%M UTC", time.gmtime()), "load": f"{os.getloadavg()[0]:.2f}"})
     OUT.mkdir(exist_ok=True)
     print("\n".join(f"{name}: {what}" for name, what in who.items()), flush=True)
-    for check in CHECKS[names.index(sys.argv[1]) if sys.argv[1:] else 0:]:
-        long = f" (long: `make release FROM={check.name}` goes on here)" if check.is_long else ""
-        print(f"{check.name}: {check.what}{long}", flush=True)
-        results[check.name] = run(check)
-        STATE.write_text(json.dumps({"who": who, "results": results}, indent=1), encoding="utf-8")
-        PAGE.write_text(page(who, results), encoding="utf-8")
-        if identity()["commit"] != who["commit"] or changed():
-            sys.exit(f"the tree changed while {check.name} ran: what was found is of no commit")
+    run_all(CHECKS[names.index(sys.argv[1]) if sys.argv[1:] else 0:], who, results)
     print("\n".join(["", *(line(name, found) for name, found in results.items())]))
     found = {one["result"] for one in results.values()}
     return 1 if FAILED in found else 2 if found & {PARTLY, MISSING} else 0
