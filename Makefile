@@ -66,7 +66,7 @@ demo: $(PROGRAM)
 	python3 demo/session.py demo/back.session $(PROGRAM)
 
 # Worked inputs, whole, a byte at a time and cut at many places, with what must come out; a session that is large in
-# everything; that the sessions of docs/PROTOCOL.md are the demo's; that the examples are those whose listings the gate
+# everything; the demo's sessions, one of which stands in docs/PROTOCOL.md; that the examples are those whose listings the gate
 # compares; and that the programs whose stored runs the gate compares have one `main`.
 rows: $(PROGRAM) $(FROM_ZERO) $(PL0)
 	python3 checks/rows.py $(PROGRAM) $(FROM_ZERO)

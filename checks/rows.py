@@ -5,10 +5,10 @@ usage: rows.py PROGRAM [FROM_ZERO]
 
 Each input goes in whole and cut in two at a number of places, and one of at most 4,096 bytes a byte at a time. Between two parts
 of an input the client waits for what must come of the first. Then the worked sessions of worked.session are played, and those of
-crates/session_tests that a program can be played too, each request after the messages that are due before it. At last the messages of the sessions in docs/PROTOCOL.md are compared with
-those of demo/factorial.session and demo/back.session as they are played. FROM_ZERO is `pl0dap_from_zero`, to which all of it is played
-as well, and then the worked sessions with requests that are numbered from 0. Prints a line for each input and each session, and ends
-with status 1 where one differs.
+crates/session_tests that a program can be played too, each request after the messages that are due before it. At last the sessions
+of demo/ are played, and the messages of the first compared with those of the session in docs/PROTOCOL.md. FROM_ZERO is
+`pl0dap_from_zero`, to which all of it is played as well, and then the worked sessions with requests that are numbered from 0. Prints a
+line for each input and each session, and ends with status 1 where one differs.
 """
 from __future__ import annotations
 
@@ -207,18 +207,20 @@ def cuts(parts: list[bytes]) -> Iterator[list[list[bytes]]]:
             yield [[one] if other != number else [part[:at], part[at:]] for other, one in enumerate(parts)]
 
 
-def played(program: str, session: str) -> list[str]:
-    """The messages of a stored session as it is played."""
+def played(program: str, session: str) -> list[str] | None:
+    """The messages of a stored session as it is played, or None where it goes differently."""
     script = [os.path.join(TOP, "demo", name) for name in ("session.py", session)]
     run = subprocess.run([sys.executable, *script, program], cwd=TOP, stdout=subprocess.PIPE, text=True, timeout=60)
-    return [line.strip() for line in run.stdout.splitlines() if line.startswith("  ")]
+    return [line.strip() for line in run.stdout.splitlines() if line.startswith("  ")] if run.returncode == 0 else None
 
 
-def are_on_the_page(program: str) -> bool:
-    """Whether the sessions of the page are those that `make demo` plays."""
+def difference_of_demo(program: str) -> str | None:
+    """What is wrong with the sessions that `make demo` plays, of which the first stands on the page."""
     with open(os.path.join(TOP, "docs", "PROTOCOL.md"), encoding="utf-8") as file:
         page = [line for line in file.read().splitlines() if line.startswith(("-> ", "<- "))]
-    return page == played(program, "factorial.session") + played(program, "back.session")
+    if played(program, "factorial.session") != page:
+        return "from the session of the page"
+    return "from what is stored" if played(program, "back.session") is None else None
 
 
 def told(name: str, found: object) -> bool:
@@ -235,7 +237,7 @@ def failures(program: str) -> int:
         outcomes = (run(program, row, cut) for cut in cuts(row.parts))
         failed += told(row.name, next((found for found in outcomes if found != wanted), None))
     failed += sum(told(name, found) for name, found in differences(program))
-    return failed + told("the sessions of the page", None if are_on_the_page(program) else "from what was played")
+    return failed + told("the sessions of the demo", difference_of_demo(program))
 
 
 def main() -> int:
