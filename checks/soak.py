@@ -6,10 +6,10 @@ usage: soak.py [--seconds SECONDS] PROGRAM [ONE_BY_ONE] [AT_ONCE]
 100 sessions are played one after the other, and 20 at once. In each the loop is paused twice, and looked at between the pauses; in
 turn it only runs, or logs a message at each thousandth turn, or goes back after the first pause, by a step and to the beginning.
 A session ends, in turn, by `disconnect` where the program stopped, by `disconnect` while it runs, or by the end of the input
-while it runs. While the loop runs, the adapter must have its four threads, and as many open files as at its start; after the
-session its process must be gone, with status 0 and nothing said; and at the end this script must have as many open files and
-threads as at the beginning. A session that takes more than 30 seconds, or all of them together more than 5 minutes, hang. All of it is
-played again until SECONDS have passed. Ends with status 1 where something is wrong.
+while it runs. While the loop runs, the adapter must have its four threads, and as many open files as at its start, but for one that
+is open for a moment; after the session its process must be gone, with status 0 and nothing said; and at the end this script must
+have as many open files and threads as at the beginning. A session that takes more than 30 seconds, or all of them together more than
+5 minutes, hang. All of it is played again until SECONDS have passed. Ends with status 1 where something is wrong.
 """
 from __future__ import annotations
 
@@ -30,6 +30,8 @@ from client import Client, Wrong, name_of, put_files
 
 MOST_SECONDS = 300
 MOST_SECONDS_EACH = 30
+# The C library opens a file of the system for a moment where a thread gives memory back.
+MOST_SECONDS_OPEN = 1
 THREADS = 4
 LOOP = b"var x;\nwhile 1 = 1 do\nx := 1 - x.\n"
 THREAD = '{"threadId":1}'
@@ -114,9 +116,10 @@ class Session(Client):
         self.ask("configurationDone")
         if self.played.kind == LOGS:
             self.expect("output")
-        now = threads(self.child.pid), open_files(self.child.pid)
-        if now != (THREADS, files):
-            raise Wrong(f"{now[0]} threads, and the open files {now[1]}, which were {files}")
+        if (found := threads(self.child.pid)) != THREADS:
+            raise Wrong(f"{found} threads")
+        if (left := files_at_last(self.child.pid, files)) != files:
+            raise Wrong(f"the open files {left}, which were {files}")
 
     def converse(self) -> None:
         self.begin()
@@ -166,6 +169,14 @@ def threads(process: int) -> int:
 
 def open_files(process: int | str = "self") -> list[str]:
     return sorted(os.listdir(f"/proc/{process}/fd"))
+
+
+def files_at_last(process: int, wanted: list[str]) -> list[str]:
+    """The files that a process has open once they are those that are wanted, or after a second."""
+    end = time.monotonic() + MOST_SECONDS_OPEN
+    while (found := open_files(process)) != wanted and time.monotonic() < end:
+        time.sleep(0.001)
+    return found
 
 
 def played(program: str, folder: str, number: int) -> Played:
