@@ -29,6 +29,8 @@ LOGS, STATE, PAGE = OUT / "release", OUT / "release.json", OUT / "release.md"
 # What `make editors` and `make plants` write.
 WRITTEN = ("docs/editors/", "docs/pictures/", "tools/plants.txt")
 PASSED, FAILED, PARTLY, MISSING = "passed", "FAILED", "not whole", "not run"
+# The checks that are running, so that they can be ended.
+RUNNING: set[subprocess.Popen] = set()
 
 
 class Check(NamedTuple):
@@ -110,7 +112,10 @@ def run(check: Check) -> dict[str, object]:
     log, begin = LOGS / f"{check.name}.log", time.monotonic()
     with open(log, "w", encoding="utf-8") as file:
         command = ["make", "--no-print-directory", check.name, *check.variables]
-        status = subprocess.run(command, cwd=TOP, stdin=subprocess.DEVNULL, stdout=file, stderr=subprocess.STDOUT).returncode
+        with subprocess.Popen(command, cwd=TOP, stdin=subprocess.DEVNULL, stdout=file, stderr=subprocess.STDOUT) as child:
+            RUNNING.add(child)
+            status = child.wait()
+            RUNNING.remove(child)
     text = log.read_text(encoding="utf-8", errors="replace")
     failures = [int(number) for number in re.findall(r"^make.*\*\*\* .* Error (\d+)", text, re.MULTILINE)]
     is_partly = bool(failures) and all(number in check.partly for number in failures)
@@ -164,6 +169,8 @@ def run_all(checks: list[Check], who: dict[str, str], results: dict[str, dict]) 
             STATE.write_text(json.dumps({"who": who, "results": results}, indent=1), encoding="utf-8")
             PAGE.write_text(page(who, results), encoding="utf-8")
             if identity()["commit"] != who["commit"] or changed():
+                for child in set(RUNNING):
+                    child.terminate()
                 sys.exit(f"the tree changed while {check.name} ran: what was found is of no commit")
 
 
