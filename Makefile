@@ -18,7 +18,7 @@ INSTALLED = $(DESTDIR)$(PREFIX)
 MANUAL = $(INSTALLED)/share/man/man1
 
 .PHONY: try build demo rows hostile soak sessions beside editors clients vsix refusals last-position misuse check plants \
-  gate-times pages threads install uninstall bench instructions release
+  gate-times pages threads install uninstall bench scripts-of-bench instructions release
 
 # A debug session in short form, a few minutes after a fresh clone. `rt try` reads its standard input, not the crate's file
 # `stdin`, and takes only an input that ends, so all is sent at once: a stop on entry needs no run, which the end of the input
@@ -165,7 +165,13 @@ uninstall:
 	rm -f $(addprefix $(INSTALLED)/bin/,pl0dap pl0dap_from_zero pl0dap-listen pl0)
 	rm -f $(addprefix $(MANUAL)/,pl0dap.1 pl0dap_from_zero.1 pl0.1)
 
+# Times and instructions. With RECORD=1 the figures of docs/PERFORMANCE.md are written anew.
 bench: $(PROGRAM) $(SPEED) $(PL0)
+	@mkdir -p out
+	@set -o pipefail; $(MAKE) --no-print-directory scripts-of-bench | tee out/bench.log
+	$(if $(RECORD),python3 bench/page.py out/bench.log)
+
+scripts-of-bench:
 	python3 bench/throughput.py $(PROGRAM)
 	python3 bench/session.py $(PROGRAM) $(SPEED)
 	python3 bench/machine.py $(PROGRAM) $(SPEED)
@@ -175,6 +181,7 @@ bench: $(PROGRAM) $(SPEED) $(PL0)
 	python3 bench/back.py $(PROGRAM)
 	python3 bench/checking.py $(PROGRAM)
 	python3 bench/instructions.py $(SPEED)
+	python3 checks/soak.py $(PROGRAM) 9000 200
 
 # Instructions a step and an answer, beside those that bench/instructions.txt has.
 instructions: $(SPEED)
