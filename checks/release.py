@@ -98,10 +98,10 @@ def has_target(name: str) -> bool:
     return re.search(rf"^{re.escape(name)}:", (TOP / "Makefile").read_text(encoding="utf-8"), re.MULTILINE) is not None
 
 
-def last_line(text: str) -> str:
-    """The last line that a check printed itself."""
-    lines = [line.strip() for line in text.splitlines() if line.strip() and not line.startswith("make")]
-    return lines[-1] if lines else ""
+def last_line(text: str, commands: set[str]) -> str:
+    """The last line that a check printed itself, and not make."""
+    lines = [line.strip() for line in text.splitlines() if line not in commands and not line.startswith("make")]
+    return next((line for line in reversed(lines) if line), "")
 
 
 def run(check: Check) -> dict[str, object]:
@@ -109,9 +109,10 @@ def run(check: Check) -> dict[str, object]:
     if not has_target(check.name):
         return {"result": MISSING, "minutes": 0.0, "last": "the Makefile has no such target"}
     LOGS.mkdir(parents=True, exist_ok=True)
+    command = ["make", "--no-print-directory", check.name, *check.variables]
+    commands = set(output(*command, "--dry-run").splitlines())
     log, begin = LOGS / f"{check.name}.log", time.monotonic()
     with open(log, "w", encoding="utf-8") as file:
-        command = ["make", "--no-print-directory", check.name, *check.variables]
         with subprocess.Popen(command, cwd=TOP, stdin=subprocess.DEVNULL, stdout=file, stderr=subprocess.STDOUT) as child:
             RUNNING.add(child)
             status = child.wait()
@@ -120,7 +121,7 @@ def run(check: Check) -> dict[str, object]:
     failures = [int(number) for number in re.findall(r"^make.*\*\*\* .* Error (\d+)", text, re.MULTILINE)]
     is_partly = bool(failures) and all(number in check.partly for number in failures)
     result = PASSED if status == 0 else PARTLY if is_partly else FAILED
-    return {"result": result, "minutes": (time.monotonic() - begin) / 60, "last": last_line(text)}
+    return {"result": result, "minutes": (time.monotonic() - begin) / 60, "last": last_line(text, commands)}
 
 
 def line(name: str, found: dict) -> str:
