@@ -1,12 +1,16 @@
 # The kit's command `rt` proves, builds and runs: `rt doc` prints its first page.
 SHELL = /bin/bash
 PREFIX ?= /usr/local
-APART = dap_frame dap_msg dbg_runner
 PROGRAM = crates/pl0dap/out/pl0dap
 FROM_ZERO = crates/pl0dap_from_zero/out/pl0dap_from_zero
 PL0 = crates/pl0/out/pl0
 SPEED = crates/speed/out/speed
-SOURCES = crates.txt $(shell find crates -name out -prune -o -type f \( -name '*.rt' -o -name '*.antt' \) -print)
+# Programs of which nothing is proved, and what tells that the libraries of the others are.
+UNPROVED = out/unproved
+PROVED = out/proved
+BUILT = find crates \( -name out -o -name '*_tests' -o -name '*_runs' \) -prune -o -type f
+CODE = crates.txt $(shell $(BUILT) -name '*.rt' -print)
+SOURCES = $(CODE) $(shell $(BUILT) -name '*.antt' -print)
 # How many random sessions `make sessions` plays, from which check `make release` goes on, how many crates `make plants` tries side
 # by side, and for how many seconds `make soak` plays.
 SESSIONS ?= 500
@@ -16,48 +20,51 @@ SOAK ?= 0
 
 INSTALLED = $(DESTDIR)$(PREFIX)
 MANUAL = $(INSTALLED)/share/man/man1
+NEEDS_KIT = command -v rt > /dev/null || { echo "rt, the command of the Rattle kit, isn't on the path: README.md, Try it"; exit 1; }
 
-.PHONY: try build demo rows hostile soak sessions beside editors clients vsix refusals last-position misuse check plants \
-  gate-times pages threads install uninstall bench scripts-of-bench instructions release
+.PHONY: try test build demo rows hostile soak sessions beside editors clients vsix refusals last-position misuse check plants gate-times \
+  pages threads install uninstall clean bench scripts-of-bench instructions release
 
-# A debug session in short form, a few minutes after a fresh clone. `rt try` reads its standard input, not the crate's file
-# `stdin`, and takes only an input that ends, so all is sent at once: a stop on entry needs no run, which the end of the input
-# would end.
-try:
-	@echo "This builds the program in about two minutes, or more where the computer is busy, and proves nothing."
-	@echo "'make build' proves it."
-	@python3 demo/session.py --short --waiting "building, not proving" demo/entry.session \
-	  env -C crates/pl0dap rt try --data factorial.pl0=../../examples/factorial.pl0
-	@echo "The lines 'checked', 'races' and 'run' are of rt try: the program ended by itself, no data races were looked for,"
-	@echo "and nothing was proved (proved=no). For the whole session, with runs and stops at breakpoints: make demo."
+# Two debug sessions in short form, a few minutes after a fresh clone. The program stays for an editor.
+try: $(UNPROVED)/pl0dap
+	@python3 demo/session.py --short demo/factorial.session $<
+	@python3 demo/session.py --short demo/back.session $<
+	@echo "Nothing was proved: 'make test' tests, 'make build' proves. Until then an editor can start $(CURDIR)/$<"
+
+# Whether libraries and programs do what the tests and the model in Python say, some minutes after a fresh clone, with nothing
+# proved: of CRATE, or of all whose files have changed since they passed.
+test:
+	@python3 tools/tests.py $(CRATE)
+
+$(UNPROVED)/%: $(CODE)
+	@python3 tools/unproved.py $* $@
 
 build: $(PROGRAM) $(FROM_ZERO) $(PL0)
 
-# Crates that share none below them are proved side by side. Then `rt run` proves the others, builds the program and runs it;
-# with no input it serves nobody and ends.
-$(PROGRAM): $(SOURCES)
-	$(MAKE) --jobs $(APART:%=prove-%)
+# Crates of which none is below another are proved side by side.
+$(PROVED): $(SOURCES)
+	@python3 tools/prove.py pl0dap pl0
+	@mkdir -p $(@D) && touch $@
+
+# `rt run` builds the program and runs it; with no input it serves nobody and ends.
+$(PROGRAM): $(PROVED)
 	cd crates/pl0dap && rt run < /dev/null
-	touch $@
+	@touch $@
 
 # The program for editors that number their requests from 0.
-$(FROM_ZERO): $(SOURCES) $(PROGRAM)
+$(FROM_ZERO): $(PROVED)
 	cd crates/pl0dap_from_zero && rt run < /dev/null
-	touch $@
+	@touch $@
 
 # The program that runs, checks and lists programs from a shell.
-$(PL0): $(SOURCES)
+$(PL0): $(PROVED)
 	cd crates/pl0 && rt run -- --version
-	touch $@
-
-# Proves a crate and those below it, with the crate's name before each line, which comes as it is written.
-prove-%:
-	@set -o pipefail; cd crates/$* && PYTHONUNBUFFERED=1 rt lib 2>&1 | sed --unbuffered 's/^/$*: /'
+	@touch $@
 
 # Runs a program by the bare machine, in slices or by the runner, and does nothing else.
-$(SPEED): $(SOURCES)
+$(SPEED): $(PROVED)
 	cd crates/speed && rt run -- work data/count.pl0
-	touch $@
+	@touch $@
 
 # Two debug sessions on examples/factorial.pl0, message by message: a breakpoint with a condition, a stop, questions, a step,
 # the end; and a log point, a stop, steps back, and on again.
@@ -118,28 +125,34 @@ vsix:
 
 # The merge gate: proves everything from nothing, and runs everything.
 check:
+	@$(NEEDS_KIT)
 	rt ci
 
 # Planted bugs that the gate leaves out to save time: those of CRATE, or of each crate that tools/plants.txt doesn't have as it
 # is; JOBS crates side by side.
 plants:
+	@$(NEEDS_KIT)
 	python3 tools/plants.py --jobs $(JOBS) $(CRATE)
 
 # What CRATE costs the gate, in processor seconds, and whether it is within its budget.
 gate-times:
+	@$(NEEDS_KIT)
 	python3 tools/gate_times.py $(CRATE)
 
 # The model of the four threads, explored in every interleaving, with Debian's spin and gcc: status 2 where one is missing.
 threads:
 	@tools/threads/explore.sh
 
-# Whether the files, headings and functions that the pages name are there, and what the model of the threads names, and
-# whether functions and lines are short.
+# Whether the files, headings and functions that the pages name are there, and what the model of the threads names, whether
+# functions and lines are short, and whether each lemma is used, and stated once.
 pages:
 	python3 tools/pages.py
+	python3 tools/dead_lemmas.py
+	python3 tools/known_lemmas.py
 
 # Programs that the compiler must refuse, which the gate can't judge.
 misuse:
+	@$(NEEDS_KIT)
 	python3 misuse/check.py
 
 # Each allocation, read and write of the programs refused in turn, and each allocation of the runs that step a text.
@@ -148,6 +161,7 @@ refusals: $(PROGRAM) $(FROM_ZERO) $(SPEED) $(PL0)
 
 # A program without end, up to the last position, which is 1,001 in a copy of the crates. That copy is not proved.
 last-position:
+	@$(NEEDS_KIT)
 	python3 checks/last_position.py
 
 # Copies what `make build` has made, and proves and builds nothing.
@@ -164,6 +178,10 @@ install:
 uninstall:
 	rm -f $(addprefix $(INSTALLED)/bin/,pl0dap pl0dap_from_zero pl0dap-listen pl0)
 	rm -f $(addprefix $(MANUAL)/,pl0dap.1 pl0dap_from_zero.1 pl0.1)
+
+# Removes all that was built and proved in this checkout; what `rt` keeps elsewhere stays.
+clean:
+	rm -rf out crates/*/out
 
 # Times and instructions. With RECORD=1 the figures of docs/PERFORMANCE.md are written anew.
 bench: $(PROGRAM) $(SPEED) $(PL0)
@@ -190,4 +208,5 @@ instructions: $(SPEED)
 # Everything that the gate leaves out, with one line each at the end and in out/release.md. It takes hours: `make release
 # FROM=plants` goes on with a run that was broken off.
 release:
+	@$(NEEDS_KIT)
 	python3 checks/release.py $(FROM)

@@ -1,14 +1,13 @@
 #!/usr/bin/env python3
 """Plays a stored session to the adapter, and prints what goes in and what comes out.
 
-usage: session.py [--short] [--waiting TEXT] SESSION PROGRAM [ARGUMENT..]
+usage: session.py [--short] SESSION PROGRAM [ARGUMENT..]
 
 SESSION is written as checks/notation.py says. Requests are sent when all messages that stand before them have come; where some are
 joined by `+`, at once. The input ends after the last of them.
 
-With --short, each message is printed by what it says, and not as it is. With --waiting, TEXT is printed with the seconds that
-have passed, until the first answer comes: on a terminal in one line that is written again and again, and else in a line every half
-minute. The status is that of the program, or 1 where a message isn't the one that SESSION has.
+With --short, each message is printed by what it says, and not as it is. The status is that of the program, or 1 where a message
+isn't the one that SESSION has.
 """
 from __future__ import annotations
 
@@ -16,26 +15,10 @@ import argparse
 import json
 import os
 import sys
-import threading
-import time
 
 sys.path.insert(0, os.path.join(os.path.dirname(os.path.abspath(__file__)), "..", "checks"))
 from client import Client, name_of  # noqa: E402
 from notation import Exchange, detail, sessions  # noqa: E402
-
-# How often it is said that the first answer is waited for: on a terminal, and else.
-SECONDS_BETWEEN = {True: 1.0, False: 30.0}
-ERASED = "\r\033[K"
-
-
-def say_waiting(text: str, until: threading.Event) -> None:
-    """Prints the text and the seconds that have passed, again and again until the event is set."""
-    start, is_terminal = time.monotonic(), sys.stdout.isatty()
-    while not until.wait(SECONDS_BETWEEN[is_terminal]):
-        line = f"  {text}: {time.monotonic() - start:.0f} s"
-        print(ERASED + line if is_terminal else line, end="" if is_terminal else "\n", flush=True)
-    if is_terminal:
-        print(ERASED, end="", flush=True)
 
 
 def short(content: str) -> str:
@@ -52,18 +35,12 @@ class Playing:
     """A session that is played to a command, and printed."""
 
     def __init__(self, given: argparse.Namespace):
-        # For ever, since the command may have to build the program first.
-        self.client = Client(given.command, wait=None, stderr=None)
+        self.client = Client(given.command, stderr=None)
         self.written = short if given.short else str
-        self.came = threading.Event()
-        self.waiting = threading.Thread(target=say_waiting, args=(given.waiting, self.came), daemon=True)
-        self.is_waiting = given.waiting is not None
         self.is_right = True
 
     def play(self, exchanges: list[Exchange]) -> int:
         """Plays a session, and returns the command's exit status, or 1 where it goes differently."""
-        if self.is_waiting:
-            self.waiting.start()
         for number, exchange in enumerate(exchanges, 1):
             self.ask(exchange)
             if number == len(exchanges):
@@ -82,16 +59,9 @@ class Playing:
             print(f"  -> {self.written(request.decode())}", flush=True)
         self.client.write_now(exchange.piece())
 
-    def end_waiting(self) -> None:
-        self.came.set()
-        if self.is_waiting:
-            self.is_waiting = False
-            self.waiting.join()
-
     def receive(self, wanted: bytes | None) -> bool:
         """Prints the next message, and answers whether one came."""
         content = self.client.content()
-        self.end_waiting()
         if content is not None:
             print(f"  <- {self.written(content.decode())}", flush=True)
         if content != wanted:
@@ -103,7 +73,6 @@ class Playing:
 def main() -> int:
     parser = argparse.ArgumentParser(usage=__doc__.split("\n\n")[1].replace("usage: ", "", 1))
     parser.add_argument("--short", action="store_true")
-    parser.add_argument("--waiting")
     parser.add_argument("session")
     parser.add_argument("command", nargs=argparse.REMAINDER)
     given = parser.parse_args()

@@ -1,0 +1,149 @@
+#!/usr/bin/env python3
+"""Proves the libraries of programs, side by side where none stands below another, those with the longest chain above them first.
+
+usage: prove.py CRATE..
+
+While `rt` works on a crate it keeps others from all crates below it, so a checkout proves nearly one crate at a time. But what `rt`
+proves in one copy of a repository it takes from there in any other. So a few copies are made, in a temporary folder; in each a library
+at a time is proved, and `rt run` in the checkout then finds all libraries proved. COPIES says how many, by default one a processor, as
+far as there is memory: each takes up to 5 GB. Prints a line for each library as it is proved, and what `rt` printed where one isn't:
+then the status is 1, and those above it aren't tried.
+"""
+from __future__ import annotations
+
+import concurrent.futures
+import os
+import pathlib
+import shutil
+import subprocess
+import sys
+import tempfile
+import time
+from typing import NamedTuple
+
+from scratch import TOP, crate_lines, crate_names, libraries
+
+COPY_MEMORY = 5
+PARTS = ("src", "specs", "proofs")
+
+
+class Proof(NamedTuple):
+    """How a library's proof went: its status, what was printed, and the minutes."""
+
+    status: int
+    text: str
+    minutes: float
+
+
+def libraries_of(programs: list[str]) -> list[str]:
+    """The libraries below these crates, each once."""
+    return list(dict.fromkeys(library for program in programs for library in libraries(program)))
+
+
+def lines_of(crate: str) -> int:
+    """How many lines there are to check in a crate, which tells roughly how long it takes."""
+    files = [file for part in PARTS for file in (TOP / "crates" / crate / part).rglob("*") if file.is_file()]
+    return sum(file.read_bytes().count(b"\n") for file in files)
+
+
+def chains(names: list[str]) -> dict[str, int]:
+    """The lines of each library together with those of the longest chain above it."""
+    found: dict[str, int] = {}
+    for name in sorted(names, key=lambda one: -len(libraries(one))):
+        found[name] = lines_of(name) + max((found[above] for above in found if name in libraries(above)), default=0)
+    return found
+
+
+def copy_to(folder: pathlib.Path) -> pathlib.Path:
+    """Copies the repository's crates, without what was built of them."""
+    ignored = shutil.ignore_patterns("out", "must-fail", "plants")
+    shutil.copytree(TOP / "crates", folder / "crates", ignore=ignored)
+    for name in ("crates.txt", "HANDLES"):
+        shutil.copy(TOP / name, folder)
+    return folder
+
+
+def jobs(running: int, ready: int) -> int:
+    """How many processors work on a library: all where it is alone, two while less than half of them have work, else one."""
+    cores = len(os.sched_getaffinity(0))
+    if running == 0 and ready == 1:
+        return cores
+    return 2 if 2 * running < cores else 1
+
+
+def prove(top: pathlib.Path, name: str, processors: int) -> Proof:
+    """Proves a library in a copy of the repository."""
+    begin = time.monotonic()
+    run = subprocess.run(
+        ["rt", "lib", "--jobs", str(processors)], cwd=top / "crates" / name, stdin=subprocess.DEVNULL, stdout=subprocess.PIPE,
+        stderr=subprocess.STDOUT, text=True, errors="replace",
+    )
+    return Proof(run.returncode, run.stdout, (time.monotonic() - begin) / 60)
+
+
+class Proving:
+    """Libraries that wait for a proof, those that are proved, and copies in which nothing is proved now."""
+
+    def __init__(self, names: list[str], copies: list[pathlib.Path]):
+        self.chains, self.copies = chains(names), copies
+        self.waiting, self.proved, self.failed = set(names), set(), False
+
+    def ready(self) -> list[str]:
+        """The libraries whose own are all proved, those with the longest chain first."""
+        found = [name for name in self.waiting if self.proved.issuperset(libraries(name))]
+        return sorted(found, key=lambda name: -self.chains[name])
+
+    def ends(self, name: str, proof: Proof) -> None:
+        how = "proved" if proof.status == 0 else "not proved"
+        print(f"{name:16} {how} in {proof.minutes:.1f} minutes", flush=True)
+        if proof.status == 0:
+            self.proved.add(name)
+        else:
+            self.failed = True
+            print("\n".join(f"  {line}" for line in proof.text.splitlines()), flush=True)
+
+    def run(self) -> None:
+        """Proves libraries until none is left, or one isn't proved."""
+        running: dict[concurrent.futures.Future, tuple[str, pathlib.Path]] = {}
+        with concurrent.futures.ThreadPoolExecutor(len(self.copies)) as pool:
+            while True:
+                ready = [] if self.failed else self.ready()
+                for name in ready[:len(self.copies)]:
+                    self.waiting.remove(name)
+                    copy = self.copies.pop()
+                    running[pool.submit(prove, copy, name, jobs(len(running), len(ready)))] = name, copy
+                if not running:
+                    return
+                done, _ = concurrent.futures.wait(running, return_when=concurrent.futures.FIRST_COMPLETED)
+                for one in done:
+                    name, copy = running.pop(one)
+                    self.copies.append(copy)
+                    self.ends(name, one.result())
+
+
+def number_of_copies() -> int:
+    """As many as told, or one a processor, as far as there is memory."""
+    if told := os.environ.get("COPIES"):
+        return int(told)
+    memory = os.sysconf("SC_PAGE_SIZE") * os.sysconf("SC_AVPHYS_PAGES") / 2**30
+    return max(1, min(len(os.sched_getaffinity(0)), int(memory / COPY_MEMORY)))
+
+
+def main() -> int:
+    programs = crate_names(sys.argv[1:])
+    if not programs:
+        sys.exit(__doc__)
+    if shutil.which("rt") is None:
+        sys.exit("rt, the command of the Rattle kit, isn't on the path: README.md, Try it")
+    begin, names = time.monotonic(), libraries_of(programs)
+    with tempfile.TemporaryDirectory(prefix="pl0dap-") as folder:
+        copies = [copy_to(pathlib.Path(folder, str(number))) for number in range(number_of_copies())]
+        print(f"{len(names)} libraries are proved, in {len(copies)} copies of the crates", flush=True)
+        proving = Proving(names, copies)
+        proving.run()
+    print(f"{len(proving.proved)} of {len(names)} libraries are proved, in {(time.monotonic() - begin) / 60:.1f} minutes", flush=True)
+    return 1 if proving.failed else 0
+
+
+if __name__ == "__main__":
+    sys.exit(main())
