@@ -1,9 +1,9 @@
 -- Lines that are asked for and answered one after another.
-use Rattle.std.proofs.Common.{◌≡◌, ℕ, zero, suc, ◌+◌, ◌<◌, List, [], ◌∷◌, ◌++◌, length, map, take, get_or, slice_get, refl, ap, sym, ◌∙◌, subst, arith, All, nat_le}
+use Rattle.std.proofs.Common.{◌≡◌, ℕ, zero, suc, ◌+◌, ◌<◌, List, [], ◌∷◌, ◌++◌, length, take, get_or, slice_get, refl, ap, sym, ◌∙◌, subst, arith, All, nat_le}
 use Rattle.std.specs.Option.{option_map_or}
 use Rattle.std.proofs.Math.Logic.{∥∥₁_elim}
 use Rattle.std.proofs.Math.Nat.{ℕ_set}
-use Rattle.std.proofs.lemmas.List.{take_more, map-append}
+use Rattle.std.proofs.lemmas.List.{take_more}
 use Rattle.std.proofs.lemmas.List.Elements.{All-cons, All-nil}
 use Rattle.std.proofs.lemmas.List.Quantifiers.{position-Some}
 use Rattle.pl0_tree.specs.Tree.{Block}
@@ -24,13 +24,6 @@ use Rattle.dap_history.specs.Breakpoints.{IsAskedAs, AreAskedAs, step_line}
 use Rattle.dap_replies.specs.Lines.{IsAtStep}
 
 -- ---- one more of a list
-
-pub one_more : {X Y : Type 0} (f : X → Y) (xs : List X) (i : ℕ) (x : X) (done all : List Y) (y : Y) → i < length xs
-    → x ≡ get_or xs i x
-    → done ≡ map f (take i xs) → all ≡ done ++ y ∷ [] → y ≡ f x → all ≡ map f (take (i + 1) xs)
-one_more f xs i x done all y lt at is now new =
-    now ∙ ap (λ l. l ++ y ∷ []) is ∙ ap (λ z. map f (take i xs) ++ z ∷ []) (new ∙ ap f at)
-    ∙ sym (map-append f (take i xs) (get_or xs i x ∷ [])) ∙ ap (λ l. map f l) (sym (take_more xs i x lt))
 
 more_asked : (less : ℕ) (lines : List SourceBreakpoint) (done : List AskedLine) (line : SourceBreakpoint)
     (one : AskedLine)

@@ -1,6 +1,6 @@
 -- Where a report leads: the phase afterwards represents the history with the report's step.
 use Rattle.std.proofs.Common.{◌≡◌, ℕ, ◌+◌, ◌-◌, ℤ, List, [], ◌∷◌, ◌++◌, map, drop, length, Bool, true, false, Option, None, Some, refl, sym, subst, ◌∙◌, ap}
-use Rattle.std.specs.Prelude.{unwrap_or, if◌then◌else◌}
+use Rattle.std.specs.Prelude.{unwrap_or}
 use Rattle.std.specs.List.{filter_map}
 use Rattle.std.proofs.lemmas.List.{append-nil}
 use Rattle.pl0_unit.specs.declared.unit.Unit.{Unit as Compiled}
@@ -13,11 +13,10 @@ use Rattle.dap_msg.specs.declared.outgoing.StopReason.TheVariants as stop
 use Rattle.dbg_plan.specs.Breakpoints.{Breakpoint}
 use Rattle.dbg_plan.specs.Debugged.{Debugged}
 use Rattle.dbg_plan.specs.Trail.{Trail}
-use Rattle.dbg_runner.specs.declared.outcome.SliceOutcome.{SliceOutcome}
 use Rattle.dbg_runner.specs.declared.outcome.SliceOutcome.TheVariants as slice
 use Rattle.dbg_plan.specs.declared.mode.Mode.{Mode}
 use Rattle.dbg_runner.specs.Plain.{Heading, PlainReport, Go, goes_back, back_if}
-use Rattle.dbg_runner.specs.Reported.{Reported, text_of, plain_report, heading, counts_from, stopped, trail_in, Carries}
+use Rattle.dbg_runner.specs.Reported.{Reported, text_of, plain_report, heading, counts_from, stopped, trail_in}
 use Rattle.dap_history.specs.Last.{last_such}
 use Rattle.dap_history.specs.Plans.{Plan}
 use Rattle.dap_history.specs.History.{Item, Accepted, Step, History, messages}
@@ -34,7 +33,7 @@ use Rattle.dap_phase.specs.Runs.{OrderedRun, begun_run, heading_in, with_waiting
 use Rattle.dap_phase.specs.Phases.{IsTarget, IsDebuggee, IsRun, IsPhase}
 use Rattle.dap_phase.proofs.Units.{one_program}
 use Rattle.dap_replies.specs.Replied.{report_step}
-use Rattle.dap_replies.specs.Reporting.{fresh, outputs_after, with_told, Stops, ContinuesRun, standing}
+use Rattle.dap_replies.specs.Reporting.{fresh, outputs_after, with_told, ContinuesRun, standing}
 use Rattle.dap_replies.proofs.Stays.{situation_stays, settings_stay, launched_stays, last_run_stays, runs_stay, plan_stays, waiting_plan_stays, waiting_pause_stays, held_stays}
 use Rattle.dap_replies.proofs.Begun.{with_next_run, run_begins}
 
@@ -306,17 +305,3 @@ report_begins_again laws t run r past goes is =
   where
     step : Step
     step = report_step (plain_report r) (continued_effect past (plain_report r))
-
--- ---- the debuggee of a report that stops its run
-
-pub stopped_in : (b : Bool) (r : Reported) (o : SliceOutcome) → Stops o → Carries (back_if b) r o
-    → r.debuggee ≡ Some (stopped r (trail_in r.debuggee))
-stopped_in true r (slice.Due reason) stops is = is
-stopped_in true r slice.Held stops is = absurd is
-stopped_in true r (slice.Fault fault) stops is = absurd is
-stopped_in false r (slice.Due reason) stops is = is
-stopped_in false r slice.Held stops is = is
-stopped_in false r (slice.Fault fault) stops is = is
-stopped_in b r slice.More stops is = absurd stops
-stopped_in b r slice.Done stops is = absurd stops
-stopped_in b r slice.NoMemory stops is = absurd stops

@@ -22,9 +22,6 @@ pub record ReadSoFar (put_old put_new : List Incoming) (old later : Supply) : Ty
   pub put_is : put_new ≡ put_old ++ map Piece pieces
   pub read : AreRead (map Piece pieces) old later
 
-pub read_begins : (put : List Incoming) (old : Supply) → ReadSoFar put put old old
-read_begins put old = record { pieces = []; put_is = sym (append-nil put); read = refl }
-
 are_read-append : (events : List Incoming) (e : Incoming) (old mid later : Supply) → AreRead events old mid
     → IsRead e mid later → AreRead (events ++ e ∷ []) old later
 are_read-append [] e old mid later before now = (later, subst (λ s. IsRead e s later) before now, refl)

@@ -3,6 +3,7 @@ use Rattle.std.proofs.Common.{◌≡◌, Bool, true, false, true≢false, append
 use Rattle.std.specs.Prelude.{◌⊎◌, ◌&&◌, map, Result, OnOk, OnErr}
 use Rattle.std.specs.List.{flat_map}
 use Rattle.std.proofs.lemmas.List.{map-append}
+use Rattle.std.proofs.lemmas.Bool.{and_parts}
 use Rattle.dap_history.specs.Events.{Incoming, Piece, End, ReadFailed, NoMemory, File, Report}
 use Rattle.dap_session.specs.declared.ports.Event.{Event}
 use Rattle.dap_session.specs.declared.ports.Event.TheVariants as event
@@ -17,7 +18,7 @@ use Rattle.dap_wires.specs.declared.writer_message.WriterMessage.TheVariants as 
 use Rattle.dap_wires.specs.declared.end_log.EndLog.{EndLog}
 use Rattle.dap_wires.specs.Delivery.{of_first, of_second, put}
 use Rattle.dap_wires.specs.Inbox.{came}
-use Rattle.dap_wires.specs.WriterMessages.{bundled, kept_in, frames_in, has_end, AreEnded}
+use Rattle.dap_wires.specs.WriterMessages.{bundled, frames_in, has_end, AreEnded}
 use Rattle.dap_wires.specs.Senders.{is_by_runner, events_in, from_client, reports_among, is_quiet, are_quiet}
 use Rattle.dap_wires.proofs.Delivered.{all_first}
 
@@ -157,17 +158,6 @@ module _ (taken inside : List Arrival) (given : List Event) (rest : List Reporte
         ∙ ap (λ l. reports_among (came l)) (sym put_is)),
   )
 
--- one more event was given
-pub event_given : (old : List Event) (e : Event) → map incoming_of (old ++ e ∷ []) ≡ map incoming_of old
-    ++ incoming_of e ∷ []
-event_given old e = map-append incoming_of old (e ∷ [])
-
--- one more client's event was put
-pub client_put : (old new : List Arrival) (e : Event) → new ≡ old ++ of_first is_by_runner (arrival.Event e ∷ [])
-    → of_first is_by_runner (arrival.Event e ∷ []) ≡ arrival.Event e ∷ []
-    → came new ≡ came old ++ incoming_of e ∷ []
-client_put old new e is of_client = ap came (is ∙ ap (λ l. old ++ l) of_client) ∙ came_append old (arrival.Event e ∷ [])
-
 -- one more report was put
 report_came : (old new : List Arrival) (r : Reported) → new ≡ old ++ arrival.Event (event.Report r) ∷ []
     → reports_among (came new) ≡ reports_among (came old) ++ plain_report r ∷ []
@@ -218,20 +208,16 @@ report_kept sent old new r is =
     ∙ ap (λ l. sent ++ l) (map-append plain_report old (r ∷ []))
     ∙ sym (append_assoc sent (map plain_report old) (plain_report r ∷ []))
 
-both : (a b : Bool) → (a && b) ≡ true → (a ≡ true) × (b ≡ true)
-both true b all = (refl, all)
-both false b all = absurd (true≢false (sym all))
-
 pub quiet_kept : (old : List Reported) (r : Reported) → are_quiet old ≡ true → is_quiet r ≡ true
     → are_quiet (old ++ r ∷ []) ≡ true
 quiet_kept [] r all one = ap (λ b. b && true) one
 quiet_kept (x ∷ old) r all one =
-    let each = both (is_quiet x) (are_quiet old) all in
+    let each = and_parts (is_quiet x) (are_quiet old) all in
     ap (λ b. b && are_quiet (old ++ r ∷ [])) each.0 ∙ quiet_kept old r each.1 one
 
 pub quiet_rest : (was now : List Reported) (r : Reported) → are_quiet was ≡ true → was ≡ r ∷ now
     → are_quiet now ≡ true
-quiet_rest was now r all first = (both (is_quiet r) (are_quiet now) (ap are_quiet (sym first) ∙ all)).1
+quiet_rest was now r all first = (and_parts (is_quiet r) (are_quiet now) (ap are_quiet (sym first) ∙ all)).1
 
 -- ---- messages
 
@@ -265,10 +251,6 @@ messages_begin put kept taken inside is = (
   inside ++ kept,
   sym (append_assoc taken inside kept) ∙ ap (λ l. l ++ kept) (sym (is ∙ all_first (taken ++ inside))),
 )
-
--- Nothing was refused.
-pub none_mapped : {A B : Type 0} (f : A → B) (xs : List A) → xs ≡ [] → map f xs ≡ []
-none_mapped f xs none = ap (map f) none
 
 -- The end was put, or returned.
 module _ {A B : Type 0} where

@@ -1,5 +1,5 @@
 -- What was taken and written so far.
-use Rattle.std.proofs.Common.{◌≡◌, false, List, [], ◌∷◌, ◌++◌, refl, sym, ◌∙◌, ap, subst, append_assoc, append-nil}
+use Rattle.std.proofs.Common.{◌≡◌, false, List, [], ◌∷◌, ◌++◌, sym, ◌∙◌, ap, subst, append_assoc, append-nil}
 use Rattle.std.specs.List.{concat}
 use Rattle.std.specs.Prelude.{◌<◌}
 use Rattle.std.specs.Io.KnownBytes.{Appends}
@@ -10,7 +10,7 @@ use Rattle.dap_wires.specs.declared.bundle.Bundle.{Bundle}
 use Rattle.dap_wires.specs.WriterMessages.{bundled, frames_in, has_end, AreEnded}
 use Rattle.byte_streams.specs.Streams.{Output, AppendsPart, WritesAll, FailsIn}
 use Rattle.dap_wires.proofs.Growing.{one_more}
-use Rattle.std.proofs.KnownBytes.{Appends-nil as appends_none, Appends-trans as appends_both}
+use Rattle.std.proofs.KnownBytes.{Appends-trans as appends_both}
 use Rattle.dap_wires.proofs.Sending.{frames_append, frame_keeps_open, end_ends, frames_end}
 
 -- frames were taken, and written whole
@@ -20,29 +20,6 @@ pub record WrittenSoFar (taken_old taken_new : List WriterMessage) (old later : 
   pub no_end : has_end taken ≡ false
   pub written : Appends old.written later.written (concat (frames_in taken))
   pub failures : later.failures ≡ old.failures
-
-pub written_begins : (taken : List WriterMessage) (old : Output) → WrittenSoFar taken taken old old
-written_begins taken old =
-    record {
-      taken = [];
-      taken_is = sym (append-nil taken);
-      no_end = refl;
-      written = appends_none old.written;
-      failures = refl;
-    }
-
--- nothing was taken
-pub written_waits : (taken_old taken_mid taken_new : List WriterMessage) (old later : Output)
-    → WrittenSoFar taken_old taken_mid old later → taken_new ≡ taken_mid → WrittenSoFar taken_old taken_new old later
-written_waits taken_old taken_mid taken_new old later w same =
-    record {
-      taken = w.taken;
-      taken_is = same ∙ w.taken_is;
-      no_end = w.no_end;
-      written = w.written;
-      failures =
-          w.failures;
-    }
 
 bytes_append : (taken : List WriterMessage) (frame : Bundle) → concat (frames_in taken)
     ++ frame.bytes.items ≡ concat (frames_in (taken ++ message.Frames frame ∷ []))

@@ -2,6 +2,7 @@
 use Rattle.std.proofs.Common.{◌≡◌, ⊎_elim, ℕ, ◌+◌, ◌-◌, ◌<◌, ◌≤◌, Bool, true, false, List, [], ◌∷◌, length, slice_get, slice_index_or, Option, Some, None, ℤ, refl, sym, ap, ◌∙◌, subst, arith}
 use Rattle.std.proofs.lemmas.Bool.{cases_eq, cases_lt}
 use Rattle.std.proofs.lemmas.List.{length-map}
+use Rattle.std.proofs.lemmas.Option.{same_Some}
 use Rattle.pl0_unit.specs.declared.unit.Unit.{Unit as Compiled}
 use Rattle.pl0_meaning.specs.Values.{Configuration}
 use Rattle.pl0_meaning.specs.Runs.{Outcome, Goes, Faults, Stuck, at, led_to, written_by}
@@ -130,9 +131,6 @@ module _ (laws : FramesAreLinked) (plan : Option Listed) where
       next : BeginsNext m unmarked.0
       next = unmarked.1
 
-      same_entry : (a b : Bool) → ◌≡◌ {A = Option Bool} (Some a) (Some b) → a ≡ b
-      same_entry a b e = cc
-
       by_asked : (o : Option Comparison) → slice_index_or marks.asked.items next.step None ≡ o
           → IsMet (frames m) true o false → has_arrival (plain_breakpoints asked.breakpoints) m ≡ false
       by_asked None e met = let other : false ≡ true = met in cc
@@ -147,7 +145,7 @@ module _ (laws : FramesAreLinked) (plan : Option Listed) where
           let has_one =
           there asked.breakpoints m.unit.begun_steps.items asked.watched unmarked.0 next.step is.watched next.begins in
           none_by_step m next.step next.next asked.breakpoints
-          (same_entry _ _ (sym has_one ∙ sym (ap (λ l. slice_get l unmarked.0) watches.2.marked) ∙ at))
+          (same_Some _ _ (sym has_one ∙ sym (ap (λ l. slice_get l unmarked.0) watches.2.marked) ∙ at))
       by_mark true at met = by_asked (slice_index_or marks.asked.items next.step None) refl met
 
 module _ (laws : FramesAreLinked) (limit : ℕ) (plan : Option Listed) (marks : Option Marks)

@@ -1,11 +1,11 @@
 -- The addresses at which steps with breakpoints begin.
-use Rattle.std.proofs.Common.{◌≡◌, ℕ, ◌+◌, ◌-◌, ◌<◌, ◌≤◌, Bool, true, false, inl, inr, List, [], ◌∷◌, ◌++◌, length, map, take, drop, cond, slice_index, slice_get, get_or, nat_lt, Option, Some, None, refl, ap, sym, ◌∙◌, arith, All}
+use Rattle.std.proofs.Common.{◌≡◌, ℕ, ◌+◌, ◌-◌, ◌<◌, ◌≤◌, Bool, true, false, inl, inr, List, [], ◌∷◌, length, map, take, drop, cond, slice_index, slice_get, get_or, nat_lt, Option, Some, None, refl, ap, sym, ◌∙◌, arith, All}
 use Rattle.std.specs.Prelude.{◌||◌, option_map}
 use Rattle.std.specs.List.{list_any}
 use Rattle.std.specs.List.Sorted.{IsPermutation}
 use Rattle.std.proofs.lemmas.Bool.{cases_lt}
 use Rattle.std.proofs.lemmas.Bool.Decides.{nat_tests}
-use Rattle.std.proofs.lemmas.List.{get_or_past, length-drop, length-take-le, map-append, take_more}
+use Rattle.std.proofs.lemmas.List.{get_or_past, length-drop, length-take-le}
 use Rattle.std.proofs.lemmas.List.Elements.{All-cons}
 use Rattle.std.proofs.lemmas.List.Folds.{list_any_none}
 use Rattle.std.proofs.lemmas.List.Sorted.{list_any-IsPermutation}
@@ -96,16 +96,6 @@ are_within main n [] e at = λ k d lt. absurd (omega arith)
 are_within main n (b ∷ bs) e at =
     let mine : b.step < n = omega (arith, at.0) in
     All-cons (λ x. x.step < n) b bs mine (are_within main n bs e at.3)
-
--- ---- the table, filled line by line
-
-pub one_more : (f : Option ℕ → Bool) (lines : List (Option ℕ)) (i : ℕ) (line : Option ℕ) (old new : List Bool)
-    → i < length lines → line ≡ get_or lines i line →
-    old ≡ map f (take i lines) → new ≡ old ++ f line ∷ [] → new ≡ map f (take (i + 1) lines)
-one_more f lines i line old new lt is was more =
-    more ∙ ap (λ l. l ++ f line ∷ []) was ∙ sym
-    (ap (λ l. map f l) (take_more lines i line lt ∙ ap (λ x. take i lines ++ x ∷ []) (sym is))
-    ∙ map-append f (take i lines) (line ∷ []))
 
 -- ---- what is known where the machine stands
 

@@ -3,7 +3,7 @@ use Rattle.std.proofs.Common.{◌≡◌, ℕ, ◌<◌, List, [], ◌∷◌, map,
 use Rattle.std.proofs.Math.Logic.{∥∥₁_elim}
 use Rattle.std.specs.Coded.{le_prop}
 use Rattle.std.proofs.lemmas.List.{length-map}
-use Rattle.std.proofs.lemmas.Option.{slice_get_within}
+use Rattle.std.proofs.lemmas.Option.{same_Some, slice_get_within}
 use Rattle.pl0_tree.specs.declared.tree.Block.{Block as DeclaredBlock, out-Block}
 use Rattle.pl0_tree.specs.declared.nesting.Nesting.{Nesting}
 use Rattle.pl0_tree.specs.Tree.{Block, variables}
@@ -38,9 +38,6 @@ known_block main table (Some f) view are shows =
     let n = as_many main table (blocks main) are in
     omega (arith, w, n)
 
-same_block : (a b : Block) → ◌≡◌ {A = Option Block} (Some a) (Some b) → a ≡ b
-same_block a b e = cc
-
 variable_count : (b : DeclaredBlock) → length (variables (plain_block b)) ≡ length (out-Block b).variables.items
 variable_count b = ap length (plain_variables b) ∙ length-map (out-Block b).variables.items plain_name
 
@@ -55,7 +52,7 @@ has_variable main b c i view k linked shows is lt =
     in_frame links None at shows = absurd shows
     in_frame links (Some f) at shows =
         let r = frame_of main c i f links at in
-        let same = same_block (plain_block b) r.block (sym (is f.block shows.0) ∙ r.found) in
+        let same = same_Some (plain_block b) r.block (sym (is f.block shows.0) ∙ r.found) in
         let count = r.count in
         let these = ap (λ x. length (variables x)) same in
         let those = variable_count b in
