@@ -46,7 +46,8 @@ class Check(NamedTuple):
 
 
 CHECKS = [
-    Check("build", "both programs, proved", is_long=True),
+    Check("test", "all tests, with nothing proved"),
+    Check("build", "all programs, proved", is_long=True),
     Check("pages", "names on pages, lengths of functions and lines"),
     Check("rows", "worked inputs and sessions, both programs"),
     Check("hostile", "hostile inputs, both programs"),
@@ -61,6 +62,7 @@ CHECKS = [
     Check("soak", "sessions that leave nothing over, for an hour", ("SOAK=3600",), is_long=True, is_beside=True),
     Check("bench", "times and instructions", is_long=True),
     Check("plants", "planted bugs, whole", is_long=True),
+    Check("gate-times", "the merge gate from nothing, within its budget", is_long=True),
 ]
 
 
@@ -162,7 +164,7 @@ def run_all(checks: list[Check], who: dict[str, str], results: dict[str, dict]) 
     with ThreadPoolExecutor() as pool:
         beside: dict[str, Future] = {}
         for check in checks:
-            if check.name != "build" and not beside:
+            if check.name not in ("test", "build") and not beside:
                 beside = begun_beside(pool, checks)
             long = f" (long: `make release FROM={check.name}` goes on here)" if check.is_long else ""
             print(f"{check.name}: {check.what}{long}", flush=True)

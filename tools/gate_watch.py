@@ -1,11 +1,12 @@
 #!/usr/bin/env python3
-"""Runs the merge gate and measures the processor time that each crate costs it.
+"""Runs the merge gate, measures the processor time that each crate costs it, and holds that to a budget.
 
 usage: gate_watch.py [COMMAND..]
 
-Runs `rt ci`, or COMMAND, and looks once a second at the processes below it. At its end it prints a row for each crate, the
-processor seconds of the prover and the compilers that worked for it, the dearest first, then the sum and the wall time.
-What a process takes after the last look at it is missed. The status is that of the command.
+Runs `rt ci --anew`, or COMMAND, and looks once a second at the processes below it. At its end it prints a row for each crate, the
+processor seconds of the prover and the compilers that worked for it, the dearest first, then the sum, the wall time, and the most
+memory that all had together. What a process takes after the last look at it is missed. The status is that of the command, or 1 where
+that is 0 and the budget isn't kept: what is above it stands on standard error.
 """
 from __future__ import annotations
 
@@ -18,24 +19,28 @@ import time
 from typing import NamedTuple
 
 CRATE = re.compile(rb"--crate-name\0([a-z0-9_]+)\0")
-TICKS = os.sysconf("SC_CLK_TCK")
+TICKS, PAGE = os.sysconf("SC_CLK_TCK"), os.sysconf("SC_PAGE_SIZE")
+# The processor minutes that the whole may take, and each crate.
+WHOLE_MINUTES, CRATE_MINUTES = 190, 10
 
 
 class Process(NamedTuple):
     parent: int
     started: str
     seconds: float
+    memory: int
 
 
 def processes_now() -> dict[int, Process]:
-    """All processes, each with the processor seconds that it took itself."""
+    """All processes, each with the processor seconds that it took itself, and the bytes of memory that it has."""
     found = {}
     for folder in pathlib.Path("/proc").glob("[0-9]*"):
         try:
             fields = (folder / "stat").read_text().rsplit(")", 1)[1].split()
         except OSError:
             continue
-        found[int(folder.name)] = Process(int(fields[1]), fields[19], (int(fields[11]) + int(fields[12])) / TICKS)
+        seconds = (int(fields[11]) + int(fields[12])) / TICKS
+        found[int(folder.name)] = Process(int(fields[1]), fields[19], seconds, int(fields[21]) * PAGE)
     return found
 
 
@@ -62,16 +67,24 @@ def crate_of(number: int) -> str | None:
     return named.group(1).decode() if named else None
 
 
-def main() -> int:
-    command = sys.argv[1:] or ["rt", "ci"]
-    started = time.monotonic()
-    run = subprocess.Popen(command)
+class Watched(NamedTuple):
+    """What a command came to: its status, the processor seconds of each crate, and the most bytes of memory."""
+
+    status: int
+    seconds: dict[str, float]
+    memory: int
+
+
+def watch(command: list[str]) -> Watched:
+    """Runs a command to its end."""
+    run, memory = subprocess.Popen(command), 0
     # (a process is known by its number and its start, since numbers are used again)
     seconds: dict[tuple[int, str], tuple[str, float]] = {}
     while run.poll() is None:
         processes = processes_now()
-        for number in below(run.pid, processes):
-            process = processes[number]
+        found = {number: processes[number] for number in below(run.pid, processes)}
+        memory = max(memory, sum(process.memory for process in found.values()))
+        for number, process in found.items():
             key = number, process.started
             name = crate_of(number) or seconds.get(key, ("others", 0.0))[0]
             seconds[key] = name, process.seconds
@@ -79,12 +92,27 @@ def main() -> int:
     sums: dict[str, float] = {}
     for name, spent in seconds.values():
         sums[name] = sums.get(name, 0.0) + spent
+    return Watched(run.returncode, sums, memory)
+
+
+def above_budget(seconds: dict[str, float]) -> list[str]:
+    """What takes more than it may."""
+    found = [f"{name} takes over {CRATE_MINUTES} minutes" for name, spent in seconds.items() if spent > 60 * CRATE_MINUTES]
+    whole = sum(seconds.values()) / 60
+    return found + ([f"the whole takes {whole:.0f} minutes, and may take {WHOLE_MINUTES}"] if whole > WHOLE_MINUTES else [])
+
+
+def main() -> int:
+    begin = time.monotonic()
+    watched = watch(sys.argv[1:] or ["rt", "ci", "--anew"])
     print("| Crate | Processor seconds |\n|---|---|")
-    for name, spent in sorted(sums.items(), key=lambda row: -row[1]):
+    for name, spent in sorted(watched.seconds.items(), key=lambda row: -row[1]):
         print(f"| `{name}` | {spent:,.0f} |")
-    wall = (time.monotonic() - started) / 60
-    print(f"| all | {sum(sums.values()) / 60:.0f} minutes, in {wall:.0f} minutes of wall time |")
-    return run.returncode
+    minutes, wall = sum(watched.seconds.values()) / 60, (time.monotonic() - begin) / 60
+    print(f"| all | {minutes:.0f} minutes, in {wall:.0f} minutes of wall time and {watched.memory / 2**30:.1f} GB |")
+    above = above_budget(watched.seconds)
+    print("\n".join(above), file=sys.stderr)
+    return watched.status or (1 if above else 0)
 
 
 if __name__ == "__main__":
