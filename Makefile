@@ -144,9 +144,10 @@ threads:
 	@tools/threads/explore.sh
 
 # Whether the files, headings and functions that the pages name are there, and what the model of the threads names, whether
-# functions and lines are short, and whether each lemma is used, and stated once.
+# functions and lines are short, whether each lemma is used and isn't the library's, and whether each edit can be applied.
 pages:
 	python3 tools/pages.py
+	python3 tools/edits.py
 	python3 tools/dead_lemmas.py
 	python3 tools/known_lemmas.py
 

@@ -37,7 +37,7 @@ LONG_FUNCTIONS = {
     ("crates/pl0_machine/src/finish.rt", "take_turn"):
         "one line for each of 38 operations",
     ("crates/pl0_machine/src/take.rt", "take"):
-        "one table of jumps: a line for each form, or nine where the layout breaks the call of its arm",
+        "one table of jumps: a line for each form",
     ("crates/test_kit/src/runner.rt", "report_next"):
         "the runner's turn in one thread, which the runner itself takes in two functions between threads",
 }

@@ -3,11 +3,11 @@
 
 usage: prove.py CRATE..
 
-While `rt` works on a crate it keeps others from all crates below it, so a checkout proves nearly one crate at a time. But what `rt`
-proves in one copy of a repository it takes from there in any other. So a few copies are made, in a temporary folder; in each a library
-at a time is proved, and `rt run` in the checkout then finds all libraries proved. COPIES says how many, by default one a processor, as
-far as there is memory: each takes up to 5 GB. Prints a line for each library as it is proved, and what `rt` printed where one isn't:
-then the status is 1, and those above it aren't tried.
+While `rt` works on a crate it keeps others from all crates below it, so a checkout proves nearly one crate at a time. But
+what `rt` proves in one copy of a repository it takes from there in any other. So a few copies are made, in a temporary
+folder; in each a library at a time is proved, and `rt run` in the checkout then finds all libraries proved. COPIES says how
+many, by default one a processor, as far as there is memory: each takes up to 5 GB. Prints a line for each library as it is
+proved, and what `rt` printed where one isn't: then the status is 1, and those above it aren't tried.
 """
 from __future__ import annotations
 

@@ -3,14 +3,15 @@
 
 usage: tests.py [PART..]
 
-The parts are the crates of tests, which `rt try --test` builds and runs; two programs, which are built as files in out/unproved/; the
-scripts of checks/ that try these; and what tools/pages.py looks for. A part isn't run again while its files are as they were when
-it last passed: the sources of its crate and of the libraries below it, and for a script those of its program, and all pages,
-examples, scripts and stored runs; the pages are looked at each time. With PART only these are run, and the programs that they need.
+The parts are the crates of tests, which `rt try --test` builds and runs; two programs, which are built as files in
+out/unproved/; the scripts of checks/ that try these; and `make pages`. A part isn't run again while its files are as they
+were when it last passed: the sources of its crate and of the libraries below it, and for a script those of its program, and
+all pages, examples, scripts and stored runs. The pages are looked at each time. With PART only these are run, and the
+programs that they need.
 
-Prints a line for each part as it ends, and all that a part printed that fails. The last line is `unproved: N passed, M failed`, where
-each test of a crate counts, and each other part once. The status is 0 where nothing failed, else 1. SIDE_BY_SIDE parts run at once, by
-default all processors but one; each takes up to 3 GB.
+Prints a line for each part as it ends, and all that a part printed that fails. The last line is `unproved: N passed, M
+failed`, where each test of a crate counts, and each other part once. The status is 0 where nothing failed, else 1.
+SIDE_BY_SIDE parts run at once, by default all processors but one, as far as there is memory: each takes up to 3 GB.
 """
 from __future__ import annotations
 
@@ -92,7 +93,7 @@ PARTS = [
     script("pl0_pages", "pl0"),
     script("hostile", "pl0dap"),
     script("nonblocking", "pl0dap"),
-    Part("pages", "", (sys.executable, "tools/pages.py")),
+    Part("pages", "", ("make", "--no-print-directory", "pages")),
 ]
 
 
