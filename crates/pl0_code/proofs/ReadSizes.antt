@@ -2,7 +2,7 @@
 use Rattle.pl0_tree.specs.SharedLemmas.{constant_part_shorter}
 use Rattle.pl0_code.proofs.Common.{ABlock, arith, Binary, Block, block_length, Condition, condition_length, Expression, expression_length, length, List, Name, Negate, NoMore, Procedures, procedures_length, Statement, statement_length, Token, ℕ, ◌+◌, ◌∷◌, ◌≤◌}
 use Rattle.pl0_tree.specs.Tree.{AProcedure}
-use Rattle.pl0_tree.specs.Reading.{ReadsExpression, unsigned, positive, negative, ReadsMoreTerms, no_term, one_term, ReadsTerm, factors, ReadsMoreFactors, no_factor, one_factor, ReadsFactor, nested, ReadsCondition, odd, comparison, ReadsStatement, empty, assignment, call, write, sequence, choice, loop, ReadsStatements, last_statement, one_statement, constants, ReadsVariables, last_variable, one_variable, ReadsVariablePart, no_variables, variables, ReadsBlock, block, ReadsProcedures, no_procedure, one_procedure, ReadsProgram, program}
+use Rattle.pl0_tree.specs.Reading.{ReadsExpression, unsigned, positive, negative, ReadsMoreTerms, no_term, one_term, ReadsTerm, factors, ReadsMoreFactors, no_factor, one_factor, ReadsFactor, nested, ReadsCondition, odd, comparison, ReadsStatement, empty, assignment, call, write, sequence, choice, loop, ReadsStatements, last_statement, one_statement, ReadsVariables, last_variable, one_variable, ReadsVariablePart, no_variables, variables, ReadsBlock, block, ReadsProcedures, no_procedure, one_procedure, ReadsProgram, program}
 
 abbrev mutual
   -- how many variables a block declares, with those of the blocks in it
