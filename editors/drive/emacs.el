@@ -2,8 +2,8 @@
 
 ;; usage: emacs --batch --load editors/drive/emacs.el -- SESSION COMMAND..
 ;;
-;; SESSION is factorial, back, fault or endless.  COMMAND starts the adapter, or the proxy before it.  Prints what Emacs shows, line by line,
-;; and ends with status 0 at the end of the session.
+;; SESSION is factorial, back, fault, endless, refused or mistake.  COMMAND starts the adapter, or the proxy before it.  The last one
+;; wants pl0 on the path.  Prints what Emacs shows, line by line, and ends with status 0 at the end of the session.
 ;;
 ;; SESSION picture is for an Emacs in a terminal, without --batch: it stops, shows frames, variables and output, and makes the file
 ;; that the variable DRIVE_SHOWN names.  Emacs stays as it is.
@@ -153,10 +153,9 @@
       (accept-process-output nil 0.1))))
 
 (defun drive-pause ()
-  "Stop the thread that runs."
-  (cl-letf (((symbol-function 'completing-read) (lambda (_prompt names &rest _) (car names))))
-    (dap-stop-thread)
-    (drive-show-stop)))
+  "Stop the program that runs."
+  (call-interactively #'pl0-dap-pause)
+  (drive-show-stop))
 
 (defun drive-continue ()
   "Let the program run for a second."
@@ -187,6 +186,41 @@
   (dap-disconnect (dap--cur-session))
   (drive-rest 3)
   (drive-show-process "3 seconds after disconnect"))
+
+(defun drive-refused ()
+  "Breakpoints that are refused: it is shown why, and another one stops the program."
+  (drive-start "examples/factorial.pl0")
+  (drive-breakpoint 9 "dap-breakpoint-condition" "k == 8")
+  (drive-breakpoint 10 "dap-breakpoint-hit-condition" ">= 3")
+  (drive-breakpoint 11 "dap-breakpoint-log-message" "k is {m}")
+  (drive-breakpoint 17 "dap-breakpoint-hit-condition" "1")
+  (cl-letf (((symbol-function 'display-warning) (lambda (_type text &rest _) (drive-show "%s" text))))
+    (drive-debug)
+    (drive-show-stop)
+    (drive-to-the-end)))
+
+(defun drive-shown-mistake ()
+  "What Emacs says where the program of the buffer can't be launched, and the place to which `next-error' goes; nil where it is launched."
+  (condition-case said
+      (progn (drive-debug) nil)
+    (user-error
+     (drive-wait "the place" (not compilation-in-progress))
+     (next-error)
+     (format "%s; the place is %d:%d" (string-replace buffer-file-name "FILE" (cadr said))
+             (line-number-at-pos) (1+ (current-column))))))
+
+(defun drive-mistake ()
+  "A program with a mistake that isn't saved: Emacs saves it, says the mistake in words, and launches it once it is mended."
+  (let ((program (expand-file-name "typed.pl0" (make-temp-file "pl0dap" t))))
+    (drive-start program)
+    (insert "var x;\nbegin\n  x = 5;\n  ! x\nend.\n")
+    (drive-show "%s" (or (drive-shown-mistake) "it is launched"))
+    (drive-go-to-line 3)
+    (search-forward "=")
+    (replace-match ":=")
+    (drive-show "%s" (or (drive-shown-mistake) "it is launched"))
+    (drive-wait "the end" (not (dap--session-running (dap--cur-session))))
+    (drive-show-output)))
 
 (defun drive-open-frames ()
   "Open the nodes of the view of sessions: the session, its thread, and then the frames are there."
@@ -233,6 +267,8 @@
   ("back" (drive-back))
   ("fault" (drive-fault))
   ("endless" (drive-endless))
+  ("refused" (drive-refused))
+  ("mistake" (drive-mistake))
   (_ (drive-show "no session %s" drive-session) (kill-emacs 4)))
 (when noninteractive
   (kill-emacs 0))

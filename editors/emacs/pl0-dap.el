@@ -47,7 +47,7 @@
   (unless buffer-file-name
     (user-error "This buffer has no file"))
   (save-buffer)
-  (compile (mapconcat #'shell-quote-argument (list pl0-command what buffer-file-name) " ")))
+  (compilation-start (mapconcat #'shell-quote-argument (list pl0-command what buffer-file-name) " ")))
 
 ;;;###autoload
 (defun pl0-run ()
@@ -67,13 +67,33 @@
   (interactive)
   (pl0-compile "check"))
 
+(defun pl0-mistake (program)
+  "What `pl0-command' says of the mistake in the text of PROGRAM, a file; nil where there is none, or it can't be asked."
+  (when (and (executable-find pl0-command) (file-regular-p program))
+    (with-temp-buffer
+      (when (equal 2 (call-process pl0-command nil t nil "check" program))
+        (string-trim (buffer-string))))))
+
+(defun pl0-dap-look (program)
+  "Save the buffer of PROGRAM, a file, if there is one.  A mistake in the text is an error, and `next-error' goes to its place."
+  (let ((buffer (find-buffer-visiting program)))
+    (with-current-buffer (or buffer (current-buffer))
+      (when (and buffer (buffer-modified-p))
+        (save-buffer))
+      (when-let ((mistake (pl0-mistake program)))
+        (when buffer
+          (pl0-check))
+        (user-error "%s" mistake)))))
+
 (defun pl0-dap-configuration (configuration)
-  "CONFIGURATION with what it leaves out: the adapter, and the current buffer's file as the program."
-  (-> configuration
-      (dap--put-if-absent :dap-server-path pl0-dap-command)
-      (dap--put-if-absent :request "launch")
-      (dap--put-if-absent :name "PL/0")
-      (dap--put-if-absent :program (or buffer-file-name (user-error "This buffer has no file")))))
+  "CONFIGURATION with what it leaves out: the adapter, and the current buffer's file as the program, which has no mistake."
+  (let ((whole (-> configuration
+                   (dap--put-if-absent :dap-server-path pl0-dap-command)
+                   (dap--put-if-absent :request "launch")
+                   (dap--put-if-absent :name "PL/0")
+                   (dap--put-if-absent :program (or buffer-file-name (user-error "This buffer has no file"))))))
+    (pl0-dap-look (plist-get whole :program))
+    whole))
 
 (dap-register-debug-provider "pl0" #'pl0-dap-configuration)
 
@@ -93,6 +113,13 @@
   "Whether SESSION is with this adapter."
   (equal "pl0" (plist-get (dap--debug-session-launch-args session) :type)))
 
+;; A program has one thread, so there is nothing to ask.
+;;;###autoload
+(defun pl0-dap-pause (session)
+  "Stop the program of SESSION where it runs."
+  (interactive (list (dap--cur-session-or-die)))
+  (dap-stop-thread-1 session 1))
+
 ;; dap-mode has no commands for going back.
 ;;;###autoload
 (defun pl0-dap-step-back (session)
@@ -105,6 +132,35 @@
   "Go back in SESSION to the last place where a breakpoint would have stopped the program, or to its beginning."
   (interactive (list (dap--cur-session-or-die)))
   (dap--step "reverseContinue" session))
+
+;; dap-mode says nothing of a breakpoint that was refused.
+(defconst pl0-dap-refusals
+  '(("otherSource" . "its file isn't the one that is debugged")
+    ("noStep" . "no step stands at its line or after it")
+    ("badCondition" . "its condition can't be used: `=' compares, as in k = 8, and each name has to be known there")
+    ("badHitCondition" . "its hit condition is neither like 3, from the third time on, nor like %3, each third time")
+    ("badLogMessage" . "an expression in its message can't be used: each stands in braces, and each name has to be known there"))
+  "What the messages of refused breakpoints mean.")
+
+(defun pl0-dap-refusal (asked answer)
+  "What is said of the breakpoint ASKED in the current buffer, of which the adapter says ANSWER; nil where it was set."
+  (unless (gethash "verified" answer)
+    (let ((message (gethash "message" answer)))
+      (format "The breakpoint at line %d stops nothing: %s"
+              (line-number-at-pos (dap-breakpoint-get-point asked))
+              (or (cdr (assoc message pl0-dap-refusals)) message)))))
+
+(defun pl0-dap-show-refusals (session response file-name)
+  "Show which breakpoints of FILE-NAME, the program of SESSION, were refused by RESPONSE, and why."
+  (when (and (pl0-dap-session-p session)
+             (file-equal-p file-name (plist-get (dap--debug-session-launch-args session) :program)))
+    (with-current-buffer (find-file-noselect file-name)
+      (dolist (refusal (delq nil (cl-mapcar #'pl0-dap-refusal
+                                            (gethash file-name (dap--get-breakpoints))
+                                            (gethash "breakpoints" (gethash "body" response)))))
+        (display-warning 'pl0 refusal)))))
+
+(advice-add 'dap--update-breakpoints :after #'pl0-dap-show-refusals)
 
 ;; The adapter's process ends at the end of its input, which dap-mode leaves open after `disconnect'.
 (defun pl0-dap-close-input (message _callback session)
