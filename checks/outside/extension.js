@@ -8,11 +8,16 @@
 const assert = require("assert");
 const fs = require("fs");
 const Module = require("module");
+const os = require("os");
 const path = require("path");
 
 const FOLDER = path.join(__dirname, "..", "..", "editors", "vscode");
+const TEMPORARY = fs.mkdtempSync(path.join(os.tmpdir(), "pl0dap"));
+const CHECKER = path.join(TEMPORARY, "pl0");
 const started = [];
+const marked = {};
 const offered = { commands: {} };
+const settings = {};
 
 class Task {
   constructor(definition, scope, name, source, execution, matchers) {
@@ -26,14 +31,59 @@ class ProcessExecution {
   }
 }
 
-const document = { languageId: "pl0", fileName: "/tmp/a.pl0", save: async () => true };
+class Position {
+  constructor(line, character) {
+    Object.assign(this, { line, character });
+  }
+
+  translate(lines, characters) {
+    return new Position(this.line + lines, this.character + characters);
+  }
+}
+
+class Range {
+  constructor(start, end) {
+    this.at = [start.line, start.character, end.line, end.character];
+  }
+}
+
+class Diagnostic {
+  constructor(range, message, severity) {
+    Object.assign(this, { range, message, severity });
+  }
+}
+
+class DebugAdapterExecutable {
+  constructor(command) {
+    this.command = command;
+  }
+}
+
+const word = new Range(new Position(2, 8), new Position(2, 12));
+const document = { languageId: "pl0", fileName: "/tmp/a.pl0", save: async () => true, getWordRangeAtPosition: () => word };
+const say = (text) => started.push(text);
 const editor = {
   Task,
   ProcessExecution,
+  Position,
+  Range,
+  Diagnostic,
+  DebugAdapterExecutable,
+  DiagnosticSeverity: { Error: 0 },
   TaskScope: { Workspace: 2 },
-  window: { activeTextEditor: { document }, showInformationMessage: (text) => started.push(text) },
+  Uri: { file: (name) => name },
+  workspace: {
+    textDocuments: [document],
+    getConfiguration: (section) => ({ get: (name) => settings[`${section}.${name}`] }),
+    onDidSaveTextDocument: (call) => (offered.save = call),
+  },
+  languages: { createDiagnosticCollection: () => ({ set: (name, list) => (marked[name] = list) }) },
+  window: { activeTextEditor: { document }, showInformationMessage: say, showErrorMessage: say },
   commands: { registerCommand: (name, call) => (offered.commands[name] = call) },
-  debug: { registerDebugConfigurationProvider: (type, provider) => (offered[`debug ${type}`] = provider) },
+  debug: {
+    registerDebugConfigurationProvider: (type, provider) => (offered[`debug ${type}`] = provider),
+    registerDebugAdapterDescriptorFactory: (type, factory) => (offered[`adapter ${type}`] = factory),
+  },
   tasks: {
     registerTaskProvider: (type, provider) => (offered[`tasks ${type}`] = provider),
     executeTask: async (task) => started.push(task.execution.words.join(" ")),
@@ -43,6 +93,61 @@ const editor = {
 const load = Module._load;
 Module._load = (name, ...rest) => (name === "vscode" ? editor : load(name, ...rest));
 
+/** A stand-in for `pl0`, which says this of each text, and ends with this status. */
+function write(said, status) {
+  fs.writeFileSync(CHECKER, `#!/bin/sh\necho "$2:${said}" >&2\nexit ${status}\n`, { mode: 0o755 });
+}
+
+/** What becomes of launches where a text has a mistake, where it has none, and where `pl0` isn't there. */
+async function launches() {
+  const launch = { type: "pl0", request: "launch", name: "PL/0", program: "/tmp/a.pl0" };
+  const resolve = (given) => offered["debug pl0"].resolveDebugConfigurationWithSubstitutedVariables(undefined, given);
+  settings["pl0.path.pl0"] = path.join(TEMPORARY, "nothing");
+  assert.deepStrictEqual(await resolve(launch), launch);
+  assert.deepStrictEqual(await resolve({ ...launch, noDebug: false }), launch);
+  settings["pl0.path.pl0"] = CHECKER;
+  write("3:9: error: `;` is missing".replace(/`/g, "\\`"), 2);
+  assert.strictEqual(await resolve(launch), undefined);
+  assert.strictEqual(await resolve({ ...launch, noDebug: true }), undefined);
+  assert.strictEqual(await resolve({ ...launch, program: "/tmp/b.pl0" }), undefined);
+  assert.deepStrictEqual(marked["/tmp/a.pl0"], [new Diagnostic(word, "`;` is missing", 0)]);
+  assert.deepStrictEqual(marked["/tmp/b.pl0"][0].range.at, [2, 8, 2, 9]);
+  write("3:9: error: no text", 3);
+  await offered.save(document);
+  assert.deepStrictEqual(marked["/tmp/a.pl0"], []);
+  assert.deepStrictEqual(await resolve(launch), launch);
+  assert.strictEqual(await resolve({ ...launch, noDebug: true }), undefined);
+  const said = (name) => `${name}:3:9: error: \`;\` is missing`;
+  const wanted = [said("/tmp/a.pl0"), said("/tmp/a.pl0"), said("/tmp/b.pl0"), `${CHECKER} run /tmp/a.pl0`];
+  assert.deepStrictEqual(started.splice(0), wanted);
+  delete settings["pl0.path.pl0"];
+}
+
+/** The adapter, by its setting and without it. */
+function adapters() {
+  const command = () => offered["adapter pl0"].createDebugAdapterDescriptor().command;
+  assert.strictEqual(command(), "pl0dap");
+  settings["pl0.path.pl0dap"] = "/opt/pl0dap";
+  assert.strictEqual(command(), "/opt/pl0dap");
+  delete settings["pl0.path.pl0dap"];
+}
+
+/** Where Enter is followed by a deeper line, as the examples are laid out. */
+function indentation() {
+  const { indentationRules } = JSON.parse(fs.readFileSync(path.join(FOLDER, "language-configuration.json"), "utf8"));
+  const increase = new RegExp(indentationRules.increaseIndentPattern);
+  const depth = (line) => line.search(/\S/);
+  const examples = path.join(__dirname, "..", "..", "examples");
+  for (const name of fs.readdirSync(examples)) {
+    const lines = fs.readFileSync(path.join(examples, name), "utf8").split("\n");
+    lines.forEach((line, at) => {
+      if (/\b(begin|then|do)$/.test(line)) {
+        assert.strictEqual(depth(lines[at + 1]) - depth(line), increase.test(line) ? 2 : 0, `${name}:${at + 2}`);
+      }
+    });
+  }
+}
+
 async function main() {
   const contributed = JSON.parse(fs.readFileSync(path.join(FOLDER, "package.json"), "utf8")).contributes;
   require(FOLDER).activate({ subscriptions: [] });
@@ -50,8 +155,12 @@ async function main() {
   const resolve = (given) => offered["debug pl0"].resolveDebugConfiguration(undefined, given);
   const launch = { type: "pl0", request: "launch", name: "PL/0", program: "${file}" };
   assert.deepStrictEqual(resolve({}), launch);
-  assert.deepStrictEqual(resolve({ type: undefined, noDebug: true }), launch);
+  assert.deepStrictEqual(resolve({ type: undefined, noDebug: true }), { ...launch, noDebug: true });
   assert.deepStrictEqual(resolve({ ...launch, program: "a.pl0", stopOnEntry: true }), { ...launch, program: "a.pl0", stopOnEntry: true });
+  await launches();
+  adapters();
+  indentation();
+  assert.deepStrictEqual(Object.keys(contributed.configuration.properties), ["pl0.path.pl0dap", "pl0.path.pl0"]);
 
   const tasks = offered["tasks pl0"].provideTasks();
   assert.deepStrictEqual(
@@ -89,7 +198,9 @@ async function main() {
   console.log("the extension offers what package.json says");
 }
 
-main().catch((error) => {
-  console.log(error.message);
-  process.exit(1);
-});
+main()
+  .catch((error) => {
+    console.log(error.message);
+    process.exitCode = 1;
+  })
+  .finally(() => fs.rmSync(TEMPORARY, { recursive: true }));

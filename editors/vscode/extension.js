@@ -1,6 +1,8 @@
-// What package.json can't say: which program F5 debugs where no launch.json says it, and what the tasks and commands run.
+// What package.json can't say: which program F5 debugs where no launch.json says it, what Ctrl+F5, the tasks and the commands run,
+// and where a text has a mistake.
 "use strict";
 
+const { execFile } = require("child_process");
 const vscode = require("vscode");
 
 /** What the extension can do with a program: the name of the task, and the command that it runs. */
@@ -14,22 +16,75 @@ const TASKS = {
 /** What is debugged where no launch.json says it. */
 const LAUNCH = { type: "pl0", request: "launch", name: "PL/0", program: "${file}" };
 
+/** How `pl0 check` says a mistake, and the status with which it ends then. */
+const MISTAKE = /^(?<all>.*:(?<line>\d+):(?<column>\d+): error: (?<words>.*))$/m;
+const HAS_MISTAKE = 2;
+const CHECKING = { timeout: 10000 }; // in milliseconds
+
+/** The path of a program, `pl0` or `pl0dap`, by the settings. */
+const pathOf = (program) => vscode.workspace.getConfiguration("pl0.path").get(program) || program;
+
+let mistakes;
+
+/** What is said of the mistake in the text of a file, if there is one, and if it can be asked. */
+function mistakeIn(file) {
+  return new Promise((resolve) => {
+    execFile(pathOf("pl0"), ["check", file], CHECKING, (error, _output, said) => {
+      resolve(error && error.code === HAS_MISTAKE ? MISTAKE.exec(said)?.groups : undefined);
+    });
+  });
+}
+
+/** Marks the mistake in the text of a file, and returns it, if there is one. */
+async function check(file) {
+  const mistake = await mistakeIn(file);
+  const marked = [];
+  if (mistake) {
+    const start = new vscode.Position(mistake.line - 1, mistake.column - 1);
+    const document = vscode.workspace.textDocuments.find((one) => one.fileName === file);
+    const range = document?.getWordRangeAtPosition(start) || new vscode.Range(start, start.translate(0, 1));
+    marked.push(new vscode.Diagnostic(range, mistake.words, vscode.DiagnosticSeverity.Error));
+  }
+  mistakes.set(vscode.Uri.file(file), marked);
+  return mistake;
+}
+
 const configurations = {
   /** Adds what a configuration leaves out, which for F5 without a launch.json is all. */
   resolveDebugConfiguration(_folder, configuration) {
-    const { noDebug, ...given } = configuration; // pl0dap debugs every program that it launches
+    const given = { ...configuration };
     for (const [name, value] of Object.entries(LAUNCH)) {
       given[name] ||= value;
     }
     return given;
   },
+
+  /** Runs the program where it isn't to be debugged, as by Ctrl+F5. A text with a mistake isn't launched. */
+  async resolveDebugConfigurationWithSubstitutedVariables(_folder, configuration) {
+    const { noDebug, ...given } = configuration;
+    const mistake = await check(given.program);
+    if (mistake) {
+      vscode.window.showErrorMessage(mistake.all);
+    } else if (noDebug) {
+      await execute("run", given.program);
+    } else {
+      return given;
+    }
+    return undefined; // which starts no session, and says nothing
+  },
+};
+
+const adapters = {
+  createDebugAdapterDescriptor: () => new vscode.DebugAdapterExecutable(pathOf("pl0dap")),
 };
 
 function taskOf(definition, scope = vscode.TaskScope.Workspace) {
   const [program, ...words] = TASKS[definition.command];
-  const execution = new vscode.ProcessExecution(program, [...words, definition.file || "${file}"]);
+  const execution = new vscode.ProcessExecution(pathOf(program), [...words, definition.file || "${file}"]);
   return new vscode.Task(definition, scope, definition.command, "pl0", execution, ["$pl0"]);
 }
+
+const execute = (command, file) => vscode.tasks.executeTask(taskOf({ type: "pl0", command, file }));
 
 const tasks = {
   provideTasks: () => Object.keys(TASKS).map((command) => taskOf({ type: "pl0", command })),
@@ -44,12 +99,16 @@ async function start(command) {
     return;
   }
   await editor.document.save();
-  await vscode.tasks.executeTask(taskOf({ type: "pl0", command, file: editor.document.fileName }));
+  await execute(command, editor.document.fileName);
 }
 
 function activate(context) {
+  mistakes = vscode.languages.createDiagnosticCollection("pl0");
   context.subscriptions.push(
+    mistakes,
+    vscode.workspace.onDidSaveTextDocument((document) => (document.languageId === "pl0" ? check(document.fileName) : undefined)),
     vscode.debug.registerDebugConfigurationProvider("pl0", configurations),
+    vscode.debug.registerDebugAdapterDescriptorFactory("pl0", adapters),
     vscode.tasks.registerTaskProvider("pl0", tasks),
     ...["run", "trace", "check"].map((command) => vscode.commands.registerCommand(`pl0.${command}`, () => start(command))),
   );
