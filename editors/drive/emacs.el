@@ -200,7 +200,7 @@
     (drive-to-the-end)))
 
 (defun drive-shown-mistake ()
-  "What Emacs says where the program of the buffer can't be launched, and the place to which `next-error' goes; nil where it is launched."
+  "What Emacs says where the program of the buffer can't be launched, and where `next-error' goes; nil where it is launched."
   (condition-case said
       (progn (drive-debug) nil)
     (user-error
