@@ -1,6 +1,6 @@
 -- Defines what a loader of files reads.
 use Rattle.std.specs.Prelude.{ℕ, List, Option, Result, Ok, Err}
-use Rattle.dap_wires.specs.Transfer.{BeginsWith}
+use Rattle.byte_streams.specs.Beginning.{BeginsWith}
 
 -- The file was opened, and these are the first 65,537 of the bytes that it has left, or all where there are fewer.
 abbrev pub IsOfFile : {I E : Type 0} → (I → Option (List ℕ)) → Result I E → List ℕ → Type 0

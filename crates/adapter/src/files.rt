@@ -3,9 +3,8 @@
 ghost use Rattle.std.specs.Prelude.{◌≡◌, []};
 ghost use Rattle.dap_session.specs.Loads.{logged};
 
-use byte_streams::Reading;
+use byte_streams::{ReadFault, Reading, read_beginning};
 use dap_session::{LoadFault, LoadLog, Loader};
-use dap_wires::read_beginning;
 use std::alloc::Global;
 use std::fs;
 use std::io::{self, ErrorKind, Read};
@@ -96,7 +95,11 @@ fn read_file<R: Wait + Clock, I: Read + Drop>(
     ensures short { IfOk result (λ bytes. length bytes.items ≤ 65537) }
 {
     match opened {
-        Ok(file) => read_beginning(rt, alloc, &mut Reading::new(rt, file)),
+        Ok(file) => match read_beginning(rt, alloc, &mut Reading::new(rt, file)) {
+            Ok(bytes) => Ok(bytes),
+            Err(ReadFault::CannotRead) => Err(LoadFault::CannotRead),
+            Err(ReadFault::NoMemory) => Err(LoadFault::NoMemory),
+        },
         Err(error) if error.kind() == ErrorKind::OutOfMemory => Err(LoadFault::NoMemory),
         Err(_) => Err(LoadFault::CannotRead),
     }

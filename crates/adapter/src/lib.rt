@@ -22,10 +22,9 @@ mod serving;
 mod tasks;
 mod telling;
 
-pub use byte_streams::{IoFault, Reading, Sink, Source, Writing};
+pub use byte_streams::{IoFault, ReadFault, Reading, Sink, Source, Writing, read_beginning};
 pub use checking::{CheckFault, check};
 pub use dap_session::FirstSeq;
-pub use dap_wires::read_beginning;
 pub use exit_reason::{ExitReason, end_of_check, end_of_serve};
 pub use files::FileLoader;
 pub use laws::serving_laws;

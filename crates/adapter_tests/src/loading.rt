@@ -1,8 +1,7 @@
 //! The beginning of a file, read from a source that is interrupted at each second read.
 
 use crate::fakes::{Input, Progress, Streams};
-use adapter::read_beginning;
-use dap_session::LoadFault;
+use adapter::{ReadFault, read_beginning};
 
 /// The lengths of files, and how many bytes of them are given.
 const LENGTHS: [(usize, usize); 5] = [
@@ -50,7 +49,7 @@ fn gives_nothing_where_a_read_fails(rt: HostRuntime) {
         let mut source = Input::new(&rt, b"var x; .", streams, &progress);
         let read = read_beginning(&rt, alloc, &mut source);
         assert!(rt;
-            matches!(read, Err(LoadFault::CannotRead)),
+            matches!(read, Err(ReadFault::CannotRead)),
             "at {read_fails_at}"
         );
     }

@@ -1,4 +1,4 @@
-//! Bytes in and bytes out: where they come from, where they go, and how to write all of them.
+//! Bytes in and bytes out: where they come from, where they go, how to read the first of them, and how to write all.
 //!
 //! ```
 //! use byte_streams::{IoFault, Reading, Sink, Source, Writing, write_all};
@@ -32,12 +32,15 @@
 //! The one contract is that no loss goes unnoticed: a [`Source`] returns the first of the bytes that were left to read, a
 //! [`Sink`] appends the bytes that it takes to those written before, and each read or write that fails is counted.
 //! [`Reading`] and [`Writing`] are a source and a sink over std's `Read` and `Write`. [`write_all`] and [`say`] write all
-//! bytes, or a prefix of them where the sink fails.
+//! bytes, or a prefix of them where the sink fails. [`read_beginning`] reads as much of a source as a program's text may
+//! have, and one byte more.
 #![tactic(auto)]
 
+mod beginning;
 mod counting;
 mod streams;
 mod writing;
 
+pub use beginning::{BEGINNING_LIMIT, ReadFault, read_beginning};
 pub use streams::{IoFault, Reading, Sink, Source, Writing};
 pub use writing::{say, write_all};

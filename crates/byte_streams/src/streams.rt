@@ -133,6 +133,13 @@ impl<'a, R: Wait, O: Write + Drop> Writing<'a, R, O> {
             failures: 0,
         }
     }
+
+    /// Returns what it writes to.
+    pub fn inner(&self) -> &O
+        ensures { result.now ≡ self.now.inner }
+    {
+        &self.inner
+    }
 }
 
 impl<R: Wait + Clock, O: Write + Drop> Sink for Writing<'_, R, O> {

@@ -6,7 +6,7 @@ pub mod Filling
 pub mod Growing
 -- What was read and sent so far, turn by turn; for `read_loop`.
 pub mod ReadSoFar
--- What reads of a source returned, and what of it is an event; for `read_beginning` and `read_event`.
+-- What reads of a source returned, and what of it is an event; for `read_event`.
 pub mod FromSource
 -- What each sender put and what was taken, as plain data; for the functions of `event_ends`, `events`, `frame_ends` and
 -- others.

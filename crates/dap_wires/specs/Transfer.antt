@@ -1,5 +1,5 @@
 -- Defines what a read of an input yields.
-use Rattle.std.specs.Prelude.{◌≡◌, ◌<◌, ◌≤◌, [], ◌∷◌, ℕ, List, Option, length, take}
+use Rattle.std.specs.Prelude.{◌≡◌, ◌<◌, ◌≤◌, [], ◌∷◌, ℕ, List, length}
 use Rattle.std.specs.Io.KnownBytes.{Consumes, IsAtEnd}
 use Rattle.dap_history.specs.Events.{Incoming, Piece, End, ReadFailed, NoMemory, File, Report}
 use Rattle.byte_streams.specs.Streams.{Supply}
@@ -24,10 +24,3 @@ IsRead (File file) old later = ⊥
 abbrev pub AreRead : List Incoming → Supply → Supply → Type 0
 AreRead [] old later = later ≡ old
 AreRead (e ∷ events) old later = (mid : Supply) × IsRead e old mid × AreRead events mid later
-
--- These are the first 65,537 of the bytes left, or all where there are fewer.
-pub record BeginsWith (bytes : List ℕ) (left later : Option (List ℕ)) : Type 0 where
-  pub read : List ℕ
-  pub consumed : Consumes left later read
-  pub bytes_are : bytes ≡ take 65537 read
-  pub whole : length bytes < 65537 → IsAtEnd later

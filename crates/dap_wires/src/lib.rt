@@ -13,7 +13,6 @@
 #![tactic(auto)]
 
 mod arrival;
-mod beginning;
 mod bundle;
 mod bundling;
 mod channels;
@@ -33,7 +32,6 @@ mod writer_message;
 mod writing;
 
 pub use arrival::Arrival;
-pub use beginning::read_beginning;
 pub use bundle::Bundle;
 pub use end_log::EndLog;
 pub use ends::ReceiveLog;

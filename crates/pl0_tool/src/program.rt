@@ -8,8 +8,7 @@ use crate::arguments::{Request, parse_arguments};
 use crate::commands::perform;
 use crate::output::Noticing;
 use crate::report::{Ending, Report};
-use crate::text::{ReadFault, read_text};
-use byte_streams::{Reading, Sink, Source, Writing, say, write_all};
+use byte_streams::{ReadFault, Reading, Sink, Source, Writing, read_beginning, say, write_all};
 use clap::Error;
 use clap::error::ErrorKind;
 use std::alloc::AllocError;
@@ -172,10 +171,10 @@ fn text_of<R: Wait + Clock + Files + AllocGlobal, I: Source>(
     input: &mut I,
 ) -> Result<Vec<u8>, ReadFault> {
     if file == "-" {
-        return read_text(rt, rt.alloc(), input);
+        return read_beginning(rt, rt.alloc(), input);
     }
     match fs::open(rt, file) {
-        Ok(opened) => read_text(rt, rt.alloc(), &mut Reading::new(rt, opened)),
+        Ok(opened) => read_beginning(rt, rt.alloc(), &mut Reading::new(rt, opened)),
         Err(_) => Err(ReadFault::CannotRead),
     }
 }

@@ -1,6 +1,7 @@
 use Rattle.std.proofs.Common.{◌<◌, ◌≤◌, length, arith}
-use Rattle.dap_wires.proofs.FromSource.{begins_whole}
-use Rattle.dap_wires.proofs.beginning.read_beginning.Goals as goal
+use Rattle.byte_streams.proofs.Beginnings.{begins_whole}
+use Rattle.byte_streams.specs.Beginning.{beginning_limit}
+use Rattle.byte_streams.proofs.beginning.read_beginning.Goals as goal
 
 pub returns-in-Ok-eq0-clause-bytes : goal.returns-in-Ok-eq0-clause-bytes
 returns-in-Ok-eq0-clause-bytes g c =
@@ -8,7 +9,7 @@ returns-in-Ok-eq0-clause-bytes g c =
     let kept = c.read.auto.room in
     let room : 0 < length c.read.new.room = omega (arith, size, kept) in
     let count = c.len.ensures in
-    let few = c.if-len-ge-MOST.false in
-    let short : length c.loop.bytes.items ≤ 65537 = omega (arith, count, few) in
+    let few = c.if-len-ge-BEGINNING_LIMIT.false in
+    let short : length c.loop.bytes.items ≤ beginning_limit = omega (arith, count, few) in
     begins_whole _ _ _ _ _ c.read.new.room c.loop.invariant.0 c.in-Ok-eq0.ensures.bytes c.in-Ok-eq0.field-0-test room
     short

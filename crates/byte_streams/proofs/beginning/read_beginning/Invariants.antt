@@ -1,6 +1,6 @@
 use Rattle.std.proofs.Common.{◌≡◌, length}
 use Rattle.std.specs.Io.KnownBytes.{Consumes}
-use Rattle.dap_wires.proofs.beginning.read_beginning.Given as goal
+use Rattle.byte_streams.proofs.beginning.read_beginning.Given as goal
 
 abbrev pub invariant-loop : goal.invariant-loop
 invariant-loop g l =

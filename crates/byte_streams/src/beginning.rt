@@ -1,0 +1,61 @@
+//! Reading the first bytes of a source.
+
+ghost use Rattle.std.specs.Prelude.{◌≡◌, ◌<◌, ◌≤◌, length, Err, IfOk, OnOk};
+ghost use Rattle.byte_streams.specs.Beginning.{BeginsWith, beginning_limit};
+ghost use Rattle.byte_streams.specs.declared.beginning.ReadFault.TheVariants.{CannotRead, NoMemory};
+
+use crate::streams::{IoFault, Source};
+use std::alloc::Global;
+use std::sync::Wait;
+
+/// The most bytes that [`read_beginning`] returns: one more than a program's text may have, so that a longer one is noticed.
+pub const BEGINNING_LIMIT: usize = 65_537;
+
+/// How many bytes are read at once.
+const ROOM: usize = 4096;
+
+/// Why the beginning of a source isn't returned.
+#[derive(Clone, Copy, Debug)]
+pub enum ReadFault {
+    /// A read failed. The source counts this.
+    CannotRead,
+    /// Memory ran out.
+    NoMemory,
+}
+
+/// Returns the first [`BEGINNING_LIMIT`] bytes of a source, or all up to its end where it has fewer. An interrupted read is
+/// tried again. After an error some bytes were read and are lost.
+///
+/// # Errors
+///
+/// `CannotRead` where a read failed, and `NoMemory` where memory ran out.
+pub fn read_beginning<R: Wait, S: Source>(
+    rt: &R,
+    alloc: Global,
+    source: &mut S,
+) -> Result<Vec<u8>, ReadFault>
+    ensures bytes { IfOk result (λ bytes. BeginsWith bytes.items (S.left source.old) (S.left source.new)) }
+    ensures short { IfOk result (λ bytes. length bytes.items ≤ beginning_limit) }
+    ensures ok { OnOk result (S.failures source.new ≡ S.failures source.old) }
+    ensures cannot_read { result ≡ Err CannotRead → S.failures source.old < S.failures source.new }
+    ensures no_memory { result ≡ Err NoMemory → S.failures source.new ≡ S.failures source.old }
+{
+    let mut bytes = Vec::new(alloc);
+    let mut room = [0; ROOM];
+    for _ in rt.forever() {
+        if bytes.len() >= BEGINNING_LIMIT {
+            bytes.truncate(BEGINNING_LIMIT);
+            return Ok(bytes);
+        }
+        match source.read(&mut room) {
+            Ok(0) => return Ok(bytes),
+            Ok(count) => match bytes.extend_from_slice(&room[..count]) {
+                Ok(()) => {}
+                Err(_) => return Err(ReadFault::NoMemory),
+            },
+            Err(IoFault::Failed) => return Err(ReadFault::CannotRead),
+            Err(IoFault::Interrupted) => {}
+        }
+    }
+    unreachable!()
+}
