@@ -1,6 +1,6 @@
 -- The grammar by symbols alone is the one by which tokens are read: symbols are such a text exactly where some tokens
 -- with them are read as a tree.
-use Rattle.pl0_parser.proofs.Common.{[], ABlock, ap, token_at, Binary, Block, Condition, Constant, Expression, List, map, Mark, Marked, Name, Named, Negate, Numeral, Operator, Procedures, ReadsBlock, ReadsCondition, ReadsConstantPart, ReadsConstants, ReadsExpression, ReadsFactor, ReadsMoreFactors, ReadsMoreTerms, ReadsProcedures, ReadsStatement, ReadsStatements, ReadsTerm, ReadsVariablePart, ReadsVariables, refl, start_place, Statement, Symbol, symbols, Token, ℕ, ℤ, ◌∷◌, ◌≡◌}
+use Rattle.pl0_parser.proofs.Common.{[], ABlock, ap, token_at, Binary, Block, Condition, Constant, Expression, List, Mark, Marked, Name, Named, Negate, Numeral, Operator, Procedures, ReadsBlock, ReadsCondition, ReadsConstantPart, ReadsConstants, ReadsExpression, ReadsFactor, ReadsMoreFactors, ReadsMoreTerms, ReadsProcedures, ReadsStatement, ReadsStatements, ReadsTerm, ReadsVariablePart, ReadsVariables, refl, Statement, Symbol, symbols, Token, ℕ, ℤ, ◌∷◌, ◌≡◌, Place, length}
 use Rattle.pl0_tree.specs.declared.tree.Operator.TheVariants as operator
 use Rattle.pl0_tree.specs.declared.tree.Relation.{Relation}
 use Rattle.pl0_tree.specs.declared.token.Mark.TheVariants as mark
@@ -126,153 +126,155 @@ mutual
   procedures_symbols (reading.one_procedure inner more) =
       grammar.one_procedure (block_symbols inner) (procedures_symbols more)
 
--- ---- from symbols to tokens that are read, all of them at one place
+-- ---- from symbols to tokens that are read: the place of each is given by how many symbols come after it
 
-abbrev pub placed : List Symbol → List Token
-placed s = map (λ x. token_at x start_place) s
+module _ (at : ℕ → Place) where
+  abbrev pub placed : List Symbol → List Token
+  placed [] = []
+  placed (x ∷ s) = token_at x (at (length s)) ∷ placed s
 
-pub placed_symbols : (s : List Symbol) → symbols (placed s) ≡ s
-placed_symbols [] = refl
-placed_symbols (x ∷ s) = ap (λ t. x ∷ t) (placed_symbols s)
+  pub placed_symbols : (s : List Symbol) → symbols (placed s) ≡ s
+  placed_symbols [] = refl
+  placed_symbols (x ∷ s) = ap (λ t. x ∷ t) (placed_symbols s)
 
-mutual
-  pub expression_read : {n : ℕ} {s rest : List Symbol} → IsExpression n s rest → (e : Expression)
-      × ReadsExpression n (placed s) e (placed rest)
-  expression_read (grammar.unsigned first more) =
-      let (a, reads) = term_read first in
-      let (e, further) = more_terms_read a more in
-      (e, reading.unsigned reads further)
-  expression_read (grammar.signed grammar.plus first more) =
-      let (a, reads) = term_read first in
-      let (e, further) = more_terms_read a more in
-      (e, reading.positive reads further)
-  expression_read (grammar.signed grammar.minus first more) =
-      let (a, reads) = term_read first in
-      let (e, further) = more_terms_read (Negate a) more in
-      (e, reading.negative reads further)
+  mutual
+    pub expression_read : {n : ℕ} {s rest : List Symbol} → IsExpression n s rest → (e : Expression)
+        × ReadsExpression n (placed s) e (placed rest)
+    expression_read (grammar.unsigned first more) =
+        let (a, reads) = term_read first in
+        let (e, further) = more_terms_read a more in
+        (e, reading.unsigned reads further)
+    expression_read (grammar.signed grammar.plus first more) =
+        let (a, reads) = term_read first in
+        let (e, further) = more_terms_read a more in
+        (e, reading.positive reads further)
+    expression_read (grammar.signed grammar.minus first more) =
+        let (a, reads) = term_read first in
+        let (e, further) = more_terms_read (Negate a) more in
+        (e, reading.negative reads further)
 
-  more_terms_read : {n : ℕ} {s rest : List Symbol} (left : Expression) → AreMoreTerms n s rest → (e : Expression)
-      × ReadsMoreTerms n (placed s) left e (placed rest)
-  more_terms_read left grammar.no_term = (left, reading.no_term)
-  more_terms_read left (grammar.one_term grammar.plus next more) =
-      let (a, reads) = term_read next in
-      let (e, further) = more_terms_read (Binary operator.Add left a) more in
-      (e, reading.one_term reading.plus reads further)
-  more_terms_read left (grammar.one_term grammar.minus next more) =
-      let (a, reads) = term_read next in
-      let (e, further) = more_terms_read (Binary operator.Subtract left a) more in
-      (e, reading.one_term reading.minus reads further)
+    more_terms_read : {n : ℕ} {s rest : List Symbol} (left : Expression) → AreMoreTerms n s rest → (e : Expression)
+        × ReadsMoreTerms n (placed s) left e (placed rest)
+    more_terms_read left grammar.no_term = (left, reading.no_term)
+    more_terms_read left (grammar.one_term grammar.plus next more) =
+        let (a, reads) = term_read next in
+        let (e, further) = more_terms_read (Binary operator.Add left a) more in
+        (e, reading.one_term reading.plus reads further)
+    more_terms_read left (grammar.one_term grammar.minus next more) =
+        let (a, reads) = term_read next in
+        let (e, further) = more_terms_read (Binary operator.Subtract left a) more in
+        (e, reading.one_term reading.minus reads further)
 
-  term_read : {n : ℕ} {s rest : List Symbol} → IsTerm n s rest → (e : Expression)
-      × ReadsTerm n (placed s) e (placed rest)
-  term_read (grammar.factors first more) =
-      let (a, reads) = factor_read first in
-      let (e, further) = more_factors_read a more in
-      (e, reading.factors reads further)
+    term_read : {n : ℕ} {s rest : List Symbol} → IsTerm n s rest → (e : Expression)
+        × ReadsTerm n (placed s) e (placed rest)
+    term_read (grammar.factors first more) =
+        let (a, reads) = factor_read first in
+        let (e, further) = more_factors_read a more in
+        (e, reading.factors reads further)
 
-  more_factors_read : {n : ℕ} {s rest : List Symbol} (left : Expression) → AreMoreFactors n s rest → (e : Expression)
-      × ReadsMoreFactors n (placed s) left e (placed rest)
-  more_factors_read left grammar.no_factor = (left, reading.no_factor)
-  more_factors_read left (grammar.one_factor grammar.times next more) =
-      let (a, reads) = factor_read next in
-      let (e, further) = more_factors_read (Binary operator.Multiply left a) more in
-      (e, reading.one_factor reading.times reads further)
-  more_factors_read left (grammar.one_factor grammar.slash next more) =
-      let (a, reads) = factor_read next in
-      let (e, further) = more_factors_read (Binary operator.Divide left a) more in
-      (e, reading.one_factor reading.slash reads further)
+    more_factors_read : {n : ℕ} {s rest : List Symbol} (left : Expression) → AreMoreFactors n s rest → (e : Expression)
+        × ReadsMoreFactors n (placed s) left e (placed rest)
+    more_factors_read left grammar.no_factor = (left, reading.no_factor)
+    more_factors_read left (grammar.one_factor grammar.times next more) =
+        let (a, reads) = factor_read next in
+        let (e, further) = more_factors_read (Binary operator.Multiply left a) more in
+        (e, reading.one_factor reading.times reads further)
+    more_factors_read left (grammar.one_factor grammar.slash next more) =
+        let (a, reads) = factor_read next in
+        let (e, further) = more_factors_read (Binary operator.Divide left a) more in
+        (e, reading.one_factor reading.slash reads further)
 
-  factor_read : {n : ℕ} {s rest : List Symbol} → IsFactor n s rest → (e : Expression)
-      × ReadsFactor n (placed s) e (placed rest)
-  factor_read grammar.name = (_, reading.name)
-  factor_read grammar.number = (_, reading.number)
-  factor_read (grammar.nested inner) = let (e, reads) = expression_read inner in (e, reading.nested reads)
+    factor_read : {n : ℕ} {s rest : List Symbol} → IsFactor n s rest → (e : Expression)
+        × ReadsFactor n (placed s) e (placed rest)
+    factor_read grammar.name = (_, reading.name)
+    factor_read grammar.number = (_, reading.number)
+    factor_read (grammar.nested inner) = let (e, reads) = expression_read inner in (e, reading.nested reads)
 
--- the relation that a sign of comparison stands for
-related : {m : Mark} → grammar.IsComparing m → (r : Relation) × reading.IsComparing m r
-related grammar.equal = (_, reading.equal)
-related grammar.unequal = (_, reading.unequal)
-related grammar.less = (_, reading.less)
-related grammar.at_most = (_, reading.at_most)
-related grammar.greater = (_, reading.greater)
-related grammar.at_least = (_, reading.at_least)
+  -- the relation that a sign of comparison stands for
+  related : {m : Mark} → grammar.IsComparing m → (r : Relation) × reading.IsComparing m r
+  related grammar.equal = (_, reading.equal)
+  related grammar.unequal = (_, reading.unequal)
+  related grammar.less = (_, reading.less)
+  related grammar.at_most = (_, reading.at_most)
+  related grammar.greater = (_, reading.greater)
+  related grammar.at_least = (_, reading.at_least)
 
-pub condition_read : {n : ℕ} {s rest : List Symbol} → IsCondition n s rest → (c : Condition)
-    × ReadsCondition n (placed s) c (placed rest)
-condition_read (grammar.odd value) = let (e, reads) = expression_read value in (tree.Odd e, reading.odd reads)
-condition_read (grammar.comparison left sign right) =
-    let (r, compares) = related sign in
-    let (a, first) = expression_read left in
-    let (b, second) = expression_read right in
-    (tree.Compare r a b, reading.comparison first compares second)
+  pub condition_read : {n : ℕ} {s rest : List Symbol} → IsCondition n s rest → (c : Condition)
+      × ReadsCondition n (placed s) c (placed rest)
+  condition_read (grammar.odd value) = let (e, reads) = expression_read value in (tree.Odd e, reading.odd reads)
+  condition_read (grammar.comparison left sign right) =
+      let (r, compares) = related sign in
+      let (a, first) = expression_read left in
+      let (b, second) = expression_read right in
+      (tree.Compare r a b, reading.comparison first compares second)
 
-mutual
-  statement_read : {n : ℕ} {s rest : List Symbol} → IsStatement n s rest → (x : Statement)
-      × ReadsStatement n (placed s) x (placed rest)
-  statement_read grammar.empty = (_, reading.empty)
-  statement_read (grammar.assignment value) = let (e, reads) = expression_read value in (_, reading.assignment reads)
-  statement_read grammar.call = (_, reading.call)
-  statement_read (grammar.write value) = let (e, reads) = expression_read value in (_, reading.write reads)
-  statement_read (grammar.sequence first more) =
-      let (x, reads) = statement_read first in
-      let (y, further) = statements_read x more reads in
-      (y, reading.sequence further)
-  statement_read (grammar.choice test body) =
-      let (c, tests) = condition_read test in
-      let (x, reads) = statement_read body in
-      (_, reading.choice tests reads)
-  statement_read (grammar.loop test body) =
-      let (c, tests) = condition_read test in
-      let (x, reads) = statement_read body in
-      (_, reading.loop tests reads)
+  mutual
+    statement_read : {n : ℕ} {s rest : List Symbol} → IsStatement n s rest → (x : Statement)
+        × ReadsStatement n (placed s) x (placed rest)
+    statement_read grammar.empty = (_, reading.empty)
+    statement_read (grammar.assignment value) = let (e, reads) = expression_read value in (_, reading.assignment reads)
+    statement_read grammar.call = (_, reading.call)
+    statement_read (grammar.write value) = let (e, reads) = expression_read value in (_, reading.write reads)
+    statement_read (grammar.sequence first more) =
+        let (x, reads) = statement_read first in
+        let (y, further) = statements_read x more reads in
+        (y, reading.sequence further)
+    statement_read (grammar.choice test body) =
+        let (c, tests) = condition_read test in
+        let (x, reads) = statement_read body in
+        (_, reading.choice tests reads)
+    statement_read (grammar.loop test body) =
+        let (c, tests) = condition_read test in
+        let (x, reads) = statement_read body in
+        (_, reading.loop tests reads)
 
-  -- a statement that was read, and more up to `end`
-  statements_read : {n : ℕ} {s : List Token} {t rest : List Symbol} (x : Statement)
-      → AreMoreStatements n t (Marked mark.End ∷ rest) → ReadsStatement n s x (placed t) →
-      (y : Statement) × ReadsStatements n s y (placed rest)
-  statements_read x grammar.no_statement first = (_, reading.last_statement first)
-  statements_read x (grammar.one_statement next more) first =
-      let (y, reads) = statement_read next in
-      let (z, further) = statements_read y more reads in
-      (_, reading.one_statement first further)
+    -- a statement that was read, and more up to `end`
+    statements_read : {n : ℕ} {s : List Token} {t rest : List Symbol} (x : Statement)
+        → AreMoreStatements n t (Marked mark.End ∷ rest) → ReadsStatement n s x (placed t) →
+        (y : Statement) × ReadsStatements n s y (placed rest)
+    statements_read x grammar.no_statement first = (_, reading.last_statement first)
+    statements_read x (grammar.one_statement next more) first =
+        let (y, reads) = statement_read next in
+        let (z, further) = statements_read y more reads in
+        (_, reading.one_statement first further)
 
-more_constants_read : {word : List ℕ} {v : ℤ} {s rest : List Symbol} → AreMoreConstants s (Marked mark.Semicolon ∷ rest)
-    →
-    (cs : List Constant) × ReadsConstants (placed (Named word ∷ Marked mark.Equal ∷ Numeral v ∷ s)) cs (placed rest)
-more_constants_read grammar.no_constant = (_, reading.last_constant)
-more_constants_read (grammar.one_constant more) =
-    let (cs, reads) = more_constants_read more in (_, reading.one_constant reads)
+  more_constants_read : {word : List ℕ} {v : ℤ} {s rest : List Symbol}
+      → AreMoreConstants s (Marked mark.Semicolon ∷ rest) →
+      (cs : List Constant) × ReadsConstants (placed (Named word ∷ Marked mark.Equal ∷ Numeral v ∷ s)) cs (placed rest)
+  more_constants_read grammar.no_constant = (_, reading.last_constant)
+  more_constants_read (grammar.one_constant more) =
+      let (cs, reads) = more_constants_read more in (_, reading.one_constant reads)
 
-constants_read : {s rest : List Symbol} → AreConstants s rest → (cs : List Constant)
-    × ReadsConstantPart (placed s) cs (placed rest)
-constants_read grammar.no_constants = (_, reading.no_constants)
-constants_read (grammar.constants more) = let (cs, reads) = more_constants_read more in (_, reading.constants reads)
+  constants_read : {s rest : List Symbol} → AreConstants s rest → (cs : List Constant)
+      × ReadsConstantPart (placed s) cs (placed rest)
+  constants_read grammar.no_constants = (_, reading.no_constants)
+  constants_read (grammar.constants more) = let (cs, reads) = more_constants_read more in (_, reading.constants reads)
 
-more_variables_read : {word : List ℕ} {s rest : List Symbol} → AreMoreVariables s (Marked mark.Semicolon ∷ rest) →
-    (xs : List Name) × ReadsVariables (placed (Named word ∷ s)) xs (placed rest)
-more_variables_read grammar.no_variable = (_, reading.last_variable)
-more_variables_read (grammar.one_variable more) =
-    let (xs, reads) = more_variables_read more in (_, reading.one_variable reads)
+  more_variables_read : {word : List ℕ} {s rest : List Symbol} → AreMoreVariables s (Marked mark.Semicolon ∷ rest) →
+      (xs : List Name) × ReadsVariables (placed (Named word ∷ s)) xs (placed rest)
+  more_variables_read grammar.no_variable = (_, reading.last_variable)
+  more_variables_read (grammar.one_variable more) =
+      let (xs, reads) = more_variables_read more in (_, reading.one_variable reads)
 
-variables_read : {s rest : List Symbol} → AreVariables s rest → (xs : List Name)
-    × ReadsVariablePart (placed s) xs (placed rest)
-variables_read grammar.no_variables = (_, reading.no_variables)
-variables_read (grammar.variables more) = let (xs, reads) = more_variables_read more in (_, reading.variables reads)
+  variables_read : {s rest : List Symbol} → AreVariables s rest → (xs : List Name)
+      × ReadsVariablePart (placed s) xs (placed rest)
+  variables_read grammar.no_variables = (_, reading.no_variables)
+  variables_read (grammar.variables more) = let (xs, reads) = more_variables_read more in (_, reading.variables reads)
 
-mutual
-  pub block_read : {n : ℕ} {s rest : List Symbol} {ending : Symbol} → IsBlock n s (ending ∷ rest) → (b : Block)
-      × ReadsBlock n (placed s) b (placed (ending ∷ rest))
-  block_read (grammar.block constant_part variable_part procedures body) =
-      let (cs, first) = constants_read constant_part in
-      let (xs, second) = variables_read variable_part in
-      let (ps, third) = procedures_read procedures in
-      let (x, last) = statement_read body in
-      (ABlock cs xs ps x start_place, reading.block first second third last)
+  mutual
+    pub block_read : {n : ℕ} {s rest : List Symbol} {ending : Symbol} → IsBlock n s (ending ∷ rest) → (b : Block)
+        × ReadsBlock n (placed s) b (placed (ending ∷ rest))
+    block_read {rest = behind} (grammar.block constant_part variable_part procedures body) =
+        let (cs, first) = constants_read constant_part in
+        let (xs, second) = variables_read variable_part in
+        let (ps, third) = procedures_read procedures in
+        let (x, last) = statement_read body in
+        (ABlock cs xs ps x (at (length behind)), reading.block first second third last)
 
-  procedures_read : {n : ℕ} {s rest : List Symbol} → AreProcedures n s rest → (ps : Procedures)
-      × ReadsProcedures n (placed s) ps (placed rest)
-  procedures_read grammar.no_procedure = (_, reading.no_procedure)
-  procedures_read (grammar.one_procedure inner more) =
-      let (b, reads) = block_read inner in
-      let (ps, further) = procedures_read more in
-      (_, reading.one_procedure reads further)
+    procedures_read : {n : ℕ} {s rest : List Symbol} → AreProcedures n s rest → (ps : Procedures)
+        × ReadsProcedures n (placed s) ps (placed rest)
+    procedures_read grammar.no_procedure = (_, reading.no_procedure)
+    procedures_read (grammar.one_procedure inner more) =
+        let (b, reads) = block_read inner in
+        let (ps, further) = procedures_read more in
+        (_, reading.one_procedure reads further)
