@@ -88,3 +88,5 @@ pub mod Retreats
 -- The logs of a position say its messages with each expression replaced by its value; for the clauses `replaced`,
 -- `said` and `arithmetic` of `log_laws`.
 pub mod Said
+-- What some texts of an editor read as; for the clauses of `worked_readings`.
+pub mod WorkedReadings

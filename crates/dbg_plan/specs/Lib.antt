@@ -27,6 +27,12 @@ pub mod Running
 pub mod Values
 -- where going back leads
 pub mod Retreat
+-- two texts; what breakpoints do in their runs, and what these runs are, worked by computation
+pub mod WorkedText
+pub mod WorkedPlans
+pub mod WorkedRuns
+-- what some texts of an editor read as
+pub mod WorkedReadings
 -- What only proofs and inner contracts cite.
 -- what is known when a line is resolved
 pub mod Resolving

@@ -62,7 +62,7 @@ pub use breakpoint::{BREAKPOINT_LIMIT, BoundCondition, Breakpoint, Rule};
 pub use debuggee::{Advance, Debuggee};
 pub use evaluation::EvalFault;
 pub use going_back::going_back_laws;
-pub use laws::log_laws;
+pub use laws::{log_laws, worked_plans, worked_readings, worked_runs};
 pub use located::{LocatedCondition, LocatedExpression};
 pub use logging::log_text;
 pub use logs::{Log, Logs};

@@ -1,10 +1,10 @@
 -- No text is without both a program and a first fault.
-use Rattle.pl0_syntax.proofs.Common.{arith, Block, declarations, get_or, Home, inl, inr, IsBefore, IsFirstFault, IsFirstOf, IsLawful, IsNameFault, IsTokenFault, IsText, IsTreeOf, length, limit, List, Option, order, Path, Place, ReadsProgram, refl, Some, subst, suc, sym, Token, tokens_of, Use, zero, ℕ, ◌<◌, ◌∙◌, ◌≡◌, ◌≤◌, ◌⊎◌, Allows, TooManyNames, Twice, Unknown, TooEarly, WrongKind}
+use Rattle.pl0_syntax.proofs.Common.{arith, Block, declarations, get_or, Home, inl, inr, IsBefore, IsFirstOf, IsLawful, IsNameFault, IsTokenFault, IsText, length, limit, List, Option, order, Path, Place, ReadsProgram, refl, Some, suc, tokens_of, Use, zero, ℕ, ◌<◌, ◌∙◌, ◌≡◌, ◌≤◌, ◌⊎◌, Allows, TooManyNames, Twice, Unknown, TooEarly, WrongKind}
 use Rattle.std.specs.Prelude.{None, slice_get}
 use Rattle.std.proofs.lemmas.Option.{slice_get_cases}
 use Rattle.std.proofs.lemmas.Bool.{cases_order, cases_lt}
 use Rattle.pl0_tree.specs.declared.fault.FaultKind.{FaultKind}
-use Rattle.pl0_tree.specs.Scope.{block_at, body_uses, home, declaration_limit, Declaration, DeclaresWell, IsLawfulUse, Meaning, AConstant, AVariable, AProcedure, UseKind, IsRead, IsAssigned, IsCalled}
+use Rattle.pl0_tree.specs.Scope.{block_at, body_uses, home, declaration_limit, Declaration, IsLawfulUse, Meaning, AConstant, AVariable, AProcedure, UseKind, IsRead, IsAssigned, IsCalled}
 use Rattle.pl0_tree.specs.Faults.{too_long, in_tokens, in_names}
 use Rattle.pl0_parser.specs.Laws.{IsReadOrFaulty}
 use Rattle.pl0_syntax.specs.Laws.{TextsHaveOne}

@@ -1,0 +1,34 @@
+-- States worked examples of what an editor's texts read as: a hit condition, a condition and a message, at the step of
+-- `WorkedText` at line 8, in the procedure p, where there are k and n.
+use Rattle.std.specs.Prelude.{[], ◌∷◌, Some, None, pos, codes}
+use Rattle.pl0_tree.specs.declared.tree.Relation.TheVariants.{Equal}
+use Rattle.pl0_tree.specs.Tree.{Variable, Number, Compare}
+use Rattle.dbg_plan.specs.declared.breakpoint.Rule.TheVariants.{From, Every}
+use Rattle.dbg_plan.specs.Messages.{Message, Text, Value}
+use Rattle.dbg_plan.specs.Resolutions.{ReadsConditionAt, ReadsRule, ReadsMessageAt}
+use Rattle.dbg_plan.specs.WorkedText.{called, nested}
+
+-- k from the third arrival on, or each second one; no text is no rule
+abbrev pub RulesRead : Type 0
+RulesRead =
+    ReadsRule (codes "3") (Some (From 3)) × ReadsRule (codes "%2") (Some (Every 2)) × ReadsRule [] None
+
+-- a condition with a name of the procedure, which isn't one of the main block
+abbrev pub ConditionsRead : Type 0
+ConditionsRead =
+    ReadsConditionAt nested 3 (codes "k = 1") (Some (record {
+      text = codes "k = 1";
+      condition = Compare Equal (Variable (called (codes "k") 1 1)) (Number (pos 1));
+    }))
+
+-- An expression stands up to the first brace that closes. A further one stands for itself.
+abbrev pub MessagesRead : Type 0
+MessagesRead =
+    ReadsMessageAt nested 3 (codes "k is {k}}") (Some (record {
+      text = codes "k is {k}}";
+      parts = Text (codes "k is ") ∷ Value (Variable (called (codes "k") 1 1)) ∷ Text (codes "}") ∷ [];
+    }))
+
+-- a brace that opens and doesn't close makes no message
+abbrev pub BracesClose : Type 0
+BracesClose = (m : Message) → ¬ ReadsMessageAt nested 3 (codes "a {b") (Some m)
