@@ -176,6 +176,13 @@ install:
 	install -D -m 644 docs/pl0dap_from_zero.1 $(MANUAL)/pl0dap_from_zero.1
 	install -D -m 644 docs/pl0.1 $(MANUAL)/pl0.1
 
+# An archive for those who only want to debug: what `make install` copies, and the editors' files. Proves and builds nothing.
+.PHONY: dist
+dist:
+	@$(MAKE) --silent --question build > /dev/null 2>&1 || \
+	  { echo "The programs aren't there, or are older than their sources: make build"; exit 1; }
+	@python3 tools/dist.py
+
 uninstall:
 	rm -f $(addprefix $(INSTALLED)/bin/,pl0dap pl0dap_from_zero pl0dap-listen pl0)
 	rm -f $(addprefix $(MANUAL)/,pl0dap.1 pl0dap_from_zero.1 pl0.1)
