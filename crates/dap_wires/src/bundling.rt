@@ -10,7 +10,7 @@ use dbg_runner::GhostList;
 const BUNDLE_LIMIT: usize = 16_384;
 
 /// How many frames are written together at most. A client that reads slowly waits for all frames in the outbox and in the
-/// writer's hand before it gets the answer to a request: 64 messages and one of so many are fewer than 512.
+/// writer's hand before it gets the answer to a request: (64 + 1) * 7 = 455, fewer than 512.
 const BUNDLE_FRAMES: usize = 7;
 
 impl Bundle {
