@@ -97,7 +97,8 @@ no_parts Is (Text bytes ∷ []) (same, lacks) =
     All-head (λ b. b ≢ 123) 123 (codes "b")
     (All-tail (λ b. b ≢ 123) 32 (codes "{b") (All-tail (λ b. b ≢ 123) 97 (codes " {b") lacks)) refl
 no_parts Is (Text before ∷ Text other ∷ parts) reads = reads
-no_parts Is (Text before ∷ Value e ∷ parts) (inner, rest, is, lacks, inside, reads, more) = not_opened before inner rest lacks is
+no_parts Is (Text before ∷ Value e ∷ parts) (inner, rest, is, lacks, inside, reads, more) =
+    not_opened before inner rest lacks is
 no_parts Is (Value e ∷ parts) reads = reads
 
 pub braces_close : BracesClose

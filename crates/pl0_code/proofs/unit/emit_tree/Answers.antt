@@ -11,4 +11,5 @@ emit_program-requires-clause-lawful c = ∥∥₁_map c.args.tree.now.lawful (λ
     ))
 
 pub emit_program-requires-clause-few : goal.emit_program-requires-clause-few
-emit_program-requires-clause-few c = omega (arith, paths_length (plain_block c.args.tree.now.program) [], c.args.tree.now.few)
+emit_program-requires-clause-few c =
+    omega (arith, paths_length (plain_block c.args.tree.now.program) [], c.args.tree.now.few)
