@@ -12,8 +12,9 @@ use Rattle.dbg_plan.specs.declared.mode.Mode.TheVariants as mode
 use Rattle.dbg_plan.specs.declared.mode.Reason.TheVariants as reason
 use Rattle.dbg_runner.specs.declared.outcome.SliceOutcome.TheVariants as slice
 use Rattle.dap_history.specs.Readings.{position}
-use Rattle.dap_history.specs.Moves.{is_request, sets_going, GoesBy, is_done, is_met, reason_at, NowhereBefore, StopsForward, NoneMet, StopsBack, StopsAsAsked, EachStopIsAsAsked}
-use Rattle.dap_history.proofs.Readings.{launched-snoc, last_run-snoc}
+use Rattle.pl0_meaning.specs.Laws.{RunsHaveNoGaps, NothingFollowsTheEnd}
+use Rattle.dap_history.specs.Moves.{IsAlive, is_request, sets_going, GoesBy, is_done, is_met, reason_at, NowhereBefore, StopsForward, NoneMet, StopsBack, StopsAsAsked, EachStopIsAsAsked}
+use Rattle.dap_history.proofs.Readings.{launched-snoc, last_run-snoc, position-snoc}
 use Rattle.dap_history.proofs.Texts.{OneProgram}
 use Rattle.dap_history.proofs.Along.{IsTaken, IsKept, IsLawfulEvent, lawful_events, along}
 use Rattle.dap_history.proofs.Each.{WasTaken, EachTaken, each_kept, each_first}
@@ -23,17 +24,19 @@ use Rattle.dap_history.proofs.Outputs.{report_launches}
 use Rattle.dap_history.proofs.Passing.{Ran, loaded_orders}
 use Rattle.dap_history.proofs.Stopping.{ran_more, ran_first, each_stop_right}
 use Rattle.dap_history.proofs.Asked.{item_mode}
+use Rattle.dap_history.proofs.Alive.{stop_alive}
+use Rattle.dap_history.proofs.Once.{stopped_last}
 use Rattle.dap_history.proofs.Judged.{refused_step}
 use Rattle.dap_history.proofs.Since.{longer, none_since, one_more_since}
 
 -- ---- the command by which the program goes
 
 -- the last run is in the mode that the command asks for by which the program goes
-record WentBy (past : History) (l : Launched) (run : Heading) : Type 0 where
-  asked : Command
-  from : ℕ
-  goes : GoesBy past asked from
-  mode_is : mode_by (depth_at l.program from) asked ≡ Some run.mode
+pub record WentBy (past : History) (l : Launched) (run : Heading) : Type 0 where
+  pub asked : Command
+  pub from : ℕ
+  pub goes : GoesBy past asked from
+  pub mode_is : mode_by (depth_at l.program from) asked ≡ Some run.mode
 
 abbrev IsGoing : History → Type 0
 IsGoing past = (l : Launched) (run : Heading) → launched past ≡ Some l → last_run past ≡ Some run → WentBy past l run
@@ -158,10 +161,10 @@ module _ (one : OneProgram) (joins : WrittenJoins) where
             (ap (λ (p : Launched). mode_asked past p.program step.item) (sym same_l) ∙ asks.2
             ∙ ap (λ (h : Heading). Some h.mode) same)
 
-  abbrev Kept : History → Type 0
+  abbrev pub Kept : History → Type 0
   Kept past = Ran one joins past × IsGoing past
 
-  kept_kept : IsKept IsLawfulEvent Kept
+  pub kept_kept : IsKept IsLawfulEvent Kept
   kept_kept = record {
     step = λ past item new taking taken after here.
         let taken_now = subst (IsTaken IsLawfulEvent past) (sym after.item_is) taken in
@@ -172,7 +175,7 @@ module _ (one : OneProgram) (joins : WrittenJoins) where
         );
   }
 
-  kept_first : Kept []
+  pub kept_first : Kept []
   kept_first = (ran_first one joins, λ l run there run_is. absurd cc)
 
 -- ---- a run forward
@@ -183,7 +186,7 @@ done_reason true = Some reason.Step
 done_reason false = None
 
 -- a command that lets the program run forward
-abbrev GoesForward : Command → Type 0
+abbrev pub GoesForward : Command → Type 0
 GoesForward (command.Retreat kind a) = ⊥
 GoesForward _ = Unit {0}
 
@@ -233,7 +236,7 @@ module _ (l : Launched) (run : Heading) (asked : Command) (from : ℕ) (forward 
       (mode_done asked run.mode (depth_at l.program from) depth forward mode_is).0
       ∙ told_by met (is_done asked (depth_at l.program from) depth)
 
-  nowhere : (k : ℕ) → due_in l run k ≡ None → reason_at l run asked from k ≡ None
+  pub nowhere : (k : ℕ) → due_in l run k ≡ None → reason_at l run asked from k ≡ None
   nowhere k none = sym (reason_is k) ∙ ap (option_map told_reason) none
 
   first_so : (r : Reason) (s : StopReason) (m : ℕ) → s ≡ told_reason r → (due_in l run m ≡ Some r) × (run.start < m)
@@ -326,8 +329,9 @@ module _ (last : LastDueIsLast) (l : Launched) (run : Heading) where
       forward_so l run (command.Resume kind a) from tt mode_is s m is
   as_asked _ from s m mode_is is = absurd cc
 
-pub stops_as_asked : OneProgram → WrittenJoins → LastDueIsLast → EachStopIsAsAsked
-stops_as_asked one joins last events past rest lawful history before s m stops_at run run_is = (
+pub stops_as_asked : OneProgram → WrittenJoins → RunsHaveNoGaps → NothingFollowsTheEnd → LastDueIsLast
+    → EachStopIsAsAsked
+stops_as_asked one joins no_gaps ends last events past rest lawful history before s m stops_at run run_is = (
   right.0,
   by.asked,
   by.from,
@@ -335,6 +339,7 @@ stops_as_asked one joins last events past rest lawful history before s m stops_a
   by.goes,
   as_asked last right.0 run by.asked by.from s m by.mode_is
       (subst (λ o. IsRightStop right.0 before o s m) run_is right.2),
+  alive,
 )
   where
     right : (l : Launched) × (launched before ≡ Some l) × IsRightStop l before (last_run before) s m
@@ -348,3 +353,10 @@ stops_as_asked one joins last events past rest lawful history before s m stops_a
 
     by : WentBy before right.0 run
     by = was.held.1 right.0 run right.1 run_is
+
+    alive : IsAlive right.0 m
+    alive =
+        subst (IsAlive right.0) (sym (stops_at.position_is ∙ position-snoc before stops_at.step))
+        (stop_alive one joins no_gaps ends before stops_at.step.item stops_at.step was.taken was.causes was.held.0
+        right.0 right.1 run run_is s
+        (stopped_last before stops_at.step s stops_at.front stops_at.back was.causes stops_at.events_are))

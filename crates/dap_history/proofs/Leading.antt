@@ -44,7 +44,7 @@ stop_below n None below = omega arith
 stop_below n (Some m) below = below m refl
 
 -- going back leads no further
-goal_below : (main : Block) (bs : List Breakpoint) (m : Mode) (n e : ℕ) (why : Reason)
+pub goal_below : (main : Block) (bs : List Breakpoint) (m : Mode) (n e : ℕ) (why : Reason)
     → goal_of main bs m n ≡ Some (record { position = e; reason = why }) → e ≤ n
 goal_below main bs mode.StepBack n e why is =
     let there : n - 1 ≡ e = ap (λ o. option_map_or (λ (s : Stop). s.position) o 0) is in omega (arith, there)
@@ -159,7 +159,7 @@ early_or_late Ready = inl tt
 early_or_late _ = inr (λ x. x)
 
 -- a program is launched
-abbrev IsLaunched : History → Type 0
+abbrev pub IsLaunched : History → Type 0
 IsLaunched past = (l : Launched) × (launched past ≡ Some l)
 
 launched_by : (past : History) (step : Step) (l : Launched) → step.effect.launched ≡ Some l
@@ -172,10 +172,10 @@ launched_on past step None is l there = (l, launched-snoc past step ∙ ap (λ o
 launched_on past step (Some new) is l there = launched_by past step new is
 
 module _ (one : OneProgram) (joins : WrittenJoins) (no_gaps : RunsHaveNoGaps) where
-  record Leading (past : History) : Type 0 where
-    ran : Ran one joins past
-    late : ¬ IsEarly (situation past) → IsLaunched past
-    alive : (l : Launched) → launched past ≡ Some l → IsSome (at l.program (position past))
+  pub record Leading (past : History) : Type 0 where
+    pub ran : Ran one joins past
+    pub late : ¬ IsEarly (situation past) → IsLaunched past
+    pub alive : (l : Launched) → launched past ≡ Some l → IsSome (at l.program (position past))
 
   late_more : (past : History) (step : Step) → IsTaken IsLawfulEvent past step.item → Causes past step.item step
       → Leading past → ¬ IsEarly (situation (past ++ step ∷ [])) → IsLaunched (past ++ step ∷ [])
@@ -224,7 +224,7 @@ module _ (one : OneProgram) (joins : WrittenJoins) (no_gaps : RunsHaveNoGaps) wh
         (alive_item past step.item step taken causes here l (sym (launched-snoc past step) ∙ there));
   }
 
-  leading_kept : IsKept IsLawfulEvent Leading
+  pub leading_kept : IsKept IsLawfulEvent Leading
   leading_kept = record {
     step = λ past item new taking taken after here.
         subst Leading (sym after.new_is)
@@ -232,14 +232,14 @@ module _ (one : OneProgram) (joins : WrittenJoins) (no_gaps : RunsHaveNoGaps) wh
         (subst (λ i. Causes past i after.step) (sym after.item_is) after.causes) here);
   }
 
-  leading_first : Leading []
+  pub leading_first : Leading []
   leading_first = record { ran = ran_first one joins; late = λ late. absurd (late tt); alive = λ l there. absurd cc }
 
   -- ---- each item leads on
 
   module _ (past : History) (here : Leading past) where
     -- what is asked of the launched program has an answer
-    of_program : (l : Launched) → launched past ≡ Some l → (says : Launched → Type 0) → says l
+    pub of_program : (l : Launched) → launched past ≡ Some l → (says : Launched → Type 0) → says l
         → OfProgram (launched past) says
     of_program l there says is = subst (λ o. OfProgram o says) (sym there) is
 
@@ -251,7 +251,7 @@ module _ (one : OneProgram) (joins : WrittenJoins) (no_gaps : RunsHaveNoGaps) wh
         → (reaction : Reaction) × OfProgram (launched past) (λ l. says l reaction)
     with_program says l some = let a = some l.0 l.1 in (a.0, of_program l.0 l.1 (λ k. says k a.0) a.1)
 
-    is_late : (s : Situation) → situation past ≡ s → ¬ IsEarly s → IsLaunched past
+    pub is_late : (s : Situation) → situation past ≡ s → ¬ IsEarly s → IsLaunched past
     is_late s is late = here.late (λ early. late (subst IsEarly is early))
 
     -- the table has a reaction
@@ -301,17 +301,17 @@ module _ (one : OneProgram) (joins : WrittenJoins) (no_gaps : RunsHaveNoGaps) wh
         let r = reacts (situation past) refl asked plain in
         (reply_of past r.0, record { reaction = r.0; reacts = r.1; reply_is = refl })
 
-    abbrev LeadsOn : Item → Type 0
+    abbrev pub LeadsOn : Item → Type 0
     LeadsOn item = (new : History) × IsAfter past item new
 
-    by_step : (item : Item) (answer : Option Outgoing) (effect : Effect) → Causes past item (step_of item answer effect)
-        → LeadsOn item
+    pub by_step : (item : Item) (answer : Option Outgoing) (effect : Effect)
+        → Causes past item (step_of item answer effect) → LeadsOn item
     by_step item answer effect causes = (
       past ++ step_of item answer effect ∷ [],
       record { step = step_of item answer effect; item_is = refl; causes = causes; new_is = refl },
     )
 
-    leads_on : (item : Item) → IsPlainItem item → LeadsOn item
+    pub leads_on : (item : Item) → IsPlainItem item → LeadsOn item
     leads_on (Content None) plain = by_step (Content None) None nothing (record { answer_is = refl; effect_is = refl })
     leads_on (Content (Some request)) plain =
         let reply = replies request.body plain in

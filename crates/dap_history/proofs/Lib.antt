@@ -135,3 +135,13 @@ pub mod Paths
 pub mod LineAnswers
 -- What the four questions show is what the program is where it stands; for the clause `shown` of `command_laws`.
 pub mod Showing
+-- A frame is alive where a report ends, but for the one that says that the program is done; for the clauses `as_asked`
+-- of `command_laws` and `over_told` of `run_laws`.
+pub mod Alive
+-- A program is told to have exited where it has ended, and only there; for the clauses `over` and `over_told` of
+-- `run_laws`.
+pub mod Ends
+-- No item leads nowhere; for the clause `all_lead` of `history_laws`.
+pub mod Effects
+-- The loader is asked only for the path of a launch that waits; for the clause `loads` of `command_laws`.
+pub mod Asking

@@ -344,7 +344,8 @@ module _ (one : OneProgram) (joins : WrittenJoins) where
         ),
       )
 
-  launch_stops_not : (launch : Launch) (file : Option (List ℕ)) (reply : Reply) → Launches launch.arguments file reply
+  pub launch_stops_not : (launch : Launch) (file : Option (List ℕ)) (reply : Reply)
+      → Launches launch.arguments file reply
       → last_such stop_of_event reply.effect.events ≡ None
   launch_stops_not launch None reply is = ap (λ (r : Reply). last_such stop_of_event r.effect.events) is
   launch_stops_not launch (Some text) reply (inl is) =
@@ -352,7 +353,7 @@ module _ (one : OneProgram) (joins : WrittenJoins) where
   launch_stops_not launch (Some text) reply (inr is) =
       ap (λ (r : Reply). last_such stop_of_event r.effect.events) is.reply_is
 
-  stop_of_effect : (step : Step) (effect : Effect) → step.effect ≡ effect
+  pub stop_of_effect : (step : Step) (effect : Effect) → step.effect ≡ effect
       → stop_in step ≡ last_such stop_of_event effect.events
   stop_of_effect step effect is = ap (λ (e : Effect). last_such stop_of_event e.events) is
 

@@ -45,3 +45,26 @@ Interleaves first before (e ∷ events) given loads =
     × Interleaves first (before ++ e ∷ []) events given more)
     ⊎ ((more : List Incoming) × (given ≡ e ∷ more) × AwaitsNone first before
     × Interleaves first (before ++ e ∷ []) events more loads)
+
+-- ---- the law of loads
+
+-- The loader is asked for a path: after these events a launch waits for the file at this path, and what the loader
+-- answers is the next event.
+pub record IsAsked (first : FirstSeq) (events : List Incoming) (load : Load) : Type 0 where
+  pub before : List Incoming
+  pub after : List Incoming
+  pub events_are : events ≡ before ++ File load.answer ∷ after
+  pub past : History
+  pub rest : Rest
+  pub first_is : rest.first ≡ first
+  pub history : IsHistoryOf before past rest
+  pub launch : Launch
+  pub waits : rest.launch ≡ Some launch
+  pub path_is : load.path ≡ launch.arguments.program
+
+-- The loader is asked for nothing but the path of a launch that waits for its file.
+abbrev pub EachLoadIsOfALaunch : Type 0
+EachLoadIsOfALaunch =
+    (first : FirstSeq) (events given : List Incoming) (loads : List Load) → Interleaves first [] events given loads
+    → (front : List Load) (load : Load) (back : List Load) → loads ≡ front ++ load ∷ back
+    → IsAsked first events load

@@ -28,7 +28,9 @@ use Rattle.dap_history.specs.declared.situation.Situation.TheVariants.{Ready}
 use Rattle.dap_history.specs.declared.ending.Ending.{Ending}
 use Rattle.dap_history.specs.declared.ending.Ending.TheVariants as ending
 use Rattle.dap_history.specs.declared.ending.Closed.TheVariants as closed
+use Rattle.dbg_plan.specs.declared.resolving.SourceBreakpoint.{SourceBreakpoint as AskedLine}
 use Rattle.dbg_runner.specs.Plain.{PlainOrder, Quit}
+use Rattle.dap_history.specs.Breakpoints.{AreAskedAs, line_offset}
 use Rattle.dap_history.specs.Emission.{IsAfter}
 use Rattle.dap_history.specs.Events.{Incoming, Piece, End, ReadFailed, Rest, AreLawful, IsTaking, IsHistoryOf}
 use Rattle.dap_history.specs.Output.{frames_from}
@@ -59,11 +61,28 @@ IsPlainItem (Content (Some request)) = IsPlain request.body
 IsPlainItem (Loaded launch (Some text)) = ⊥
 IsPlainItem _ = Unit {0}
 
--- An item that needs no reading of a text leads from each history to another.
+-- An item that needs no reading of a text leads from each history to another. `NoItemLeadsNowhere` speaks of all items.
 abbrev pub EachItemLeads : Type 0
 EachItemLeads =
     (events : List Incoming) (past : History) (rest : Rest) → AreLawful events → IsHistoryOf events past rest
     → (item : Item) → IsPlainItem item → (new : History) × IsAfter past item new
+
+-- the texts of a command's lines are strings: UTF-8 that memory can hold
+abbrev pub AreStrings : ℕ → Command → Type 0
+AreStrings less (command.SetBreakpoints asked) = (lines : List AskedLine) × AreAskedAs less asked.breakpoints lines
+AreStrings less _ = Unit {0}
+
+-- the same of an item
+abbrev pub HasStrings : ℕ → Item → Type 0
+HasStrings less (Content (Some request)) = AreStrings less request.body
+HasStrings less _ = Unit {0}
+
+-- No item leads nowhere: each has an answer and an effect, a launch with its text, lines of breakpoints and an
+-- expression too, whatever their texts are.
+abbrev pub NoItemLeadsNowhere : Type 0
+NoItemLeadsNowhere =
+    (events : List Incoming) (past : History) (rest : Rest) → AreLawful events → IsHistoryOf events past rest
+    → (item : Item) → HasStrings (line_offset past) item → ¬ ((new : History) → ¬ IsAfter past item new)
 
 -- ---- Contents of the stream
 

@@ -55,6 +55,8 @@ pub mod Verdicts
 pub mod Loading
 -- the laws of what moves the program: the start, pauses, and what each command asks for
 pub mod Moves
+-- the laws of ends
+pub mod Ends
 -- which events are taken, as which items, and which item ends a session
 pub mod Taken
 -- how a session was initialized, and so how its client counts
@@ -63,6 +65,8 @@ pub mod Initialized
 pub mod LineAnswers
 -- what the questions show of the program where it stands
 pub mod Shown
+-- worked examples of words of other crates
+pub mod WorkedWords
 -- Worked examples, which no contract cites: what a client is shown of a text with nested procedures, and what each item
 -- of some sessions causes.
 pub mod ShownQ

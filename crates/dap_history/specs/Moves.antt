@@ -12,7 +12,8 @@ use Rattle.dap_msg.specs.declared.requests.resume.RetreatKind.TheVariants as ret
 use Rattle.dap_msg.specs.declared.outgoing.StopReason.{StopReason}
 use Rattle.dap_msg.specs.declared.outgoing.StopReason.TheVariants as stop
 use Rattle.pl0_meaning.specs.declared.RunFault.{RunFault}
-use Rattle.pl0_meaning.specs.Runs.{outcome, Faults}
+use Rattle.pl0_meaning.specs.Values.{Frame, Configuration}
+use Rattle.pl0_meaning.specs.Runs.{at, outcome, Faults}
 use Rattle.dbg_plan.specs.Breakpoints.{Breakpoint}
 use Rattle.dbg_plan.specs.Due.{stops, depth_at}
 use Rattle.dbg_runner.specs.Plain.{Heading, PlainReport}
@@ -147,11 +148,16 @@ abbrev pub StopsAsAsked : Launched → Heading → Command → ℕ → StopReaso
 StopsAsAsked l run (command.Retreat kind asked) from reason m = StopsBack l run kind reason m
 StopsAsAsked l run asked from reason m = StopsForward l run asked from reason m
 
--- Each stop of a run is as the command asks by which the program goes, and no stop that it asks for is passed.
+-- a frame is alive at position m
+abbrev pub IsAlive : Launched → ℕ → Type 0
+IsAlive l m = (f : Frame) × (below : Configuration) × (at l.program m ≡ Some (f ∷ below))
+
+-- Each stop of a run is as the command asks by which the program goes, and no stop that it asks for is passed. A frame
+-- is alive there: where the program has ended, it doesn't stop.
 abbrev pub EachStopIsAsAsked : Type 0
 EachStopIsAsAsked =
     (events : List Incoming) (past : History) (rest : Rest) → AreLawful events → IsHistoryOf events past rest
     → (before : History) (reason : StopReason) (m : ℕ) → StopsAt past before reason m
     → (run : Heading) → last_run before ≡ Some run
     → (l : Launched) × (asked : Command) × (from : ℕ) × (launched before ≡ Some l) × GoesBy before asked from
-    × StopsAsAsked l run asked from reason m
+    × StopsAsAsked l run asked from reason m × IsAlive l m

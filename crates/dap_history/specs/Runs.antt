@@ -88,7 +88,7 @@ GrantedRunsAreOrdered =
     → Grants step request → IsSome (mode_by 0 request.body) → IsSome (run_in step)
     ⊎ IsExcused (situation before) request.body step.effect.events
 
--- After a run was held, another run is ordered if no pause waits.
+-- After a run was held, another run is ordered if no pause waits. `PausesStop` says so too, by the requests themselves.
 abbrev pub HeldRunsGoOn : Type 0
 HeldRunsGoOn =
     (events : List Incoming) (past : History) (rest : Rest) → IsHistoryOf events past rest

@@ -1,12 +1,10 @@
 -- What a client is shown of a text with nested procedures, at a stop in its innermost one, computed from the
 -- definitions.
 use Rattle.std.specs.Prelude.{◌≡◌, ℕ, List, [], ◌∷◌, Option, Some, None, pos, refl, map, codes, option_map}
-use Rattle.pl0_tree.specs.declared.tree.Place.{Place}
-use Rattle.pl0_tree.specs.declared.tree.Operator.TheVariants.{Add, Subtract}
-use Rattle.pl0_tree.specs.declared.tree.Relation.TheVariants.{Greater}
-use Rattle.pl0_tree.specs.Tree.{Name, Variable, Number, Binary, Compare, Empty, Then, Assign, Call, Write, If, Block, ABlock, NoMore, AProcedure}
+use Rattle.pl0_tree.specs.Tree.{Block}
 use Rattle.pl0_meaning.specs.Values.{Configuration}
 use Rattle.pl0_meaning.specs.Runs.{at}
+use Rattle.dbg_plan.specs.WorkedText.{nested}
 use Rattle.dap_msg.specs.declared.outgoing.StackFrame.{StackFrame}
 use Rattle.dap_msg.specs.declared.outgoing.Scope.{Scope}
 use Rattle.dap_msg.specs.declared.outgoing.Variable.{Variable as ShownVariable}
@@ -25,41 +23,9 @@ scope name reference = record { name = name; reference = reference }
 abbrev variable : List ℕ → ℕ → ShownVariable
 variable name v = record { name = name; value = pos v }
 
-abbrev place : ℕ → ℕ → Place
-place l c = record { line = l; column = c }
-
-abbrev called : List ℕ → ℕ → ℕ → Name
-called word l c = record { word = word; place = place l c }
-
-abbrev k : ℕ → ℕ → Name
-k l c = called (codes "k") l c
-
-abbrev n : ℕ → ℕ → Name
-n l c = called (codes "n") l c
-
-abbrev p : ℕ → ℕ → Name
-p l c = called (codes "p") l c
-
-abbrev q : ℕ → ℕ → Name
-q l c = called (codes "q") l c
-
-abbrev inner : Block
-inner = ABlock [] [] NoMore (Assign (k 5 1) (Binary Add (Variable (k 5 6)) (Variable (n 5 10)))) (place 5 11)
-
-abbrev outer : Block
-outer = ABlock [] (k 3 5 ∷ []) (AProcedure (q 4 11) inner NoMore)
-    (Then (Assign (k 7 1) (Variable (n 7 6)))
-    (Then (Assign (n 8 1) (Binary Subtract (Variable (n 8 6)) (Number (pos 1))))
-    (Then (If (place 9 1) (Compare Greater (Variable (n 9 4)) (Number (pos 0))) (Call (place 9 15) (p 9 20)))
-    (Then (Call (place 10 1) (q 10 6))
-    (Then (Write (place 11 1) (Variable (k 11 3))) Empty)))))
-    (place 12 4)
-
--- var n; procedure p; var k; procedure q; k := k + n; begin k := n; n := n - 1; if n > 0 then call p; call q; ! k end;
--- begin n := 2; call p end.
+-- the text with nested procedures of the examples of breakpoints
 abbrev pub main : Block
-main = ABlock [] (n 1 5 ∷ []) (AProcedure (p 2 11) outer NoMore)
-    (Then (Assign (n 13 7) (Number (pos 2))) (Then (Call (place 13 15) (p 13 20)) Empty)) (place 13 25)
+main = nested
 
 abbrev from_one : Counting
 from_one = record { lines = 0; columns = 0 }

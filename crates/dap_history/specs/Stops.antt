@@ -106,6 +106,8 @@ IsRightStop l before None reason m =
     × (due l.program (plan before).breakpoints (plan before).counted_from
     (if l.stop_on_entry then mode.Entry else mode.Continue) 0 ≡ Some r))
 
+-- Each stop is at the first due position of its run, or where that leads. `Moves` says this again in the words of the
+-- commands, without modes and due positions; a reader may skip this one.
 abbrev pub EachStopIsRight : Type 0
 EachStopIsRight =
     (events : List Incoming) (past : History) (rest : Rest) → AreLawful events → IsHistoryOf events past rest
@@ -224,7 +226,8 @@ pub record AnswersFrom (l : Launched) (before : History) (m : ℕ) (request : Re
   pub answer_is : step.answer ≡ Some (Answer request.seq (name_of request.body) reply.result)
 
 -- Where the program stands, frames, scopes, variables and values are those of the launched program at its last stop.
--- Elsewhere no question is answered with a body.
+-- Elsewhere no question is answered with a body. `Shown` says what they show without `Inspection`; a reader may skip
+-- this one.
 abbrev pub QuestionsAreAnsweredThere : Type 0
 QuestionsAreAnsweredThere =
     (events : List Incoming) (past : History) (rest : Rest) → IsHistoryOf events past rest

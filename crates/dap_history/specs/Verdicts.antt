@@ -99,7 +99,8 @@ AnswersQuestion (question.Evaluate asked) result =
     ⊎ (result ≡ Err refusal.BadExpression) ⊎ (result ≡ Err refusal.Overflow) ⊎ (result ≡ Err refusal.DivideByZero)
 
 -- What is answered where neither the situation nor the thread refuses: `initialize`, `threads`, `continue`,
--- `setBreakpoints` and the questions have each their body, and no other command has one.
+-- `setBreakpoints` and the questions have each their body, and no other command has one. A `launch` isn't answered
+-- then: it waits for its file.
 abbrev pub IsGranted : Command → Result Body Refusal → Type 0
 IsGranted (command.Initialize asked) result = result ≡ Ok body.Capabilities
 IsGranted command.Threads result = result ≡ Ok body.Threads
@@ -107,6 +108,7 @@ IsGranted (command.Resume resume.Continue asked) result = result ≡ Ok body.Con
 IsGranted (command.SetBreakpoints asked) result =
     (answers : List BreakpointAnswer) × (result ≡ Ok (body.Breakpoints answers))
 IsGranted (command.Inspect asked) result = AnswersQuestion asked result
+IsGranted (command.Launch asked) result = ⊥
 IsGranted _ result = result ≡ Ok body.None
 
 -- the verdict, by what refuses the command, if anything does
@@ -117,8 +119,8 @@ IsVerdict None asked result = IsGranted asked result
 -- ---- the laws
 
 -- Each request is answered under its own seq and command: refused where the table or its thread refuses it, with that
--- refusal; and otherwise granted. A launch that is granted waits for its file: `EachLaunchIsOfItsFile` says how it
--- ends.
+-- refusal; and otherwise granted. A launch that isn't refused waits for its file and is no such item:
+-- `EachLaunchIsOfItsFile` says how it ends.
 abbrev pub EachIsJudged : Type 0
 EachIsJudged =
     (events : List Incoming) (past : History) (rest : Rest) → IsHistoryOf events past rest

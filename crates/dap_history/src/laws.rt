@@ -1,6 +1,6 @@
 //! The laws of the history of a session.
 
-ghost use Rattle.dap_history.specs.Laws.{HistoryIsOne, ItemsLeadToOne, EachItemLeads, ContentsAreOfTheStream, CutsChangeNothing, EachIsAnsweredOnce, SeqCountFromOne, FramesAreReadBack, DisconnectIsLast, ClosedByItsEvent, QuitIsLast, QuitCloses, RestIsOpen, NumbersAreWritten, StopsFollowNumbers, LogsAreOfPositions, LogsFollowNumbers, StopsFollowLogs};
+ghost use Rattle.dap_history.specs.Laws.{HistoryIsOne, ItemsLeadToOne, EachItemLeads, NoItemLeadsNowhere, ContentsAreOfTheStream, CutsChangeNothing, EachIsAnsweredOnce, SeqCountFromOne, FramesAreReadBack, DisconnectIsLast, ClosedByItsEvent, QuitIsLast, QuitCloses, RestIsOpen, NumbersAreWritten, StopsFollowNumbers, LogsAreOfPositions, LogsFollowNumbers, StopsFollowLogs};
 ghost use Rattle.dap_history.specs.ReadingLaws.{ReadingsGoOn};
 ghost use Rattle.dap_history.specs.GoingBack.{EachGoesBackAsAsked, CountsBeginAnew, RetreatsAreNotHeld};
 ghost use Rattle.dap_history.specs.Lines.{PlanIsOfLines, EachRunHasItsLines, EachRunCountsFrom};
@@ -9,6 +9,9 @@ ghost use Rattle.dap_history.specs.Transitions.{EachStepLeads, SituationIsAfterS
 ghost use Rattle.dap_history.specs.Verdicts.{EachIsJudged, RefusalsChangeNothing, OthersTellNothing, AnswersComeFirst};
 ghost use Rattle.dap_history.specs.Loading.{EachLaunchIsOfItsFile};
 ghost use Rattle.dap_history.specs.Moves.{PositionZeroIsConsidered, PausesStop, EachStopIsAsAsked};
+ghost use Rattle.dap_history.specs.Ends.{EachEndIsTheEnd, EachEndIsTold};
+ghost use Rattle.dap_history.specs.Interleaving.{EachLoadIsOfALaunch};
+ghost use Rattle.dap_history.specs.WorkedWords.{FramesBeginSo, SeqsAre};
 ghost use Rattle.dap_history.specs.Taken.{EventsAreTaken, EachItemEndsOrNot};
 ghost use Rattle.dap_history.specs.LineAnswers.{LinesAreAnswered};
 ghost use Rattle.dap_history.specs.Shown.{AnswersShowTheProgram};
@@ -25,6 +28,7 @@ pub fn history_laws()
     ensures one { HistoryIsOne }
     ensures one_effect { ItemsLeadToOne }
     ensures leads { EachItemLeads }
+    ensures all_lead { NoItemLeadsNowhere }
     ensures contents { ContentsAreOfTheStream }
     ensures unread { RestIsOpen }
     ensures moves { EachStepLeads }
@@ -72,9 +76,12 @@ pub fn run_laws()
     ensures waits { WaitsAreHeld }
     ensures told { EachReportIsTold }
     ensures replies { EachReplyIsTold }
+    ensures over { EachEndIsTheEnd }
+    ensures over_told { EachEndIsTold }
 {
     text_laws();
     meaning_laws();
+    configuration_laws();
 }
 
 /// What each command is answered with and brings about, whatever events come. It does nothing: its contract is the laws.
@@ -84,6 +91,7 @@ pub fn command_laws()
     ensures others { OthersTellNothing }
     ensures answers_first { AnswersComeFirst }
     ensures launched { EachLaunchIsOfItsFile }
+    ensures loads { EachLoadIsOfALaunch }
     ensures first { PositionZeroIsConsidered }
     ensures paused { PausesStop }
     ensures as_asked { EachStopIsAsAsked }
@@ -102,4 +110,11 @@ pub fn command_laws()
 /// How each reading of a history changes with one more step. It does nothing: its contract is the law.
 pub fn reading_laws()
     ensures { ReadingsGoOn }
+{}
+
+/// How a frame begins, and which numbers a client's messages may have, computed from the definitions. It does nothing: its
+/// contract is the examples.
+pub fn worked_words()
+    ensures frames { FramesBeginSo }
+    ensures seqs { SeqsAre }
 {}

@@ -18,5 +18,5 @@ mod situation;
 pub use ending::{Closed, Ending};
 pub use fault::{LoadFault, SessionFault};
 pub use launch::Launch;
-pub use laws::{command_laws, history_laws, reading_laws, run_laws};
+pub use laws::{command_laws, history_laws, reading_laws, run_laws, worked_words};
 pub use situation::Situation;

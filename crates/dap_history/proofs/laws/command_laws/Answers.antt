@@ -1,4 +1,5 @@
 use Rattle.dap_history.proofs.AsAsked.{stops_as_asked}
+use Rattle.dap_history.proofs.Asking.{each_asked}
 use Rattle.dap_history.proofs.FirstStop.{zero_considered}
 use Rattle.dap_history.proofs.Judged.{each_judged, refusals_quiet, others_quiet, answers_first}
 use Rattle.dap_history.proofs.LineAnswers.{lines_answered}
@@ -30,7 +31,7 @@ returns-clause-paused c = pauses_stop
 pub returns-clause-as_asked : goal.returns-clause-as_asked
 returns-clause-as_asked c =
     stops_as_asked (one_program c.text_laws.ensures.program) c.meaning_laws.ensures.joins
-    c.going_back_laws.ensures.last_due
+    c.meaning_laws.ensures.no_gaps c.configuration_laws.ensures.last c.going_back_laws.ensures.last_due
 
 pub returns-clause-taken : goal.returns-clause-taken
 returns-clause-taken c = events_taken c.history_laws.ensures.one
@@ -46,3 +47,6 @@ returns-clause-ends c = items_end
 
 pub returns-clause-answers_first : goal.returns-clause-answers_first
 returns-clause-answers_first c = answers_first
+
+pub returns-clause-loads : goal.returns-clause-loads
+returns-clause-loads c = each_asked

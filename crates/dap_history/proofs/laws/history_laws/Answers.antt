@@ -8,6 +8,7 @@ use Rattle.dap_history.proofs.Answered.{each_answered}
 use Rattle.dap_history.proofs.Last.{disconnect_last}
 use Rattle.dap_history.proofs.Closings.{closed_by_end, closed_by_failure, quit_is_last, quit_closes}
 use Rattle.dap_history.proofs.Leading.{each_item_leads}
+use Rattle.dap_history.proofs.Effects.{none_nowhere}
 use Rattle.dap_history.proofs.Unread.{rest_is_open}
 use Rattle.dap_history.proofs.Numbered.{numbers_count, frames_read_back}
 use Rattle.dap_history.proofs.StopOrder.{stops_follow, logs_follow}
@@ -119,3 +120,8 @@ returns-clause-moves c = each_step_leads
 
 pub returns-clause-situation : goal.returns-clause-situation
 returns-clause-situation c = situation_after
+
+pub returns-clause-all_lead : goal.returns-clause-all_lead
+returns-clause-all_lead c =
+    none_nowhere (one_program c.text_laws.ensures.program) c.meaning_laws.ensures.joins c.meaning_laws.ensures.no_gaps
+    c.text_laws.ensures.one_of_both c.log_laws.ensures.arithmetic

@@ -1,5 +1,6 @@
 use Rattle.dap_history.proofs.Asked.{runs_count, each_as_asked}
 use Rattle.dap_history.proofs.Texts.{one_program}
+use Rattle.dap_history.proofs.Ends.{each_end, each_told}
 use Rattle.dap_history.proofs.Granted.{each_reply_told, granted_ordered, held_go_on}
 use Rattle.dap_history.proofs.Lines.{plan_of_lines, has_its_lines, counts_as_set}
 use Rattle.dap_history.proofs.Holding.{hold_once_law, waits_are_held}
@@ -38,3 +39,11 @@ returns-clause-counts c = counts_as_set (one_program c.text_laws.ensures.program
 
 pub returns-clause-plan : goal.returns-clause-plan
 returns-clause-plan c = plan_of_lines (one_program c.text_laws.ensures.program) c.meaning_laws.ensures.joins
+
+pub returns-clause-over : goal.returns-clause-over
+returns-clause-over c = each_end (one_program c.text_laws.ensures.program) c.meaning_laws.ensures.joins
+
+pub returns-clause-over_told : goal.returns-clause-over_told
+returns-clause-over_told c =
+    each_told (one_program c.text_laws.ensures.program) c.meaning_laws.ensures.joins c.meaning_laws.ensures.no_gaps
+    c.configuration_laws.ensures.last
