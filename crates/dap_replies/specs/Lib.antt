@@ -1,7 +1,7 @@
 -- Public contracts cite the first two modules.
 -- the contract of the functions that handle an item
 pub mod Replied
--- the law of phases
+-- the laws of phases and of quiet reports
 pub mod Laws
 -- Only private contracts cite the others.
 -- what a reaction is in a phase, and what it is to carry it out

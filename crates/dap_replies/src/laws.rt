@@ -1,6 +1,6 @@
-//! The law of phases.
+//! The laws of phases and of reports.
 
-ghost use Rattle.dap_replies.specs.Laws.{SkippingKeepsThePhase};
+ghost use Rattle.dap_replies.specs.Laws.{SkippingKeepsThePhase, SilentReportsAreQuiet};
 
 use dap_history::reading_laws;
 
@@ -10,3 +10,9 @@ pub fn phase_laws()
 {
     reading_laws();
 }
+
+/// A report after which the run goes on, and that tells neither a number nor a log, is quiet. It does nothing: its contract
+/// is the law.
+pub fn quiet_laws()
+    ensures { SilentReportsAreQuiet }
+{}

@@ -23,6 +23,6 @@ mod standing;
 
 pub use effect::{Effect, Reply};
 pub use launching::launch;
-pub use laws::phase_laws;
+pub use laws::{phase_laws, quiet_laws};
 pub use replying::reply;
 pub use reporting::report;
