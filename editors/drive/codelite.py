@@ -1,18 +1,18 @@
 #!/usr/bin/env python3
-"""CodeLite debugs examples/factorial.pl0 on a display of its own: keys and the mouse are pressed for it, and what it shows isn't
-looked at.
+"""CodeLite debugs a program on a display of its own: keys and the mouse are pressed for it, and what it shows isn't looked at.
 
-usage: codelite.py COMMAND..
+usage: codelite.py SESSION COMMAND..
 
-COMMAND starts the adapter, or the proxy before it. Ends with status 0 once all is pressed; the session is in the proxy's transcript.
-Needs codelite (17), Xvfb and xdotool. CodeLite's settings are in a folder that is removed afterwards. It has no window manager, and
-so the window's place, and that of all in it, is always the same.
+SESSION is factorial or endless. COMMAND starts the adapter, or the proxy before it. Ends with status 0 once all is pressed; the
+session is in the proxy's transcript. Needs codelite (17), Xvfb and xdotool. CodeLite's settings are in a folder that is removed
+afterwards. It has no window manager, and so the window's place, and that of all in it, is always the same.
 """
 from __future__ import annotations
 
 import json
 import os
 import shlex
+import socket
 import subprocess
 import sys
 import time
@@ -22,7 +22,6 @@ from screen import Screen
 TOP = os.path.realpath(os.path.join(os.path.dirname(__file__), "..", ".."))
 LISTEN = os.path.join(TOP, "editors", "codelite", "listen.py")
 SETTINGS = os.path.join(TOP, "editors", "codelite", "debug-adapter-client.conf")
-PROGRAM = os.path.join(TOP, "examples", "factorial.pl0")
 START, REST = 60, 2.0  # seconds that CodeLite gets at most to start, and after each press
 LONG = float(os.environ.get("DRIVE_SECONDS", "8"))  # seconds that the adapter gets to start
 # What CodeLite has debugged before: it takes the program only from the list of these, and no path that was typed just now.
@@ -43,7 +42,7 @@ DEBUGGED = """<?xml version="1.0" encoding="utf-8"?>
 </CodeLite>
 """
 LINE_9, MENU = (600, 339), (483, 92)
-START_OR_CONTINUE, NEXT, TOGGLE, QUICK_DEBUG = 117, 318, 471, 572  # how far down the menu Debugger
+START_OR_CONTINUE, PAUSE, STOP, NEXT, TOGGLE, QUICK_DEBUG = 117, 217, 243, 318, 471, 572  # how far down the menu Debugger
 OK = (644, 583)  # of the window Quick Debug, in which adapter and program are those of the settings
 MAIN, FACTORIAL = (634, 461), (634, 440)  # open the scopes of the newest frame, the lower one first
 
@@ -59,15 +58,25 @@ def choose(screen: Screen, down: int) -> None:
     click(screen, (MENU[0] + 20, down))
 
 
-def settings(home: str, command: list[str]) -> None:
-    """CodeLite's settings: the adapter as editors/codelite has it, but by this command; no wizard and no questions."""
+def free_port() -> str:
+    with socket.create_server(("127.0.0.1", 0)) as server:
+        return str(server.getsockname()[1])
+
+
+def settings(home: str, program: str, command: list[str]) -> None:
+    """CodeLite's settings: the adapter as editors/codelite has it, but by this command and port; no wizard and no questions."""
     with open(SETTINGS, encoding="utf-8") as file:
         (adapter,) = json.load(file)
-    adapter["command"] = shlex.join([sys.executable, LISTEN, adapter["connection_string"].rpartition(":")[2], *command])
+    address, _, written = adapter["connection_string"].rpartition(":")
+    if written not in adapter["command"].split():
+        sys.exit(f"{SETTINGS} has two ports")
+    port = free_port()
+    adapter["connection_string"] = f"{address}:{port}"
+    adapter["command"] = shlex.join([sys.executable, LISTEN, port, *command])
     folder = os.path.join(home, ".codelite", "config")
     os.makedirs(folder)
     with open(os.path.join(folder, "codelite.xml"), "w", encoding="utf-8") as file:
-        file.write(DEBUGGED % (PROGRAM, TOP))
+        file.write(DEBUGGED % (program, TOP))
     for name, text in {
         "debug-adapter-client.conf": [adapter],
         "plugins.conf": {"codelite-plugins": {"enabledPlugins": ["DebugAdapterClient"]}},
@@ -77,22 +86,27 @@ def settings(home: str, command: list[str]) -> None:
             json.dump(text, file)
 
 
-def wait_for_window(screen: Screen) -> None:
+def wait_for_window(screen: Screen, program: str) -> None:
     until = time.monotonic() + START
-    while not screen.do("search", "--onlyvisible", "--name", "factorial.pl0"):
+    while not screen.do("search", "--onlyvisible", "--name", os.path.basename(program)):
         if time.monotonic() > until:
             sys.exit("CodeLite has no window")
         time.sleep(1)
     time.sleep(LONG)
 
 
-def debug(screen: Screen) -> None:
-    """A breakpoint, a stop, the variables of two scopes, the breakpoint taken away, a step, and the program's end."""
-    click(screen, LINE_9)
-    screen.do("key", "F9")
+def start(screen: Screen) -> None:
+    """Debugs the program that was debugged before."""
     choose(screen, QUICK_DEBUG)
     click(screen, OK)
     time.sleep(LONG)
+
+
+def factorial(screen: Screen) -> None:
+    """A breakpoint, a stop, the variables of two scopes, the breakpoint taken away, a step, and the program's end."""
+    click(screen, LINE_9)
+    screen.do("key", "F9")
+    start(screen)
     click(screen, MAIN)
     click(screen, FACTORIAL)
     choose(screen, TOGGLE)
@@ -101,13 +115,28 @@ def debug(screen: Screen) -> None:
     time.sleep(REST)
 
 
+def endless(screen: Screen) -> None:
+    """A pause before a first stop, another one, and a stop at the user's wish."""
+    start(screen)
+    for name in (PAUSE, START_OR_CONTINUE, PAUSE, START_OR_CONTINUE, STOP):
+        choose(screen, name)
+        time.sleep(REST)
+
+
+SESSIONS = {
+    "factorial": (os.path.join(TOP, "examples", "factorial.pl0"), factorial),
+    "endless": (os.path.join(TOP, "demo", "endless.pl0"), endless),
+}
+
+
 def main() -> int:
+    program, debug = SESSIONS[sys.argv[1]]
     with Screen(1200, 800) as screen:
-        settings(screen.folder.name, sys.argv[1:])
+        settings(screen.folder.name, program, sys.argv[2:])
         said = subprocess.DEVNULL
-        codelite = subprocess.Popen(["codelite", PROGRAM], env=screen.settings, stdout=said, stderr=said)
+        codelite = subprocess.Popen(["codelite", program], env=screen.settings, stdout=said, stderr=said)
         try:
-            wait_for_window(screen)
+            wait_for_window(screen, program)
             debug(screen)
         finally:
             codelite.terminate()

@@ -1,13 +1,14 @@
 #!/usr/bin/env python3
 """Plays the editors' sessions to the adapter, then lets the editors that are installed debug a program with it.
 
-usage: drive.py PL0DAP PL0DAP_FROM_ZERO
+usage: drive.py PL0DAP PL0DAP_FROM_ZERO [PL0]
 
-First, sessions that were recorded, or written by what is known of an editor, are played by replay.py: those of editors that number
-their requests from 0 to the second program. Then Emacs, Kate and CodeLite debug examples/factorial.pl0, and the first two
-demo/endless.pl0. docs/editors/ gets a transcript of each session, docs/pictures/ a picture of Emacs and one of Kate at a stop.
-Nothing is installed. Status 0: all that was wanted was done. Status 1: the adapter sent something else than a session says, or an
-editor failed. Status 2: only an editor, or what a picture needs, is missing.
+First, sessions that were recorded, or written by what is known of an editor, are played by replay.py: those of editors that
+number their requests from 0 to the second program; and listening.py looks at what CodeLite has beside the adapter. Then Emacs,
+Kate and CodeLite debug programs, and Neovim shows a mistake. out/ gets a transcript of each session, a picture of Emacs and one
+of Kate at a stop; with RECORD=1 docs/ does, but for sessions with a mistake. PL0 says what is wrong with a text: where it isn't
+given, the one that `make build` has made. Nothing is installed. Status 0: all that was wanted was done. Status 1: the adapter
+sent something else than a session says, or an editor failed. Status 2: only an editor, or what a picture needs, is missing.
 """
 from __future__ import annotations
 
@@ -15,25 +16,36 @@ import os
 import shutil
 import subprocess
 import sys
+import tempfile
 
 from screen import NEEDED
 
 DRIVE = os.path.dirname(os.path.realpath(__file__))
 TOP = os.path.realpath(os.path.join(DRIVE, "..", ".."))
 RECORDINGS = os.path.join(TOP, "docs", "editors")
-MADE_IN = os.path.join(TOP, "docs" if os.environ.get("RECORD") == "1" else "out")
-TRANSCRIPTS = os.path.join(MADE_IN, "editors")
+PL0 = os.path.join(TOP, "crates", "pl0", "out", "pl0")
+PROGRAMS = (("examples", "factorial.pl0"), ("crates", "mistake_runs", "data", "mistake.pl0"))
+OUT = os.path.join(TOP, "out")
+MADE_IN = os.path.join(TOP, "docs") if os.environ.get("RECORD") == "1" else OUT
 PICTURES = os.path.join(MADE_IN, "pictures")
 WRITTEN = ("vscode.txt", "vscode_back.txt", "vscode_log.txt", "neovim.txt", "neovim_back.txt", "from_zero.txt")
-FROM_ZERO = ("kate.txt", "kate_endless.txt", "neovim.txt", "neovim_back.txt")  # sessions of editors that number their requests from 0
-RECORDED = ("emacs.txt", "emacs_back.txt", "emacs_fault.txt", "emacs_endless.txt", "kate.txt", "kate_endless.txt", "codelite.txt")
-AT_THE_END, BY_DISCONNECT = '"event":"terminated"', '"command":"disconnect","request_seq"'
-ENDINGS = {"factorial": AT_THE_END, "back": AT_THE_END, "fault": BY_DISCONNECT, "endless": BY_DISCONNECT}  # what each session comes to
+# Those of editors that number their requests from 0.
+FROM_ZERO = ("kate.txt", "kate_condition.txt", "kate_endless.txt", "neovim.txt", "neovim_back.txt")
+RECORDED = (
+    "emacs.txt", "emacs_back.txt", "emacs_fault.txt", "emacs_endless.txt", "emacs_refused.txt", "kate.txt", "kate_condition.txt",
+    "kate_endless.txt", "codelite.txt", "codelite_endless.txt",
+)
+# What a session comes to: the program's end, where nothing else is said.
+AT_THE_END, BY_DISCONNECT, BY_PAUSE = '"event":"terminated"', '"command":"disconnect","request_seq"', '"reason":"pause"'
+ENDINGS = {
+    "emacs_fault.txt": BY_DISCONNECT, "emacs_endless.txt": BY_DISCONNECT, "kate_endless.txt": BY_DISCONNECT,
+    "codelite_endless.txt": BY_PAUSE,
+}
 HAS_DAP_MODE = "(progn (require 'package) (package-initialize) (require 'dap-ui))"
 
 
 def replay(program: str, from_zero: str) -> bool:
-    """Whether the adapter sends what the sessions say."""
+    """Whether the adapter sends what the sessions say, and listen.py changes of it what it says."""
     written = [os.path.join(DRIVE, name) for name in WRITTEN]
     recorded = [os.path.join(RECORDINGS, name) for name in RECORDED]
     sessions = [session for session in written + recorded if os.path.exists(session)]
@@ -43,14 +55,20 @@ def replay(program: str, from_zero: str) -> bool:
     statuses = [
         subprocess.run([*play, *plain, "--", program]).returncode,
         subprocess.run([*play, *shifted, "--", from_zero]).returncode,
+        subprocess.run([sys.executable, os.path.join(DRIVE, "listening.py"), program]).returncode,
     ]
     return not any(statuses)
 
 
+def place_of(name: str) -> str:
+    """Where a transcript is written: not where it is kept, if it has paths of this computer."""
+    return os.path.join(OUT if name.endswith("_mistake.txt") else MADE_IN, "editors", name)
+
+
 def proxy(name: str, program: str) -> list[str]:
     """The command that an editor starts in place of the adapter. A former transcript of this name is removed."""
-    os.makedirs(TRANSCRIPTS, exist_ok=True)
-    place = os.path.join(TRANSCRIPTS, name)
+    place = place_of(name)
+    os.makedirs(os.path.dirname(place), exist_ok=True)
     if os.path.exists(place):
         os.remove(place)
     return [sys.executable, os.path.join(DRIVE, "proxy.py"), "--folder", TOP, place, program]
@@ -72,13 +90,13 @@ def picture(name: str) -> str:
     return os.path.join(PICTURES, name)
 
 
-def has_ended(name: str, session: str) -> bool:
+def has_ended(name: str) -> bool:
     """Whether there is a transcript, and it goes to the end of its session."""
-    place = os.path.join(TRANSCRIPTS, name)
+    place = place_of(name)
     if not os.path.exists(place):
         return False
     with open(place, encoding="utf-8") as file:
-        return ENDINGS[session] in file.read()
+        return ENDINGS.get(name, AT_THE_END) in file.read()
 
 
 def transcript(editor: str, session: str) -> str:
@@ -88,19 +106,28 @@ def transcript(editor: str, session: str) -> str:
 def drive_emacs(session: str, program: str) -> bool:
     driver, name = os.path.join(DRIVE, "emacs.el"), transcript("emacs", session)
     status = subprocess.run(["emacs", "--batch", "--load", driver, "--", session, *proxy(name, program)]).returncode
-    return status == 0 and has_ended(name, session)
+    return status == 0 and has_ended(name)
 
 
 def drive_kate(session: str, program: str) -> bool:
     driver, name = os.path.join(DRIVE, "kate.py"), transcript("kate", session)
     words = [sys.executable, driver, session, picture("kate.png"), *proxy(name, program)]
-    return subprocess.run(words).returncode == 0 and has_ended(name, session)
+    return subprocess.run(words).returncode == 0 and has_ended(name)
 
 
 def drive_codelite(session: str, program: str) -> bool:
     driver, name = os.path.join(DRIVE, "codelite.py"), transcript("codelite", session)
-    status = subprocess.run([sys.executable, driver, *proxy(name, program)]).returncode
-    return status == 0 and has_ended(name, session)
+    status = subprocess.run([sys.executable, driver, session, *proxy(name, program)]).returncode
+    return status == 0 and has_ended(name)
+
+
+def drive_neovim(_session: str, _program: str) -> bool:
+    with tempfile.TemporaryDirectory() as folder:
+        for place in PROGRAMS:
+            shutil.copy(os.path.join(TOP, *place), folder)
+        script = "luafile " + os.path.join(DRIVE, "neovim.lua").replace(" ", "\\ ")
+        words = ["nvim", "--headless", "--clean", "-c", script]
+        return subprocess.run(words, env={**os.environ, "NEOVIM_PROGRAMS": folder}).returncode == 0
 
 
 def take_picture(_session: str, program: str) -> bool:
@@ -108,19 +135,17 @@ def take_picture(_session: str, program: str) -> bool:
     return subprocess.run(words).returncode == 0
 
 
-def main() -> int:
-    if len(sys.argv) != 3:
-        print(__doc__, file=sys.stderr)
-        return 4
-    program, from_zero = (os.path.abspath(name) for name in sys.argv[1:])
-    print("Sessions, played to the adapter:", flush=True)
-    is_right, is_whole = replay(program, from_zero), True
-    emacs, display = missing_for_emacs(), missing(*NEEDED)
+def drive_all(program: str, from_zero: str, has_pl0: bool) -> tuple[bool, bool]:
+    """Lets the editors that are installed debug programs: whether none failed, and whether all were driven."""
+    is_right, is_whole = True, True
+    emacs, display, pl0 = missing_for_emacs(), missing(*NEEDED), [] if has_pl0 else ["pl0"]
     for editor, lacks, sessions, drive, started in (
-        ("Emacs", emacs, ("factorial", "back", "fault", "endless"), drive_emacs, program),
+        ("Emacs", emacs, ("factorial", "back", "fault", "endless", "refused"), drive_emacs, program),
+        ("Emacs at a mistake", emacs + pl0, ("mistake",), drive_emacs, program),
         ("Emacs in a terminal", emacs + missing("xterm") + display, ("picture",), take_picture, program),
-        ("Kate", missing("kate") + display, ("factorial", "endless"), drive_kate, from_zero),
-        ("CodeLite", missing("codelite") + display, ("factorial",), drive_codelite, program),
+        ("Kate", missing("kate") + display, ("factorial", "condition", "endless", "mistake"), drive_kate, from_zero),
+        ("CodeLite", missing("codelite") + display, ("factorial", "endless"), drive_codelite, program),
+        ("Neovim", missing("nvim") + pl0, ("mistake",), drive_neovim, from_zero),
     ):
         if lacks:
             is_whole = False
@@ -131,7 +156,22 @@ def main() -> int:
             done = drive(session, started)
             is_right = is_right and done
             print(f"{editor} was driven." if done else f"{editor} failed.", flush=True)
-    return 1 if not is_right else 0 if is_whole else 2
+    return is_right, is_whole
+
+
+def main() -> int:
+    if len(sys.argv) not in (3, 4):
+        print(__doc__, file=sys.stderr)
+        return 4
+    program, from_zero, pl0 = (os.path.abspath(name) for name in [*sys.argv[1:], PL0][:3])
+    with tempfile.TemporaryDirectory() as folder:
+        if os.access(pl0, os.X_OK):
+            os.symlink(pl0, os.path.join(folder, "pl0"))
+        os.environ["PATH"] = f"{folder}{os.pathsep}{os.environ['PATH']}"
+        print("Sessions, played to the adapter:", flush=True)
+        is_right = replay(program, from_zero)
+        none_failed, is_whole = drive_all(program, from_zero, shutil.which("pl0") is not None)
+    return 1 if not (is_right and none_failed) else 0 if is_whole else 2
 
 
 if __name__ == "__main__":

@@ -2,8 +2,8 @@
 
 ;; usage: emacs --batch --load editors/drive/emacs.el -- SESSION COMMAND..
 ;;
-;; SESSION is factorial, back, fault, endless, refused or mistake.  COMMAND starts the adapter, or the proxy before it.  The last one
-;; wants pl0 on the path.  Prints what Emacs shows, line by line, and ends with status 0 at the end of the session.
+;; SESSION is factorial, back, fault, endless, refused or mistake, which wants pl0 on the path.  COMMAND starts the adapter, or the
+;; proxy before it.  Prints what Emacs shows, line by line, and ends with status 0 at the end of the session.
 ;;
 ;; SESSION picture is for an Emacs in a terminal, without --batch: it stops, shows frames, variables and output, and makes the file
 ;; that the variable DRIVE_SHOWN names.  Emacs stays as it is.

@@ -1,13 +1,12 @@
 #!/usr/bin/env python3
-"""Kate debugs examples/factorial.pl0 or demo/endless.pl0 on a display of its own: keys are pressed for it, and what it shows isn't
-looked at.
+"""Kate debugs a program on a display of its own: keys are pressed for it, and what it shows isn't looked at.
 
 usage: kate.py SESSION PICTURE COMMAND..
 
-SESSION is factorial or endless. COMMAND starts the adapter, or the proxy before it. Ends with status 0 once all keys are pressed;
-the session is in the proxy's transcript. PICTURE gets a picture of the last stop at a breakpoint of factorial. Needs kate (22.12),
-Xvfb and xdotool; the icons are those of breeze-icon-theme, where it is installed. Kate's settings are in a folder that is removed
-afterwards.
+SESSION is factorial, condition, endless or mistake. COMMAND starts the adapter, or the proxy before it. Ends with status 0 once
+all keys are pressed; the session is in the proxy's transcript. PICTURE gets a picture of the last stop at a breakpoint of
+factorial. Needs kate (22.12), Xvfb and xdotool; the icons are those of breeze-icon-theme, where it is installed. Kate's settings
+are in a folder that is removed afterwards.
 """
 from __future__ import annotations
 
@@ -20,8 +19,11 @@ import time
 from screen import Screen
 
 TOP = os.path.realpath(os.path.join(os.path.dirname(__file__), "..", ".."))
+FACTORIAL, ENDLESS = (os.path.join(TOP, *place) for place in (("examples", "factorial.pl0"), ("demo", "endless.pl0")))
+TYPED = "typed.pl0"  # a program that the driver writes
 START, REST = 60, 1.5  # seconds that Kate gets at most to start, and after each key
 WIDTH, HEIGHT = 1200, 740
+COMMANDS, TEXT = (600, 702), (600, 160)  # the line below the output, and the program
 HIGHLIGHTING = ("org.kde.syntax-highlighting", "syntax", "pl0.xml")
 ADAPTER = float(os.environ.get("DRIVE_SECONDS", "2"))  # seconds that the adapter gets to start
 SESSION = """[Kate Plugins]
@@ -109,6 +111,36 @@ def factorial(screen: Screen, picture: str) -> None:
     keys("ctrl+q")
 
 
+def condition(screen: Screen, _picture: str) -> None:
+    """A condition, which is typed at the first stop, the stop where it holds, a step and the end."""
+    focus(screen)
+    keys("ctrl+F7")
+    time.sleep(ADAPTER)
+    action("Continue")
+    screen.do("mousemove", *map(str, COMMANDS), "click", "1")
+    subprocess.run(["xdotool", "type", "b 9 when {k = 8}"], check=True)
+    keys("Return")
+    screen.do("mousemove", *map(str, TEXT), "click", "1")
+    action("Continue")
+    action("Step Over")
+    action("Continue")
+    keys("ctrl+q")
+
+
+def mistake(screen: Screen, _picture: str) -> None:
+    """A refused launch, and another one once the text is mended, which Kate doesn't begin before Stop Debugging."""
+    focus(screen)
+    keys("ctrl+F7")
+    time.sleep(ADAPTER)
+    write(os.path.join(screen.folder.name, TYPED), "begin ! 1 end.\n")
+    keys("F5")
+    action("Stop Debugging")
+    keys("ctrl+F7")
+    time.sleep(ADAPTER)
+    action("Continue")
+    keys("ctrl+q")
+
+
 def endless(screen: Screen, _picture: str) -> None:
     """Two pauses in a loop without an end, and a stop at the user's wish, which is a pause where the program runs."""
     focus(screen)
@@ -123,15 +155,19 @@ def endless(screen: Screen, _picture: str) -> None:
 
 
 SESSIONS = {
-    "factorial": ("examples/factorial.pl0", "9", "launch, stop at the first step", factorial),
-    "endless": ("demo/endless.pl0", "1", "launch", endless),
+    "factorial": (FACTORIAL, "9", "launch, stop at the first step", factorial),
+    "condition": (FACTORIAL, "9", "launch, stop at the first step", condition),
+    "endless": (ENDLESS, "1", "launch", endless),
+    "mistake": (TYPED, "1", "launch", mistake),
 }
 
 
 def main() -> int:
     place, line, configuration, debug = SESSIONS[sys.argv[1]]
-    program = os.path.join(TOP, place)
     with Screen(WIDTH, HEIGHT) as screen:
+        program = os.path.join(screen.folder.name, place)
+        if place == TYPED:
+            write(program, "begin ! x end.\n")
         settings(screen.folder.name, program, configuration, sys.argv[3:])
         os.environ.update(screen.settings)
         kate = subprocess.Popen(["kate", "-s", "pl0", "-l", line, program], stderr=subprocess.DEVNULL)

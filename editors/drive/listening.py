@@ -119,8 +119,8 @@ def wrong_changes() -> Iterator[str]:
 def wrong_streams() -> Iterator[str]:
     """Where what is no whole frame, or a frame of an unusual form, isn't passed on as it is."""
     for text in (
-        b"", b"\r\n", b"Content-Length: 5\r\n\r\nabc", b"Content-Length: x\r\n\r\n", b"X: y\r\nContent-Length: 2\r\nZ: 1\r\n\r\n{}" * 3,
-        b"Content-Length: 1\r\n", b"Content-Length: 0\r\n\r\nContent-Length: 2\r\n\r\n[]", b"\0" * 70000,
+        b"", b"\r\n", b"Content-Length: 5\r\n\r\nabc", b"Content-Length: x\r\n\r\n", b"Content-Length: 1\r\n",
+        b"X: y\r\nContent-Length: 2\r\nZ: 1\r\n\r\n{}" * 3, b"Content-Length: 0\r\n\r\nContent-Length: 2\r\n\r\n[]", b"\0" * 70000,
     ):
         copied = Connection("cat")
         copied.socket.sendall(text)

@@ -2,10 +2,12 @@
 
 vim.api.nvim_create_autocmd({ "BufRead", "BufNewFile" }, { pattern = "*.pl0", command = "setfiletype pl0" })
 
--- What `:make` prints of a mistake begins with its file, line and column, and `:cnext` goes there.
+-- What `pl0 check` prints of a mistake begins with its file, line and column: `:make` runs it, and `:cnext` goes there.
+local places = "%f:%l:%c: %trror: %m,%f:%l:%c: %m"
+
 vim.api.nvim_create_autocmd("FileType", {
   pattern = "pl0",
-  command = [[setlocal makeprg=pl0\ check\ %:S errorformat=%f:%l:%c:\ %trror:\ %m,%f:%l:%c:\ %m]],
+  command = [[setlocal makeprg=pl0\ check\ %:S errorformat=]] .. vim.fn.escape(places, " "),
 })
 
 local is_there, dap = pcall(require, "dap")
@@ -13,11 +15,27 @@ if not is_there then
   return
 end
 
--- nvim-dap numbers its requests from 0, and pl0dap passes over a request 0.
-dap.adapters.pl0 = {
-  type = "executable",
-  command = "pl0dap_from_zero",
-}
+-- Goes to the mistake in the text of a program and says it, if there is one, and if pl0 is there to be asked.
+local function has_mistake(program)
+  if vim.fn.executable("pl0") == 0 then
+    return false
+  end
+  local said = vim.fn.systemlist({ "pl0", "check", program })
+  if vim.v.shell_error ~= 2 then
+    return false
+  end
+  vim.fn.setqflist({}, " ", { title = "pl0 check", lines = said, efm = places })
+  pcall(vim.cmd, "silent cfirst") -- which fails where another text isn't saved
+  vim.notify(table.concat(said, "\n"), vim.log.levels.ERROR)
+  return true
+end
+
+-- nvim-dap numbers its requests from 0, and pl0dap passes over a request 0. A program with a mistake isn't launched.
+dap.adapters.pl0 = function(launch, configuration)
+  if not has_mistake(configuration.program) then
+    launch({ type = "executable", command = "pl0dap_from_zero" })
+  end
+end
 
 dap.configurations.pl0 = {
   { type = "pl0", request = "launch", name = "PL/0", program = "${file}" },
