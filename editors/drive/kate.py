@@ -112,11 +112,14 @@ def factorial(screen: Screen, picture: str) -> None:
 
 
 def condition(screen: Screen, _picture: str) -> None:
-    """A condition, which is typed at the first stop, the stop where it holds, a step and the end."""
+    """A breakpoint, for which one with a condition is typed at its first stop, the stop where it holds, a step and the end."""
     focus(screen)
     keys("ctrl+F7")
     time.sleep(ADAPTER)
+    action("Toggle Breakpoint")
     action("Continue")
+    action("Continue")
+    action("Toggle Breakpoint")
     screen.do("mousemove", *map(str, COMMANDS), "click", "1")
     subprocess.run(["xdotool", "type", "b 9 when {k = 8}"], check=True)
     keys("Return")
