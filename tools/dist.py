@@ -3,9 +3,10 @@
 
 usage: dist.py
 
-`make install` copies the programs into the archive's folder, and editors/vsix.py packs the extension. Its file INSTALL.md says how to
-install it, of which commit and by which kit the programs were proved, and their digests. The version is the one that the program's
-help says. The same programs at the same commit give the same bytes. Prints the archive's place and size. Nothing is proved or built.
+`make install` copies the programs into the archive's folder, and editors/vsix.py packs the extension. Its file INSTALL.md says
+how to install it, of which commit and by which kit the programs were proved, and their digests. The version is the one that the
+program's help says. The same programs at the same commit give the same bytes. Prints the archive's place and size. Nothing is
+proved or built.
 """
 from __future__ import annotations
 
@@ -23,7 +24,7 @@ from pages import VERSIONS
 from scratch import TOP
 
 PROVED = ("pl0dap", "pl0dap_from_zero", "pl0")
-PAGES = ("docs/EDITORS.md", "docs/PL0.md", "LICENSE")
+PAGES = ("docs/EDITORS.md", "docs/PL0.md", "docs/pictures/emacs.png", "LICENSE")
 FOLDERS = ("editors", "examples")
 LEFT_OUT = shutil.ignore_patterns("drive", "*.py", "__pycache__")
 INSTALL = """# pl0dap {version}, for Linux on x86-64
@@ -32,9 +33,9 @@ A debug adapter for PL/0, the program `pl0`, and files for editors.
 
     cp -r bin share ~/.local
 
-`~/.local/bin` has to be in your `PATH`. Then `docs/EDITORS.md` has what to do in each editor, where `make install` is done
-with that, and `make vsix` has made `editors/pl0.vsix`; `docs/PL0.md` is the language. Links that lead to no file here lead to
-pages of the repository. The programs want glibc {glibc} or later, `pl0dap-listen` Python 3.8 or later.
+That is what `make install` does; `~/.local/bin` has to be in your `PATH`. `docs/EDITORS.md` says what to do in each editor;
+what it calls `out/pl0.vsix` is `editors/pl0.vsix` here. `docs/PL0.md` tells the language. Links that lead to no file here lead
+to pages of the repository. The programs want glibc {glibc} or later, `pl0dap-listen` Python 3.8 or later.
 
 To remove it:
 
@@ -95,7 +96,7 @@ def fill(folder: pathlib.Path) -> None:
     said("make", "--silent", "install", "DESTDIR=", f"PREFIX={folder}")
     for name in FOLDERS:
         shutil.copytree(TOP / name, folder / name, ignore=LEFT_OUT)
-    (folder / "docs").mkdir()
+    (folder / "docs" / "pictures").mkdir(parents=True)
     for name in PAGES:
         shutil.copy(TOP / name, folder / name)
     said(sys.executable, "editors/vsix.py", str(folder / "editors" / "pl0.vsix"))

@@ -39,7 +39,7 @@ RECORDED = (
 AT_THE_END, BY_DISCONNECT, BY_PAUSE = '"event":"terminated"', '"command":"disconnect","request_seq"', '"reason":"pause"'
 ENDINGS = {
     "emacs_fault.txt": BY_DISCONNECT, "emacs_endless.txt": BY_DISCONNECT, "kate_endless.txt": BY_DISCONNECT,
-    "codelite_endless.txt": BY_PAUSE,
+    "codelite_endless.txt": BY_PAUSE, "kate_mistake.txt": '"output":"2\\n"',
 }
 HAS_DAP_MODE = "(progn (require 'package) (package-initialize) (require 'dap-ui))"
 

@@ -131,16 +131,17 @@ def condition(screen: Screen, _picture: str) -> None:
 
 
 def mistake(screen: Screen, _picture: str) -> None:
-    """A refused launch, and another one once the text is mended, which Kate doesn't begin before Stop Debugging."""
+    """A refused launch, and two more once the text is mended, which Kate doesn't begin before Stop Debugging."""
     focus(screen)
     keys("ctrl+F7")
     time.sleep(ADAPTER)
-    write(os.path.join(screen.folder.name, TYPED), "begin ! 1 end.\n")
-    keys("F5")
-    action("Stop Debugging")
-    keys("ctrl+F7")
-    time.sleep(ADAPTER)
-    action("Continue")
+    for number in (1, 2):
+        write(os.path.join(screen.folder.name, TYPED), f"begin ! {number} end.\n")
+        keys("F5")
+        action("Stop Debugging")
+        keys("ctrl+F7")
+        time.sleep(ADAPTER)
+        action("Continue")
     keys("ctrl+q")
 
 

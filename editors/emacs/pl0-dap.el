@@ -67,15 +67,19 @@
   (interactive)
   (pl0-compile "check"))
 
+(defconst pl0-status-of-mistake 2 "The status of `pl0 check' where a text has a mistake.")
+
 (defun pl0-mistake (program)
-  "What `pl0-command' says of the mistake in the text of PROGRAM, a file; nil where there is none, or it can't be asked."
+  "What `pl0-command' tells of the mistake in the file PROGRAM.
+Nil where there is none, and where it can't be asked."
   (when (and (executable-find pl0-command) (file-regular-p program))
     (with-temp-buffer
-      (when (equal 2 (call-process pl0-command nil t nil "check" program))
+      (when (equal pl0-status-of-mistake (call-process pl0-command nil t nil "check" program))
         (string-trim (buffer-string))))))
 
 (defun pl0-dap-look (program)
-  "Save the buffer of PROGRAM, a file, if there is one.  A mistake in the text is an error, and `next-error' goes to its place."
+  "Save the buffer of the file PROGRAM, and look for a mistake in the text.
+It is an error, and its place is that of the next one."
   (let ((buffer (find-buffer-visiting program)))
     (with-current-buffer (or buffer (current-buffer))
       (when (and buffer (buffer-modified-p))
@@ -86,7 +90,8 @@
         (user-error "%s" mistake)))))
 
 (defun pl0-dap-configuration (configuration)
-  "CONFIGURATION with what it leaves out: the adapter, and the current buffer's file as the program, which has no mistake."
+  "CONFIGURATION with what it leaves out: the adapter and the program.
+That is the current buffer's file.  A text with a mistake is an error."
   (let ((whole (-> configuration
                    (dap--put-if-absent :dap-server-path pl0-dap-command)
                    (dap--put-if-absent :request "launch")
@@ -113,7 +118,7 @@
   "Whether SESSION is with this adapter."
   (equal "pl0" (plist-get (dap--debug-session-launch-args session) :type)))
 
-;; A program has one thread, so there is nothing to ask.
+;; A program has one thread, whose number is 1, so there is nothing to ask.
 ;;;###autoload
 (defun pl0-dap-pause (session)
   "Stop the program of SESSION where it runs."
@@ -143,7 +148,8 @@
   "What the messages of refused breakpoints mean.")
 
 (defun pl0-dap-refusal (asked answer)
-  "What is said of the breakpoint ASKED in the current buffer, of which the adapter says ANSWER; nil where it was set."
+  "Why the breakpoint ASKED in the current buffer was refused, by its ANSWER.
+Nil where it was set."
   (unless (gethash "verified" answer)
     (let ((message (gethash "message" answer)))
       (format "The breakpoint at line %d stops nothing: %s"
@@ -151,7 +157,8 @@
               (or (cdr (assoc message pl0-dap-refusals)) message)))))
 
 (defun pl0-dap-show-refusals (session response file-name)
-  "Show which breakpoints of FILE-NAME, the program of SESSION, were refused by RESPONSE, and why."
+  "Warn of each breakpoint in FILE-NAME that was refused in SESSION by RESPONSE.
+Breakpoints in other files than the program are left alone."
   (when (and (pl0-dap-session-p session)
              (file-equal-p file-name (plist-get (dap--debug-session-launch-args session) :program)))
     (with-current-buffer (find-file-noselect file-name)
