@@ -1,10 +1,12 @@
 //! Resolves lines that an editor asks for to breakpoints.
 
-ghost use Rattle.std.specs.Prelude.{◌≡◌, ◌<◌, ◌≤◌, length, Some, IfOk, IfErr};
+ghost use Rattle.std.specs.Prelude.{◌≡◌, ◌<◌, ◌≤◌, length, string_bytes, Some, IfOk, IfErr};
 ghost use Rattle.pl0_tree.specs.Steps.{steps};
 ghost use Rattle.pl0_tree.specs.Plain.{plain_condition};
 ghost use Rattle.pl0_tree.specs.Faults.{FaultIs};
 ghost use Rattle.pl0_machine.specs.Machine.{program_of};
+ghost use Rattle.dbg_plan.specs.declared.messages.MessageFault.TheVariants.{Bad};
+ghost use Rattle.dbg_plan.specs.declared.resolving.Resolution.TheVariants.{BadLogMessage};
 ghost use Rattle.dbg_plan.specs.Breakpoints.{text_condition, plain_breakpoints};
 ghost use Rattle.dbg_plan.specs.ReadsAs.{ReadsAs};
 ghost use Rattle.dbg_plan.specs.Plans.{IsBoundAt, IsPlanOf, AreBreakpointsOf, breakpoint_limit};
@@ -111,14 +113,31 @@ fn resolve_line(
         Err(SyntaxFault::NoMemory) => return Err(AllocError),
         Err(SyntaxFault::InText { .. }) => return Ok(Resolution::BadCondition),
     };
+    resolve_at(alloc, unit, names, asked, step, condition, breakpoints)
+}
+
+/// Resolves a line whose step and condition were found.
+fn resolve_at(
+    alloc: Global,
+    unit: &Unit,
+    names: &Names,
+    asked: &SourceBreakpoint,
+    step: StepNumber,
+    condition: Option<BoundCondition>,
+    breakpoints: &mut Vec<Breakpoint>,
+) -> Result<Resolution, AllocError>
+    requires names { names.now ≡ unit.now.tree.program }
+    requires there { step_from (program_of unit.now) asked.now.line ≡ Some step }
+    requires condition { IsBoundConditionOf (program_of unit.now) step (string_bytes asked.now.condition) condition }
+    ensures { IfOk result (ResolvesLine (program_of unit.now) asked.now breakpoints.old.items breakpoints.new.items) }
+{
     let rule = match read_rule(asked.hit_condition.as_str()) {
         Ok(rule) => rule,
         Err(BadHitCondition) => return Ok(Resolution::BadHitCondition),
     };
     let message = match read_message(alloc, unit, names, asked.log_message.as_str(), step) {
         Ok(message) => message,
-        Err(MessageFault::NoMemory) => return Err(AllocError),
-        Err(MessageFault::Bad) => return Ok(Resolution::BadLogMessage),
+        Err(fault) => return without_message(fault),
     };
     let number = breakpoints.len();
     breakpoints.push(Breakpoint {
@@ -129,6 +148,16 @@ fn resolve_line(
         message,
     })?;
     Ok(Resolution::At(step))
+}
+
+/// Returns what a line is resolved to whose message wasn't read.
+fn without_message(fault: MessageFault) -> Result<Resolution, AllocError>
+    ensures { IfOk result (λ resolution. (resolution ≡ BadLogMessage) × (fault ≡ Bad)) }
+{
+    match fault {
+        MessageFault::NoMemory => Err(AllocError),
+        MessageFault::Bad => Ok(Resolution::BadLogMessage),
+    }
 }
 
 /// Returns the first step at a line or after it.
