@@ -1,7 +1,7 @@
 -- Two parts that were sent one after another are sent together; for the functions of `driving`, `laws` and `session`.
 pub mod Joining
--- Frames that were added one after another are those of the whole step; for `Frames::add_events`, `Session::send`,
--- `put` and others.
+-- Frames that were added one after another are those of the whole step; for `Frames::add_events`, `put`,
+-- `Session::send_messages` and others.
 pub mod Building
 -- A session at a history takes one item more, or fails at it; for the functions of `driving`, `laws` and `session`.
 pub mod Items
@@ -24,7 +24,7 @@ pub mod Files
 -- A session that represents some events represents one event more after it took it; for `Session::go_on`,
 -- `Session::want` and `session_laws`.
 pub mod Standing
--- A session that is driven takes events until it is closed or fails; for `session_laws` and `take_all`.
+-- A session that is driven takes events until it is closed or fails; for `session_laws` and the functions of `driving`.
 pub mod Driven
 -- A history that a session reached is that of some events, with each content in a piece of its own; for `session_laws`.
 pub mod Retaken

@@ -7,6 +7,7 @@ ghost use Rattle.dap_session.specs.Incoming.{incoming_of};
 ghost use Rattle.dap_session.specs.Ports.{ports};
 ghost use Rattle.dap_session.specs.Sending.{HasTriedQuit};
 ghost use Rattle.dap_session.specs.Serving.{Driven};
+ghost use Rattle.dap_session.specs.State.{Represents};
 
 use crate::ports::{Event, Inbox, Loader, OrderFault, Orders, Out};
 use crate::session::Session;
@@ -65,6 +66,26 @@ pub fn drive_from<I: Inbox, L: Loader, O: Out, D: Orders>(
     ensures orders { D.origin orders.new ≡ D.origin orders.old }
 {
     let mut session = Session::new_from(alloc, first);
+    take_all(rt, &mut session, inbox, loader, out, orders)
+}
+
+/// Takes events into a session that has taken none, until it is closed or gives up, and returns what closed it.
+fn take_all<I: Inbox, L: Loader, O: Out, D: Orders>(
+    rt: &impl Wait,
+    session: &mut Session,
+    inbox: &mut I,
+    loader: &mut L,
+    out: &mut O,
+    orders: &mut D,
+) -> Result<Closed, SessionFault>
+    requires { Represents session.old.stream.first session.old [] [] }
+    ensures driven { Driven session.old.stream.first result (I.given inbox.old) (I.given inbox.new)
+        (L.loaded loader.old) (L.loaded loader.new) (ports (O.seen out.old) (D.seen orders.old))
+        (ports (O.seen out.new) (D.seen orders.new)) }
+    ensures inbox { I.origin inbox.new ≡ I.origin inbox.old }
+    ensures out { O.origin out.new ≡ O.origin out.old }
+    ensures orders { D.origin orders.new ≡ D.origin orders.old }
+{
     let mut wanted = None;
     for _ in rt.forever() {
         out.flush();

@@ -41,7 +41,7 @@ impl Session {
     ghost use Rattle.dap_history.specs.History.{Step, History, next_seq};
     ghost use Rattle.dap_phase.specs.Phases.{IsPhase, launch_of};
     ghost use Rattle.dap_session.specs.Ports.{ports};
-    ghost use Rattle.dap_session.specs.Steps.{IsStepOf, IsSent};
+    ghost use Rattle.dap_session.specs.Steps.{IsStepOf, IsStepWith, IsSent};
 
     /// Sends an answer, if there is one, and its effect, and takes over the effect's phase. No launch waits after it.
     pub(super) fn send<O: Out, D: Orders>(
@@ -65,12 +65,37 @@ impl Session {
         ensures out { O.origin out.new ≡ O.origin out.old }
         ensures orders { D.origin orders.new ≡ D.origin orders.old }
     {
-        reading_laws();
         let Effect {
             events,
             order,
             phase,
         } = effect;
+        self.send_messages(answer, events, order, out, orders)?;
+        self.take_over(phase);
+        Ok(())
+    }
+
+    /// Sends an answer, if there is one, events, and an order, if there is one.
+    fn send_messages<O: Out, D: Orders>(
+        &mut self,
+        answer: Option<Outgoing>,
+        events: Items<EventBody>,
+        order: Option<Order>,
+        out: &mut O,
+        orders: &mut D,
+    ) -> Result<(), SessionFault>
+        ensures sent { (past : History) (step : Step) → self.old.next_seq ≡ next_seq past →
+            IsStepWith answer events order step →
+            IsSent result past step self.new
+            (ports (O.seen out.old) (D.seen orders.old))
+            (ports (O.seen out.new) (D.seen orders.new)) }
+        ensures enough { answer ≡ None → events ≡ [] → result ≢ Err NoMemory }
+        ensures stream { self.new.stream ≡ self.old.stream }
+        ensures ending { self.new.ending ≡ self.old.ending }
+        ensures out { O.origin out.new ≡ O.origin out.old }
+        ensures orders { D.origin orders.new ≡ D.origin orders.old }
+    {
+        reading_laws();
         let Frames { frames, next_seq } = Frames::of(
             self.alloc,
             &mut self.content,
@@ -81,8 +106,18 @@ impl Session {
         push(order, orders)?;
         put(frames, out)?;
         self.next_seq = next_seq;
-        self.phase = without_launch(phase);
         Ok(())
+    }
+
+    /// Takes over a phase. No launch waits after it.
+    fn take_over(&mut self, phase: Phase)
+        ensures phase { (past : History) → IsPhase phase past → IsPhase self.new.phase past }
+        ensures free { launch_of self.new.phase ≡ None }
+        ensures next_seq { self.new.next_seq ≡ self.old.next_seq }
+        ensures stream { self.new.stream ≡ self.old.stream }
+        ensures ending { self.new.ending ≡ self.old.ending }
+    {
+        self.phase = without_launch(phase);
     }
 }
 
