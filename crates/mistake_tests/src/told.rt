@@ -24,7 +24,7 @@ const MISTAKES: [(&str, &str); 18] = [
     ),
     (
         "begin ! 1 ! 2 end.",
-        "a.pl0:1:11: error: `!` can't stand here\n",
+        "a.pl0:1:11: error: `!` can't stand here; perhaps a `;` is missing before it\n",
     ),
     (
         "var x;\nbegin\n  x = 1\nend.",
@@ -45,11 +45,11 @@ const MISTAKES: [(&str, &str); 18] = [
     ("! 1 0012x.", "a.pl0:1:5: error: `0012` can't stand here\n"),
     (
         "! 1\n",
-        "a.pl0:2:1: error: the text ends here, and the program does not\n",
+        "a.pl0:2:1: error: the text ends before the program does\n",
     ),
     (
         "",
-        "a.pl0:1:1: error: the text ends here, and the program does not\n",
+        "a.pl0:1:1: error: the text ends before the program does\n",
     ),
     (
         "var x, x; .",
@@ -66,15 +66,223 @@ const MISTAKES: [(&str, &str); 18] = [
     ),
     (
         "! ((((((((((((((((((((((((((((((((((((((((((((((((((((((((((((((((",
-        "a.pl0:1:67: error: the text ends here, and the program does not\n",
+        "a.pl0:1:67: error: the text ends before the program does\n",
     ),
     (
         "! (((((((((((((((((((((((((((((((((((((((((((((((((((((((((((((((((",
-        "a.pl0:1:67: error: more than 64 constructs lie in one another here\n",
+        "a.pl0:1:67: error: nested more than 64 deep here\n",
     ),
     (
         "! a123456789a123456789a123456789a123456789a123456789a123456789a1234.",
         "a.pl0:1:3: error: the name has more than 64 characters\n",
+    ),
+];
+
+/// What is said beside a token that can't stand where it does, and where nothing is.
+const HINTS: [(&str, &str); 57] = [
+    (
+        "begin ! (1) x := 2 end.",
+        "a.pl0:1:13: error: `x` can't stand here; perhaps a `;` is missing before it\n",
+    ),
+    (
+        "begin call p if 1 = 1 then end.",
+        "a.pl0:1:14: error: `if` can't stand here; perhaps a `;` is missing before it\n",
+    ),
+    (
+        "begin begin end while 1 = 1 do end.",
+        "a.pl0:1:17: error: `while` can't stand here; perhaps a `;` is missing before it\n",
+    ),
+    (
+        "procedure p; begin end begin end.",
+        "a.pl0:1:24: error: `begin` can't stand here; perhaps a `;` is missing before it\n",
+    ),
+    (
+        "procedure p; begin end procedure q; ; .",
+        "a.pl0:1:24: error: `procedure` can't stand here; perhaps a `;` is missing before it\n",
+    ),
+    (
+        "const c = 1 var x; .",
+        "a.pl0:1:13: error: `var` can't stand here; perhaps a `;` is missing before it\n",
+    ),
+    (
+        "var x begin end.",
+        "a.pl0:1:7: error: `begin` can't stand here; perhaps a `;` is missing before it\n",
+    ),
+    (
+        "procedure p ! 1; .",
+        "a.pl0:1:13: error: `!` can't stand here; perhaps a `;` is missing before it\n",
+    ),
+    (
+        "begin ! (1 ! 2 end.",
+        "a.pl0:1:12: error: `!` can't stand here\n",
+    ),
+    ("! 1 ! 2.", "a.pl0:1:5: error: `!` can't stand here\n"),
+    ("if 1 ! 2 then.", "a.pl0:1:6: error: `!` can't stand here\n"),
+    ("var x y; .", "a.pl0:1:7: error: `y` can't stand here\n"),
+    (
+        "begin ! 3 mod 2 end.",
+        "a.pl0:1:11: error: `mod` can't stand here\n",
+    ),
+    (
+        "begin ! 1.",
+        "a.pl0:1:10: error: `.` can't stand here; perhaps an `end` is missing before it\n",
+    ),
+    (
+        "begin begin end.",
+        "a.pl0:1:16: error: `.` can't stand here; perhaps an `end` is missing before it\n",
+    ),
+    (
+        "begin while 1 = 1 do.",
+        "a.pl0:1:21: error: `.` can't stand here; perhaps an `end` is missing before it\n",
+    ),
+    ("begin call.", "a.pl0:1:11: error: `.` can't stand here\n"),
+    ("begin ! (1.", "a.pl0:1:11: error: `.` can't stand here\n"),
+    (
+        "begin x.",
+        "a.pl0:1:8: error: `.` can't stand here; perhaps `call` is missing before `x`\n",
+    ),
+    (
+        "VAR x; .",
+        "a.pl0:1:5: error: `x` can't stand here; perhaps `var` is meant: keywords are in lower case\n",
+    ),
+    (
+        "Begin End.",
+        "a.pl0:1:7: error: `End` can't stand here; perhaps `begin` is meant: keywords are in lower case\n",
+    ),
+    (
+        "begin ! 1 END.",
+        "a.pl0:1:11: error: `END` can't stand here; perhaps `end` is meant: keywords are in lower case\n",
+    ),
+    (
+        "if 1 = 1 tHeN .",
+        "a.pl0:1:10: error: `tHeN` can't stand here; perhaps `then` is meant: keywords are in lower case\n",
+    ),
+    (
+        "var Begin; Begin = 1.",
+        "a.pl0:1:18: error: `=` can't stand here; `:=` assigns, and `=` compares\n",
+    ),
+    (
+        "if 1 <> 2 then.",
+        "a.pl0:1:7: error: `>` can't stand here; write `#` for not equal\n",
+    ),
+    (
+        "begin if 1 != 2 then end.",
+        "a.pl0:1:12: error: `!` can't stand here; write `#` for not equal\n",
+    ),
+    (
+        "if 1 == 2 then.",
+        "a.pl0:1:7: error: `=` can't stand here; write a single `=`\n",
+    ),
+    (
+        "const c == 1; .",
+        "a.pl0:1:10: error: `=` can't stand here; write a single `=`\n",
+    ),
+    (
+        "var x; x == 1.",
+        "a.pl0:1:10: error: `=` can't stand here; `:=` assigns, and `=` compares\n",
+    ),
+    (
+        "var x; if (x := 1) then.",
+        "a.pl0:1:14: error: `:=` can't stand here; `:=` assigns, and `=` compares\n",
+    ),
+    (
+        "var x; ! x = 1.",
+        "a.pl0:1:12: error: `=` can't stand here\n",
+    ),
+    (
+        "var x; if odd x = 1 then.",
+        "a.pl0:1:17: error: `=` can't stand here\n",
+    ),
+    (
+        "var x := 3; .",
+        "a.pl0:1:7: error: `:=` can't stand here; a variable is declared without a value\n",
+    ),
+    (
+        "const c := 1; .",
+        "a.pl0:1:9: error: `:=` can't stand here; a constant is declared with `=`\n",
+    ),
+    (
+        "if (1 < 2) then.",
+        "a.pl0:1:7: error: `<` can't stand here; no comparison stands in parentheses\n",
+    ),
+    ("! (1 < 2).", "a.pl0:1:6: error: `<` can't stand here\n"),
+    (
+        "procedure p(); .",
+        "a.pl0:1:12: error: `(` can't stand here; procedures have no parameters\n",
+    ),
+    (
+        "procedure p; ; call p(1).",
+        "a.pl0:1:22: error: `(` can't stand here; procedures have no parameters\n",
+    ),
+    (
+        "(* one *) .",
+        "a.pl0:1:1: error: `(` can't stand here; PL/0 has no comments\n",
+    ),
+    (
+        "! (* one *) 1.",
+        "a.pl0:1:4: error: `*` can't stand here; PL/0 has no comments\n",
+    ),
+    ("! 1; // one", "a.pl0:1:4: error: `;` can't stand here\n"),
+    (
+        "begin ! 1; // one",
+        "a.pl0:1:12: error: `/` can't stand here; PL/0 has no comments\n",
+    ),
+    (
+        "! 1 /* one */ .",
+        "a.pl0:1:6: error: `*` can't stand here; PL/0 has no comments\n",
+    ),
+    (
+        "# one\n.",
+        "a.pl0:1:1: error: `#` can't stand here; PL/0 has no comments\n",
+    ),
+    ("! 1 # 2.", "a.pl0:1:5: error: `#` can't stand here\n"),
+    (
+        "{ one } .",
+        "a.pl0:1:1: error: no word, number or sign begins with this character; PL/0 has no comments\n",
+    ),
+    (
+        "\u{feff}.",
+        "a.pl0:1:1: error: only ASCII characters can stand in a program; save it as UTF-8 without a BOM\n",
+    ),
+    (
+        ". \u{feff}",
+        "a.pl0:1:3: error: only ASCII characters can stand in a program\n",
+    ),
+    (
+        "! 1. 2.",
+        "a.pl0:1:6: error: `2` can't stand here; the program ends at the `.` before it\n",
+    ),
+    (
+        "! 1. END",
+        "a.pl0:1:6: error: `END` can't stand here; the program ends at the `.` before it\n",
+    ),
+    (
+        "begin ! 3.5 end.",
+        "a.pl0:1:10: error: `.` can't stand here; all numbers are whole\n",
+    ),
+    (
+        "begin end;",
+        "a.pl0:1:10: error: `;` can't stand here; a `.` ends the program\n",
+    ),
+    (
+        "procedure p; ; begin p end.",
+        "a.pl0:1:24: error: `end` can't stand here; perhaps `call` is missing before `p`\n",
+    ),
+    (
+        "var x; call x.",
+        "a.pl0:1:13: error: `x` can't be used so: only variables are assigned, and only procedures are called\n",
+    ),
+    (
+        "procedure p; ; begin p := 1 end.",
+        "a.pl0:1:22: error: `p` can't be used so: only variables are assigned, and only procedures are called\n",
+    ),
+    (
+        "procedure p; ; ! 1 + p.",
+        "a.pl0:1:22: error: `p` is a procedure, which has no value\n",
+    ),
+    (
+        "procedure p; ; if p = 1 then.",
+        "a.pl0:1:19: error: `p` is a procedure, which has no value\n",
     ),
 ];
 
@@ -86,6 +294,13 @@ fn told(alloc: Global, text: &[u8]) -> Result<Vec<u8>, AllocError> {
         }
         _ => Ok(Vec::new(alloc)),
     }
+}
+
+/// Asserts that this line is told of a text.
+fn assert_told(rt: &impl Abort, alloc: Global, text: &str, line: &str) -> Result<(), Fail> {
+    let told = told(alloc, text.as_bytes())?;
+    assert_eq!(rt; told.as_slice(), line.as_bytes(), "{text}");
+    Ok(())
 }
 
 /// Asserts that this is told of a fault at line 7, column 12.
@@ -102,8 +317,15 @@ fn assert_fault(rt: &impl Abort, alloc: Global, fault: RunFault, line: &str) -> 
 #[test]
 fn mistakes(rt: HostRuntime) -> Result<(), Fail> {
     for (text, line) in MISTAKES {
-        let told = told(rt.alloc(), text.as_bytes())?;
-        assert_eq!(rt; told.as_slice(), line.as_bytes(), "{text}");
+        assert_told(&rt, rt.alloc(), text, line)?;
+    }
+    Ok(())
+}
+
+#[test]
+fn hints(rt: HostRuntime) -> Result<(), Fail> {
+    for (text, line) in HINTS {
+        assert_told(&rt, rt.alloc(), text, line)?;
     }
     Ok(())
 }

@@ -1,0 +1,4 @@
+-- what a token leaves
+pub mod Cutting
+-- which branch is taken
+pub mod Choosing

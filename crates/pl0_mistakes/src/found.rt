@@ -1,21 +1,22 @@
 //! What stands at a place of a text.
 
-ghost use Rattle.std.specs.Prelude.{◌≡◌, ◌-◌, length, take_while};
+ghost use Rattle.std.specs.Prelude.{◌≡◌, ◌-◌, ◌<◌, [], ◌∷◌, length, drop, take_while, MatchOption};
 ghost use Rattle.std.specs.Char.{is_ascii_digit};
-ghost use Rattle.pl0_tree.specs.Tokens.{is_word_byte};
-ghost use Rattle.pl0_mistakes.specs.Found.{from_line, from_place, front_token, token_at};
+ghost use Rattle.pl0_tree.specs.Tokens.{is_space, is_word_byte};
+ghost use Rattle.pl0_mistakes.specs.Found.{from_line, from_place, before_place, front_token, cut};
 
 use pl0_tree::Place;
 
-/// Returns the token at a place of a text: a word, a number or a sign. It is empty where the text ends there.
-pub fn token_at(text: &[u8], place: Place) -> &[u8]
-    ensures { result.now ≡ token_at place text.now }
+/// Returns what stands in a text before a place.
+pub fn before_place(text: &[u8], place: Place) -> &[u8]
+    ensures { result.now ≡ before_place place text.now }
 {
-    front_token(from_place(text, place))
+    let onward = from_place(text, place);
+    &text[..text.len().saturating_sub(onward.len())]
 }
 
 /// Returns what stands in a text from a place on.
-fn from_place(text: &[u8], place: Place) -> &[u8]
+pub fn from_place(text: &[u8], place: Place) -> &[u8]
     ensures { result.now ≡ from_place place text.now }
 {
     let line = from_line(text, place.line.saturating_sub(1));
@@ -45,8 +46,42 @@ fn from_line(text: &[u8], line: u32) -> &[u8]
     rest
 }
 
-/// Returns the token in front of bytes.
-fn front_token(bytes: &[u8]) -> &[u8]
+/// Returns the next token, and what is after it. White space may stand before it.
+pub fn next_token(bytes: &[u8]) -> Option<(&[u8], &[u8])>
+    ensures { MatchOption result (cut bytes.now ≡ [])
+        (λ x. (cut bytes.now ≡ x.0.now ∷ cut x.1.now) × (length x.1.now < length bytes.now)) }
+{
+    let mut rest = bytes;
+    while let [first, after @ ..] = rest {
+        if !is_space(*first) {
+            return Some(split_token(rest));
+        }
+        rest = after;
+    }
+    None
+}
+
+/// Returns the token in front of bytes, and what is after it.
+fn split_token(bytes: &[u8]) -> (&[u8], &[u8])
+    ensures token { result.0.now ≡ front_token bytes.now }
+    ensures after { result.1.now ≡ drop (length (front_token bytes.now) - 1) (drop 1 bytes.now) }
+{
+    let token = front_token(bytes);
+    match bytes {
+        [] => (token, bytes),
+        [_, after @ ..] => (token, &after[token.len().saturating_sub(1)..]),
+    }
+}
+
+/// Whether a byte is white space.
+fn is_space(b: u8) -> bool
+    ensures { result ≡ is_space b }
+{
+    b == b' ' || b == b'\t' || b == b'\r' || b == b'\n'
+}
+
+/// Returns the token in front of bytes: a word, a number or a sign. It is empty where no bytes are left.
+pub fn front_token(bytes: &[u8]) -> &[u8]
     ensures { result.now ≡ front_token bytes.now }
 {
     match bytes {

@@ -13,11 +13,15 @@
 //! ```
 //!
 //! The one contract is that of [`mistake_line`] and [`fault_line`]: they return the line that `specs/Lines` defines, with
-//! the sentences of `specs/Sentences`. What stands at the place of a mistake is read from the text by `specs/Found`.
+//! the sentences of `specs/Sentences`. What stands around the place of a mistake is read from the text by `specs/Found` and
+//! `specs/Scenes`; what is said beside a token that can't stand there is the table of cases in `specs/Hints`.
 #![tactic(auto)]
 
+mod cases;
 mod found;
+mod hints;
 mod lines;
+mod scene;
 mod sentences;
 
 pub use lines::{fault_line, mistake_line};

@@ -3,7 +3,7 @@
 ghost use Rattle.std.specs.Prelude.{◌≡◌, ◌++◌, IfOk, OnOk, codes, decimal};
 ghost use Rattle.pl0_mistakes.specs.Lines.{mistake_line, fault_line};
 
-use crate::found::token_at;
+use crate::scene::scene_at;
 use crate::sentences::{write, write_fault, write_mistake};
 use itoa::Buffer;
 use pl0_meaning::RunFault;
@@ -29,7 +29,7 @@ pub fn mistake_line(
     let mut line = Vec::from_slice(alloc, file.as_bytes())?;
     write_place(&mut line, place)?;
     write(&mut line, ": error: ")?;
-    write_mistake(&mut line, token_at(text, place), kind)?;
+    write_mistake(&mut line, scene_at(text, place), kind)?;
     write(&mut line, "\n")?;
     Ok(line)
 }

@@ -1,60 +1,111 @@
 //! A sentence for each mistake, and for each fault of a run.
 
 ghost use Rattle.std.specs.Prelude.{◌≡◌, ◌++◌, OnOk};
-ghost use Rattle.pl0_mistakes.specs.Sentences.{quoted, unexpected, mistake_sentence, fault_sentence, is_equal_or_becomes};
+ghost use Rattle.pl0_mistakes.specs.Scenes.{plain};
+ghost use Rattle.pl0_mistakes.specs.Hints.{quoted};
+ghost use Rattle.pl0_mistakes.specs.Sentences.{refused, unexpected, foreign, unreadable, misused, has_byte_order_mark, mistake_sentence, fault_sentence};
 
+use crate::hints::{at_opening, write_hint};
+use crate::scene::{Scene, is};
 use pl0_meaning::RunFault;
 use pl0_tree::FaultKind;
 use std::alloc::AllocError;
 
-/// Appends what is said of a mistake, where this token stands.
-pub fn write_mistake(line: &mut Vec<u8>, token: &[u8], kind: FaultKind) -> Result<(), AllocError>
-    ensures { OnOk result (line.new.items ≡ line.old.items ++ mistake_sentence token.now kind) }
+/// Appends what is said of a mistake, at a place with this around it.
+pub fn write_mistake(
+    line: &mut Vec<u8>,
+    scene: Scene<'_>,
+    kind: FaultKind,
+) -> Result<(), AllocError>
+    ensures { OnOk result (line.new.items ≡ line.old.items ++ mistake_sentence (plain scene.entry) kind) }
 {
+    let token = scene.found;
     match kind {
         FaultKind::TooLong => write(line, "the text has more than 65,536 bytes"),
-        FaultKind::NotAscii => write(line, "only ASCII characters can stand in a program"),
-        FaultKind::BadCharacter => {
-            write(line, "no word, number or sign begins with this character")
-        }
+        FaultKind::NotAscii => write_foreign(line, scene),
+        FaultKind::BadCharacter => write_unreadable(line, scene),
         FaultKind::NumberTooLarge => write(line, "the number is larger than 9223372036854775807"),
         FaultKind::NameTooLong => write(line, "the name has more than 64 characters"),
-        FaultKind::Expected => write_unexpected(line, token),
-        FaultKind::TooDeep => write(line, "more than 64 constructs lie in one another here"),
+        FaultKind::Expected => write_unexpected(line, scene),
+        FaultKind::TooDeep => write(line, "nested more than 64 deep here"),
         FaultKind::TooManyNames => write(line, "the block declares more than 1,024 names"),
         FaultKind::Twice => write_quoted(line, token, " is declared twice in this block"),
         FaultKind::Unknown => write_quoted(line, token, " is not declared"),
         FaultKind::TooEarly => write_quoted(line, token, " is used before its declaration"),
-        FaultKind::WrongKind => write_quoted(
-            line,
-            token,
-            " can't be used so: only variables are assigned, and only procedures are called",
-        ),
+        FaultKind::WrongKind => write_misused(line, scene),
     }
 }
 
-/// Appends what is said of a token that can't stand where it does; of the end of the text, where it is empty.
-fn write_unexpected(line: &mut Vec<u8>, token: &[u8]) -> Result<(), AllocError>
-    ensures { OnOk result (line.new.items ≡ line.old.items ++ unexpected token.now) }
+/// Appends what is said of a byte that isn't ASCII.
+fn write_foreign(line: &mut Vec<u8>, scene: Scene<'_>) -> Result<(), AllocError>
+    ensures { OnOk result (line.new.items ≡ line.old.items ++ foreign (plain scene.entry)) }
 {
-    if token.is_empty() {
-        write(line, "the text ends here, and the program does not")
-    } else if is_equal_or_becomes(token) {
-        write_quoted(
+    if has_byte_order_mark(scene) {
+        write(
             line,
-            token,
-            " can't stand here; `:=` assigns, and `=` compares",
+            "only ASCII characters can stand in a program; save it as UTF-8 without a BOM",
         )
     } else {
-        write_quoted(line, token, " can't stand here")
+        write(line, "only ASCII characters can stand in a program")
     }
 }
 
-/// Whether a token is one of the two signs that are taken for one another.
-fn is_equal_or_becomes(token: &[u8]) -> bool
-    ensures { result ≡ is_equal_or_becomes token.now }
+/// Whether a text begins with the mark that some editors write there, in UTF-8 or in UTF-16.
+fn has_byte_order_mark(scene: Scene<'_>) -> bool
+    ensures { result ≡ has_byte_order_mark (plain scene.entry) }
 {
-    token == b"=".as_slice() || token == b":=".as_slice()
+    scene.before.is_empty()
+        && (scene.onward.starts_with(&[239, 187, 191])
+            || scene.onward.starts_with(&[255, 254])
+            || scene.onward.starts_with(&[254, 255]))
+}
+
+/// Appends what is said of a character with which no token begins.
+fn write_unreadable(line: &mut Vec<u8>, scene: Scene<'_>) -> Result<(), AllocError>
+    ensures { OnOk result (line.new.items ≡ line.old.items ++ unreadable (plain scene.entry)) }
+{
+    if is(scene.found, "{") || is(scene.found, "}") {
+        write(
+            line,
+            "no word, number or sign begins with this character; PL/0 has no comments",
+        )
+    } else {
+        write(line, "no word, number or sign begins with this character")
+    }
+}
+
+/// Appends what is said of a token that can't stand where it does; of the end of the text, where there is none.
+fn write_unexpected(line: &mut Vec<u8>, scene: Scene<'_>) -> Result<(), AllocError>
+    ensures { OnOk result (line.new.items ≡ line.old.items ++ unexpected (plain scene.entry)) }
+{
+    if scene.found.is_empty() {
+        write(line, "the text ends before the program does")
+    } else {
+        write_refused(line, scene)
+    }
+}
+
+/// Appends what is said of a token that can't stand where it does.
+fn write_refused(line: &mut Vec<u8>, scene: Scene<'_>) -> Result<(), AllocError>
+    ensures { OnOk result (line.new.items ≡ line.old.items ++ refused (plain scene.entry)) }
+{
+    write_quoted(line, scene.found, " can't stand here")?;
+    write_hint(line, scene)
+}
+
+/// Appends what is said of a name that can't be used as it is.
+fn write_misused(line: &mut Vec<u8>, scene: Scene<'_>) -> Result<(), AllocError>
+    ensures { OnOk result (line.new.items ≡ line.old.items ++ misused (plain scene.entry)) }
+{
+    if is(scene.before, "call") || at_opening(scene) {
+        write_quoted(
+            line,
+            scene.found,
+            " can't be used so: only variables are assigned, and only procedures are called",
+        )
+    } else {
+        write_quoted(line, scene.found, " is a procedure, which has no value")
+    }
 }
 
 /// Appends what is said of a fault of a run.
@@ -77,6 +128,19 @@ fn write_quoted(line: &mut Vec<u8>, token: &[u8], said: &str) -> Result<(), Allo
     line.extend_from_slice(token)?;
     write(line, "`")?;
     write(line, said)
+}
+
+/// Appends a token between quotes, and what is said before and after it.
+pub fn write_around(
+    line: &mut Vec<u8>,
+    before: &str,
+    token: &[u8],
+    after: &str,
+) -> Result<(), AllocError>
+    ensures { OnOk result (line.new.items ≡ line.old.items ++ (before.now ++ quoted token.now after.now)) }
+{
+    write(line, before)?;
+    write_quoted(line, token, after)
 }
 
 /// Appends a text.

@@ -1,0 +1,171 @@
+-- What is said beside a token that can't stand where it does: a table of cases, of which the first that fits is told.
+use Rattle.std.specs.Prelude.{ℕ, ◌||◌, ◌&&◌, ◌==◌, not, Bool, if◌then◌else◌, List, [], ◌∷◌, ◌++◌, length, slice_index, Option, Some, None, codes, find, option_map, nat_eq}
+use Rattle.std.specs.List.{list_any, starts_with}
+use Rattle.std.specs.Str.{bytes_eq, str_eq_ignore_ascii_case}
+use Rattle.std.specs.Char.{is_ascii_digit, is_ascii_alphabetic}
+use Rattle.pl0_tree.specs.Tokens.{keywords}
+use Rattle.pl0_mistakes.specs.Scenes.{Scene, is_keyword}
+
+-- what is said of a token, which stands in front, between quotes
+abbrev pub quoted : List ℕ → List ℕ → List ℕ
+quoted token said = codes "`" ++ (token ++ (codes "`" ++ said))
+
+-- a token is one of these
+abbrev pub one_of : List ℕ → List (List ℕ) → Bool
+one_of token words = list_any (λ word. bytes_eq token word) words
+
+abbrev pub is_number : List ℕ → Bool
+is_number token = is_ascii_digit (slice_index token 0)
+
+abbrev pub is_name : List ℕ → Bool
+is_name token = is_ascii_alphabetic (slice_index token 0) && not (is_keyword token)
+
+-- a word is a keyword, but for its case
+abbrev pub is_miscased : List ℕ → List ℕ → Bool
+is_miscased word keyword = str_eq_ignore_ascii_case word keyword && not (bytes_eq word keyword)
+
+-- the keyword that a word is but for its case
+abbrev pub keyword_meant : List ℕ → Option (List ℕ)
+keyword_meant word = option_map (λ entry. entry.0) (find (λ entry. is_miscased word entry.0) keywords)
+
+-- with this opener a statement may begin
+abbrev pub opens_statement : List ℕ → Bool
+opens_statement opener =
+    (length opener == 0) || one_of opener (codes ";" ∷ codes "begin" ∷ codes "then" ∷ codes "do" ∷ [])
+
+-- the token before is a name with which a statement begins
+abbrev pub is_target : Scene → Bool
+is_target s = opens_statement s.opener && is_name s.before
+
+-- the token before ends an expression, or a call, or `begin` and `end`
+abbrev pub may_end : List ℕ → Bool
+may_end token = one_of token (codes ")" ∷ codes "end" ∷ []) || (is_number token || is_name token)
+
+-- a statement that begins with the opener may end with the token before
+abbrev pub ends_statement : Scene → Bool
+ends_statement s =
+    one_of s.opener (codes ":=" ∷ codes "!" ∷ codes "call" ∷ codes "end" ∷ [])
+    && (may_end s.before && not s.in_parentheses)
+
+abbrev pub in_condition : Scene → Bool
+in_condition s = one_of s.opener (codes "if" ∷ codes "while" ∷ [])
+
+-- the token found begins a statement; a name does where `:=` comes next
+abbrev pub begins_statement : Scene → Bool
+begins_statement s =
+    one_of s.found (codes "call" ∷ codes "!" ∷ codes "begin" ∷ codes "if" ∷ codes "while" ∷ [])
+    || (is_name s.found && bytes_eq s.next (codes ":="))
+
+-- a statement may begin at the place
+abbrev pub at_opening : Scene → Bool
+at_opening s = opens_statement s.opener && bytes_eq s.before s.opener
+
+-- a remark as other languages have it
+abbrev pub is_comment : Scene → Bool
+is_comment s =
+    (starts_with nat_eq s.onward (codes "(*") || (starts_with nat_eq s.onward (codes "//")
+    || starts_with nat_eq s.onward (codes "/*")))
+    || ((bytes_eq s.before (codes "(") && bytes_eq s.found (codes "*"))
+    || ((bytes_eq s.before (codes "/") && one_of s.found (codes "/" ∷ codes "*" ∷ []))
+    || (bytes_eq s.found (codes "#") && at_opening s)))
+
+-- `<>` or `!=`
+abbrev pub is_unequal : Scene → Bool
+is_unequal s =
+    starts_with nat_eq s.onward (codes "!=") || (bytes_eq s.before (codes "<") && bytes_eq s.found (codes ">"))
+
+-- `==` where `=` may stand
+abbrev pub is_doubled : Scene → Bool
+is_doubled s = bytes_eq s.before (codes "=") && bytes_eq s.found (codes "=")
+
+-- `=` where only `:=` can stand, or `:=` in a condition
+abbrev pub is_confused : Scene → Bool
+is_confused s =
+    (bytes_eq s.found (codes "=") && is_target s)
+    || (bytes_eq s.found (codes ":=") && (in_condition s && may_end s.before))
+
+-- a variable is declared with a value, and a constant with `:=`
+abbrev pub has_value : Scene → Bool
+has_value s = one_of s.found (codes "=" ∷ codes ":=" ∷ []) && bytes_eq s.opener (codes "var")
+
+abbrev pub has_becomes : Scene → Bool
+has_becomes s = bytes_eq s.found (codes ":=") && (bytes_eq s.opener (codes "const") && is_name s.before)
+
+-- a sign that compares
+abbrev pub is_comparison : List ℕ → Bool
+is_comparison token =
+    one_of token (codes "=" ∷ codes "#" ∷ codes "<" ∷ codes "<=" ∷ codes ">" ∷ codes ">=" ∷ [])
+
+-- a comparison in parentheses
+abbrev pub is_enclosed : Scene → Bool
+is_enclosed s = is_comparison s.found && (in_condition s && s.in_parentheses)
+
+-- parameters of a procedure, or of a call
+abbrev pub has_parameters : Scene → Bool
+has_parameters s =
+    bytes_eq s.found (codes "(") && (one_of s.opener (codes "procedure" ∷ codes "call" ∷ []) && is_name s.before)
+
+-- a number with a fraction
+abbrev pub has_fraction : Scene → Bool
+has_fraction s = bytes_eq s.found (codes ".") && (is_number s.before && is_number s.next)
+
+-- a semicolon after the program's last `end`
+abbrev pub is_final : Scene → Bool
+is_final s = bytes_eq s.found (codes ";") && bytes_eq s.before (codes "end")
+
+-- a period where a statement may end, and a `begin` has no `end`
+abbrev pub lacks_end : Scene → Bool
+lacks_end s = bytes_eq s.found (codes ".") && (s.in_begin && (ends_statement s || at_opening s))
+
+-- the token before may end a statement or a declaration, behind which more can come
+abbrev pub ends_part : Scene → Bool
+ends_part s =
+    (ends_statement s && (s.in_begin || s.after_procedure))
+    || ((bytes_eq s.opener (codes "const") && is_number s.before)
+    || (one_of s.opener (codes "var" ∷ codes "procedure" ∷ []) && is_name s.before))
+
+-- the token found begins a statement or a declaration
+abbrev pub begins_part : Scene → Bool
+begins_part s =
+    begins_statement s || ((bytes_eq s.found (codes "procedure") && not s.in_begin)
+    || (bytes_eq s.found (codes "var") && bytes_eq s.opener (codes "const")))
+
+abbrev pub lacks_semicolon : Scene → Bool
+lacks_semicolon s = begins_part s && ends_part s
+
+-- a name alone where a statement begins
+abbrev pub lacks_call : Scene → Bool
+lacks_call s = is_target s && one_of s.found (codes ";" ∷ codes "end" ∷ codes "." ∷ [])
+
+-- The table, in three parts. The last part is what is missing, and what a `.` and a `;` mean.
+abbrev pub missing_hint : Scene → List ℕ
+missing_hint s =
+    if has_fraction s then codes "; all numbers are whole"
+    else (if is_final s then codes "; a `.` ends the program"
+    else (if lacks_end s then codes "; perhaps an `end` is missing before it"
+    else (if lacks_semicolon s then codes "; perhaps a `;` is missing before it"
+    else (if lacks_call s then codes "; perhaps `call` is missing before " ++ quoted s.before []
+    else []))))
+
+-- the middle part: a keyword in another case, before the place or there
+abbrev pub meant : List ℕ → List ℕ
+meant keyword = codes "; perhaps " ++ quoted keyword (codes " is meant: keywords are in lower case")
+
+abbrev pub case_hint : Option (List ℕ) → Option (List ℕ) → Scene → List ℕ
+case_hint (Some keyword) _ s = meant keyword
+case_hint None (Some keyword) s = meant keyword
+case_hint None None s = missing_hint s
+
+-- the first part: what the language has not, or has otherwise
+abbrev pub hint : Scene → List ℕ
+hint s =
+    if is_comment s then codes "; PL/0 has no comments"
+    else (if bytes_eq s.before (codes ".") then codes "; the program ends at the `.` before it"
+    else (if is_unequal s then codes "; write `#` for not equal"
+    else (if is_doubled s then codes "; write a single `=`"
+    else (if is_confused s then codes "; `:=` assigns, and `=` compares"
+    else (if has_value s then codes "; a variable is declared without a value"
+    else (if has_becomes s then codes "; a constant is declared with `=`"
+    else (if is_enclosed s then codes "; no comparison stands in parentheses"
+    else (if has_parameters s then codes "; procedures have no parameters"
+    else case_hint (keyword_meant s.before) (keyword_meant s.found) s))))))))
