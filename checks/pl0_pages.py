@@ -4,7 +4,8 @@
 usage: pl0_pages.py PL0
 
 Each row of the table of mistakes in docs/PL0.md is tried where its example is a text: the code is the number of the
-fault, and the sentence and the place are what `pl0 check` tells. For each of the examples `pl0 list` shows the same
+fault, and the sentence and the place are what `pl0 check` tells. So is what the table below it says beside a token that can't
+stand where it does, and of each text in checks/mistakes it tells the line of told.txt there. For each of the examples `pl0 list` shows the same
 instructions, and the same steps beside them, as `pl0dap --check` prints, whose stored output the gate compares. The table of a run in
 docs/PL0.md is what `pl0 trace` writes, also where it begins later or ends earlier, and so is the machine that is drawn
 there. A program that writes more than a megabyte writes it all to a pipe. Where nobody reads on, each command ends at once with
@@ -20,6 +21,7 @@ import sys
 
 TOP = pathlib.Path(__file__).resolve().parent.parent
 ROW = re.compile(r"^\| (\d+) \| \w+ \| .* \| (.*) \| `([^`]*)` \| `(\d+) (\d+) (\d+)` \|$")
+HINT = re.compile(r"^\| ([^|]*) \| [^|]* \| `([^`]*)` \|$")
 ENDLESS = b"var n; while 0 = 0 do begin n := n + 1; ! n end.\n"
 FAULTY = b"var n; begin n := n; ! 1 / n end.\n"
 LONG = b"var n; while n < 200000 do begin n := n + 1; ! n end.\n"
@@ -44,6 +46,32 @@ def wrong_mistakes(pl0: str):
             yield f"mistake {number}: {told.stderr!r}, status {told.returncode}, where {wanted!r} is wanted"
     if rows < 8:
         yield f"only {rows} rows of mistakes were found"
+
+
+def wrong_hints(pl0: str):
+    """What is wrong with the table of what is said beside a token that can't stand where it does."""
+    page = (TOP / "docs" / "PL0.md").read_text(encoding="utf-8")
+    rows = [row for line in page.split("| Said beside it |")[1].split("\n\n")[0].splitlines() if (row := HINT.match(line))]
+    for row in rows:
+        hint, text = row.groups()
+        told = run(pl0, "check", "-", text=text.encode())
+        if not told.stderr.endswith(f"` can't stand here; {hint}\n".encode()):
+            yield f"of {text!r} is told {told.stderr!r}, where {hint!r} is wanted"
+    if len(rows) < 14:
+        yield f"only {len(rows)} rows of hints were found"
+
+
+def wrong_texts(pl0: str):
+    """The texts in checks/mistakes of which something else is told than the file there says."""
+    folder = TOP / "checks" / "mistakes"
+    wanted = (folder / "told.txt").read_text(encoding="utf-8").splitlines(keepends=True)
+    if [line.split(":")[0] for line in wanted] != sorted(text.name for text in folder.glob("*.pl0")):
+        yield "told.txt has not one line for each text"
+    for line in wanted:
+        command = [pl0, "check", line.split(":")[0]]
+        told = subprocess.run(command, cwd=folder, capture_output=True, check=False, timeout=60)
+        if (told.stdout, told.stderr, told.returncode) != (b"", line.encode(), 2):
+            yield f"{told}, where {line!r} is wanted"
 
 
 def listed(text: bytes) -> list[list[bytes]]:
@@ -133,8 +161,8 @@ def wrong_outputs(pl0: str):
 
 
 def main() -> int:
-    (pl0,) = sys.argv[1:]
-    wrong = [*wrong_mistakes(pl0), *wrong_listings(pl0), *wrong_traces(pl0), *wrong_outputs(pl0)]
+    pl0 = str(pathlib.Path(sys.argv[1]).resolve())
+    wrong = [*wrong_mistakes(pl0), *wrong_hints(pl0), *wrong_texts(pl0), *wrong_listings(pl0), *wrong_traces(pl0), *wrong_outputs(pl0)]
     print("\n".join(wrong) or "mistakes, listings, traces and long outputs are as they should be")
     return 1 if wrong else 0
 
