@@ -1,0 +1,6 @@
+-- Frames of messages are added one after another; for the functions of `messages`.
+mod Adding
+-- A content is one request, or none; for `request_laws`.
+mod Once
+-- The conversation goes on by one content more, or breaks off at it; for the functions of `serving`.
+mod Conversing
