@@ -4,6 +4,7 @@ PREFIX ?= /usr/local
 PROGRAM = crates/pl0dap/out/pl0dap
 FROM_ZERO = crates/pl0dap_from_zero/out/pl0dap_from_zero
 PL0 = crates/pl0/out/pl0
+STACK = crates/stack_adapter/out/stack_adapter
 SPEED = crates/speed/out/speed
 # Programs of which nothing is proved, and what tells that the libraries of the others are.
 UNPROVED = out/unproved
@@ -61,6 +62,11 @@ $(PL0): $(PROVED)
 	cd crates/pl0 && rt run -- --version
 	@touch $@
 
+# The example of an adapter for another language.
+$(STACK): $(SOURCES)
+	cd crates/stack_adapter && rt run < /dev/null
+	@touch $@
+
 # Runs a program by the bare machine, in slices or by the runner, and does nothing else.
 $(SPEED): $(PROVED)
 	cd crates/speed && rt run -- work data/count.pl0
@@ -114,10 +120,10 @@ editors: $(PROGRAM) $(FROM_ZERO) $(PL0)
 	python3 editors/highlighting.py $(PROGRAM) examples/*.pl0 demo/*.pl0 checks/*.pl0
 	python3 editors/drive/drive.py $(PROGRAM) $(FROM_ZERO) $(PL0)
 
-# Outside clients and types: a session by Microsoft's debugpy, each message decoded by go-dap and type-checked against
-# @vscode/debugprotocol. Nothing is installed: status 2 where one is missing.
-clients: $(PROGRAM) $(FROM_ZERO)
-	python3 checks/outside_clients.py $(PROGRAM) $(FROM_ZERO)
+# Outside clients and types: a session by Microsoft's debugpy, and one to the example stack_adapter; each message decoded by go-dap and
+# type-checked against @vscode/debugprotocol. Nothing is installed: status 2 where one is missing.
+clients: $(PROGRAM) $(FROM_ZERO) $(STACK)
+	python3 checks/outside_clients.py $(PROGRAM) $(FROM_ZERO) $(STACK)
 
 # The extension for Visual Studio Code, packed and read back.
 vsix:

@@ -1,10 +1,10 @@
 #!/usr/bin/env python3
 """Lets clients and types that others have written judge the adapter.
 
-usage: outside_clients.py PL0DAP PL0DAP_FROM_ZERO
+usage: outside_clients.py PL0DAP PL0DAP_FROM_ZERO STACK_ADAPTER
 
-Microsoft's `debugpy.common.messaging` plays a session. It, and the editors' sessions that `make editors` plays, are recorded anew in
-out/clients/. Then each message that the adapter sent in them is decoded by `go-dap`, which refuses unknown fields, and type-checked
+Microsoft's `debugpy.common.messaging` plays a session, and one to the example of a stack language. They, and the editors' sessions
+that `make editors` plays, are recorded anew in out/clients/. Then each message that the adapter sent in them is decoded by `go-dap`, which refuses unknown fields, and type-checked
 against Microsoft's `@vscode/debugprotocol`. At last the extension for Visual Studio Code is loaded over a stand-in for the editor.
 Nothing is installed. Status 0: all was done, and all is right. Status 1: something is wrong. Status 2: only something that is needed is
 missing.
@@ -44,13 +44,17 @@ def run(*words: str, **settings: str) -> int:
     return subprocess.run(words, cwd=TOP, env={**os.environ, **settings}).returncode
 
 
-def play_debugpy(program: str) -> tuple[int, list[str]]:
-    """The status of debugpy's session, and its transcript if there is one."""
-    place, command = recorder("debugpy.txt", program)
-    status = run(*script("debugpy_session.py"), *command)
-    if status == MISSING:
+def play_debugpy(program: str, stack: str) -> tuple[int, list[str]]:
+    """The status of debugpy's sessions, and their transcripts if there are any."""
+    statuses, places = [], []
+    for name, played in (("debugpy_session", program), ("debugpy_stack", stack)):
+        place, command = recorder(f"{name}.txt", played)
+        statuses.append(run(*script(f"{name}.py"), *command))
+        places.append(place)
+    if MISSING in statuses:
         print("debugpy was not asked. Missing: debugpy (Debian: python3-debugpy)", flush=True)
-    return status, [place] if os.path.exists(place) else []
+    wrong = [status for status in statuses if status not in (0, MISSING)]
+    return max(wrong or statuses), [place for place in places if os.path.exists(place)]
 
 
 def play_editors(program: str, from_zero: str) -> tuple[int, list[str]]:
@@ -99,12 +103,12 @@ def load_extension() -> int:
 
 
 def main() -> int:
-    if len(sys.argv) != 3:
+    if len(sys.argv) != 4:
         print(__doc__, file=sys.stderr)
         return 4
-    program, from_zero = (os.path.abspath(name) for name in sys.argv[1:])
+    program, from_zero, stack = (os.path.abspath(name) for name in sys.argv[1:])
     os.makedirs(MADE, exist_ok=True)
-    debugpy, first = play_debugpy(program)
+    debugpy, first = play_debugpy(program, stack)
     editors, others = play_editors(program, from_zero)
     places = first + others
     statuses = [debugpy, editors, decode(places), check_types(places), load_extension()]

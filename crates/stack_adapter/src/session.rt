@@ -1,0 +1,66 @@
+//! What is replied to each request.
+
+mod requests;
+
+use crate::command::{Command, command_of};
+use crate::phase::Phase;
+use dap_server::{Reply, Responder};
+use serde_json::{Value, json};
+use std::alloc::{AllocError, Global};
+use std::rt::{Clock, Files};
+use std::sync::Wait;
+
+/// A session with a client that counts lines and columns from 1.
+#[derive(Drop)]
+pub struct Session<'a, R: Wait + Files + Clock> {
+    rt: &'a R,
+    phase: Phase,
+    path: String,
+    /// The lines of breakpoints, of which the first is 0.
+    breakpoints: Vec<usize>,
+}
+
+impl<R: Wait + Files + Clock> Responder for Session<'_, R> {
+    ghost use Rattle.stack_adapter.specs.Commands.{command_of};
+    ghost use Rattle.stack_adapter.specs.Promises.{is_stopped, Replies};
+
+    ghost replies = { λ before command _ reply after.
+        Replies (command_of command) (is_stopped before.phase) reply (is_stopped after.phase) };
+
+    fn respond(
+        &mut self,
+        alloc: Global,
+        command: &str,
+        arguments: Option<&Value>,
+    ) -> Result<Reply, AllocError> {
+        match command_of(command) {
+            Command::Initialize => Ok(Reply::with_body(
+                alloc,
+                json!(in alloc; {"supportsConfigurationDoneRequest": true})?,
+            )),
+            Command::Launch => self.launch(alloc, arguments),
+            Command::SetBreakpoints => self.set_breakpoints(alloc, arguments),
+            Command::ConfigurationDone => self.start(alloc),
+            Command::Threads => Ok(Reply::with_body(
+                alloc,
+                json!(in alloc; {"threads": [{"id": 1u64, "name": "stack"}]})?,
+            )),
+            Command::Resume(resume) => self.resume(alloc, resume),
+            Command::Inspect(question) => self.inspect(alloc, question, arguments),
+            Command::Disconnect => Ok(Reply::done(alloc)),
+            Command::Unsupported => Reply::refused(alloc, "unsupported"),
+        }
+    }
+}
+
+impl<'a, R: Wait + Files + Clock> Session<'a, R> {
+    /// Returns a session in which no program is loaded.
+    pub fn new(rt: &'a R, alloc: Global) -> Session<'a, R> {
+        Session {
+            rt,
+            phase: Phase::Fresh,
+            path: String::new(alloc),
+            breakpoints: Vec::new(alloc),
+        }
+    }
+}
