@@ -59,16 +59,9 @@ fn take_piece(rt: &impl Abort, decoder: &mut Decoder, piece: &[u8], seen: &mut V
     }
 }
 
-/// Whether `expected` is read from a stream of which the first bytes are fed in one piece, and the others in pieces of
-/// `step` bytes.
-fn gives(
-    rt: &impl Abort,
-    alloc: Global,
-    stream: &str,
-    first: usize,
-    step: usize,
-    expected: &str,
-) -> bool {
+/// Returns what is read from a stream of which the first bytes are fed in one piece, and the others in pieces of `step`
+/// bytes.
+fn seen_in(rt: &impl Abort, alloc: Global, stream: &str, first: usize, step: usize) -> Vec<u8> {
     let bytes = stream.as_bytes();
     let (front, rest) = bytes.split_at(first.min(bytes.len()));
     let mut decoder = Decoder::new(alloc);
@@ -85,21 +78,29 @@ fn gives(
         )
         .expect(rt, "memory");
     }
-    seen.as_slice() == expected.as_bytes()
+    seen
+}
+
+/// Asserts that this is read from a stream.
+fn assert_gives(
+    rt: &impl Abort,
+    alloc: Global,
+    stream: &str,
+    first: usize,
+    step: usize,
+    expected: &str,
+) {
+    let seen = seen_in(rt, alloc, stream, first, step);
+    let seen = std::str::from_utf8(seen.as_slice());
+    assert_eq!(rt; seen, Ok(expected), "{stream:?} cut at {first}, by {step}");
 }
 
 #[test]
 fn decodes_streams_however_cut(rt: HostRuntime) {
     for (stream, expected) in STREAMS.as_slice() {
-        assert!(rt;
-            gives(&rt, rt.alloc(), stream, 0, 1, expected),
-            "{stream:?} by bytes"
-        );
+        assert_gives(&rt, rt.alloc(), stream, 0, 1, expected);
         for cut in 0..=stream.len() {
-            assert!(rt;
-                gives(&rt, rt.alloc(), stream, cut, stream.len(), expected),
-                "{stream:?} cut at {cut}"
-            );
+            assert_gives(&rt, rt.alloc(), stream, cut, stream.len(), expected);
         }
     }
 }
@@ -118,10 +119,7 @@ fn decodes_headers_up_to_the_limit(rt: HostRuntime) {
             "\r\n\r\n",
         );
         for step in [1, 2, 3, 1024] {
-            assert!(rt;
-                gives(&rt, alloc, stream.as_str(), 0, step, expected),
-                "{letters} by {step}"
-            );
+            assert_gives(&rt, alloc, stream.as_str(), 0, step, expected);
         }
     }
 }
@@ -140,9 +138,11 @@ fn decodes_the_largest_content(rt: HostRuntime) {
     );
     let expected = repeated(&rt, alloc, "", " ", 1_048_576, "\n");
     for step in [4096, stream.len()] {
+        let seen = seen_in(&rt, alloc, stream.as_str(), 0, step);
+        let count = seen.len();
         assert!(rt;
-            gives(&rt, alloc, stream.as_str(), 0, step, expected.as_str()),
-            "by {step}"
+            seen.as_slice() == expected.as_bytes(),
+            "by {step}: {count} bytes"
         );
     }
 }
@@ -173,5 +173,6 @@ fn encodes_the_largest_content(rt: HostRuntime) {
     );
     let mut frame = Vec::new(alloc);
     assert_eq!(rt; encode(content.as_bytes(), &mut frame), Ok(()));
-    assert!(rt; frame.as_slice() == expected.as_bytes());
+    let count = frame.len();
+    assert!(rt; frame.as_slice() == expected.as_bytes(), "{count} bytes");
 }

@@ -23,37 +23,31 @@ fn answer(command: Supported, outcome: Result<Body, Refusal>) -> Outgoing {
     }
 }
 
-/// Whether a message is written as this content, after the bytes that were there before.
-fn is_written(
-    rt: &impl Abort,
-    alloc: Global,
-    message: &Outgoing,
-    seq: u64,
-    expected: &str,
-) -> bool {
+/// Asserts that a message is written as this content, after the bytes that were there before.
+fn assert_written(rt: &impl Abort, alloc: Global, message: &Outgoing, seq: u64, expected: &str) {
     let mut out = b"> ".to_vec(alloc).expect(rt, "memory");
     write(message, seq, &mut out).expect(rt, "memory");
     let whole = format!(in alloc; "> {expected}").expect(rt, "memory");
-    out.as_slice() == whole.as_bytes()
+    assert_eq!(rt; std::str::from_utf8(out.as_slice()), Ok(whole.as_str()));
 }
 
-/// Whether the answer to a command with this body is written as this content, but for its end.
-fn is_body_written(
+/// Asserts that the answer to a command with this body is written as this content, but for its end.
+fn assert_body_written(
     rt: &impl Abort,
     alloc: Global,
     command: Supported,
     body: Body,
     expected: &str,
-) -> bool {
+) {
     let answer = answer(command, Ok(body));
     let end = r#""request_seq":4,"seq":6,"success":true,"type":"response""#;
-    is_ended_so(rt, alloc, &answer, expected, end)
+    assert_ended_so(rt, alloc, &answer, expected, end);
 }
 
-/// Whether a message is written as a content with `first` and then `end` in it.
-fn is_ended_so(rt: &impl Abort, alloc: Global, message: &Outgoing, first: &str, end: &str) -> bool {
+/// Asserts that a message is written as a content with `first` and then `end` in it.
+fn assert_ended_so(rt: &impl Abort, alloc: Global, message: &Outgoing, first: &str, end: &str) {
     let content = format!(in alloc; "{{{first},{end}}}").expect(rt, "memory");
-    is_written(rt, alloc, message, 6, content.as_str())
+    assert_written(rt, alloc, message, 6, content.as_str());
 }
 
 /// What an answer to `initialize` begins with.
@@ -82,10 +76,7 @@ fn writes_small_bodies(rt: HostRuntime) {
         (Supported::Pause, Body::None, r#""command":"pause""#),
     ];
     for (command, body, expected) in rows {
-        assert!(rt;
-            is_body_written(&rt, rt.alloc(), command, body, expected),
-            "{expected}"
-        );
+        assert_body_written(&rt, rt.alloc(), command, body, expected);
     }
 }
 
@@ -102,7 +93,7 @@ fn writes_breakpoints(rt: HostRuntime) {
     let body = Body::Breakpoints(Items::new(answers.to_vec(alloc).expect(&rt, "memory")));
     let expected =
         r#""body":{"breakpoints":[{"line":3,"verified":true},{"message":"otherSource","verified":false},{"message":"noStep","verified":false},{"message":"badCondition","verified":false},{"message":"badHitCondition","verified":false}]},"command":"setBreakpoints""#;
-    assert!(rt; is_body_written(&rt, alloc, Supported::SetBreakpoints, body, expected));
+    assert_body_written(&rt, alloc, Supported::SetBreakpoints, body, expected);
 }
 
 /// Returns `count` frames of the main block.
@@ -143,15 +134,12 @@ fn writes_frames(rt: HostRuntime) {
             count.saturating_sub(1),
             last,
         );
-        assert!(rt;
-            is_body_written(
-                &rt,
-                alloc,
-                Supported::Inspect(QuestionKind::StackTrace),
-                body,
-                expected.as_str()
-            ),
-            "{count}"
+        assert_body_written(
+            &rt,
+            alloc,
+            Supported::Inspect(QuestionKind::StackTrace),
+            body,
+            expected.as_str(),
         );
     }
 }
@@ -167,14 +155,12 @@ fn writes_scopes(rt: HostRuntime) {
     let body = Body::Scopes(Items::new(scopes));
     let expected =
         r#""body":{"scopes":[{"expensive":false,"name":"p","variablesReference":3},{"expensive":false,"name":"main","variablesReference":1}]},"command":"scopes""#;
-    assert!(rt;
-        is_body_written(
-            &rt,
-            alloc,
-            Supported::Inspect(QuestionKind::Scopes),
-            body,
-            expected
-        )
+    assert_body_written(
+        &rt,
+        alloc,
+        Supported::Inspect(QuestionKind::Scopes),
+        body,
+        expected,
     );
 }
 
@@ -183,14 +169,12 @@ fn writes_variables(rt: HostRuntime) {
     let alloc = rt.alloc();
     let none = Body::Variables(Items::new(Vec::new(alloc)));
     let expected = r#""body":{"variables":[]},"command":"variables""#;
-    assert!(rt;
-        is_body_written(
-            &rt,
-            alloc,
-            Supported::Inspect(QuestionKind::Variables),
-            none,
-            expected
-        )
+    assert_body_written(
+        &rt,
+        alloc,
+        Supported::Inspect(QuestionKind::Variables),
+        none,
+        expected,
     );
     let mut variables = Vec::new(alloc);
     let name = text(&rt, alloc, "x");
@@ -201,14 +185,12 @@ fn writes_variables(rt: HostRuntime) {
     let body = Body::Variables(Items::new(variables));
     let expected =
         r#""body":{"variables":[{"name":"x","value":"9223372036854775807","variablesReference":0}]},"command":"variables""#;
-    assert!(rt;
-        is_body_written(
-            &rt,
-            alloc,
-            Supported::Inspect(QuestionKind::Variables),
-            body,
-            expected
-        )
+    assert_body_written(
+        &rt,
+        alloc,
+        Supported::Inspect(QuestionKind::Variables),
+        body,
+        expected,
     );
 }
 
@@ -237,15 +219,12 @@ fn writes_names_of_each_kind(rt: HostRuntime) {
         let expected = format!(in alloc;
             "\"body\":{{\"variables\":[{plain}{end}]}},\"command\":\"variables\""
         ).expect(&rt, "memory");
-        assert!(rt;
-            is_body_written(
-                &rt,
-                alloc,
-                Supported::Inspect(QuestionKind::Variables),
-                body,
-                expected.as_str()
-            ),
-            "{count}"
+        assert_body_written(
+            &rt,
+            alloc,
+            Supported::Inspect(QuestionKind::Variables),
+            body,
+            expected.as_str(),
         );
     }
 }
@@ -281,10 +260,7 @@ fn writes_refusals(rt: HostRuntime) {
             "{{\"body\":{{}},\"command\":\"launch\",\"message\":\"{message}\",\"request_seq\":4,\"seq\":9007199254740991,\"success\":false,\"type\":\"response\"}}"
         ).expect(&rt, "memory");
         let answer = answer(Supported::Launch, Err(*refusal));
-        assert!(rt;
-            is_written(&rt, alloc, &answer, 9007199254740991, expected.as_str()),
-            "{message}"
-        );
+        assert_written(&rt, alloc, &answer, 9007199254740991, expected.as_str());
     }
 }
 
@@ -298,7 +274,7 @@ fn writes_names_as_they_came(rt: HostRuntime) {
     };
     let expected =
         r#"{"body":{},"command":"a\"b\\c","message":"unsupported","request_seq":7,"seq":1,"success":false,"type":"response"}"#;
-    assert!(rt; is_written(&rt, alloc, &answer, 1, expected));
+    assert_written(&rt, alloc, &answer, 1, expected);
 }
 
 /// Events, and what the content of each begins with.
@@ -339,19 +315,16 @@ const STOPS: [(StopReason, &str); 8] = [
     ),
 ];
 
-/// Whether an event is written as this content, but for its end.
-fn is_event_written(rt: &impl Abort, alloc: Global, event: EventBody, expected: &str) -> bool {
+/// Asserts that an event is written as this content, but for its end.
+fn assert_event_written(rt: &impl Abort, alloc: Global, event: EventBody, expected: &str) {
     let end = r#""seq":6,"type":"event""#;
-    is_ended_so(rt, alloc, &Outgoing::Event(event), expected, end)
+    assert_ended_so(rt, alloc, &Outgoing::Event(event), expected, end);
 }
 
 #[test]
 fn writes_events(rt: HostRuntime) {
     for (event, expected) in EVENTS {
-        assert!(rt;
-            is_event_written(&rt, rt.alloc(), event, expected),
-            "{expected}"
-        );
+        assert_event_written(&rt, rt.alloc(), event, expected);
     }
 }
 
@@ -360,7 +333,7 @@ fn writes_logs(rt: HostRuntime) {
     let alloc = rt.alloc();
     let event = EventBody::Log(text(&rt, alloc, "x is 0, \"é\"\n"));
     let expected = r#""body":{"category":"console","output":"x is 0, \"é\"\n"},"event":"output""#;
-    assert!(rt; is_event_written(&rt, alloc, event, expected));
+    assert_event_written(&rt, alloc, event, expected);
 }
 
 #[test]
@@ -370,9 +343,6 @@ fn writes_stops(rt: HostRuntime) {
         let expected = format!(in alloc;
             "\"body\":{{\"allThreadsStopped\":true,{said},\"threadId\":1}},\"event\":\"stopped\""
         ).expect(&rt, "memory");
-        assert!(rt;
-            is_event_written(&rt, alloc, EventBody::Stopped(*reason), expected.as_str()),
-            "{said}"
-        );
+        assert_event_written(&rt, alloc, EventBody::Stopped(*reason), expected.as_str());
     }
 }

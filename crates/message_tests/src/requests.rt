@@ -356,19 +356,17 @@ const EXPRESSIONS: [Row; 6] = [
     ),
 ];
 
-/// Whether a content is read as this, a request or none.
-fn reads(rt: &impl Abort, alloc: Global, content: &[u8], expected: &str) -> bool {
+/// Asserts that a content is read as this, a request or none.
+fn assert_read(rt: &impl Abort, alloc: Global, name: &str, content: &[u8], expected: &str) {
     let request = read(alloc, content).expect(rt, "memory");
-    format!(in alloc; "{request:?}")
-        .expect(rt, "memory")
-        .as_str()
-        == expected
+    let request = format!(in alloc; "{request:?}").expect(rt, "memory");
+    assert_eq!(rt; request.as_str(), expected, "{name}");
 }
 
 #[test]
 fn reads_contents(rt: HostRuntime) {
     for (content, expected) in CONTENTS.as_slice() {
-        assert!(rt; reads(&rt, rt.alloc(), content, expected), "{expected}");
+        assert_read(&rt, rt.alloc(), expected, content, expected);
     }
 }
 
@@ -380,7 +378,7 @@ fn reads_seqs(rt: HostRuntime) {
             "{{\"command\":\"threads\",\"type\":\"request\",\"seq\":{seq}}}"
         ).expect(&rt, "memory");
         let content = content.as_bytes();
-        assert!(rt; reads(&rt, alloc, content, from_one), "{seq}");
+        assert_read(&rt, alloc, seq, content, from_one);
         for (first, expected) in [(FirstSeq::One, from_one), (FirstSeq::Zero, from_zero)] {
             let request = read_from(alloc, first, content).expect(&rt, "memory");
             let request = format!(in alloc; "{request:?}").expect(&rt, "memory");
@@ -389,17 +387,18 @@ fn reads_seqs(rt: HostRuntime) {
     }
 }
 
-/// Whether a request for a command with these arguments asks for this, and names the command for its answer.
-fn asks(rt: &impl Abort, alloc: Global, row: Row) -> bool {
+/// Asserts that a request for a command with these arguments asks for this, and names the command for its answer.
+fn assert_asks(rt: &impl Abort, alloc: Global, row: Row) {
     let (command, arguments, expected) = row;
     let content = format!(in alloc;
         "{{\"seq\":7,\"type\":\"request\",\"command\":\"{command}\",\"arguments\":{arguments}}}"
     ).expect(rt, "memory");
-    let Some(Request { seq: 7, body }) = read(alloc, content.as_bytes()).expect(rt, "memory") else {
-        return false;
-    };
-    let asked = format!(in alloc; "{body:?}").expect(rt, "memory");
-    asked.as_str() == expected && body.into_name().as_str() == command
+    let request = read(alloc, content.as_bytes()).expect(rt, "memory");
+    let Request { seq, body } = request.expect(rt, "a request");
+    let asked = format!(in alloc; "{seq}: {body:?}").expect(rt, "memory");
+    let expected = format!(in alloc; "7: {expected}").expect(rt, "memory");
+    assert_eq!(rt; asked.as_str(), expected.as_str(), "{row:?}");
+    assert_eq!(rt; body.into_name().as_str(), command, "{row:?}");
 }
 
 #[test]
@@ -415,7 +414,7 @@ fn reads_arguments(rt: HostRuntime) {
     ];
     for table in tables.as_slice() {
         for row in *table {
-            assert!(rt; asks(&rt, rt.alloc(), *row), "{row:?}");
+            assert_asks(&rt, rt.alloc(), *row);
         }
     }
 }
@@ -475,30 +474,29 @@ const LIMITS: [Limit; 6] = [
     },
 ];
 
-/// Whether the arguments are accepted with their part repeated `times` times.
-fn fits(rt: &impl Abort, alloc: Global, limit: &Limit, times: usize) -> bool {
+/// Asserts that the arguments with their part repeated `times` times make a request, and whether they are accepted.
+fn assert_fits(rt: &impl Abort, alloc: Global, limit: &Limit, times: usize, fits: bool) {
     let command = limit.command;
     let head = format!(in alloc;
         "{{\"type\":\"request\",\"command\":\"{command}\",\"seq\":1,\"arguments\":"
     ).expect(rt, "memory");
     let arguments = repeated(rt, alloc, limit.first, limit.repeated, times, limit.last);
     let content = format!(in alloc; "{head}{arguments}}}").expect(rt, "memory");
-    let Some(request) = read(alloc, content.as_bytes()).expect(rt, "memory") else {
-        return false;
-    };
-    let asked = format!(in alloc; "{request:?}").expect(rt, "memory");
-    !asked.contains("BadArguments")
+    let request = read(alloc, content.as_bytes()).expect(rt, "memory");
+    let body = request.expect(rt, "a request").body;
+    let asked = format!(in alloc; "{body:?}").expect(rt, "memory");
+    let first = limit.first;
+    assert!(rt;
+        asked.starts_with("BadArguments") != fits,
+        "{times} times in {first}: {asked}"
+    );
 }
 
 #[test]
 fn reads_arguments_up_to_their_limits(rt: HostRuntime) {
     for limit in LIMITS.as_slice() {
-        let first = limit.first;
-        assert!(rt; fits(&rt, rt.alloc(), limit, limit.most), "{first}");
-        assert!(rt;
-            !fits(&rt, rt.alloc(), limit, limit.most.saturating_add(1)),
-            "one more: {first}"
-        );
+        assert_fits(&rt, rt.alloc(), limit, limit.most, true);
+        assert_fits(&rt, rt.alloc(), limit, limit.most.saturating_add(1), false);
     }
 }
 
@@ -516,10 +514,8 @@ fn reads_names_up_to_64_bytes(rt: HostRuntime) {
     );
     for (times, expected) in [(64, longest.as_str()), (65, "None"), (0, "None")] {
         let content = repeated(&rt, alloc, first, "a", times, r#""}"#);
-        assert!(rt;
-            reads(&rt, alloc, content.as_bytes(), expected),
-            "{times} letters"
-        );
+        let name = format!(in alloc; "{times} letters").expect(&rt, "memory");
+        assert_read(&rt, alloc, name.as_str(), content.as_bytes(), expected);
     }
 }
 
@@ -539,7 +535,7 @@ fn reads_names_of_printable_characters(rt: HostRuntime) {
         let content = format!(in alloc;
             "{{\"seq\":1,\"type\":\"request\",\"command\":\"{name}\"}}"
         ).expect(&rt, "memory");
-        assert!(rt; reads(&rt, alloc, content.as_bytes(), expected), "{name}");
+        assert_read(&rt, alloc, name, content.as_bytes(), expected);
     }
 }
 
@@ -550,10 +546,8 @@ fn reads_values_up_to_127_deep(rt: HostRuntime) {
     for (arrays, expected) in [(126, INITIALIZE_1), (127, "None")] {
         let opened = repeated(&rt, alloc, first, "[", arrays, "");
         let content = repeated(&rt, alloc, opened.as_str(), "]", arrays, "}");
-        assert!(rt;
-            reads(&rt, alloc, content.as_bytes(), expected),
-            "{arrays} arrays"
-        );
+        let name = format!(in alloc; "{arrays} arrays").expect(&rt, "memory");
+        assert_read(&rt, alloc, name.as_str(), content.as_bytes(), expected);
     }
 }
 
@@ -564,6 +558,6 @@ fn reads_the_largest_content(rt: HostRuntime) {
     let first = r#"{"seq":1,"type":"request","command":"initialize","x":""#;
     let rest = 1_048_574usize.saturating_sub(first.len());
     let content = repeated(&rt, alloc, first, "x", rest, "\"}");
-    assert!(rt; content.len() == 1_048_576);
-    assert!(rt; reads(&rt, alloc, content.as_bytes(), INITIALIZE_1));
+    assert_eq!(rt; content.len(), 1_048_576);
+    assert_read(&rt, alloc, first, content.as_bytes(), INITIALIZE_1);
 }
