@@ -16,9 +16,11 @@ use std::alloc::Global;
 use std::process::Abort;
 use std::sync::Wait;
 
-/// Asserts that each session goes as it is written, with the client's bytes whole and one by one.
+/// Asserts that each session goes as it is written, with the client's bytes whole and one by one. Nothing stands before the
+/// first one.
 fn assert_sessions<R: Abort + Wait>(rt: &R, alloc: Global, sessions: &str) {
-    for session in sessions.split("\n# ").skip(1) {
+    let sessions = sessions.strip_prefix("\n# ").expect(rt, "`# NAME`");
+    for session in sessions.split("\n# ") {
         for piece in [usize::MAX, 1] {
             assert_session(rt, alloc, session, piece);
         }
