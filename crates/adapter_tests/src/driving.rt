@@ -126,9 +126,10 @@ fn assert_driven<R: Abort + Wait>(rt: &R, alloc: Global, session: &Driven) {
         (session.end, session.orders),
         "{name}, by {piece}"
     );
+    let came = std::str::from_utf8(run.output.as_slice());
     assert!(rt;
         run.output.as_slice() == answers.as_slice(),
-        "{name}, by {piece}"
+        "{name}, by {piece}: {came:?}"
     );
 }
 
@@ -248,31 +249,5 @@ const STOPS: [Driven; 6] = [
 fn stops_where_a_port_refuses_or_a_piece_is_missing(rt: HostRuntime) {
     for session in STOPS.as_slice() {
         assert_driven(&rt, rt.alloc(), session);
-    }
-}
-
-/// With a refused allocation anywhere, what is put is a prefix of the answers, and only out of memory, or a port
-/// without any, is the reason. Where the test itself finds no memory there is nothing to see.
-#[test]
-fn answers_a_beginning_where_memory_ends(rt: HostRuntime) {
-    let alloc = rt.alloc();
-    let Ok(input) = input(alloc, HELLO, "") else {
-        return;
-    };
-    let Ok(expected) = frames(alloc, HELLO, ANSWERED) else {
-        return;
-    };
-    let Ok(run) = run(&rt, alloc, input.as_slice(), AMPLE) else {
-        return;
-    };
-    match run.end {
-        Ok(closed) => {
-            assert_eq!(rt; closed, Closed::Disconnected);
-            assert!(rt; run.output.as_slice() == expected.as_slice());
-        }
-        Err(SessionFault::NoMemory | SessionFault::WriterGone | SessionFault::RunnerGone) => {
-            assert!(rt; expected.starts_with(run.output.as_slice()));
-        }
-        Err(fault) => assert!(rt; false, "{fault:?}"),
     }
 }

@@ -16,9 +16,10 @@ use test_kit::Files;
 fn assert_answered(rt: &impl Abort, session: &Debugging, exchange: &Exchange, run: &Outcome) {
     let name = session.name;
     assert_eq!(rt; run.end, Ok(session.end), "{name}");
+    let came = std::str::from_utf8(run.output.as_slice());
     assert!(rt;
         run.output.as_slice() == exchange.answered.as_slice(),
-        "{name}"
+        "{name}: {came:?}"
     );
 }
 
@@ -119,8 +120,9 @@ fn writes_before_it_reads_again(rt: HostRuntime) {
     assert_answered(&rt, &NOTHING, &exchange, &run);
 }
 
-/// The most outputs that may come before the answer to a pause that was read, and again before the stop.
-const MOST_OUTPUTS: usize = 1024;
+/// The most outputs that may come before the answer to a pause that was read, and again before the stop: those on their way
+/// to the session, and those of one report.
+const MOST_OUTPUTS: usize = 512 + 256;
 
 /// How many outputs a text has.
 fn outputs(text: &str) -> usize {
@@ -160,7 +162,8 @@ fn paused_while_printing<R: Threads + Wait + Abort + Copy + Drop + Send + Sync>(
     run(rt, alloc, program.as_str(), sent.as_slice(), streams).output
 }
 
-/// However much a program prints, a pause takes effect after a bounded number of messages.
+/// However much a program prints, a pause takes effect after a bounded number of messages. Some come before its answer,
+/// since the runner waits until they are taken.
 #[test]
 fn pauses_a_program_that_prints(rt: HostRuntime) {
     let output = paused_while_printing(&rt, rt.alloc());
@@ -171,6 +174,7 @@ fn pauses_a_program_that_prints(rt: HostRuntime) {
     let (between, _) = after
         .split_once("\"event\":\"stopped\"")
         .expect(&rt, "a stop");
+    assert!(rt; outputs(before) > 0, "no output");
     assert!(rt; outputs(before) <= MOST_OUTPUTS, "{}", outputs(before));
     assert!(rt; outputs(between) <= MOST_OUTPUTS, "{}", outputs(between));
 }

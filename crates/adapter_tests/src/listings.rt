@@ -23,20 +23,27 @@ pub const LISTING: &[u8] = b"0 3 7 assign
 6 OPR 0 0 @2
 ";
 
-/// Whether judging what the loader gives writes this, and ends the program with this status and last line.
-fn is_judged<R: Abort + Wait, L: Loader>(
+/// Asserts that judging what the loader gives writes this, and ends the program with this status and last line.
+fn assert_judged<R: Abort + Wait, L: Loader>(
     rt: &R,
     alloc: Global,
     loader: &mut L,
     streams: Streams,
     expected: (&[u8], u8, &str),
-) -> bool {
+) {
     let progress = Progress::new();
     let mut output = Output::new(rt, alloc, streams, &progress);
     let reason = end_of_check(&check(rt, alloc, "p.pl0", loader, &mut output));
     let line = format!(in alloc; "{reason}").expect(rt, "memory");
     let (listing, status, last_line) = expected;
-    output.bytes.as_slice() == listing && reason.status() == status && line.as_str() == last_line
+    assert_eq!(rt;
+        (
+            std::str::from_utf8(output.bytes.as_slice()),
+            reason.status(),
+            line.as_str()
+        ),
+        (std::str::from_utf8(listing), status, last_line)
+    );
 }
 
 #[test]
@@ -48,10 +55,7 @@ fn prints_the_listing(rt: HostRuntime) {
             write_step,
             ..Streams::WELL
         };
-        assert!(rt;
-            is_judged(&rt, alloc, file, streams, (LISTING, 0, "")),
-            "by {write_step}"
-        );
+        assert_judged(&rt, alloc, file, streams, (LISTING, 0, ""));
     }
 }
 
@@ -60,7 +64,7 @@ fn names_the_first_fault(rt: HostRuntime) {
     let alloc = rt.alloc();
     let file = &mut Files::everywhere(alloc, b"x := 1.");
     let expected: (&[u8], u8, &str) = (b"", 3, "pl0dap: syntax 10 1 1");
-    assert!(rt; is_judged(&rt, alloc, file, Streams::WELL, expected));
+    assert_judged(&rt, alloc, file, Streams::WELL, expected);
 }
 
 #[test]
@@ -68,7 +72,7 @@ fn says_that_a_file_cannot_be_read(rt: HostRuntime) {
     let alloc = rt.alloc();
     let none = &mut Files::none(alloc);
     let expected: (&[u8], u8, &str) = (b"", 1, "pl0dap: cannot read");
-    assert!(rt; is_judged(&rt, alloc, none, Streams::WELL, expected));
+    assert_judged(&rt, alloc, none, Streams::WELL, expected);
 }
 
 /// The output fails, or takes nothing, at each byte of the listing.
@@ -83,6 +87,6 @@ fn says_that_a_listing_was_cut(rt: HostRuntime) {
             ..Streams::WELL
         };
         let expected = (&LISTING[..room], 1, "pl0dap: write failed");
-        assert!(rt; is_judged(&rt, alloc, file, streams, expected), "at {room}");
+        assert_judged(&rt, alloc, file, streams, expected);
     }
 }

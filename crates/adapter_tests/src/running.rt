@@ -21,15 +21,15 @@ struct Expected<'a> {
     status: u8,
 }
 
-/// Whether the program comes to this over such streams, with room for all that it says of its end.
-fn comes_to<R, L>(
+/// Asserts that the program comes to this over such streams, with room for all that it says of its end.
+fn assert_comes_to<R, L>(
     rt: &R,
     arguments: &[&str],
     loader: &mut L,
     bytes: &[u8],
     streams: Streams,
     expected: Expected,
-) -> bool
+)
 where
     R: Threads + Wait + Abort + Eprint + AllocGlobal + Copy + Drop + Send + Sync,
     L: Loader,
@@ -52,9 +52,18 @@ where
         &mut output,
         &mut errors,
     );
-    output.bytes.as_slice() == expected.output
-        && errors.bytes.as_slice() == expected.errors.as_bytes()
-        && reason.status() == expected.status
+    assert_eq!(rt;
+        (
+            std::str::from_utf8(output.bytes.as_slice()),
+            std::str::from_utf8(errors.bytes.as_slice()),
+            reason.status()
+        ),
+        (
+            std::str::from_utf8(expected.output),
+            Ok(expected.errors),
+            expected.status
+        )
+    );
 }
 
 const CHECK: [&str; 3] = ["pl0dap", "--check", "p.pl0"];
@@ -80,15 +89,13 @@ fn serves_with_no_arguments(rt: HostRuntime) {
         errors: "",
         status: 0,
     };
-    assert!(rt;
-        comes_to(
-            &rt,
-            &["pl0dap"],
-            files,
-            sent.as_slice(),
-            Streams::WELL,
-            expected
-        )
+    assert_comes_to(
+        &rt,
+        &["pl0dap"],
+        files,
+        sent.as_slice(),
+        Streams::WELL,
+        expected,
     );
 }
 
@@ -103,15 +110,13 @@ fn says_why_serving_failed(rt: HostRuntime) {
         errors: "pl0dap: frame 2\n",
         status: 2,
     };
-    assert!(rt;
-        comes_to(
-            &rt,
-            &["pl0dap"],
-            files,
-            sent.as_slice(),
-            Streams::WELL,
-            expected
-        )
+    assert_comes_to(
+        &rt,
+        &["pl0dap"],
+        files,
+        sent.as_slice(),
+        Streams::WELL,
+        expected,
     );
     let full = Streams {
         room: 0,
@@ -122,7 +127,7 @@ fn says_why_serving_failed(rt: HostRuntime) {
         errors: "pl0dap: write failed\n",
         status: 1,
     };
-    assert!(rt; comes_to(&rt, &["pl0dap"], files, sent.as_slice(), full, expected));
+    assert_comes_to(&rt, &["pl0dap"], files, sent.as_slice(), full, expected);
 }
 
 #[test]
@@ -133,7 +138,7 @@ fn prints_the_listing_of_a_file(rt: HostRuntime) {
         errors: "",
         status: 0,
     };
-    assert!(rt; comes_to(&rt, &CHECK, files, b"", Streams::WELL, expected));
+    assert_comes_to(&rt, &CHECK, files, b"", Streams::WELL, expected);
 }
 
 #[test]
@@ -144,14 +149,14 @@ fn says_why_there_is_no_listing(rt: HostRuntime) {
         errors: "pl0dap: syntax 10 1 1\n",
         status: 3,
     };
-    assert!(rt; comes_to(&rt, &CHECK, files, b"", Streams::WELL, expected));
+    assert_comes_to(&rt, &CHECK, files, b"", Streams::WELL, expected);
     let none = &mut Files::none(rt.alloc());
     let expected = Expected {
         output: b"",
         errors: "pl0dap: cannot read\n",
         status: 1,
     };
-    assert!(rt; comes_to(&rt, &CHECK, none, b"", Streams::WELL, expected));
+    assert_comes_to(&rt, &CHECK, none, b"", Streams::WELL, expected);
 }
 
 #[test]
@@ -162,15 +167,13 @@ fn prints_help(rt: HostRuntime) {
         errors: "",
         status: 0,
     };
-    assert!(rt;
-        comes_to(
-            &rt,
-            &["pl0dap", "--help"],
-            files,
-            b"",
-            Streams::WELL,
-            expected
-        )
+    assert_comes_to(
+        &rt,
+        &["pl0dap", "--help"],
+        files,
+        b"",
+        Streams::WELL,
+        expected,
     );
     for status in ["\n  0  ", "\n  1  ", "\n  2  ", "\n  3  ", "\n  4  "] {
         assert!(rt; HELP.contains(status), "{status:?}");
@@ -186,7 +189,7 @@ fn says_what_it_does_not_understand(rt: HostRuntime) {
         status: 4,
     };
     let arguments = ["pl0dap", "--chec", "a"];
-    assert!(rt; comes_to(&rt, &arguments, files, b"", Streams::WELL, expected));
+    assert_comes_to(&rt, &arguments, files, b"", Streams::WELL, expected);
 }
 
 /// An end that can't be said is the same end.

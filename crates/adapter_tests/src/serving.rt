@@ -50,20 +50,33 @@ struct Expected<'a> {
     last_line: &'a str,
 }
 
-/// Returns whether the input is answered so.
-fn is_served<R: Threads + Wait + Abort + Copy + Drop + Send + Sync>(
+/// Asserts that the input is answered so.
+fn assert_answered<R: Threads + Wait + Abort + Copy + Drop + Send + Sync>(
     rt: &R,
     alloc: Global,
+    name: &str,
     input: &[u8],
     streams: Streams,
     expected: Expected,
-) -> bool {
+) {
     let run = run(rt, alloc, "", input, streams);
     let reason = end_of_serve(&run.end);
     let line = format!(in alloc; "{reason}").expect(rt, "memory");
-    run.output.as_slice() == expected.output
-        && reason.status() == expected.status
-        && line.as_str() == expected.last_line
+    let step = streams.read_step;
+    let cut = streams.cuts.first().map(|cut| cut.at);
+    assert_eq!(rt;
+        (
+            std::str::from_utf8(run.output.as_slice()),
+            reason.status(),
+            line.as_str()
+        ),
+        (
+            std::str::from_utf8(expected.output),
+            expected.status,
+            expected.last_line
+        ),
+        "{name}, by {step}, cut at {cut:?}"
+    );
 }
 
 /// The streams of reads and writes of `step` bytes each.
@@ -89,20 +102,14 @@ fn assert_served<R: Threads + Wait + Abort + Copy + Drop + Send + Sync>(
         status: row.status,
         last_line: row.last_line,
     };
-    assert!(rt;
-        is_served(rt, alloc, input.as_slice(), by(1), expected),
-        "{name}, by bytes"
-    );
+    assert_answered(rt, alloc, name, input.as_slice(), by(1), expected);
     for at in 0..input.len() {
         let hold = Hold::Nothing;
         let streams = Streams {
             cuts: &[Cut { at, hold }],
             ..Streams::WELL
         };
-        assert!(rt;
-            is_served(rt, alloc, input.as_slice(), streams, expected),
-            "{name}, cut at {at}"
-        );
+        assert_answered(rt, alloc, name, input.as_slice(), streams, expected);
     }
 }
 
@@ -143,10 +150,7 @@ fn serves_headers_up_to_the_limit(rt: HostRuntime) {
             last_line,
         };
         for step in [usize::MAX, 1, 1000] {
-            assert!(rt;
-                is_served(&rt, alloc, input.as_bytes(), by(step), expected),
-                "{letters} by {step}"
-            );
+            assert_answered(&rt, alloc, last_line, input.as_bytes(), by(step), expected);
         }
     }
 }
@@ -168,10 +172,7 @@ fn serves_the_largest_content(rt: HostRuntime) {
         last_line: "",
     };
     for step in [usize::MAX, 1000] {
-        assert!(rt;
-            is_served(&rt, alloc, input.as_bytes(), by(step), expected),
-            "by {step}"
-        );
+        assert_answered(&rt, alloc, "spaces", input.as_bytes(), by(step), expected);
     }
 }
 
