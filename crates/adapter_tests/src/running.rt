@@ -52,17 +52,12 @@ where
         &mut output,
         &mut errors,
     );
+    let came = std::str::from_utf8(output.bytes.as_slice());
+    let said = std::str::from_utf8(errors.bytes.as_slice());
+    let output = std::str::from_utf8(expected.output);
     assert_eq!(rt;
-        (
-            std::str::from_utf8(output.bytes.as_slice()),
-            std::str::from_utf8(errors.bytes.as_slice()),
-            reason.status()
-        ),
-        (
-            std::str::from_utf8(expected.output),
-            Ok(expected.errors),
-            expected.status
-        )
+        (came, said, reason.status()),
+        (output, Ok(expected.errors), expected.status)
     );
 }
 
