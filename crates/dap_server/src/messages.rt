@@ -2,7 +2,7 @@
 
 ghost use Rattle.std.specs.Prelude.{◌≡◌, ◌+◌, [], ◌∷◌, length, map, IfOk, IfErr, OnOk, option_map, string_bytes};
 ghost use Rattle.serde_json.specs.View.{view};
-ghost use Rattle.dap_server.specs.Messages.{plain_reply, plain_event, plain_outcome, response_value, event_value, events_from, messages, Adds};
+ghost use Rattle.dap_server.specs.Messages.{plain_reply, plain_event, plain_outcome, response_value, event_value, events_after, events_from, messages, Adds};
 ghost use Rattle.dap_server.specs.Serving.{Unmade};
 
 use crate::ending::ServeFault;
@@ -25,11 +25,23 @@ pub(crate) fn frames_of(
         (next.old + length (messages request_seq command.now (plain_reply reply) next.old))) }
 {
     let Reply { outcome, events } = reply;
+    let events = events_after(alloc, command, events);
     let mut bytes = Vec::new(alloc);
     let response = response(alloc, outcome, request_seq, command, *next)?;
     add(alloc, &response, next, &mut bytes)?;
     add_events(alloc, events, next, &mut bytes)?;
     Ok(bytes)
+}
+
+/// Returns the events that are sent after the answer to this command: none where the client leaves with it.
+fn events_after(alloc: Global, command: &str, events: Vec<Event>) -> Vec<Event>
+    ensures { map plain_event result.items ≡ events_after command.now (map plain_event events.items) }
+{
+    if command == "disconnect" {
+        Vec::new(alloc)
+    } else {
+        events
+    }
 }
 
 /// Returns the value of a response.
