@@ -394,10 +394,10 @@ fn random_change(random: &mut Random) -> Change {
 }
 
 /// Why a position is due, and what it logs.
-type StoppedDebuggee = (Option<Reason>, String);
+type Considered = (Option<Reason>, String);
 
 /// A position, by the debuggee and by the definition.
-type Seen = (StoppedDebuggee, StoppedDebuggee);
+type Seen = (Considered, Considered);
 
 /// Runs both sides to the end, or to the last position: what is found of each position. The wishes are those of another
 /// plan.

@@ -37,16 +37,6 @@ fn steps_to(rt: &impl Abort, alloc: Global, debuggee: &mut Debuggee, position: u
     debuggee.machine().position().saturating_sub(from)
 }
 
-/// Returns a loop at position 400,000, with its checkpoints.
-fn at_the_end_of_the_loop(rt: &impl Abort, alloc: Global) -> Debuggee
-    ensures { result.next ≡ result.position }
-{
-    let mut debuggee = debuggee_of(rt, alloc, LONG_LOOP);
-    let steps = steps_to(rt, alloc, &mut debuggee, 400_000);
-    assert_eq!(rt; steps, 400_000);
-    debuggee
-}
-
 /// Goes back from a position that a run reached.
 fn back(rt: &impl Abort, debuggee: &mut Debuggee, to: u64) -> u64
     ensures { debuggee.new.next ≡ debuggee.new.position }
@@ -58,24 +48,24 @@ fn back(rt: &impl Abort, debuggee: &mut Debuggee, to: u64) -> u64
     position
 }
 
+/// At position 266,240 there were 64 checkpoints, 4,096 positions apart, and every other one was given up. The later ones
+/// are 8,192 apart. Going back gives up none.
 #[test]
 fn few_steps_are_run_again(rt: HostRuntime) {
-    let mut debuggee = at_the_end_of_the_loop(&rt, rt.alloc());
-    assert_eq!(rt; back(&rt, &mut debuggee, 399_999), 397_312);
-    assert_eq!(rt; steps_to(&rt, rt.alloc(), &mut debuggee, 399_999), 2_687);
-    // Going back gave up none.
-    assert_eq!(rt; back(&rt, &mut debuggee, 397_311), 389_120);
-}
-
-/// At position 266,240 there were 64 checkpoints, 4,096 positions apart.
-#[test]
-fn every_other_checkpoint_is_given_up(rt: HostRuntime) {
-    let mut debuggee = at_the_end_of_the_loop(&rt, rt.alloc());
-    assert_eq!(rt; back(&rt, &mut debuggee, 266_240), 266_240);
-    assert_eq!(rt; back(&rt, &mut debuggee, 266_239), 258_048);
-    assert_eq!(rt; back(&rt, &mut debuggee, 102_399), 94_208);
-    assert_eq!(rt; back(&rt, &mut debuggee, 12_287), 4_096);
-    assert_eq!(rt; back(&rt, &mut debuggee, 4_095), 0);
+    let mut debuggee = debuggee_of(&rt, rt.alloc(), LONG_LOOP);
+    assert_eq!(rt; steps_to(&rt, rt.alloc(), &mut debuggee, 284_000), 284_000);
+    assert_eq!(rt; back(&rt, &mut debuggee, 283_999), 282_624);
+    assert_eq!(rt; steps_to(&rt, rt.alloc(), &mut debuggee, 283_999), 1_375);
+    for (to, checkpoint) in [
+        (282_623, 274_432),
+        (266_240, 266_240),
+        (266_239, 258_048),
+        (102_399, 94_208),
+        (12_287, 4_096),
+        (4_095, 0),
+    ] {
+        assert_eq!(rt; back(&rt, &mut debuggee, to), checkpoint, "back to {to}");
+    }
 }
 
 #[test]

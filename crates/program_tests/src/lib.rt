@@ -3,8 +3,7 @@
 //! Nothing here is installed.
 //!
 //! Most are tables: `table` says how a row is written, and `shown` what is shown of its text. `tokens`, `faults`,
-//! `editor`, `steps`, `code` and `runs` have the rows about the language, a stage each, and in `memory` an allocation may fail.
-//! `plans`, `logpoints`, `slices`, `going_back`, `retreats` and `runner` have those about the debugger. On random
+//! `editor`, `steps`, `code` and `runs` have the rows about the language, a stage each. `plans`, `logpoints`, `slices`, `going_back`, `retreats` and `runner` have those about the debugger. On random
 //! programs, `beside` runs slices beside single steps, and `due` counts arrivals anew beside the debuggee. `examples`
 //! has the example calls that stand at the heads of libraries. `machines` and `debugged` make machines and debuggees of
 //! texts; `test_kit` has the ports of a runner.
@@ -30,8 +29,6 @@ mod going_back;
 mod logpoints;
 #[cfg(test)]
 mod machines;
-#[cfg(test)]
-mod memory;
 #[cfg(test)]
 mod plans;
 #[cfg(test)]

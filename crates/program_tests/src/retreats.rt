@@ -252,15 +252,13 @@ fn goes_back_to_a_checkpoint(rt: HostRuntime) {
 }
 
 /// Where more than 64 are asked for, every second one is given up, and the next ones are 8,192 apart: after 266,240 the
-/// last one is 397,312.
+/// last one is 274,432.
 #[test]
 fn goes_back_from_one_of_many_checkpoints(rt: HostRuntime) {
-    let stops = [(1u32, "x = 199000", ""), (1, "x = 200000", "")];
+    let stops = [(1u32, "x = 138000", "")];
     let turns = [
-        (Mode::Continue, 398_000u64, 0u64, 1_555u64),
-        (Mode::Continue, 400_000, 0, 8),
-        (Mode::StepBack, 399_999, 2_687, 11),
-        (Mode::Reverse, 398_000, 399_998 + 688, 1_566),
+        (Mode::Continue, 276_000u64, 0u64, 1_079u64),
+        (Mode::StepBack, 275_999, 1_567, 7),
     ];
     assert_counts(&rt, rt.alloc(), stops.as_slice(), turns.as_slice());
 }
@@ -268,11 +266,11 @@ fn goes_back_from_one_of_many_checkpoints(rt: HostRuntime) {
 /// Without checkpoints, as slices alone run the program, all is run again.
 #[test]
 fn steps_back_without_checkpoints(rt: HostRuntime) {
-    let lines = [(1u32, "x = 200000", "")];
+    let lines = [(1u32, "x = 5000", "")];
     let (debuggee, _) = begin(&rt, rt.alloc(), LONG_LOOP, lines.as_slice(), Mode::Continue);
     let runs: [Run; 2] = [
-        (Mode::Continue, 400_000, BREAKPOINT, 0, [].as_slice(), 0),
-        (Mode::StepBack, 399_999, STEP, 0, [].as_slice(), 399_999),
+        (Mode::Continue, 10_000, BREAKPOINT, 0, [].as_slice(), 0),
+        (Mode::StepBack, 9_999, STEP, 0, [].as_slice(), 9_999),
     ];
     assert_runs(&rt, rt.alloc(), debuggee, runs.as_slice());
 }

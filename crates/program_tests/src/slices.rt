@@ -5,7 +5,7 @@ ghost use Rattle.dbg_runner.specs.Plain.{goes_back};
 
 use crate::debugged::{BREAKPOINT, FOREVER, LOOP, Line, STEP, begin, begun};
 use dbg_plan::{Mode, Reason, SourceBreakpoint};
-use dbg_runner::{Buffers, Outputs, SliceOutcome, StoppedDebuggee, goes_back, next_report, slice};
+use dbg_runner::{Buffers, Outputs, SliceOutcome, StoppedDebuggee, goes_back, slice};
 use pl0_meaning::RunFault;
 use sample_programs::RECURSIVE;
 use std::alloc::Global;
@@ -246,22 +246,4 @@ fn assert_counts(rt: &impl Abort, alloc: Global, sign: &str, from: u32, at_start
 fn counts_many_breakpoints_at_one_line(rt: HostRuntime) {
     assert_counts(&rt, rt.alloc(), "", 1, Some(Reason::Breakpoint));
     assert_counts(&rt, rt.alloc(), "%", 2, None);
-}
-
-/// Where memory for the outputs is refused, the report says so and has the debuggee, which runs on as if nothing had been.
-#[test]
-fn gives_the_debuggee_back_where_memory_ends(rt: HostRuntime) {
-    let line = (3, "x > 3", "%2");
-    let (debuggee, _) = begin(&rt, rt.alloc(), LOOP, [line].as_slice(), Mode::Continue);
-    let mut buffers = Buffers::new();
-    let debuggee = debuggee.into_debuggee();
-    let mut report = next_report(rt.alloc(), 1, debuggee, Mode::Continue, &mut buffers).0;
-    let summary = report.summary();
-    if summary.outcome == SliceOutcome::NoMemory {
-        assert_eq!(rt; summary.end, 0);
-        let debuggee = report.into_debuggee().expect(&rt, "a debuggee");
-        report = next_report(rt.alloc(), 1, debuggee, Mode::Continue, &mut buffers).0;
-    }
-    let summary = report.summary();
-    assert_eq!(rt; (summary.end, summary.outcome), (11, BREAKPOINT));
 }
