@@ -79,18 +79,14 @@ demo: $(PROGRAM)
 	python3 demo/session.py demo/back.session $(PROGRAM)
 
 # Worked inputs, whole, a byte at a time and cut at many places, with what must come out; a session that is large in
-# everything; the demo's sessions, one of which stands in docs/PROTOCOL.md; that the examples are those whose listings the gate
-# compares; and that the programs whose stored runs the gate compares have one `main`.
+# everything; the demo's sessions, one of which stands in docs/PROTOCOL.md; and that the examples are those whose listings the gate
+# compares.
 rows: $(PROGRAM) $(FROM_ZERO) $(PL0)
 	python3 checks/rows.py $(PROGRAM) $(FROM_ZERO)
 	python3 checks/largest.py $(PROGRAM)
 	python3 checks/largest.py $(FROM_ZERO)
-	diff -r -x fault.pl0 -x procedures.pl0 examples crates/check_runs/data
+	diff -r -x fault.pl0 -x mistake.pl0 -x procedures.pl0 examples crates/check_runs/data
 	python3 checks/pl0_pages.py $(PL0)
-	for runs in fault check list trace machine; do \
-	  diff <(sed '/^\/\//d' crates/pl0/src/main.rt) <(sed '/^\/\//d' crates/pl0_$${runs}_runs/src/main.rt) || exit 1; done
-	for runs in argument unread fault mistake usage; do \
-	  diff <(sed '/^\/\//d' crates/pl0dap/src/main.rt) <(sed '/^\/\//d' crates/$${runs}_runs/src/main.rt) || exit 1; done
 
 # Hostile headers, contents, types, numbers, sizes, situations, cuts and ends, with what docs/PROTOCOL.md says of each.
 hostile: $(PROGRAM) $(FROM_ZERO)

@@ -107,7 +107,7 @@ def drawn(command: str) -> bytes:
 def wrong_traces(pl0: str):
     """What is wrong with the table of a run, its parts, the machine drawn, and a run that ends or faults before all that."""
     table = drawn("pl0 trace procedures.pl0").splitlines(keepends=True)
-    program = str(TOP / "crates" / "pl0_trace_runs" / "data" / "procedures.pl0")
+    program = str(TOP / "crates" / "pl0_runs" / "data" / "procedures.pl0")
     options = ["--machine", "--from", "10", "--steps", "1"]
     told = run(pl0, "trace", *options, program)
     wanted = drawn(" ".join(["pl0 trace", *options, "procedures.pl0"]))

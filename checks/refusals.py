@@ -130,7 +130,7 @@ def listing(name: str) -> bytes:
     """The listing of a file, of those that the stored run prints one after another, each after a line with its name."""
     with open(os.path.join(CRATES, "check_runs", "stdout"), "rb") as file:
         _, rest = file.read().split(b"%s.pl0:\n" % name.encode(), 1)
-    return b"".join(itertools.takewhile(lambda line: not line.endswith(b":\n"), rest.splitlines(keepends=True)))
+    return b"".join(itertools.takewhile(lambda line: not line.startswith(b"status "), rest.splitlines(keepends=True)))
 
 
 def by_bytes(text: bytes) -> list[bytes]:
@@ -189,11 +189,12 @@ def runs_of_texts(speed: str) -> dict[str, Run]:
     }
 
 
-def stored_run(crate: str) -> tuple[list[str], bytes]:
-    """The arguments of a stored run of pl0, with the whole path of its file, and what it writes."""
-    folder = pathlib.Path(CRATES, crate)
-    *options, name = (folder / "args").read_text(encoding="utf-8").split()
-    return [*options, str(folder / "data" / name)], (folder / "stdout").read_bytes()
+def stored_run(line: str) -> tuple[list[str], bytes]:
+    """The arguments of a command line of pl0 whose run is stored, with the whole path of its file, and what it writes."""
+    folder = pathlib.Path(CRATES, "pl0_runs")
+    _, rest = (folder / "stdout").read_bytes().split(f"$ {line}\n".encode(), 1)
+    _, *options, name = line.split()
+    return [*options, str(folder / "data" / name)], rest.split(b"status 0\n", 1)[0]
 
 
 def runs_of_pl0(pl0: str) -> dict[str, Run]:
@@ -201,9 +202,9 @@ def runs_of_pl0(pl0: str) -> dict[str, Run]:
     given = {
         "a run of pl0": (["run", procedures], b"1\n2\n"),
         "a check by pl0": (["check", procedures], b""),
-        "a listing by pl0": stored_run("pl0_list_runs"),
-        "a trace by pl0": stored_run("pl0_trace_runs"),
-        "a drawing by pl0": stored_run("pl0_machine_runs"),
+        "a listing by pl0": stored_run("pl0 list two.pl0"),
+        "a trace by pl0": stored_run("pl0 trace procedures.pl0"),
+        "a drawing by pl0": stored_run("pl0 trace --machine --from 9 --steps 3 procedures.pl0"),
     }
     return {name: Run([pl0, *arguments], by_bytes(text), PL0_ENDS) for name, (arguments, text) in given.items()}
 

@@ -1,28 +1,61 @@
-//! Runs `pl0dap --check` on each file that its arguments name, for the stored run that compares what is printed: a line
-//! with the file's name, and then the file's listing or, where there is none, the last line of standard error.
+//! `pl0dap` by one command line after another, for the stored run that compares what is printed: a line with the last
+//! argument, then what is written to standard output and standard error, and a line with the exit status. The first
+//! command line is that of this process.
 #![tactic(auto)]
 
-use adapter::{FileLoader, FirstSeq, Reading, Writing, execute};
-use std::env;
+use adapter::{FileLoader, FirstSeq, Reading, Writing, execute, run};
 
-/// Checks each file in turn, with what is said on standard error printed to standard output.
+/// Files that are checked: each has a listing, or else a fault, or isn't there.
+const FILES: [&str; 11] = [
+    "factorial.pl0",
+    "fault.pl0",
+    "gcd.pl0",
+    "nested.pl0",
+    "odd.pl0",
+    "overflow.pl0",
+    "primes.pl0",
+    "procedures.pl0",
+    "wirth.pl0",
+    "mistake.pl0",
+    "missing.pl0",
+];
+
+/// Does what each command line asks for, with what is said on standard error printed to standard output.
 fn main(rt: HostRuntime) -> Result<(), anyhow::Error> {
+    let input = &mut Reading::new(&rt, rt.stdin());
+    let output = &mut Writing::new(&rt, rt.stdout());
     let errors = &mut Writing::new(&rt, rt.stdout());
+    println!(rt; "two.pl0:")?;
+    let reason = run(&rt, FirstSeq::One, input, output, errors);
+    println!(rt; "status {}", reason.status())?;
     let mut files = FileLoader::new(&rt, rt.alloc());
-    for file in env::args(&rt)?.skip(1) {
+    for file in FILES {
         println!(rt; "{file}:")?;
-        let arguments = ["pl0dap", "--check", file.as_str()];
-        let input = &mut Reading::new(&rt, rt.stdin());
-        let output = &mut Writing::new(&rt, rt.stdout());
-        execute(
+        let words = ["pl0dap", "--check", file];
+        let reason = execute(
             &rt,
             FirstSeq::One,
-            &arguments,
+            &words,
             &mut files,
             input,
             output,
             errors,
         );
+        println!(rt; "status {}", reason.status())?;
+    }
+    for option in ["--help", "--check", "--chec"] {
+        println!(rt; "{option}:")?;
+        let words = ["pl0dap", option];
+        let reason = execute(
+            &rt,
+            FirstSeq::One,
+            &words,
+            &mut files,
+            input,
+            output,
+            errors,
+        );
+        println!(rt; "status {}", reason.status())?;
     }
     Ok(())
 }

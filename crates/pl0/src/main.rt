@@ -1,10 +1,16 @@
 //! `pl0`: runs, traces, checks and lists PL/0 programs. What it does is said in `pl0_tool`.
 #![tactic(auto)]
 
-use pl0_tool::run;
+use byte_streams::{Reading, Writing};
+use pl0_tool::{Noticing, SystemFiles, run};
+use std::env;
 use std::process::ExitCode;
 
 /// Does what the arguments ask for, and exits with the status of how that ended.
 fn main(rt: HostRuntime) -> ExitCode {
-    ExitCode::from(run(&rt, rt.stdin(), rt.stdout(), rt.stderr()))
+    let files = &mut SystemFiles::new(&rt);
+    let input = &mut Reading::new(&rt, rt.stdin());
+    let output = &mut Writing::new(&rt, Noticing::new(rt.stdout()));
+    let errors = &mut Writing::new(&rt, rt.stderr());
+    run(&rt, env::args(&rt), files, input, output, errors)
 }

@@ -1,5 +1,5 @@
 -- What commands tell, from what their parts told.
-use Rattle.std.proofs.Common.{◌≡◌, ℕ, Bool, List, [], Result, Ok, Err, IfOk, refl, sym, subst, inr}
+use Rattle.std.proofs.Common.{◌≡◌, ℕ, Bool, List, [], Result, Ok, Err, IfOk, refl, sym, subst, inl, inr}
 use Rattle.pl0_unit.specs.declared.unit.Unit.{Unit as Compiled}
 use Rattle.pl0_machine.specs.Machine.{Standing}
 use Rattle.byte_streams.specs.Streams.{Output}
@@ -11,7 +11,9 @@ use Rattle.pl0_tool.specs.declared.running.RunEnd.{RunEnd}
 use Rattle.pl0_tool.specs.Loading.{IsProgramOf}
 use Rattle.pl0_tool.specs.Running.{HasRun}
 use Rattle.pl0_tool.specs.Listing.{listing}
+use Rattle.std.specs.Prelude.{IsErrAnd, MatchResult}
 use Rattle.pl0_tool.specs.Commands.{IsReport, RunTells, TraceTells, ProgramTells, Tells, start_of, end_errors, end_ending}
+use Rattle.pl0_tool.specs.Commands.{WritesNumbers, ProgramWrites, StartWrites, WritesRun}
 
 pub run_told : (end : RunEnd) (file : List ℕ) (start last : Standing) (report : Report) (before after : Output)
     → HasRun end start last before after
@@ -24,19 +26,45 @@ run_told end file start last report before after ran output errors ending = (end
 pub program_told : {E : Type 0} (task : Task) (file text : List ℕ) (unit : Compiled) (r : Result Report E)
     (before after : Output)
     → IsProgramOf text unit
-    → IfOk r (λ report. ProgramTells task file unit report before after)
-    → IfOk r (λ report. Tells task file text report before after)
+    → MatchResult r (λ report. ProgramTells task file unit report before after)
+    (λ e. ProgramWrites task unit before after)
+    → MatchResult r (λ report. Tells task file text report before after) (λ e. WritesNumbers task text before after)
 program_told task file text unit (Ok report) before after is tells = inr (unit, is, tells)
-program_told task file text unit (Err e) before after is tells = tt
+program_told task file text unit (Err e) before after is writes = inr (unit, is, writes)
 
--- a run of a machine that stands at a start
-pub run_from : {E : Type 0} (file : List ℕ) (start m : Standing) (r : Result Report E) (before after : Output)
-    → m ≡ start
-    → IfOk r (λ report. RunTells file m report before after)
-    → IfOk r (λ report. RunTells file start report before after)
-run_from file start m (Ok report) before after at tells =
+-- what a task that told of a program wrote of it
+program_writes : (task : Task) (file : List ℕ) (unit : Compiled) (report : Report) (before after : Output)
+    → ProgramTells task file unit report before after
+    → ProgramWrites task unit before after
+program_writes Run file unit report before after (end, last, ran, told) = inr (end, last, ran)
+program_writes (Trace from steps drawn) file unit report before after (told, same) = same
+program_writes Check file unit report before after (told, same) = same
+program_writes Listing file unit report before after (told, same) = same
+
+-- and of a text
+pub text_writes : (task : Task) (file text : List ℕ) (report : Report) (before after : Output)
+    → Tells task file text report before after
+    → WritesNumbers task text before after
+text_writes task file text report before after (inl (mistake, same)) = inl same
+text_writes task file text report before after (inr (unit, is, told)) =
+    inr (unit, is, program_writes task file unit report before after told)
+
+-- where a `?` returns, what is known is that of the error
+pub told_err : {T E W : Type 0} (P : T → Type 0) (Q : E → Type 0) (r : Result T E) → IsErrAnd r Q → W
+    → MatchResult r P (λ e. W)
+told_err P Q (Ok x) is w = absurd is
+told_err P Q (Err e) is w = w
+
+-- a run of a machine that stands at the start of a program
+pub run_from : {E : Type 0} (file : List ℕ) (unit : Compiled) (m : Standing) (r : Result Report E)
+    (before after : Output)
+    → m ≡ start_of unit
+    → MatchResult r (λ report. RunTells file m report before after) (λ e. WritesRun m before after)
+    → MatchResult r (λ report. RunTells file (start_of unit) report before after) (λ e. StartWrites unit before after)
+run_from file unit m (Ok report) before after at tells =
     subst (λ (m : Standing). RunTells file m report before after) at tells
-run_from file start m (Err e) before after at tells = tt
+run_from file unit m (Err e) before after at writes =
+    inr (subst (λ (m : Standing). WritesRun m before after) at writes)
 
 -- ---- what each task tells of a program
 
@@ -50,25 +78,30 @@ checked_program task file unit report out is told =
 pub listed_program : {E : Type 0} (task : Task) (file : List ℕ) (unit : Compiled) (r : Result Report E) (out : Output)
     → task ≡ Listing
     → IfOk r (IsReport (listing unit) [] Success)
-    → IfOk r (λ report. ProgramTells task file unit report out out)
+    → MatchResult r (λ report. ProgramTells task file unit report out out) (λ e. ProgramWrites task unit out out)
 listed_program task file unit (Ok report) out is told =
     subst (λ (t : Task). ProgramTells t file unit report out out) (sym is) (told, refl)
-listed_program task file unit (Err e) out is told = tt
+listed_program task file unit (Err e) out is told =
+    subst (λ (t : Task). ProgramWrites t unit out out) (sym is) refl
 
 pub run_program : {E : Type 0} (task : Task) (file : List ℕ) (unit : Compiled) (r : Result Report E)
     (before after : Output)
     → task ≡ Run
-    → IfOk r (λ report. RunTells file (start_of unit) report before after)
-    → IfOk r (λ report. ProgramTells task file unit report before after)
+    → MatchResult r (λ report. RunTells file (start_of unit) report before after)
+    (λ e. StartWrites unit before after)
+    → MatchResult r (λ report. ProgramTells task file unit report before after)
+    (λ e. ProgramWrites task unit before after)
 run_program task file unit (Ok report) before after is tells =
     subst (λ (t : Task). ProgramTells t file unit report before after) (sym is) tells
-run_program task file unit (Err e) before after is tells = tt
+run_program task file unit (Err e) before after is writes =
+    subst (λ (t : Task). ProgramWrites t unit before after) (sym is) writes
 
 pub traced_program : {E : Type 0} (task : Task) (from steps : ℕ) (drawn : Bool) (file : List ℕ) (unit : Compiled)
     (r : Result Report E) (out : Output)
     → task ≡ Trace from steps drawn
     → IfOk r (TraceTells drawn (start_of unit) from steps)
-    → IfOk r (λ report. ProgramTells task file unit report out out)
+    → MatchResult r (λ report. ProgramTells task file unit report out out) (λ e. ProgramWrites task unit out out)
 traced_program task from steps drawn file unit (Ok report) out is told =
     subst (λ (t : Task). ProgramTells t file unit report out out) (sym is) (told, refl)
-traced_program task from steps drawn file unit (Err e) out is told = tt
+traced_program task from steps drawn file unit (Err e) out is told =
+    subst (λ (t : Task). ProgramWrites t unit out out) (sym is) refl

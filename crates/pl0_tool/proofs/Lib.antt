@@ -22,3 +22,5 @@ pub mod ListedCode
 pub mod TableText
 -- the command line that the calls of clap make, and its options' numbers
 mod CommandLine
+-- what was done with files, one after another
+pub mod FilesDone

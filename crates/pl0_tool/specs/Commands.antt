@@ -76,3 +76,25 @@ abbrev pub Tells : Task → List ℕ → List ℕ → Report → Output → Outp
 Tells task file text report before after =
     (MistakeTells file text report × (after ≡ before))
     ⊎ ((unit : Compiled) × IsProgramOf text unit × ProgramTells task file unit report before after)
+
+-- ---- where memory runs out
+
+-- the run from a machine's position on was written
+abbrev pub WritesRun : Standing → Output → Output → Type 0
+WritesRun start before after = (end : RunEnd) × (last : Standing) × HasRun end start last before after
+
+-- the run of a program was written, or nothing
+abbrev pub StartWrites : Compiled → Output → Output → Type 0
+StartWrites unit before after = (after ≡ before) ⊎ WritesRun (start_of unit) before after
+
+-- what a task writes of a program
+abbrev pub ProgramWrites : Task → Compiled → Output → Output → Type 0
+ProgramWrites Run unit before after = StartWrites unit before after
+ProgramWrites (Trace from steps drawn) unit before after = after ≡ before
+ProgramWrites Check unit before after = after ≡ before
+ProgramWrites Listing unit before after = after ≡ before
+
+-- nothing was written of a text, or the run of its program
+abbrev pub WritesNumbers : Task → List ℕ → Output → Output → Type 0
+WritesNumbers task text before after =
+    (after ≡ before) ⊎ ((unit : Compiled) × IsProgramOf text unit × ProgramWrites task unit before after)

@@ -25,6 +25,8 @@ pub mod Table
 pub mod Reporting
 -- what each command tells of a text
 pub mod Commands
+-- what the program does with its arguments
+pub mod Executing
 -- What private contracts cite.
 -- bytes that are still to be written
 pub mod Pending

@@ -1,9 +1,10 @@
 //! The commands: what each one makes of a text.
 
-ghost use Rattle.std.specs.Prelude.{◌≡◌, ◌<◌, ◌≤◌, [], IfOk};
+ghost use Rattle.std.specs.Prelude.{◌≡◌, ◌<◌, ◌≤◌, [], IfOk, MatchResult};
 ghost use Rattle.pl0_machine.specs.Machine.{depth_of};
 ghost use Rattle.byte_streams.specs.Streams.{output as output_at};
 ghost use Rattle.pl0_tool.specs.Commands.{Tells, ProgramTells, RunTells, TraceTells, IsReport, start_of};
+ghost use Rattle.pl0_tool.specs.Commands.{WritesNumbers, ProgramWrites, StartWrites, WritesRun};
 ghost use Rattle.pl0_tool.specs.Listing.{listing};
 ghost use Rattle.pl0_tool.specs.declared.report.Ending.TheVariants.{Success};
 
@@ -28,7 +29,7 @@ use std::sync::{Arc, Wait};
 ///
 /// # Errors
 ///
-/// `AllocError`, where an allocation failed.
+/// `AllocError`, where an allocation failed. Nothing was written then, or the numbers of the run.
 pub fn perform<O: Sink>(
     rt: &impl Wait,
     alloc: Global,
@@ -38,7 +39,11 @@ pub fn perform<O: Sink>(
     output: &mut O,
     room: usize,
 ) -> Result<Report, AllocError>
-    ensures { IfOk result (λ report. Tells task file.now text.now report
+    ensures { MatchResult result
+        (λ report. Tells task file.now text.now report
+        (output_at (O.written output.old) (O.failures output.old))
+        (output_at (O.written output.new) (O.failures output.new)))
+        (λ _. WritesNumbers task text.now
         (output_at (O.written output.old) (O.failures output.old))
         (output_at (O.written output.new) (O.failures output.new))) }
 {
@@ -62,7 +67,11 @@ fn perform_program<O: Sink>(
     output: &mut O,
     room: usize,
 ) -> Result<Report, AllocError>
-    ensures { IfOk result (λ report. ProgramTells task file.now unit report
+    ensures { MatchResult result
+        (λ report. ProgramTells task file.now unit report
+        (output_at (O.written output.old) (O.failures output.old))
+        (output_at (O.written output.new) (O.failures output.new)))
+        (λ _. ProgramWrites task unit
         (output_at (O.written output.old) (O.failures output.old))
         (output_at (O.written output.new) (O.failures output.new))) }
 {
@@ -77,7 +86,7 @@ fn perform_program<O: Sink>(
 }
 
 /// Returns a report of nothing, and of a success.
-fn nothing_told(alloc: Global) -> Report
+pub(crate) fn nothing_told(alloc: Global) -> Report
     ensures { IsReport [] [] Success result }
 {
     Report::new(Vec::new(alloc), Vec::new(alloc), Ending::Success)
@@ -100,7 +109,11 @@ fn run_program<O: Sink>(
     output: &mut O,
     room: usize,
 ) -> Result<Report, AllocError>
-    ensures { IfOk result (λ report. RunTells file.now (start_of unit) report
+    ensures { MatchResult result
+        (λ report. RunTells file.now (start_of unit) report
+        (output_at (O.written output.old) (O.failures output.old))
+        (output_at (O.written output.new) (O.failures output.new)))
+        (λ _. StartWrites unit
         (output_at (O.written output.old) (O.failures output.old))
         (output_at (O.written output.new) (O.failures output.new))) }
 {
@@ -147,7 +160,11 @@ fn run_whole<O: Sink>(
     room: usize,
 ) -> Result<Report, AllocError>
     requires { 0 < depth_of machine.old }
-    ensures { IfOk result (λ report. RunTells file.now machine.old report
+    ensures { MatchResult result
+        (λ report. RunTells file.now machine.old report
+        (output_at (O.written output.old) (O.failures output.old))
+        (output_at (O.written output.new) (O.failures output.new)))
+        (λ _. WritesRun machine.old
         (output_at (O.written output.old) (O.failures output.old))
         (output_at (O.written output.new) (O.failures output.new))) }
 {

@@ -1,19 +1,23 @@
 //! Running, tracing, checking and listing PL/0 programs from a command line.
 //!
-//! The main contract is that of [`perform`], which does a task with a text: of a text that is no program's it tells the
-//! first mistake. A run writes the numbers that the program writes by its meaning, each on a line of its own, up to its
-//! end or to the step that faults, or a prefix of them, where the output fails ([`run_machine`]); of a fault the newest
-//! frames are told. [`trace`] tells positions of a run in order, each with the frames, the step and the number that the
-//! meaning has there, and draws the machine, if it is to, as the meaning's frames lie in its cells. The table of a trace,
-//! and a listing, are as defined. [`run`] is all of the program `pl0` but its `main`.
+//! The main contract is that of [`execute`], which does what the arguments ask for: it reads each file, does the task with
+//! its text, and writes what is to be told, with how that ended. It cites that of [`perform`], which does a task with a text:
+//! of a text that is no program's it tells the first mistake. A run writes the numbers that the program writes by its
+//! meaning, each on a line of its own, up to its end or to the step that faults, or a prefix of them, where the output fails
+//! ([`run_machine`]); of a fault the newest frames are told. [`trace`] tells positions of a run in order, each with the frames,
+//! the step and the number that the meaning has there, and draws the machine, if it is to, as the meaning's frames lie in its
+//! cells. The table of a trace, and a listing, are as defined. [`run`] is all of the program `pl0` but its `main`, which hands
+//! it the arguments, the files and the streams.
 #![tactic(auto)]
 
+mod answering;
 mod arguments;
 mod blocks;
 mod columns;
 mod commands;
 mod drawing;
 mod fault;
+mod files;
 mod lines;
 mod listing;
 mod output;
@@ -27,7 +31,9 @@ mod tracing;
 pub use arguments::Task;
 pub use commands::perform;
 pub use drawing::{Drawing, FrameHead};
-pub use program::run;
+pub use files::{Opener, SystemFiles};
+pub use output::Noticing;
+pub use program::{execute, run};
 pub use report::{Ending, Report};
 pub use running::{RunEnd, run_machine};
 pub use text::load;

@@ -5,7 +5,7 @@ ghost use Rattle.byte_streams.specs.Streams.{Output, WritesAll, FailsIn, output 
 ghost use Rattle.pl0_tool.specs.Pending.{Holds};
 
 use byte_streams::{Sink, write_all};
-use std::io::{self, ErrorKind, Write};
+use std::io::{self, ErrorKind, IsTerminal, Write};
 use std::sync::Wait;
 
 /// An output that notices when nobody reads it any more.
@@ -32,6 +32,13 @@ impl<O: Write + Drop> Noticing<O> {
         ensures { result ≡ self.now.is_closed }
     {
         self.is_closed
+    }
+}
+
+impl<O: Write + IsTerminal + Drop> Noticing<O> {
+    /// Whether the output is a terminal.
+    pub fn is_terminal(&self) -> bool {
+        self.inner.is_terminal()
     }
 }
 

@@ -1,68 +1,211 @@
 //! The program from its arguments to its exit status.
 
-ghost use Rattle.std.specs.Prelude.{◌≤◌};
-ghost use Rattle.byte_streams.specs.Streams.{output as output_at};
-ghost use Rattle.pl0_tool.specs.Reporting.{HasTold};
+ghost use Rattle.std.specs.Prelude.{◌≡◌, ◌≢◌, Result, IfOk, MatchBool, MatchResult, map, string_bytes};
+ghost use Rattle.std.specs.Process.{exit_status};
+ghost use Rattle.std.specs.Vec.Iter.{into_iter_items};
+ghost use Rattle.byte_streams.specs.Streams.{output as output_at, supply};
+ghost use Rattle.pl0_tool.specs.declared.report.Ending.{Ending};
+ghost use Rattle.pl0_tool.specs.Executing.{Comes, Executes, ExecutesGiven, LacksMemory, Runs, given_of, origins};
+ghost use Rattle.pl0_tool.specs.Reporting.{HasTold, status_of};
 
-use crate::arguments::{Request, parse_arguments};
-use crate::commands::perform;
+use crate::answering::answer;
+use crate::arguments::parse_arguments;
+use crate::files::Opener;
 use crate::output::Noticing;
 use crate::report::{Ending, Report};
-use byte_streams::{ReadFault, Reading, Sink, Source, Writing, read_beginning, say, write_all};
+use byte_streams::{Sink, Source, Writing, say, write_all};
 use clap::Error;
 use clap::error::ErrorKind;
-use std::alloc::AllocError;
-use std::io::{self, IsTerminal, Read, Write};
-use std::rt::{Clock, Env, Files};
+use std::alloc::{AllocError, Global};
+use std::env::Args;
+use std::io::{self, IsTerminal, Write};
+use std::process::ExitCode;
+use std::rt::Clock;
 use std::sync::Wait;
-use std::{env, fs};
 
 /// How many bytes of numbers are written together, where the output is no terminal.
 const ROOM: usize = 65_536;
 
-/// Does what the arguments of this process ask for, and returns the exit status: 0 where all went well, 1 where a run
-/// faulted, 2 where a text has a mistake, 3 where a file can't be read, the output fails or memory runs out, and 4
-/// where the arguments aren't understood. An output that fails is told on standard error, unless nobody reads it any
-/// more.
-pub fn run<R, I, O, E>(rt: &R, input: I, output: O, errors: E) -> u8
+/// Does what the arguments ask for, as [`execute`] does, and returns the exit code: 0 where all went well, 1 where a run
+/// faulted, 2 where a text has a mistake, 3 where a file can't be read, the output fails or memory runs out, and 4 where the
+/// arguments aren't understood. `given` is what `env::args` gave, the program's name first. An output that fails is told on
+/// `errors`, unless nobody reads it any more.
+pub fn run<R, F, I, O, E>(
+    rt: &R,
+    given: io::Result<Args>,
+    files: &mut F,
+    input: &mut I,
+    output: &mut Writing<'_, R, Noticing<O>>,
+    errors: &mut E,
+) -> ExitCode
 where
-    R: Wait + Clock + Env + Files + AllocGlobal,
-    I: Read + Drop,
+    R: Wait + Clock + AllocGlobal,
+    F: Opener,
+    I: Source,
     O: Write + IsTerminal + Drop,
-    E: Write + Drop,
-    ensures { result ≤ 4 }
+    E: Sink,
+    ensures { (ending : Ending) × (exit_status result ≡ status_of ending)
+        × Runs F.opens (λ file. supply (F.File.left file) (F.File.failures file)) (given_of given) ending
+        output.new.inner.is_closed
+        (origins files.old (supply (I.left input.old) (I.failures input.old)))
+        (origins files.new (supply (I.left input.new) (I.failures input.new)))
+        (output_at (O.contents output.old.inner.inner) output.old.failures)
+        (output_at (O.contents output.new.inner.inner) output.new.failures)
+        (output_at (E.written errors.old) (E.failures errors.old))
+        (output_at (E.written errors.new) (E.failures errors.new)) }
 {
-    let room = if output.is_terminal() { 0 } else { ROOM };
-    let mut output = Noticing::new(output);
-    let errors = &mut Writing::new(rt, errors);
-    let ending = execute(
-        rt,
-        &mut Reading::new(rt, input),
-        &mut Writing::new(rt, &mut output),
-        errors,
-        room,
-    );
-    if ending == Ending::Unwritten && !output.is_closed() {
-        say(rt, errors, &["pl0: cannot write the output\n"]);
-    }
-    ending.status()
+    let room = if output.inner().is_terminal() {
+        0
+    } else {
+        ROOM
+    };
+    let ending = execute_given(rt, given, files, input, output, errors, room);
+    close(rt, ending, output.inner().is_closed(), errors);
+    ExitCode::from(ending.status())
 }
 
-/// Does what the arguments of this process ask for, and writes what is to be told at the end.
-fn execute<R, I, O, E>(rt: &R, input: &mut I, output: &mut O, errors: &mut E, room: usize) -> Ending
+/// Says at the end that the output failed, if it did, unless nobody reads it any more.
+fn close<E: Sink>(rt: &impl Wait, ending: Ending, is_unread: bool, errors: &mut E)
+    ensures { ClosesWith ending is_unread
+        (output_at (E.written errors.old) (E.failures errors.old))
+        (output_at (E.written errors.new) (E.failures errors.new)) }
+{
+    if ending == Ending::Unwritten && !is_unread {
+        say(rt, errors, &["pl0: cannot write the output\n"]);
+    }
+}
+
+/// Does what the arguments ask for, as [`execute`] does. Where an error was given in their place, it says so on `errors`, and
+/// does nothing else.
+fn execute_given<R, F, I, O, E>(
+    rt: &R,
+    given: io::Result<Args>,
+    files: &mut F,
+    input: &mut I,
+    output: &mut O,
+    errors: &mut E,
+    room: usize,
+) -> Ending
 where
-    R: Wait + Clock + Env + Files + AllocGlobal,
+    R: Wait + AllocGlobal,
+    F: Opener,
     I: Source,
     O: Sink,
     E: Sink,
+    ensures { ExecutesGiven F.opens (λ file. supply (F.File.left file) (F.File.failures file)) (given_of given) result
+        (origins files.old (supply (I.left input.old) (I.failures input.old)))
+        (origins files.new (supply (I.left input.new) (I.failures input.new)))
+        (output_at (O.written output.old) (O.failures output.old))
+        (output_at (O.written output.new) (O.failures output.new))
+        (output_at (E.written errors.old) (E.failures errors.old))
+        (output_at (E.written errors.new) (E.failures errors.new)) }
 {
-    match attempt(rt, input, output, room) {
-        Ok(report) => tell(rt, &report, output, errors),
-        Err(AllocError) => {
-            say(rt, errors, &["pl0: no memory\n"]);
-            Ending::Failure
-        }
+    match given {
+        Ok(given) => match collected(rt.alloc(), given) {
+            Ok(strings) => execute_strings(
+                rt,
+                strings.as_slice(),
+                files,
+                input,
+                output,
+                errors,
+                room,
+            ),
+            Err(AllocError) => no_memory(rt, errors),
+        },
+        Err(error) if error.kind() == io::ErrorKind::OutOfMemory => no_memory(rt, errors),
+        Err(_) => not_text(rt, errors),
     }
+}
+
+/// Does what the arguments ask for, as [`execute`] does.
+fn execute_strings<R, F, I, O, E>(
+    rt: &R,
+    arguments: &[String],
+    files: &mut F,
+    input: &mut I,
+    output: &mut O,
+    errors: &mut E,
+    room: usize,
+) -> Ending
+where
+    R: Wait + AllocGlobal,
+    F: Opener,
+    I: Source,
+    O: Sink,
+    E: Sink,
+    ensures { Executes F.opens (λ file. supply (F.File.left file) (F.File.failures file))
+        (map string_bytes arguments.now) result
+        (origins files.old (supply (I.left input.old) (I.failures input.old)))
+        (origins files.new (supply (I.left input.new) (I.failures input.new)))
+        (output_at (O.written output.old) (O.failures output.old))
+        (output_at (O.written output.new) (O.failures output.new))
+        (output_at (E.written errors.old) (E.failures errors.old))
+        (output_at (E.written errors.new) (E.failures errors.new)) }
+{
+    match texts(rt.alloc(), arguments) {
+        Ok(arguments) => execute(rt, arguments.as_slice(), files, input, output, errors, room),
+        Err(AllocError) => no_memory(rt, errors),
+    }
+}
+
+/// Does what the arguments ask for, the program's name first, and returns how that ended. Of a run's numbers at most `room`
+/// bytes are kept until they are written together; what is told besides is written at the end. A file is read as far as a
+/// program's text may reach, and one byte more; the name `-` stands for the input. Where memory runs out, that alone is told.
+pub fn execute<R, F, I, O, E>(
+    rt: &R,
+    arguments: &[&str],
+    files: &mut F,
+    input: &mut I,
+    output: &mut O,
+    errors: &mut E,
+    room: usize,
+) -> Ending
+where
+    R: Wait + AllocGlobal,
+    F: Opener,
+    I: Source,
+    O: Sink,
+    E: Sink,
+    ensures { Executes F.opens (λ file. supply (F.File.left file) (F.File.failures file))
+        (map (λ argument. argument.now) arguments.entry.now) result
+        (origins files.old (supply (I.left input.old) (I.failures input.old)))
+        (origins files.new (supply (I.left input.new) (I.failures input.new)))
+        (output_at (O.written output.old) (O.failures output.old))
+        (output_at (O.written output.new) (O.failures output.new))
+        (output_at (E.written errors.old) (E.failures errors.old))
+        (output_at (E.written errors.new) (E.failures errors.new)) }
+{
+    match attempt(rt, arguments, files, input, output, room) {
+        Ok(report) => tell(rt, &report, output, errors),
+        Err(AllocError) => no_memory(rt, errors),
+    }
+}
+
+ghost use Rattle.pl0_tool.specs.declared.report.Ending.TheVariants.{Failure, NotUnderstood};
+ghost use Rattle.pl0_tool.specs.Executing.{ClosesWith, memory_line, not_text_line};
+ghost use Rattle.byte_streams.specs.Streams.{Says};
+
+/// Says that there is no memory.
+fn no_memory<E: Sink>(rt: &impl Wait, errors: &mut E) -> Ending
+    ensures ending { result ≡ Failure }
+    ensures said { Says memory_line
+        (output_at (E.written errors.old) (E.failures errors.old))
+        (output_at (E.written errors.new) (E.failures errors.new)) }
+{
+    say(rt, errors, &["pl0: no memory\n"]);
+    Ending::Failure
+}
+
+/// Says that an argument is not text.
+fn not_text<E: Sink>(rt: &impl Wait, errors: &mut E) -> Ending
+    ensures ending { result ≡ NotUnderstood }
+    ensures said { Says not_text_line
+        (output_at (E.written errors.old) (E.failures errors.old))
+        (output_at (E.written errors.new) (E.failures errors.new)) }
+{
+    say(rt, errors, &["pl0: an argument is not text\n"]);
+    Ending::NotUnderstood
 }
 
 /// Writes a report, and returns how the command ended.
@@ -82,99 +225,73 @@ fn tell<O: Sink, E: Sink>(rt: &impl Wait, report: &Report, output: &mut O, error
     }
 }
 
-/// Does what the arguments of this process ask for, the program's name first.
-fn attempt<R, I, O>(
+/// Does what the arguments ask for, the program's name first, and returns what is to be told of it.
+fn attempt<R, F, I, O>(
     rt: &R,
+    arguments: &[&str],
+    files: &mut F,
     input: &mut I,
     output: &mut O,
     room: usize,
 ) -> Result<Report, AllocError>
 where
-    R: Wait + Clock + Env + Files + AllocGlobal,
+    R: Wait + AllocGlobal,
+    F: Opener,
     I: Source,
     O: Sink,
+    ensures { MatchResult result
+        (λ report. Comes F.opens (λ file. supply (F.File.left file) (F.File.failures file))
+        (map (λ argument. argument.now) arguments.entry.now) report
+        (origins files.old (supply (I.left input.old) (I.failures input.old)))
+        (origins files.new (supply (I.left input.new) (I.failures input.new)))
+        (output_at (O.written output.old) (O.failures output.old))
+        (output_at (O.written output.new) (O.failures output.new)))
+        (λ _. LacksMemory F.opens (λ file. supply (F.File.left file) (F.File.failures file))
+        (map (λ argument. argument.now) arguments.entry.now)
+        (origins files.old (supply (I.left input.old) (I.failures input.old)))
+        (origins files.new (supply (I.left input.new) (I.failures input.new)))
+        (output_at (O.written output.old) (O.failures output.old))
+        (output_at (O.written output.new) (O.failures output.new))) }
 {
-    let alloc = rt.alloc();
-    let given = match given_arguments(rt) {
-        Ok(given) => given,
-        Err(error) if error.kind() == io::ErrorKind::OutOfMemory => return Err(AllocError),
-        Err(_) => {
-            let errors = Vec::from_slice(alloc, b"pl0: an argument is not text\n")?;
-            return Ok(Report::new(Vec::new(alloc), errors, Ending::NotUnderstood));
-        }
-    };
-    let mut arguments = Vec::new(alloc);
-    for argument in &given {
-        arguments.push(argument.as_str())?;
-    }
-    match parse_arguments(alloc, arguments.as_slice()) {
-        Ok(request) => answer(rt, &request, input, output, room),
-        Err(error) => unasked(rt, &error),
+    match parse_arguments(rt.alloc(), arguments) {
+        Ok(request) => answer(rt, &request, files, input, output, room),
+        Err(error) => unasked(rt.alloc(), &error),
     }
 }
 
-/// Returns the arguments of this process.
-fn given_arguments(rt: &(impl Env + AllocGlobal)) -> io::Result<Vec<String>> {
-    Ok(env::args(rt)?.collect(rt.alloc())?)
+/// Returns the arguments as a list.
+fn collected(alloc: Global, given: Args) -> Result<Vec<String>, AllocError>
+    ensures { IfOk result (λ arguments. arguments.items ≡ into_iter_items given) }
+{
+    given.collect(alloc)
 }
+
+/// Returns the arguments as borrowed texts.
+fn texts(alloc: Global, arguments: &[String]) -> Result<Vec<&str>, AllocError>
+    ensures { IfOk result (λ texts. map (λ text. text.now) texts.items ≡ map string_bytes arguments.now) }
+{
+    arguments
+        .iter()
+        .map(|argument| argument.as_str())
+        .collect(alloc)
+}
+
+ghost use Rattle.clap.specs.Values.{kind_of};
+ghost use Rattle.clap.specs.declared.error.kind.ErrorKind.TheVariants.{OutOfMemory};
+ghost use Rattle.pl0_tool.specs.Executing.{IsToldFor};
 
 /// Returns the help, the version, or why the arguments aren't understood.
-fn unasked(rt: &impl AllocGlobal, error: &Error) -> Result<Report, AllocError> {
-    let text = error.to_string(rt.alloc())?.into_bytes();
-    let nothing = Vec::new(rt.alloc());
+fn unasked(alloc: Global, error: &Error) -> Result<Report, AllocError>
+    ensures told { IfOk result (IsToldFor (kind_of error.now)) }
+    ensures memory { IfOk result (λ _. kind_of error.now ≢ OutOfMemory) }
+{
+    let text = error.to_string(alloc)?.into_bytes();
+    let nothing = Vec::new(alloc);
     match error.kind() {
         ErrorKind::DisplayHelp | ErrorKind::DisplayVersion => {
             Ok(Report::new(text, nothing, Ending::Success))
         }
         ErrorKind::OutOfMemory => Err(AllocError),
         _ => Ok(Report::new(nothing, text, Ending::NotUnderstood)),
-    }
-}
-
-/// Does what is asked for with each file, up to the first that can't be read.
-fn answer<R, I, O>(
-    rt: &R,
-    request: &Request<'_>,
-    input: &mut I,
-    output: &mut O,
-    room: usize,
-) -> Result<Report, AllocError>
-where
-    R: Wait + Clock + Files + AllocGlobal,
-    I: Source,
-    O: Sink,
-{
-    let alloc = rt.alloc();
-    let mut report = Report::new(Vec::new(alloc), Vec::new(alloc), Ending::Success);
-    for file in &request.files {
-        match text_of(rt, file, input) {
-            Ok(text) => {
-                let task = request.task;
-                report.add(perform(rt, alloc, task, file, text.as_slice(), output, room)?)?;
-            }
-            Err(ReadFault::NoMemory) => return Err(AllocError),
-            Err(ReadFault::CannotRead) => {
-                let line = format!(in alloc; "pl0: cannot read {file}\n")?;
-                let errors = line.into_bytes();
-                report.add(Report::new(Vec::new(alloc), errors, Ending::Failure))?;
-                return Ok(report);
-            }
-        }
-    }
-    Ok(report)
-}
-
-/// Returns the text in a file, or that of the input for `-`.
-fn text_of<R: Wait + Clock + Files + AllocGlobal, I: Source>(
-    rt: &R,
-    file: &str,
-    input: &mut I,
-) -> Result<Vec<u8>, ReadFault> {
-    if file == "-" {
-        return read_beginning(rt, rt.alloc(), input);
-    }
-    match fs::open(rt, file) {
-        Ok(opened) => read_beginning(rt, rt.alloc(), &mut Reading::new(rt, opened)),
-        Err(_) => Err(ReadFault::CannotRead),
     }
 }

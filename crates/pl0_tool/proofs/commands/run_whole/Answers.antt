@@ -1,6 +1,6 @@
 use Rattle.pl0_tool.proofs.Common.{ap, Global, sym, Vec, ℕ, ◌∙◌}
 use Rattle.pl0_tool.specs.Commands.{end_errors, end_ending}
-use Rattle.pl0_tool.proofs.CommandTells.{run_told}
+use Rattle.pl0_tool.proofs.CommandTells.{run_told, told_err}
 use Rattle.pl0_tool.proofs.commands.run_whole.Goals as goal
 
 pub returns-in-Ended : goal.returns-in-Ended
@@ -35,3 +35,8 @@ returns g c =
     (ap (λ (v : Vec ℕ Global). v.items) c.new-in-Faulted.ensures.errors
     ∙ c.in_ok-errors-in-Faulted.ensures ∙ ap (λ e. end_errors file last e) (sym c.in-Faulted.is))
     (c.new-in-Faulted.ensures.ending ∙ ap (λ e. end_ending e) (sym c.in-Faulted.is))
+
+pub returns-in_err-errors-in-Faulted : goal.returns-in_err-errors-in-Faulted
+returns-in_err-errors-in-Faulted g c =
+    told_err _ _ c.from_residual.result c.from_residual.ensures.1
+    (c.run_machine.result, c.run_machine.new.machine, c.run_machine.ensures)

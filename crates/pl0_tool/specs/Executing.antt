@@ -1,0 +1,211 @@
+-- What the program does with its arguments, and what it tells of that.
+use Rattle.std.specs.Prelude.{◌≡◌, ◌≢◌, ◌⊎◌, ◌<◌, Bool, true, false, ℕ, List, [], ◌∷◌, ◌++◌, map, codes, Result, Ok, Err, string_bytes}
+use Rattle.std.specs.IoError.{error_kind}
+use Rattle.std.specs.Vec.Iter.{into_iter_items}
+use Rattle.std.specs.declared.alloc.Global.{Global}
+use Rattle.std.specs.declared.io.Error.{Error}
+use Rattle.std.specs.declared.io.ErrorKind.{ErrorKind}
+use Rattle.std.specs.declared.io.ErrorKind.TheVariants as kind
+use Rattle.std.specs.declared.string.String.{String}
+use Rattle.std.specs.declared.vec.IntoIter.{IntoIter}
+use Rattle.std.specs.declared.vec.Vec.{Vec}
+use Rattle.clap.specs.Words.{Text, IsAmong, fault_of}
+use Rattle.clap.specs.declared.error.kind.ErrorKind.{ErrorKind as Refusal}
+use Rattle.clap.specs.declared.error.kind.ErrorKind.TheVariants.{DisplayHelp, DisplayVersion}
+use Rattle.byte_streams.specs.declared.beginning.ReadFault.{ReadFault}
+use Rattle.byte_streams.specs.declared.beginning.ReadFault.TheVariants.{CannotRead, NoMemory}
+use Rattle.byte_streams.specs.Beginning.{BeginsWith}
+use Rattle.byte_streams.specs.Streams.{Output, Says, Supply}
+use Rattle.pl0_tool.specs.declared.arguments.Request.{Request}
+use Rattle.pl0_tool.specs.declared.arguments.Task.{Task}
+use Rattle.pl0_tool.specs.declared.report.Ending.{Ending}
+use Rattle.pl0_tool.specs.declared.report.Ending.TheVariants.{Success, Failure, Unwritten, NotUnderstood}
+use Rattle.pl0_tool.specs.declared.report.Report.{Report}
+use Rattle.pl0_tool.specs.Arguments.{Asks, command_line}
+use Rattle.pl0_tool.specs.Commands.{IsReport, Tells, WritesNumbers}
+use Rattle.pl0_tool.specs.Reporting.{HasTold, IsSum}
+
+-- What texts come from, at one moment: the files, and the input.
+pub record Origins (Files : Type 0) : Type 0 where
+  pub files : Files
+  pub input : Supply
+
+abbrev pub origins : {Files : Type 0} → Files → Supply → Origins Files
+origins files input = record { files = files; input = input }
+
+-- ---- what is told
+
+-- what is told by the way in which clap refuses arguments: the help or the version, or what is wrong with them
+abbrev pub IsToldFor : Refusal → Report → Type 0
+IsToldFor kind report =
+    (text : List ℕ) × ((((kind ≡ DisplayHelp) ⊎ (kind ≡ DisplayVersion)) × IsReport text [] Success report)
+    ⊎ ((kind ≢ DisplayHelp) × (kind ≢ DisplayVersion) × IsReport [] text NotUnderstood report))
+
+-- clap refuses the arguments, and this is told
+abbrev pub IsUnasked : List Text → Report → Type 0
+IsUnasked arguments report =
+    (kind : Refusal) × IsAmong kind (fault_of command_line arguments) × IsToldFor kind report
+
+-- the lines for a file that can't be read, for memory that ran out, for an argument that is not text, and for an output
+-- that failed
+abbrev pub unread_line : Text → List ℕ
+unread_line name = codes "pl0: cannot read " ++ (name ++ codes "\n")
+
+abbrev pub memory_line : List ℕ
+memory_line = codes "pl0: no memory\n"
+
+abbrev pub not_text_line : List ℕ
+not_text_line = codes "pl0: an argument is not text\n"
+
+abbrev pub unwritten_line : List ℕ
+unwritten_line = codes "pl0: cannot write the output\n"
+
+-- At the end it is told that the output failed, unless nobody reads that any more.
+abbrev pub ClosesWith : Ending → Bool → Output → Output → Type 0
+ClosesWith Unwritten false errors later_errors = Says unwritten_line errors later_errors
+ClosesWith ending unread errors later_errors = later_errors ≡ errors
+
+-- ---- a text
+
+-- What reading an input gave: its beginning; or nothing, where a read failed or memory ran out.
+abbrev pub HasRead : Result (List ℕ) ReadFault → Supply → Supply → Type 0
+HasRead (Ok text) old later = BeginsWith text old.left later.left × (later.failures ≡ old.failures)
+HasRead (Err CannotRead) old later = old.failures < later.failures
+HasRead (Err NoMemory) old later = later.failures ≡ old.failures
+
+-- what a task writes of a text, where memory runs out
+abbrev pub WritesOf : Task → Result (List ℕ) ReadFault → Output → Output → Type 0
+WritesOf task (Ok text) before after = WritesNumbers task text before after
+WritesOf task (Err fault) before after = after ≡ before
+
+-- the text that was read, as plain data
+abbrev pub plain_text : Result (Vec ℕ Global) ReadFault → Result (List ℕ) ReadFault
+plain_text (Ok text) = Ok text.items
+plain_text (Err fault) = Err fault
+
+-- the names of the files that are asked for
+abbrev pub files_of : Request → List Text
+files_of asked = map (λ file. file.now) asked.files.items
+
+-- By `opens` files are opened by their names, and by `supply_of` it is known what an open file has left to read.
+module _ {Files File : Type 0} (opens : Files → Text → Result File ReadFault → Files → Type 0)
+    (supply_of : File → Supply) where
+  -- The file of this name was opened and read, or it couldn't be opened.
+  abbrev pub ReadsFile : Text → Result (List ℕ) ReadFault → Files → Files → Type 0
+  ReadsFile name read old later =
+      ((file : File) × opens old name (Ok file) later × ((left : Supply) × HasRead read (supply_of file) left))
+      ⊎ ((fault : ReadFault) × opens old name (Err fault) later × (read ≡ Err fault))
+
+  -- The name `-` stands for the input, and each other name for a file.
+  abbrev pub Reads : Text → Result (List ℕ) ReadFault → Origins Files → Origins Files → Type 0
+  Reads name read old later =
+      ((name ≡ codes "-") × HasRead read old.input later.input × (later.files ≡ old.files))
+      ⊎ ((name ≢ codes "-") × ReadsFile name read old.files later.files × (later.input ≡ old.input))
+
+  -- ---- files, one after another
+
+  -- A file was read, and its task was done with its text.
+  pub record Does (task : Task) (name : Text) (one : Report) (old later : Origins Files) (before after : Output)
+      : Type 0 where
+    pub text : List ℕ
+    pub reads : Reads name (Ok text) old later
+    pub tells : Tells task name text one before after
+
+  -- A file can't be read. It is told, and nothing is written.
+  pub record CannotDo (name : Text) (one : Report) (old later : Origins Files) (before after : Output) : Type 0 where
+    pub reads : Reads name (Err CannotRead) old later
+    pub tells : IsReport [] (unread_line name) Failure one
+    pub kept : after ≡ before
+
+  -- Memory ran out at a file. Of its text nothing was written, or the numbers of its run.
+  pub record RunsOut (task : Task) (name : Text) (old later : Origins Files) (before after : Output) : Type 0 where
+    pub read : Result (List ℕ) ReadFault
+    pub reads : Reads name read old later
+    pub writes : WritesOf task read before after
+
+  -- A file was done, or it can't be read, and that was put behind what was told before.
+  abbrev pub Adds : Bool → Task → Text → Report → Report → Origins Files → Origins Files → Output → Output → Type 0
+  Adds true task name first sum old later before after =
+      (one : Report) × Does task name one old later before after × IsSum first one sum
+  Adds false task name first sum old later before after =
+      (one : Report) × CannotDo name one old later before after × IsSum first one sum
+
+  -- The task was done with each of these files, in their order, and this is told of them together.
+  pub data AreDone (task : Task) (old : Origins Files) (before : Output)
+      : List Text → Report → Origins Files → Output → Type 0 where
+    none : (report : Report) → IsReport [] [] Success report → AreDone task old before [] report old before
+    next : (names : List Text) (name : Text) (first sum : Report) (mid later : Origins Files) (out after : Output)
+        → AreDone task old before names first mid out → Adds true task name first sum mid later out after
+        → AreDone task old before (names ++ (name ∷ [])) sum later after
+
+  -- Files before one, and what was told of them.
+  pub record Before (task : Task) (names : List Text) (old : Origins Files) (before : Output) : Type 0 where
+    pub done : List Text
+    pub name : Text
+    pub rest : List Text
+    pub names_are : names ≡ done ++ (name ∷ rest)
+    pub first : Report
+    pub mid : Origins Files
+    pub out : Output
+    pub are_done : AreDone task old before done first mid out
+
+  -- All files were done, or those before the first one that can't be read, with which the command ends.
+  abbrev pub Answers : Task → List Text → Report → Origins Files → Origins Files → Output → Output → Type 0
+  Answers task names report old later before after =
+      AreDone task old before names report later after
+      ⊎ ((b : Before task names old before) × Adds false task b.name b.first report b.mid later b.out after)
+
+  -- Memory ran out at one of the files.
+  abbrev pub GivesUp : Task → List Text → Origins Files → Origins Files → Output → Output → Type 0
+  GivesUp task names old later before after =
+      (b : Before task names old before) × RunsOut task b.name b.mid later b.out after
+
+  -- ---- the whole
+
+  -- This is to be told of what the arguments ask for, which was done.
+  abbrev pub Comes : List Text → Report → Origins Files → Origins Files → Output → Output → Type 0
+  Comes arguments report old later before after =
+      ((asked : Request) × Asks arguments asked × Answers asked.task (files_of asked) report old later before after)
+      ⊎ (IsUnasked arguments report × (later ≡ old) × (after ≡ before))
+
+  -- Memory ran out: before anything was read and written, or at one of the files.
+  abbrev pub LacksMemory : List Text → Origins Files → Origins Files → Output → Output → Type 0
+  LacksMemory arguments old later before after =
+      ((later ≡ old) × (after ≡ before))
+      ⊎ ((asked : Request) × Asks arguments asked × GivesUp asked.task (files_of asked) old later before after)
+
+  -- What the arguments ask for was done, and what is to be told of it was told; or memory ran out, and that was told.
+  abbrev pub Executes : List Text → Ending → Origins Files → Origins Files → Output → Output → Output → Output → Type 0
+  Executes arguments ending old later before after errors later_errors =
+      ((report : Report) × (out : Output) × Comes arguments report old later before out
+      × HasTold report ending out after errors later_errors)
+      ⊎ ((ending ≡ Failure) × LacksMemory arguments old later before after × Says memory_line errors later_errors)
+
+  -- There are no arguments: there was no memory for them, or one of them is not text. That was told, and nothing else
+  -- was done.
+  pub record GetsNoArguments (error : ErrorKind) (ending : Ending) (old later : Origins Files)
+      (before after errors later_errors : Output) : Type 0 where
+    pub origins : later ≡ old
+    pub output : after ≡ before
+    pub told : ((error ≡ kind.OutOfMemory) × (ending ≡ Failure) × Says memory_line errors later_errors)
+        ⊎ ((error ≢ kind.OutOfMemory) × (ending ≡ NotUnderstood) × Says not_text_line errors later_errors)
+
+  -- what is done with the arguments that were given, or with the error that was given in their place
+  abbrev pub ExecutesGiven : Result (List Text) ErrorKind → Ending → Origins Files → Origins Files → Output → Output
+      → Output → Output → Type 0
+  ExecutesGiven (Ok arguments) ending old later before after errors later_errors =
+      Executes arguments ending old later before after errors later_errors
+  ExecutesGiven (Err error) ending old later before after errors later_errors =
+      GetsNoArguments error ending old later before after errors later_errors
+
+  -- The same; and at the end it was told that the output failed, unless nobody reads that any more.
+  pub record Runs (given : Result (List Text) ErrorKind) (ending : Ending) (unread : Bool) (old later : Origins Files)
+      (before after errors later_errors : Output) : Type 0 where
+    pub mid_errors : Output
+    pub executes : ExecutesGiven given ending old later before after errors mid_errors
+    pub closes : ClosesWith ending unread mid_errors later_errors
+
+-- the arguments that were given, the program's name first, or the kind of the error in their place
+abbrev pub given_of : Result (IntoIter (String Global) Global) Error → Result (List Text) ErrorKind
+given_of (Ok arguments) = Ok (map string_bytes (into_iter_items arguments))
+given_of (Err error) = Err (error_kind error)
